@@ -1,0 +1,102 @@
+-- What the core keeps of what the turns so far have made.
+use Rattle.std.specs.Prelude.{◌≡◌, ◌==◌, ℕ, ◌+◌, ◌<◌, ◌≤◌, ◌^◌, Bool, true, false, List, [], ◌∷◌, ◌++◌, drop, length, Option, Some, None, slice_get, slice_index, MatchBool, if◌then◌else◌}
+use Rattle.keybits.specs.declared.shape.Shape.{Shape}
+use Rattle.keybits.specs.declared.step.Step.{Step}
+use Rattle.keybits.specs.declared.step.Kind.TheVariants as kinds
+use Rattle.keybits.specs.declared.step.Word.TheVariants.{Life}
+use Rattle.keybits.specs.Shapes.{IsShape, is_place, all_places, position_of}
+use Rattle.keybits.specs.Keys.{place_of, is_key}
+use Rattle.seqpool.specs.declared.act.Act.{Act}
+use Rattle.seqpool.specs.declared.act.Act.TheVariants as acts
+use Rattle.seqpool.specs.Pool.{Pool, pool_after, IsLegal}
+use Rattle.seqpool.specs.Calls.{is_hit}
+use Rattle.seqpool.specs.Facts.{to_undo, Undo}
+use Rattle.coresteps.specs.declared.script.Command.{Command}
+use Rattle.coresteps.specs.declared.script.Command.TheVariants as commands
+use Rattle.coresteps.specs.declared.script.Register.{Register}
+use Rattle.coresteps.specs.declared.script.Operand.{Operand}
+use Rattle.coresteps.specs.declared.registers.Holding.TheVariants.{Empty}
+use Rattle.coresteps.specs.declared.lane.Lane.{Lane}
+use Rattle.coresteps.specs.declared.lane.Stage.{Stage}
+use Rattle.coresteps.specs.declared.lane.Stage.TheVariants.{Ready, Missed}
+use Rattle.coresteps.specs.Registers.{register_at, operand_key}
+use Rattle.coresteps.specs.Books.{Book}
+use Rattle.coresteps.specs.Following.{row_content}
+use Rattle.coresteps.specs.declared.trace.Turn.{Turn}
+use Rattle.coresteps.specs.declared.machine.Core.{Core}
+use Rattle.coresteps.specs.Lawful.{World, world_after, is_finished, IsNextTurn}
+use Rattle.coresteps.specs.OneLane.{AreReplayed, IsSimpleBook, WordsAre}
+use Rattle.coresteps.specs.Lanes.{AreFirstKeys, book_before_step, ready_book}
+
+-- the ENTER at a key's place that found this word
+abbrev pub entered_step : ℕ → ℕ → Step
+entered_step key found = record { kind = kinds.Enter; word = Life (place_of key); before = found; after = found + 4 }
+
+-- a get of the key has made its ENTER, which missed
+pub record IsEntered (z : Shape) (script : List Command) (lane : Lane) (b : Book) (key : ℕ) : Type 0 where
+  pub register : Register
+  pub operand : Operand
+  pub more : List Command
+  pub found : ℕ
+  pub first : drop lane.done script ≡ commands.Get register operand ∷ more
+  pub empty : (register_at lane.registers register.number).holding ≡ Empty
+  pub named : operand_key lane.registers operand ≡ Some key
+  pub fits : is_key z key ≡ true
+  pub missed : is_hit key found ≡ false
+  pub book : b ≡ record (ready_book script lane) { steps = entered_step key found ∷ []; acts = acts.Get 0 key None ∷ [] }
+
+-- the book is that of the lane, and the words have the ENTER to undo, if there is one
+abbrev pub StageStands : Shape → List Command → Lane → Stage → Book → Pool → (ℕ → ℕ) → Type 0
+StageStands z script lane Ready b pool life = (b ≡ ready_book script lane) × WordsAre z pool life (λ _. 0)
+StageStands z script lane (Missed key) b pool life = IsEntered z script lane b key × WordsAre z pool life (λ place. to_undo place (Undo key false))
+
+-- of the world: the script's book, the words and the contents by the positions of their places, and the acts
+pub record Keeps (z : Shape) (w : World) (script : List Command) (lane : Lane) (words : List ℕ) (contents : List (List ℕ)) (history : List Act) : Type 0 where
+  pub limits : IsShape z
+  pub one_lane : z.lanes ≡ 1
+  pub wide : z.last_generation < 2 ^ 32
+  pub acts : history ≡ w.history
+  pub legal : IsLegal z w.history
+  pub simple : IsSimpleBook z (pool_after z w.history) (w.books 0)
+  pub keys : AreFirstKeys z lane.free
+  pub within : lane.done ≤ length script
+  pub stage : StageStands z script lane lane.stage (w.books 0) (pool_after z w.history) w.words.life
+  pub words_length : length words ≡ all_places z
+  pub word : (place : ℕ) → is_place z place ≡ true → slice_index words (position_of z place) ≡ w.words.life place
+  pub contents_length : length contents ≡ all_places z
+  pub content : (place : ℕ) (bytes : List ℕ) → is_place z place ≡ true → row_content (pool_after z w.history place).phase ≡ Some bytes
+      → slice_get contents (position_of z place) ≡ Some bytes
+
+-- the core keeps what these turns so far have made
+abbrev pub IsCoreAt : World → Core → Type 0
+IsCoreAt w core = Keeps core.shape w core.script core.lane core.words.items core.contents.items core.acts.items
+
+-- the core keeps what some turns have made
+abbrev pub IsCore : Core → Type 0
+IsCore core = (w : World) × IsCoreAt w core
+
+-- the core is as before
+pub record IsSameCore (old new : Core) : Type 0 where
+  pub shape : new.shape ≡ old.shape
+  pub script : new.script ≡ old.script
+  pub lane : new.lane ≡ old.lane
+  pub words : new.words.items ≡ old.words.items
+  pub contents : new.contents.items ≡ old.contents.items
+  pub acts : new.acts.items ≡ old.acts.items
+
+-- the core made this turn, which is the next one of its lane
+pub record MakesTurn (old : Core) (w : World) (turn : Turn) (new : Core) : Type 0 where
+  pub lane : turn.lane ≡ 0
+  pub next : IsNextTurn old.shape w turn
+  pub kept : IsCoreAt (world_after old.shape w turn) new
+  pub shape : new.shape ≡ old.shape
+
+-- a turn that nothing was done in
+abbrev pub IsEmptyTurn : ℕ → Turn → Type 0
+IsEmptyTurn lane turn = (turn.lane ≡ lane) × (turn.before ≡ []) × (turn.step ≡ None) × (turn.act ≡ None) × (turn.after ≡ [])
+
+-- a turn of a lane: nothing for a finished one, and for a number that is no lane; else its next
+abbrev pub Turns : Core → World → ℕ → Turn → Core → Type 0
+Turns old w lane turn new = MatchBool (is_finished old.shape w lane)
+    (IsEmptyTurn lane turn × IsSameCore old new)
+    ((turn.lane ≡ lane) × MakesTurn old w turn new)

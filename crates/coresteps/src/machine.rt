@@ -1,0 +1,417 @@
+ghost use Rattle.std.specs.Prelude.{ℕ, List, ◌≡◌, ◌∷◌, ◌++◌, ◌+◌, ◌<◌, ◌≤◌, [], true, false, Some, IfOk, OnOk, OnErr, slice_get, slice_index, slice_set, length, replicate};
+ghost use Rattle.keybits.specs.Shapes.{IsShape, is_place, position_of};
+ghost use Rattle.keybits.specs.Keys.{place_of, is_key, generation_of};
+ghost use Rattle.keybits.specs.Words.{state_in, count_in};
+ghost use Rattle.seqpool.specs.Calls.{is_hit};
+ghost use Rattle.coresteps.specs.OneLane.{ScriptsAreReplayed};
+ghost use Rattle.coresteps.specs.Lawful.{AreTurns, IsLawful, World, first_world, world_from};
+ghost use Rattle.coresteps.specs.Kept.{IsCore, IsCoreAt};
+
+use crate::fault::CoreFault;
+use crate::lane::{Lane, NextCall, Stage};
+use crate::registers::{Holding, RegisterState};
+use crate::reply::{Replies, Reply};
+use crate::script::{Command, Operand, Register, Script};
+use crate::trace::{Trace, Turn};
+use keybits::{Key, Kind, Life, Shape, State, Step, Word, entered, left, published};
+use seqpool::{Act, Bytes};
+use std::alloc::Global;
+
+/// The pool's algorithm as a pure machine: the words of a pool, and the lanes that run their scripts over them.
+#[derive(Drop)]
+pub struct Core {
+    alloc: Global,
+    shape: Shape,
+    script: Script,
+    lane: Lane,
+    /// The lifecycle words, by the positions of their places.
+    words: Vec<u64>,
+    /// What was published last at each place, by the places' positions.
+    contents: Vec<Bytes>,
+    acts: Vec<Act>,
+}
+
+/// The lifecycle word of a place before its first publish: generation 1, idle, count 0.
+const FRESH_WORD: u64 = 4_294_967_296;
+
+impl Core {
+    ghost use Rattle.coresteps.specs.Lanes.{IsNextCall, Works};
+    ghost use Rattle.coresteps.specs.declared.lane.Stage.TheVariants.{Ready, Missed};
+    ghost use Rattle.coresteps.specs.declared.lane.NextCall.TheVariants.{End, Publishes, Gets};
+    ghost use Rattle.coresteps.specs.Lawful.{World, first_world, is_finished};
+    ghost use Rattle.coresteps.specs.OneLane.{ScriptsAreReplayed};
+    ghost use Rattle.coresteps.specs.Kept.{IsCore, IsCoreAt, IsSameCore, MakesTurn, Turns};
+
+    /// The core of these scripts, one for each lane, before the first turn. Memory (25) where it was refused.
+    pub fn new(alloc: Global, shape: Shape, scripts: Vec<Script>) -> Result<Core, CoreFault>
+        requires shape { IsShape shape }
+        requires one_lane { shape.lanes ≡ 1 }
+        requires scripts { length scripts.items ≡ shape.lanes }
+        requires replayed { ScriptsAreReplayed scripts.items }
+        ensures kept { IfOk result (λ core. IsCoreAt (first_world scripts.items) core) }
+        ensures shape { IfOk result (λ core. core.shape ≡ shape) }
+    {
+        let _last_generation = shape.last_generation;
+        let places = shape.all_places();
+        let words = fresh_words(alloc, places)?;
+        let contents = no_contents(alloc, places)?;
+        let lane = Lane::new(alloc)?;
+        let script = only_script(scripts);
+        Ok(Core {
+            alloc,
+            shape,
+            script,
+            lane,
+            words,
+            contents,
+            acts: Vec::new(alloc),
+        })
+    }
+
+    /// Publishes the filling of a register, and goes on to the lane's next step.
+    fn publish(
+        &mut self,
+        mut lane: Lane,
+        before: Replies,
+        register: Register,
+        key: u64,
+    ) -> Result<Turn, CoreFault>
+        requires core { IsCore self.old }
+        requires ready { self.old.lane.stage ≡ Ready }
+        requires works { Works self.old.shape self.old.script self.old.lane before lane }
+        requires call { IsNextCall self.old.shape self.old.script lane (Publishes register key) }
+        ensures ok { IfOk result (λ turn. (w : World) → IsCoreAt w self.old → is_finished self.old.shape w 0 ≡ false → MakesTurn self.old w turn self.new) }
+        ensures err { OnErr result (IsSameCore self.old self.new) }
+    {
+        let place = place_of(key);
+        let position = self.shape.position(place);
+        let found = self.words[position];
+        let step = Step {
+            kind: Kind::Publish { with_ref: false },
+            word: Word::Life { place },
+            before: found,
+            after: published(found, false),
+        };
+        let content = lane.take_filling(self.script.as_slice(), register);
+        let act = Act::Publish {
+            lane: 0,
+            key,
+            content: content.copy(self.alloc)?,
+            with_ref: false,
+        };
+        let mut after = lane.work(&self.shape, self.alloc, self.script.as_slice())?;
+        after.push_front(Reply::Key(key))?;
+        let told = act.copy(self.alloc)?;
+        self.acts.push(act)?;
+        self.words[position] = step.after;
+        self.contents[position] = content;
+        self.lane = lane;
+        Ok(Turn {
+            lane: 0,
+            before,
+            step: Some(step),
+            act: Some(told),
+            after,
+        })
+    }
+
+    /// Gets the content of a published place into a register, and goes on to the lane's next step.
+    fn hit(
+        &mut self,
+        mut lane: Lane,
+        before: Replies,
+        register: Register,
+        operand: Operand,
+        key: u64,
+    ) -> Result<Turn, CoreFault>
+        requires core { IsCore self.old }
+        requires ready { self.old.lane.stage ≡ Ready }
+        requires works { Works self.old.shape self.old.script self.old.lane before lane }
+        requires call { IsNextCall self.old.shape self.old.script lane (Gets register operand key) }
+        requires hit { is_hit key (slice_index self.old.words.items (position_of self.old.shape (place_of key))) ≡ true }
+        ensures ok { IfOk result (λ turn. (w : World) → IsCoreAt w self.old → is_finished self.old.shape w 0 ≡ false → MakesTurn self.old w turn self.new) }
+        ensures err { OnErr result (IsSameCore self.old self.new) }
+    {
+        let _ = operand;
+        let place = place_of(key);
+        let position = self.shape.position(place);
+        let found = self.words[position];
+        let step = Step {
+            kind: Kind::Enter,
+            word: Word::Life { place },
+            before: found,
+            after: entered(found),
+        };
+        let content = &self.contents[position];
+        let act = Act::Get {
+            lane: 0,
+            key,
+            reply: Some(content.copy(self.alloc)?),
+        };
+        let shown = content.copy(self.alloc)?;
+        lane.put_reference(
+            self.script.as_slice(),
+            register,
+            key,
+            content.copy(self.alloc)?,
+        );
+        let mut after = lane.work(&self.shape, self.alloc, self.script.as_slice())?;
+        after.push_front(Reply::Found(shown))?;
+        let told = act.copy(self.alloc)?;
+        self.acts.push(act)?;
+        self.words[position] = step.after;
+        self.lane = lane;
+        Ok(Turn {
+            lane: 0,
+            before,
+            step: Some(step),
+            act: Some(told),
+            after,
+        })
+    }
+
+    /// Enters a place where the key is not to be had; the lane's next step undoes it.
+    fn miss(
+        &mut self,
+        mut lane: Lane,
+        before: Replies,
+        register: Register,
+        operand: Operand,
+        key: u64,
+    ) -> Result<Turn, CoreFault>
+        requires core { IsCore self.old }
+        requires ready { self.old.lane.stage ≡ Ready }
+        requires works { Works self.old.shape self.old.script self.old.lane before lane }
+        requires call { IsNextCall self.old.shape self.old.script lane (Gets register operand key) }
+        requires miss { is_hit key (slice_index self.old.words.items (position_of self.old.shape (place_of key))) ≡ false }
+        ensures ok { IfOk result (λ turn. (w : World) → IsCoreAt w self.old → is_finished self.old.shape w 0 ≡ false → MakesTurn self.old w turn self.new) }
+        ensures err { OnErr result (IsSameCore self.old self.new) }
+    {
+        let _ = register;
+        let _ = operand;
+        let place = place_of(key);
+        let position = self.shape.position(place);
+        let found = self.words[position];
+        let step = Step {
+            kind: Kind::Enter,
+            word: Word::Life { place },
+            before: found,
+            after: entered(found),
+        };
+        self.acts.push(Act::Get {
+            lane: 0,
+            key,
+            reply: None,
+        })?;
+        self.words[position] = step.after;
+        lane.stage = Stage::Missed { key };
+        self.lane = lane;
+        Ok(Turn {
+            lane: 0,
+            before,
+            step: Some(step),
+            act: Some(Act::Get {
+                lane: 0,
+                key,
+                reply: None,
+            }),
+            after: Replies::empty(self.alloc),
+        })
+    }
+
+    /// Undoes the ENTER of a get that missed, and goes on to the lane's next step.
+    fn leave(&mut self, mut lane: Lane, key: u64) -> Result<Turn, CoreFault>
+        requires core { IsCore self.old }
+        requires same { lane ≡ self.old.lane }
+        requires missed { self.old.lane.stage ≡ Missed key }
+        requires unfinished { self.old.lane.done < length self.old.script }
+        ensures ok { IfOk result (λ turn. (w : World) → IsCoreAt w self.old → is_finished self.old.shape w 0 ≡ false → MakesTurn self.old w turn self.new) }
+        ensures err { OnErr result (IsSameCore self.old self.new) }
+    {
+        let place = place_of(key);
+        let position = self.shape.position(place);
+        let found = self.words[position];
+        let step = Step {
+            kind: Kind::Leave,
+            word: Word::Life { place },
+            before: found,
+            after: left(found),
+        };
+        lane.finish_command(self.script.as_slice());
+        let mut after = lane.work(&self.shape, self.alloc, self.script.as_slice())?;
+        after.push_front(Reply::Missing)?;
+        self.words[position] = step.after;
+        self.lane = lane;
+        Ok(Turn {
+            lane: 0,
+            before: Replies::empty(self.alloc),
+            step: Some(step),
+            act: None,
+            after,
+        })
+    }
+
+    /// Ends a lane's script, after its last replies.
+    fn end(&mut self, lane: Lane, before: Replies) -> Result<Turn, CoreFault>
+        requires ready { self.old.lane.stage ≡ Ready }
+        requires works { Works self.old.shape self.old.script self.old.lane before lane }
+        requires call { IsNextCall self.old.shape self.old.script lane End }
+        ensures ok { IfOk result (λ turn. (w : World) → IsCoreAt w self.old → is_finished self.old.shape w 0 ≡ false → MakesTurn self.old w turn self.new) }
+        ensures err { OnErr result (IsSameCore self.old self.new) }
+    {
+        self.lane = lane;
+        Ok(Turn {
+            lane: 0,
+            before,
+            step: None,
+            act: None,
+            after: Replies::empty(self.alloc),
+        })
+    }
+
+    /// Enters a key's place for a get.
+    fn enter(
+        &mut self,
+        lane: Lane,
+        before: Replies,
+        register: Register,
+        operand: Operand,
+        key: u64,
+    ) -> Result<Turn, CoreFault>
+        requires core { IsCore self.old }
+        requires ready { self.old.lane.stage ≡ Ready }
+        requires works { Works self.old.shape self.old.script self.old.lane before lane }
+        requires call { IsNextCall self.old.shape self.old.script lane (Gets register operand key) }
+        ensures ok { IfOk result (λ turn. (w : World) → IsCoreAt w self.old → is_finished self.old.shape w 0 ≡ false → MakesTurn self.old w turn self.new) }
+        ensures err { OnErr result (IsSameCore self.old self.new) }
+    {
+        let found = self.words[self.shape.position(place_of(key))];
+        if is_hit(key, found) {
+            self.hit(lane, before, register, operand, key)
+        } else {
+            self.miss(lane, before, register, operand, key)
+        }
+    }
+
+    /// One turn of a lane: its next atomic step, with the work of its own before its first step and after each one. A turn of a
+    /// finished lane, or of a number that is no lane, does nothing. Where memory is refused (25), the core is as before.
+    pub fn turn(&mut self, lane: u32) -> Result<Turn, CoreFault>
+        requires core { IsCore self.old }
+        ensures ok { IfOk result (λ turn. (w : World) → IsCoreAt w self.old → Turns self.old w lane turn self.new) }
+        ensures err { OnErr result (IsSameCore self.old self.new) }
+    {
+        if self.finished(lane) {
+            return Ok(Turn::empty(self.alloc, lane));
+        }
+        let mut draft = self.lane.copy(self.alloc)?;
+        if let Stage::Missed { key } = draft.stage {
+            return self.leave(draft, key);
+        }
+        let before = draft.work(&self.shape, self.alloc, self.script.as_slice())?;
+        match draft.next_call(&self.shape, self.script.as_slice()) {
+            NextCall::End => self.end(draft, before),
+            NextCall::Publishes { register, key } => self.publish(draft, before, register, key),
+            NextCall::Gets {
+                register,
+                operand,
+                key,
+            } => self.enter(draft, before, register, operand, key),
+        }
+    }
+
+    /// Whether a lane's script is at its end; true for a number that is no lane.
+    pub fn finished(&self, lane: u32) -> bool
+        ensures { (w : World) → IsCoreAt w self.now → result ≡ is_finished self.now.shape w lane }
+    {
+        lane >= self.shape.lanes || self.lane.done >= self.script.as_slice().len()
+    }
+
+    /// The acts of the turns so far, in order.
+    pub fn acts(&self) -> &[Act]
+        ensures { (w : World) → IsCoreAt w self.now → result.now ≡ w.history }
+    {
+        self.acts.as_slice()
+    }
+}
+
+/// Whether an ENTER that finds this word hits the key: the key's generation, and PRESENT.
+fn is_hit(key: u64, word: u64) -> bool
+    ensures { result ≡ is_hit key word }
+{
+    let life = Life::of_word(word);
+    let generation = (key / 16_777_216 % 4_294_967_296) as u32;
+    life.generation == generation && life.state == State::Present
+}
+
+/// The number of the place that a key's number names.
+fn place_of(key: u64) -> u32
+    ensures { result ≡ place_of key }
+{
+    (key % 16_777_216) as u32
+}
+
+/// The script of the one lane.
+fn only_script(scripts: Vec<Script>) -> Script
+    requires { length scripts.items ≡ 1 }
+    ensures { scripts.items ≡ result ∷ [] }
+{
+    let mut scripts = scripts;
+    scripts.pop().unwrap()
+}
+
+/// As many empty contents as there are places.
+fn no_contents(alloc: Global, places: usize) -> Result<Vec<Bytes>, CoreFault>
+    ensures { IfOk result (λ contents. contents.items ≡ replicate places []) }
+{
+    let mut contents = Vec::with_capacity(alloc, places)?;
+    for _ in 0..places {
+        contents.push(Bytes::empty(alloc))?;
+    }
+    Ok(contents)
+}
+
+/// As many fresh lifecycle words as there are places.
+fn fresh_words(alloc: Global, places: usize) -> Result<Vec<u64>, CoreFault>
+    ensures { IfOk result (λ words. words.items ≡ replicate places FRESH_WORD) }
+{
+    let mut words = Vec::with_capacity(alloc, places)?;
+    for _ in 0..places {
+        words.push(FRESH_WORD)?;
+    }
+    Ok(words)
+}
+
+/// One more entry of a schedule: the turn that it makes, if it makes one, goes into the trace.
+fn add_turn(core: &mut Core, trace: &mut Trace, lane: u32) -> Result<(), CoreFault>
+    requires { IsCore core.old }
+    ensures { OnOk result ((w : World) (schedule : List ℕ) → AreTurns core.old.shape w schedule trace.old → IsCoreAt (world_from core.old.shape w trace.old) core.old
+        → AreTurns core.old.shape w (schedule ++ lane ∷ []) trace.new × IsCoreAt (world_from core.old.shape w trace.new) core.new × (core.new.shape ≡ core.old.shape)) }
+{
+    if core.finished(lane) {
+        return Ok(());
+    }
+    let turn = core.turn(lane)?;
+    trace.push(turn)?;
+    Ok(())
+}
+
+/// Replays scripts over a schedule: one turn for each entry that names an unfinished lane. Memory (25) where it was refused.
+pub fn run(
+    alloc: Global,
+    shape: Shape,
+    scripts: Vec<Script>,
+    schedule: &[u32],
+) -> Result<Trace, CoreFault>
+    requires shape { IsShape shape }
+    requires one_lane { shape.lanes ≡ 1 }
+    requires scripts { length scripts.items ≡ shape.lanes }
+    requires replayed { ScriptsAreReplayed scripts.items }
+    ensures { IfOk result (λ trace. IsLawful shape scripts.items schedule.now trace) }
+{
+    let mut core = Core::new(alloc, shape, scripts)?;
+    let mut trace = Trace::empty(alloc);
+    for lane in schedule {
+        add_turn(&mut core, &mut trace, *lane)?;
+    }
+    Ok(trace)
+}

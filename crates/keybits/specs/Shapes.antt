@@ -1,0 +1,40 @@
+-- Shapes: the sizes of pages and shards, and which places there are.
+use Rattle.std.specs.Prelude.{◌≡◌, ◌&&◌, ℕ, ◌+◌, ◌-◌, ◌*◌, ◌^◌, ◌≤◌, Bool, nat_lt}
+use Rattle.keybits.specs.declared.shape.Shape.{Shape}
+use Rattle.keybits.specs.Places.{shard_of, page_of, slot_of}
+
+-- a shape within its limits
+pub record IsShape (z : Shape) : Type 0 where
+  pub lanes : (1 ≤ z.lanes) × (z.lanes ≤ 16)
+  pub first_page : (k : ℕ) × (k ≤ 6) × (z.first_page ≡ 2 ^ k)
+  pub pages : (1 ≤ z.pages) × (z.pages ≤ 6)
+  pub generations : 1 ≤ z.last_generation
+  pub tag : z.tag ≤ 255
+
+-- how many places a page has
+abbrev pub page_size : Shape → ℕ → ℕ
+page_size z page = z.first_page * 2 ^ page
+
+-- how many places of a shard come before a page
+abbrev pub page_start : Shape → ℕ → ℕ
+page_start z page = z.first_page * (2 ^ page - 1)
+
+-- how many places a shard has
+abbrev pub shard_places : Shape → ℕ
+shard_places z = page_start z z.pages
+
+-- how many places there are
+abbrev pub all_places : Shape → ℕ
+all_places z = z.lanes * shard_places z
+
+-- a place of the shape has this number
+abbrev pub is_place : Shape → ℕ → Bool
+is_place z n = nat_lt (shard_of n) z.lanes && nat_lt (page_of n) z.pages && nat_lt (slot_of n) (page_size z (page_of n))
+
+-- which place of its shard it is
+abbrev pub index_of : Shape → ℕ → ℕ
+index_of z n = page_start z (page_of n) + slot_of n
+
+-- which place it is among all places, shard after shard
+abbrev pub position_of : Shape → ℕ → ℕ
+position_of z n = shard_of n * shard_places z + index_of z n

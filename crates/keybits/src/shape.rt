@@ -1,0 +1,220 @@
+ghost use Rattle.std.specs.Prelude.{◌≡◌, ℕ, ◌^◌, ◌≤◌, ◌↔◌, IsTrue};
+
+use crate::place::{page_of, shard_of, slot_of};
+use std::error::Error;
+use std::fmt;
+
+/// How large a pool is. This project's profile: see `Shape::check` for the limits.
+#[derive(Clone, Copy, Debug, PartialEq, Eq)]
+pub struct Shape {
+    /// How many lanes there are; lane i owns shard i.
+    pub lanes: u32,
+    /// How many places the first page of a shard has. Each further page is twice as large as the one before.
+    pub first_page: u32,
+    /// How many pages a shard has.
+    pub pages: u32,
+    /// The generation after which a place retires.
+    pub last_generation: u32,
+    /// The pool's tag, which each of its keys carries.
+    pub tag: u32,
+}
+
+/// What is wrong with a shape: the first of its fields, in this order, that is outside its limits.
+#[derive(Clone, Copy, Debug, PartialEq, Eq)]
+pub enum ShapeFault {
+    /// The lanes are not from 1 to 16.
+    Lanes,
+    /// The first page has not 1, 2, 4, 8, 16, 32 or 64 places.
+    FirstPage,
+    /// The pages are not from 1 to 6.
+    Pages,
+    /// The last generation is 0.
+    Generation,
+    /// The tag is over 255.
+    Tag,
+}
+
+impl ShapeFault {
+    ghost use Rattle.std.specs.Prelude.{◌≡◌};
+    ghost use Rattle.keybits.specs.ShapeFaults.{fault_number};
+
+    /// The fault's number: 1 for the lanes, 2 for the first page, 3 for the pages, 4 for the last
+    /// generation and 6 for the tag.
+    pub fn number(&self) -> u32
+        ensures { result ≡ fault_number self.now }
+    {
+        match self {
+            ShapeFault::Lanes => 1,
+            ShapeFault::FirstPage => 2,
+            ShapeFault::Pages => 3,
+            ShapeFault::Generation => 4,
+            ShapeFault::Tag => 6,
+        }
+    }
+}
+
+impl fmt::Display for ShapeFault {
+    fn fmt<W: fmt::Write>(&self, f: &mut fmt::Formatter<W>) -> fmt::Result {
+        match self {
+            ShapeFault::Lanes => write!(f, "the number of lanes is not from 1 to 16"),
+            ShapeFault::FirstPage => write!(
+                f,
+                "the size of the first page is not 1, 2, 4, 8, 16, 32 or 64"
+            ),
+            ShapeFault::Pages => write!(f, "the number of pages is not from 1 to 6"),
+            ShapeFault::Generation => write!(f, "the last generation is 0"),
+            ShapeFault::Tag => write!(f, "the tag is over 255"),
+        }
+    }
+}
+
+impl Error for ShapeFault {}
+
+impl Shape {
+    ghost use Rattle.std.specs.Prelude.{◌≡◌, ℕ, ◌^◌, ◌<◌, ◌≤◌, ◌↔◌, IsTrue, IsOk, IsErrOf};
+    ghost use Rattle.keybits.specs.declared.shape.ShapeFault.{ShapeFault};
+    ghost use Rattle.keybits.specs.Places.{shard_of};
+    ghost use Rattle.keybits.specs.Shapes.{IsShape, page_size, page_start, shard_places, all_places, is_place, index_of, position_of};
+    ghost use Rattle.keybits.specs.ShapeFaults.{IsFirstFault};
+
+    /// Tests the fields in this order: the lanes are from 1 to 16, the first page has 1, 2, 4, 8, 16,
+    /// 32 or 64 places, the pages are from 1 to 6, the last generation is at least 1, the tag is at
+    /// most 255. The error names the first field that is outside its limits. This project's profile.
+    pub fn check(&self) -> Result<(), ShapeFault>
+        ensures ok { IsOk result ↔ IsShape self.now }
+        ensures err { (fault : ShapeFault) → IsErrOf result fault ↔ IsFirstFault self.now fault }
+    {
+        if self.lanes == 0 || self.lanes > 16 {
+            return Err(ShapeFault::Lanes);
+        }
+        if !is_first_page(self.first_page) {
+            return Err(ShapeFault::FirstPage);
+        }
+        if self.pages == 0 || self.pages > 6 {
+            return Err(ShapeFault::Pages);
+        }
+        if self.last_generation == 0 {
+            return Err(ShapeFault::Generation);
+        }
+        if self.tag > 255 {
+            return Err(ShapeFault::Tag);
+        }
+        Ok(())
+    }
+
+    /// How many places a page of a checked shape has.
+    #[inline]
+    pub fn page_size(&self, page: u32) -> u32
+        requires shape { IsShape self.now }
+        requires page { page < self.now.pages }
+        ensures { result ≡ page_size self.now page }
+    {
+        self.first_page << page
+    }
+
+    /// How many places each shard of a checked shape has.
+    #[inline]
+    pub fn shard_places(&self) -> u32
+        requires { IsShape self.now }
+        ensures { result ≡ shard_places self.now }
+    {
+        self.places_before(self.pages)
+    }
+
+    /// How many places a checked shape has.
+    #[inline]
+    pub fn all_places(&self) -> usize
+        requires { IsShape self.now }
+        ensures { result ≡ all_places self.now }
+    {
+        (self.lanes * self.shard_places()) as usize
+    }
+
+    /// Whether this is the number of a place of the shape. The shape need not be checked.
+    #[inline]
+    pub fn is_place(&self, place: u32) -> bool
+        ensures { result ≡ is_place self.now place }
+    {
+        let page = page_of(place);
+        shard_of(place) < self.lanes
+            && page < self.pages
+            && u64::from(slot_of(place)) < self.slots(page)
+    }
+
+    /// Which place of its shard a place of a checked shape is, counted from 0.
+    #[inline]
+    pub fn index(&self, place: u32) -> usize
+        requires shape { IsShape self.now }
+        requires place { IsTrue (is_place self.now place) }
+        ensures index { result ≡ index_of self.now place }
+        ensures below { result < shard_places self.now }
+    {
+        (self.places_before(page_of(place)) + slot_of(place)) as usize
+    }
+
+    /// Which place of all a place of a checked shape is, counted from 0, shard after shard.
+    #[inline]
+    pub fn position(&self, place: u32) -> usize
+        requires shape { IsShape self.now }
+        requires place { IsTrue (is_place self.now place) }
+        ensures position { result ≡ position_of self.now place }
+        ensures below { result < all_places self.now }
+    {
+        (shard_of(place) * self.shard_places()) as usize + self.index(place)
+    }
+
+    /// The place of a checked shape that has this position. It is the inverse of `position`.
+    pub fn place_at(&self, position: usize) -> u32
+        requires shape { IsShape self.now }
+        requires position { position < all_places self.now }
+        ensures place { IsTrue (is_place self.now result) }
+
+        // Each the other's inverse.
+        ensures position { position_of self.now result ≡ position }
+        ensures inverse { (place : ℕ) → IsTrue (is_place self.now place)
+            → position_of self.now place ≡ position → result ≡ place }
+    {
+        let position = position as u32;
+        let places = self.shard_places();
+        self.place_in_shard(position / places, position % places)
+    }
+
+    /// The place of a shard of a checked shape that has this index.
+    fn place_in_shard(&self, shard: u32, index: u32) -> u32
+        requires shape { IsShape self.now }
+        requires shard { shard < self.now.lanes }
+        requires index { index < shard_places self.now }
+        ensures place { IsTrue (is_place self.now result) }
+        ensures shard { shard_of result ≡ shard }
+        ensures index { index_of self.now result ≡ index }
+    {
+        let page = (index / self.first_page + 1).ilog2();
+        (shard << 16) + (page << 12) + (index - self.places_before(page))
+    }
+
+    /// How many places of a shard of a checked shape come before a page.
+    #[inline]
+    fn places_before(&self, page: u32) -> u32
+        requires shape { IsShape self.now }
+        requires page { page ≤ 6 }
+        ensures { result ≡ page_start self.now page }
+    {
+        (self.first_page << page) - self.first_page
+    }
+
+    /// How many slots a page has; the shape need not be checked.
+    #[inline]
+    fn slots(&self, page: u32) -> u64
+        requires { page < 16 }
+        ensures { result ≡ page_size self.now page }
+    {
+        u64::from(self.first_page) << page
+    }
+}
+
+/// Whether a first page may have this size.
+fn is_first_page(size: u32) -> bool
+    ensures { IsTrue result ↔ ((k : ℕ) × (k ≤ 6) × (size ≡ 2 ^ k)) }
+{
+    size <= 64 && size.is_power_of_two()
+}

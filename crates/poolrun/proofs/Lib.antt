@@ -1,0 +1,6 @@
+pub mod Registers
+pub mod Values
+pub mod Sequences
+pub mod Hexes
+pub mod Schedules
+pub mod Writing

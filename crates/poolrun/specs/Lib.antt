@@ -1,0 +1,9 @@
+pub mod Hex
+pub mod CommandNames
+pub mod ScriptFiles
+pub mod Readings
+pub mod Replays
+pub mod RunFaults
+pub mod Watching
+pub mod Schedules
+pub mod CommandLines

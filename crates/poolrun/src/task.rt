@@ -1,0 +1,6 @@
+/// What the program is told to do.
+#[derive(Drop, Debug)]
+pub enum Task {
+    /// Replay the script file at this path over this schedule, whose entries are numbers of lanes.
+    Replay { file: String, schedule: Vec<u32> },
+}

@@ -1,0 +1,13 @@
+pub mod Growth
+pub mod Positions
+pub mod Ranks
+pub mod Gets
+pub mod Tallies
+pub mod Owns
+pub mod Rows
+pub mod Fresh
+pub mod Acts
+pub mod Collects
+pub mod Counts
+pub mod Checked
+pub mod Lines

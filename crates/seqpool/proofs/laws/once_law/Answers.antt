@@ -1,0 +1,8 @@
+use Rattle.seqpool.proofs.Gets.{once-law, retired-law}
+use Rattle.seqpool.proofs.laws.once_law.Goals as goal
+
+pub returns-clause-once : goal.returns-clause-once
+returns-clause-once c = once-law
+
+pub returns-clause-retired : goal.returns-clause-retired
+returns-clause-retired c = retired-law

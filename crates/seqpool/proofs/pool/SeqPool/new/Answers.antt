@@ -1,0 +1,9 @@
+use Rattle.std.proofs.Common.{◌≡◌, ℕ, length, subst, arith}
+use Rattle.keybits.specs.Shapes.{all_places}
+use Rattle.seqpool.proofs.Fresh.{AreFresh, fresh-rows}
+use Rattle.seqpool.proofs.pool.SeqPool.new.Goals as goal
+
+pub returns-clause-fresh : goal.returns-clause-fresh
+returns-clause-fresh c =
+    let size : length c.loop-position.rows.items ≡ all_places c.args.shape = omega arith in
+    fresh-rows c.args.shape c.loop-position.rows.items size (subst (λ (n : ℕ). AreFresh n c.loop-position.rows.items) c.shard_places-shard_places.ensures c.loop-position.invariant.rows)

@@ -1,0 +1,117 @@
+ghost use Rattle.std.specs.Prelude.{◌≡◌, IfOk};
+
+use crate::contents::{Bytes, Places};
+use std::alloc::{AllocError, Global};
+
+/// An act of a lane on the pool, with its reply. Keys and places go by their numbers.
+#[derive(Drop, Debug)]
+pub enum Act {
+    /// The lane publishes the filling of the key's place, and keeps a reference where `with_ref` holds.
+    Publish {
+        lane: u32,
+        key: u64,
+        content: Bytes,
+        with_ref: bool,
+    },
+    /// The lane gets the key: its content, with a reference, or nothing.
+    Get {
+        lane: u32,
+        key: u64,
+        reply: Option<Bytes>,
+    },
+    /// The lane gives back a reference to the key.
+    Release {
+        lane: u32,
+        key: u64,
+    },
+    /// The lane clears the key: whether it was this act that marked it.
+    Clear {
+        lane: u32,
+        key: u64,
+        reply: bool,
+    },
+    /// The lane takes the place of a marked key that nobody refers to.
+    Reclaim {
+        lane: u32,
+        key: u64,
+    },
+    /// The lane returns a place to the shard that it is of.
+    Home {
+        lane: u32,
+        place: u32,
+    },
+    /// The lane takes places that were returned to its shard.
+    Collect {
+        lane: u32,
+        places: Places,
+    },
+}
+
+impl Act {
+    /// The same act once more.
+    pub fn copy(&self, alloc: Global) -> Result<Act, AllocError>
+        ensures { IfOk result (λ copy. copy ≡ self.now) }
+    {
+        match self {
+            Act::Publish {
+                lane,
+                key,
+                content,
+                with_ref,
+            } => {
+                let content = content.copy(alloc)?;
+                Ok(Act::Publish {
+                    lane: *lane,
+                    key: *key,
+                    content,
+                    with_ref: *with_ref,
+                })
+            }
+            Act::Get {
+                lane,
+                key,
+                reply: Some(content),
+            } => {
+                let content = content.copy(alloc)?;
+                Ok(Act::Get {
+                    lane: *lane,
+                    key: *key,
+                    reply: Some(content),
+                })
+            }
+            Act::Get {
+                lane,
+                key,
+                reply: None,
+            } => Ok(Act::Get {
+                lane: *lane,
+                key: *key,
+                reply: None,
+            }),
+            Act::Release { lane, key } => Ok(Act::Release {
+                lane: *lane,
+                key: *key,
+            }),
+            Act::Clear { lane, key, reply } => Ok(Act::Clear {
+                lane: *lane,
+                key: *key,
+                reply: *reply,
+            }),
+            Act::Reclaim { lane, key } => Ok(Act::Reclaim {
+                lane: *lane,
+                key: *key,
+            }),
+            Act::Home { lane, place } => Ok(Act::Home {
+                lane: *lane,
+                place: *place,
+            }),
+            Act::Collect { lane, places } => {
+                let places = places.copy(alloc)?;
+                Ok(Act::Collect {
+                    lane: *lane,
+                    places,
+                })
+            }
+        }
+    }
+}

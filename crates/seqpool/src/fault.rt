@@ -1,0 +1,119 @@
+ghost use Rattle.std.specs.Prelude.{◌≡◌};
+ghost use Rattle.seqpool.specs.declared.fault.ApplyFault.TheVariants as faults;
+
+use std::alloc::{AllocError, AllocFailed};
+use std::error::Error;
+use std::fmt;
+
+/// No memory was left.
+#[derive(Clone, Copy, Debug, PartialEq, Eq)]
+pub struct Memory;
+
+/// Why an act isn't applied. After any of these the pool is as it was before.
+#[derive(Clone, Copy, Debug, PartialEq, Eq)]
+pub enum ApplyFault {
+    /// There is no such lane, the place isn't with it, or the act isn't for such a place or key.
+    NotWithLane,
+    /// The next generation of the place isn't the key's.
+    WrongGeneration,
+    /// The reply isn't that of the pool.
+    WrongReply,
+    /// The lane has no reference to the key.
+    NotHeld,
+    /// A lane has a reference to the key.
+    StillHeld,
+    /// The key isn't in the pool, or isn't marked.
+    NotMarked,
+    /// The places are none, or one isn't home, is of another shard or came before.
+    NotHome,
+    /// No memory was left.
+    Memory,
+}
+
+impl Memory {
+    /// The number of the fault, 18.
+    pub fn number(&self) -> u32
+        ensures { result ≡ 18 }
+    {
+        18
+    }
+}
+
+impl From<AllocError> for Memory {
+    fn from(_e: AllocError) -> Memory {
+        Memory
+    }
+}
+
+impl<T: Drop> From<AllocFailed<T>> for Memory {
+    fn from(_e: AllocFailed<T>) -> Memory {
+        Memory
+    }
+}
+
+impl fmt::Display for Memory {
+    fn fmt<W: fmt::Write>(&self, f: &mut fmt::Formatter<W>) -> fmt::Result {
+        write!(f, "no memory was left")
+    }
+}
+
+impl Error for Memory {}
+
+impl ApplyFault {
+    ghost use Rattle.seqpool.specs.Refusals.{fault_number};
+
+    /// The fault's number: 11 to 17 in the order of the variants, and 18 for want of memory.
+    pub fn number(&self) -> u32
+        ensures { result ≡ fault_number self.now }
+    {
+        match self {
+            ApplyFault::NotWithLane => 11,
+            ApplyFault::WrongGeneration => 12,
+            ApplyFault::WrongReply => 13,
+            ApplyFault::NotHeld => 14,
+            ApplyFault::StillHeld => 15,
+            ApplyFault::NotMarked => 16,
+            ApplyFault::NotHome => 17,
+            ApplyFault::Memory => 18,
+        }
+    }
+}
+
+impl From<AllocError> for ApplyFault {
+    ghost from_gives = { λ _ e. e ≡ faults.Memory };
+
+    fn from(_e: AllocError) -> ApplyFault {
+        ApplyFault::Memory
+    }
+}
+
+impl From<Memory> for ApplyFault {
+    ghost from_gives = { λ _ e. e ≡ faults.Memory };
+
+    fn from(_e: Memory) -> ApplyFault {
+        ApplyFault::Memory
+    }
+}
+
+impl fmt::Display for ApplyFault {
+    fn fmt<W: fmt::Write>(&self, f: &mut fmt::Formatter<W>) -> fmt::Result {
+        match self {
+            ApplyFault::NotWithLane => write!(
+                f,
+                "there is no such lane, or the place isn't with it"
+            ),
+            ApplyFault::WrongGeneration => write!(f, "the place's next generation isn't the key's"),
+            ApplyFault::WrongReply => write!(f, "the reply isn't that of the pool"),
+            ApplyFault::NotHeld => write!(f, "the lane has no reference to the key"),
+            ApplyFault::StillHeld => write!(f, "a lane has a reference to the key"),
+            ApplyFault::NotMarked => write!(f, "the key isn't in the pool, or isn't marked"),
+            ApplyFault::NotHome => write!(
+                f,
+                "the places are none, or one isn't home or came before"
+            ),
+            ApplyFault::Memory => write!(f, "no memory was left"),
+        }
+    }
+}
+
+impl Error for ApplyFault {}

@@ -1,0 +1,26 @@
+//! The laws of legal histories, as calls that do nothing: whoever calls one may use its law in a proof.
+
+ghost use Rattle.seqpool.specs.Laws.{GetLaw, ReclaimLaw, AloneLaw, OnceLaw, RetiredLaw, OwnLaw};
+
+/// A get of a key replies a content exactly where the publish of the key with that content stands before it and no clear of
+/// the key that replied true does.
+pub fn get_law()
+    ensures { GetLaw }
+{}
+
+/// Where a key is reclaimed nobody refers to it, and between its publish and its reclaim no key of its place is published.
+pub fn reclaim_law()
+    ensures given_back { ReclaimLaw }
+    ensures alone { AloneLaw }
+{}
+
+/// No key is published twice, and none of a place that is retired.
+pub fn once_law()
+    ensures once { OnceLaw }
+    ensures retired { RetiredLaw }
+{}
+
+/// Which places are with a lane, and which references it has, is changed by its own acts alone.
+pub fn own_law()
+    ensures { OwnLaw }
+{}

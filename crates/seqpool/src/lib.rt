@@ -1,0 +1,27 @@
+//! The pool of one thread: its acts, its legal histories and their laws.
+#![tactic(auto)]
+
+mod act;
+mod checker;
+mod contents;
+mod fault;
+mod groups;
+mod history;
+mod key;
+mod lanes;
+mod laws;
+mod pool;
+mod row;
+mod writer;
+
+pub use act::Act;
+pub use checker::{CheckFault, Summary};
+pub use contents::{Bytes, Places};
+pub use fault::{ApplyFault, Memory};
+pub use history::check;
+pub use laws::{get_law, once_law, own_law, reclaim_law};
+pub use pool::SeqPool;
+pub use writer::write_acts;
+
+#[cfg(test)]
+mod tests;

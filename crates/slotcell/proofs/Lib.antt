@@ -1,0 +1,6 @@
+mod Merging
+mod PortionFields
+mod PortionSteps
+pub mod ShareLemmas
+mod Steps
+mod UnboxedFields
