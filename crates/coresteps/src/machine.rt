@@ -406,7 +406,7 @@ pub fn run(
     requires one_lane { shape.lanes ≡ 1 }
     requires scripts { length scripts.items ≡ shape.lanes }
     requires replayed { ScriptsAreReplayed scripts.items }
-    ensures { IfOk result (λ trace. IsLawful shape scripts.items schedule.now trace) }
+    ensures lawful { IfOk result (λ trace. IsLawful shape scripts.items schedule.now trace) }
 {
     let mut core = Core::new(alloc, shape, scripts)?;
     let mut trace = Trace::empty(alloc);
