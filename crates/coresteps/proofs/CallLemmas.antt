@@ -54,7 +54,7 @@ module _ (z : Shape) (b : Book) where
       → call_under_way b ≡ Some (Publishing key content false)
   publish_call r more key content left holds = ap (call_of_first b) left ∙ ap (publishing false) holds
 
-  get_call : (r : Register) (operand : Operand) (more : List Command) (key : ℕ) → b.left ≡ commands.Get r operand ∷ more → holding_at b r.number ≡ Empty
+  pub get_call : (r : Register) (operand : Operand) (more : List Command) (key : ℕ) → b.left ≡ commands.Get r operand ∷ more → holding_at b r.number ≡ Empty
       → operand_key b.registers operand ≡ Some key → call_under_way b ≡ Some (Getting key)
   get_call r operand more key left holds op = ap (call_of_first b) left ∙ ap (λ (t : Option ℕ × Holding). getting t.0 t.1) (λ i. (op i, holds i))
 

@@ -5,4 +5,5 @@ pub mod StepLemmas
 pub mod CallLemmas
 pub mod TurnLemmas
 pub mod RunLemmas
+pub mod StandLemmas
 pub mod TextLemmas

@@ -24,7 +24,8 @@ use Rattle.coresteps.specs.Books.{Book}
 use Rattle.coresteps.specs.Following.{row_content}
 use Rattle.coresteps.specs.declared.trace.Turn.{Turn}
 use Rattle.coresteps.specs.declared.machine.Core.{Core}
-use Rattle.coresteps.specs.Lawful.{World, world_after, is_finished, IsNextTurn}
+use Rattle.coresteps.specs.Lawful.{World, world_after, world_from, is_finished, IsNextTurn, AreTurns}
+use Rattle.coresteps.specs.Parts.{StandsThroughout}
 use Rattle.coresteps.specs.OneLane.{AreReplayed, IsSimpleBook, WordsAre}
 use Rattle.coresteps.specs.Lanes.{AreFirstKeys, book_before_step, ready_book}
 
@@ -100,3 +101,7 @@ abbrev pub Turns : Core → World → ℕ → Turn → Core → Type 0
 Turns old w lane turn new = MatchBool (is_finished old.shape w lane)
     (IsEmptyTurn lane turn × IsSameCore old new)
     ((turn.lane ≡ lane) × MakesTurn old w turn new)
+
+-- the core keeps what these turns have made, which are those of the schedule, and after each of which the facts stand
+abbrev pub IsRun : Shape → World → List ℕ → List Turn → Core → Type 0
+IsRun z w schedule turns core = AreTurns z w schedule turns × StandsThroughout z w turns × IsCoreAt (world_from z w turns) core

@@ -4,8 +4,9 @@ ghost use Rattle.keybits.specs.Keys.{place_of, is_key, generation_of};
 ghost use Rattle.keybits.specs.Words.{state_in, count_in};
 ghost use Rattle.seqpool.specs.Calls.{is_hit};
 ghost use Rattle.coresteps.specs.OneLane.{ScriptsAreReplayed};
-ghost use Rattle.coresteps.specs.Lawful.{AreTurns, IsLawful, World, first_world, world_from};
-ghost use Rattle.coresteps.specs.Kept.{IsCore, IsCoreAt};
+ghost use Rattle.coresteps.specs.Lawful.{IsLawful, World, first_world};
+ghost use Rattle.coresteps.specs.Parts.{StandsThroughout};
+ghost use Rattle.coresteps.specs.Kept.{IsCore, IsRun};
 
 use crate::fault::CoreFault;
 use crate::lane::{Lane, NextCall, Stage};
@@ -384,8 +385,9 @@ fn fresh_words(alloc: Global, places: usize) -> Result<Vec<u64>, CoreFault>
 /// One more entry of a schedule: the turn that it makes, if it makes one, goes into the trace.
 fn add_turn(core: &mut Core, trace: &mut Trace, lane: u32) -> Result<(), CoreFault>
     requires { IsCore core.old }
-    ensures { OnOk result ((w : World) (schedule : List ℕ) → AreTurns core.old.shape w schedule trace.old → IsCoreAt (world_from core.old.shape w trace.old) core.old
-        → AreTurns core.old.shape w (schedule ++ lane ∷ []) trace.new × IsCoreAt (world_from core.old.shape w trace.new) core.new × (core.new.shape ≡ core.old.shape)) }
+    ensures { OnOk result ((w : World) (schedule : List ℕ)
+        → IsRun core.old.shape w schedule trace.old core.old
+        → IsRun core.old.shape w (schedule ++ lane ∷ []) trace.new core.new × (core.new.shape ≡ core.old.shape)) }
 {
     if core.finished(lane) {
         return Ok(());
@@ -407,6 +409,9 @@ pub fn run(
     requires scripts { length scripts.items ≡ shape.lanes }
     requires replayed { ScriptsAreReplayed scripts.items }
     ensures lawful { IfOk result (λ trace. IsLawful shape scripts.items schedule.now trace) }
+
+    // After each turn each place is in one part, and the facts of words, history and books hold.
+    ensures stands { IfOk result (λ trace. StandsThroughout shape (first_world scripts.items) trace) }
 {
     let mut core = Core::new(alloc, shape, scripts)?;
     let mut trace = Trace::empty(alloc);

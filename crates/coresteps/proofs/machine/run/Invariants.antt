@@ -1,10 +1,8 @@
 use Rattle.std.proofs.Common.{◌≡◌, take}
-use Rattle.coresteps.specs.Lawful.{first_world, world_from, AreTurns}
-use Rattle.coresteps.specs.Kept.{IsCoreAt}
+use Rattle.coresteps.specs.Lawful.{first_world}
+use Rattle.coresteps.specs.Kept.{IsRun}
 use Rattle.coresteps.proofs.machine.run.Given as goal
 
 abbrev pub invariant-loop-lane : goal.invariant-loop-lane
 invariant-loop-lane l =
-    AreTurns l.fn.shape (first_world l.fn.scripts.items) (take l.lane-index l.schedule) l.trace
-    × IsCoreAt (world_from l.fn.shape (first_world l.fn.scripts.items) l.trace) l.core
-    × (l.core.shape ≡ l.fn.shape)
+    IsRun l.fn.shape (first_world l.fn.scripts.items) (take l.lane-index l.schedule) l.trace l.core × (l.core.shape ≡ l.fn.shape)
