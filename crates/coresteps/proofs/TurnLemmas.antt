@@ -52,10 +52,10 @@ use Rattle.coresteps.specs.Following.{AreReplies}
 use Rattle.coresteps.specs.Lawful.{World, at_end, is_finished, world_after, with_book, book_before, book_after, words_after, StepAndReplies, IsAtRest, IsNextTurn}
 use Rattle.coresteps.specs.OneLane.{AreLocal}
 use Rattle.coresteps.specs.Lanes.{AreFirstKeys, book_before_step, ready_book, IsReady, Works, next_lane}
-use Rattle.std.specs.Prelude.{Result, Ok, Err, IfOk, MatchBool}
-use Rattle.coresteps.specs.declared.machine.Core.{Core}
+use Rattle.std.specs.Prelude.{Result, Ok, Err, IfOk, OnErr, MatchBool}
+use Rattle.coresteps.specs.declared.machine.Machine.{Machine}
 use Rattle.coresteps.specs.declared.fault.CoreFault.{CoreFault}
-use Rattle.coresteps.specs.Kept.{IsEntered, StageStands, Keeps, IsCoreAt, IsSameCore, MakesTurn, IsEmptyTurn, Turns}
+use Rattle.coresteps.specs.Kept.{IsEntered, StageStands, Keeps, IsCore, IsCoreAt, IsSameCore, MakesTurn, IsEmptyTurn, Turns}
 use Rattle.coresteps.proofs.LocalLemmas.{local_all}
 use Rattle.coresteps.proofs.StepLemmas.{made, missed_pool, after_else, after_here, filling_idle}
 use Rattle.std.proofs.lemmas.Grind.{get_or_default_zero}
@@ -522,7 +522,7 @@ module _ (z : Shape) (w : World) (script : List Command) (lane : Lane) (words : 
   kept_ready ready = record { ready = ready; keys = k.keys; replayed = subst AreReplayed (left_of lane.stage k.stage) k.simple.replayed; within = k.within }
 
 -- what a step of the one lane makes is the turn of the lane that was named
-pub turns_from : (old new : Core) (lane : ℕ) (r : Result Turn CoreFault)
+pub turns_from : (old new : Machine) (lane : ℕ) (r : Result Turn CoreFault)
     → IfOk r (λ turn. (w : World) → IsCoreAt w old → is_finished old.shape w 0 ≡ false → MakesTurn old w turn new)
     → ((w : World) → IsCoreAt w old → is_finished old.shape w lane ≡ false)
     → IfOk r (λ turn. (w : World) → IsCoreAt w old → Turns old w lane turn new)
@@ -536,3 +536,26 @@ turns_from old new lane (Ok turn) h open_lanes = λ w k.
     by_test : (w : World) → IsCoreAt w old → (t : Bool) → ltb lane old.shape.lanes ≡ t → is_finished old.shape w lane ≡ false → lane ≡ 0
     by_test w k true e f = let less = ltb-true lane old.shape.lanes e in let one = k.one_lane in omega arith
     by_test w k false e f = let bad : true ≡ false = sym (ap (λ (b : Bool). cond b (at_end (w.books lane).left) true) e) ∙ f in absurd (cc bad)
+
+same_core : (old new : Machine) → IsSameCore old new → IsCore old → IsCore new
+same_core old new same (w, k) = (
+      w,
+      subst (λ (t : Shape × List Command × Lane × List ℕ × List (List ℕ) × List Act). Keeps t.0 w t.1 t.2 t.3 t.4 t.5)
+      (λ i. (sym same.shape i, sym same.script i, sym same.lane i, sym same.words i, sym same.contents i, sym same.acts i)) k,
+    )
+
+-- after a turn, made or refused, the core keeps what some turns have made
+pub still_core : (old new : Machine) (lane : ℕ) (r : Result Turn CoreFault) → IsCore old
+    → IfOk r (λ turn. (w : World) → IsCoreAt w old → Turns old w lane turn new)
+    → OnErr r (IsSameCore old new)
+    → IsCore new
+still_core old new lane (Err e) kept made same = same_core old new same kept
+still_core old new lane (Ok turn) kept made same = by_test (is_finished old.shape kept.0 lane) refl
+  where
+    by_test : (t : Bool) → is_finished old.shape kept.0 lane ≡ t → IsCore new
+    by_test true e = same_core old new
+        (subst (λ (b : Bool). MatchBool b (IsEmptyTurn lane turn × IsSameCore old new) ((turn.lane ≡ lane) × MakesTurn old kept.0 turn new)) e (made kept.0 kept.1)).1 kept
+    by_test false e = (
+          world_after old.shape kept.0 turn,
+          (subst (λ (b : Bool). MatchBool b (IsEmptyTurn lane turn × IsSameCore old new) ((turn.lane ≡ lane) × MakesTurn old kept.0 turn new)) e (made kept.0 kept.1)).1.kept,
+        )

@@ -23,7 +23,7 @@ use Rattle.coresteps.specs.Registers.{register_at, operand_key}
 use Rattle.coresteps.specs.Books.{Book}
 use Rattle.coresteps.specs.Following.{row_content}
 use Rattle.coresteps.specs.declared.trace.Turn.{Turn}
-use Rattle.coresteps.specs.declared.machine.Core.{Core}
+use Rattle.coresteps.specs.declared.machine.Machine.{Machine}
 use Rattle.coresteps.specs.Lawful.{World, world_after, world_from, is_finished, IsNextTurn, AreTurns}
 use Rattle.coresteps.specs.Parts.{StandsThroughout}
 use Rattle.coresteps.specs.OneLane.{AreReplayed, IsSimpleBook, WordsAre}
@@ -69,15 +69,15 @@ pub record Keeps (z : Shape) (w : World) (script : List Command) (lane : Lane) (
       → slice_get contents (position_of z place) ≡ Some bytes
 
 -- the core keeps what these turns so far have made
-abbrev pub IsCoreAt : World → Core → Type 0
+abbrev pub IsCoreAt : World → Machine → Type 0
 IsCoreAt w core = Keeps core.shape w core.script core.lane core.words.items core.contents.items core.acts.items
 
 -- the core keeps what some turns have made
-abbrev pub IsCore : Core → Type 0
+abbrev pub IsCore : Machine → Type 0
 IsCore core = (w : World) × IsCoreAt w core
 
 -- the core is as before
-pub record IsSameCore (old new : Core) : Type 0 where
+pub record IsSameCore (old new : Machine) : Type 0 where
   pub shape : new.shape ≡ old.shape
   pub script : new.script ≡ old.script
   pub lane : new.lane ≡ old.lane
@@ -86,7 +86,7 @@ pub record IsSameCore (old new : Core) : Type 0 where
   pub acts : new.acts.items ≡ old.acts.items
 
 -- the core made this turn, which is the next one of its lane
-pub record MakesTurn (old : Core) (w : World) (turn : Turn) (new : Core) : Type 0 where
+pub record MakesTurn (old : Machine) (w : World) (turn : Turn) (new : Machine) : Type 0 where
   pub lane : turn.lane ≡ 0
   pub next : IsNextTurn old.shape w turn
   pub kept : IsCoreAt (world_after old.shape w turn) new
@@ -97,11 +97,11 @@ abbrev pub IsEmptyTurn : ℕ → Turn → Type 0
 IsEmptyTurn lane turn = (turn.lane ≡ lane) × (turn.before ≡ []) × (turn.step ≡ None) × (turn.act ≡ None) × (turn.after ≡ [])
 
 -- a turn of a lane: nothing for a finished one, and for a number that is no lane; else its next
-abbrev pub Turns : Core → World → ℕ → Turn → Core → Type 0
+abbrev pub Turns : Machine → World → ℕ → Turn → Machine → Type 0
 Turns old w lane turn new = MatchBool (is_finished old.shape w lane)
     (IsEmptyTurn lane turn × IsSameCore old new)
     ((turn.lane ≡ lane) × MakesTurn old w turn new)
 
 -- the core keeps what these turns have made, which are those of the schedule, and after each of which the facts stand
-abbrev pub IsRun : Shape → World → List ℕ → List Turn → Core → Type 0
+abbrev pub IsRun : Shape → World → List ℕ → List Turn → Machine → Type 0
 IsRun z w schedule turns core = AreTurns z w schedule turns × StandsThroughout z w turns × IsCoreAt (world_from z w turns) core

@@ -3,24 +3,21 @@ ghost use Rattle.keybits.specs.Shapes.{IsShape, is_place, position_of};
 ghost use Rattle.keybits.specs.Keys.{place_of, is_key, generation_of};
 ghost use Rattle.keybits.specs.Words.{state_in, count_in};
 ghost use Rattle.seqpool.specs.Calls.{is_hit};
-ghost use Rattle.coresteps.specs.OneLane.{ScriptsAreReplayed};
-ghost use Rattle.coresteps.specs.Lawful.{IsLawful, World, first_world};
-ghost use Rattle.coresteps.specs.Parts.{StandsThroughout};
-ghost use Rattle.coresteps.specs.Kept.{IsCore, IsRun};
+ghost use Rattle.coresteps.specs.Lawful.{World, first_world};
 
 use crate::fault::CoreFault;
 use crate::lane::{Lane, NextCall, Stage};
 use crate::registers::{Holding, RegisterState};
 use crate::reply::{Replies, Reply};
 use crate::script::{Command, Operand, Register, Script};
-use crate::trace::{Trace, Turn};
+use crate::trace::Turn;
 use keybits::{Key, Kind, Life, Shape, State, Step, Word, entered, left, published};
 use seqpool::{Act, Bytes};
 use std::alloc::Global;
 
-/// The pool's algorithm as a pure machine: the words of a pool, and the lanes that run their scripts over them.
+/// The words of a pool, and the lanes that run their scripts over them.
 #[derive(Drop)]
-pub struct Core {
+pub(crate) struct Machine {
     alloc: Global,
     shape: Shape,
     script: Script,
@@ -35,7 +32,7 @@ pub struct Core {
 /// The lifecycle word of a place before its first publish: generation 1, idle, count 0.
 const FRESH_WORD: u64 = 4_294_967_296;
 
-impl Core {
+impl Machine {
     ghost use Rattle.coresteps.specs.Lanes.{IsNextCall, Works};
     ghost use Rattle.coresteps.specs.declared.lane.Stage.TheVariants.{Ready, Missed};
     ghost use Rattle.coresteps.specs.declared.lane.NextCall.TheVariants.{End, Publishes, Gets};
@@ -43,8 +40,8 @@ impl Core {
     ghost use Rattle.coresteps.specs.OneLane.{ScriptsAreReplayed};
     ghost use Rattle.coresteps.specs.Kept.{IsCore, IsCoreAt, IsSameCore, MakesTurn, Turns};
 
-    /// The core of these scripts, one for each lane, before the first turn. Memory (25) where it was refused.
-    pub fn new(alloc: Global, shape: Shape, scripts: Vec<Script>) -> Result<Core, CoreFault>
+    /// The machine of these scripts, one for each lane, before the first turn. Memory (25) where it was refused.
+    pub(crate) fn new(alloc: Global, shape: Shape, scripts: Vec<Script>) -> Result<Machine, CoreFault>
         requires shape { IsShape shape }
         requires one_lane { shape.lanes ≡ 1 }
         requires scripts { length scripts.items ≡ shape.lanes }
@@ -58,7 +55,7 @@ impl Core {
         let contents = no_contents(alloc, places)?;
         let lane = Lane::new(alloc)?;
         let script = only_script(scripts);
-        Ok(Core {
+        Ok(Machine {
             alloc,
             shape,
             script,
@@ -296,7 +293,7 @@ impl Core {
 
     /// One turn of a lane: its next atomic step, with the work of its own before its first step and after each one. A turn of a
     /// finished lane, or of a number that is no lane, does nothing. Where memory is refused (25), the core is as before.
-    pub fn turn(&mut self, lane: u32) -> Result<Turn, CoreFault>
+    pub(crate) fn turn(&mut self, lane: u32) -> Result<Turn, CoreFault>
         requires core { IsCore self.old }
         ensures ok { IfOk result (λ turn. (w : World) → IsCoreAt w self.old → Turns self.old w lane turn self.new) }
         ensures err { OnErr result (IsSameCore self.old self.new) }
@@ -321,14 +318,14 @@ impl Core {
     }
 
     /// Whether a lane's script is at its end; true for a number that is no lane.
-    pub fn finished(&self, lane: u32) -> bool
+    pub(crate) fn finished(&self, lane: u32) -> bool
         ensures { (w : World) → IsCoreAt w self.now → result ≡ is_finished self.now.shape w lane }
     {
         lane >= self.shape.lanes || self.lane.done >= self.script.as_slice().len()
     }
 
     /// The acts of the turns so far, in order.
-    pub fn acts(&self) -> &[Act]
+    pub(crate) fn acts(&self) -> &[Act]
         ensures { (w : World) → IsCoreAt w self.now → result.now ≡ w.history }
     {
         self.acts.as_slice()
@@ -380,43 +377,4 @@ fn fresh_words(alloc: Global, places: usize) -> Result<Vec<u64>, CoreFault>
         words.push(FRESH_WORD)?;
     }
     Ok(words)
-}
-
-/// One more entry of a schedule: the turn that it makes, if it makes one, goes into the trace.
-fn add_turn(core: &mut Core, trace: &mut Trace, lane: u32) -> Result<(), CoreFault>
-    requires { IsCore core.old }
-    ensures { OnOk result ((w : World) (schedule : List ℕ)
-        → IsRun core.old.shape w schedule trace.old core.old
-        → IsRun core.old.shape w (schedule ++ lane ∷ []) trace.new core.new × (core.new.shape ≡ core.old.shape)) }
-{
-    if core.finished(lane) {
-        return Ok(());
-    }
-    let turn = core.turn(lane)?;
-    trace.push(turn)?;
-    Ok(())
-}
-
-/// Replays scripts over a schedule: one turn for each entry that names an unfinished lane. Memory (25) where it was refused.
-pub fn run(
-    alloc: Global,
-    shape: Shape,
-    scripts: Vec<Script>,
-    schedule: &[u32],
-) -> Result<Trace, CoreFault>
-    requires shape { IsShape shape }
-    requires one_lane { shape.lanes ≡ 1 }
-    requires scripts { length scripts.items ≡ shape.lanes }
-    requires replayed { ScriptsAreReplayed scripts.items }
-    ensures lawful { IfOk result (λ trace. IsLawful shape scripts.items schedule.now trace) }
-
-    // After each turn each place is in one part, and the facts of words, history and books hold.
-    ensures stands { IfOk result (λ trace. StandsThroughout shape (first_world scripts.items) trace) }
-{
-    let mut core = Core::new(alloc, shape, scripts)?;
-    let mut trace = Trace::empty(alloc);
-    for lane in schedule {
-        add_turn(&mut core, &mut trace, *lane)?;
-    }
-    Ok(trace)
 }

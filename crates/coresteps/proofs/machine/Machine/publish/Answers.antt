@@ -19,7 +19,7 @@ use Rattle.coresteps.specs.Lawful.{World, world_after, IsNextTurn}
 use Rattle.coresteps.specs.Lanes.{IsReady, Works, next_lane, holding_now}
 use Rattle.coresteps.specs.Kept.{Keeps}
 use Rattle.coresteps.proofs.TurnLemmas.{next_ready, drop_within, word_read, publish_facts, keeps_publish}
-use Rattle.coresteps.proofs.machine.Core.publish.Goals as goal
+use Rattle.coresteps.proofs.machine.Machine.publish.Goals as goal
 
 pub position-position-requires-clause-place : goal.position-position-requires-clause-place
 position-position-requires-clause-place c =

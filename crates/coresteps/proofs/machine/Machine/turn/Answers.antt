@@ -1,7 +1,7 @@
 -- A turn of a lane that isn't finished is the one that its next call makes.
 use Rattle.std.proofs.Common.{◌≡◌, ◌∙◌, sym}
 use Rattle.coresteps.proofs.TurnLemmas.{turns_from}
-use Rattle.coresteps.proofs.machine.Core.turn.Goals as goal
+use Rattle.coresteps.proofs.machine.Machine.turn.Goals as goal
 
 pub returns-in-Missed-clause-ok : goal.returns-in-Missed-clause-ok
 returns-in-Missed-clause-ok c = turns_from c.args.self.now c.leave.new.self c.args.lane c.leave.result c.leave.ensures.ok (λ w k. sym (c.finished.ensures w k) ∙ c.if-finished.false)

@@ -22,7 +22,7 @@ use Rattle.keybits.specs.Words.{count_in}
 use Rattle.seqpool.specs.Calls.{is_hit}
 use Rattle.std.proofs.Common.{get_or, slice_get}
 use Rattle.coresteps.proofs.TurnLemmas.{next_ready, drop_within, word_read, enter_facts, content_read, keeps_hit}
-use Rattle.coresteps.proofs.machine.Core.hit.Goals as goal
+use Rattle.coresteps.proofs.machine.Machine.hit.Goals as goal
 
 pub position-position-requires-clause-place : goal.position-position-requires-clause-place
 position-position-requires-clause-place c =

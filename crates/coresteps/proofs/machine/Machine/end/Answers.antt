@@ -23,7 +23,7 @@ use Rattle.seqpool.specs.Calls.{is_hit}
 use Rattle.std.proofs.Common.{get_or}
 use Rattle.coresteps.specs.declared.lane.Stage.TheVariants.{Ready, Missed}
 use Rattle.coresteps.proofs.TurnLemmas.{keeps_end}
-use Rattle.coresteps.proofs.machine.Core.end.Goals as goal
+use Rattle.coresteps.proofs.machine.Machine.end.Goals as goal
 
 pub returns-clause-ok : goal.returns-clause-ok
 returns-clause-ok c = λ w k unfinished.

@@ -21,55 +21,51 @@ use Rattle.coresteps.specs.Registers.{register_with}
 use Rattle.keybits.specs.Words.{count_in}
 use Rattle.seqpool.specs.Calls.{is_hit}
 use Rattle.std.proofs.Common.{get_or}
-use Rattle.coresteps.proofs.TurnLemmas.{next_ready, drop_within, word_read, leave_facts, keeps_leave, open_before, missed_ready, no_act}
-use Rattle.coresteps.proofs.machine.Core.leave.Goals as goal
+use Rattle.coresteps.specs.declared.lane.Stage.TheVariants.{Ready, Missed}
+use Rattle.coresteps.proofs.TurnLemmas.{next_ready, drop_within, word_read, enter_facts, keeps_miss}
+use Rattle.coresteps.proofs.machine.Machine.miss.Goals as goal
 
 pub position-position-requires-clause-place : goal.position-position-requires-clause-place
 position-position-requires-clause-place c =
     let old = c.args.self.now in
-    let f = leave_facts old.shape c.requires.core.0 old.script old.lane old.words.items old.contents.items old.acts.items c.requires.core.1 [] old.lane (open_before old.shape c.requires.core.0 old.script old.lane old.words.items old.contents.items old.acts.items c.requires.core.1 c.args.key c.requires.missed) c.args.key c.requires.missed in
+    let k = c.requires.core.1 in
+    let f = enter_facts old.shape c.requires.core.0 old.script old.lane old.words.items old.contents.items old.acts.items k c.args.before c.args.lane c.requires.ready c.requires.works c.args.key c.requires.call.4 in
     ap (is_place old.shape) c.place_of-place.ensures ∙ f.0
 
-pub left-requires : goal.left-requires
-left-requires c =
+pub entered-requires : goal.entered-requires
+entered-requires c =
     let old = c.args.self.now in
     let w = c.requires.core.0 in
     let k = c.requires.core.1 in
-    let f = leave_facts old.shape w old.script old.lane old.words.items old.contents.items old.acts.items k [] old.lane (open_before old.shape w old.script old.lane old.words.items old.contents.items old.acts.items k c.args.key c.requires.missed) c.args.key c.requires.missed in
+    let f = enter_facts old.shape w old.script old.lane old.words.items old.contents.items old.acts.items k c.args.before c.args.lane c.requires.ready c.requires.works c.args.key c.requires.call.4 in
     let e = word_read old.shape w old.script old.lane old.words.items old.contents.items old.acts.items k (place_of c.args.key) c.position-position.result c.index-found.result.now f.0
     (c.position-position.ensures.position ∙ ap (position_of old.shape) c.place_of-place.ensures) c.index-found.ensures in
-    subst (λ (n : ℕ). 1 ≤ count_in n) (sym e) f.1
-
-pub work-requires-clause-ready : goal.work-requires-clause-ready
-work-requires-clause-ready c =
-    let old = c.args.self.now in
-    let r = missed_ready old.shape c.requires.core.0 old.script old.lane old.words.items old.contents.items old.acts.items c.requires.core.1 c.args.key c.requires.missed in
-    subst (λ (t : Lane × List Command). IsReady old.shape t.1 t.0) (λ i. (sym (c.finish_command.ensures ∙ ap (λ (l : Lane). next_lane l l.registers) c.requires.same) i, sym c.as_slice-2.ensures i)) r
+    subst (λ (n : ℕ). count_in n < 1073741823) (sym e) f.1
 
 pub returns-clause-ok : goal.returns-clause-ok
 returns-clause-ok c = λ w k unfinished.
     let old = c.args.self.now in
     let z = old.shape in
     let key = c.args.key in
-    let rs2 = c.in_ok-after.after in
-    let lane3 = c.work.new.self in
+    let lane1 = c.args.lane in
     let found = c.index-found.result.now in
-    let f = leave_facts z w old.script old.lane old.words.items old.contents.items old.acts.items k rs2 lane3 unfinished key c.requires.missed in
+    let f = enter_facts z w old.script old.lane old.words.items old.contents.items old.acts.items k c.args.before lane1 c.requires.ready c.requires.works key c.requires.call.4 in
     let at : position_of z (place_of key) ≡ c.position-position.result = ap (position_of z) (sym c.place_of-place.ensures) ∙ sym c.position-position.ensures.position in
     let read : w.words.life (place_of key) ≡ found = sym (word_read z w old.script old.lane old.words.items old.contents.items old.acts.items k (place_of key) c.position-position.result found f.0 (sym at) c.index-found.ensures) in
-    let works2 = subst (λ (t : Lane × List Command). Works z t.1 t.0 rs2 lane3) (λ i. ((c.finish_command.ensures ∙ ap (λ (l : Lane). next_lane l l.registers) c.requires.same) i, c.as_slice-2.ensures i)) c.in_ok-after.ensures in
-    let made_turn = keeps_leave z w old.script old.lane old.words.items old.contents.items old.acts.items k rs2 lane3 unfinished key c.requires.missed c.left.result (read ∙ (c.left.ensures.step 0).1) works2 in
-    let moved = subst (λ (t : Turn × List ℕ × List Act). IsNextTurn z w t.0 × Keeps z (world_after z w t.0) old.script lane3 t.1 old.contents.items t.2)
+    let value : w.words.life (place_of key) + 4 ≡ c.entered.result = ap (λ (n : ℕ). n + 4) read ∙ sym (c.entered.ensures.step 0) in
+    let missed : is_hit key (w.words.life (place_of key)) ≡ false = ap (is_hit key) (sym (k.word (place_of key) f.0)) ∙ c.requires.miss in
+    let made_turn = keeps_miss z w old.script old.lane old.words.items old.contents.items old.acts.items k c.args.before [] lane1 lane1 unfinished c.requires.ready c.requires.works c.args.register c.args.operand c.requires.call.0 key c.requires.call.1 c.requires.call.2 c.requires.call.3 c.requires.call.4 missed in
+    let moved = subst (λ (t : Turn × List ℕ × List Act). IsNextTurn z w t.0 × Keeps z (world_after z w t.0) old.script (record lane1 { stage = Missed key }) t.1 old.contents.items t.2)
     (λ i. (
       record {
         lane = 0;
-        before = sym c.empty.ensures i;
-        step = Some (record { kind = kinds.Leave; word = Life (sym c.place_of-place.ensures i); before = read i; after = c.left.result });
-        act = None;
-        after = sym c.in_ok-push_front.ensures.ok i;
+        before = c.args.before;
+        step = Some (record { kind = kinds.Enter; word = Life (sym c.place_of-place.ensures i); before = read i; after = value i });
+        act = Some (acts.Get 0 key None);
+        after = sym c.empty.ensures i;
       },
-      set old.words.items (at i) c.left.result,
-      no_act old.acts.items i,
+      set old.words.items (at i) (value i),
+      sym c.in_ok-push.ensures.items i,
     ))
     made_turn in
     record { lane = refl; next = moved.0; kept = moved.1; shape = refl }

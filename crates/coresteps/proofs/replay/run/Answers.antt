@@ -6,7 +6,7 @@ use Rattle.coresteps.specs.declared.trace.Turn.{Turn}
 use Rattle.coresteps.specs.Lawful.{first_world}
 use Rattle.coresteps.specs.Kept.{IsRun, IsCoreAt}
 use Rattle.coresteps.proofs.StandLemmas.{stands}
-use Rattle.coresteps.proofs.machine.run.Goals as goal
+use Rattle.coresteps.proofs.replay.run.Goals as goal
 
 pub loop-lane-init : goal.loop-lane-init
 loop-lane-init c =

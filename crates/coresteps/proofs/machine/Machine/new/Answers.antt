@@ -8,7 +8,7 @@ use Rattle.coresteps.specs.Lawful.{first_world}
 use Rattle.coresteps.specs.OneLane.{ScriptsAreReplayed}
 use Rattle.coresteps.specs.Kept.{Keeps}
 use Rattle.coresteps.proofs.RunLemmas.{first_keeps}
-use Rattle.coresteps.proofs.machine.Core.new.Goals as goal
+use Rattle.coresteps.proofs.machine.Machine.new.Goals as goal
 
 pub returns-clause-kept : goal.returns-clause-kept
 returns-clause-kept c =

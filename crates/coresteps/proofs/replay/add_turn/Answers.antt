@@ -8,7 +8,7 @@ use Rattle.coresteps.specs.Parts.{Stands}
 use Rattle.coresteps.specs.Kept.{Keeps, IsCoreAt, IsEmptyTurn, IsSameCore, MakesTurn, IsRun}
 use Rattle.coresteps.proofs.RunLemmas.{turns_skip, turns_more, world-one}
 use Rattle.coresteps.proofs.StandLemmas.{stands, stands_more}
-use Rattle.coresteps.proofs.machine.add_turn.Goals as goal
+use Rattle.coresteps.proofs.replay.add_turn.Goals as goal
 
 pub returns-then-finished : goal.returns-then-finished
 returns-then-finished c = λ w schedule so_far.

@@ -1,7 +1,7 @@
 use Rattle.std.proofs.Common.{◌≡◌, take}
 use Rattle.coresteps.specs.Lawful.{first_world}
 use Rattle.coresteps.specs.Kept.{IsRun}
-use Rattle.coresteps.proofs.machine.run.Given as goal
+use Rattle.coresteps.proofs.replay.run.Given as goal
 
 abbrev pub invariant-loop-lane : goal.invariant-loop-lane
 invariant-loop-lane l =

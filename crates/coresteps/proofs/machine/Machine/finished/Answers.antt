@@ -2,7 +2,7 @@
 use Rattle.std.proofs.Common.{◌≡◌, ◌∙◌, ap, sym, length, leb, List}
 use Rattle.coresteps.specs.declared.script.Command.{Command}
 use Rattle.coresteps.proofs.TurnLemmas.{finished_by}
-use Rattle.coresteps.proofs.machine.Core.finished.Goals as goal
+use Rattle.coresteps.proofs.machine.Machine.finished.Goals as goal
 
 pub returns-else-lane-self : goal.returns-else-lane-self
 returns-else-lane-self c = λ w k.
