@@ -1,45 +1,35 @@
 -- The calls of a run of one lane: each step is lawful, and each reply follows it.
-use Rattle.std.proofs.Common.{◌≡◌, ◌≢◌, ◌⊎◌, inl, inr, ⊎_elim, ℕ, zero, suc, ◌+◌, ◌-◌, ◌*◌, ◌/◌, ◌%◌, ◌<◌, ◌≤◌, Bool, true, false, cond, eqb, ltb, not, ◌&&◌, List, [], ◌∷◌, ◌++◌, length, set, refl, ap, sym, ◌∙◌, subst, arith, lit<, eq-eqb, ne_eqb, length-set, Option, Some, None}
-use mathlib.Core.Logic.{dite}
-use native.Mathlib.Decide.{ℕ_discrete}
+use Rattle.std.proofs.Common.{◌≡◌, ◌≢◌, ℕ, ◌+◌, ◌<◌, ◌≤◌, Bool, true, false, cond, eqb, ◌&&◌, List, [], ◌∷◌, ◌++◌, length, set, refl, ap, sym, ◌∙◌, subst, arith, eq-eqb, ne_eqb, Option, Some, None}
 use borrow.Author.Tests.{eqb-true}
 use Rattle.keybits.specs.declared.shape.Shape.{Shape}
-use Rattle.keybits.specs.declared.step.Kind.{Kind}
 use Rattle.keybits.specs.declared.step.Kind.TheVariants as kinds
-use Rattle.keybits.specs.declared.step.Word.{Word}
-use Rattle.keybits.specs.declared.step.Word.TheVariants.{Life, Link, Stack}
+use Rattle.keybits.specs.declared.step.Word.TheVariants.{Life}
 use Rattle.keybits.specs.declared.step.Step.{Step}
-use Rattle.keybits.specs.Places.{page_of}
 use Rattle.keybits.specs.Shapes.{IsShape, is_place}
 use Rattle.keybits.specs.Keys.{key_number, place_of, generation_of, is_key}
 use Rattle.keybits.specs.Words.{word_with, state_in, count_in, generation_in}
-use Rattle.keybits.specs.Steps.{Changes}
-use Rattle.keybits.proofs.ShapeLemmas.{place_bounds}
-use Rattle.keybits.proofs.KeyLemmas.{place_of-key_number, generation_of-key_number, is_key-key_number, key_parts}
-use Rattle.keybits.proofs.WordLemmas.{state_in-word_with, count_in-word_with, generation_in-word_with}
+use Rattle.keybits.proofs.KeyLemmas.{key_parts}
 use Rattle.seqpool.specs.declared.act.Act.{Act}
 use Rattle.seqpool.specs.declared.act.Act.TheVariants as acts
 use Rattle.seqpool.specs.Pool.{touches, Pool, Spot, spot, Phase, with, published, home, retired, put, is_published, is_unmarked, references_in, content_in, is_current, found, lane_of, Allowed, changed, after}
 use Rattle.seqpool.specs.Calls.{Call, Publishing, Getting, aim, is_hit, owes_claim, next_step, end_next}
-use Rattle.seqpool.specs.Facts.{times, bits_of, Words}
+use Rattle.seqpool.specs.Facts.{bits_of, Words}
 use Rattle.coresteps.specs.declared.script.Register.{Register}
 use Rattle.coresteps.specs.declared.script.Operand.{Operand}
 use Rattle.coresteps.specs.declared.script.Command.{Command}
 use Rattle.coresteps.specs.declared.script.Command.TheVariants as commands
-use Rattle.coresteps.specs.declared.reply.Reply.{Reply}
 use Rattle.coresteps.specs.declared.reply.Reply.TheVariants as replies
 use Rattle.coresteps.specs.declared.registers.RegisterState.{RegisterState}
 use Rattle.coresteps.specs.declared.registers.Holding.{Holding}
-use Rattle.coresteps.specs.declared.registers.Holding.TheVariants.{Empty, Filling, Reference}
-use Rattle.coresteps.specs.Registers.{register_with, register_at, operand_key, fills, refers, fillings, held_references}
-use Rattle.coresteps.specs.Books.{Book, caller, holding_at, call_of, call_of_first, call_under_way, publishing, getting, next_in, next_aim, got, reclaimed, of_shard, shown, stepped, answered_first, answered}
-use Rattle.coresteps.specs.Following.{HasContent, row_content, WhereEmpty, WhereFilling, WhereKey, FirstReplies, IsReply, get_reply}
+use Rattle.coresteps.specs.declared.registers.Holding.TheVariants.{Empty, Filling}
+use Rattle.coresteps.specs.Registers.{register_with, register_at, operand_key}
+use Rattle.coresteps.specs.Books.{Book, caller, holding_at, call_of_first, call_under_way, publishing, getting, next_in, next_aim, got, reclaimed, of_shard, shown, stepped, answered_first, answered}
+use Rattle.coresteps.specs.Following.{WhereEmpty, WhereFilling, WhereKey, FirstReplies, IsReply, get_reply}
 use Rattle.coresteps.specs.Lawful.{IsStep, with_value, value_of}
-use Rattle.coresteps.specs.Parts.{count_if}
-use Rattle.coresteps.specs.OneLane.{first_key, IsHeld, AreHeld, IsSimple, IsSimpleLane, IsSimpleBook, AreReplayed, WordsAre}
-use Rattle.coresteps.proofs.RegisterLemmas.{fillings-set, held_references-set, held_references-le, held-set, held-at, held-map}
-use Rattle.coresteps.proofs.LocalLemmas.{unpublished, simple_same, nil}
-use Rattle.coresteps.proofs.StepLemmas.{Said, said, current, after_else, after_here, filling_idle, publish_lane, hit_lane, missed_pool, words_move, made}
+use Rattle.coresteps.specs.OneLane.{first_key, IsSimple, IsSimpleLane, IsSimpleBook, AreReplayed, WordsAre}
+use Rattle.coresteps.proofs.RegisterLemmas.{held_references-le}
+use Rattle.coresteps.proofs.LocalLemmas.{nil}
+use Rattle.coresteps.proofs.StepLemmas.{Said, said, current, after_else, after_here, filling_idle, publish_lane, hit_lane, words_move, made}
 
 -- the acts of a call that made none before
 one_act : (b : Book) (act : Act) → b.acts ≡ [] → b.acts ++ act ∷ [] ≡ act ∷ []

@@ -1,17 +1,16 @@
 -- What create answers, by what was free.
-use Rattle.std.proofs.Common.{◌≡◌, ◌≢◌, ◌⊎◌, inl, inr, ⊎_elim, ℕ, zero, suc, ◌+◌, ◌*◌, ◌<◌, ◌≤◌, Bool, true, false, cond, eqb, ltb, List, [], ◌∷◌, ◌++◌, map, drop, set, refl, ap, sym, ◌∙◌, subst, arith, Option, Some, None, lit<, is_some}
-use borrow.Author.Tests.{ltb-true, lt-ltb}
+use Rattle.std.proofs.Common.{◌≡◌, ◌≢◌, inl, inr, ⊎_elim, ℕ, zero, suc, ◌+◌, ◌<◌, ◌≤◌, Bool, true, false, cond, eqb, ltb, List, [], ◌∷◌, map, drop, set, refl, ap, sym, ◌∙◌, subst, arith, Option, Some, None, is_some}
+use borrow.Author.Tests.{lt-ltb}
 use Rattle.keybits.specs.declared.shape.Shape.{Shape}
 use Rattle.keybits.specs.Places.{place_at}
 use Rattle.keybits.specs.Shapes.{IsShape, page_size}
-use Rattle.keybits.specs.Keys.{key_number, place_of}
+use Rattle.keybits.specs.Keys.{place_of}
 use Rattle.keybits.proofs.ShapeLemmas.{page_size-le, shape_bounds}
 use Rattle.keybits.proofs.KeyLemmas.{place_of-key_number}
 use Rattle.coresteps.specs.declared.script.Register.{Register}
 use Rattle.coresteps.specs.declared.script.Command.{Command}
 use Rattle.coresteps.specs.declared.script.Command.TheVariants.{Create}
 use Rattle.coresteps.specs.Lawful.{at_end, IsAtRest}
-use Rattle.coresteps.specs.declared.reply.Reply.{Reply}
 use Rattle.coresteps.specs.declared.reply.Reply.TheVariants as replies
 use Rattle.coresteps.specs.declared.lane.Lane.{Lane}
 use Rattle.coresteps.specs.declared.registers.Holding.{Holding}
@@ -20,9 +19,9 @@ use Rattle.coresteps.specs.Registers.{register_with, register_at}
 use Rattle.keybits.specs.declared.step.Kind.TheVariants as kinds
 use Rattle.keybits.specs.declared.step.Word.TheVariants.{Stack}
 use Rattle.seqpool.specs.Calls.{Creating, Aim, aim, next_step, take_next}
-use Rattle.coresteps.specs.Books.{caller, call_of, creating, next_in, next_aim, slots_from, page_places, handed_first, handed_out, Free, free_with, after_opening, after_own, free_after_create, free_after, registers_after}
+use Rattle.coresteps.specs.Books.{caller, call_of, creating, next_in, next_aim, slots_from, page_places, handed_first, handed_out, Free, free_with, after_own, free_after_create}
 use Rattle.coresteps.specs.Following.{WhereEmpty}
-use Rattle.coresteps.specs.OneLane.{first_key, first_reply, LocalReply}
+use Rattle.coresteps.specs.OneLane.{first_key, first_reply}
 use Rattle.coresteps.specs.Lanes.{book_before_step, AreFirstKeys, Answers, IsRefilled}
 use Rattle.coresteps.proofs.LocalLemmas.{not_below, page_size-positive}
 

@@ -1,19 +1,19 @@
 -- Replies that need no step keep what holds of the lane's book.
-use Rattle.std.proofs.Common.{◌≡◌, ◌≢◌, ◌⊎◌, inl, inr, ⊎_elim, ℕ, zero, suc, ◌+◌, ◌-◌, ◌*◌, ◌^◌, ◌<◌, ◌≤◌, Bool, true, false, cond, eqb, ltb, not, List, [], ◌∷◌, ◌++◌, length, set, drop, refl, ap, sym, ◌∙◌, subst, arith, eq-eqb, ne_eqb, length-set, append_assoc, map, Option, Some, None}
+use Rattle.std.proofs.Common.{◌≡◌, ◌≢◌, ℕ, zero, suc, ◌+◌, ◌*◌, ◌^◌, ◌<◌, ◌≤◌, Bool, true, false, cond, eqb, ltb, not, List, [], ◌∷◌, ◌++◌, length, set, drop, refl, ap, sym, ◌∙◌, subst, arith, eq-eqb, ne_eqb, length-set, append_assoc, map, Option, Some, None}
 use mathlib.Core.Logic.{dite}
 use native.Mathlib.Decide.{ℕ_discrete}
 use Rattle.std.proofs.lemmas.Nat.{pow_pos}
 use Rattle.std.proofs.Math.Nat.{mul-le-mul_left}
-use borrow.Author.Tests.{ltb-true, ltb-false, lt-ltb, eqb-true}
+use borrow.Author.Tests.{ltb-true, ltb-false, lt-ltb}
 use Rattle.keybits.specs.declared.shape.Shape.{Shape}
 use Rattle.keybits.specs.Places.{shard_of, page_of, slot_of, place_at}
 use Rattle.keybits.specs.Shapes.{IsShape, page_size, is_place}
 use Rattle.keybits.specs.Keys.{key_number, place_of}
-use Rattle.keybits.proofs.PlaceLemmas.{place_at-parts, shard_of-place_at, page_of-place_at, slot_of-place_at, page_of-lt, slot_of-lt}
+use Rattle.keybits.proofs.PlaceLemmas.{place_at-parts, shard_of-place_at, page_of-place_at, slot_of-place_at}
 use Rattle.keybits.proofs.ShapeLemmas.{is_place-parts, is_place-place_at, place_bounds, page_size-le, shape_bounds}
 use Rattle.keybits.proofs.KeyLemmas.{place_of-key_number}
 use Rattle.seqpool.specs.declared.act.Act.{Act}
-use Rattle.seqpool.specs.Pool.{Pool, Spot, Phase, with, published, home, retired, is_published}
+use Rattle.seqpool.specs.Pool.{Pool, Phase, with, published, home, retired, is_published}
 use Rattle.seqpool.specs.Facts.{times}
 use Rattle.coresteps.specs.declared.script.Register.{Register}
 use Rattle.coresteps.specs.declared.script.Operand.{Operand}
@@ -24,11 +24,11 @@ use Rattle.coresteps.specs.declared.reply.Reply.TheVariants as replies
 use Rattle.coresteps.specs.declared.registers.RegisterState.{RegisterState}
 use Rattle.coresteps.specs.declared.registers.Holding.{Holding}
 use Rattle.coresteps.specs.declared.registers.Holding.TheVariants.{Empty, Filling, Reference}
-use Rattle.coresteps.specs.Registers.{register_with, register_at, operand_key, fills, refers, fillings, held_references}
-use Rattle.coresteps.specs.Books.{Book, holding_at, handed_out, handed_first, taken, shown, reclaimed, of_shard, slots_from, page_places, Free, free_with, after_opening, after_taking, after_chain, after_own, free_after_create, written, answered_first, answered, all_answered, next_aim}
-use Rattle.coresteps.specs.Following.{HasContent, CreateReply, WhereEmpty, WhereFilling, WhereReference, WhereKey, CommandReplies, FirstReplies, IsReply, AreReplies, get_reply}
+use Rattle.coresteps.specs.Registers.{register_with, register_at, operand_key, fills, refers, held_references}
+use Rattle.coresteps.specs.Books.{Book, holding_at, handed_out, handed_first, taken, shown, reclaimed, of_shard, slots_from, page_places, Free, free_with, after_opening, after_own, free_after_create, written, answered_first, answered, all_answered, next_aim}
+use Rattle.coresteps.specs.Following.{HasContent, CreateReply, WhereEmpty, WhereFilling, WhereReference, WhereKey, FirstReplies, AreReplies, get_reply}
 use Rattle.coresteps.specs.Parts.{count_if}
-use Rattle.coresteps.specs.OneLane.{first_key, ReadReply, first_reply, LocalReply, FirstLocal, AreLocal, IsHeld, AreHeld, IsSimple, IsSimpleLane, IsSimpleBook, IsReplayed, AreReplayed}
+use Rattle.coresteps.specs.OneLane.{first_key, ReadReply, first_reply, FirstLocal, AreLocal, IsHeld, IsSimple, IsSimpleLane, IsSimpleBook, AreReplayed}
 use Rattle.coresteps.proofs.RegisterLemmas.{fillings-set, held_references-set, held-set, held-at}
 
 -- whether the place is this slot of the page, as a number

@@ -5,7 +5,7 @@ use Rattle.seqpool.specs.Pool.{Pool}
 use Rattle.coresteps.specs.declared.registers.RegisterState.{RegisterState}
 use Rattle.coresteps.specs.declared.registers.Holding.{Holding}
 use Rattle.coresteps.specs.declared.registers.Holding.TheVariants.{Empty, Filling, Reference}
-use Rattle.coresteps.specs.Registers.{empty_register, register_with, register_or_empty, register_at, fills, refers, fillings, held_references}
+use Rattle.coresteps.specs.Registers.{register_or_empty, register_at, fills, refers, fillings, held_references}
 use Rattle.coresteps.specs.OneLane.{IsHeld, AreHeld}
 
 pub register_at-is : (xs : List RegisterState) (i : ℕ) (x : RegisterState) → slice_get xs i ≡ Some x → register_at xs i ≡ x

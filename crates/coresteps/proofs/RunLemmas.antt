@@ -1,22 +1,19 @@
 -- Runs of one lane: how they begin, and how they go on turn after turn.
-use Rattle.std.proofs.Common.{◌≡◌, ◌≢◌, ◌⊎◌, inl, inr, ⊎_elim, ℕ, zero, suc, ◌+◌, ◌-◌, ◌*◌, ◌^◌, ◌<◌, ◌≤◌, Bool, true, false, cond, eqb, ltb, not, List, [], ◌∷◌, ◌++◌, length, get_or, refl, ap, sym, ◌∙◌, subst, arith, Option, Some, None, slice_get, lit<}
+use Rattle.std.proofs.Common.{◌≡◌, inl, inr, ℕ, zero, suc, ◌^◌, ◌<◌, Bool, true, ltb, not, List, [], ◌∷◌, ◌++◌, get_or, refl, ap, arith}
 use Rattle.std.specs.Prelude.{replicate}
 use Rattle.std.proofs.lemmas.List.{length-replicate}
 use Rattle.keybits.specs.declared.shape.Shape.{Shape}
-use Rattle.keybits.specs.Places.{shard_of, page_of}
-use Rattle.keybits.specs.Shapes.{IsShape, is_place, all_places, position_of}
-use Rattle.keybits.specs.Words.{fresh_word, word_with}
+use Rattle.keybits.specs.Places.{page_of}
+use Rattle.keybits.specs.Shapes.{IsShape, all_places, position_of}
+use Rattle.keybits.specs.Words.{fresh_word}
 use Rattle.keybits.proofs.ShapeLemmas.{is_place-parts, position_of-lt}
-use Rattle.seqpool.specs.Pool.{Pool, Phase, with, fresh, is_published, references_in}
-use Rattle.seqpool.specs.Facts.{times, bits_of}
+use Rattle.seqpool.specs.Pool.{Pool, fresh}
 use Rattle.coresteps.specs.declared.script.Command.{Command}
-use Rattle.coresteps.specs.declared.registers.RegisterState.{RegisterState}
 use Rattle.coresteps.specs.declared.trace.Turn.{Turn}
 use Rattle.coresteps.specs.Registers.{empty_register, fillings, held_references}
-use Rattle.coresteps.specs.Following.{row_content}
 use Rattle.coresteps.specs.Lawful.{World, first_world, world_after, world_from, is_finished, IsNextTurn, AreTurns}
 use Rattle.coresteps.specs.Parts.{count_if}
-use Rattle.coresteps.specs.OneLane.{first_key, AreHeld, AreReplayed, IsSimpleBook}
+use Rattle.coresteps.specs.OneLane.{AreHeld, AreReplayed}
 use Rattle.coresteps.specs.Lanes.{first_lane}
 use Rattle.coresteps.specs.Kept.{Keeps}
 use Rattle.coresteps.proofs.LocalLemmas.{not_below}

@@ -1,17 +1,17 @@
 -- What stands after each turn of a run of one lane: each place is in one part, and the facts of the words hold.
-use Rattle.std.proofs.Common.{◌≡◌, ◌≢◌, ◌⊎◌, inl, inr, ⊎_elim, ℕ, zero, suc, ◌+◌, ◌-◌, ◌*◌, ◌<◌, ◌≤◌, Bool, true, false, cond, eqb, ltb, not, List, [], ◌∷◌, ◌++◌, length, refl, ap, sym, ◌∙◌, subst, arith, Option, Some, None}
+use Rattle.std.proofs.Common.{◌≡◌, ◌≢◌, ℕ, ◌+◌, ◌-◌, ◌<◌, ◌≤◌, Bool, true, false, cond, eqb, ltb, not, List, [], ◌∷◌, ◌++◌, refl, ap, sym, ◌∙◌, subst, arith, Option, Some, None}
 use Rattle.keybits.specs.declared.shape.Shape.{Shape}
 use Rattle.keybits.specs.declared.step.Step.{Step}
 use Rattle.keybits.specs.Places.{shard_of, page_of}
-use Rattle.keybits.specs.Shapes.{IsShape, is_place}
+use Rattle.keybits.specs.Shapes.{is_place}
 use Rattle.keybits.specs.Keys.{place_of}
-use Rattle.keybits.specs.Words.{word_with, state_in, count_in, generation_in, claimable}
+use Rattle.keybits.specs.Words.{state_in}
 use Rattle.keybits.specs.Links.{Leads}
 use Rattle.keybits.proofs.ShapeLemmas.{is_place-parts}
 use Rattle.seqpool.specs.declared.act.Act.{Act}
-use Rattle.seqpool.specs.Pool.{Pool, Phase, with, published, home, retired, is_published, is_marked, references_in, pool_after}
+use Rattle.seqpool.specs.Pool.{Phase, with, published, home, retired, is_marked, references_in, pool_after}
 use Rattle.seqpool.specs.Calls.{Call, Publishing, Getting, Releasing, Clearing, Creating}
-use Rattle.seqpool.specs.Facts.{Under, Nothing, Undo, Owes, Returns, to_undo, sum_below, times, bits_of, is_home, Count, Pinned, State, OwedClaim, Home}
+use Rattle.seqpool.specs.Facts.{Under, Nothing, Undo, Owes, Returns, to_undo, sum_below, times, bits_of, is_home}
 use Rattle.coresteps.specs.declared.script.Command.{Command}
 use Rattle.coresteps.specs.declared.registers.RegisterState.{RegisterState}
 use Rattle.coresteps.specs.declared.lane.Lane.{Lane}
@@ -21,9 +21,9 @@ use Rattle.coresteps.specs.Registers.{operand_key, fillings}
 use Rattle.coresteps.specs.Books.{Book, holding_at, taken, reclaimed, returned, call_under_way}
 use Rattle.coresteps.specs.declared.trace.Turn.{Turn}
 use Rattle.coresteps.specs.Lawful.{World, world_after, world_from}
-use Rattle.coresteps.specs.Parts.{count_if, unopened, listed, clearing, is_retired, parts, under_call, under_first, under_miss, under_way, chain_of, Stands, StandsThroughout}
+use Rattle.coresteps.specs.Parts.{count_if, unopened, listed, clearing, is_retired, parts, under_first, under_way, chain_of, Stands, StandsThroughout}
 use Rattle.coresteps.specs.OneLane.{IsSimple, WordsAre}
-use Rattle.coresteps.specs.Kept.{IsEntered, StageStands, Keeps, entered_step}
+use Rattle.coresteps.specs.Kept.{StageStands, Keeps, entered_step}
 use Rattle.coresteps.proofs.StepLemmas.{Said, said}
 use Rattle.coresteps.proofs.CallLemmas.{get_call, few_refs}
 

@@ -1,27 +1,20 @@
 -- The turns of a run of one lane.
-use Rattle.std.proofs.Common.{◌≡◌, ◌≢◌, ◌⊎◌, inl, inr, ⊎_elim, ℕ, zero, suc, ◌+◌, ◌-◌, ◌*◌, ◌/◌, ◌%◌, ◌<◌, ◌≤◌, Bool, true, false, cond, eqb, ltb, not, ◌&&◌, List, [], ◌∷◌, ◌++◌, length, set, refl, ap, sym, ◌∙◌, subst, arith, lit<, eq-eqb, ne_eqb, length-set, Option, Some, None}
+use Rattle.std.proofs.Common.{◌≡◌, ◌≢◌, inl, inr, ℕ, zero, suc, ◌+◌, ◌<◌, ◌≤◌, Bool, true, false, cond, ltb, List, [], ◌∷◌, ◌++◌, length, set, refl, ap, sym, ◌∙◌, subst, arith, eq-eqb, ne_eqb, length-set, Option, Some, None}
 use mathlib.Core.Logic.{dite}
 use native.Mathlib.Decide.{ℕ_discrete}
-use borrow.Author.Tests.{eqb-true}
 use Rattle.keybits.specs.declared.shape.Shape.{Shape}
-use Rattle.keybits.specs.declared.step.Kind.{Kind}
 use Rattle.keybits.specs.declared.step.Kind.TheVariants as kinds
-use Rattle.keybits.specs.declared.step.Word.{Word}
-use Rattle.keybits.specs.declared.step.Word.TheVariants.{Life, Link, Stack}
+use Rattle.keybits.specs.declared.step.Word.TheVariants.{Life}
 use Rattle.keybits.specs.declared.step.Step.{Step}
-use Rattle.keybits.specs.Places.{page_of}
 use Rattle.keybits.specs.Shapes.{IsShape, is_place}
-use Rattle.keybits.specs.Keys.{key_number, place_of, generation_of, is_key}
-use Rattle.keybits.specs.Words.{word_with, state_in, count_in, generation_in}
-use Rattle.keybits.specs.Steps.{Changes}
-use Rattle.keybits.proofs.ShapeLemmas.{place_bounds}
-use Rattle.keybits.proofs.KeyLemmas.{place_of-key_number, generation_of-key_number, is_key-key_number, key_parts}
-use Rattle.keybits.proofs.WordLemmas.{state_in-word_with, count_in-word_with, generation_in-word_with}
+use Rattle.keybits.specs.Keys.{place_of, is_key}
+use Rattle.keybits.specs.Words.{word_with, count_in}
+use Rattle.keybits.proofs.KeyLemmas.{key_parts}
 use Rattle.seqpool.specs.declared.act.Act.{Act}
 use Rattle.seqpool.specs.declared.act.Act.TheVariants as acts
 use Rattle.seqpool.specs.Pool.{touches, Pool, Spot, spot, Phase, with, published, home, retired, put, is_published, is_unmarked, references_in, content_in, is_current, found, lane_of, Allowed, changed, after}
-use Rattle.seqpool.specs.Calls.{Call, Publishing, Getting, aim, is_hit, owes_claim, next_step, end_next}
-use Rattle.seqpool.specs.Facts.{times, bits_of, Words, to_undo, Undo}
+use Rattle.seqpool.specs.Calls.{aim, is_hit}
+use Rattle.seqpool.specs.Facts.{bits_of, to_undo, Undo}
 use Rattle.coresteps.specs.declared.script.Register.{Register}
 use Rattle.coresteps.specs.declared.script.Operand.{Operand}
 use Rattle.coresteps.specs.declared.script.Command.{Command}
@@ -29,17 +22,15 @@ use Rattle.coresteps.specs.declared.script.Command.TheVariants as commands
 use Rattle.coresteps.specs.declared.reply.Reply.{Reply}
 use Rattle.coresteps.specs.declared.reply.Reply.TheVariants as replies
 use Rattle.coresteps.specs.declared.registers.RegisterState.{RegisterState}
-use Rattle.coresteps.specs.declared.registers.Holding.{Holding}
 use Rattle.coresteps.specs.declared.registers.Holding.TheVariants.{Empty, Filling, Reference}
-use Rattle.coresteps.specs.Registers.{register_with, register_at, operand_key, fills, refers, fillings, held_references}
-use Rattle.coresteps.specs.Books.{Book, caller, holding_at, call_of, call_of_first, call_under_way, publishing, getting, next_in, next_aim, got, reclaimed, of_shard, shown, stepped, answered_first, answered}
-use Rattle.coresteps.specs.Following.{HasContent, row_content, WhereEmpty, WhereFilling, WhereKey, FirstReplies, IsReply, get_reply}
-use Rattle.coresteps.specs.Lawful.{IsStep, with_value, value_of}
+use Rattle.coresteps.specs.Registers.{register_with, register_at, operand_key}
+use Rattle.coresteps.specs.Books.{Book, holding_at, got, stepped, answered_first, answered}
+use Rattle.coresteps.specs.Following.{row_content}
+use Rattle.coresteps.specs.Lawful.{IsStep, with_value}
 use Rattle.coresteps.specs.Parts.{count_if}
-use Rattle.coresteps.specs.OneLane.{first_key, IsHeld, AreHeld, IsSimple, IsSimpleLane, IsSimpleBook, AreReplayed, WordsAre}
-use Rattle.coresteps.proofs.RegisterLemmas.{fillings-set, held_references-set, held_references-le, held-set, held-at, held-map}
-use Rattle.coresteps.proofs.LocalLemmas.{unpublished, simple_same, nil}
-use Rattle.std.proofs.Common.{get_or, get_or-set_same, get_or-set_other, slice_get, drop, is_some, map, ⊎_elim}
+use Rattle.coresteps.specs.OneLane.{IsSimpleBook, AreReplayed, WordsAre}
+use Rattle.coresteps.proofs.LocalLemmas.{nil}
+use Rattle.std.proofs.Common.{get_or, get_or-set_same, get_or-set_other, slice_get, drop, is_some, map}
 use Rattle.keybits.specs.Shapes.{all_places, position_of}
 use Rattle.keybits.proofs.ShapeLemmas.{position_of-injective, position_of-lt}
 use Rattle.seqpool.specs.Pool.{pool_from, pool_after, LegalFrom, IsLegal, fresh}
@@ -49,9 +40,8 @@ use Rattle.coresteps.specs.declared.lane.Lane.{Lane}
 use Rattle.coresteps.specs.declared.lane.Stage.TheVariants.{Ready, Missed}
 use Rattle.coresteps.specs.Books.{act_list, all_answered}
 use Rattle.coresteps.specs.Following.{AreReplies}
-use Rattle.coresteps.specs.Lawful.{World, at_end, is_finished, world_after, with_book, book_before, book_after, words_after, StepAndReplies, IsAtRest, IsNextTurn}
-use Rattle.coresteps.specs.OneLane.{AreLocal}
-use Rattle.coresteps.specs.Lanes.{AreFirstKeys, book_before_step, ready_book, IsReady, Works, next_lane}
+use Rattle.coresteps.specs.Lawful.{World, at_end, is_finished, world_after, book_after, IsAtRest, IsNextTurn}
+use Rattle.coresteps.specs.Lanes.{AreFirstKeys, ready_book, IsReady, Works, next_lane}
 use Rattle.std.specs.Prelude.{Result, Ok, Err, IfOk, OnErr, MatchBool}
 use Rattle.coresteps.specs.declared.machine.Machine.{Machine}
 use Rattle.coresteps.specs.declared.fault.CoreFault.{CoreFault}
@@ -62,7 +52,7 @@ use Rattle.std.proofs.lemmas.Grind.{get_or_default_zero}
 use Rattle.std.proofs.Common.{leb}
 use borrow.Author.Tests.{lt-ltb, ltb-true, leb-true, leb-false}
 use Rattle.std.proofs.lemmas.Option.{slice_get_read}
-use Rattle.coresteps.proofs.CallLemmas.{few_refs, word_said, publish_allowed, publish_step, publish_reply, publish_book, publish_words, hit_finds, hit_allowed, miss_allowed, enter_step, after_enter, hit_reply, hit_book, hit_words, miss_words, leave_next, leave_counted, leave_step, leave_reply, leave_book, leave_words}
+use Rattle.coresteps.proofs.CallLemmas.{few_refs, word_said, publish_allowed, publish_step, publish_reply, publish_book, publish_words, hit_finds, hit_allowed, miss_allowed, enter_step, after_enter, hit_reply, hit_book, hit_words, miss_words, leave_counted, leave_step, leave_reply, leave_book, leave_words}
 
 -- a history that no act is added to
 pub no_act : (history : List Act) → history ++ [] ≡ history
@@ -539,10 +529,10 @@ turns_from old new lane (Ok turn) h open_lanes = λ w k.
 
 same_core : (old new : Machine) → IsSameCore old new → IsCore old → IsCore new
 same_core old new same (w, k) = (
-      w,
-      subst (λ (t : Shape × List Command × Lane × List ℕ × List (List ℕ) × List Act). Keeps t.0 w t.1 t.2 t.3 t.4 t.5)
+  w,
+  subst (λ (t : Shape × List Command × Lane × List ℕ × List (List ℕ) × List Act). Keeps t.0 w t.1 t.2 t.3 t.4 t.5)
       (λ i. (sym same.shape i, sym same.script i, sym same.lane i, sym same.words i, sym same.contents i, sym same.acts i)) k,
-    )
+)
 
 -- after a turn, made or refused, the core keeps what some turns have made
 pub still_core : (old new : Machine) (lane : ℕ) (r : Result Turn CoreFault) → IsCore old
@@ -556,6 +546,6 @@ still_core old new lane (Ok turn) kept made same = by_test (is_finished old.shap
     by_test true e = same_core old new
         (subst (λ (b : Bool). MatchBool b (IsEmptyTurn lane turn × IsSameCore old new) ((turn.lane ≡ lane) × MakesTurn old kept.0 turn new)) e (made kept.0 kept.1)).1 kept
     by_test false e = (
-          world_after old.shape kept.0 turn,
-          (subst (λ (b : Bool). MatchBool b (IsEmptyTurn lane turn × IsSameCore old new) ((turn.lane ≡ lane) × MakesTurn old kept.0 turn new)) e (made kept.0 kept.1)).1.kept,
-        )
+      world_after old.shape kept.0 turn,
+      (subst (λ (b : Bool). MatchBool b (IsEmptyTurn lane turn × IsSameCore old new) ((turn.lane ≡ lane) × MakesTurn old kept.0 turn new)) e (made kept.0 kept.1)).1.kept,
+    )

@@ -1,5 +1,5 @@
 -- What a lane has done of its script, as its turns tell: its book.
-use Rattle.std.specs.Prelude.{◌≡◌, ◌==◌, ◌&&◌, ℕ, zero, suc, ◌+◌, ◌-◌, Bool, true, false, not, nat_lt, List, [], ◌∷◌, ◌++◌, drop, Option, Some, None, slice_set, replicate, if◌then◌else◌}
+use Rattle.std.specs.Prelude.{◌==◌, ℕ, zero, suc, ◌+◌, Bool, true, false, nat_lt, List, [], ◌∷◌, ◌++◌, drop, Option, Some, None, slice_set, replicate, if◌then◌else◌}
 use Rattle.keybits.specs.declared.shape.Shape.{Shape}
 use Rattle.keybits.specs.declared.step.Step.{Step}
 use Rattle.keybits.specs.declared.step.Kind.{Kind}
@@ -183,6 +183,7 @@ abbrev pub handed_first : List ℕ → Option ℕ → Option ℕ
 handed_first [] other = other
 handed_first (place ∷ more) other = Some place
 
+-- the place that create hands out, or none where it answers full
 abbrev pub handed_out : Shape → ℕ → Book → Option ℕ
 handed_out z lane b =
     handed_first b.own (handed_first b.chain (handed_first (taken b.acts)
@@ -194,6 +195,7 @@ pub record Free : Type 0 where
   pub chain : List ℕ
   pub opened : ℕ
 
+-- a list, a chain and a number of opened pages
 abbrev pub free_with : List ℕ → List ℕ → ℕ → Free
 free_with own chain opened = record { own = own; chain = chain; opened = opened }
 
@@ -207,14 +209,17 @@ abbrev pub after_taking : Shape → ℕ → ℕ → List ℕ → Free
 after_taking z lane opened [] = after_opening z lane opened
 after_taking z lane opened (place ∷ more) = free_with [] more opened
 
+-- the first of the chain is handed out; where there is none, as after taking
 abbrev pub after_chain : Shape → ℕ → ℕ → List ℕ → List ℕ → Free
 after_chain z lane opened found [] = after_taking z lane opened found
 after_chain z lane opened found (place ∷ more) = free_with [] more opened
 
+-- the first of the own list is handed out; where there is none, as from the chain
 abbrev pub after_own : Shape → ℕ → ℕ → List ℕ → List ℕ → List ℕ → Free
 after_own z lane opened found chain [] = after_chain z lane opened found chain
 after_own z lane opened found chain (place ∷ more) = free_with more chain opened
 
+-- the lane's list, chain and opened pages after a create
 abbrev pub free_after_create : Shape → ℕ → Book → Free
 free_after_create z lane b = after_own z lane b.opened (taken b.acts) b.chain b.own
 
@@ -285,6 +290,7 @@ answered_first z lane b (command ∷ more) reply =
       acts = [];
     }
 
+-- a lane's book after a reply to its next command
 abbrev pub answered : Shape → ℕ → Book → Reply → Book
 answered z lane b reply = answered_first z lane b b.left reply
 

@@ -1,5 +1,5 @@
 -- Following a script: which reply each command has.
-use Rattle.std.specs.Prelude.{◌≡◌, ◌≢◌, ℕ, Bool, true, false, List, [], ◌∷◌, Option, Some, None}
+use Rattle.std.specs.Prelude.{◌≡◌, ℕ, true, List, [], ◌∷◌, Option, Some, None}
 use Rattle.keybits.specs.declared.shape.Shape.{Shape}
 use Rattle.keybits.specs.Keys.{key_number, place_of}
 use Rattle.seqpool.specs.Pool.{Pool, Phase, with, published, home, retired, is_current}
@@ -34,21 +34,25 @@ abbrev pub get_reply : Option (List ℕ) → Reply
 get_reply (Some content) = replies.Found content
 get_reply None = replies.Missing
 
+-- skip where a register is not empty
 abbrev pub WhereEmpty : Holding → Reply → Type 0 → Type 0
 WhereEmpty Empty reply Says = Says
 WhereEmpty (Filling key content) reply Says = reply ≡ replies.Skip
 WhereEmpty (Reference key content) reply Says = reply ≡ replies.Skip
 
+-- skip where a register has no filling
 abbrev pub WhereFilling : Holding → Reply → (ℕ → Type 0) → Type 0
 WhereFilling Empty reply Says = reply ≡ replies.Skip
 WhereFilling (Filling key content) reply Says = Says key
 WhereFilling (Reference key content) reply Says = reply ≡ replies.Skip
 
+-- skip where a register has no reference
 abbrev pub WhereReference : Holding → Reply → (ℕ → Type 0) → Type 0
 WhereReference Empty reply Says = reply ≡ replies.Skip
 WhereReference (Filling key content) reply Says = reply ≡ replies.Skip
 WhereReference (Reference key content) reply Says = Says key
 
+-- skip where an operand has no key
 abbrev pub WhereKey : Option ℕ → Reply → (ℕ → Type 0) → Type 0
 WhereKey None reply Says = reply ≡ replies.Skip
 WhereKey (Some key) reply Says = Says key

@@ -1,5 +1,5 @@
 -- What the core keeps of what the turns so far have made.
-use Rattle.std.specs.Prelude.{◌≡◌, ◌==◌, ℕ, ◌+◌, ◌<◌, ◌≤◌, ◌^◌, Bool, true, false, List, [], ◌∷◌, ◌++◌, drop, length, Option, Some, None, slice_get, slice_index, MatchBool, if◌then◌else◌}
+use Rattle.std.specs.Prelude.{◌≡◌, ℕ, ◌+◌, ◌<◌, ◌≤◌, ◌^◌, true, false, List, [], ◌∷◌, drop, length, Some, None, slice_get, slice_index, MatchBool}
 use Rattle.keybits.specs.declared.shape.Shape.{Shape}
 use Rattle.keybits.specs.declared.step.Step.{Step}
 use Rattle.keybits.specs.declared.step.Kind.TheVariants as kinds
@@ -26,8 +26,8 @@ use Rattle.coresteps.specs.declared.trace.Turn.{Turn}
 use Rattle.coresteps.specs.declared.machine.Machine.{Machine}
 use Rattle.coresteps.specs.Lawful.{World, world_after, world_from, is_finished, IsNextTurn, AreTurns}
 use Rattle.coresteps.specs.Parts.{StandsThroughout}
-use Rattle.coresteps.specs.OneLane.{AreReplayed, IsSimpleBook, WordsAre}
-use Rattle.coresteps.specs.Lanes.{AreFirstKeys, book_before_step, ready_book}
+use Rattle.coresteps.specs.OneLane.{IsSimpleBook, WordsAre}
+use Rattle.coresteps.specs.Lanes.{AreFirstKeys, ready_book}
 
 -- the ENTER at a key's place that found this word
 abbrev pub entered_step : ℕ → ℕ → Step

@@ -1,5 +1,5 @@
 -- What the core keeps of a lane, and what it tells of the lane's book.
-use Rattle.std.specs.Prelude.{◌≡◌, ◌≢◌, ◌⊎◌, ℕ, ◌+◌, ◌<◌, ◌≤◌, Bool, true, List, [], ◌∷◌, map, drop, length, Option, Some, None, MatchOption, is_some, slice_set, replicate}
+use Rattle.std.specs.Prelude.{◌≡◌, ◌≢◌, ◌⊎◌, ℕ, ◌+◌, ◌<◌, ◌≤◌, true, List, [], ◌∷◌, map, drop, length, Option, Some, None, MatchOption, is_some, slice_set, replicate}
 use Rattle.keybits.specs.declared.shape.Shape.{Shape}
 use Rattle.keybits.specs.Keys.{place_of, is_key}
 use Rattle.coresteps.specs.declared.script.Command.{Command}

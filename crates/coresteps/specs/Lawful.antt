@@ -1,5 +1,5 @@
 -- Lawful traces of a shape, scripts and a schedule.
-use Rattle.std.specs.Prelude.{◌≡◌, ◌≢◌, ◌==◌, ◌⊎◌, ℕ, ◌+◌, ◌<◌, Bool, true, false, not, nat_lt, List, [], ◌∷◌, ◌++◌, Option, Some, None, IsTrue, is_some, slice_get, if◌then◌else◌}
+use Rattle.std.specs.Prelude.{◌≡◌, ◌==◌, ◌⊎◌, ℕ, Bool, true, false, nat_lt, List, [], ◌∷◌, ◌++◌, Option, Some, None, is_some, slice_get, if◌then◌else◌}
 use Rattle.keybits.specs.declared.shape.Shape.{Shape}
 use Rattle.keybits.specs.declared.step.Step.{Step}
 use Rattle.keybits.specs.declared.step.Word.{Word}
@@ -7,7 +7,7 @@ use Rattle.keybits.specs.declared.step.Word.TheVariants.{Life, Link, Stack}
 use Rattle.keybits.specs.Words.{fresh_word}
 use Rattle.keybits.specs.Steps.{Changes}
 use Rattle.seqpool.specs.declared.act.Act.{Act}
-use Rattle.seqpool.specs.Pool.{Pool, put, pool_after, IsLegal}
+use Rattle.seqpool.specs.Pool.{put, pool_after, IsLegal}
 use Rattle.seqpool.specs.Calls.{Call, Caller, aim, Makes}
 use Rattle.seqpool.specs.Facts.{Words}
 use Rattle.coresteps.specs.declared.script.Command.{Command}
@@ -31,6 +31,7 @@ abbrev pub script_or_none : Option (List Command) → List Command
 script_or_none (Some script) = script
 script_or_none None = []
 
+-- what stands before the first turn
 abbrev pub first_world : List (List Command) → World
 first_world scripts =
     record { history = []; words = first_words; books = λ lane. first_book (script_or_none (slice_get scripts lane)) }
@@ -61,6 +62,7 @@ book_after_step b (Some step) act = stepped b step act
 abbrev pub book_before : Shape → World → Turn → Book
 book_before z w t = all_answered z t.lane (w.books t.lane) t.before
 
+-- a lane's book after its turn and the replies behind the step
 abbrev pub book_after : Shape → World → Turn → Book
 book_after z w t = all_answered z t.lane (book_after_step (book_before z w t) t.step t.act) t.after
 
@@ -78,6 +80,7 @@ abbrev pub at_end : List Command → Bool
 at_end [] = true
 at_end (command ∷ more) = false
 
+-- a lane's script is at its end, or the number is no lane
 abbrev pub is_finished : Shape → World → ℕ → Bool
 is_finished z w lane = if nat_lt lane z.lanes then at_end (w.books lane).left else true
 
@@ -127,6 +130,7 @@ abbrev pub world_from : Shape → World → List Turn → World
 world_from z w [] = w
 world_from z w (t ∷ more) = world_from z (world_after z w t) more
 
+-- what stands after these turns from the first
 abbrev pub world_of : Shape → List (List Command) → List Turn → World
 world_of z scripts turns = world_from z (first_world scripts) turns
 

@@ -1,5 +1,5 @@
 -- The scripts that the core replays so far: of one lane, with create, write, publish, get and read; and what holds of such runs.
-use Rattle.std.specs.Prelude.{◌≡◌, ◌==◌, ℕ, ◌+◌, ◌<◌, ◌≤◌, Bool, true, false, not, nat_lt, List, [], ◌∷◌, length, Option, Some, None}
+use Rattle.std.specs.Prelude.{◌≡◌, ℕ, ◌+◌, ◌<◌, ◌≤◌, true, false, not, nat_lt, List, [], ◌∷◌, length, Option, Some, None}
 use Rattle.keybits.specs.declared.shape.Shape.{Shape}
 use Rattle.keybits.specs.Places.{page_of}
 use Rattle.keybits.specs.Shapes.{is_place}
@@ -67,6 +67,7 @@ LocalReply z b (Downgrade register) reply = ⊥
 LocalReply z b (Release register) reply = ⊥
 LocalReply z b (Clear key) reply = ⊥
 
+-- the reply to the first of these commands, as the lane alone knows it
 abbrev pub FirstLocal : Shape → Book → List Command → Reply → Type 0
 FirstLocal z b [] reply = ⊥
 FirstLocal z b (command ∷ more) reply = LocalReply z b command reply
@@ -82,6 +83,7 @@ IsHeld z pool Empty = Unit {0}
 IsHeld z pool (Filling key content) = (is_place z (place_of key) ≡ true) × (key ≡ first_key z (place_of key))
 IsHeld z pool (Reference key content) = HasContent z pool key content × (is_place z (place_of key) ≡ true) × (key ≡ first_key z (place_of key))
 
+-- each register holds what it may
 abbrev pub AreHeld : Shape → Pool → List RegisterState → Type 0
 AreHeld z pool [] = Unit {0}
 AreHeld z pool (register ∷ more) = IsHeld z pool register.holding × AreHeld z pool more
@@ -108,6 +110,7 @@ pub record IsSimpleLane (z : Shape) (pool : Pool) (own chain : List ℕ) (pages 
   pub simple : (place : ℕ) → is_place z place ≡ true → IsSimple z place registers (pool place).phase
   pub held : AreHeld z pool registers
 
+-- the same of a lane's book
 abbrev pub IsSimpleBook : Shape → Pool → Book → Type 0
 IsSimpleBook z pool b = IsSimpleLane z pool b.own b.chain b.opened b.registers b.left
 

@@ -1,12 +1,11 @@
 -- Where each place is, and what holds between any two turns.
-use Rattle.std.specs.Prelude.{◌≡◌, ◌==◌, ◌&&◌, ℕ, ◌+◌, ◌-◌, ◌<◌, ◌≤◌, Bool, true, false, not, nat_lt, List, [], ◌∷◌, ◌++◌, Option, Some, None, if◌then◌else◌}
+use Rattle.std.specs.Prelude.{◌≡◌, ◌==◌, ◌&&◌, ℕ, ◌+◌, ◌-◌, ◌<◌, Bool, true, false, not, nat_lt, List, [], ◌∷◌, ◌++◌, Option, Some, None, if◌then◌else◌}
 use Rattle.keybits.specs.declared.shape.Shape.{Shape}
 use Rattle.keybits.specs.declared.step.Step.{Step}
 use Rattle.keybits.specs.Places.{shard_of, page_of}
 use Rattle.keybits.specs.Shapes.{is_place}
-use Rattle.keybits.specs.Keys.{place_of, generation_of}
+use Rattle.keybits.specs.Keys.{place_of}
 use Rattle.keybits.specs.Words.{generation_in}
-use Rattle.seqpool.specs.declared.act.Act.{Act}
 use Rattle.seqpool.specs.Pool.{Phase, with, published, home, retired, is_published, is_marked, pool_after, references_in}
 use Rattle.seqpool.specs.Calls.{Call, Publishing, Getting, Releasing, Clearing, Creating, is_hit, owes_claim, is_claimed}
 use Rattle.seqpool.specs.Facts.{Under, Nothing, Undo, Owes, Returns, sum_below, times, is_home, Count, Pinned, State, OwedClaim, Home}
@@ -79,6 +78,7 @@ under_call z lane (Clearing key) [] = Nothing
 under_call z lane (Clearing key) (enter ∷ more) = if is_hit key enter.before then under_mark z lane key more else under_miss z lane key more
 under_call z lane (Creating own chain opened) steps = Nothing
 
+-- what a lane has under way after these steps of its call, if it makes one
 abbrev pub under_first : Shape → ℕ → Option Call → List Step → Under
 under_first z lane (Some call) steps = under_call z lane call steps
 under_first z lane None steps = Nothing

@@ -1,5 +1,5 @@
 -- The text of a trace: a line for each reply and each step, in the order of the turns.
-use Rattle.std.specs.Prelude.{ℕ, ◌+◌, ◌/◌, ◌%◌, Bool, true, false, nat_lt, List, [], ◌∷◌, ◌++◌, Option, Some, None, codes, if◌then◌else◌}
+use Rattle.std.specs.Prelude.{ℕ, true, false, List, [], ◌++◌, Option, Some, None, codes}
 use Rattle.std.specs.List.{flat_map}
 use Rattle.std.specs.Fmt.{decimal}
 use Rattle.keybits.specs.declared.step.Step.{Step}
@@ -7,32 +7,21 @@ use Rattle.keybits.specs.declared.step.Kind.{Kind}
 use Rattle.keybits.specs.declared.step.Kind.TheVariants as kinds
 use Rattle.keybits.specs.declared.step.Word.{Word}
 use Rattle.keybits.specs.declared.step.Word.TheVariants as words
+use Rattle.seqpool.specs.Texts.{content_text}
 use Rattle.coresteps.specs.declared.reply.Reply.{Reply}
 use Rattle.coresteps.specs.declared.reply.Reply.TheVariants.{Filling, Full, Memory, Done, Key, Found, Missing, Content, Cleared, Skip}
 use Rattle.coresteps.specs.declared.trace.Turn.{Turn}
 
--- a lower-case hexadecimal digit
-abbrev pub hex_digit : ℕ → ℕ
-hex_digit d = if nat_lt d 10 then d + 48 else d + 87
-
--- a byte, as two digits
-abbrev pub hex_pair : ℕ → List ℕ
-hex_pair byte = hex_digit (byte / 16) ∷ hex_digit (byte % 16) ∷ []
-
--- bytes, as two digits each, and as a dash where there are none
-abbrev pub bytes_text : List ℕ → List ℕ
-bytes_text [] = codes "-"
-bytes_text (byte ∷ more) = flat_map hex_pair (byte ∷ more)
-
+-- a reply
 abbrev pub reply_text : Reply → List ℕ
 reply_text (Filling key) = codes "filling " ++ decimal key
 reply_text Full = codes "full"
 reply_text Memory = codes "memory"
 reply_text Done = codes "ok"
 reply_text (Key key) = codes "key " ++ decimal key
-reply_text (Found content) = codes "some " ++ bytes_text content
+reply_text (Found content) = codes "some " ++ content_text content
 reply_text Missing = codes "none"
-reply_text (Content content) = bytes_text content
+reply_text (Content content) = content_text content
 reply_text (Cleared true) = codes "true"
 reply_text (Cleared false) = codes "false"
 reply_text Skip = codes "skip"
@@ -41,6 +30,7 @@ reply_text Skip = codes "skip"
 abbrev pub reply_line : ℕ → Reply → List ℕ
 reply_line lane reply = decimal lane ++ codes " = " ++ reply_text reply ++ codes "\n"
 
+-- the name of a kind of step
 abbrev pub kind_text : Kind → List ℕ
 kind_text kinds.Enter = codes "ENTER"
 kind_text kinds.Leave = codes "LEAVE"
@@ -64,6 +54,7 @@ step_line lane step =
     decimal lane ++ codes " " ++ kind_text step.kind ++ codes " " ++ word_text step.word
     ++ codes " " ++ decimal step.before ++ codes " " ++ decimal step.after ++ codes "\n"
 
+-- the line of the step that a turn has, if it has one
 abbrev pub step_lines : ℕ → Option Step → List ℕ
 step_lines lane None = []
 step_lines lane (Some step) = step_line lane step
@@ -72,5 +63,6 @@ step_lines lane (Some step) = step_line lane step
 abbrev pub turn_text : Turn → List ℕ
 turn_text t = flat_map (reply_line t.lane) t.before ++ step_lines t.lane t.step ++ flat_map (reply_line t.lane) t.after
 
+-- the text of a trace
 abbrev pub trace_text : List Turn → List ℕ
 trace_text turns = flat_map turn_text turns

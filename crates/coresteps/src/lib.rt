@@ -13,9 +13,6 @@ mod text;
 mod trace;
 
 pub use fault::CoreFault;
-pub use keys::Keys;
-pub use lane::{Lane, NextCall, Stage};
-pub use registers::{Holding, RegisterState, Registers};
 pub use replay::{Core, run};
 pub use reply::{Replies, Reply};
 pub use script::{Command, Operand, Register, Script};

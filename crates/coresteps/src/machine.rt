@@ -41,7 +41,11 @@ impl Machine {
     ghost use Rattle.coresteps.specs.Kept.{IsCore, IsCoreAt, IsSameCore, MakesTurn, Turns};
 
     /// The machine of these scripts, one for each lane, before the first turn. Memory (25) where it was refused.
-    pub(crate) fn new(alloc: Global, shape: Shape, scripts: Vec<Script>) -> Result<Machine, CoreFault>
+    pub(crate) fn new(
+        alloc: Global,
+        shape: Shape,
+        scripts: Vec<Script>,
+    ) -> Result<Machine, CoreFault>
         requires shape { IsShape shape }
         requires one_lane { shape.lanes ≡ 1 }
         requires scripts { length scripts.items ≡ shape.lanes }

@@ -1,12 +1,14 @@
-ghost use Rattle.std.specs.Prelude.{◌≡◌, ◌++◌, ◌<◌, OnOk, OnErr, flat_map};
+ghost use Rattle.std.specs.Prelude.{◌≡◌, ◌++◌, OnOk, OnErr, flat_map};
 ghost use Rattle.std.specs.Fmt.{decimal};
-ghost use Rattle.coresteps.specs.Text.{hex_digit, bytes_text, reply_text, reply_line, kind_text, word_text, step_line, turn_text, trace_text};
+ghost use Rattle.seqpool.specs.Texts.{content_text};
+ghost use Rattle.coresteps.specs.Text.{reply_text, reply_line, kind_text, word_text, step_line, turn_text, trace_text};
 ghost use mathlib.Core.List.{IsPrefix};
 
 use crate::reply::Reply;
 use crate::trace::{Trace, Turn};
 use itoa::Buffer;
 use keybits::{Kind, Step, Word};
+use seqpool::hex_pair;
 use std::alloc::AllocError;
 
 /// Appends the trace text, by this project's profile: a line for each reply and each step, in the order of the turns.
@@ -136,28 +138,16 @@ fn write_word(word: Word, out: &mut Vec<u8>) -> Result<(), AllocError>
 }
 
 fn write_bytes(bytes: &[u8], out: &mut Vec<u8>) -> Result<(), AllocError>
-    ensures ok { OnOk result (out.new.items ≡ out.old.items ++ bytes_text bytes.now) }
+    ensures ok { OnOk result (out.new.items ≡ out.old.items ++ content_text bytes.now) }
     ensures err { OnErr result (IsPrefix out.old.items out.new.items) }
 {
     if bytes.is_empty() {
         return write_text("-", out);
     }
     for byte in bytes {
-        let pair = [hexadecimal_digit(*byte / 16), hexadecimal_digit(*byte % 16)];
-        out.extend_from_slice(&pair)?;
+        out.extend_from_slice(&hex_pair(*byte))?;
     }
     Ok(())
-}
-
-fn hexadecimal_digit(digit: u8) -> u8
-    requires { digit < 16 }
-    ensures { result ≡ hex_digit digit }
-{
-    if digit < 10 {
-        b'0' + digit
-    } else {
-        b'a' - 10 + digit
-    }
 }
 
 fn write_number(number: u64, out: &mut Vec<u8>) -> Result<(), AllocError>

@@ -10,9 +10,13 @@ use Rattle.seqpool.specs.declared.act.Act.TheVariants.{Publish, Get, Release, Cl
 abbrev pub hex_digit : ℕ → ℕ
 hex_digit d = if nat_lt d 10 then 48 + d else 87 + d
 
+-- a byte as two digits, the higher one first
+abbrev pub hex_pair : ℕ → List ℕ
+hex_pair byte = hex_digit (byte / 16) ∷ hex_digit (byte % 16) ∷ []
+
 -- bytes as pairs of hexadecimal digits
 abbrev pub hex : List ℕ → List ℕ
-hex bytes = flat_map (λ b. hex_digit (b / 16) ∷ hex_digit (b % 16) ∷ []) bytes
+hex bytes = flat_map hex_pair bytes
 
 -- a content: its bytes, or a dash for none
 abbrev pub content_text : List ℕ → List ℕ

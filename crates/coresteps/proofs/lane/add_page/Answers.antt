@@ -1,5 +1,5 @@
 -- The slots of a page are few, and each adds its key.
-use Rattle.std.proofs.Common.{◌≡◌, ◌++◌, ◌∷◌, [], ◌≤◌, ◌∙◌, ap, arith}
+use Rattle.std.proofs.Common.{◌++◌, ◌∷◌, [], ◌∙◌, arith}
 use Rattle.keybits.proofs.ShapeLemmas.{page_size-le}
 use Rattle.coresteps.proofs.LocalLemmas.{keys-more}
 use Rattle.coresteps.proofs.lane.add_page.Goals as goal

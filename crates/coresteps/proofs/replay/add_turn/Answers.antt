@@ -1,11 +1,11 @@
 -- A turn of an unfinished lane is the next of the trace, and the entry of a finished one makes none.
-use Rattle.std.proofs.Common.{◌≡◌, ◌∙◌, ℕ, ap, sym, subst, List, [], ◌∷◌, ◌++◌, refl, true, false, Bool}
+use Rattle.std.proofs.Common.{◌≡◌, ◌∙◌, sym, subst, List, [], ◌∷◌, ◌++◌, refl, Bool}
 use Rattle.std.specs.Prelude.{MatchBool}
 use Rattle.keybits.specs.declared.shape.Shape.{Shape}
 use Rattle.coresteps.specs.declared.trace.Turn.{Turn}
-use Rattle.coresteps.specs.Lawful.{World, world_after, world_from, AreTurns, is_finished}
+use Rattle.coresteps.specs.Lawful.{World, world_after, world_from}
 use Rattle.coresteps.specs.Parts.{Stands}
-use Rattle.coresteps.specs.Kept.{Keeps, IsCoreAt, IsEmptyTurn, IsSameCore, MakesTurn, IsRun}
+use Rattle.coresteps.specs.Kept.{IsCoreAt, IsEmptyTurn, IsSameCore, MakesTurn, IsRun}
 use Rattle.coresteps.proofs.RunLemmas.{turns_skip, turns_more, world-one}
 use Rattle.coresteps.proofs.StandLemmas.{stands, stands_more}
 use Rattle.coresteps.proofs.replay.add_turn.Goals as goal

@@ -1,10 +1,10 @@
 -- One entry of the schedule more.
-use Rattle.std.proofs.Common.{◌≡◌, ◌∙◌, ℕ, ◌+◌, ◌<◌, ap, sym, subst, arith, List, [], ◌∷◌, ◌++◌, take, length}
+use Rattle.std.proofs.Common.{◌∙◌, ℕ, ◌<◌, sym, subst, arith, List, [], take, length}
 use Rattle.std.proofs.lemmas.List.{take_more}
 use Rattle.keybits.specs.declared.shape.Shape.{Shape}
 use Rattle.coresteps.specs.declared.trace.Turn.{Turn}
 use Rattle.coresteps.specs.Lawful.{first_world}
-use Rattle.coresteps.specs.Kept.{IsRun, IsCoreAt}
+use Rattle.coresteps.specs.Kept.{IsRun}
 use Rattle.coresteps.proofs.StandLemmas.{stands}
 use Rattle.coresteps.proofs.replay.run.Goals as goal
 

@@ -7,7 +7,7 @@ use Rattle.coresteps.specs.declared.registers.Holding.TheVariants.{Filling}
 use Rattle.coresteps.specs.Registers.{register_with}
 use Rattle.coresteps.specs.Lanes.{Answers}
 use Rattle.coresteps.proofs.RegisterLemmas.{register_at-is}
-use Rattle.coresteps.proofs.CreateLemmas.{handed_answers, full_answers, lane_with}
+use Rattle.coresteps.proofs.CreateLemmas.{handed_answers, full_answers}
 use Rattle.coresteps.proofs.lane.Lane.create.Goals as goal
 
 pub returns-in_default-pop : goal.returns-in_default-pop

@@ -1,5 +1,5 @@
 -- One reply more is local, and the book has it.
-use Rattle.std.proofs.Common.{◌≡◌, ap, sym, ◌∙◌, subst, List, ◌++◌, ◌∷◌, [], Option, Some, None}
+use Rattle.std.proofs.Common.{◌≡◌, ap, sym, ◌∙◌, subst, List, Option, None}
 use Rattle.coresteps.specs.declared.reply.Reply.{Reply}
 use Rattle.coresteps.specs.Books.{Book, next_aim, answered, all_answered}
 use Rattle.coresteps.specs.OneLane.{FirstLocal, AreLocal}

@@ -1,5 +1,5 @@
 -- The core before its first turn keeps the world without turns.
-use Rattle.std.proofs.Common.{◌≡◌, ◌∙◌, ℕ, ap, sym, subst, arith, List, [], ◌∷◌}
+use Rattle.std.proofs.Common.{◌∙◌, ℕ, ap, sym, subst, arith, List, []}
 use Rattle.std.specs.Prelude.{replicate}
 use Rattle.seqpool.specs.declared.act.Act.{Act}
 use Rattle.coresteps.specs.declared.script.Command.{Command}

@@ -1,6 +1,5 @@
 -- A publish is the next turn, and the core keeps what it made.
-use Rattle.std.proofs.Common.{◌≡◌, ◌≢◌, ℕ, ◌+◌, ◌<◌, ◌≤◌, ap, sym, ◌∙◌, subst, refl, arith, List, [], ◌∷◌, ◌++◌, Option, Some, None, true, false, set, length}
-use Rattle.std.specs.Prelude.{IsTrue}
+use Rattle.std.proofs.Common.{◌≡◌, ℕ, ◌+◌, ap, sym, ◌∙◌, subst, refl, List, [], ◌∷◌, ◌++◌, Some, false, set}
 use Rattle.keybits.specs.declared.step.Kind.TheVariants as kinds
 use Rattle.keybits.specs.declared.step.Word.TheVariants.{Life}
 use Rattle.keybits.specs.Shapes.{is_place, position_of}
@@ -9,16 +8,13 @@ use Rattle.keybits.specs.Words.{state_in}
 use Rattle.seqpool.specs.declared.act.Act.{Act}
 use Rattle.seqpool.specs.declared.act.Act.TheVariants as acts
 use Rattle.coresteps.specs.declared.trace.Turn.{Turn}
-use Rattle.coresteps.specs.declared.reply.Reply.{Reply}
-use Rattle.coresteps.specs.declared.reply.Reply.TheVariants as replies
 use Rattle.coresteps.specs.declared.lane.Lane.{Lane}
 use Rattle.coresteps.specs.declared.script.Command.{Command}
-use Rattle.coresteps.specs.declared.registers.Holding.{Holding}
 use Rattle.coresteps.specs.declared.registers.Holding.TheVariants.{Empty, Filling}
-use Rattle.coresteps.specs.Lawful.{World, world_after, IsNextTurn}
-use Rattle.coresteps.specs.Lanes.{IsReady, Works, next_lane, holding_now}
+use Rattle.coresteps.specs.Lawful.{world_after, IsNextTurn}
+use Rattle.coresteps.specs.Lanes.{IsReady, Works, holding_now}
 use Rattle.coresteps.specs.Kept.{Keeps}
-use Rattle.coresteps.proofs.TurnLemmas.{next_ready, drop_within, word_read, publish_facts, keeps_publish}
+use Rattle.coresteps.proofs.TurnLemmas.{next_ready, word_read, publish_facts, keeps_publish}
 use Rattle.coresteps.proofs.machine.Machine.publish.Goals as goal
 
 pub position-position-requires-clause-place : goal.position-position-requires-clause-place

@@ -1,5 +1,5 @@
 -- A turn of a lane that isn't finished is the one that its next call makes.
-use Rattle.std.proofs.Common.{◌≡◌, ◌∙◌, sym}
+use Rattle.std.proofs.Common.{◌∙◌, sym}
 use Rattle.coresteps.proofs.TurnLemmas.{turns_from}
 use Rattle.coresteps.proofs.machine.Machine.turn.Goals as goal
 
