@@ -14,7 +14,7 @@ use Rattle.keybits.proofs.ShapeLemmas.{is_place-parts, is_place-place_at, place_
 use Rattle.keybits.proofs.KeyLemmas.{place_of-key_number}
 use Rattle.seqpool.specs.declared.act.Act.{Act}
 use Rattle.seqpool.specs.Pool.{Pool, Phase, with, published, home, retired, is_published}
-use Rattle.seqpool.specs.Facts.{times}
+use Rattle.keybits.specs.Counts.{times}
 use Rattle.coresteps.specs.declared.script.Register.{Register}
 use Rattle.coresteps.specs.declared.script.Operand.{Operand}
 use Rattle.coresteps.specs.declared.script.Command.{Command}

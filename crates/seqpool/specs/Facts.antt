@@ -1,9 +1,10 @@
 -- What holds between any two steps of words, a history and what the lanes have under way: Count, State, Owed claim and Home.
-use Rattle.std.specs.Prelude.{◌≡◌, ◌≢◌, ◌==◌, ◌⊎◌, ℕ, zero, suc, ◌+◌, ◌<◌, ◌≤◌, Bool, true, false, List, [], ◌∷◌, ◌++◌, Option, Some, None, Contains, if◌then◌else◌}
+use Rattle.std.specs.Prelude.{◌≡◌, ◌≢◌, ◌==◌, ◌⊎◌, ℕ, ◌+◌, ◌<◌, ◌≤◌, Bool, true, false, List, [], ◌∷◌, ◌++◌, Option, Some, None, Contains, if◌then◌else◌}
 use Rattle.keybits.specs.declared.shape.Shape.{Shape}
 use Rattle.keybits.specs.Places.{shard_of}
 use Rattle.keybits.specs.Shapes.{is_place}
 use Rattle.keybits.specs.Keys.{place_of}
+use Rattle.keybits.specs.Counts.{sum_below, times}
 use Rattle.keybits.specs.Words.{state_in, count_in, generation_in, claimable}
 use Rattle.keybits.specs.Links.{link_to, Leads}
 use Rattle.seqpool.specs.declared.act.Act.{Act}
@@ -23,11 +24,6 @@ pub record Words : Type 0 where
   pub life : ℕ → ℕ
   pub link : ℕ → ℕ
   pub stack : ℕ → ℕ → ℕ
-
--- the sum of f over 0 to n - 1
-abbrev pub sum_below : ℕ → (ℕ → ℕ) → ℕ
-sum_below zero f = 0
-sum_below (suc n) f = sum_below n f + f n
 
 -- how many ENTERs to undo a lane has at a place
 abbrev pub to_undo : ℕ → Under → ℕ
@@ -64,11 +60,6 @@ State z words history = (place : ℕ) → is_place z place ≡ true
 abbrev pub OwedClaim : Shape → Words → (ℕ → Under) → Type 0
 OwedClaim z words under = (place generation : ℕ) → is_place z place ≡ true → words.life place ≡ claimable generation
     → (lane : ℕ) × (lane < z.lanes) × (under lane ≡ Owes place generation)
-
--- how often a number is in a list
-abbrev pub times : ℕ → List ℕ → ℕ
-times n [] = 0
-times n (x ∷ xs) = (if x == n then 1 else 0) + times n xs
 
 -- the place is home
 abbrev pub is_home : Phase → Bool
