@@ -1,11 +1,7 @@
 -- Acts that are made by a write at one place.
-use Rattle.std.proofs.Common.{◌≡◌, ◌≢◌, ℕ, zero, suc, ◌+◌, ◌<◌, Bool, true, false, cond, ◌==◌, List, Some, None, refl, sym, ap, ◌∙◌, arith, eq-eqb, ne_eqb, length, get_or, set}
+use Rattle.std.proofs.Common.{◌≡◌, ◌≢◌, ℕ, ◌+◌, ◌<◌, Bool, true, false, cond, ◌==◌, List, Some, None, refl, sym, ap, ◌∙◌, arith, length, get_or, set}
 use Rattle.std.proofs.lemmas.Bool.{and_from}
 use Rattle.std.proofs.lemmas.List.{get_or_read}
-use Rattle.std.proofs.Common.{replicate, get_or-set_same, get_or-set_other}
-use mathlib.Core.Path.{fun_ext}
-use mathlib.Core.Logic.{dite}
-use native.Mathlib.Decide.{ℕ_discrete}
 use Rattle.keybits.specs.declared.shape.Shape.{Shape}
 use Rattle.keybits.specs.Places.{shard_of}
 use Rattle.keybits.specs.Shapes.{IsShape, is_place, position_of}
@@ -93,18 +89,3 @@ module _ (z : Shape) where
       (inside, is, other),
       made z P Q (Home lane place) place place (spot generation home) (λ x. refl) refl (ap (λ (g : ℕ). spot g home) (sym same)) wrote,
     )
-
-zeros : (m l : ℕ) → get_or (replicate {A = ℕ} m 0) l 0 ≡ 0
-zeros zero l = refl
-zeros (suc m) zero = refl
-zeros (suc m) (suc l) = zeros m l
-
-abbrev pub counter : List ℕ → ℕ → ℕ
-counter xs l = get_or xs l 0
-
--- the row of counters of one lane's references
-pub one-counter : (lane n : ℕ) → lane < 16 → counter (set (replicate {A = ℕ} 16 0) lane n) ≡ put (λ _. 0) lane n
-one-counter lane n below = fun_ext (λ l. dite (ℕ_discrete l lane)
-    (λ same. let inside : lane < length (replicate {A = ℕ} 16 0) = omega arith in
-    ap (counter (set (replicate 16 0) lane n)) same ∙ (get_or-set_same (replicate 16 0) lane n 0 inside ∙ sym (ap (λ b. let m : ℕ = cond b n 0 in m) (eq-eqb l lane same))))
-    (λ other. get_or-set_other (replicate 16 0) lane l n 0 other ∙ (zeros 16 l ∙ sym (ap (λ b. let m : ℕ = cond b n 0 in m) (ne_eqb l lane other)))))

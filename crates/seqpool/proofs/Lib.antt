@@ -11,3 +11,11 @@ pub mod Collects
 pub mod Counts
 pub mod Checked
 pub mod Lines
+pub mod Parts
+pub mod Numbers
+pub mod HexTexts
+pub mod PlaceTexts
+pub mod LineTexts
+pub mod ActTexts
+pub mod ShapeTexts
+pub mod TextLaws

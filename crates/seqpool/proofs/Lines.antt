@@ -1,20 +1,20 @@
 -- Lines of text, piece after piece.
-use Rattle.std.proofs.Common.{◌≡◌, ◌≢◌, ℕ, ◌+◌, ◌/◌, ◌%◌, ◌<◌, ◌==◌, not, List, [], ◌∷◌, ◌++◌, length, get_or, take, flat_map, decimal, codes, sym, ap, ◌∙◌, subst, arith, append_assoc, append-nil, length-take-le}
+use Rattle.std.proofs.Common.{◌≡◌, ◌≢◌, ℕ, ◌+◌, ◌<◌, ◌==◌, not, List, [], ◌∷◌, ◌++◌, length, get_or, take, flat_map, decimal, codes, sym, ap, ◌∙◌, subst, arith, append_assoc, append-nil, length-take-le}
 use Rattle.std.specs.List.{AllZip}
 use Rattle.std.proofs.lemmas.List.{take_more}
 use Rattle.std.proofs.lemmas.List.Concat.{flat_map-append}
 use Rattle.seqpool.specs.declared.act.Act.{Act}
 use Rattle.keybits.specs.declared.shape.Shape.{Shape}
-use Rattle.seqpool.specs.Texts.{hex_digit, hex, places_text, shape_text, act_text, IsWritten, IsTextOf}
+use Rattle.seqpool.specs.Texts.{hex_pair, hex, places_text, shape_text, act_text, IsWritten, IsTextOf}
 use Rattle.seqpool.proofs.Checked.{one-more}
 
 -- one more byte
 pub hex-more : (bytes : List ℕ) (i : ℕ) (d : ℕ) (so_far : List ℕ) → i < length bytes
-    → (so_far ++ hex (take i bytes)) ++ (hex_digit (get_or bytes i d / 16) ∷ hex_digit (get_or bytes i d % 16) ∷ []) ≡ so_far ++ hex (take (i + 1) bytes)
+    → (so_far ++ hex (take i bytes)) ++ hex_pair (get_or bytes i d) ≡ so_far ++ hex (take (i + 1) bytes)
 hex-more bytes i d so_far below =
-    append_assoc so_far (hex (take i bytes)) (hex_digit (get_or bytes i d / 16) ∷ hex_digit (get_or bytes i d % 16) ∷ [])
+    append_assoc so_far (hex (take i bytes)) (hex_pair (get_or bytes i d))
     ∙ ap (λ (xs : List ℕ). so_far ++ xs)
-    (sym (flat_map-append (λ b. hex_digit (b / 16) ∷ hex_digit (b % 16) ∷ []) (take i bytes) (get_or bytes i d ∷ []))
+    (sym (flat_map-append hex_pair (take i bytes) (get_or bytes i d ∷ []))
     ∙ ap hex (sym (take_more bytes i d below)))
 
 -- one more place

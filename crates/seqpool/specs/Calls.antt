@@ -1,5 +1,5 @@
 -- The steps of a call, and the acts that they make.
-use Rattle.std.specs.Prelude.{◌≡◌, ◌==◌, ◌&&◌, ◌||◌, ℕ, ◌+◌, Bool, true, false, not, nat_lt, List, [], ◌∷◌, ◌++◌, Option, Some, None, is_some, if◌then◌else◌}
+use Rattle.std.specs.Prelude.{◌≡◌, ◌==◌, ◌&&◌, ℕ, ◌+◌, Bool, false, not, nat_lt, List, [], ◌∷◌, ◌++◌, Option, Some, None, is_some, if◌then◌else◌}
 use Rattle.keybits.specs.declared.shape.Shape.{Shape}
 use Rattle.keybits.specs.declared.step.Kind.{Kind}
 use Rattle.keybits.specs.declared.step.Kind.TheVariants as kinds
@@ -33,6 +33,7 @@ pub record Aim : Type 0 where
   pub kind : Kind
   pub word : Word
 
+-- a kind of step on a word
 abbrev pub aim : Kind → Word → Aim
 aim kind word = record { kind = kind; word = word }
 
@@ -180,5 +181,6 @@ KindMakes (kinds.Push expected link) c call links word before act =
 KindMakes kinds.Take c call links word before act = TakeMakes c links before act
 KindMakes kinds.Follow c call links word before act = act ≡ None
 
+-- this step of a call makes this act, or none
 abbrev pub Makes : Caller → Call → (ℕ → ℕ) → Step → Option Act → Type 0
 Makes c call links step act = KindMakes step.kind c call links step.word step.before act

@@ -30,6 +30,7 @@ is_in group phase = false
 abbrev pub AreIn : Shape → Pool → Group → ℕ → Type 0
 AreIn z pool group n = AreMany (λ place. is_place z place && is_in group (pool place).phase) n
 
+-- whether the act is a Publish
 abbrev pub is_publish : Act → Bool
 is_publish (Publish lane key content with_ref) = true
 is_publish (Get lane key reply) = false
@@ -39,6 +40,7 @@ is_publish (Reclaim lane key) = false
 is_publish (Home lane place) = false
 is_publish (Collect lane places) = false
 
+-- whether the act is a Reclaim
 abbrev pub is_reclaim : Act → Bool
 is_reclaim (Publish lane key content with_ref) = false
 is_reclaim (Get lane key reply) = false

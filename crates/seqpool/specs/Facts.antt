@@ -1,14 +1,14 @@
 -- What holds between any two steps of words, a history and what the lanes have under way: Count, State, Owed claim and Home.
-use Rattle.std.specs.Prelude.{◌≡◌, ◌≢◌, ◌==◌, ◌⊎◌, ℕ, ◌+◌, ◌<◌, ◌≤◌, Bool, true, false, List, [], ◌∷◌, ◌++◌, Option, Some, None, Contains, if◌then◌else◌}
+use Rattle.std.specs.Prelude.{◌≡◌, ◌≢◌, ◌==◌, ◌⊎◌, ℕ, ◌+◌, ◌<◌, Bool, true, false, List, Option, Some, if◌then◌else◌}
 use Rattle.keybits.specs.declared.shape.Shape.{Shape}
 use Rattle.keybits.specs.Places.{shard_of}
 use Rattle.keybits.specs.Shapes.{is_place}
 use Rattle.keybits.specs.Keys.{place_of}
 use Rattle.keybits.specs.Counts.{sum_below, times}
 use Rattle.keybits.specs.Words.{state_in, count_in, generation_in, claimable}
-use Rattle.keybits.specs.Links.{link_to, Leads}
+use Rattle.keybits.specs.Links.{Leads}
 use Rattle.seqpool.specs.declared.act.Act.{Act}
-use Rattle.seqpool.specs.Pool.{Phase, Pool, with, published, home, retired, references_in, has_key, pool_after}
+use Rattle.seqpool.specs.Pool.{Phase, with, published, home, retired, references_in, has_key, pool_after}
 
 -- what a lane has under way: nothing; an ENTER still to be undone, with its key, and whether it is that of a clear that hit;
 -- a claim owed for a place and generation; or a place still to be returned, with the expected top that was linked, if it was,

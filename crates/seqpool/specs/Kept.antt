@@ -45,9 +45,11 @@ with_spot pool place s x = if x == place then s else pool x
 abbrev pub gained_spot : ℕ → Spot → Spot
 gained_spot lane s = spot s.generation (gained lane s.phase)
 
+-- the same place with one reference less of a lane
 abbrev pub lost_spot : ℕ → Spot → Spot
 lost_spot lane s = spot s.generation (lost lane s.phase)
 
+-- the same place with the mark
 abbrev pub marked_spot : Spot → Spot
 marked_spot s = spot s.generation (marked s.phase)
 

@@ -39,20 +39,26 @@ OwnLawOf z history = (i lane : ℕ) (act : Act) → At history i act → lane_of
     → ((place : ℕ) → (((pool_after z (take i history) place).phase ≡ with lane) ↔ ((pool_after z (take (i + 1) history) place).phase ≡ with lane)))
     × ((key : ℕ) → references z (pool_after z (take (i + 1) history)) lane key ≡ references z (pool_after z (take i history)) lane key)
 
+-- the Get law: of every legal history
 abbrev pub GetLaw : Type 0
 GetLaw = (z : Shape) (history : List Act) → IsLegal z history → GetLawOf history
 
+-- the first half of the Reclaim law: of every legal history
 abbrev pub ReclaimLaw : Type 0
 ReclaimLaw = (z : Shape) (history : List Act) → IsLegal z history → ReclaimLawOf z history
 
+-- the second half of the Reclaim law: of every legal history
 abbrev pub AloneLaw : Type 0
 AloneLaw = (z : Shape) (history : List Act) → IsLegal z history → AloneLawOf history
 
+-- the first half of the Once law: of every legal history
 abbrev pub OnceLaw : Type 0
 OnceLaw = (z : Shape) (history : List Act) → IsLegal z history → OnceLawOf history
 
+-- the second half of the Once law: of every legal history
 abbrev pub RetiredLaw : Type 0
 RetiredLaw = (z : Shape) (history : List Act) → IsLegal z history → RetiredLawOf z history
 
+-- the Own law: of every legal history
 abbrev pub OwnLaw : Type 0
 OwnLaw = (z : Shape) (history : List Act) → IsLegal z history → OwnLawOf z history

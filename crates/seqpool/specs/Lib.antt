@@ -8,3 +8,5 @@ pub mod Refusals
 pub mod Kept
 pub mod Checks
 pub mod Texts
+pub mod Readings
+pub mod Parsing

@@ -1,5 +1,5 @@
 -- The pool of one thread, place by place: what each act needs, what it changes, and which histories are legal.
-use Rattle.std.specs.Prelude.{◌≡◌, ◌≢◌, ◌==◌, ◌&&◌, ℕ, ◌+◌, ◌-◌, ◌<◌, ◌≤◌, Bool, true, false, not, nat_lt, List, [], ◌∷◌, Option, Some, None, if◌then◌else◌}
+use Rattle.std.specs.Prelude.{◌≡◌, ◌≢◌, ◌==◌, ◌&&◌, ℕ, ◌+◌, ◌-◌, ◌<◌, Bool, true, false, not, List, [], ◌∷◌, Option, Some, None, if◌then◌else◌}
 use Rattle.keybits.specs.declared.shape.Shape.{Shape}
 use Rattle.keybits.specs.Places.{shard_of}
 use Rattle.keybits.specs.Shapes.{is_place}
@@ -23,6 +23,7 @@ pub record Spot : Type 0 where
 abbrev pub Pool : Type 0
 Pool = ℕ → Spot
 
+-- a place with this next generation, in this phase
 abbrev pub spot : ℕ → Phase → Spot
 spot generation phase = record { generation = generation; phase = phase }
 

@@ -2,10 +2,13 @@
 use Rattle.std.specs.Prelude.{◌≡◌, ◌≢◌, ◌⊎◌, ℕ, ◌<◌, ◌≤◌, true, false, []}
 use Rattle.keybits.specs.declared.shape.Shape.{Shape}
 use Rattle.keybits.specs.Places.{shard_of}
+use Rattle.keybits.specs.ShapeFaults.{fault_number as shape_fault_number}
 use Rattle.keybits.specs.Shapes.{is_place}
 use Rattle.keybits.specs.Keys.{place_of, generation_of, is_key}
 use Rattle.seqpool.specs.declared.act.Act.{Act}
 use Rattle.seqpool.specs.declared.act.Act.TheVariants.{Publish, Get, Release, Clear, Reclaim, Home, Collect}
+use Rattle.seqpool.specs.declared.acts_fault.ActsFault.{ActsFault}
+use Rattle.seqpool.specs.declared.acts_fault.ActsFault.TheVariants as acts_faults
 use Rattle.seqpool.specs.declared.fault.ApplyFault.{ApplyFault}
 use Rattle.seqpool.specs.declared.fault.ApplyFault.TheVariants.{NotWithLane, WrongGeneration, WrongReply, NotHeld, StillHeld, NotMarked, NotHome, Memory}
 use Rattle.seqpool.specs.Pool.{Pool, with, references_in, is_marked, is_current, found, clears, references, NoRepeats, AllHome, lane_of}
@@ -50,3 +53,9 @@ Adds (Clear lane key reply) = ⊥
 Adds (Reclaim lane key) = ⊥
 Adds (Home lane place) = ⊥
 Adds (Collect lane places) = ⊥
+
+-- the number of a refusal of a text; a shape's fault keeps its own
+abbrev pub acts_fault_number : ActsFault → ℕ
+acts_fault_number acts_faults.ActsLine = 19
+acts_fault_number (acts_faults.Shape fault) = shape_fault_number fault
+acts_fault_number acts_faults.Memory = 18

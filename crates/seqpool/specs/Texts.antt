@@ -29,27 +29,35 @@ places_text [] = []
 places_text (place ∷ []) = decimal place
 places_text (place ∷ next ∷ more) = decimal place ++ codes "," ++ places_text (next ∷ more)
 
+-- an act, without a line feed
+abbrev pub act_line : Act → List ℕ
+act_line (Publish lane key content with_ref) =
+    decimal lane ++ codes " publish " ++ decimal key ++ codes " " ++ content_text content ++ codes " " ++ decimal (if with_ref then 1 else 0)
+act_line (Get lane key (Some content)) = decimal lane ++ codes " get " ++ decimal key ++ codes " some " ++ content_text content
+act_line (Get lane key None) = decimal lane ++ codes " get " ++ decimal key ++ codes " none"
+act_line (Release lane key) = decimal lane ++ codes " release " ++ decimal key
+act_line (Clear lane key true) = decimal lane ++ codes " clear " ++ decimal key ++ codes " true"
+act_line (Clear lane key false) = decimal lane ++ codes " clear " ++ decimal key ++ codes " false"
+act_line (Reclaim lane key) = decimal lane ++ codes " reclaim " ++ decimal key
+act_line (Home lane place) = decimal lane ++ codes " home " ++ decimal place
+act_line (Collect lane places) = decimal lane ++ codes " collect " ++ places_text places
+
 -- the line of an act
 abbrev pub act_text : Act → List ℕ
-act_text (Publish lane key content with_ref) =
-    decimal lane ++ codes " publish " ++ decimal key ++ codes " " ++ content_text content ++ codes " " ++ decimal (if with_ref then 1 else 0) ++ codes "\n"
-act_text (Get lane key (Some content)) = decimal lane ++ codes " get " ++ decimal key ++ codes " some " ++ content_text content ++ codes "\n"
-act_text (Get lane key None) = decimal lane ++ codes " get " ++ decimal key ++ codes " none\n"
-act_text (Release lane key) = decimal lane ++ codes " release " ++ decimal key ++ codes "\n"
-act_text (Clear lane key true) = decimal lane ++ codes " clear " ++ decimal key ++ codes " true\n"
-act_text (Clear lane key false) = decimal lane ++ codes " clear " ++ decimal key ++ codes " false\n"
-act_text (Reclaim lane key) = decimal lane ++ codes " reclaim " ++ decimal key ++ codes "\n"
-act_text (Home lane place) = decimal lane ++ codes " home " ++ decimal place ++ codes "\n"
-act_text (Collect lane places) = decimal lane ++ codes " collect " ++ places_text places ++ codes "\n"
+act_text act = act_line act ++ codes "\n"
 
 -- the four numbers of a shape that are always written
 abbrev pub numbers_text : Shape → List ℕ
 numbers_text z = codes "shape " ++ decimal z.lanes ++ codes " " ++ decimal z.first_page ++ codes " " ++ decimal z.pages ++ codes " " ++ decimal z.last_generation
 
--- the line of a shape, with its tag as a fifth number or without it
+-- a shape, with its tag as a fifth number or without it, and without a line feed
+abbrev pub shape_line : Shape → Bool → List ℕ
+shape_line z true = numbers_text z ++ codes " " ++ decimal z.tag
+shape_line z false = numbers_text z
+
+-- the line of a shape
 abbrev pub shape_text : Shape → Bool → List ℕ
-shape_text z true = numbers_text z ++ codes " " ++ decimal z.tag ++ codes "\n"
-shape_text z false = numbers_text z ++ codes "\n"
+shape_text z tagged = shape_line z tagged ++ codes "\n"
 
 -- the act as it is written: the same, with the places of a Collect in rising order
 abbrev pub IsWritten : Act → Act → Type 0

@@ -8,7 +8,7 @@ use crate::fault::{ApplyFault, Memory};
 use crate::key::{generation_of, is_among, place_of, shard_of};
 use crate::row::{Row, Standing};
 use keybits::{Shape, fits};
-use std::alloc::Global;
+use std::alloc::{AllocError, Global};
 
 /// The pool of one thread, to which acts are applied one after another.
 ///
@@ -74,7 +74,7 @@ impl SeqPool {
     }
 
     /// One reference more of the lane to the key of a place.
-    fn gain(&mut self, place: u32, lane: u32) -> Result<(), Memory>
+    fn gain(&mut self, place: u32, lane: u32) -> Result<(), AllocError>
         requires place { IsTrue (is_place self.old.shape place) }
         requires lane { lane < self.old.shape.lanes }
         ensures pool { OnOk result (pool_in self.new ≡ with_spot (pool_in self.old) place (gained_spot lane (pool_in self.old place))) }
@@ -140,11 +140,8 @@ impl SeqPool {
             return Err(ApplyFault::WrongGeneration);
         }
         let content = content.copy(self.alloc)?;
-        self.put(
-            place,
-            generation,
-            Standing::published(content, lane, with_ref),
-        );
+        let standing = Standing::published(self.alloc, content, lane, with_ref)?;
+        self.put(place, generation, standing);
         Ok(())
     }
 

@@ -1,5 +1,9 @@
+ghost use Rattle.std.specs.Prelude.{◌≡◌, ℕ, length, slice_index};
+
 use crate::contents::Bytes;
-use crate::fault::Memory;
+use crate::tally::Tally;
+use std::alloc::{AllocError, Global};
+use std::array;
 
 /// Where a place stands.
 #[derive(Drop, Debug)]
@@ -11,7 +15,7 @@ pub(crate) enum Standing {
     /// Its key is published: its content, the references of each lane, and whether it was cleared.
     Published {
         content: Bytes,
-        references: [u64; 16],
+        references: [Tally; 16],
         marked: bool,
     },
     Home,
@@ -26,23 +30,38 @@ pub(crate) struct Row {
 }
 
 impl Standing {
-    ghost use Rattle.std.specs.Prelude.{◌≡◌, ◌<◌, false, if◌then◌else◌};
+    ghost use Rattle.std.specs.Prelude.{◌≡◌, ◌<◌, false, IfOk, if◌then◌else◌};
     ghost use Rattle.seqpool.specs.Pool.{published, put};
     ghost use Rattle.seqpool.specs.Kept.{phase_of};
 
     /// How a place stands once its key is published by the lane.
-    pub(crate) fn published(content: Bytes, lane: u32, with_ref: bool) -> Standing
+    pub(crate) fn published(
+        alloc: Global,
+        content: Bytes,
+        lane: u32,
+        with_ref: bool,
+    ) -> Result<Standing, AllocError>
         requires { lane < 16 }
-        ensures { phase_of result ≡ published content (put (λ _. 0) lane (if with_ref then 1 else 0)) false }
+        ensures { IfOk result (λ standing. phase_of standing ≡ published content (put (λ _. 0) lane (if with_ref then 1 else 0)) false) }
     {
-        let mut references = [0; 16];
-        references[lane as usize] = u64::from(with_ref);
-        Standing::Published {
+        let mut references = no_references(alloc);
+        if with_ref {
+            references[lane as usize].add()?;
+        }
+        Ok(Standing::Published {
             content,
             references,
             marked: false,
-        }
+        })
     }
+}
+
+/// No references of any lane.
+fn no_references(alloc: Global) -> [Tally; 16]
+    ensures lanes { length result ≡ 16 }
+    ensures none { (lane : ℕ) → slice_index result lane ≡ 0 }
+{
+    array::from_fn(|_| Tally::new(alloc))
 }
 
 impl Row {
@@ -108,31 +127,32 @@ impl Row {
             ((lane : ℕ) → references_in (phase_of self.now.standing) lane ≡ 0) }
     {
         match &self.standing {
-            Standing::Published { references, .. } => references.iter().any(|count| *count != 0),
+            Standing::Published { references, .. } => references
+                .iter()
+                .any(|tally| tally.count() != 0),
             _ => false,
         }
     }
 
     /// How many references to the place's key the lane has.
-    pub(crate) fn references(&self, lane: u32) -> u64
+    pub(crate) fn references(&self, lane: u32) -> usize
         requires { lane < 16 }
         ensures { result ≡ references_in (phase_of self.now.standing) lane }
     {
         match &self.standing {
-            Standing::Published { references, .. } => references[lane as usize],
+            Standing::Published { references, .. } => references[lane as usize].count(),
             _ => 0,
         }
     }
 
     /// One reference more of the lane.
-    pub(crate) fn gain(&mut self, lane: u32) -> Result<(), Memory>
+    pub(crate) fn gain(&mut self, lane: u32) -> Result<(), AllocError>
         requires { lane < 16 }
         ensures ok { OnOk result (spot_of self.new ≡ spot self.old.generation (gained lane (phase_of self.old.standing))) }
         ensures err { OnErr result (self.new ≡ self.old) }
     {
         if let Standing::Published { references, .. } = &mut self.standing {
-            let count = references[lane as usize];
-            references[lane as usize] = count.checked_add(1).ok_or(Memory)?;
+            references[lane as usize].add()?;
         }
         Ok(())
     }
@@ -144,7 +164,7 @@ impl Row {
         ensures { spot_of self.new ≡ spot self.old.generation (lost lane (phase_of self.old.standing)) }
     {
         if let Standing::Published { references, .. } = &mut self.standing {
-            references[lane as usize] -= 1;
+            references[lane as usize].remove();
         }
     }
 

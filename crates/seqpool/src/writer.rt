@@ -1,10 +1,12 @@
-ghost use Rattle.std.specs.Prelude.{◌≡◌, ◌++◌, ◌==◌, ◌<◌, ℕ, List, [], ◌∷◌, encode_utf8, true, false, not, OnOk, OnErr, string_bytes};
+ghost use Rattle.std.specs.Prelude.{◌≡◌, ◌++◌, ◌==◌, ℕ, List, true, false, not, OnOk, OnErr, string_bytes};
 ghost use Rattle.seqpool.specs.declared.act.Act.{Act};
-ghost use Rattle.seqpool.specs.Texts.{hex_digit, content_text, places_text, numbers_text, shape_text, act_text, IsWritten, IsTextOf};
+ghost use Rattle.seqpool.specs.declared.act.Act.TheVariants as acts;
+ghost use Rattle.seqpool.specs.Texts.{content_text, places_text, numbers_text, shape_text, act_text, IsWritten, IsTextOf};
 
 use crate::act::Act;
-use crate::contents::Places;
+use crate::contents::{Bytes, Places};
 use crate::fault::Memory;
+use crate::hex::hex_pair;
 use keybits::Shape;
 use std::alloc::{AllocError, Global};
 
@@ -72,19 +74,11 @@ fn write_content(text: &mut String, content: &[u8]) -> Result<(), AllocError>
         return text.push_str("-");
     }
     for byte in content {
-        text.push(hex_digit(*byte / 16))?;
-        text.push(hex_digit(*byte % 16))?;
+        let [high, low] = hex_pair(*byte);
+        text.push(high as char)?;
+        text.push(low as char)?;
     }
     Ok(())
-}
-
-fn hex_digit(digit: u8) -> char
-    requires { digit < 16 }
-    ensures value { result ≡ hex_digit digit }
-    ensures ascii { encode_utf8 result ≡ hex_digit digit ∷ [] }
-{
-    let code = if digit < 10 { b'0' + digit } else { 87 + digit };
-    code as char
 }
 
 fn write_places(text: &mut String, places: &[u32]) -> Result<(), AllocError>
@@ -97,6 +91,56 @@ fn write_places(text: &mut String, places: &[u32]) -> Result<(), AllocError>
     Ok(())
 }
 
+fn write_publish(
+    text: &mut String,
+    lane: u32,
+    key: u64,
+    content: &Bytes,
+    with_ref: bool,
+) -> Result<(), AllocError>
+    ensures { OnOk result (string_bytes text.new ≡ string_bytes text.old ++ act_text (acts.Publish lane key content.now with_ref)) }
+{
+    write!(text, "{lane} publish {key} ")?;
+    write_content(text, content.as_slice())?;
+    write!(text, " {}\n", u8::from(with_ref))
+}
+
+fn write_get(
+    text: &mut String,
+    lane: u32,
+    key: u64,
+    reply: &Option<Bytes>,
+) -> Result<(), AllocError>
+    ensures { OnOk result (string_bytes text.new ≡ string_bytes text.old ++ act_text (acts.Get lane key reply.now)) }
+{
+    match reply {
+        Some(content) => {
+            write!(text, "{lane} get {key} some ")?;
+            write_content(text, content.as_slice())?;
+            text.push_str("\n")
+        }
+        None => write!(text, "{lane} get {key} none\n"),
+    }
+}
+
+fn write_clear(text: &mut String, lane: u32, key: u64, reply: bool) -> Result<(), AllocError>
+    ensures { OnOk result (string_bytes text.new ≡ string_bytes text.old ++ act_text (acts.Clear lane key reply)) }
+{
+    if reply {
+        write!(text, "{lane} clear {key} true\n")
+    } else {
+        write!(text, "{lane} clear {key} false\n")
+    }
+}
+
+fn write_collect(text: &mut String, lane: u32, places: &Places) -> Result<(), AllocError>
+    ensures { OnOk result (string_bytes text.new ≡ string_bytes text.old ++ act_text (acts.Collect lane places.now)) }
+{
+    write!(text, "{lane} collect ")?;
+    write_places(text, places.as_slice())?;
+    text.push_str("\n")
+}
+
 fn write_line(text: &mut String, act: &Act) -> Result<(), AllocError>
     ensures { OnOk result (string_bytes text.new ≡ string_bytes text.old ++ act_text act.now) }
 {
@@ -106,43 +150,13 @@ fn write_line(text: &mut String, act: &Act) -> Result<(), AllocError>
             key,
             content,
             with_ref,
-        } => {
-            write!(text, "{lane} publish {key} ")?;
-            write_content(text, content.as_slice())?;
-            write!(text, " {}\n", u8::from(*with_ref))
-        }
-        Act::Get {
-            lane,
-            key,
-            reply: Some(content),
-        } => {
-            write!(text, "{lane} get {key} some ")?;
-            write_content(text, content.as_slice())?;
-            text.push_str("\n")
-        }
-        Act::Get {
-            lane,
-            key,
-            reply: None,
-        } => write!(text, "{lane} get {key} none\n"),
+        } => write_publish(text, *lane, *key, content, *with_ref),
+        Act::Get { lane, key, reply } => write_get(text, *lane, *key, reply),
         Act::Release { lane, key } => write!(text, "{lane} release {key}\n"),
-        Act::Clear {
-            lane,
-            key,
-            reply: true,
-        } => write!(text, "{lane} clear {key} true\n"),
-        Act::Clear {
-            lane,
-            key,
-            reply: false,
-        } => write!(text, "{lane} clear {key} false\n"),
+        Act::Clear { lane, key, reply } => write_clear(text, *lane, *key, *reply),
         Act::Reclaim { lane, key } => write!(text, "{lane} reclaim {key}\n"),
         Act::Home { lane, place } => write!(text, "{lane} home {place}\n"),
-        Act::Collect { lane, places } => {
-            write!(text, "{lane} collect ")?;
-            write_places(text, places.as_slice())?;
-            text.push_str("\n")
-        }
+        Act::Collect { lane, places } => write_collect(text, *lane, places),
     }
 }
 

@@ -1,0 +1,4 @@
+pub mod Shards
+pub mod Queues
+pub mod Homes
+pub mod Laws

@@ -1,0 +1,17 @@
+//! The free places of a shard of an object pool: its pages, the local list of its owner, and the stacks by which other
+//! lanes return places to it.
+#![tactic(auto)]
+
+mod laws;
+mod local;
+mod pages;
+mod returns;
+mod shard;
+
+pub use laws::{home_law, push_law, take_law, unchanged_law};
+pub use local::LocalFree;
+pub use pages::Pages;
+pub use returns::Returns;
+
+#[cfg(test)]
+mod tests;

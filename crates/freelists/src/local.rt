@@ -1,0 +1,176 @@
+use crate::shard::{Shard, place_of_word};
+use keybits::{Place, link_to};
+use std::alloc::Global;
+use std::marker::Model;
+
+/// The free places of a lane: its own list, first in first out, and beside it the first place of the chain that it took
+/// from its stacks.
+///
+/// The own list goes through one link number for each place of the shard, so that nothing but `new` takes memory. The
+/// order and the chain are this project's profile.
+#[derive(Debug, Drop)]
+pub struct LocalFree {
+    shard: Shard,
+    // The link to the place after each place of the list, at the place's index; 0 at the last place.
+    links: Vec<u64>,
+    // The link to the first place of the list, or 0.
+    first: u64,
+    // The last place of the list, where it has one.
+    last: Place,
+    // How many places the list has.
+    count: u32,
+    // The first place of the taken chain, where one hangs.
+    chain: Option<Place>,
+}
+
+impl Model for LocalFree {
+    ghost use Rattle.std.specs.Prelude.{◌≡◌, List, length};
+    ghost use Rattle.keybits.specs.declared.place.Place.{Place};
+    ghost use Rattle.keybits.specs.Shapes.{shard_places};
+    ghost use Rattle.freelists.specs.Shards.{IsShardOf};
+    ghost use Rattle.freelists.specs.Queues.{FreePlaces, IsQueue, link_in, led_through};
+
+    ghost Value = { FreePlaces };
+
+    ghost view = { λ f. record {
+      shard = f.shard.number;
+      shape = f.shard.shape;
+      own = led_through (link_in f.shard.shape f.links.items) f.shard.number f.first f.count;
+      chain = f.chain;
+    } };
+
+    ghost invariant = { λ f. IsShardOf f.shard.number f.shard.shape
+        × (length f.links.items ≡ shard_places f.shard.shape)
+        × ((own : List Place) × (length own ≡ f.count)
+        × IsQueue f.shard.number f.shard.shape f.links.items f.first f.last own) };
+}
+
+impl LocalFree {
+    ghost use Rattle.std.specs.Prelude.{◌≡◌, ◌<◌, ◌≤◌, ◌↔◌, List, [], ◌∷◌, ◌++◌, length, Contains, Some, None, IsSome, IfSome, option_to_list};
+    ghost use Rattle.keybits.specs.declared.place.Place.{Place};
+    ghost use Rattle.keybits.specs.Places.{number_of};
+    ghost use Rattle.keybits.specs.Shapes.{IsShape, shard_places};
+    ghost use Rattle.keybits.specs.Links.{link_to};
+    ghost use Rattle.freelists.specs.Shards.{shape_of, IsOwn};
+    ghost use Rattle.freelists.specs.Queues.{AreOwn, GoesOnBy};
+
+    /// No free places of a shard from 0 to 15 and no chain, with room for all its places. The first page has 1, 2, 4, 8,
+    /// 16, 32 or 64 places, and there are 1 to 6 pages. None where memory was refused.
+    pub fn new(alloc: Global, shard: u8, first_page: u32, pages: u32) -> Option<LocalFree>
+        requires shard { shard < 16 }
+        requires shape { IsShape (shape_of first_page pages) }
+        ensures { IfSome result (λ free. free ≡ record {
+          shard = shard;
+          shape = shape_of first_page pages;
+          own = [];
+          chain = None;
+        }) }
+    {
+        let shard = Shard::new(shard, first_page, pages);
+        let places = shard.shape.shard_places() as usize;
+        let links = vec![in alloc; 0; places].ok()?;
+        Some(LocalFree {
+            shard,
+            links,
+            first: 0,
+            last: Place {
+                shard: 0,
+                page: 0,
+                slot: 0,
+            },
+            count: 0,
+            chain: None,
+        })
+    }
+
+    /// Puts an own place that isn't on the own list at its end.
+    #[inline]
+    pub fn push(&mut self, place: Place)
+        requires own { IsOwn self.old.shard self.old.shape place }
+        requires absent { ¬ Contains self.old.own place }
+        ensures pushed { self.new ≡ record self.old { own = self.old.own ++ place ∷ [] } }
+        ensures places { AreOwn self.new.shard self.new.shape self.new.own }
+    {
+        let index = self.shard.index(place);
+        let link = link_to(place.number());
+        self.links[index] = 0;
+        if self.count == 0 {
+            self.first = link;
+        } else {
+            let last = self.shard.index(self.last);
+            self.links[last] = link;
+        }
+        self.last = place;
+        self.count += 1;
+    }
+
+    /// Takes the place off the own list that was pushed first, and answers it. None where the list is empty, which
+    /// changes nothing.
+    #[inline]
+    pub fn pop(&mut self) -> Option<Place>
+        ensures some { IsSome result ↔ (0 < length self.old.own) }
+        ensures first { self.old.own ≡ option_to_list result ++ self.new.own }
+        ensures rest { self.new ≡ record self.old { own = self.new.own } }
+        ensures own { IfSome result (IsOwn self.old.shard self.old.shape) }
+        ensures places { AreOwn self.new.shard self.new.shape self.new.own }
+    {
+        if self.count == 0 {
+            return None;
+        }
+        let place = place_of_word(self.shard.number, self.first);
+        self.first = self.links[self.shard.index(place)];
+        self.count -= 1;
+        Some(place)
+    }
+
+    /// How many places the own list has. Those of a chain don't count.
+    #[inline]
+    pub fn len(&self) -> usize
+        ensures len { result ≡ length self.now.own }
+        ensures within { result ≤ shard_places self.now.shape }
+        ensures places { AreOwn self.now.shard self.now.shape self.now.own }
+    {
+        self.count as usize
+    }
+
+    /// Hangs up a taken chain by its first place. No chain hangs yet, and the place isn't on the own list.
+    #[inline]
+    pub fn hang(&mut self, place: Place)
+        requires free { self.old.chain ≡ None }
+        requires absent { ¬ Contains self.old.own place }
+        ensures { self.new ≡ record self.old { chain = Some place } }
+    {
+        self.chain = Some(place);
+    }
+
+    /// The first place of the taken chain, where one hangs.
+    #[inline]
+    pub fn chain(&self) -> Option<Place>
+        ensures { result ≡ self.now.chain }
+    {
+        self.chain
+    }
+
+    /// Takes the first place off the chain that hangs, and answers it. `link` is the link word of that place: the chain
+    /// goes on at the place that it stands for, or ends where it is 0.
+    ///
+    /// The link is 0, or stands for a place of the shard that is neither the chain's first place nor on the own list.
+    #[inline]
+    pub fn follow(&mut self, link: u64) -> Place
+        requires chain { IsSome self.old.chain }
+        requires link { GoesOnBy self.old link }
+        ensures first { self.old.chain ≡ Some result }
+        ensures ends { link ≡ 0 → self.new.chain ≡ None }
+        ensures goes_on { (next : Place) → IsOwn self.old.shard self.old.shape next
+            → link ≡ link_to (number_of next) → self.new.chain ≡ Some next }
+        ensures rest { self.new ≡ record self.old { chain = self.new.chain } }
+    {
+        let place = self.chain.unwrap();
+        self.chain = if link == 0 {
+            None
+        } else {
+            Some(place_of_word(self.shard.number, link))
+        };
+        place
+    }
+}
