@@ -52,66 +52,47 @@ impl Act {
     pub fn copy(&self, alloc: Global) -> Result<Act, AllocError>
         ensures { IfOk result (λ copy. copy ≡ self.now) }
     {
-        match self {
+        match *self {
             Act::Publish {
                 lane,
                 key,
-                content,
+                ref content,
                 with_ref,
             } => {
                 let content = content.copy(alloc)?;
                 Ok(Act::Publish {
-                    lane: *lane,
-                    key: *key,
+                    lane,
+                    key,
                     content,
-                    with_ref: *with_ref,
+                    with_ref,
                 })
             }
             Act::Get {
                 lane,
                 key,
-                reply: Some(content),
+                ref reply,
             } => {
-                let content = content.copy(alloc)?;
-                Ok(Act::Get {
-                    lane: *lane,
-                    key: *key,
-                    reply: Some(content),
-                })
+                let reply = copy_reply(reply, alloc)?;
+                Ok(Act::Get { lane, key, reply })
             }
-            Act::Get {
-                lane,
-                key,
-                reply: None,
-            } => Ok(Act::Get {
-                lane: *lane,
-                key: *key,
-                reply: None,
-            }),
-            Act::Release { lane, key } => Ok(Act::Release {
-                lane: *lane,
-                key: *key,
-            }),
-            Act::Clear { lane, key, reply } => Ok(Act::Clear {
-                lane: *lane,
-                key: *key,
-                reply: *reply,
-            }),
-            Act::Reclaim { lane, key } => Ok(Act::Reclaim {
-                lane: *lane,
-                key: *key,
-            }),
-            Act::Home { lane, place } => Ok(Act::Home {
-                lane: *lane,
-                place: *place,
-            }),
-            Act::Collect { lane, places } => {
+            Act::Release { lane, key } => Ok(Act::Release { lane, key }),
+            Act::Clear { lane, key, reply } => Ok(Act::Clear { lane, key, reply }),
+            Act::Reclaim { lane, key } => Ok(Act::Reclaim { lane, key }),
+            Act::Home { lane, place } => Ok(Act::Home { lane, place }),
+            Act::Collect { lane, ref places } => {
                 let places = places.copy(alloc)?;
-                Ok(Act::Collect {
-                    lane: *lane,
-                    places,
-                })
+                Ok(Act::Collect { lane, places })
             }
         }
+    }
+}
+
+/// The same reply of a get once more.
+fn copy_reply(reply: &Option<Bytes>, alloc: Global) -> Result<Option<Bytes>, AllocError>
+    ensures { IfOk result (λ copy. copy ≡ reply.now) }
+{
+    match reply {
+        Some(content) => Ok(Some(content.copy(alloc)?)),
+        None => Ok(None),
     }
 }
