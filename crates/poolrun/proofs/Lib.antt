@@ -4,3 +4,5 @@ pub mod Sequences
 pub mod Hexes
 pub mod Schedules
 pub mod Writing
+pub mod Tasks
+pub mod Refusing

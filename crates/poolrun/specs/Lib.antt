@@ -4,6 +4,7 @@ pub mod ScriptFiles
 pub mod Readings
 pub mod Replays
 pub mod RunFaults
+pub mod Checks
 pub mod Watching
 pub mod Schedules
 pub mod CommandLines

@@ -37,6 +37,7 @@ abbrev pub list_of : Items → List Data
 list_of no_items = []
 list_of (item d more) = d ∷ list_of more
 
+-- the items of a value that is an array
 abbrev pub items_of : Data → Option (List Data)
 items_of d = option_map list_of (as_array d)
 
@@ -53,6 +54,7 @@ each_of read (d ∷ more) = read d >>= (λ x. option_map (λ xs. x ∷ xs) (each
 abbrev pub register_at : ℕ → Option Register
 register_at n = dite (dec_lt n 16) (λ small. Some (record { number = n; small = small })) (λ _. None)
 
+-- the register of a value that is its number
 abbrev pub register_of : Data → Option Register
 register_of d = whole_of d >>= register_at
 
@@ -90,9 +92,11 @@ abbrev pub both_of : List Data → Option (Data × Data)
 both_of (d ∷ e ∷ []) = Some (d, e)
 both_of operands = None
 
+-- a `write` with these operands
 abbrev pub write_of : Data × Data → Option Command
 write_of operands = register_of operands.0 >>= (λ register. option_map (commands.Write register) (content_of operands.1))
 
+-- a `get` with these operands
 abbrev pub get_of : Data × Data → Option Command
 get_of operands = register_of operands.0 >>= (λ register. option_map (commands.Get register) (key_of operands.1))
 
@@ -112,12 +116,15 @@ abbrev pub line_of : List Data → Option Command
 line_of [] = None
 line_of (name ∷ operands) = as_str name >>= command_name_of >>= (λ n. command_with n operands)
 
+-- the command of a value that is a line
 abbrev pub command_of : Data → Option Command
 command_of d = items_of d >>= line_of
 
+-- the script of a value that is an array of lines
 abbrev pub script_of : Data → Option (List Command)
 script_of d = items_of d >>= each_of command_of
 
+-- the scripts of a value that is an array of scripts
 abbrev pub scripts_of : Data → Option (List (List Command))
 scripts_of d = items_of d >>= each_of script_of
 
@@ -129,6 +136,7 @@ number_at name d = get name d >>= whole_of >>= at_most 4294967295
 abbrev pub tag_of : Data → Option ℕ
 tag_of d = if has_fields 4 d then Some 0 else (if has_fields 5 d then number_at (codes "tag") d else None)
 
+-- the shape of an object with its fields
 abbrev pub shape_of : Data → Option Shape
 shape_of d = do
   lanes ← number_at (codes "lanes") d
@@ -138,13 +146,14 @@ shape_of d = do
   tag ← tag_of d
   Some (record { lanes = lanes; first_page = first_page; pages = pages; last_generation = last_generation; tag = tag })
 
--- exactly the two fields
+-- the plan of the two fields
 abbrev pub fields_of : Data → Option Plan
 fields_of d = do
   shape ← get (codes "shape") d >>= shape_of
   scripts ← get (codes "scripts") d >>= scripts_of
   Some (record { shape = shape; scripts = scripts })
 
+-- the plan of an object with exactly the two fields
 abbrev pub plan_of : Data → Option Plan
 plan_of d = if has_fields 2 d then fields_of d else None
 

@@ -1,11 +1,14 @@
-//! The program: it replays a script file over a schedule and prints the trace.
+//! The program: it replays a script file over a schedule and prints the trace, or checks that acts are
+//! a legal history.
 #![tactic(auto)]
 
+mod check;
 mod command_name;
 mod commands;
 mod hex;
 mod load;
 mod operands;
+mod output;
 mod plan;
 mod read_fault;
 mod reading;
@@ -16,6 +19,7 @@ mod task;
 mod watched;
 mod words;
 
+use crate::check::check_text;
 use crate::load::load;
 use crate::replay::replay_text;
 use crate::run_fault::RunFault;
@@ -28,8 +32,8 @@ use std::alloc::AllocError;
 use std::process::ExitCode;
 use std::{env, io};
 
-/// Does a task, with its output on standard output.
-fn work(rt: &HostRuntime, task: Task) -> Result<(), RunFault> {
+/// Does a task, with its output on standard output. The answer is false where acts were found illegal.
+fn work(rt: &HostRuntime, task: Task) -> Result<bool, RunFault> {
     match task {
         Task::Replay { file, schedule } => {
             let file = load(rt, file.as_str())?;
@@ -40,7 +44,13 @@ fn work(rt: &HostRuntime, task: Task) -> Result<(), RunFault> {
                 schedule.as_slice(),
                 false,
                 &mut out,
-            )
+            )?;
+            Ok(true)
+        }
+        Task::Check { file } => {
+            let acts = load(rt, file.as_str())?;
+            let mut out = Watched::new(rt.stdout());
+            check_text(rt.alloc(), acts.as_slice(), &mut out)
         }
     }
 }
@@ -100,7 +110,8 @@ fn read_task(rt: &HostRuntime) -> Result<Task, TaskFault> {
 fn main(rt: HostRuntime) -> ExitCode {
     match read_task(&rt) {
         Ok(task) => match work(&rt, task) {
-            Ok(()) => ExitCode::SUCCESS,
+            Ok(true) => ExitCode::SUCCESS,
+            Ok(false) => ExitCode::FAILURE,
             Err(fault) => report(&rt, &fault),
         },
         Err(fault) => report_words(&rt, fault),

@@ -1,7 +1,7 @@
-ghost use Rattle.std.specs.Prelude.{◌≡◌, ◌≢◌, ◌↔◌, true, false, IsTrue, IfOk, IfErr, OnOk, IsErrOf};
-ghost use Rattle.std.specs.Io.KnownBytes.{Appends};
+ghost use Rattle.std.specs.Prelude.{◌≡◌, ◌≢◌, ◌↔◌, true, false, IfOk, IfErr, OnOk, IsErrOf};
 ghost use Rattle.poolrun.specs.Replays.{IsReplay, WritesReplay};
 
+use crate::output::write_and_flush;
 use crate::plan::Plan;
 use crate::reading::parse;
 use crate::run_fault::RunFault;
@@ -24,24 +24,6 @@ fn replayed(alloc: Global, file: &[u8], schedule: &[u32]) -> Result<Vec<u8>, Run
     Ok(text)
 }
 
-/// Writes a text, up to the first write that fails.
-fn write_text<W: Write>(text: &[u8], out: &mut Watched<W>)
-    requires { out.old.failed ≡ false }
-    ensures { out.new.failed ≡ false
-        → Appends (W.contents out.old.inner) (W.contents out.new.inner) text.now }
-{
-    let mut rest = text;
-    while !rest.is_empty() {
-        let Ok(taken) = out.write(rest) else {
-            return;
-        };
-        if taken == 0 {
-            return;
-        }
-        rest = &rest[taken..];
-    }
-}
-
 /// Replays a script file over a schedule, whose entries are numbers of lanes, and writes the text of
 /// the trace. The errors: those of `parse`, and `Core` and `Memory` where memory was refused, come
 /// before the first byte; `Output` comes exactly where `out` failed, and then it isn't said how much
@@ -62,10 +44,5 @@ pub fn replay_text<W: Write>(
 {
     let _ = acts;
     let text = replayed(alloc, file, schedule)?;
-    write_text(text.as_slice(), out);
-    let _ = out.flush();
-    if out.failed() {
-        return Err(RunFault::Output);
-    }
-    Ok(())
+    write_and_flush(text.as_slice(), out)
 }

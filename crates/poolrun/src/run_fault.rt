@@ -1,5 +1,12 @@
+ghost use Rattle.std.specs.Prelude.{◌≡◌};
+ghost use Rattle.poolrun.specs.RunFaults.{shape_fault_name, acts_fault_name};
+ghost use Rattle.poolrun.specs.declared.run_fault.RunFault.TheVariants as runs;
+
 use crate::read_fault::ReadFault;
 use coresteps::CoreFault;
+use keybits::ShapeFault;
+use seqpool::ActsFault;
+use std::alloc::AllocError;
 use thiserror::Error;
 
 /// Why the program could not do what it was told.
@@ -8,6 +15,10 @@ pub enum RunFault {
     /// The script file is no plan that can be replayed (31, 32, 36).
     #[error(transparent)]
     Read(ReadFault),
+    /// The text of acts stands for none: a line is wrong (19), the shape is refused (1, 2, 3, 4, 6) or
+    /// memory was refused (18).
+    #[error(transparent)]
+    Acts(ActsFault),
     /// The core was refused memory (25).
     #[error(transparent)]
     Core(CoreFault),
@@ -22,6 +33,30 @@ pub enum RunFault {
     Memory,
 }
 
+/// The name of a shape's fault.
+fn shape_fault_name(fault: &ShapeFault) -> &'static str
+    ensures { result.now ≡ shape_fault_name fault.now }
+{
+    match fault {
+        ShapeFault::Lanes => "Lanes",
+        ShapeFault::FirstPage => "FirstPage",
+        ShapeFault::Pages => "Pages",
+        ShapeFault::Generation => "Generation",
+        ShapeFault::Tag => "Tag",
+    }
+}
+
+/// The name of a fault of a text of acts.
+fn acts_fault_name(fault: &ActsFault) -> &'static str
+    ensures { result.now ≡ acts_fault_name fault.now }
+{
+    match fault {
+        ActsFault::ActsLine => "ActsLine",
+        ActsFault::Shape(fault) => shape_fault_name(fault),
+        ActsFault::Memory => "Memory",
+    }
+}
+
 impl RunFault {
     ghost use Rattle.std.specs.Prelude.{◌≡◌};
     ghost use Rattle.poolrun.specs.RunFaults.{run_fault_number, run_fault_name};
@@ -32,6 +67,7 @@ impl RunFault {
     {
         match self {
             RunFault::Read(fault) => fault.number(),
+            RunFault::Acts(fault) => fault.number(),
             RunFault::Core(_) => 25,
             RunFault::File => 41,
             RunFault::Output => 42,
@@ -45,10 +81,19 @@ impl RunFault {
     {
         match self {
             RunFault::Read(fault) => fault.name(),
+            RunFault::Acts(fault) => acts_fault_name(fault),
             RunFault::Core(_) => "Memory",
             RunFault::File => "File",
             RunFault::Output => "Output",
             RunFault::Memory => "Memory",
         }
+    }
+}
+
+impl From<AllocError> for RunFault {
+    ghost from_gives = { λ _ fault. fault ≡ runs.Memory };
+
+    fn from(_refused: AllocError) -> RunFault {
+        RunFault::Memory
     }
 }

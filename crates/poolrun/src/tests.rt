@@ -3,6 +3,8 @@ use crate::read_fault::ReadFault;
 use crate::reading::parse;
 use crate::schedule::read_schedule;
 use coresteps::CoreFault;
+use keybits::ShapeFault;
+use seqpool::ActsFault;
 use std::alloc::Global;
 use std::io::Write;
 use std::test::Fail;
@@ -70,6 +72,97 @@ const REFUSED: [&str; 18] = [
     "{\"shape\":{\"lanes\":1,\"first_page\":2,\"pages\":1,\"last_generation\":1},\"scripts\":[[[\"get\",0,-1]]]}",
 ];
 
+// Texts of acts, and the answers and the lines that their checks give.
+const CHECKS: [(&str, bool, &str); 14] = [
+    (
+        "shape 1 2 1 4294967295\n0 publish 16777216 6869 0\n0 get 16777216 some 6869\n0 release 16777216\n0 clear 16777216 true\n0 reclaim 16777216\n",
+        true,
+        "legal acts 5 published 1 reclaimed 1 present 0 marked 0 home 0 retired 0\n",
+    ),
+    (
+        "shape 2 1 1 4294967295\n0 publish 16777216 - 1\n0 clear 16777216 true\n0 release 16777216\n1 get 16777216 none\n1 reclaim 16777216\n1 home 0\n",
+        true,
+        "legal acts 6 published 1 reclaimed 1 present 0 marked 0 home 1 retired 0\n",
+    ),
+    (
+        "shape 2 1 1 4294967295\n1 publish 16777216 - 0\n",
+        false,
+        "illegal 0 11 NotWithLane\n",
+    ),
+    (
+        "shape 2 1 1 4294967295\n2 clear 16777216 false\n",
+        false,
+        "illegal 0 11 NotWithLane\n",
+    ),
+    (
+        "shape 2 1 1 4294967295\n0 publish 33554432 - 0\n",
+        false,
+        "illegal 0 12 WrongGeneration\n",
+    ),
+    (
+        "shape 2 1 1 4294967295\n0 publish 16777216 - 0\n1 release 16777216\n",
+        false,
+        "illegal 1 14 NotHeld\n",
+    ),
+    (
+        "shape 2 1 1 4294967295\n0 publish 16777216 - 1\n1 clear 16777216 true\n1 reclaim 16777216\n",
+        false,
+        "illegal 2 15 StillHeld\n",
+    ),
+    (
+        "shape 2 1 1 4294967295\n0 publish 16777216 - 0\n0 reclaim 16777216\n",
+        false,
+        "illegal 1 16 NotMarked\n",
+    ),
+    (
+        "shape 2 1 1 4294967295\n0 collect 0\n",
+        false,
+        "illegal 0 17 NotHome\n",
+    ),
+    (
+        "shape 2 1 1 4294967295\n",
+        true,
+        "legal acts 0 published 0 reclaimed 0 present 0 marked 0 home 0 retired 0\n",
+    ),
+    (
+        "shape 2 1 1 4294967295",
+        true,
+        "legal acts 0 published 0 reclaimed 0 present 0 marked 0 home 0 retired 0\n",
+    ),
+    (
+        "shape 1 2 1 4294967295\n0 publish 16777216 6869 0\n0 get 16777216 none\n",
+        false,
+        "illegal 1 13 WrongReply\n",
+    ),
+    (
+        "shape 1 1 1 4294967295 5\n0 publish 16777216 - 0\n",
+        false,
+        "illegal 0 11 NotWithLane\n",
+    ),
+    (
+        "shape 1 1 1 4294967295 5\n0 publish 360287970206416896 - 0\n0 get 360287970206416896 some -\n",
+        true,
+        "legal acts 2 published 1 reclaimed 0 present 1 marked 0 home 0 retired 0\n",
+    ),
+];
+
+// Texts that stand for no acts, and the faults of their checks.
+const NO_ACTS: [(&str, u32, &str); 9] = [
+    ("", 19, "ActsLine"),
+    ("\n", 19, "ActsLine"),
+    ("shape 2 1 1 4294967295\n0 collect \n", 19, "ActsLine"),
+    (
+        "shape 2 1 1 4294967295\n0 publish 16777216 - 2\n",
+        19,
+        "ActsLine",
+    ),
+    ("shape 17 1 1 4294967295\n", 1, "Lanes"),
+    ("shape 2 3 1 4294967295\n", 2, "FirstPage"),
+    ("shape 2 1 7 4294967295\n", 3, "Pages"),
+    ("shape 2 1 1 0\n", 4, "Generation"),
+    ("shape 1 1 1 4294967295 256\n", 6, "Tag"),
+];
+
 // Takes so many bytes, and then fails.
 #[derive(Drop)]
 struct Halting {
@@ -102,6 +195,20 @@ impl Write for Deaf {
 
     fn flush(&mut self) -> io::Result<()> {
         Ok(())
+    }
+}
+
+// Takes all bytes, and can't be flushed.
+#[derive(Drop)]
+struct Clogged;
+
+impl Write for Clogged {
+    fn write(&mut self, buf: &[u8]) -> io::Result<usize> {
+        Ok(buf.len())
+    }
+
+    fn flush(&mut self) -> io::Result<()> {
+        Err(io::Error::from(io::ErrorKind::Other))
     }
 }
 
@@ -139,6 +246,54 @@ fn fails_with_its_writer(rt: HostRuntime) {
 }
 
 #[test]
+fn checks(rt: HostRuntime) -> Result<(), Fail> {
+    for (acts, legal, line) in CHECKS {
+        let mut out = Watched::new(Vec::new(rt.alloc()));
+        assert_eq!(rt;
+            check_text(rt.alloc(), acts.as_bytes(), &mut out)?,
+            legal,
+            "{acts}"
+        );
+        assert!(rt; !out.failed());
+        let text = out.into_inner();
+        assert_eq!(rt; text.as_slice(), line.as_bytes());
+    }
+    Ok(())
+}
+
+#[test]
+fn refuses_acts(rt: HostRuntime) {
+    for (acts, number, name) in NO_ACTS {
+        let mut out = Watched::new(Vec::new(rt.alloc()));
+        let fault = check_text(rt.alloc(), acts.as_bytes(), &mut out);
+        assert!(rt;
+            fault.is_err_and(|fault| fault.number() == number && fault.name() == name),
+            "{acts}"
+        );
+        assert!(rt; !out.failed());
+        assert!(rt; out.into_inner().is_empty());
+    }
+}
+
+#[test]
+fn check_fails_with_its_writer(rt: HostRuntime) {
+    for (acts, _, _) in CHECKS {
+        let mut out = Watched::new(Halting { room: 10 });
+        let fault = check_text(rt.alloc(), acts.as_bytes(), &mut out);
+        assert!(rt; fault.is_err_and(|fault| fault.number() == 42));
+        assert!(rt; out.failed());
+    }
+    let mut out = Watched::new(Deaf);
+    let fault = check_text(rt.alloc(), b"shape 1 1 1 1\n", &mut out);
+    assert!(rt; fault.is_err_and(|fault| fault.number() == 42));
+    assert!(rt; out.failed());
+    let mut out = Watched::new(Clogged);
+    let fault = check_text(rt.alloc(), b"shape 1 1 1 1\n", &mut out);
+    assert!(rt; fault.is_err_and(|fault| fault.number() == 42));
+    assert!(rt; out.failed());
+}
+
+#[test]
 fn watches(rt: HostRuntime) {
     let mut out = Watched::new(Halting { room: 3 });
     assert!(rt; out.write(b"ab").is_ok() && !out.failed());
@@ -147,6 +302,9 @@ fn watches(rt: HostRuntime) {
     let mut out = Watched::new(Deaf);
     assert!(rt; out.write(b"").is_ok() && !out.failed());
     assert!(rt; out.write(b"a").is_ok() && out.failed());
+    let mut out = Watched::new(Clogged);
+    assert!(rt; out.write(b"a").is_ok() && !out.failed());
+    assert!(rt; out.flush().is_err() && out.failed());
 }
 
 #[test]
@@ -188,6 +346,9 @@ fn names_faults(rt: HostRuntime) {
         (RunFault::Read(ReadFault::NotJson), 31, "NotJson"),
         (RunFault::Read(ReadFault::Field), 32, "Field"),
         (RunFault::Read(ReadFault::Memory), 36, "Memory"),
+        (RunFault::Acts(ActsFault::ActsLine), 19, "ActsLine"),
+        (RunFault::Acts(ActsFault::Shape(ShapeFault::Tag)), 6, "Tag"),
+        (RunFault::Acts(ActsFault::Memory), 18, "Memory"),
         (RunFault::Core(CoreFault::Memory), 25, "Memory"),
         (RunFault::File, 41, "File"),
         (RunFault::Output, 42, "Output"),
@@ -239,13 +400,34 @@ fn status_of(alloc: Global, words: &[&str]) -> Option<u32> {
     }
 }
 
+// Whether it is a replay of this file over these lanes.
+fn is_replay(task: &Task, path: &str, lanes: &[u32]) -> bool {
+    match task {
+        Task::Replay { file, schedule } => file.as_str() == path && schedule.as_slice() == lanes,
+        Task::Check { file: _ } => false,
+    }
+}
+
+// Whether it is a check of this file.
+fn is_check(task: &Task, path: &str) -> bool {
+    match task {
+        Task::Replay {
+            file: _,
+            schedule: _,
+        } => false,
+        Task::Check { file } => file.as_str() == path,
+    }
+}
+
 #[test]
 fn reads_words(rt: HostRuntime) -> Result<(), Fail> {
     let words = ["poolrun", "replay", "a.json", "--schedule", "0,1"];
-    let Task::Replay { file, schedule } = task_of(rt.alloc(), &words)?;
-    assert!(rt; file.as_str() == "a.json");
-    assert_eq!(rt; schedule.as_slice(), [0, 1].as_slice());
-    let faults: [(&[&str], u32); 8] = [
+    let task = task_of(rt.alloc(), &words)?;
+    assert!(rt; is_replay(&task, "a.json", &[0, 1]));
+    let words = ["poolrun", "check", "a.acts"];
+    let task = task_of(rt.alloc(), &words)?;
+    assert!(rt; is_check(&task, "a.acts"));
+    let faults: [(&[&str], u32); 13] = [
         (&["poolrun"], 2),
         (&["poolrun", "play"], 2),
         (&["poolrun", "replay", "a.json"], 2),
@@ -255,7 +437,12 @@ fn reads_words(rt: HostRuntime) -> Result<(), Fail> {
             2,
         ),
         (&["poolrun", "replay", "a.json", "--schedule", "0,"], 3),
+        (&["poolrun", "check"], 2),
+        (&["poolrun", "check", "a.acts", "b.acts"], 2),
+        (&["poolrun", "check", "a.acts", "--schedule", "0"], 2),
+        (&["poolrun", "check", "--acts", "a.acts"], 2),
         (&["poolrun", "--help"], 0),
+        (&["poolrun", "check", "--help"], 0),
         (&["poolrun", "replay", "--help"], 0),
     ];
     for (words, status) in faults {

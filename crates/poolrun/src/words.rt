@@ -1,7 +1,8 @@
-ghost use Rattle.std.specs.Prelude.{◌≡◌, map, IfOk, false, string_bytes};
-ghost use Rattle.clap.specs.Words.{app_of, rule_of, subcommand_of, subcommand_rows_of};
+ghost use Rattle.std.specs.Prelude.{◌≡◌, map, codes, IfOk, IsErrOf, false, string_bytes};
+ghost use Rattle.clap.specs.Words.{app_of, found_of, rows_of, rule_of, subcommand_of, subcommand_rows_of};
 ghost use Rattle.clap.specs.declared.builder.command.Command.TheViews.{out-Command as fields_of};
-ghost use Rattle.poolrun.specs.CommandLines.{file_rule, schedule_rule, replay_line, command_line, AreWordsOf};
+ghost use Rattle.poolrun.specs.CommandLines.{file_rule, schedule_rule, replay_line, acts_rule, check_line, command_line, AreMatchesOf, AreMatchesOfNone, AreWordsOf, AreWordsOfNone};
+ghost use Rattle.poolrun.specs.declared.words.TaskFault.TheVariants as faults;
 
 use crate::schedule::read_schedule;
 use crate::task::Task;
@@ -14,13 +15,29 @@ use thiserror::Error;
 pub enum TaskFault {
     /// `clap` refused the words, or help was asked for.
     #[error(transparent)]
-    Clap(#[from] ClapError),
+    Clap(ClapError),
     /// A word is wrong that `clap` took.
     #[error("words")]
     Words,
     /// Memory was refused (43).
     #[error("out of memory")]
-    Memory(#[from(alloc)] AllocError),
+    Memory(AllocError),
+}
+
+impl From<ClapError> for TaskFault {
+    ghost from_gives = { λ error fault. fault ≡ faults.Clap error };
+
+    fn from(error: ClapError) -> TaskFault {
+        TaskFault::Clap(error)
+    }
+}
+
+impl From<AllocError> for TaskFault {
+    ghost from_gives = { λ refused fault. fault ≡ faults.Memory refused };
+
+    fn from(refused: AllocError) -> TaskFault {
+        TaskFault::Memory(refused)
+    }
 }
 
 /// The positional argument of `replay`.
@@ -57,15 +74,37 @@ fn replay_command<'a>(alloc: Global) -> Result<Command<'a>, AllocError>
     Ok(replay.about("Replays a script file and prints the trace"))
 }
 
+/// The positional argument of `check`.
+fn acts_argument<'a>(alloc: Global) -> Arg<'a>
+    ensures rule { rule_of result ≡ acts_rule }
+    ensures local { result.global ≡ false }
+{
+    Arg::new(alloc, "acts")
+        .value_name("ACTS")
+        .required(true)
+        .help("The file of acts")
+}
+
+/// The subcommand `check`.
+fn check_command<'a>(alloc: Global) -> Result<Command<'a>, AllocError>
+    ensures { IfOk result
+        (λ c. (app_of c ≡ check_line) × ((fields_of c).has_globals ≡ false)) }
+{
+    let acts = acts_argument(alloc);
+    let check = Command::new(alloc, "check").arg(acts)?;
+    Ok(check.about("Checks that acts are a legal history and prints its summary"))
+}
+
 /// The program's command line.
 fn program_command<'a>(alloc: Global) -> Result<Command<'a>, AllocError>
     ensures { IfOk result (λ c. app_of c ≡ command_line) }
 {
     let replay = replay_command(alloc)?;
+    let check = check_command(alloc)?;
     let program = Command::new(alloc, "poolrun")
         .about("A pool of objects that are cleared and used again in place")
         .subcommand_required(true);
-    program.subcommand(replay)
+    program.subcommand(replay)?.subcommand(check)
 }
 
 /// What `clap` reads in the words.
@@ -77,20 +116,16 @@ fn read_words<'a>(alloc: Global, words: &'a [String]) -> Result<ArgMatches<'a>, 
     command.try_get_matches_from(words)
 }
 
-/// Reads the command line, the program's name first. The errors: `Clap` where `clap` refuses the
-/// words or help was asked for, `Words` where a schedule's text is none, `Memory` where memory was
-/// refused.
-pub fn task(alloc: Global, words: &[String]) -> Result<Task, TaskFault>
-    ensures { IfOk result (AreWordsOf (map string_bytes words.now)) }
+/// The task of the matches of `replay`.
+fn replay_task(alloc: Global, matches: &ArgMatches) -> Result<Task, TaskFault>
+    ensures ok { IfOk result (AreMatchesOf (codes "replay") (rows_of (found_of matches.now))) }
+    ensures words { IsErrOf result TaskFault.Words
+        → AreMatchesOfNone (codes "replay") (rows_of (found_of matches.now)) }
 {
-    let matches = read_words(alloc, words)?;
-    let Some(replay) = matches.subcommand_matches("replay") else {
+    let Some(file) = matches.get_str("file") else {
         return Err(TaskFault::Words);
     };
-    let Some(file) = replay.get_str("file") else {
-        return Err(TaskFault::Words);
-    };
-    let Some(text) = replay.get_str("schedule") else {
+    let Some(text) = matches.get_str("schedule") else {
         return Err(TaskFault::Words);
     };
     let Some(schedule) = read_schedule(alloc, text.as_bytes())? else {
@@ -98,4 +133,34 @@ pub fn task(alloc: Global, words: &[String]) -> Result<Task, TaskFault>
     };
     let file = String::from_str(alloc, file)?;
     Ok(Task::Replay { file, schedule })
+}
+
+/// The task of the matches of `check`.
+fn check_task(alloc: Global, matches: &ArgMatches) -> Result<Task, TaskFault>
+    ensures ok { IfOk result (AreMatchesOf (codes "check") (rows_of (found_of matches.now))) }
+    ensures words { IsErrOf result TaskFault.Words
+        → AreMatchesOfNone (codes "check") (rows_of (found_of matches.now)) }
+{
+    let Some(acts) = matches.get_str("acts") else {
+        return Err(TaskFault::Words);
+    };
+    let file = String::from_str(alloc, acts)?;
+    Ok(Task::Check { file })
+}
+
+/// Reads the command line, the program's name first. The errors: `Clap` where `clap` refuses the
+/// words or help was asked for, `Words` where it takes them and they are still no task, as with a
+/// schedule's text that is none, `Memory` where memory was refused.
+pub fn task(alloc: Global, words: &[String]) -> Result<Task, TaskFault>
+    ensures ok { IfOk result (AreWordsOf (map string_bytes words.now)) }
+    ensures words { IsErrOf result TaskFault.Words → AreWordsOfNone (map string_bytes words.now) }
+{
+    let matches = read_words(alloc, words)?;
+    if let Some(replay) = matches.subcommand_matches("replay") {
+        return replay_task(alloc, replay);
+    }
+    if let Some(check) = matches.subcommand_matches("check") {
+        return check_task(alloc, check);
+    }
+    Err(TaskFault::Words)
 }

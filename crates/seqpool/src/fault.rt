@@ -87,14 +87,6 @@ impl From<AllocError> for ApplyFault {
     }
 }
 
-impl From<Memory> for ApplyFault {
-    ghost from_gives = { λ _ e. e ≡ faults.Memory };
-
-    fn from(_e: Memory) -> ApplyFault {
-        ApplyFault::Memory
-    }
-}
-
 impl fmt::Display for ApplyFault {
     fn fmt<W: fmt::Write>(&self, f: &mut fmt::Formatter<W>) -> fmt::Result {
         match self {

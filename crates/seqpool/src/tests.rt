@@ -2,9 +2,10 @@ ghost use Rattle.std.specs.Prelude.{IfOk};
 ghost use Rattle.keybits.specs.Shapes.{IsShape};
 
 use crate::{
-    Act, ApplyFault, Bytes, CheckFault, Memory, Places, SeqPool, Summary, check, write_acts,
+    Act, ActsFault, ApplyFault, Bytes, CheckFault, Memory, Places, SeqPool, Summary, check,
+    write_acts,
 };
-use keybits::Shape;
+use keybits::{Shape, ShapeFault};
 use std::alloc::{AllocError, Global};
 use std::test::Fail;
 
@@ -285,5 +286,58 @@ fn acts_are_written(rt: HostRuntime) -> Result<(), Fail> {
         write_acts(rt.alloc(), &shape, acts.as_slice(), &mut out).map_err(|_| "no memory")?;
         assert_eq!(rt; out.as_slice(), want.as_bytes());
     }
+    Ok(())
+}
+
+#[test]
+fn faults_have_texts(rt: HostRuntime) -> Result<(), Fail> {
+    for (fault, want) in [
+        (ActsFault::ActsLine, "a line is none of a shape or an act"),
+        (
+            ActsFault::Shape(ShapeFault::Generation),
+            "the shape is refused: the last generation is 0",
+        ),
+        (ActsFault::Memory, "no memory was left"),
+    ] {
+        let text = format!(in rt.alloc(); "{fault}")?;
+        assert_eq!(rt; text.as_str(), want);
+    }
+    for (fault, want) in [
+        (
+            ApplyFault::NotWithLane,
+            "act 7 is refused: there is no such lane, or the place isn't with it",
+        ),
+        (
+            ApplyFault::WrongGeneration,
+            "act 7 is refused: the place's next generation isn't the key's",
+        ),
+        (
+            ApplyFault::WrongReply,
+            "act 7 is refused: the reply isn't that of the pool",
+        ),
+        (
+            ApplyFault::NotHeld,
+            "act 7 is refused: the lane has no reference to the key",
+        ),
+        (
+            ApplyFault::StillHeld,
+            "act 7 is refused: a lane has a reference to the key",
+        ),
+        (
+            ApplyFault::NotMarked,
+            "act 7 is refused: the key isn't in the pool, or isn't marked",
+        ),
+        (
+            ApplyFault::NotHome,
+            "act 7 is refused: the places are none, or one isn't home or came before",
+        ),
+        (ApplyFault::Memory, "act 7 is refused: no memory was left"),
+    ] {
+        let fault = CheckFault::Illegal { index: 7, fault };
+        let text = format!(in rt.alloc(); "{fault}")?;
+        assert_eq!(rt; text.as_str(), want);
+    }
+    let text = format!(in rt.alloc(); "{}, {}", Memory, CheckFault::Memory)?;
+    assert_eq!(rt; text.as_str(), "no memory was left, no memory was left");
     Ok(())
 }

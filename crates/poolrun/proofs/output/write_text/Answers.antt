@@ -1,7 +1,7 @@
 use Rattle.std.proofs.Common.{length, arith}
 use Rattle.std.proofs.lemmas.List.{take_all, length-drop}
 use Rattle.poolrun.proofs.Writing.{writes_front-none, writes_front-more, writes_front-end, unfailed}
-use Rattle.poolrun.proofs.replay.write_text.Goals as goal
+use Rattle.poolrun.proofs.output.write_text.Goals as goal
 
 pub loop-rest-init : goal.loop-rest-init
 loop-rest-init g c = record { good = c.requires; front = writes_front-none _ _ }

@@ -1,6 +1,6 @@
 use Rattle.std.proofs.Common.{◌≡◌, length, false}
 use Rattle.poolrun.proofs.Writing.{WritesFront}
-use Rattle.poolrun.proofs.replay.write_text.Given as goal
+use Rattle.poolrun.proofs.output.write_text.Given as goal
 
 -- no write failed, and what is written, and the rest, are the text
 abbrev pub invariant-loop-rest : goal.invariant-loop-rest
