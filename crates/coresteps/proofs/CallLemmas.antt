@@ -12,8 +12,8 @@ use Rattle.keybits.proofs.KeyLemmas.{key_parts}
 use Rattle.seqpool.specs.declared.act.Act.{Act}
 use Rattle.seqpool.specs.declared.act.Act.TheVariants as acts
 use Rattle.seqpool.specs.Pool.{touches, Pool, Spot, spot, Phase, with, published, home, retired, put, is_published, is_unmarked, references_in, content_in, is_current, found, lane_of, Allowed, changed, after}
-use Rattle.seqpool.specs.Calls.{Call, Publishing, Getting, aim, is_hit, owes_claim, next_step, end_next}
-use Rattle.seqpool.specs.Facts.{bits_of, Words}
+use Rattle.steplaws.specs.Calls.{Call, Publishing, Getting, aim, is_hit, owes_claim, next_step, end_next}
+use Rattle.steplaws.specs.Facts.{bits_of, Words}
 use Rattle.coresteps.specs.declared.script.Register.{Register}
 use Rattle.coresteps.specs.declared.script.Operand.{Operand}
 use Rattle.coresteps.specs.declared.script.Command.{Command}

@@ -18,7 +18,7 @@ use Rattle.coresteps.specs.declared.registers.Holding.TheVariants.{Empty, Fillin
 use Rattle.coresteps.specs.Registers.{register_with, register_at}
 use Rattle.keybits.specs.declared.step.Kind.TheVariants as kinds
 use Rattle.keybits.specs.declared.step.Word.TheVariants.{Stack}
-use Rattle.seqpool.specs.Calls.{Creating, Aim, aim, next_step, take_next}
+use Rattle.steplaws.specs.Calls.{Creating, Aim, aim, next_step, take_next}
 use Rattle.coresteps.specs.Books.{caller, call_of, creating, next_in, next_aim, slots_from, page_places, handed_first, handed_out, Free, free_with, after_own, free_after_create}
 use Rattle.coresteps.specs.Following.{WhereEmpty}
 use Rattle.coresteps.specs.OneLane.{first_key, first_reply}

@@ -10,9 +10,9 @@ use Rattle.keybits.specs.Links.{Leads}
 use Rattle.keybits.proofs.ShapeLemmas.{is_place-parts}
 use Rattle.seqpool.specs.declared.act.Act.{Act}
 use Rattle.seqpool.specs.Pool.{Phase, with, published, home, retired, is_marked, references_in, pool_after}
-use Rattle.seqpool.specs.Calls.{Call, Publishing, Getting, Releasing, Clearing, Creating}
+use Rattle.steplaws.specs.Calls.{Call, Publishing, Getting, Releasing, Clearing, Creating}
 use Rattle.keybits.specs.Counts.{sum_below, times}
-use Rattle.seqpool.specs.Facts.{Under, Nothing, Undo, Owes, Returns, to_undo, bits_of, is_home}
+use Rattle.steplaws.specs.Facts.{Under, Nothing, Undo, Owes, Returns, to_undo, bits_of, is_home}
 use Rattle.coresteps.specs.declared.script.Command.{Command}
 use Rattle.coresteps.specs.declared.registers.RegisterState.{RegisterState}
 use Rattle.coresteps.specs.declared.lane.Lane.{Lane}

@@ -15,7 +15,7 @@ use Rattle.keybits.proofs.WordLemmas.{state_in-word_with, count_in-word_with, ge
 use Rattle.seqpool.specs.declared.act.Act.{Act}
 use Rattle.seqpool.specs.declared.act.Act.TheVariants as acts
 use Rattle.seqpool.specs.Pool.{touches, Pool, Spot, spot, Phase, with, published, home, retired, put, is_published, is_unmarked, references_in, content_in, is_current, found, lane_of, Allowed, changed, after}
-use Rattle.seqpool.specs.Facts.{bits_of}
+use Rattle.steplaws.specs.Facts.{bits_of}
 use Rattle.coresteps.specs.declared.script.Command.{Command}
 use Rattle.coresteps.specs.declared.registers.RegisterState.{RegisterState}
 use Rattle.coresteps.specs.declared.registers.Holding.{Holding}

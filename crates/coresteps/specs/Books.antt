@@ -12,7 +12,7 @@ use Rattle.keybits.specs.Keys.{place_of, generation_of}
 use Rattle.seqpool.specs.declared.act.Act.{Act}
 use Rattle.seqpool.specs.declared.act.Act.TheVariants as acts
 use Rattle.seqpool.specs.Pool.{put}
-use Rattle.seqpool.specs.Calls.{Call, Publishing, Getting, Releasing, Clearing, Creating, Caller, Aim, next_step}
+use Rattle.steplaws.specs.Calls.{Call, Publishing, Getting, Releasing, Clearing, Creating, Caller, Aim, next_step}
 use Rattle.coresteps.specs.declared.script.Command.{Command}
 use Rattle.coresteps.specs.declared.script.Command.TheVariants.{Create, Write, Publish, Downgrade, Get, Read, Release, Clear}
 use Rattle.coresteps.specs.declared.reply.Reply.{Reply}

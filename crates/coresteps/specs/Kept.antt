@@ -9,8 +9,8 @@ use Rattle.keybits.specs.Keys.{place_of, is_key}
 use Rattle.seqpool.specs.declared.act.Act.{Act}
 use Rattle.seqpool.specs.declared.act.Act.TheVariants as acts
 use Rattle.seqpool.specs.Pool.{Pool, pool_after, IsLegal}
-use Rattle.seqpool.specs.Calls.{is_hit}
-use Rattle.seqpool.specs.Facts.{to_undo, Undo}
+use Rattle.steplaws.specs.Calls.{is_hit}
+use Rattle.steplaws.specs.Facts.{to_undo, Undo}
 use Rattle.coresteps.specs.declared.script.Command.{Command}
 use Rattle.coresteps.specs.declared.script.Command.TheVariants as commands
 use Rattle.coresteps.specs.declared.script.Register.{Register}

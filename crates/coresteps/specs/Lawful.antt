@@ -8,8 +8,8 @@ use Rattle.keybits.specs.Words.{fresh_word}
 use Rattle.keybits.specs.Steps.{Changes}
 use Rattle.seqpool.specs.declared.act.Act.{Act}
 use Rattle.seqpool.specs.Pool.{put, pool_after, IsLegal}
-use Rattle.seqpool.specs.Calls.{Call, Caller, aim, Makes}
-use Rattle.seqpool.specs.Facts.{Words}
+use Rattle.steplaws.specs.Calls.{Call, Caller, aim, Makes}
+use Rattle.steplaws.specs.Facts.{Words}
 use Rattle.coresteps.specs.declared.script.Command.{Command}
 use Rattle.coresteps.specs.declared.reply.Reply.{Reply}
 use Rattle.coresteps.specs.declared.trace.Turn.{Turn}

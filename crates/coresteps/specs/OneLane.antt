@@ -7,7 +7,7 @@ use Rattle.keybits.specs.Keys.{key_number, place_of}
 use Rattle.keybits.specs.Words.{word_with}
 use Rattle.seqpool.specs.Pool.{Pool, Phase, with, published, home, retired, is_published, references_in}
 use Rattle.keybits.specs.Counts.{times}
-use Rattle.seqpool.specs.Facts.{bits_of}
+use Rattle.steplaws.specs.Facts.{bits_of}
 use Rattle.coresteps.specs.declared.script.Command.{Command}
 use Rattle.coresteps.specs.declared.script.Command.TheVariants.{Create, Write, Publish, Downgrade, Get, Read, Release, Clear}
 use Rattle.coresteps.specs.declared.reply.Reply.{Reply}

@@ -7,9 +7,9 @@ use Rattle.keybits.specs.Shapes.{is_place}
 use Rattle.keybits.specs.Keys.{place_of}
 use Rattle.keybits.specs.Words.{generation_in}
 use Rattle.seqpool.specs.Pool.{Phase, with, published, home, retired, is_published, is_marked, pool_after, references_in}
-use Rattle.seqpool.specs.Calls.{Call, Publishing, Getting, Releasing, Clearing, Creating, is_hit, owes_claim, is_claimed}
+use Rattle.steplaws.specs.Calls.{Call, Publishing, Getting, Releasing, Clearing, Creating, is_hit, owes_claim, is_claimed}
 use Rattle.keybits.specs.Counts.{sum_below, times}
-use Rattle.seqpool.specs.Facts.{Under, Nothing, Undo, Owes, Returns, is_home, Count, Pinned, State, OwedClaim, Home}
+use Rattle.steplaws.specs.Facts.{Under, Nothing, Undo, Owes, Returns, is_home, Count, Pinned, State, OwedClaim, Home}
 use Rattle.coresteps.specs.declared.trace.Turn.{Turn}
 use Rattle.coresteps.specs.Registers.{fillings}
 use Rattle.coresteps.specs.Books.{Book, taken, reclaimed, returned, call_under_way}

@@ -2,7 +2,7 @@ ghost use Rattle.std.specs.Prelude.{ℕ, List, ◌≡◌, ◌∷◌, ◌++◌, �
 ghost use Rattle.keybits.specs.Shapes.{IsShape, is_place, position_of};
 ghost use Rattle.keybits.specs.Keys.{place_of, is_key, generation_of};
 ghost use Rattle.keybits.specs.Words.{state_in, count_in};
-ghost use Rattle.seqpool.specs.Calls.{is_hit};
+ghost use Rattle.steplaws.specs.Calls.{is_hit};
 ghost use Rattle.coresteps.specs.Lawful.{World, first_world};
 
 use crate::fault::CoreFault;

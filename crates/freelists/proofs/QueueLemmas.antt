@@ -16,9 +16,9 @@ use Rattle.keybits.proofs.ShapeLemmas.{index_of-lt, index_of-injective}
 use Rattle.keybits.proofs.LinkLemmas.{linked_place-link_to, link_to-positive}
 use Rattle.freelists.specs.Shards.{IsShardOf, IsOwn, place_numbered}
 use Rattle.freelists.specs.Queues.{numbers, AreOwn, link_in, led_through, IsQueue}
-use Rattle.freelists.proofs.CountLemmas.{count_if, one_at, none_at, times-append, length_le, times-map_le, length-map, Source, source}
+use Rattle.keybits.proofs.CountLemmas.{count_if, one_at, none_at, times-append, length_le, times-map_le, length-map, Source, source}
 use Rattle.freelists.proofs.ShardLemmas.{own_number, shard_of-number, same_own}
-use Rattle.freelists.proofs.LeadLemmas.{leads-on}
+use Rattle.keybits.proofs.LeadLemmas.{leads-on}
 
 -- ---- own places
 

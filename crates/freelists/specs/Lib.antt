@@ -1,4 +1,2 @@
 pub mod Shards
 pub mod Queues
-pub mod Homes
-pub mod Laws

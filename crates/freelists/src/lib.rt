@@ -2,13 +2,11 @@
 //! lanes return places to it.
 #![tactic(auto)]
 
-mod laws;
 mod local;
 mod pages;
 mod returns;
 mod shard;
 
-pub use laws::{home_law, push_law, take_law, unchanged_law};
 pub use local::LocalFree;
 pub use pages::Pages;
 pub use returns::Returns;

@@ -4,3 +4,6 @@ pub mod KeyLemmas
 pub mod WordLemmas
 pub mod LinkLemmas
 pub mod FaultLemmas
+pub mod CountLemmas
+pub mod LeadLemmas
+pub mod HomeLemmas

@@ -6,3 +6,6 @@ pub mod Words
 pub mod Links
 pub mod Steps
 pub mod ShapeFaults
+pub mod Homes
+pub mod HomeLaws
+pub mod SameShapes

@@ -1,6 +1,7 @@
 ghost use Rattle.std.specs.Prelude.{◌≡◌};
 ghost use Rattle.keybits.specs.Keys.{is_key};
 
+use crate::fields::{generation_of, place_of, tag_of};
 use crate::shape::Shape;
 
 /// Whether this is the number of a key of the shape: the shape's tag, a place of the shape and a
@@ -10,9 +11,9 @@ use crate::shape::Shape;
 pub fn fits(number: u64, shape: &Shape) -> bool
     ensures { result ≡ is_key shape.now number }
 {
-    let generation = (number >> 24 & 0xffff_ffff) as u32;
-    number >> 56 == u64::from(shape.tag)
-        && shape.is_place((number & 0xff_ffff) as u32)
+    let generation = generation_of(number);
+    u32::from(tag_of(number)) == shape.tag
+        && shape.is_place(place_of(number))
         && generation != 0
         && generation <= shape.last_generation
 }

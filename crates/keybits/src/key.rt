@@ -1,5 +1,6 @@
 ghost use Rattle.std.specs.Prelude.{◌≡◌, ◌+◌, ◌*◌, ◌/◌, ◌%◌, ◌<◌, ◌≤◌, ◌↔◌, Some, IsSome, IfSome};
 
+use crate::fields::{generation_of, place_of, tag_of};
 use crate::place::Place;
 
 /// The key of a published object: its pool's tag, its place and its generation, packed into one number.
@@ -79,12 +80,12 @@ impl Key {
             → place.shard < 2 ^ 8 → generation < 2 ^ 32 → IsKeyOf number tag place generation
             → result ≡ Some (tag, place, generation) }
     {
-        let generation = (number >> 24 & 0xffff_ffff) as u32;
+        let generation = generation_of(number);
         if generation == 0 {
             return None;
         }
-        let place = Place::of_number((number & 0xff_ffff) as u32);
-        Some(((number >> 56) as u8, place, generation))
+        let place = Place::of_number(place_of(number));
+        Some((tag_of(number), place, generation))
     }
 
     /// The number into which the key is packed.

@@ -1,7 +1,9 @@
 //! Keys, places, shapes and lifecycle words of a sharded object pool, and the steps that change its atomic words.
 #![tactic(auto)]
 
+mod fields;
 mod fit;
+mod home_laws;
 mod key;
 mod life;
 mod link;
@@ -10,11 +12,13 @@ mod shape;
 mod step;
 mod words;
 
+pub use fields::{generation_of, place_of, tag_of};
 pub use fit::fits;
+pub use home_laws::{home_law, push_law, take_law, unchanged_law};
 pub use key::Key;
 pub use life::{Life, State};
 pub use link::{link_to, linked_place};
-pub use place::Place;
+pub use place::{Place, shard_of};
 pub use shape::{Shape, ShapeFault};
 pub use step::{Kind, Step, Word};
 pub use words::{claimed, entered, left, marked, published};

@@ -51,7 +51,7 @@ impl Place {
 
 /// The shard of the place of this number.
 #[inline]
-pub(crate) fn shard_of(number: u32) -> u32
+pub fn shard_of(number: u32) -> u32
     ensures { result ≡ shard_of number }
 {
     number >> 16

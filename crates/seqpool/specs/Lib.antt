@@ -1,9 +1,6 @@
 pub mod Pool
 pub mod Histories
 pub mod Laws
-pub mod Calls
-pub mod Facts
-pub mod Checked
 pub mod Refusals
 pub mod Kept
 pub mod Checks

@@ -1,13 +1,13 @@
 ghost use Rattle.std.specs.Prelude.{◌≡◌, vec_len};
 ghost use Rattle.keybits.specs.Shapes.{IsShape, all_places};
-ghost use Rattle.seqpool.specs.Checked.{IsShape-prop};
+ghost use Rattle.keybits.specs.SameShapes.{IsShape-prop};
 
 use crate::act::Act;
 use crate::contents::Bytes;
 use crate::fault::{ApplyFault, Memory};
-use crate::key::{generation_of, is_among, place_of, shard_of};
+use crate::key::is_among;
 use crate::row::{Row, Standing};
-use keybits::{Shape, fits};
+use keybits::{Shape, fits, generation_of, place_of, shard_of};
 use std::alloc::{AllocError, Global};
 
 /// The pool of one thread, to which acts are applied one after another.

@@ -16,7 +16,7 @@ use Rattle.coresteps.specs.Lanes.{IsReady, Works, next_lane}
 use Rattle.coresteps.specs.Kept.{Keeps}
 use Rattle.coresteps.specs.Registers.{register_with}
 use Rattle.keybits.specs.Words.{count_in}
-use Rattle.seqpool.specs.Calls.{is_hit}
+use Rattle.steplaws.specs.Calls.{is_hit}
 use Rattle.std.proofs.Common.{slice_get}
 use Rattle.coresteps.proofs.TurnLemmas.{next_ready, word_read, enter_facts, content_read, keeps_hit}
 use Rattle.coresteps.proofs.machine.Machine.hit.Goals as goal

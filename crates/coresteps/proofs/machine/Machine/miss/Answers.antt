@@ -10,7 +10,7 @@ use Rattle.coresteps.specs.declared.trace.Turn.{Turn}
 use Rattle.coresteps.specs.Lawful.{world_after, IsNextTurn}
 use Rattle.coresteps.specs.Kept.{Keeps}
 use Rattle.keybits.specs.Words.{count_in}
-use Rattle.seqpool.specs.Calls.{is_hit}
+use Rattle.steplaws.specs.Calls.{is_hit}
 use Rattle.coresteps.specs.declared.lane.Stage.TheVariants.{Missed}
 use Rattle.coresteps.proofs.TurnLemmas.{word_read, enter_facts, keeps_miss}
 use Rattle.coresteps.proofs.machine.Machine.miss.Goals as goal

@@ -2,7 +2,7 @@
 use Rattle.std.proofs.Common.{◌≡◌, ℕ, ◌<◌, List, [], ◌∷◌, ◌++◌, refl, sym, ◌∙◌, subst, arith}
 use Rattle.keybits.specs.Links.{Leads}
 use Rattle.keybits.specs.Counts.{times}
-use Rattle.freelists.proofs.CountLemmas.{times-head}
+use Rattle.keybits.proofs.CountLemmas.{times-head}
 
 -- links lead through the same list where the link words of its places are the same
 pub leads-same : (f g : ℕ → ℕ) (shard word : ℕ) (places : List ℕ) → ((x : ℕ) → 0 < times x places → g x ≡ f x)

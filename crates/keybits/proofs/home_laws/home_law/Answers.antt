@@ -1,5 +1,5 @@
-use Rattle.freelists.proofs.HomeLemmas.{function-law, empty-law}
-use Rattle.freelists.proofs.laws.home_law.Goals as goal
+use Rattle.keybits.proofs.HomeLemmas.{function-law, empty-law}
+use Rattle.keybits.proofs.home_laws.home_law.Goals as goal
 
 pub returns-clause-function : goal.returns-clause-function
 returns-clause-function c = function-law

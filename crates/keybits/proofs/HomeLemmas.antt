@@ -8,10 +8,10 @@ use Rattle.keybits.specs.Shapes.{is_place}
 use Rattle.keybits.specs.Links.{link_to, linked_place, Leads}
 use Rattle.keybits.proofs.LinkLemmas.{linked_place-link_to, link_to-positive}
 use Rattle.keybits.specs.Counts.{times}
-use Rattle.freelists.specs.Homes.{times_stacked, AreHomeBy}
-use Rattle.freelists.specs.Laws.{FunctionLaw, EmptyLaw, UnchangedLaw, PushLaw, TakeLaw, with_place}
-use Rattle.freelists.proofs.CountLemmas.{count_if, one_at, none_at, sum-none, sum-same, sum-at, sum-part}
-use Rattle.freelists.proofs.LeadLemmas.{leads-same, leads-one}
+use Rattle.keybits.specs.Homes.{times_stacked, AreHomeBy}
+use Rattle.keybits.specs.HomeLaws.{FunctionLaw, EmptyLaw, UnchangedLaw, PushLaw, TakeLaw, with_place}
+use Rattle.keybits.proofs.CountLemmas.{count_if, one_at, none_at, sum-none, sum-same, sum-at, sum-part}
+use Rattle.keybits.proofs.LeadLemmas.{leads-same, leads-one}
 
 -- how often a place stands on one lane's stack
 abbrev on_stack : ℕ → (ℕ → List ℕ) → ℕ → ℕ → ℕ

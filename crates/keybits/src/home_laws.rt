@@ -1,6 +1,6 @@
 //! The laws of the home places of a shard, as calls that do nothing: whoever calls one may use its law in a proof.
 
-ghost use Rattle.freelists.specs.Laws.{FunctionLaw, EmptyLaw, UnchangedLaw, PushLaw, TakeLaw};
+ghost use Rattle.keybits.specs.HomeLaws.{FunctionLaw, EmptyLaw, UnchangedLaw, PushLaw, TakeLaw};
 
 /// The stack words of a shard and the link words determine which places are home: returned to the shard and not taken
 /// yet. Where each stack word is 0 none is.

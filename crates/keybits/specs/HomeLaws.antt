@@ -5,7 +5,7 @@ use Rattle.keybits.specs.Places.{shard_of}
 use Rattle.keybits.specs.Shapes.{is_place}
 use Rattle.keybits.specs.Links.{link_to, Leads}
 use Rattle.keybits.specs.Counts.{times}
-use Rattle.freelists.specs.Homes.{AreHome}
+use Rattle.keybits.specs.Homes.{AreHome}
 
 -- the home places are a function of the words
 abbrev pub FunctionLaw : Type 0
