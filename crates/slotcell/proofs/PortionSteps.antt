@@ -1,9 +1,10 @@
 -- The ghost steps of a portion: a cell is lent, and its portions are cut, compared, merged and, once all are there, ended. Assumes `Logic`.
-use Rattle.std.proofs.Common.{◌≡◌, ℕ, ◌+◌, ◌-◌, ◌^◌, ◌<◌, ◌≤◌, Bool, true, false, ◌||◌, [], ◌∷◌, refl, arith}
+use Rattle.std.proofs.Common.{◌≡◌, ℕ, ◌+◌, ◌-◌, ◌^◌, ◌<◌, ◌≤◌, Bool, true, false, ◌||◌, [], ◌∷◌, refl, ap, arith}
 use seplogic.Ra.Ura.{Ura}
 use base.Fraction.{full_share}
 use base.FractionLaws.{Counts, counts_some, Counts-op, Counts-all}
 use base.Logic.{ent, sep, wand, upd_i, via, fst∗, snd∗, id⊢, apply∗}
+use base.Before.{before}
 use base.Fml.{Lft, Incl, Incl-trans, Share, Fml, ftrue, fsep, fseps, fex, fwand, fupd, fdead, fbor, flft, fres}
 use contract.BorrowLft.{meet_⊑_left, meet_⊑_right}
 use contract.Monad.{fact, fact_mono, conj_i}
@@ -13,13 +14,13 @@ use types.Kit.{‵, raw, ◌⊛◌, some as exists, later, ◌$◌, ◌∵◌, !
 use types.Tokens.{lft_new, lft_end, bor_new, lent_back, bor_open, obor_alter, bor_fracture, one_token, name_new, res_dup}
 use denote.RattleType.{RattleType}
 use denote.RawPtr.{Ptr, InBlock, lies_at}
-use denote.Sharing.{ShrLaws, one, held}
+use denote.Sharing.{ShrLaws, said, one, held}
 use denote.SharingLaws.{contraction, beside_shr_laws, one_shr_laws, held_shr_laws}
 use denote.Moves.{moves_from}
 use denote.Steps.{nothing}
 use denote.Param.Laws.{Laws}
-use denote.Struct.Lending.{Lends, Lends-first, Lends-lies, lent_at, lent_at_shr_laws, in_block_says}
-use Rattle.slotcell.specs.Portion.{parts_owns, named_code, boxed, returns_if, reads_owns, named, portion_owns, portion_shares}
+use denote.Struct.Lending.{Lends, Lends-first, Lends-both, Lends-lies, lent_at, lent_at_shr_laws, in_block_says}
+use Rattle.slotcell.specs.Portion.{parts_owns, named_code, boxed, returns_if, reads_owns, named, portion_owns, reads_shares, portion_shares}
 use Rattle.std.specs.contracts.impls.GlobalAllocator.TheImpl.{ghosts}
 use Rattle.slotcell.specs.Portion.{heap_handle}
 use mir.Raw.{raw as bare}
@@ -66,14 +67,23 @@ module _ (R : RattleType) (L : Laws R) (p : Ptr) (x : R.Denot) (a : ℕ) where
   abbrev seen_laws : ShrLaws seen
   seen_laws = lent_at_shr_laws R L.shr_laws p x
 
-  pub shares_laws : ShrLaws (portion_shares R p x a)
-  shares_laws = beside_shr_laws (one (λ q. flft (a ∷ []) q)) (held (a ∷ []) seen) (one_shr_laws (λ q. flft (a ∷ []) q)) (held_shr_laws (a ∷ []) seen seen_laws)
+  reads_laws : ShrLaws (reads_shares R p x a)
+  reads_laws = beside_shr_laws (one (λ q. flft (a ∷ []) q)) (held (a ∷ []) seen) (one_shr_laws (λ q. flft (a ∷ []) q)) (held_shr_laws (a ∷ []) seen seen_laws)
+
+  named_laws : (name : ℕ) → ShrLaws (said (named R p x a name))
+  named_laws name = record {
+    contraction = λ M 𝓤 𝓛 κ. 𝓛.names.res_dup name ((named_code R).code (a, (p, x)));
+    mono = λ M 𝓤 𝓛 κ' κ. snd∗ 𝓤 (sem 𝓛 (before κ' κ)) (sem 𝓛 (named R p x a name));
+  }
+
+  pub shares_laws : (name : ℕ) → ShrLaws (portion_shares R p x a name)
+  shares_laws name = beside_shr_laws (reads_shares R p x a) (said (named R p x a name)) reads_laws (named_laws name)
 
   module _ {M : Type 1} {𝓤 : Ura M} (𝓛 : Logic 𝓤) where
     open 𝓛 use {H, A}
 
-    pub shares_see : (κ : Lft) → ent 𝓤 (sem 𝓛 (portion_shares R p x a κ)) (sem 𝓛 (seen κ))
-    shares_see κ = qed 𝓛 (‵ (portion_shares R p x a κ) ∷ []) ∵ fsplit ! $ by ! (moves_from 𝓛 seen seen_laws κ (a ∷ []) (a ∷ []) (meet_⊑_left (a ∷ []) κ))
+    pub shares_see : (name : ℕ) (κ : Lft) → ent 𝓤 (sem 𝓛 (portion_shares R p x a name κ)) (sem 𝓛 (seen κ))
+    shares_see name κ = qed 𝓛 (‵ (portion_shares R p x a name κ) ∷ []) ∵ fsplit ! $ keep ! (0 ∷ []) $ fsplit ! $ by ! (moves_from 𝓛 seen seen_laws κ (a ∷ []) (a ∷ []) (meet_⊑_left (a ∷ []) κ))
 
     -- a borrow of the parts comes back as a borrow of one share of the token
     way_back : (k : ℕ) (κ : Lft) (q : Share) → Counts 63 q k
@@ -83,7 +93,7 @@ module _ (R : RattleType) (L : Laws R) (p : Ptr) (x : R.Denot) (a : ℕ) where
         suffices ! (sem 𝓛 (reads_owns R p x a k)) (upd_i 𝓤 (sem 𝓛 (reads_owns R p x a k))) $
         fsplit3 ! $ move ! (1 ∷ []) $ use1 𝓛 (‵ (parts_owns a k)) (counted 𝓛 a k q c) $ keep ! (0 ∷ 3 ∷ []) $ fjoin ! $ done !
 
-    borrowed : (k : ℕ) (κ : Lft) (s : Share) → ent 𝓤 (sep 𝓤 (A.bor κ (reads_owns R p x a k)) (A.lft κ s)) (H.⇛ (sep 𝓤 (sem 𝓛 (portion_shares R p x a κ)) (A.lft κ s)))
+    borrowed : (k : ℕ) (κ : Lft) (s : Share) → ent 𝓤 (sep 𝓤 (A.bor κ (reads_owns R p x a k)) (A.lft κ s)) (H.⇛ (sep 𝓤 (sem 𝓛 (reads_shares R p x a κ)) (A.lft κ s)))
     unfolding fseps
     borrowed k κ s = qed 𝓛 (‵ (fbor κ (reads_owns R p x a k)) ∷ ‵ (flft κ s) ∷ []) ∵ updating ! $ bor_open ! tt $ move ! (1 ∷ []) $ fsplit ! $ fpick ! (λ q. fpick ! (λ c.
         -- [the share; the object; the open borrow]
@@ -93,13 +103,26 @@ module _ (R : RattleType) (L : Laws R) (p : Ptr) (x : R.Denot) (a : ℕ) where
         use1 𝓛 (‵ (fbor κ (flft (a ∷ []) q)) ⊛ ‵ ftrue) (id⊢ 𝓤 _) $ split ! $ bor_fracture ! tt (λ r. flft (a ∷ []) r) q $
         move ! (0 ∷ 3 ∷ []) $ fjoin ! $ now ! $ keep ! (0 ∷ 2 ∷ []) $ done !))
 
-    pub reads_lend : (k : ℕ) (l : Lft) → Lends 𝓛 (reads_owns R p x a k) (portion_shares R p x a) l
+    reads_lend : (k : ℕ) (l : Lft) → Lends 𝓛 (reads_owns R p x a k) (reads_shares R p x a) l
     reads_lend k l κ ts inc spanned = qed 𝓛 (‵ (fbor κ (reads_owns R p x a k)) ∷ raw (lfts 𝓛 ts) ∷ []) ∵ updating ! $ move ! (1 ∷ []) $
         use1 𝓛 (exists (λ (q : Share). ‵ (flft (span ts) q) ⊛ raw (wand 𝓤 (A.lft (span ts) q) (lfts 𝓛 ts)))) (one_token 𝓛 ts) $ pick ! (λ q. split ! $
         use1 𝓛 (‵ (flft κ (thinned κ q)) ⊛ raw (wand 𝓤 (A.lft κ (thinned κ q)) (A.lft (span ts) q))) (𝓛.lfts.lft-incl (span ts) κ q spanned) $ split ! $ move ! (3 ∷ 0 ∷ []) $
-        use2 𝓛 (later (‵ (portion_shares R p x a κ) ⊛ ‵ (flft κ (thinned κ q)))) (borrowed k κ (thinned κ q)) $ await ! tt $ split ! $ move ! (1 ∷ 2 ∷ []) $
+        use2 𝓛 (later (‵ (reads_shares R p x a κ) ⊛ ‵ (flft κ (thinned κ q)))) (borrowed k κ (thinned κ q)) $ await ! tt $ split ! $ move ! (1 ∷ 2 ∷ []) $
         use2 𝓛 (‵ (flft (span ts) q)) (apply∗ 𝓤 (A.lft κ (thinned κ q)) (A.lft (span ts) q)) $ move ! (0 ∷ 2 ∷ []) $
         use2 𝓛 (raw (lfts 𝓛 ts)) (apply∗ 𝓤 (A.lft (span ts) q) (lfts 𝓛 ts)) $ now ! $ move ! (1 ∷ 0 ∷ []) $ done !)
+
+    -- a borrow of the name opens, and gives the name for good
+    name_lends : (name : ℕ) (l : Lft) → Lends 𝓛 (named R p x a name) (said (named R p x a name)) l
+    name_lends name l κ ts inc spanned =
+        let N : Fml = named R p x a name in let Back = H.⇛ (sep 𝓤 (A.bor κ N) (lfts 𝓛 ts)) in
+        qed 𝓛 (‵ (fbor κ N) ∷ raw (lfts 𝓛 ts) ∷ []) ∵ updating ! $
+        use2 𝓛 (later (‵ N ⊛ raw (wand 𝓤 (sem 𝓛 N) Back))) (𝓛.more.bor_acc_by κ ts N spanned) $ await ! tt $ split ! $ res_dup ! $
+        -- [the name; the name; what closes the borrow]
+        move ! (0 ∷ 2 ∷ []) $ use2 𝓛 (later (‵ (fbor κ N) ⊛ raw (lfts 𝓛 ts))) (apply∗ 𝓤 (sem 𝓛 N) Back) $ await ! tt $ split ! $ now ! $ keep ! (2 ∷ 1 ∷ []) $ done !
+
+    pub portion_lends : (name k : ℕ) (y : Bool) (l : Lft) → Lends 𝓛 (portion_owns R p x a name k y) (portion_shares R p x a name) l
+    portion_lends name k y l = Lends-both 𝓛 (reads_owns R p x a k) (fsep (named R p x a name) (returns_if R p x a y)) (reads_shares R p x a) (said (named R p x a name)) l
+        (reads_lend k l) (Lends-first 𝓛 (named R p x a name) (returns_if R p x a y) (said (named R p x a name)) l (name_lends name l))
 
 -- a portion
 module _ {M : Type 1} {𝓤 : Ura M} (𝓛 : Logic 𝓤) (R : RattleType) where
@@ -116,6 +139,9 @@ module _ {M : Type 1} {𝓤 : Ura M} (𝓛 : Logic 𝓤) (R : RattleType) where
   names_agree name c d = let P = A.res name ((named_code R).code c) in let Q = A.res name ((named_code R).code d) in
       via 𝓤 _ (via 𝓤 _ (conj_i 𝓤 P Q (fst∗ 𝓤 P Q) (snd∗ 𝓤 P Q)) (𝓛.names.res_one name ((named_code R).code c) ((named_code R).code d)))
       (fact_mono 𝓤 _ (c ≡ d) ((named_code R).inj c d))
+
+  pub named_agree : (c d : Cell) (name : ℕ) → ent 𝓤 (sep 𝓤 (sem 𝓛 (named R c.1.0 c.1.1 c.0 name)) (sem 𝓛 (named R d.1.0 d.1.1 d.0 name))) (fact 𝓤 (c.1.1 ≡ d.1.1))
+  named_agree c d name = via 𝓤 _ (names_agree name c d) (fact_mono 𝓤 (c ≡ d) (c.1.1 ≡ d.1.1) (λ e. ap (λ (m : Cell). m.1.1) e))
 
   pub portions_agree : (c d : Cell) (name k j : ℕ) (y z : Bool)
       → ent 𝓤 (sep 𝓤 (sem 𝓛 (portion_owns R c.1.0 c.1.1 c.0 name k y)) (sem 𝓛 (portion_owns R d.1.0 d.1.1 d.0 name j z))) (fact 𝓤 (c ≡ d))

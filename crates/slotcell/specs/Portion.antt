@@ -9,7 +9,7 @@ use base.Fml.{Lft, Share, Fml, ftrue, fsep, fex, flft, flent, fres}
 use denote.RattleType.{RattleType}
 use denote.Builtin.{RawPtr}
 use denote.RawPtr.{Ptr}
-use denote.Sharing.{beside, one, held}
+use denote.Sharing.{said, beside, one, held}
 use denote.Struct.Lending.{lent_at}
 use Rattle.std.specs.declared.alloc.Global.{Global}
 use Rattle.std.specs.contracts.impls.GlobalAllocator.TheImpl.{ghosts}
@@ -48,6 +48,10 @@ module _ (R : RattleType) (p : Ptr) (x : R.Denot) (a : ℕ) where
   abbrev pub portion_owns : ℕ → ℕ → Bool → Fml
   portion_owns name k owner = fsep (reads_owns k) (fsep (named name) (returns_if owner))
 
-  -- what a `&` to a portion gives: a share of its parts, and the object to be read
-  abbrev pub portion_shares : Lft → Fml
-  portion_shares = beside (one (λ q. flft (a ∷ []) q)) (held (a ∷ []) (lent_at R p x))
+  -- what a `&` to a portion gives to read by: a share of its parts, and the object to be read
+  abbrev pub reads_shares : Lft → Fml
+  reads_shares = beside (one (λ q. flft (a ∷ []) q)) (held (a ∷ []) (lent_at R p x))
+
+  -- what a `&` to a portion gives: that, and what the name says
+  abbrev pub portion_shares : ℕ → Lft → Fml
+  portion_shares name = beside reads_shares (said (named name))

@@ -1,4 +1,5 @@
 //! Objects that are cleared in place and used again.
+ghost use Rattle.std.specs.Vec.{vec_len, vec_capacity};
 ghost use Rattle.std.specs.Prelude.{◌≡◌, ◌+◌, ◌≤◌, ◌<◌, ◌↔◌, ℕ, List, [], ◌∷◌, ◌++◌, length, IsTrue, IsOk, OnOk, OnErr, if◌then◌else◌};
 
 use arrayvec::ArrayVec;
@@ -90,7 +91,8 @@ impl Clear for ByteBuf {
 }
 
 impl ByteBuf {
-    /// Appends `more`. Where the new length is at most the room it takes no memory and succeeds.
+    /// Appends `more`. Where the new length is at most the room it takes no memory, so that it succeeds and the room stays
+    /// the same.
     ///
     /// # Errors
     ///
@@ -99,14 +101,18 @@ impl ByteBuf {
         ensures ok { OnOk result (self.new.bytes ≡ self.old.bytes ++ more.now) }
         ensures err { OnErr result (self.new ≡ self.old) }
 
+        // Within the room, and in general.
         ensures within_room { length self.old.bytes + length more.now ≤ self.old.room → IsOk result }
+        ensures same_room { length self.old.bytes + length more.now ≤ self.old.room → self.new.room ≡ self.old.room }
         ensures room_kept { self.old.room ≤ self.new.room }
         ensures fits { length self.new.bytes ≤ self.new.room }
     {
-        if self.bytes.reserve(more.len()).is_err() {
+        if self.bytes.capacity() - self.bytes.len() < more.len()
+            && self.bytes.reserve(more.len()).is_err()
+        {
             return Err(Memory);
         }
-        self.bytes.extend_from_slice(more).unwrap();
+        append_reserved(&mut self.bytes, more);
         Ok(())
     }
 
@@ -129,6 +135,17 @@ impl ByteBuf {
         ensures { IsTrue result ↔ (self.now.bytes ≡ []) }
     {
         self.bytes.is_empty()
+    }
+}
+
+// Appends where the capacity has room, and stays. `extend_from_slice` only says that it doesn't shrink.
+fn append_reserved(bytes: &mut Vec<u8>, more: &[u8])
+    requires { vec_len bytes.old + length more.now ≤ vec_capacity bytes.old }
+    ensures items { bytes.new.items ≡ bytes.old.items ++ more.now }
+    ensures capacity { vec_capacity bytes.new ≡ vec_capacity bytes.old }
+{
+    for byte in more {
+        bytes.push_reserved(*byte);
     }
 }
 

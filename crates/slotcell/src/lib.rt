@@ -7,10 +7,15 @@
 //! safe code over them.
 #![tactic(auto)]
 
-pub mod clear;
+mod clear;
 mod portion;
-pub mod share;
+mod share;
+mod unboxed;
+mod whole;
+
+pub use clear::{ByteBuf, Clear, Memory, Record};
+pub use share::Share;
+pub use whole::{Whole, join};
+
 #[cfg(test)]
 mod tests;
-mod unboxed;
-pub mod whole;

@@ -23,7 +23,7 @@ pub(crate) struct Portion<T> {
 impl<T> Model for Portion<T> {
     ghost also_owns = { λ p. portion_owns T.row p.at p.object p.lifetime p.cell p.parts p.owner };
 
-    ghost also_shares = { λ p _ κ. portion_shares T.row p.at p.object p.lifetime κ };
+    ghost also_shares = { λ p _ κ. portion_shares T.row p.at p.object p.lifetime p.cell κ };
 }
 
 impl<T> Portion<T> {
@@ -49,6 +49,12 @@ impl<T> Portion<T> {
     {
         unsafe { &*self.at }
     }
+
+    // Two portions of one cell have one object.
+    pub(crate) fn agree(&self, other: &Portion<T>)
+        requires { self.now.cell ≡ other.now.cell }
+        ensures { self.now.object ≡ other.now.object }
+    {}
 
     // Cuts one part off, under the next number.
     pub(crate) fn cut(&mut self) -> Portion<T>

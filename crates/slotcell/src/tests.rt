@@ -1,8 +1,7 @@
-ghost use Rattle.std.specs.Prelude.{◌≡◌, ◌<◌, ◌≤◌, [], ◌++◌};
+ghost use Rattle.std.specs.Prelude.{◌≡◌, ◌<◌, ◌≤◌, [], ◌++◌, IsTrue};
 
-use crate::clear::{ByteBuf, Clear, Memory, Record};
-use crate::share::Share;
-use crate::whole::{Whole, join, take_last};
+use crate::whole::take_last;
+use crate::{ByteBuf, Clear, Memory, Record, Share, Whole, join};
 use std::alloc::Global;
 use std::cell::Cell;
 use std::process::Abort;
@@ -204,6 +203,15 @@ fn read_in_threads<R: Threads + Abort>(
     (one, other)
 }
 
+// Two shares of one cell read one object.
+fn lengths_agree(one: &Share<ByteBuf>, other: &Share<ByteBuf>) -> bool
+    requires { one.now.cell ≡ other.now.cell }
+    ensures { IsTrue result }
+{
+    one.agree(other);
+    one.read().len() == other.read().len()
+}
+
 // Splits the cell, has two of its shares read, and joins all, these two in the other order.
 fn read_by_two_threads<R: Threads + Abort>(
     rt: &R,
@@ -216,6 +224,8 @@ fn read_by_two_threads<R: Threads + Abort>(
     let mut shares = whole.split(16);
     let last = take_last(&mut shares);
     let before = take_last(&mut shares);
+    let agree = lengths_agree(&last, &before);
+    assert!(rt; agree);
     let (last, before) = read_in_threads(rt, last, before, bytes);
     shares.push(Some(last));
     shares.push(Some(before));

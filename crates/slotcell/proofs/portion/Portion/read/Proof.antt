@@ -25,8 +25,8 @@ read_spec 𝓤 𝓛 𝓜 𝓡 wired X L =
     split ! $ split ! $ move ! (2 ∷ []) $ fsplit ! $ fsplit ! $ keep ! (1 ∷ 3 ∷ 4 ∷ []) $
     -- [the `&`; the token of its lifetime; the other tokens]
     enter ! 𝓣.C 𝓣.Λ fn (vptr b o ∷ []) Post $ alloc_all ! (λ l. pass_all ! refl ((tt, tt), tt) $ let Ev = env fn.locals l in
-    use1 𝓛 (‵ (hidden_shr D κ (p, tt) b o) ⊛ ‵ (fhide (portion_shares R p x d.lifetime κ))) (lent_out 𝓛 (portion.struct R) (portion.the_codes X.Denot R.coded) (portion.the_heap R) (portion.the_lent R) κ d b o) $
-    split ! $ move ! (1 ∷ []) $ unhide ! $ use1 𝓛 (‵ (lent_at R p x κ)) (shares_see R LR p x d.lifetime 𝓛 κ) $
+    use1 𝓛 (‵ (hidden_shr D κ (p, tt) b o) ⊛ ‵ (fhide (portion_shares R p x d.lifetime d.cell κ))) (lent_out 𝓛 (portion.struct R) (portion.the_codes X.Denot R.coded) (portion.the_heap R) (portion.the_lent R) κ d b o) $
+    split ! $ move ! (1 ∷ []) $ unhide ! $ use1 𝓛 (‵ (lent_at R p x κ)) (shares_see R LR p x d.lifetime 𝓛 d.cell κ) $
     -- [the address; the object, to be read; the pointer, to be read; the tokens]
     fsplit ! $ use1 𝓛 (raw (fact 𝓤 (InBlock p))) (in_block_says 𝓛 p) $ heard ! (InBlock p) (λ inside. hide ! $ move ! (1 ∷ 2 ∷ []) $
     looks ! tt D (data_opens R 𝓛) (p, tt) b o (λ q vs. move ! (1 ∷ []) $ peeks ! D (Is D) (shows 𝓛 D) (p, tt) vs (λ is.
