@@ -3,6 +3,7 @@ pub mod LocalLemmas
 pub mod CreateLemmas
 pub mod StepLemmas
 pub mod CallLemmas
+pub mod RuleLemmas
 pub mod TurnLemmas
 pub mod RunLemmas
 pub mod StandLemmas

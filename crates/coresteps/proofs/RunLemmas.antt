@@ -1,5 +1,5 @@
 -- Runs of one lane: how they begin, and how they go on turn after turn.
-use Rattle.std.proofs.Common.{◌≡◌, inl, inr, ℕ, zero, suc, ◌^◌, ◌<◌, Bool, true, ltb, not, List, [], ◌∷◌, ◌++◌, get_or, refl, ap, arith}
+use Rattle.std.proofs.Common.{◌≡◌, inl, inr, ℕ, zero, suc, ◌^◌, ◌<◌, Bool, true, ltb, not, List, [], ◌∷◌, ◌++◌, get_or, refl, ap, sym, subst, arith}
 use Rattle.std.specs.Prelude.{replicate}
 use Rattle.std.proofs.lemmas.List.{length-replicate}
 use Rattle.keybits.specs.declared.shape.Shape.{Shape}
@@ -8,15 +8,19 @@ use Rattle.keybits.specs.Shapes.{IsShape, all_places, position_of}
 use Rattle.keybits.specs.Words.{fresh_word}
 use Rattle.keybits.proofs.ShapeLemmas.{is_place-parts, position_of-lt}
 use Rattle.seqpool.specs.Pool.{Pool, fresh}
+use Rattle.steplaws.specs.Facts.{Lanes, moment, Rule}
+use Rattle.steplaws.proofs.Starts.{start-law}
 use Rattle.coresteps.specs.declared.script.Command.{Command}
 use Rattle.coresteps.specs.declared.trace.Turn.{Turn}
 use Rattle.coresteps.specs.Registers.{empty_register, fillings, held_references}
-use Rattle.coresteps.specs.Lawful.{World, first_world, world_after, world_from, is_finished, IsNextTurn, AreTurns}
-use Rattle.coresteps.specs.Parts.{count_if}
+use Rattle.coresteps.specs.Books.{call_under_way}
+use Rattle.coresteps.specs.Lawful.{World, first_words, first_world, world_after, world_from, is_finished, IsNextTurn, AreTurns}
+use Rattle.coresteps.specs.Parts.{count_if, moment_of}
 use Rattle.coresteps.specs.OneLane.{AreHeld, AreReplayed}
 use Rattle.coresteps.specs.Lanes.{first_lane}
 use Rattle.coresteps.specs.Kept.{Keeps}
 use Rattle.coresteps.proofs.LocalLemmas.{not_below}
+use Rattle.coresteps.proofs.RuleLemmas.{under_start}
 
 no_fillings : (place n : ℕ) → fillings place (replicate n empty_register) ≡ 0
 no_fillings place zero = refl
@@ -35,15 +39,19 @@ get_or-replicate zero i x h = absurd (omega arith)
 get_or-replicate (suc n) zero x h = refl
 get_or-replicate (suc n) (suc i) x h = get_or-replicate n i x (omega arith)
 
+-- the rule holds before the first turn
+first_rule : (z : Shape) → IsShape z → z.last_generation < 2 ^ 32 → (script : List Command) → Rule z (moment_of z (first_world (script ∷ [])))
+first_rule z limits wide script = subst (λ (lanes : Lanes). Rule z (moment first_words [] lanes))
+    (λ i. record { under = λ lane. sym (under_start z lane (call_under_way ((first_world (script ∷ [])).books lane))) i; pushed = λ shard lane. 0; chain = λ lane. [] })
+    (start-law z first_words limits wide (record { life = λ place inside. refl; stack = λ shard lane. refl }))
+
 -- a core before its first turn
 pub first_keeps : (z : Shape) → IsShape z → z.lanes ≡ 1 → z.last_generation < 2 ^ 32 → (script : List Command) → AreReplayed script
     → Keeps z (first_world (script ∷ [])) script first_lane (replicate (all_places z) fresh_word) (replicate (all_places z) []) []
 first_keeps z limits one wide script replayed = record {
-  limits = limits;
   one_lane = one;
-  wide = wide;
+  rule = first_rule z limits wide script;
   acts = refl;
-  legal = tt;
   simple = record {
     chainless = refl;
     sixteen = refl;
@@ -57,7 +65,7 @@ first_keeps z limits one wide script replayed = record {
   };
   keys = tt;
   within = omega arith;
-  stage = (refl, λ p is. refl);
+  stage = refl;
   words_length = length-replicate (all_places z) fresh_word;
   word = λ p is. get_or-replicate (all_places z) (position_of z p) fresh_word (position_of-lt z p is);
   contents_length = length-replicate (all_places z) [];

@@ -8,14 +8,12 @@ use Rattle.keybits.specs.declared.step.Word.TheVariants.{Life}
 use Rattle.keybits.specs.declared.step.Step.{Step}
 use Rattle.keybits.specs.Shapes.{IsShape, is_place}
 use Rattle.keybits.specs.Keys.{place_of, generation_of, is_key}
-use Rattle.keybits.specs.Words.{word_with, state_in, count_in, generation_in}
 use Rattle.keybits.proofs.ShapeLemmas.{place_bounds}
 use Rattle.keybits.proofs.KeyLemmas.{place_of-key_number, generation_of-key_number, is_key-key_number}
-use Rattle.keybits.proofs.WordLemmas.{state_in-word_with, count_in-word_with, generation_in-word_with}
 use Rattle.seqpool.specs.declared.act.Act.{Act}
 use Rattle.seqpool.specs.declared.act.Act.TheVariants as acts
-use Rattle.seqpool.specs.Pool.{touches, Pool, Spot, spot, Phase, with, published, home, retired, put, is_published, is_unmarked, references_in, content_in, is_current, found, lane_of, Allowed, changed, after}
-use Rattle.steplaws.specs.Facts.{bits_of}
+use Rattle.seqpool.specs.Pool.{touches, Pool, Spot, spot, Phase, with, published, put, is_published, is_current, after}
+use Rattle.seqpool.proofs.Growth.{after-here, after-else}
 use Rattle.coresteps.specs.declared.script.Command.{Command}
 use Rattle.coresteps.specs.declared.registers.RegisterState.{RegisterState}
 use Rattle.coresteps.specs.declared.registers.Holding.{Holding}
@@ -23,17 +21,13 @@ use Rattle.coresteps.specs.declared.registers.Holding.TheVariants.{Empty, Fillin
 use Rattle.coresteps.specs.Registers.{register_with, register_at, fills, refers, fillings, held_references}
 use Rattle.coresteps.specs.Following.{row_content}
 use Rattle.coresteps.specs.Parts.{count_if}
-use Rattle.coresteps.specs.OneLane.{first_key, IsHeld, AreHeld, IsSimple, IsSimpleLane, AreReplayed, WordsAre}
+use Rattle.coresteps.specs.OneLane.{first_key, IsHeld, AreHeld, IsSimple, IsSimpleLane, AreReplayed}
 use Rattle.coresteps.proofs.RegisterLemmas.{fillings-set, held_references-set, held-set, held-at, held-map}
 use Rattle.coresteps.proofs.LocalLemmas.{unpublished, simple_same}
 
 -- a register's filling is among those of its place
 fills-le : (p : ℕ) (xs : List RegisterState) (i : ℕ) → i < length xs → fills p (register_at xs i).holding ≤ fillings p xs
 fills-le p xs i inside = let t = fillings-set p xs i (register_with Empty None) inside in omega arith
-
--- an equal test
-same_true : (a b : ℕ) → a ≡ b → eqb a b ≡ true
-same_true a b e = eq-eqb a b e
 
 -- nobody refers to the key of a place that isn't published
 no_references : (z : Shape) (P : Pool) (p : ℕ) (xs : List RegisterState) → place_of (first_key z p) ≡ p → (P p).phase ≡ with 0 → AreHeld z P xs → held_references (first_key z p) xs ≡ 0
@@ -46,31 +40,6 @@ no_references z P p (x ∷ xs) at idle held = let more = no_references z P p xs 
     here (Reference k c) is = dite (ℕ_discrete k (first_key z p))
         (λ same. let bad : None ≡ Some c = sym (ap row_content (ap (λ (n : ℕ). (P n).phase) (ap place_of same ∙ at) ∙ idle)) ∙ is.0.1 in absurd (cc bad))
         (λ other. ap count_if (ne_eqb k (first_key z p) other))
-
--- what a word of this form says
-pub record Said (word bits n g : ℕ) : Type 0 where
-  pub state : state_in word ≡ bits
-  pub count : count_in word ≡ n
-  pub generation : generation_in word ≡ g
-
-pub said : (word bits n g : ℕ) → word ≡ word_with bits n g → bits < 4 → n < 1073741824 → Said word bits n g
-said word bits n g e small few = record {
-  state = ap state_in e ∙ state_in-word_with bits n g small;
-  count = ap count_in e ∙ count_in-word_with bits n g small few;
-  generation = ap generation_in e ∙ generation_in-word_with bits n g small few;
-}
-
-pub after_else : (z : Shape) (act : Act) (P : Pool) (q : ℕ) → touches act q ≡ false → after z act P q ≡ P q
-after_else z act P q e = ap (λ (b : Bool). cond b (changed z.last_generation act (P q)) (P q)) e
-
-pub after_here : (z : Shape) (act : Act) (P : Pool) (q : ℕ) → touches act q ≡ true → after z act P q ≡ changed z.last_generation act (P q)
-after_here z act P q e = ap (λ (b : Bool). cond b (changed z.last_generation act (P q)) (P q)) e
-
-put_here : (f : ℕ → ℕ) (i x j : ℕ) → j ≡ i → put f i x j ≡ x
-put_here f i x j e = ap (λ (b : Bool). cond b x (f j)) (eq-eqb j i e)
-
-put_else : (f : ℕ → ℕ) (i x j : ℕ) → j ≢ i → put f i x j ≡ f j
-put_else f i x j n = ap (λ (b : Bool). cond b x (f j)) (ne_eqb j i n)
 
 -- the key of a place of the shape, at generation 1, is current where that is the place's generation
 pub current : (z : Shape) (P : Pool) (p key : ℕ) → IsShape z → z.last_generation < 4294967296 → is_place z p ≡ true → key ≡ first_key z p → (P p).generation ≡ 1
@@ -89,7 +58,7 @@ held_else z act P p only unrowed Empty is = is
 held_else z act P p only unrowed (Filling k c) is = is
 held_else z act P p only unrowed (Reference k c) is = dite (ℕ_discrete (place_of k) p)
     (λ same. let bad : None ≡ Some c = sym (ap (λ (n : ℕ). row_content (P n).phase) same ∙ unrowed) ∙ is.0.1 in absurd (cc bad))
-    (λ other. let e : after z act P (place_of k) ≡ P (place_of k) = after_else z act P (place_of k) (only (place_of k) other) in
+    (λ other. let e : after z act P (place_of k) ≡ P (place_of k) = after-else z P act (place_of k) (only (place_of k) other) in
     ((ap (λ (x : Spot). is_key z k && eqb x.generation (generation_of k)) e ∙ is.0.0, ap (λ (x : Spot). row_content x.phase) e ∙ is.0.1), is.1, is.2))
 
 module _ (z : Shape) (shape : IsShape z) (wide : z.last_generation < 4294967296) (P : Pool) where
@@ -148,10 +117,10 @@ module _ (z : Shape) (shape : IsShape z) (wide : z.last_generation < 4294967296)
       idle = filling_idle own chain pages xs left i key content s inside holds
 
       at_p : (q : ℕ) → q ≡ place_of key → after z (acts.Publish 0 key content false) P q ≡ spot (P q).generation (published content (put (λ _. 0) 0 0) false)
-      at_p q here = after_here z (acts.Publish 0 key content false) P q (eq-eqb q (place_of key) here)
+      at_p q here = after-here z P (acts.Publish 0 key content false) q (eq-eqb q (place_of key) here)
 
       else_p : (q : ℕ) → q ≢ place_of key → after z (acts.Publish 0 key content false) P q ≡ P q
-      else_p q other = after_else z (acts.Publish 0 key content false) P q (ne_eqb q (place_of key) other)
+      else_p q other = after-else z P (acts.Publish 0 key content false) q (ne_eqb q (place_of key) other)
 
   -- a get finds a published place: its register has the reference then
   pub hit_lane : (own chain : List ℕ) (pages : ℕ) (xs : List RegisterState) (left more : List Command) (i p key : ℕ) (c : List ℕ) (refs : ℕ → ℕ)
@@ -201,11 +170,11 @@ module _ (z : Shape) (shape : IsShape z) (wide : z.last_generation < 4294967296)
       place_of_first q is_q = place_of-key_number z.tag q 1 (place_bounds z shape q is_q).number
 
       at_p : (q : ℕ) → q ≡ p → after z (acts.Get 0 key (Some c)) P q ≡ spot (P q).generation (published c (put refs 0 (refs 0 + 1)) false)
-      at_p q here = after_here z (acts.Get 0 key (Some c)) P q (eq-eqb q (place_of key) (here ∙ sym at.1))
+      at_p q here = after-here z P (acts.Get 0 key (Some c)) q (eq-eqb q (place_of key) (here ∙ sym at.1))
           ∙ ap (λ (f : Phase). spot (P q).generation (Rattle.seqpool.specs.Pool.gained 0 f)) (ap (λ (n : ℕ). (P n).phase) here ∙ up)
 
       else_p : (q : ℕ) → q ≢ p → after z (acts.Get 0 key (Some c)) P q ≡ P q
-      else_p q other = after_else z (acts.Get 0 key (Some c)) P q (ne_eqb q (place_of key) (λ h. other (h ∙ at.1)))
+      else_p q other = after-else z P (acts.Get 0 key (Some c)) q (ne_eqb q (place_of key) (λ h. other (h ∙ at.1)))
 
       still_up : (q : ℕ) → is_published (after z (acts.Get 0 key (Some c)) P q).phase ≡ is_published (P q).phase
       still_up q = dite (ℕ_discrete q p)
@@ -233,14 +202,6 @@ missed_pool z P key i q = both (eqb q (place_of key)) i
     both : (t : Bool) → cond t (P q) (P q) ≡ P q
     both true = refl
     both false = refl
-
--- one word changes, with its place
-pub words_move : (z : Shape) (P Q : Pool) (life undo undo' : ℕ → ℕ) (p v : ℕ) → WordsAre z P life undo
-    → ((q : ℕ) → q ≢ p → Q q ≡ P q) → ((q : ℕ) → q ≢ p → undo' q ≡ undo q)
-    → (is_place z p ≡ true → v ≡ word_with (bits_of (Q p).phase) (references_in (Q p).phase 0 + undo' p) 1) → WordsAre z Q (put life p v) undo'
-words_move z P Q life undo undo' p v are pool others here q is = dite (ℕ_discrete q p)
-    (λ same. put_here life p v q same ∙ (here (subst (λ (n : ℕ). is_place z n ≡ true) same is) ∙ ap (λ (n : ℕ). word_with (bits_of (Q n).phase) (references_in (Q n).phase 0 + undo' n) 1) (sym same)))
-    (λ other. put_else life p v q other ∙ (are q is ∙ (λ i. word_with (bits_of (sym (pool q other) i).phase) (references_in (sym (pool q other) i).phase 0 + sym (others q other) i) 1)))
 
 -- a step on the lifecycle word of a place
 abbrev pub made : Kind → ℕ → ℕ → ℕ → Step

@@ -168,7 +168,7 @@ abbrev pub of_shard : ℕ → List ℕ → List ℕ
 of_shard shard [] = []
 of_shard shard (place ∷ more) = if shard_of place == shard then place ∷ of_shard shard more else of_shard shard more
 
--- the places of a page, from the lowest slot after the first n on: count of them
+-- the places of a page from this slot on: so many of them
 abbrev pub slots_from : ℕ → ℕ → ℕ → ℕ → List ℕ
 slots_from shard page first zero = []
 slots_from shard page first (suc count) = place_at shard page first ∷ slots_from shard page (first + 1) count
@@ -177,13 +177,13 @@ slots_from shard page first (suc count) = place_at shard page first ∷ slots_fr
 abbrev pub page_places : Shape → ℕ → ℕ → List ℕ
 page_places z shard page = slots_from shard page 0 (page_size z page)
 
--- what create hands out, in the order: the first of the own list; else the first of the taken chain; else the first of what its TAKEs found;
--- else slot 0 of the next unopened page; else nothing
+-- the first place of a list; where there is none, what else there is
 abbrev pub handed_first : List ℕ → Option ℕ → Option ℕ
 handed_first [] other = other
 handed_first (place ∷ more) other = Some place
 
--- the place that create hands out, or none where it answers full
+-- what create hands out, in the order: the first of the own list; else the first of the taken chain; else the first of what its TAKEs found;
+-- else slot 0 of the next unopened page; else nothing, where it answers full
 abbrev pub handed_out : Shape → ℕ → Book → Option ℕ
 handed_out z lane b =
     handed_first b.own (handed_first b.chain (handed_first (taken b.acts)
@@ -264,7 +264,7 @@ abbrev pub free_after : Shape → ℕ → Book → Command → Reply → Free
 free_after z lane b (Create register) (replies.Filling key) = free_after_create z lane b
 free_after z lane b command reply = free_with b.own b.chain b.opened
 
--- a PUSH that succeeded is the last of its stack
+-- for each shard the word last pushed, after one step more: a PUSH that succeeded is the last of its stack
 abbrev pub pushed_by : Step → Kind → Word → (ℕ → ℕ) → ℕ → ℕ
 pushed_by step (kinds.Push expected link) (words.Stack shard lane) pushed = if step.before == expected then put pushed shard link else pushed
 pushed_by step kind word pushed = pushed

@@ -1,16 +1,16 @@
 -- What the core keeps of what the turns so far have made.
-use Rattle.std.specs.Prelude.{◌≡◌, ℕ, ◌+◌, ◌<◌, ◌≤◌, ◌^◌, true, false, List, [], ◌∷◌, drop, length, Some, None, slice_get, slice_index, MatchBool}
+use Rattle.std.specs.Prelude.{◌≡◌, ℕ, ◌+◌, ◌≤◌, true, false, List, [], ◌∷◌, drop, length, Some, None, slice_get, slice_index, MatchBool}
 use Rattle.keybits.specs.declared.shape.Shape.{Shape}
 use Rattle.keybits.specs.declared.step.Step.{Step}
 use Rattle.keybits.specs.declared.step.Kind.TheVariants as kinds
 use Rattle.keybits.specs.declared.step.Word.TheVariants.{Life}
-use Rattle.keybits.specs.Shapes.{IsShape, is_place, all_places, position_of}
+use Rattle.keybits.specs.Shapes.{is_place, all_places, position_of}
 use Rattle.keybits.specs.Keys.{place_of, is_key}
 use Rattle.seqpool.specs.declared.act.Act.{Act}
 use Rattle.seqpool.specs.declared.act.Act.TheVariants as acts
-use Rattle.seqpool.specs.Pool.{Pool, pool_after, IsLegal}
+use Rattle.seqpool.specs.Pool.{pool_after}
 use Rattle.steplaws.specs.Calls.{is_hit}
-use Rattle.steplaws.specs.Facts.{to_undo, Undo}
+use Rattle.steplaws.specs.Facts.{Rule}
 use Rattle.coresteps.specs.declared.script.Command.{Command}
 use Rattle.coresteps.specs.declared.script.Command.TheVariants as commands
 use Rattle.coresteps.specs.declared.script.Register.{Register}
@@ -25,8 +25,8 @@ use Rattle.coresteps.specs.Following.{row_content}
 use Rattle.coresteps.specs.declared.trace.Turn.{Turn}
 use Rattle.coresteps.specs.declared.machine.Machine.{Machine}
 use Rattle.coresteps.specs.Lawful.{World, world_after, world_from, is_finished, IsNextTurn, AreTurns}
-use Rattle.coresteps.specs.Parts.{StandsThroughout}
-use Rattle.coresteps.specs.OneLane.{IsSimpleBook, WordsAre}
+use Rattle.coresteps.specs.Parts.{moment_of, StandsThroughout}
+use Rattle.coresteps.specs.OneLane.{IsSimpleBook}
 use Rattle.coresteps.specs.Lanes.{AreFirstKeys, ready_book}
 
 -- the ENTER at a key's place that found this word
@@ -46,22 +46,20 @@ pub record IsEntered (z : Shape) (script : List Command) (lane : Lane) (b : Book
   pub missed : is_hit key found ≡ false
   pub book : b ≡ record (ready_book script lane) { steps = entered_step key found ∷ []; acts = acts.Get 0 key None ∷ [] }
 
--- the book is that of the lane, and the words have the ENTER to undo, if there is one
-abbrev pub StageStands : Shape → List Command → Lane → Stage → Book → Pool → (ℕ → ℕ) → Type 0
-StageStands z script lane Ready b pool life = (b ≡ ready_book script lane) × WordsAre z pool life (λ _. 0)
-StageStands z script lane (Missed key) b pool life = IsEntered z script lane b key × WordsAre z pool life (λ place. to_undo place (Undo key false))
+-- the book is that of the lane at this stage
+abbrev pub StageStands : Shape → List Command → Lane → Stage → Book → Type 0
+StageStands z script lane Ready b = b ≡ ready_book script lane
+StageStands z script lane (Missed key) b = IsEntered z script lane b key
 
--- of the world: the script's book, the words and the contents by the positions of their places, and the acts
+-- what the core keeps of the world: the rule of the steps, the book of its one lane, the words and the contents by the positions of their places, and the acts
 pub record Keeps (z : Shape) (w : World) (script : List Command) (lane : Lane) (words : List ℕ) (contents : List (List ℕ)) (history : List Act) : Type 0 where
-  pub limits : IsShape z
   pub one_lane : z.lanes ≡ 1
-  pub wide : z.last_generation < 2 ^ 32
+  pub rule : Rule z (moment_of z w)
   pub acts : history ≡ w.history
-  pub legal : IsLegal z w.history
   pub simple : IsSimpleBook z (pool_after z w.history) (w.books 0)
   pub keys : AreFirstKeys z lane.free
   pub within : lane.done ≤ length script
-  pub stage : StageStands z script lane lane.stage (w.books 0) (pool_after z w.history) w.words.life
+  pub stage : StageStands z script lane lane.stage (w.books 0)
   pub words_length : length words ≡ all_places z
   pub word : (place : ℕ) → is_place z place ≡ true → slice_index words (position_of z place) ≡ w.words.life place
   pub contents_length : length contents ≡ all_places z

@@ -90,7 +90,7 @@ IsNextCall z script lane (Gets register operand key) =
 abbrev pub next_lane : Lane → List RegisterState → Lane
 next_lane lane registers = record { done = lane.done + 1; registers = registers; free = lane.free; opened = lane.opened; stage = Ready }
 
--- the registers, but this in the one of this number holds this, and remembers the key that it had
+-- the registers, but the one of this number holds this, and remembers the key that it had
 abbrev pub holding_now : List RegisterState → ℕ → Holding → List RegisterState
 holding_now registers number holding = slice_set registers number (register_with holding (register_at registers number).last_key)
 

@@ -2,14 +2,12 @@
 use Rattle.std.specs.Prelude.{◌≡◌, ◌==◌, ◌⊎◌, ℕ, Bool, true, false, nat_lt, List, [], ◌∷◌, ◌++◌, Option, Some, None, is_some, slice_get, if◌then◌else◌}
 use Rattle.keybits.specs.declared.shape.Shape.{Shape}
 use Rattle.keybits.specs.declared.step.Step.{Step}
-use Rattle.keybits.specs.declared.step.Word.{Word}
-use Rattle.keybits.specs.declared.step.Word.TheVariants.{Life, Link, Stack}
 use Rattle.keybits.specs.Words.{fresh_word}
 use Rattle.keybits.specs.Steps.{Changes}
 use Rattle.seqpool.specs.declared.act.Act.{Act}
-use Rattle.seqpool.specs.Pool.{put, pool_after, IsLegal}
+use Rattle.seqpool.specs.Pool.{pool_after, IsLegal}
 use Rattle.steplaws.specs.Calls.{Call, Caller, aim, Makes}
-use Rattle.steplaws.specs.Facts.{Words}
+use Rattle.steplaws.specs.Facts.{Words, value_of, with_value}
 use Rattle.coresteps.specs.declared.script.Command.{Command}
 use Rattle.coresteps.specs.declared.reply.Reply.{Reply}
 use Rattle.coresteps.specs.declared.trace.Turn.{Turn}
@@ -36,33 +34,21 @@ abbrev pub first_world : List (List Command) → World
 first_world scripts =
     record { history = []; words = first_words; books = λ lane. first_book (script_or_none (slice_get scripts lane)) }
 
--- the value of a word
-abbrev pub value_of : Words → Word → ℕ
-value_of words (Life place) = words.life place
-value_of words (Link place) = words.link place
-value_of words (Stack shard lane) = words.stack shard lane
-
--- the words, but this value in the one
-abbrev pub with_value : Words → Word → ℕ → Words
-with_value words (Life place) value = record words { life = put words.life place value }
-with_value words (Link place) value = record words { link = put words.link place value }
-with_value words (Stack shard lane) value = record words { stack = λ s j. if s == shard then put (words.stack shard) lane value j else words.stack s j }
-
 -- the words after the step of a turn
 abbrev pub words_after : Words → Option Step → Words
 words_after words None = words
 words_after words (Some step) = with_value words step.word step.after
 
--- a lane's book after its turn
+-- a lane's book after the step of its turn, if that has one
 abbrev pub book_after_step : Book → Option Step → Option Act → Book
 book_after_step b None act = b
 book_after_step b (Some step) act = stepped b step act
 
--- its book before the step of the turn
+-- a lane's book before the step of its turn, after the replies before that
 abbrev pub book_before : Shape → World → Turn → Book
 book_before z w t = all_answered z t.lane (w.books t.lane) t.before
 
--- a lane's book after its turn and the replies behind the step
+-- a lane's book after its turn: after the step, and the replies behind it
 abbrev pub book_after : Shape → World → Turn → Book
 book_after z w t = all_answered z t.lane (book_after_step (book_before z w t) t.step t.act) t.after
 
@@ -75,7 +61,7 @@ abbrev pub world_after : Shape → World → Turn → World
 world_after z w t =
     record { history = w.history ++ act_list t.act; words = words_after w.words t.step; books = with_book w.books t.lane (book_after z w t) }
 
--- the script of a lane is at its end; a number that is no lane has none
+-- no command is left
 abbrev pub at_end : List Command → Bool
 at_end [] = true
 at_end (command ∷ more) = false
@@ -105,7 +91,7 @@ StepAndReplies z w lane b (Some step) act after =
     IsStep z lane w.words b step act
     × AreReplies z (pool_after z (w.history ++ act_list act)) lane (stepped b step act) after
 
--- up to the next step or the script's end
+-- the lane stands at a step or at the script's end: its next is no reply
 abbrev pub IsAtRest : Shape → ℕ → Book → Type 0
 IsAtRest z lane b = (at_end b.left ≡ true) ⊎ (is_some (next_aim z lane b) ≡ true)
 

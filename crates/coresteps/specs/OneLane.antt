@@ -4,10 +4,8 @@ use Rattle.keybits.specs.declared.shape.Shape.{Shape}
 use Rattle.keybits.specs.Places.{page_of}
 use Rattle.keybits.specs.Shapes.{is_place}
 use Rattle.keybits.specs.Keys.{key_number, place_of}
-use Rattle.keybits.specs.Words.{word_with}
-use Rattle.seqpool.specs.Pool.{Pool, Phase, with, published, home, retired, is_published, references_in}
+use Rattle.seqpool.specs.Pool.{Pool, Phase, with, published, home, retired, is_published}
 use Rattle.keybits.specs.Counts.{times}
-use Rattle.steplaws.specs.Facts.{bits_of}
 use Rattle.coresteps.specs.declared.script.Command.{Command}
 use Rattle.coresteps.specs.declared.script.Command.TheVariants.{Create, Write, Publish, Downgrade, Get, Read, Release, Clear}
 use Rattle.coresteps.specs.declared.reply.Reply.{Reply}
@@ -45,7 +43,7 @@ ScriptsAreReplayed (script ∷ more) = AreReplayed script × ScriptsAreReplayed 
 abbrev pub first_key : Shape → ℕ → ℕ
 first_key z place = key_number z.tag place 1
 
--- what the register of a read tells: its content
+-- what read replies of what its register holds: the content of a reference, and else skip
 abbrev pub ReadReply : Holding → Reply → Type 0
 ReadReply Empty reply = reply ≡ replies.Skip
 ReadReply (Filling key content) reply = reply ≡ replies.Skip
@@ -114,8 +112,3 @@ pub record IsSimpleLane (z : Shape) (pool : Pool) (own chain : List ℕ) (pages 
 -- the same of a lane's book
 abbrev pub IsSimpleBook : Shape → Pool → Book → Type 0
 IsSimpleBook z pool b = IsSimpleLane z pool b.own b.chain b.opened b.registers b.left
-
--- a lifecycle word is that of its place in the pool, with so many ENTERs to undo beside the lane's references
-abbrev pub WordsAre : Shape → Pool → (ℕ → ℕ) → (ℕ → ℕ) → Type 0
-WordsAre z pool life to_undo = (place : ℕ) → is_place z place ≡ true
-    → life place ≡ word_with (bits_of (pool place).phase) (references_in (pool place).phase 0 + to_undo place) 1

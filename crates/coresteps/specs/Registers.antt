@@ -29,13 +29,13 @@ abbrev pub operand_key : List RegisterState → Operand → Option ℕ
 operand_key registers (Number key) = Some key
 operand_key registers (LastOf register) = (register_at registers register.number).last_key
 
--- whether what is held is a filling of this place
+-- 1 where what is held is a filling of this place, else 0
 abbrev pub fills : ℕ → Holding → ℕ
 fills place Empty = 0
 fills place (Filling key content) = if place_of key == place then 1 else 0
 fills place (Reference key content) = 0
 
--- whether what is held is a reference to this key
+-- 1 where what is held is a reference to this key, else 0
 abbrev pub refers : ℕ → Holding → ℕ
 refers key Empty = 0
 refers key (Filling at content) = 0

@@ -7,7 +7,7 @@ use Rattle.keybits.specs.declared.step.Kind.{Kind}
 use Rattle.keybits.specs.declared.step.Kind.TheVariants as kinds
 use Rattle.keybits.specs.declared.step.Word.{Word}
 use Rattle.keybits.specs.declared.step.Word.TheVariants as words
-use Rattle.seqpool.specs.Texts.{content_text}
+use Rattle.seqpool.specs.ActsText.{content_text}
 use Rattle.coresteps.specs.declared.reply.Reply.{Reply}
 use Rattle.coresteps.specs.declared.reply.Reply.TheVariants.{Filling, Full, Memory, Done, Key, Found, Missing, Content, Cleared, Skip}
 use Rattle.coresteps.specs.declared.trace.Turn.{Turn}

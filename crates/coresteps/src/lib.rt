@@ -18,3 +18,6 @@ pub use reply::{Replies, Reply};
 pub use script::{Command, Operand, Register, Script};
 pub use text::write_trace;
 pub use trace::{Trace, Turn};
+
+#[cfg(test)]
+mod tests;

@@ -1,7 +1,7 @@
-ghost use Rattle.std.specs.Prelude.{ℕ, List, ◌≡◌, ◌∷◌, ◌++◌, ◌+◌, ◌<◌, ◌≤◌, [], true, false, Some, IfOk, OnOk, OnErr, slice_get, slice_index, slice_set, length, replicate};
+ghost use Rattle.std.specs.Prelude.{ℕ, List, ◌≡◌, ◌∷◌, ◌++◌, ◌+◌, ◌<◌, ◌≤◌, [], true, false, Some, IsOk, IfOk, OnOk, OnErr, slice_get, slice_index, slice_set, length, replicate};
 ghost use Rattle.keybits.specs.Shapes.{IsShape, is_place, position_of};
 ghost use Rattle.keybits.specs.Keys.{place_of, is_key, generation_of};
-ghost use Rattle.keybits.specs.Words.{state_in, count_in};
+ghost use Rattle.keybits.specs.Words.{state_in, count_in, fresh_word};
 ghost use Rattle.steplaws.specs.Calls.{is_hit};
 ghost use Rattle.coresteps.specs.Lawful.{World, first_world};
 
@@ -11,7 +11,9 @@ use crate::registers::{Holding, RegisterState};
 use crate::reply::{Replies, Reply};
 use crate::script::{Command, Operand, Register, Script};
 use crate::trace::Turn;
-use keybits::{Key, Kind, Life, Shape, State, Step, Word, entered, left, published};
+use keybits::{
+    Kind, Life, Shape, State, Step, Word, entered, generation_of, left, place_of, published,
+};
 use seqpool::{Act, Bytes};
 use std::alloc::Global;
 
@@ -28,9 +30,6 @@ pub(crate) struct Machine {
     contents: Vec<Bytes>,
     acts: Vec<Act>,
 }
-
-/// The lifecycle word of a place before its first publish: generation 1, idle, count 0.
-const FRESH_WORD: u64 = 4_294_967_296;
 
 impl Machine {
     ghost use Rattle.coresteps.specs.Lanes.{IsNextCall, Works};
@@ -295,16 +294,13 @@ impl Machine {
         }
     }
 
-    /// One turn of a lane: its next atomic step, with the work of its own before its first step and after each one. A turn of a
-    /// finished lane, or of a number that is no lane, does nothing. Where memory is refused (25), the core is as before.
-    pub(crate) fn turn(&mut self, lane: u32) -> Result<Turn, CoreFault>
+    /// The next turn of the lane, where it isn't finished.
+    fn next_turn(&mut self) -> Result<Turn, CoreFault>
         requires core { IsCore self.old }
-        ensures ok { IfOk result (λ turn. (w : World) → IsCoreAt w self.old → Turns self.old w lane turn self.new) }
+        requires unfinished { self.old.lane.done < length self.old.script }
+        ensures ok { IfOk result (λ turn. (w : World) → IsCoreAt w self.old → is_finished self.old.shape w 0 ≡ false → MakesTurn self.old w turn self.new) }
         ensures err { OnErr result (IsSameCore self.old self.new) }
     {
-        if self.finished(lane) {
-            return Ok(Turn::empty(self.alloc, lane));
-        }
         let mut draft = self.lane.copy(self.alloc)?;
         if let Stage::Missed { key } = draft.stage {
             return self.leave(draft, key);
@@ -319,6 +315,21 @@ impl Machine {
                 key,
             } => self.enter(draft, before, register, operand, key),
         }
+    }
+
+    /// One turn of a lane: its next atomic step, with the work of its own before its first step and after each one. A turn of a
+    /// finished lane, or of a number that is no lane, does nothing and takes no memory. Where memory is refused (25), the core
+    /// is as before.
+    pub(crate) fn turn(&mut self, lane: u32) -> Result<Turn, CoreFault>
+        requires core { IsCore self.old }
+        ensures ok { IfOk result (λ turn. (w : World) → IsCoreAt w self.old → Turns self.old w lane turn self.new) }
+        ensures finished { (w : World) → IsCoreAt w self.old → is_finished self.old.shape w lane ≡ true → IsOk result }
+        ensures err { OnErr result (IsSameCore self.old self.new) }
+    {
+        if self.finished(lane) {
+            return Ok(Turn::empty(self.alloc, lane));
+        }
+        self.next_turn()
     }
 
     /// Whether a lane's script is at its end; true for a number that is no lane.
@@ -341,15 +352,7 @@ fn is_hit(key: u64, word: u64) -> bool
     ensures { result ≡ is_hit key word }
 {
     let life = Life::of_word(word);
-    let generation = (key / 16_777_216 % 4_294_967_296) as u32;
-    life.generation == generation && life.state == State::Present
-}
-
-/// The number of the place that a key's number names.
-fn place_of(key: u64) -> u32
-    ensures { result ≡ place_of key }
-{
-    (key % 16_777_216) as u32
+    life.generation == generation_of(key) && life.state == State::Present
 }
 
 /// The script of the one lane.
@@ -372,13 +375,18 @@ fn no_contents(alloc: Global, places: usize) -> Result<Vec<Bytes>, CoreFault>
     Ok(contents)
 }
 
-/// As many fresh lifecycle words as there are places.
+/// As many fresh lifecycle words as there are places: generation 1, idle, count 0.
 fn fresh_words(alloc: Global, places: usize) -> Result<Vec<u64>, CoreFault>
-    ensures { IfOk result (λ words. words.items ≡ replicate places FRESH_WORD) }
+    ensures { IfOk result (λ words. words.items ≡ replicate places fresh_word) }
 {
+    let fresh = Life {
+        generation: 1,
+        count: 0,
+        state: State::Idle,
+    };
     let mut words = Vec::with_capacity(alloc, places)?;
     for _ in 0..places {
-        words.push(FRESH_WORD)?;
+        words.push(fresh.word())?;
     }
     Ok(words)
 }

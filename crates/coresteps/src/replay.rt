@@ -1,4 +1,4 @@
-ghost use Rattle.std.specs.Prelude.{ℕ, List, ◌≡◌, ◌∷◌, ◌++◌, [], IfOk, OnOk, OnErr, length};
+ghost use Rattle.std.specs.Prelude.{ℕ, List, ◌≡◌, ◌∷◌, ◌++◌, [], true, IsOk, IfOk, OnOk, OnErr, length};
 ghost use Rattle.keybits.specs.Shapes.{IsShape};
 ghost use Rattle.coresteps.specs.OneLane.{ScriptsAreReplayed};
 ghost use Rattle.coresteps.specs.Lawful.{IsLawful, World, first_world};
@@ -50,9 +50,11 @@ impl Core {
     }
 
     /// One turn of a lane: its next atomic step, with the work of its own before its first step and after each one. A turn of a
-    /// finished lane, or of a number that is no lane, does nothing. Where memory is refused (25), the core is as before.
+    /// finished lane, or of a number that is no lane, does nothing and takes no memory. Where memory is refused (25), the core
+    /// is as before.
     pub fn turn(&mut self, lane: u32) -> Result<Turn, CoreFault>
         ensures ok { IfOk result (λ turn. (w : World) → IsCoreAt w self.old → Turns self.old w lane turn self.new) }
+        ensures finished { (w : World) → IsCoreAt w self.old → is_finished self.old.shape w lane ≡ true → IsOk result }
         ensures err { OnErr result (IsSameCore self.old self.new) }
     {
         self.machine.turn(lane)

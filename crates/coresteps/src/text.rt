@@ -1,6 +1,6 @@
 ghost use Rattle.std.specs.Prelude.{◌≡◌, ◌++◌, OnOk, OnErr, flat_map};
 ghost use Rattle.std.specs.Fmt.{decimal};
-ghost use Rattle.seqpool.specs.Texts.{content_text};
+ghost use Rattle.seqpool.specs.ActsText.{content_text};
 ghost use Rattle.coresteps.specs.Text.{reply_text, reply_line, kind_text, word_text, step_line, turn_text, trace_text};
 ghost use mathlib.Core.List.{IsPrefix};
 

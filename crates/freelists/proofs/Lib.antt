@@ -1,3 +1,4 @@
 pub mod ShardLemmas
 pub mod QueueLemmas
+pub mod FreeLemmas
 pub mod PushLemmas

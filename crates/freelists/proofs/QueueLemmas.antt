@@ -1,5 +1,5 @@
 -- The queue of a lane's free places through its link numbers.
-use Rattle.std.proofs.Common.{◌≡◌, ◌≢◌, ◌⊎◌, inl, inr, ℕ, suc, ◌+◌, ◌-◌, ◌<◌, ◌≤◌, true, eqb, List, [], ◌∷◌, ◌++◌, length, map, get_or, set, refl, ap, sym, ◌∙◌, subst, arith, length-set, append_assoc}
+use Rattle.std.proofs.Common.{◌≡◌, ◌≢◌, ◌⊎◌, inl, inr, ℕ, zero, suc, ◌+◌, ◌-◌, ◌<◌, ◌≤◌, true, eqb, List, [], ◌∷◌, ◌++◌, length, map, get_or, set, refl, ap, sym, ◌∙◌, subst, arith, length-set, append_assoc}
 use mathlib.Core.Logic.{dite}
 use native.Mathlib.Decide.{ℕ_discrete}
 use Rattle.std.specs.List.{All, Contains}
@@ -74,6 +74,21 @@ own-tail z shard p more all = record {
   inside = All-tail (IsOwn shard z) p more all.inside;
   each_once = λ n. let whole : times n (numbers (p ∷ more)) ≤ 1 = all.each_once n in omega arith;
 }
+
+-- the first place of a list without repeats is not on the rest
+pub first_once : (z : Shape) (shard : ℕ) (p : Place) (more : List Place) → AreOwn shard z (p ∷ more) → ¬ Contains more p
+first_once z shard p more all among =
+    let once : times (number_of p) (numbers (p ∷ more)) ≤ 1 = all.each_once (number_of p) in
+    let here : count_if (eqb (number_of p) (number_of p)) ≡ 1 = one_at (number_of p) (number_of p) refl in
+    let again : 0 < times (number_of p) (numbers more) = counted_once more p among in
+    omega arith
+  where
+    counted_once : (places : List Place) (q : Place) → Contains places q → 0 < times (number_of q) (numbers places)
+    counted_once [] q (k, below, e) = absurd (omega arith)
+    counted_once (r ∷ rest) q (zero, below, e) =
+        let one : count_if (eqb (number_of r) (number_of q)) ≡ 1 = one_at (number_of r) (number_of q) (ap number_of e) in omega arith
+    counted_once (r ∷ rest) q (suc k, below, e) =
+        let later : 0 < times (number_of q) (numbers rest) = counted_once rest q (k, omega arith, e) in omega arith
 
 length-numbers : (places : List Place) → length (numbers places) ≡ length places
 length-numbers [] = refl

@@ -1,13 +1,14 @@
 -- The places and the pages of one shard.
 use Rattle.std.specs.Prelude.{◌≡◌, ℕ, ◌<◌}
 use Rattle.keybits.specs.declared.shape.Shape.{Shape}
+use Rattle.keybits.specs.declared.shape.TheConstants.{MOST_LANES}
 use Rattle.keybits.specs.declared.place.Place.{Place}
 use Rattle.keybits.specs.Places.{shard_of, page_of, slot_of}
 use Rattle.keybits.specs.Shapes.{IsShape, page_size}
 
 -- a shape whose shards have these pages; there are as many shards as there can be
 abbrev pub shape_of : ℕ → ℕ → Shape
-shape_of first_page pages = record { lanes = 16; first_page = first_page; pages = pages; last_generation = 1; tag = 0 }
+shape_of first_page pages = record { lanes = MOST_LANES; first_page = first_page; pages = pages; last_generation = 1; tag = 0 }
 
 -- the shape is within its limits, and there is a shard of this number
 pub record IsShardOf (shard : ℕ) (z : Shape) : Type 0 where

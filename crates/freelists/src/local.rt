@@ -1,13 +1,14 @@
 use crate::shard::{Shard, place_of_word};
-use keybits::{Place, link_to};
+use keybits::{MOST_LANES, Place, link_to};
 use std::alloc::Global;
 use std::marker::Model;
 
 /// The free places of a lane: its own list, first in first out, and beside it the first place of the chain that it took
 /// from its stacks.
 ///
-/// The own list goes through one link number for each place of the shard, so that nothing but `new` takes memory. The
-/// order and the chain are this project's profile.
+/// The own list goes through one link number for each place of the shard, so that nothing but `new` takes memory: a
+/// contract sees the room for links beside the places, and no call changes it. The order and the chain are this project's
+/// profile.
 #[derive(Debug, Drop)]
 pub struct LocalFree {
     shard: Shard,
@@ -28,7 +29,8 @@ impl Model for LocalFree {
     ghost use Rattle.keybits.specs.declared.place.Place.{Place};
     ghost use Rattle.keybits.specs.Shapes.{shard_places};
     ghost use Rattle.freelists.specs.Shards.{IsShardOf};
-    ghost use Rattle.freelists.specs.Queues.{FreePlaces, IsQueue, link_in, led_through};
+    ghost use Rattle.std.specs.Vec.{vec_capacity};
+    ghost use Rattle.freelists.specs.Queues.{FreePlaces, IsQueue, HangsApart, link_in, led_through};
 
     ghost Value = { FreePlaces };
 
@@ -37,12 +39,14 @@ impl Model for LocalFree {
       shape = f.shard.shape;
       own = led_through (link_in f.shard.shape f.links.items) f.shard.number f.first f.count;
       chain = f.chain;
+      room = vec_capacity f.links;
     } };
 
     ghost invariant = { λ f. IsShardOf f.shard.number f.shard.shape
         × (length f.links.items ≡ shard_places f.shard.shape)
         × ((own : List Place) × (length own ≡ f.count)
-        × IsQueue f.shard.number f.shard.shape f.links.items f.first f.last own) };
+        × IsQueue f.shard.number f.shard.shape f.links.items f.first f.last own
+        × HangsApart f.shard.number f.shard.shape own f.chain) };
 }
 
 impl LocalFree {
@@ -52,19 +56,21 @@ impl LocalFree {
     ghost use Rattle.keybits.specs.Shapes.{IsShape, shard_places};
     ghost use Rattle.keybits.specs.Links.{link_to};
     ghost use Rattle.freelists.specs.Shards.{shape_of, IsOwn};
-    ghost use Rattle.freelists.specs.Queues.{AreOwn, GoesOnBy};
+    ghost use Rattle.freelists.specs.Queues.{AreFree, IsAway, GoesOnBy};
 
     /// No free places of a shard from 0 to 15 and no chain, with room for all its places. The first page has 1, 2, 4, 8,
     /// 16, 32 or 64 places, and there are 1 to 6 pages. None where memory was refused.
     pub fn new(alloc: Global, shard: u8, first_page: u32, pages: u32) -> Option<LocalFree>
-        requires shard { shard < 16 }
+        requires shard { shard < MOST_LANES }
         requires shape { IsShape (shape_of first_page pages) }
-        ensures { IfSome result (λ free. free ≡ record {
+        ensures empty { IfSome result (λ free. free ≡ record {
           shard = shard;
           shape = shape_of first_page pages;
           own = [];
           chain = None;
+          room = free.room;
         }) }
+        ensures places { IfSome result AreFree }
     {
         let shard = Shard::new(shard, first_page, pages);
         let places = shard.shape.shard_places() as usize;
@@ -83,13 +89,12 @@ impl LocalFree {
         })
     }
 
-    /// Puts an own place that isn't on the own list at its end.
+    /// Puts an own place, which is neither on the own list nor the chain's first, at the end of the own list.
     #[inline]
     pub fn push(&mut self, place: Place)
-        requires own { IsOwn self.old.shard self.old.shape place }
-        requires absent { ¬ Contains self.old.own place }
+        requires { IsAway self.old place }
         ensures pushed { self.new ≡ record self.old { own = self.old.own ++ place ∷ [] } }
-        ensures places { AreOwn self.new.shard self.new.shape self.new.own }
+        ensures places { AreFree self.new }
     {
         let index = self.shard.index(place);
         let link = link_to(place.number());
@@ -104,15 +109,15 @@ impl LocalFree {
         self.count += 1;
     }
 
-    /// Takes the place off the own list that was pushed first, and answers it. None where the list is empty, which
-    /// changes nothing.
+    /// Takes the place off the own list that was pushed first, and answers it, which may be pushed again. None where the
+    /// list is empty, which changes nothing.
     #[inline]
     pub fn pop(&mut self) -> Option<Place>
         ensures some { IsSome result ↔ (0 < length self.old.own) }
         ensures first { self.old.own ≡ option_to_list result ++ self.new.own }
         ensures rest { self.new ≡ record self.old { own = self.new.own } }
-        ensures own { IfSome result (IsOwn self.old.shard self.old.shape) }
-        ensures places { AreOwn self.new.shard self.new.shape self.new.own }
+        ensures away { IfSome result (IsAway self.new) }
+        ensures places { AreFree self.new }
     {
         if self.count == 0 {
             return None;
@@ -128,17 +133,19 @@ impl LocalFree {
     pub fn len(&self) -> usize
         ensures len { result ≡ length self.now.own }
         ensures within { result ≤ shard_places self.now.shape }
-        ensures places { AreOwn self.now.shard self.now.shape self.now.own }
+        ensures places { AreFree self.now }
     {
         self.count as usize
     }
 
-    /// Hangs up a taken chain by its first place. No chain hangs yet, and the place isn't on the own list.
+    /// Hangs up a taken chain by its first place. No chain hangs yet, and the place is an own one that isn't on the own
+    /// list.
     #[inline]
     pub fn hang(&mut self, place: Place)
         requires free { self.old.chain ≡ None }
-        requires absent { ¬ Contains self.old.own place }
-        ensures { self.new ≡ record self.old { chain = Some place } }
+        requires away { IsAway self.old place }
+        ensures hung { self.new ≡ record self.old { chain = Some place } }
+        ensures places { AreFree self.new }
     {
         self.chain = Some(place);
     }
@@ -164,6 +171,7 @@ impl LocalFree {
         ensures goes_on { (next : Place) → IsOwn self.old.shard self.old.shape next
             → link ≡ link_to (number_of next) → self.new.chain ≡ Some next }
         ensures rest { self.new ≡ record self.old { chain = self.new.chain } }
+        ensures places { AreFree self.new }
     {
         let place = self.chain.unwrap();
         self.chain = if link == 0 {

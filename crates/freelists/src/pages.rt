@@ -1,5 +1,5 @@
 use crate::shard::Shard;
-use keybits::Place;
+use keybits::{MOST_LANES, Place};
 use std::marker::Model;
 
 /// The pages of a shard: how large they are, which of them are opened, and the number of each place among those of the
@@ -29,12 +29,12 @@ impl Pages {
     ghost use Rattle.keybits.specs.declared.place.Place.{Place};
     ghost use Rattle.keybits.specs.Places.{number_of};
     ghost use Rattle.keybits.specs.Shapes.{IsShape, page_size, shard_places, index_of};
-    ghost use Rattle.freelists.specs.Shards.{shape_of, IsOwn};
+    ghost use Rattle.freelists.specs.Shards.{shape_of, IsShardOf, IsOwn};
 
     /// The pages of a shard from 0 to 15, none of them opened. The first page has 1, 2, 4, 8, 16, 32 or 64 places, and
     /// there are 1 to 6 pages.
     pub fn new(shard: u8, first_page: u32, pages: u32) -> Pages
-        requires shard { shard < 16 }
+        requires shard { shard < MOST_LANES }
         requires shape { IsShape (shape_of first_page pages) }
         ensures { result ≡ record { shard = shard; shape = shape_of first_page pages; opened = 0 } }
     {
@@ -58,6 +58,7 @@ impl Pages {
     pub fn opened(&self) -> u32
         ensures opened { result ≡ self.now.opened }
         ensures within { result ≤ self.now.shape.pages }
+        ensures limits { IsShardOf self.now.shard self.now.shape }
     {
         self.opened
     }
@@ -69,6 +70,7 @@ impl Pages {
         ensures lowest { IfSome result (λ page. page ≡ self.old.opened) }
         ensures opened { IfSome result (λ page. self.new ≡ record self.old { opened = page + 1 }) }
         ensures none { IfNone result (self.new ≡ self.old) }
+        ensures limits { IsShardOf self.old.shard self.old.shape }
     {
         if self.opened == self.shard.shape.pages {
             return None;

@@ -1,3 +1,4 @@
+ghost use Rattle.keybits.specs.declared.shape.TheConstants.{MOST_LANES};
 ghost use Rattle.std.specs.Prelude.{◌<◌};
 
 use crate::shard::place_of_word;
@@ -13,7 +14,7 @@ pub struct Returns {
     /// The shard to which places are returned, 0 to 15.
     pub shard: u8,
 
-    pub ghost in_range: { shard < 16 },
+    pub ghost in_range: { shard < MOST_LANES },
 }
 
 impl Returns {

@@ -3,7 +3,7 @@ ghost use Rattle.keybits.specs.Places.{number_of};
 ghost use Rattle.keybits.specs.Links.{linked_place};
 ghost use Rattle.freelists.specs.Shards.{place_numbered};
 
-use keybits::{Place, Shape, linked_place};
+use keybits::{MOST_LANES, Place, Shape, linked_place};
 
 /// A shard, with a shape that tells the sizes of its pages.
 #[derive(Clone, Copy, Debug)]
@@ -27,7 +27,7 @@ impl Shard {
         ensures { result ≡ record { number = number; shape = shape_of first_page pages } }
     {
         let shape = Shape {
-            lanes: 16,
+            lanes: MOST_LANES,
             first_page,
             pages,
             last_generation: 1,
@@ -65,7 +65,7 @@ impl Shard {
 /// The place of a shard that a link or stack word from 1 to 65536 stands for.
 #[inline]
 pub(crate) fn place_of_word(shard: u8, word: u64) -> Place
-    requires shard { shard < 16 }
+    requires shard { shard < MOST_LANES }
     requires place { 1 ≤ word }
     requires in_range { word ≤ 65536 }
     ensures place { result ≡ place_numbered (linked_place shard word) }

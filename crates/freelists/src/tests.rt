@@ -108,7 +108,7 @@ fn the_place_pushed_first_is_popped_first(rt: HostRuntime) -> Result<(), Fail> {
 }
 
 fn push_and_pop(free: &mut LocalFree) -> [Option<Place>; 5]
-    requires { free.old ≡ record { shard = 2; shape = shape_of 2 6; own = []; chain = None } }
+    requires { free.old ≡ record { shard = 2; shape = shape_of 2 6; own = []; chain = None; room = free.old.room } }
 {
     free.push(A);
     free.push(B);
@@ -119,6 +119,35 @@ fn push_and_pop(free: &mut LocalFree) -> [Option<Place>; 5]
     let third = free.pop();
     let fourth = free.pop();
     [first, second, third, fourth, free.pop()]
+}
+
+// The place that comes off the list may be pushed again.
+fn pop_and_push(free: &mut LocalFree) -> Option<Place>
+    ensures { free.new ≡ record free.old { own = free.new.own } }
+{
+    let place = free.pop()?;
+    free.push(place);
+    Some(place)
+}
+
+#[test]
+fn a_popped_place_is_pushed_again(rt: HostRuntime) -> Result<(), Fail> {
+    SMALL.check()?;
+    let mut free = LocalFree::new(rt.alloc(), 2, 2, 6).ok_or("no memory")?;
+    push_two(&mut free);
+    assert_eq!(rt; pop_and_push(&mut free), Some(A));
+    assert_eq!(rt; pop_and_push(&mut free), Some(B));
+    assert_eq!(rt; free.pop(), Some(A));
+    assert_eq!(rt; free.pop(), Some(B));
+    assert_eq!(rt; free.pop(), None);
+    Ok(())
+}
+
+fn push_two(free: &mut LocalFree)
+    requires { free.old ≡ record { shard = 2; shape = shape_of 2 6; own = []; chain = None; room = free.old.room } }
+{
+    free.push(A);
+    free.push(B);
 }
 
 #[test]
@@ -135,7 +164,7 @@ fn a_chain_is_followed_to_its_end(rt: HostRuntime) -> Result<(), Fail> {
 }
 
 fn hang_and_follow(free: &mut LocalFree) -> [Place; 3]
-    requires { free.old ≡ record { shard = 2; shape = shape_of 2 6; own = []; chain = None } }
+    requires { free.old ≡ record { shard = 2; shape = shape_of 2 6; own = []; chain = None; room = free.old.room } }
 {
     free.hang(A);
     free.push(D);

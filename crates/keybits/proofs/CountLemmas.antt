@@ -1,5 +1,5 @@
 -- How often a number is in a list, and sums below a number.
-use Rattle.std.proofs.Common.{◌≡◌, ◌≢◌, ℕ, zero, suc, ◌+◌, ◌<◌, ◌≤◌, Bool, cond, eqb, List, [], ◌∷◌, ◌++◌, length, map, refl, ap, sym, ◌∙◌, arith, eq-eqb, ne_eqb}
+use Rattle.std.proofs.Common.{◌≡◌, ◌≢◌, ℕ, zero, suc, ◌+◌, ◌*◌, ◌<◌, ◌≤◌, Bool, cond, eqb, List, [], ◌∷◌, ◌++◌, length, map, refl, ap, sym, ◌∙◌, arith, eq-eqb, ne_eqb, suc-mul}
 use mathlib.Core.Logic.{dite}
 use native.Mathlib.Decide.{ℕ_discrete}
 use Rattle.keybits.specs.Counts.{sum_below, times}
@@ -67,6 +67,22 @@ sum-le zero f most = omega arith
 sum-le (suc n) f most =
     let rest : sum_below n f ≤ n = sum-le n f (λ k below. most k (omega arith)) in
     let last : f n ≤ 1 = most n (omega arith) in
+    omega arith
+
+-- a sum above 0 has a part above 0
+pub sum-some : (n : ℕ) (f : ℕ → ℕ) → 0 < sum_below n f → (k : ℕ) × (k < n) × (0 < f k)
+sum-some zero f some = absurd (omega arith)
+sum-some (suc n) f some = dite (ℕ_discrete (f n) 0)
+    (λ none. let r = sum-some n f (omega arith) in (r.0, omega arith, r.2))
+    (λ more. (n, omega arith, omega arith))
+
+-- a sum of parts that are at most b
+pub sum-bound : (n b : ℕ) (f : ℕ → ℕ) → ((k : ℕ) → f k ≤ b) → sum_below n f ≤ n * b
+sum-bound zero b f most = omega arith
+sum-bound (suc n) b f most =
+    let rest = sum-bound n b f most in
+    let last = most n in
+    let one_more : suc n * b ≡ n * b + b = suc-mul n b ∙ omega arith in
     omega arith
 
 sum-past : (n x : ℕ) → n ≤ x → sum_below n (λ k. count_if (eqb x k)) ≡ 0

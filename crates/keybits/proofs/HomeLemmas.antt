@@ -59,16 +59,16 @@ same_bit false false e = refl
 same_bit true false e = absurd (unequal (count_if true) (count_if false) refl refl e)
 same_bit false true e = absurd (unequal (count_if true) (count_if false) refl refl (sym e))
 
-bit-le : (b : Bool) → count_if b ≤ 1
+pub bit-le : (b : Bool) → count_if b ≤ 1
 bit-le true = omega arith
 bit-le false = omega arith
 
-bit_true : (b : Bool) → 0 < count_if b → b ≡ true
+pub bit_true : (b : Bool) → 0 < count_if b → b ≡ true
 bit_true true h = refl
 bit_true false h = let bad : 0 < 0 = h in absurd (omega arith)
 
 -- a place on a stack is home
-home_on : (threads : ℕ → List ℕ) (z : Shape) (shard : ℕ) (links stacks : ℕ → ℕ) (home : ℕ → Bool) → AreHomeBy threads z shard links stacks home
+pub home_on : (threads : ℕ → List ℕ) (z : Shape) (shard : ℕ) (links stacks : ℕ → ℕ) (home : ℕ → Bool) → AreHomeBy threads z shard links stacks home
     → (lane place : ℕ) → lane < z.lanes → lane ≢ shard → 0 < times place (threads lane) → home place ≡ true
 home_on threads z shard links stacks home h lane place below other some =
     let part = on_one z.lanes shard lane place threads below other in

@@ -1,6 +1,7 @@
 -- Links that lead through a list of places.
-use Rattle.std.proofs.Common.{◌≡◌, ℕ, ◌<◌, List, [], ◌∷◌, ◌++◌, refl, sym, ◌∙◌, subst, arith}
-use Rattle.keybits.specs.Links.{Leads}
+use Rattle.std.proofs.Common.{◌≡◌, ℕ, ◌<◌, ◌≤◌, List, [], ◌∷◌, ◌++◌, refl, sym, ◌∙◌, subst, arith}
+use Rattle.keybits.specs.Places.{shard_of}
+use Rattle.keybits.specs.Links.{linked_place, Leads}
 use Rattle.keybits.specs.Counts.{times}
 use Rattle.keybits.proofs.CountLemmas.{times-head}
 
@@ -31,3 +32,18 @@ leads-one f shard word (x ∷ xs) (y ∷ ys) h k =
     let same : x ≡ y = h.1 ∙ sym k.1 in
     let rest : xs ≡ ys = leads-one f shard (f x) xs ys h.2 (subst (λ v. Leads f shard (f v) ys) (sym same) k.2) in
     λ i. same i ∷ rest i
+
+-- from 0 the links lead nowhere
+pub leads-zero : (f : ℕ → ℕ) (shard word : ℕ) (places : List ℕ) → word ≡ 0 → Leads f shard word places → places ≡ []
+leads-zero f shard word [] none h = refl
+leads-zero f shard word (x ∷ more) none h = let some : 0 < word = h.0 in absurd (omega arith)
+
+-- a word from which the links lead through places of the shard is a link word
+pub leads-word : (f : ℕ → ℕ) (shard word : ℕ) (places : List ℕ) → ((x : ℕ) → 0 < times x places → shard_of x ≡ shard)
+    → Leads f shard word places → word ≤ 65536
+leads-word f shard word [] own h = omega arith
+leads-word f shard word (x ∷ more) own h =
+    let here : shard_of x ≡ shard = own x (times-head x more) in
+    let some : 0 < word = h.0 in
+    let is : x ≡ linked_place shard word = h.1 in
+    omega arith

@@ -7,3 +7,4 @@ pub mod FaultLemmas
 pub mod CountLemmas
 pub mod LeadLemmas
 pub mod HomeLemmas
+pub mod ChangeLemmas

@@ -1,8 +1,10 @@
 -- Faults of shapes: which field of a shape is the first that is outside its limits.
-use Rattle.std.specs.Prelude.{◌≡◌, ℕ, ◌^◌, ◌<◌, ◌≤◌}
+use Rattle.std.specs.Prelude.{ℕ, ◌<◌, ◌≤◌}
 use Rattle.keybits.specs.declared.shape.Shape.{Shape}
+use Rattle.keybits.specs.declared.shape.TheConstants.{MOST_LANES, MOST_PAGES, GREATEST_TAG}
 use Rattle.keybits.specs.declared.shape.ShapeFault.{ShapeFault}
 use Rattle.keybits.specs.declared.shape.ShapeFault.TheVariants.{Lanes, FirstPage, Pages, Generation, Tag}
+use Rattle.keybits.specs.Shapes.{IsFirstPage}
 
 -- the number of a fault; the fields are tested in the order of these numbers
 abbrev pub fault_number : ShapeFault → ℕ
@@ -14,11 +16,11 @@ fault_number Tag = 6
 
 -- the field that a fault speaks of is within its limits
 abbrev pub IsWithin : Shape → ShapeFault → Type 0
-IsWithin z Lanes = (1 ≤ z.lanes) × (z.lanes ≤ 16)
-IsWithin z FirstPage = (k : ℕ) × (k ≤ 6) × (z.first_page ≡ 2 ^ k)
-IsWithin z Pages = (1 ≤ z.pages) × (z.pages ≤ 6)
+IsWithin z Lanes = (1 ≤ z.lanes) × (z.lanes ≤ MOST_LANES)
+IsWithin z FirstPage = IsFirstPage z.first_page
+IsWithin z Pages = (1 ≤ z.pages) × (z.pages ≤ MOST_PAGES)
 IsWithin z Generation = 1 ≤ z.last_generation
-IsWithin z Tag = z.tag ≤ 255
+IsWithin z Tag = z.tag ≤ GREATEST_TAG
 
 -- the field that a fault speaks of is outside its limits, and each field tested before it is within them
 abbrev pub IsFirstFault : Shape → ShapeFault → Type 0

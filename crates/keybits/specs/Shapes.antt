@@ -1,15 +1,20 @@
 -- Shapes: the sizes of pages and shards, and which places there are.
 use Rattle.std.specs.Prelude.{◌≡◌, ◌&&◌, ℕ, ◌+◌, ◌-◌, ◌*◌, ◌^◌, ◌≤◌, Bool, nat_lt}
 use Rattle.keybits.specs.declared.shape.Shape.{Shape}
+use Rattle.keybits.specs.declared.shape.TheConstants.{MOST_LANES, MOST_PAGES, GREATEST_TAG}
 use Rattle.keybits.specs.Places.{shard_of, page_of, slot_of}
+
+-- a first page may have so many places
+abbrev pub IsFirstPage : ℕ → Type 0
+IsFirstPage size = (k : ℕ) × (k ≤ 6) × (size ≡ 2 ^ k)
 
 -- a shape within its limits
 pub record IsShape (z : Shape) : Type 0 where
-  pub lanes : (1 ≤ z.lanes) × (z.lanes ≤ 16)
-  pub first_page : (k : ℕ) × (k ≤ 6) × (z.first_page ≡ 2 ^ k)
-  pub pages : (1 ≤ z.pages) × (z.pages ≤ 6)
+  pub lanes : (1 ≤ z.lanes) × (z.lanes ≤ MOST_LANES)
+  pub first_page : IsFirstPage z.first_page
+  pub pages : (1 ≤ z.pages) × (z.pages ≤ MOST_PAGES)
   pub generations : 1 ≤ z.last_generation
-  pub tag : z.tag ≤ 255
+  pub tag : z.tag ≤ GREATEST_TAG
 
 -- how many places a page has
 abbrev pub page_size : Shape → ℕ → ℕ

@@ -1,13 +1,15 @@
-ghost use Rattle.std.specs.Prelude.{◌≡◌, ◌<◌};
+ghost use Rattle.std.specs.Prelude.{◌≡◌, ◌≤◌};
 ghost use Rattle.keybits.specs.Keys.{place_of, generation_of, tag_of};
+
+use crate::place::GREATEST_PLACE;
 
 /// The number of the place that a key's number names.
 #[inline]
 pub fn place_of(key: u64) -> u32
     ensures place { result ≡ place_of key }
-    ensures below { result < 16777216 }
+    ensures below { result ≤ GREATEST_PLACE }
 {
-    (key & 0xff_ffff) as u32
+    (key & u64::from(GREATEST_PLACE)) as u32
 }
 
 /// The generation that a key's number names.

@@ -18,8 +18,8 @@ pub use home_laws::{home_law, push_law, take_law, unchanged_law};
 pub use key::Key;
 pub use life::{Life, State};
 pub use link::{link_to, linked_place};
-pub use place::{Place, shard_of};
-pub use shape::{Shape, ShapeFault};
+pub use place::{GREATEST_PLACE, Place, shard_of};
+pub use shape::{GREATEST_TAG, LARGEST_FIRST_PAGE, MOST_LANES, MOST_PAGES, Shape, ShapeFault};
 pub use step::{Kind, Step, Word};
 pub use words::{claimed, entered, left, marked, published};
 

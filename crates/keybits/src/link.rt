@@ -2,6 +2,8 @@ ghost use Rattle.std.specs.Prelude.{◌≡◌, ◌<◌, ◌≤◌};
 ghost use Rattle.keybits.specs.Places.{shard_of};
 ghost use Rattle.keybits.specs.Links.{link_to, linked_place};
 
+use crate::shape::MOST_LANES;
+
 /// The link or stack word that stands for a place: 1 more than the lowest 16 bits of its number, so
 /// that no place has the word 0, which is the end. This project's profile.
 #[inline]
@@ -17,7 +19,7 @@ pub fn link_to(place: u32) -> u64
 /// the inverse of `link_to`.
 #[inline]
 pub fn linked_place(shard: u32, word: u64) -> u32
-    requires shard { shard < 16 }
+    requires shard { shard < MOST_LANES }
     requires place { 1 ≤ word }
     requires in_range { word ≤ 65536 }
     ensures place { result ≡ linked_place shard word }

@@ -1,6 +1,9 @@
 ghost use Rattle.std.specs.Prelude.{◌≡◌};
 ghost use Rattle.keybits.specs.Places.{shard_of, page_of, slot_of};
 
+/// The greatest number of a place: of shard 255, page 15 and slot 4095.
+pub const GREATEST_PLACE: u32 = 16_777_215;
+
 /// Where an object of the pool lies: a slot of a page of a shard.
 #[derive(Clone, Copy, Debug, PartialEq, Eq)]
 pub struct Place {
@@ -31,7 +34,7 @@ impl Place {
     /// The place of a number below 2 to the power 24. It is the inverse of `number`.
     #[inline]
     pub fn of_number(number: u32) -> Place
-        requires { number < 16777216 }
+        requires { number ≤ GREATEST_PLACE }
         ensures shard { result.shard ≡ shard_of number }
         ensures page { result.page ≡ page_of number }
         ensures slot { result.slot ≡ slot_of number }

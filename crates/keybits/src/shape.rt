@@ -1,8 +1,21 @@
-ghost use Rattle.std.specs.Prelude.{◌≡◌, ℕ, ◌^◌, ◌≤◌, ◌↔◌, IsTrue};
+ghost use Rattle.std.specs.Prelude.{◌↔◌, IsTrue};
+ghost use Rattle.keybits.specs.Shapes.{IsFirstPage};
 
 use crate::place::{page_of, shard_of, slot_of};
 use std::error::Error;
 use std::fmt;
+
+/// The most lanes that a checked shape has.
+pub const MOST_LANES: u32 = 16;
+
+/// The most places that the first page of a checked shape has.
+pub const LARGEST_FIRST_PAGE: u32 = 64;
+
+/// The most pages that a checked shape has.
+pub const MOST_PAGES: u32 = 6;
+
+/// The greatest tag of a checked shape.
+pub const GREATEST_TAG: u32 = 255;
 
 /// How large a pool is. This project's profile: see `Shape::check` for the limits.
 #[derive(Clone, Copy, Debug, PartialEq, Eq)]
@@ -55,16 +68,13 @@ impl ShapeFault {
 
 impl fmt::Display for ShapeFault {
     fn fmt<W: fmt::Write>(&self, f: &mut fmt::Formatter<W>) -> fmt::Result {
-        match self {
-            ShapeFault::Lanes => write!(f, "the number of lanes is not from 1 to 16"),
-            ShapeFault::FirstPage => write!(
-                f,
-                "the size of the first page is not 1, 2, 4, 8, 16, 32 or 64"
-            ),
-            ShapeFault::Pages => write!(f, "the number of pages is not from 1 to 6"),
-            ShapeFault::Generation => write!(f, "the last generation is 0"),
-            ShapeFault::Tag => write!(f, "the tag is over 255"),
-        }
+        f.write_str(match self {
+            ShapeFault::Lanes => "the number of lanes is not from 1 to 16",
+            ShapeFault::FirstPage => "the size of the first page is not 1, 2, 4, 8, 16, 32 or 64",
+            ShapeFault::Pages => "the number of pages is not from 1 to 6",
+            ShapeFault::Generation => "the last generation is 0",
+            ShapeFault::Tag => "the tag is over 255",
+        })
     }
 }
 
@@ -84,19 +94,19 @@ impl Shape {
         ensures ok { IsOk result ↔ IsShape self.now }
         ensures err { (fault : ShapeFault) → IsErrOf result fault ↔ IsFirstFault self.now fault }
     {
-        if self.lanes == 0 || self.lanes > 16 {
+        if self.lanes == 0 || self.lanes > MOST_LANES {
             return Err(ShapeFault::Lanes);
         }
         if !is_first_page(self.first_page) {
             return Err(ShapeFault::FirstPage);
         }
-        if self.pages == 0 || self.pages > 6 {
+        if self.pages == 0 || self.pages > MOST_PAGES {
             return Err(ShapeFault::Pages);
         }
         if self.last_generation == 0 {
             return Err(ShapeFault::Generation);
         }
-        if self.tag > 255 {
+        if self.tag > GREATEST_TAG {
             return Err(ShapeFault::Tag);
         }
         Ok(())
@@ -196,7 +206,7 @@ impl Shape {
     #[inline]
     fn places_before(&self, page: u32) -> u32
         requires shape { IsShape self.now }
-        requires page { page ≤ 6 }
+        requires page { page ≤ MOST_PAGES }
         ensures { result ≡ page_start self.now page }
     {
         (self.first_page << page) - self.first_page
@@ -214,7 +224,7 @@ impl Shape {
 
 /// Whether a first page may have this size.
 fn is_first_page(size: u32) -> bool
-    ensures { IsTrue result ↔ ((k : ℕ) × (k ≤ 6) × (size ≡ 2 ^ k)) }
+    ensures { IsTrue result ↔ IsFirstPage size }
 {
-    size <= 64 && size.is_power_of_two()
+    size <= LARGEST_FIRST_PAGE && size.is_power_of_two()
 }

@@ -2,32 +2,10 @@
 //! a legal history.
 #![tactic(auto)]
 
-mod check;
-mod command_name;
-mod commands;
-mod hex;
-mod load;
-mod operands;
-mod output;
-mod plan;
-mod read_fault;
-mod reading;
-mod replay;
-mod run_fault;
-mod schedule;
-mod task;
-mod watched;
-mod words;
-
-use crate::check::check_text;
-use crate::load::load;
-use crate::replay::replay_text;
-use crate::run_fault::RunFault;
-use crate::task::Task;
-use crate::watched::Watched;
-use crate::words::{TaskFault, task};
 use clap::Error as ClapError;
 use clap::error::ErrorKind;
+use commandline::{Task, TaskFault, task};
+use pooltexts::{RunFault, Watched, check_text, load, replay_text};
 use std::alloc::AllocError;
 use std::process::ExitCode;
 use std::{env, io};
@@ -119,4 +97,10 @@ fn main(rt: HostRuntime) -> ExitCode {
 }
 
 #[cfg(test)]
-mod tests;
+mod fake_writers;
+#[cfg(test)]
+mod test_checks;
+#[cfg(test)]
+mod test_replays;
+#[cfg(test)]
+mod test_words;

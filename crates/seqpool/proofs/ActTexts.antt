@@ -5,19 +5,19 @@ use Rattle.std.proofs.lemmas.Bool.{eqb-false}
 use Rattle.std.proofs.lemmas.Fmt.{decimal_digit}
 use Rattle.std.proofs.lemmas.Option.{same_Some, option_and_then_some}
 use Rattle.std.proofs.lemmas.Slice.Eq.{bytes_eq-Decides}
+use Rattle.keybits.specs.declared.place.TheConstants.{GREATEST_PLACE}
 use Rattle.seqpool.specs.declared.act.Act.{Act}
 use Rattle.seqpool.specs.declared.act.Act.TheVariants.{Publish, Get, Release, Clear, Reclaim, Home, Collect}
-use Rattle.seqpool.specs.declared.act_name.ActName.{ActName}
-use Rattle.seqpool.specs.declared.act_name.ActName.TheVariants as names
+use Rattle.seqpool.specs.declared.act.ActName.{ActName}
+use Rattle.seqpool.specs.declared.act.ActName.TheVariants as names
 use Rattle.seqpool.specs.Pool.{lane_of}
-use Rattle.seqpool.specs.Texts.{content_text, places_text, act_line}
-use Rattle.seqpool.specs.Readings.{HasLine, AreBytes, IsU32, IsKeyNumber}
-use Rattle.seqpool.specs.Parsing.{cut, number_of, content_of, places_of, flag_of, truth_of, some_of, reply_of, publish_of, get_of, clear_of, act_with, name_of, act_of}
+use Rattle.seqpool.specs.ActsText.{content_text, places_text, act_line, HasLine, AreBytes, IsU32, IsKeyNumber}
+use Rattle.seqpool.specs.ActsReader.{cut, number_of, content_of, places_of, flag_of, truth_of, some_of, reply_of, publish_of, get_of, clear_of, act_with, name_of, act_of}
 use Rattle.seqpool.proofs.Parts.{Without, Without-append, cut-again, cut-sound, option_map-some}
 use Rattle.seqpool.proofs.Numbers.{number_of-again, number_of-sound, decimal-Without}
 use Rattle.seqpool.proofs.HexTexts.{content-again, content-sound, content-Without}
 use Rattle.seqpool.proofs.PlaceTexts.{places-again, places-sound, places-Without}
-use Rattle.seqpool.proofs.LineTexts.{IsLine}
+use Rattle.seqpool.proofs.ReadLines.{IsLine}
 
 abbrev word : ActName → List ℕ
 word names.Publish = codes "publish"
@@ -153,7 +153,7 @@ operands-again (Release lane key) has = ap (option_map (Release lane)) (key-agai
 operands-again (Clear lane key reply) has =
     clear_of-is lane key (operands (Clear lane key reply)) (decimal key) (truth_text reply) reply (cut-key key (truth_text reply) has.1) (key-again key has.1) (truth-again reply)
 operands-again (Reclaim lane key) has = ap (option_map (Reclaim lane)) (key-again key has.1)
-operands-again (Home lane place) has = ap (option_map (Home lane)) (number_of-again 16777215 place has.1 (omega arith))
+operands-again (Home lane place) has = ap (option_map (Home lane)) (number_of-again GREATEST_PLACE place has.1 (omega arith))
 operands-again (Collect lane places) has = ap (option_map (Collect lane)) (places-again places has.1 has.2)
 
 -- a test for bytes that are written out
@@ -225,7 +225,7 @@ operands-Without (Release lane key) has = key-Without key has.1
 operands-Without (Clear lane key true) has = spaced (decimal key) (codes "true") (key-Without key has.1) (lacks-Without 10 (codes "true") refl)
 operands-Without (Clear lane key false) has = spaced (decimal key) (codes "false") (key-Without key has.1) (lacks-Without 10 (codes "false") refl)
 operands-Without (Reclaim lane key) has = key-Without key has.1
-operands-Without (Home lane place) has = let low : place ≤ 16777215 = has.1 in decimal-Without 10 place (omega arith) (omega arith)
+operands-Without (Home lane place) has = let low : place ≤ GREATEST_PLACE = has.1 in decimal-Without 10 place (omega arith) (omega arith)
 operands-Without (Collect lane places) has = places-Without 10 places (omega arith) has.2
 
 pub act_line-IsLine : (act : Act) → HasLine act → IsLine (act_line act)
@@ -411,8 +411,8 @@ with-sound names.Reclaim lane text act low e =
     let number = number_of-sound 18446744073709551615 text key is in
     subst (λ (a : Act). Matches names.Reclaim lane text a) same (record { has = (low, number.0); name_is = refl; lane_is = refl; text_is = sym number.1 })
 with-sound names.Home lane text act low e =
-    let (place, is, same) = option_map-some (λ (p : ℕ). Home lane p) (number_of 16777215 text) act e in
-    let number = number_of-sound 16777215 text place is in
+    let (place, is, same) = option_map-some (λ (p : ℕ). Home lane p) (number_of GREATEST_PLACE text) act e in
+    let number = number_of-sound GREATEST_PLACE text place is in
     subst (λ (a : Act). Matches names.Home lane text a) same (record { has = (low, number.0); name_is = refl; lane_is = refl; text_is = sym number.1 })
 with-sound names.Collect lane text act low e =
     let (places, is, same) = option_map-some (λ (ps : List ℕ). Collect lane ps) (places_of text) act e in

@@ -5,12 +5,11 @@ use Rattle.std.proofs.lemmas.List.{get_or_read}
 use Rattle.keybits.specs.declared.shape.Shape.{Shape}
 use Rattle.keybits.specs.Places.{shard_of}
 use Rattle.keybits.specs.Shapes.{IsShape, is_place, position_of}
-use Rattle.keybits.specs.Keys.{place_of, generation_of, is_key}
+use Rattle.keybits.specs.Keys.{place_of}
 use Rattle.seqpool.specs.declared.act.Act.TheVariants.{Publish, Get, Release, Clear, Reclaim, Home}
 use Rattle.seqpool.specs.declared.row.Row.{Row}
 use Rattle.seqpool.specs.Pool.{Phase, with, published, home, retired, Spot, spot, Pool, put, content_in, references_in, is_marked, is_unmarked, is_current, found, clears, references, Allowed, changed, after}
-use Rattle.seqpool.specs.Kept.{spot_of, no_row, pool_of, with_spot, gained_spot, lost_spot, marked_spot}
-use Rattle.seqpool.proofs.Ranks.{current-from}
+use Rattle.seqpool.specs.Rows.{spot_of, no_row, pool_of, with_spot, gained_spot, lost_spot, marked_spot}
 use Rattle.seqpool.proofs.Rows.{pool-at, put-row, made}
 
 module _ (z : Shape) where
@@ -29,15 +28,15 @@ module _ (z : Shape) where
       ∙ ap (with_spot (pool_of z rows) place) (changes ∙ ap f (row-read rows place position row is at below read))
 
   module _ (P Q : Pool) where
-    pub publishes : (lane key place generation : ℕ) (content : List ℕ) (with_ref : Bool) (f : Phase) → is_key z key ≡ true → place ≡ place_of key
-        → (P place).phase ≡ with lane → (P place).generation ≡ generation → generation ≡ generation_of key
+    pub publishes : (lane key place generation : ℕ) (content : List ℕ) (with_ref : Bool) (f : Phase) → is_current z P key ≡ true → place ≡ place_of key
+        → (P place).phase ≡ with lane → (P place).generation ≡ generation
         → f ≡ published content (put (λ _. 0) lane (cond with_ref 1 0)) false → Q ≡ with_spot P place (spot generation f)
         → Allowed z P (Publish lane key content with_ref) × (Q ≡ after z (Publish lane key content with_ref) P)
-    publishes lane key place generation content with_ref f inside at is same_generation next stands wrote =
+    publishes lane key place generation content with_ref f here at is same_generation stands wrote =
         let there : (P (place_of key)).generation ≡ generation = ap (λ (p : ℕ). (P p).generation) (sym at) ∙ same_generation in
         let s : spot generation f ≡ changed z.last_generation (Publish lane key content with_ref) (P (place_of key))
         = ap (λ (g : ℕ). spot g f) (sym there) ∙ ap (spot (P (place_of key)).generation) stands in (
-          (current-from z P key inside (there ∙ next), ap (λ (p : ℕ). (P p).phase) (sym at) ∙ is),
+          (here, ap (λ (p : ℕ). (P p).phase) (sym at) ∙ is),
           made z P Q (Publish lane key content with_ref) place (place_of key) (spot generation f) (λ x. refl) at s wrote,
         )
 

@@ -10,7 +10,7 @@ use Rattle.keybits.specs.Places.{shard_of}
 use Rattle.keybits.specs.Shapes.{is_place}
 use Rattle.seqpool.specs.declared.act.Act.TheVariants.{Collect}
 use Rattle.seqpool.specs.Pool.{with, home, spot, Pool, has, NoRepeats, AllHome, after}
-use Rattle.seqpool.specs.Kept.{with_spot}
+use Rattle.seqpool.specs.Rows.{with_spot}
 use Rattle.seqpool.proofs.Growth.{after-here}
 
 same-test : (m n : ℕ) → eqb m n ≡ eqb n m
@@ -99,3 +99,7 @@ module _ (z : Shape) (P : Pool) (lane : ℕ) where
 
   pub collects-none : P ≡ after z (Collect lane []) P
   collects-none = refl
+
+-- nothing is true of what can't be
+pub from-false : {P : Type 0} → false ≡ true → P
+from-false e = absurd (cc e)

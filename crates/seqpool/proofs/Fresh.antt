@@ -11,7 +11,7 @@ use Rattle.keybits.proofs.ShapeLemmas.{index_of-lt, position_of-lt}
 use Rattle.seqpool.specs.declared.row.Row.{Row}
 use Rattle.seqpool.specs.declared.row.Standing.TheVariants.{With}
 use Rattle.seqpool.specs.Pool.{fresh}
-use Rattle.seqpool.specs.Kept.{spot_of, no_row, pool_of}
+use Rattle.seqpool.specs.Rows.{spot_of, no_row, pool_of}
 use Rattle.seqpool.proofs.Rows.{pool-at, pool-outside}
 
 abbrev pub first_row : ℕ → Row

@@ -4,9 +4,8 @@ use Rattle.std.specs.Str.{bytes_eq}
 use Rattle.std.proofs.lemmas.Bool.{and_parts, and_from, and_right, leb-true, le-leb, lt-leb, lt-ltb, le-ltb, ltb-true, ltb-false}
 use Rattle.std.proofs.lemmas.Option.{same_Some, option_and_then_some}
 use Rattle.std.proofs.lemmas.Slice.Eq.{bytes_eq-Decides}
-use Rattle.seqpool.specs.Texts.{hex_digit, hex, content_text}
-use Rattle.seqpool.specs.Readings.{AreBytes}
-use Rattle.seqpool.specs.Parsing.{digit_of, byte_of, bytes_of, content_of}
+use Rattle.seqpool.specs.ActsText.{hex_digit, hex, content_text, AreBytes}
+use Rattle.seqpool.specs.ActsReader.{digit_of, byte_of, bytes_of, content_of}
 use Rattle.seqpool.proofs.Parts.{read_so_far, read_so_far-more, Without, option_map-some}
 
 bytes_of-pair : (s : List ℕ) (byte : ℕ) → 2 ≤ length s → byte_of (get_or s 0 0) (get_or s 1 0) ≡ Some byte → bytes_of s ≡ option_map (λ bytes. byte ∷ bytes) (bytes_of (drop 2 s))

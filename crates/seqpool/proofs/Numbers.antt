@@ -9,7 +9,7 @@ use Rattle.std.proofs.lemmas.Slice.Eq.{bytes_eq-Decides}
 use Rattle.std.proofs.lemmas.Bool.{and_parts, and_from, leb-true, le-leb, cases_eq}
 use Rattle.std.proofs.lemmas.Option.{cond_some, same_Some}
 use Rattle.std.specs.Result.{MatchResult, result_ok}
-use Rattle.seqpool.specs.Parsing.{number_of}
+use Rattle.seqpool.specs.ActsReader.{number_of}
 use Rattle.seqpool.proofs.Parts.{Without}
 
 own : IsNumeralModel (AllDigits 10) (digits_value 10)

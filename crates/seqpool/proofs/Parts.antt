@@ -4,7 +4,7 @@ use Rattle.std.specs.List.{position_or_len, AllByRecursion}
 use Rattle.std.proofs.lemmas.Bool.{ltb-true, ltb-false, eqb-true}
 use Rattle.std.proofs.lemmas.List.{append-nil, drop_all}
 use Rattle.std.proofs.lemmas.Option.{same_Some}
-use Rattle.seqpool.specs.Parsing.{cut, onto, parts, lines, each}
+use Rattle.seqpool.specs.ActsReader.{cut, onto, parts, lines, each}
 
 -- what is read of the rest goes behind what is read already
 abbrev pub read_so_far : {T : Type 0} → List T → Option (List T) → Option (List T)

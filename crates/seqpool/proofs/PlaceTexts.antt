@@ -3,9 +3,9 @@ use Rattle.std.proofs.Common.{◌≡◌, ◌≢◌, ℕ, ◌<◌, ◌≤◌, Lis
 use Rattle.std.specs.List.{AllByRecursion}
 use Rattle.std.proofs.lemmas.Option.{same_Some, option_and_then_some}
 use Rattle.std.proofs.lemmas.Bool.{eqb-true}
-use Rattle.seqpool.specs.Texts.{places_text}
-use Rattle.seqpool.specs.Readings.{IsPlaceNumber}
-use Rattle.seqpool.specs.Parsing.{onto, parts, each, number_of, places_of}
+use Rattle.keybits.specs.declared.place.TheConstants.{GREATEST_PLACE}
+use Rattle.seqpool.specs.ActsText.{places_text, IsPlaceNumber}
+use Rattle.seqpool.specs.ActsReader.{onto, parts, each, number_of, places_of}
 use Rattle.seqpool.proofs.Parts.{Without, Without-append, cut-again, cut-nothing, parts-cut, parts-whole, parts-here, parts-there, each-part, option_map-some}
 use Rattle.seqpool.proofs.Numbers.{number_of-again, number_of-sound, decimal-Without}
 
@@ -44,14 +44,14 @@ joined-parts separator (byte ∷ text) = at (nat_eq byte separator) refl (parts-
         ap (joined separator) (parts-there separator byte text test ∙ ap (onto byte) is)
         ∙ (joined-onto separator byte part more ∙ ap (λ (xs : List ℕ). byte ∷ xs) (sym (ap (joined separator) is) ∙ later))
 
-each-places : (p : ℕ) (ps : List ℕ) → IsPlaceNumber p → AllByRecursion IsPlaceNumber ps → each (number_of 16777215) (parts 44 (places_text (p ∷ ps))) ≡ Some (p ∷ ps)
+each-places : (p : ℕ) (ps : List ℕ) → IsPlaceNumber p → AllByRecursion IsPlaceNumber ps → each (number_of GREATEST_PLACE) (parts 44 (places_text (p ∷ ps))) ≡ Some (p ∷ ps)
 each-places p [] low all =
-    ap (each (number_of 16777215)) (parts-whole 44 (decimal p) (cut-nothing 44 (decimal p) (decimal-Without 44 p (omega arith) (omega (arith, low)))))
-    ∙ each-part (number_of 16777215) (decimal p) [] p (number_of-again 16777215 p low (omega arith))
+    ap (each (number_of GREATEST_PLACE)) (parts-whole 44 (decimal p) (cut-nothing 44 (decimal p) (decimal-Without 44 p (omega arith) (omega (arith, low)))))
+    ∙ each-part (number_of GREATEST_PLACE) (decimal p) [] p (number_of-again GREATEST_PLACE p low (omega arith))
 each-places p (q ∷ ps) low all =
-    ap (each (number_of 16777215)) (ap (parts 44) (append_assoc (decimal p) (codes ",") (places_text (q ∷ ps)))
+    ap (each (number_of GREATEST_PLACE)) (ap (parts 44) (append_assoc (decimal p) (codes ",") (places_text (q ∷ ps)))
     ∙ parts-cut 44 (decimal p ++ 44 ∷ places_text (q ∷ ps)) (decimal p, places_text (q ∷ ps)) (cut-again 44 (decimal p) (places_text (q ∷ ps)) (decimal-Without 44 p (omega arith) (omega (arith, low)))))
-    ∙ (each-part (number_of 16777215) (decimal p) (parts 44 (places_text (q ∷ ps))) p (number_of-again 16777215 p low (omega arith))
+    ∙ (each-part (number_of GREATEST_PLACE) (decimal p) (parts 44 (places_text (q ∷ ps))) p (number_of-again GREATEST_PLACE p low (omega arith))
     ∙ ap (option_map (λ (xs : List ℕ). p ∷ xs)) (each-places q ps all.0 all.1))
 
 -- what is read of places that are written
@@ -78,15 +78,15 @@ joined-more p part more (q ∷ qs) is low others next rest some = record {
       ∙ sym (append_assoc (decimal p) (codes ",") (places_text (q ∷ qs)))));
 }
 
-each-sound : (part : List ℕ) (more : List (List ℕ)) (ps : List ℕ) → each (number_of 16777215) (part ∷ more) ≡ Some ps → AreRead (joined 44 (part ∷ more)) ps
+each-sound : (part : List ℕ) (more : List (List ℕ)) (ps : List ℕ) → each (number_of GREATEST_PLACE) (part ∷ more) ≡ Some ps → AreRead (joined 44 (part ∷ more)) ps
 each-sound part [] ps e =
-    option_and_then_some (λ x. option_map (λ xs. x ∷ xs) (each (number_of 16777215) [])) (number_of 16777215 part) ps e (λ p one e1.
-    let number = number_of-sound 16777215 part p one in
+    option_and_then_some (λ x. option_map (λ xs. x ∷ xs) (each (number_of GREATEST_PLACE) [])) (number_of GREATEST_PLACE part) ps e (λ p one e1.
+    let number = number_of-sound GREATEST_PLACE part p one in
     subst (λ (xs : List ℕ). AreRead part xs) (same_Some (p ∷ []) ps e1) (record { some = λ none. absurd (cc); all = (number.0, tt); is = number.1 }))
 each-sound part (next ∷ more) ps e =
-    option_and_then_some (λ x. option_map (λ xs. x ∷ xs) (each (number_of 16777215) (next ∷ more))) (number_of 16777215 part) ps e (λ p one e1.
-    let number = number_of-sound 16777215 part p one in
-    let (qs, found, same) = option_map-some (λ (xs : List ℕ). p ∷ xs) (each (number_of 16777215) (next ∷ more)) ps e1 in
+    option_and_then_some (λ x. option_map (λ xs. x ∷ xs) (each (number_of GREATEST_PLACE) (next ∷ more))) (number_of GREATEST_PLACE part) ps e (λ p one e1.
+    let number = number_of-sound GREATEST_PLACE part p one in
+    let (qs, found, same) = option_map-some (λ (xs : List ℕ). p ∷ xs) (each (number_of GREATEST_PLACE) (next ∷ more)) ps e1 in
     subst (λ (xs : List ℕ). AreRead (joined 44 (part ∷ next ∷ more)) xs) same (joined-more p part (next ∷ more) qs number.1 number.0 (each-sound next more qs found) next more refl))
 
 -- places that are read are written so
@@ -94,14 +94,14 @@ pub places-sound : (text ps : List ℕ) → places_of text ≡ Some ps → (ps �
 unfolding places_of
 places-sound text ps e =
     let (part, more, is) = parts-some 44 text in
-    let read = each-sound part more ps (sym (ap (each (number_of 16777215)) is) ∙ e) in
+    let read = each-sound part more ps (sym (ap (each (number_of GREATEST_PLACE)) is) ∙ e) in
     (read.some, read.all, sym (joined-parts 44 text) ∙ (ap (joined 44) is ∙ read.is))
 
 pub places-Without : (separator : ℕ) (ps : List ℕ) → separator < 44 → AllByRecursion IsPlaceNumber ps → Without separator (places_text ps)
 places-Without separator [] low all = tt
-places-Without separator (p ∷ []) low all = let small : p ≤ 16777215 = all.0 in decimal-Without separator p (omega arith) (omega arith)
+places-Without separator (p ∷ []) low all = let small : p ≤ GREATEST_PLACE = all.0 in decimal-Without separator p (omega arith) (omega arith)
 places-Without separator (p ∷ q ∷ more) low all =
-    let small : p ≤ 16777215 = all.0 in
+    let small : p ≤ GREATEST_PLACE = all.0 in
     Without-append separator (decimal p ++ codes ",") (places_text (q ∷ more))
     (Without-append separator (decimal p) (codes ",") (decimal-Without separator p (omega arith) (omega arith)) ((λ same. omega (arith, same)), tt))
     (places-Without separator (q ∷ more) low all.1)

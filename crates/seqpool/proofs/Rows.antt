@@ -10,7 +10,7 @@ use Rattle.keybits.proofs.ShapeLemmas.{position_of-injective}
 use Rattle.seqpool.specs.declared.act.Act.{Act}
 use Rattle.seqpool.specs.declared.row.Row.{Row}
 use Rattle.seqpool.specs.Pool.{Spot, Pool, touches, changed, after, fresh}
-use Rattle.seqpool.specs.Kept.{spot_of, no_row, pool_of, with_spot}
+use Rattle.seqpool.specs.Rows.{spot_of, no_row, pool_of, with_spot}
 use Rattle.seqpool.proofs.Growth.{after-here, after-else}
 
 module _ (z : Shape) where

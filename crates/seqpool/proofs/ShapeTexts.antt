@@ -4,12 +4,11 @@ use Rattle.std.specs.Str.{bytes_eq}
 use Rattle.std.proofs.lemmas.Option.{same_Some, option_and_then_some}
 use Rattle.std.proofs.lemmas.Slice.Eq.{bytes_eq-Decides}
 use Rattle.keybits.specs.declared.shape.Shape.{Shape}
-use Rattle.seqpool.specs.Texts.{shape_line}
-use Rattle.seqpool.specs.Readings.{IsU32, AreNumbers, IsShapeText}
-use Rattle.seqpool.specs.Parsing.{cut, number_of, ending_at, numbers_of, shape_of}
+use Rattle.seqpool.specs.ActsText.{shape_line, IsU32, AreNumbers, IsShapeText}
+use Rattle.seqpool.specs.ActsReader.{cut, number_of, ending_at, numbers_of, shape_of}
 use Rattle.seqpool.proofs.Parts.{Without, Without-append, cut-again, cut-nothing, cut-sound, option_map-some}
 use Rattle.seqpool.proofs.Numbers.{number_of-again, number_of-sound, decimal-Without}
-use Rattle.seqpool.proofs.LineTexts.{IsLine}
+use Rattle.seqpool.proofs.ReadLines.{IsLine}
 use Rattle.seqpool.proofs.ActTexts.{lacks-Without}
 
 -- the numbers of a shape behind its word

@@ -12,11 +12,10 @@ use Rattle.keybits.specs.ShapeFaults.{fault_number, IsWithin, IsFirstFault}
 use Rattle.seqpool.specs.declared.act.Act.{Act}
 use Rattle.seqpool.specs.declared.acts_fault.ActsFault.{ActsFault}
 use Rattle.seqpool.specs.declared.acts_fault.ActsFault.TheVariants as acts_faults
-use Rattle.seqpool.specs.Texts.{act_line, act_text}
-use Rattle.seqpool.specs.Readings.{HasLine, IsUpToLineFeed, BeginsWith, StandsFor, HasShapeFault, StandsForNothing, RefusesText}
-use Rattle.seqpool.specs.Parsing.{Refuses, each, lines, act_of, shape_of}
+use Rattle.seqpool.specs.ActsText.{act_line, act_text, HasLine, IsUpToLineFeed, BeginsWith, StandsFor, HasShapeFault, StandsForNothing, RefusesText}
+use Rattle.seqpool.specs.ActsReader.{Refuses, each, lines, act_of, shape_of}
 use Rattle.seqpool.proofs.Parts.{each-part, option_map-some}
-use Rattle.seqpool.proofs.LineTexts.{IsLine, unlines, lines-text, lines-first, unlines-lines}
+use Rattle.seqpool.proofs.ReadLines.{IsLine, unlines, lines-text, lines-first, unlines-lines}
 use Rattle.seqpool.proofs.ActTexts.{act_of-again, act_of-sound, act_line-IsLine}
 use Rattle.seqpool.proofs.ShapeTexts.{shape_of-again, shape_of-sound}
 

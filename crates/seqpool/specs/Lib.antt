@@ -2,8 +2,7 @@ pub mod Pool
 pub mod Histories
 pub mod Laws
 pub mod Refusals
-pub mod Kept
-pub mod Checks
-pub mod Texts
-pub mod Readings
-pub mod Parsing
+pub mod Rows
+pub mod Checker
+pub mod ActsText
+pub mod ActsReader

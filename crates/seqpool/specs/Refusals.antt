@@ -1,5 +1,5 @@
 -- Why an act is refused: the first that is wrong with it.
-use Rattle.std.specs.Prelude.{◌≡◌, ◌≢◌, ◌⊎◌, ℕ, ◌<◌, ◌≤◌, true, false, []}
+use Rattle.std.specs.Prelude.{◌≡◌, ◌≢◌, ◌⊎◌, ℕ, ◌<◌, ◌≤◌, true, false, [], Some, None}
 use Rattle.keybits.specs.declared.shape.Shape.{Shape}
 use Rattle.keybits.specs.Places.{shard_of}
 use Rattle.keybits.specs.ShapeFaults.{fault_number as shape_fault_number}
@@ -44,10 +44,11 @@ Wrong z pool act fault = ⊥
 abbrev pub Refused : Shape → Pool → Act → ApplyFault → Type 0
 Refused z pool act fault = ((z.lanes ≤ lane_of act) × (fault ≡ NotWithLane)) ⊎ ((lane_of act < z.lanes) × Wrong z pool act fault)
 
--- the act needs memory for what it adds: a published content, or a reference more
+-- the act needs memory for what it adds: the bytes or the reference of a Publish, or the reference of a Get that gives a content
 abbrev pub Adds : Act → Type 0
-Adds (Publish lane key content with_ref) = Unit {0}
-Adds (Get lane key reply) = Unit {0}
+Adds (Publish lane key content with_ref) = (content ≢ []) ⊎ (with_ref ≡ true)
+Adds (Get lane key (Some content)) = Unit {0}
+Adds (Get lane key None) = ⊥
 Adds (Release lane key) = ⊥
 Adds (Clear lane key reply) = ⊥
 Adds (Reclaim lane key) = ⊥

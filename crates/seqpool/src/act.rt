@@ -47,7 +47,37 @@ pub enum Act {
     },
 }
 
+/// The name of an act in its line.
+#[derive(Clone, Copy)]
+pub(crate) enum ActName {
+    Publish,
+    Get,
+    Release,
+    Clear,
+    Reclaim,
+    Home,
+    Collect,
+}
+
 impl Act {
+    ghost use Rattle.std.specs.Prelude.{◌≡◌, IfOk};
+    ghost use Rattle.seqpool.specs.Pool.{lane_of};
+
+    /// The lane that acts.
+    pub fn lane(&self) -> u32
+        ensures { result ≡ lane_of self.now }
+    {
+        match self {
+            Act::Publish { lane, .. }
+            | Act::Get { lane, .. }
+            | Act::Release { lane, .. }
+            | Act::Clear { lane, .. }
+            | Act::Reclaim { lane, .. }
+            | Act::Home { lane, .. }
+            | Act::Collect { lane, .. } => *lane,
+        }
+    }
+
     /// The same act once more.
     pub fn copy(&self, alloc: Global) -> Result<Act, AllocError>
         ensures { IfOk result (λ copy. copy ≡ self.now) }

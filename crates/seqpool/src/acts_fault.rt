@@ -59,9 +59,9 @@ impl<T: Drop> From<AllocFailed<T>> for ActsFault {
 impl fmt::Display for ActsFault {
     fn fmt<W: fmt::Write>(&self, f: &mut fmt::Formatter<W>) -> fmt::Result {
         match self {
-            ActsFault::ActsLine => write!(f, "a line is none of a shape or an act"),
+            ActsFault::ActsLine => f.write_str("a line is none of a shape or an act"),
             ActsFault::Shape(fault) => write!(f, "the shape is refused: {fault}"),
-            ActsFault::Memory => write!(f, "no memory was left"),
+            ActsFault::Memory => f.write_str("no memory was left"),
         }
     }
 }

@@ -1,49 +1,134 @@
-ghost use Rattle.std.specs.Prelude.{◌≡◌};
-ghost use Rattle.seqpool.specs.declared.checker.CheckFault.TheVariants as check_faults;
+//! The checker: whether a list of acts is a legal history, and its counts.
 
-use crate::fault::{ApplyFault, Memory};
-use std::error::Error;
-use std::fmt;
+ghost use Rattle.std.specs.Prelude.{◌≡◌, ◌≢◌, ◌↔◌, ℕ, IfOk, IsErrOf, count_by};
+ghost use Rattle.keybits.specs.Shapes.{IsShape};
+ghost use Rattle.seqpool.specs.declared.fault.ApplyFault.{ApplyFault};
+ghost use Rattle.seqpool.specs.declared.fault.ApplyFault.TheVariants as faults;
+ghost use Rattle.seqpool.specs.declared.fault.CheckFault.TheVariants.{Illegal};
+ghost use Rattle.seqpool.specs.Pool.{IsLegal, pool_after};
+ghost use Rattle.seqpool.specs.Rows.{pool_in};
+ghost use Rattle.seqpool.specs.Checker.{IsSummary, HasLaws, IsIllegalAt, is_publish, is_reclaim};
 
-/// What a legal history did, and where the places are after it.
-#[derive(Clone, Copy, Debug, PartialEq, Eq)]
-pub struct Summary {
-    /// How many acts there are, and how many of them publish and reclaim.
-    pub acts: usize,
-    pub published: usize,
-    pub reclaimed: usize,
-    /// How many places have a key in the pool without the mark, and with it.
-    pub present: usize,
-    pub marked: usize,
-    /// How many places are home, and retired.
-    pub home: usize,
-    pub retired: usize,
+use crate::act::Act;
+use crate::fault::{ApplyFault, CheckFault};
+use crate::pool::SeqPool;
+use crate::row::{Row, Standing};
+use crate::summary::{Group, Summary};
+use keybits::Shape;
+use std::alloc::Global;
+
+/// Whether a list of acts is a legal history of a pool of a checked shape, with its counts.
+///
+/// `Illegal` names the first act that is refused, counted from 0, and the refusal of `SeqPool::apply`. `Memory` comes where a
+/// growth was refused. This project's profile.
+pub fn check(alloc: Global, shape: Shape, acts: &[Act]) -> Result<Summary, CheckFault>
+    requires { IsShape shape }
+    ensures legal { IfOk result (λ summary. IsLegal shape acts.now) }
+    ensures laws { IfOk result (λ summary. HasLaws shape acts.now) }
+    ensures counts { IfOk result (λ summary. IsSummary shape acts.now summary) }
+    ensures illegal { (i : ℕ) (fault : ApplyFault) → IsErrOf result (Illegal i fault) → IsIllegalAt shape acts.now i fault }
+{
+    let pool = match pool_of(alloc, shape, acts) {
+        Ok(pool) => pool,
+        Err(fault) => return Err(fault),
+    };
+    Ok(Summary {
+        acts: acts.len(),
+        published: published_in(acts),
+        reclaimed: reclaimed_in(acts),
+        present: pool.count(Group::Present),
+        marked: pool.count(Group::Marked),
+        home: pool.count(Group::Home),
+        retired: pool.count(Group::Retired),
+    })
 }
 
-/// Why a history isn't found legal.
-#[derive(Clone, Copy, Debug, PartialEq, Eq)]
-pub enum CheckFault {
-    /// The first act that is refused, counted from 0, and why.
-    Illegal { index: usize, fault: ApplyFault },
-    /// No memory was left.
-    Memory,
+/// The pool after a legal history.
+fn pool_of(alloc: Global, shape: Shape, acts: &[Act]) -> Result<SeqPool, CheckFault>
+    requires { IsShape shape }
+    ensures legal { IfOk result (λ pool. IsLegal shape acts.now) }
+    ensures shape { IfOk result (λ pool. pool.shape ≡ shape) }
+    ensures pool { IfOk result (λ pool. pool_in pool ≡ pool_after shape acts.now) }
+    ensures illegal { (i : ℕ) (fault : ApplyFault) → IsErrOf result (Illegal i fault) → IsIllegalAt shape acts.now i fault }
+{
+    let mut pool = SeqPool::new(alloc, shape)?;
+    for (index, act) in acts.iter().enumerate() {
+        if let Err(fault) = pool.apply(act) {
+            return Err(refusal(index, fault));
+        }
+    }
+    Ok(pool)
 }
 
-impl From<Memory> for CheckFault {
-    ghost from_gives = { λ _ e. e ≡ check_faults.Memory };
-
-    fn from(_e: Memory) -> CheckFault {
-        CheckFault::Memory
+/// Why a history isn't found legal whose act at this index is refused.
+fn refusal(index: usize, fault: ApplyFault) -> CheckFault
+    ensures { (i : ℕ) (why : ApplyFault) → result ≡ Illegal i why → (i ≡ index) × (why ≡ fault) × (fault ≢ faults.Memory) }
+{
+    match fault {
+        ApplyFault::Memory => CheckFault::Memory,
+        _ => CheckFault::Illegal { index, fault },
     }
 }
 
-impl fmt::Display for CheckFault {
-    fn fmt<W: fmt::Write>(&self, f: &mut fmt::Formatter<W>) -> fmt::Result {
-        match self {
-            CheckFault::Illegal { index, fault } => write!(f, "act {index} is refused: {fault}"),
-            CheckFault::Memory => write!(f, "no memory was left"),
+/// How many of the acts publish.
+fn published_in(acts: &[Act]) -> usize
+    ensures { result ≡ count_by is_publish acts.now }
+{
+    acts.iter().filter(|act| is_publish(act)).count()
+}
+
+/// How many of the acts reclaim.
+fn reclaimed_in(acts: &[Act]) -> usize
+    ensures { result ≡ count_by is_reclaim acts.now }
+{
+    acts.iter().filter(|act| is_reclaim(act)).count()
+}
+
+fn is_publish(act: &Act) -> bool
+    ensures { result ≡ is_publish act.now }
+{
+    matches!(act, Act::Publish { .. })
+}
+
+fn is_reclaim(act: &Act) -> bool
+    ensures { result ≡ is_reclaim act.now }
+{
+    matches!(act, Act::Reclaim { .. })
+}
+
+impl Row {
+    ghost use Rattle.std.specs.Prelude.{◌≡◌};
+    ghost use Rattle.seqpool.specs.Rows.{phase_of};
+    ghost use Rattle.seqpool.specs.Checker.{is_in};
+
+    /// Whether the place is of the group.
+    fn is_in(&self, group: Group) -> bool
+        ensures { result ≡ is_in group (phase_of self.now.standing) }
+    {
+        match (group, &self.standing) {
+            (Group::Present, Standing::Published { marked, .. }) => !*marked,
+            (Group::Marked, Standing::Published { marked, .. }) => *marked,
+            (Group::Home, Standing::Home) | (Group::Retired, Standing::Retired) => true,
+            _ => false,
         }
     }
 }
 
-impl Error for CheckFault {}
+impl SeqPool {
+    ghost use Rattle.seqpool.specs.Rows.{pool_in};
+    ghost use Rattle.seqpool.specs.Checker.{AreIn};
+
+    /// How many places are of the group.
+    fn count(&self, group: Group) -> usize
+        ensures { AreIn self.now.shape (pool_in self.now) group result }
+    {
+        let mut count = 0;
+        for position in 0..self.shape.all_places() {
+            let place = self.shape.place_at(position);
+            if self.row(place).is_in(group) {
+                count += 1;
+            }
+        }
+        count
+    }
+}

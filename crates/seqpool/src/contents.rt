@@ -1,4 +1,4 @@
-ghost use Rattle.std.specs.Prelude.{◌≡◌, ◌++◌, ℕ, List, [], IfOk, OnOk, OnErr};
+ghost use Rattle.std.specs.Prelude.{◌≡◌, ◌≢◌, ◌++◌, ℕ, List, [], IfOk, OnOk, OnErr};
 
 use std::alloc::{AllocError, Global};
 use std::marker::Model;
@@ -32,10 +32,14 @@ impl Bytes {
         }
     }
 
-    /// The same bytes once more.
+    /// The same bytes once more. No bytes take no memory.
     pub fn copy(&self, alloc: Global) -> Result<Self, AllocError>
-        ensures { IfOk result (λ copy. copy ≡ self.now) }
+        ensures ok { IfOk result (λ copy. copy ≡ self.now) }
+        ensures err { OnErr result (self.now ≢ []) }
     {
+        if self.bytes.is_empty() {
+            return Ok(Bytes::empty(alloc));
+        }
         let bytes = Vec::from_slice(alloc, self.bytes.as_slice())?;
         Ok(Bytes { bytes })
     }
@@ -46,6 +50,13 @@ impl Bytes {
         ensures err { OnErr result (self.new ≡ self.old) }
     {
         self.bytes.extend_from_slice(more)
+    }
+
+    /// The vector of the bytes, which it gives back. It takes no memory.
+    pub fn into_vec(self) -> Vec<u8>
+        ensures { result.items ≡ self }
+    {
+        self.bytes
     }
 
     /// The bytes as a slice.
@@ -82,6 +93,13 @@ impl Places {
     {
         let places = Vec::from_slice(alloc, self.places.as_slice())?;
         Ok(Places { places })
+    }
+
+    /// The vector of the places, which it gives back. It takes no memory.
+    pub fn into_vec(self) -> Vec<u32>
+        ensures { result.items ≡ self }
+    {
+        self.places
     }
 
     /// The places as a slice.

@@ -1,5 +1,6 @@
 ghost use Rattle.std.specs.Prelude.{◌≡◌};
 ghost use Rattle.seqpool.specs.declared.fault.ApplyFault.TheVariants as faults;
+ghost use Rattle.seqpool.specs.declared.fault.CheckFault.TheVariants as check_faults;
 
 use std::alloc::{AllocError, AllocFailed};
 use std::error::Error;
@@ -30,6 +31,15 @@ pub enum ApplyFault {
     Memory,
 }
 
+/// Why a history isn't found legal.
+#[derive(Clone, Copy, Debug, PartialEq, Eq)]
+pub enum CheckFault {
+    /// The first act that is refused, counted from 0, and why.
+    Illegal { index: usize, fault: ApplyFault },
+    /// No memory was left.
+    Memory,
+}
+
 impl Memory {
     /// The number of the fault, 18.
     pub fn number(&self) -> u32
@@ -53,7 +63,7 @@ impl<T: Drop> From<AllocFailed<T>> for Memory {
 
 impl fmt::Display for Memory {
     fn fmt<W: fmt::Write>(&self, f: &mut fmt::Formatter<W>) -> fmt::Result {
-        write!(f, "no memory was left")
+        f.write_str("no memory was left")
     }
 }
 
@@ -89,23 +99,36 @@ impl From<AllocError> for ApplyFault {
 
 impl fmt::Display for ApplyFault {
     fn fmt<W: fmt::Write>(&self, f: &mut fmt::Formatter<W>) -> fmt::Result {
-        match self {
-            ApplyFault::NotWithLane => write!(
-                f,
-                "there is no such lane, or the place isn't with it"
-            ),
-            ApplyFault::WrongGeneration => write!(f, "the place's next generation isn't the key's"),
-            ApplyFault::WrongReply => write!(f, "the reply isn't that of the pool"),
-            ApplyFault::NotHeld => write!(f, "the lane has no reference to the key"),
-            ApplyFault::StillHeld => write!(f, "a lane has a reference to the key"),
-            ApplyFault::NotMarked => write!(f, "the key isn't in the pool, or isn't marked"),
-            ApplyFault::NotHome => write!(
-                f,
-                "the places are none, or one isn't home or came before"
-            ),
-            ApplyFault::Memory => write!(f, "no memory was left"),
-        }
+        f.write_str(match self {
+            ApplyFault::NotWithLane => "there is no such lane, or the place isn't with it",
+            ApplyFault::WrongGeneration => "the place's next generation isn't the key's",
+            ApplyFault::WrongReply => "the reply isn't that of the pool",
+            ApplyFault::NotHeld => "the lane has no reference to the key",
+            ApplyFault::StillHeld => "a lane has a reference to the key",
+            ApplyFault::NotMarked => "the key isn't in the pool, or isn't marked",
+            ApplyFault::NotHome => "the places are none, or one isn't home or came before",
+            ApplyFault::Memory => "no memory was left",
+        })
     }
 }
 
 impl Error for ApplyFault {}
+
+impl From<Memory> for CheckFault {
+    ghost from_gives = { λ _ e. e ≡ check_faults.Memory };
+
+    fn from(_e: Memory) -> CheckFault {
+        CheckFault::Memory
+    }
+}
+
+impl fmt::Display for CheckFault {
+    fn fmt<W: fmt::Write>(&self, f: &mut fmt::Formatter<W>) -> fmt::Result {
+        match self {
+            CheckFault::Illegal { index, fault } => write!(f, "act {index} is refused: {fault}"),
+            CheckFault::Memory => f.write_str("no memory was left"),
+        }
+    }
+}
+
+impl Error for CheckFault {}

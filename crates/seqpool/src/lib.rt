@@ -1,38 +1,37 @@
 //! The pool of one thread: its acts, its legal histories and their laws.
+//!
+//! - Acts: `act` and `contents`; why one is refused, `fault`.
+//! - The pool that acts are applied to: `pool`, which keeps a `row` for each place, with a `tally` for each lane; the `laws`.
+//! - The checker of histories: `checker`, which gives a `summary`.
+//! - Acts as text: `acts_text` writes, `acts_reader` reads by lines and `acts_fields` by fields; `acts_fault`.
 #![tactic(auto)]
 
 mod act;
-mod act_name;
 mod acts_fault;
+mod acts_fields;
+mod acts_reader;
+mod acts_text;
 mod checker;
 mod contents;
 mod fault;
-mod fields;
-mod groups;
-mod hex;
-mod history;
-mod key;
-mod lanes;
 mod laws;
 mod pool;
-mod reader;
 mod row;
+mod summary;
 mod tally;
-mod writer;
 
 pub use act::Act;
 pub use acts_fault::ActsFault;
-pub use checker::{CheckFault, Summary};
+pub use acts_reader::read_acts;
+pub use acts_text::{hex_pair, write_acts};
+pub use checker::check;
 pub use contents::{Bytes, Places};
-pub use fault::{ApplyFault, Memory};
-pub use hex::hex_pair;
-pub use history::check;
+pub use fault::{ApplyFault, CheckFault, Memory};
 pub use laws::{get_law, once_law, own_law, reclaim_law};
 pub use pool::SeqPool;
-pub use reader::read_acts;
-pub use writer::write_acts;
+pub use summary::Summary;
 
 #[cfg(test)]
 mod tests;
 #[cfg(test)]
-mod texts;
+mod text_tests;

@@ -1,11 +1,11 @@
 ghost use Rattle.std.specs.Prelude.{◌≡◌, vec_len};
 ghost use Rattle.keybits.specs.Shapes.{IsShape, all_places};
 ghost use Rattle.keybits.specs.SameShapes.{IsShape-prop};
+ghost use Rattle.seqpool.specs.Pool.{has};
 
 use crate::act::Act;
 use crate::contents::Bytes;
 use crate::fault::{ApplyFault, Memory};
-use crate::key::is_among;
 use crate::row::{Row, Standing};
 use keybits::{Shape, fits, generation_of, place_of, shard_of};
 use std::alloc::{AllocError, Global};
@@ -24,13 +24,13 @@ pub struct SeqPool {
 }
 
 impl SeqPool {
-    ghost use Rattle.std.specs.Prelude.{◌≡◌, ◌≢◌, ℕ, ◌<◌, ◌↔◌, false, length, take, slice_index, IsTrue, IfOk, IfErr, OnOk, OnErr, IsErrOf, MatchOption};
+    ghost use Rattle.std.specs.Prelude.{◌≡◌, ◌≢◌, ℕ, Bool, List, ◌<◌, ◌↔◌, false, length, take, slice_index, IsTrue, IfOk, IfErr, OnOk, OnErr, IsErrOf, MatchOption};
     ghost use Rattle.keybits.specs.Shapes.{is_place, position_of};
     ghost use Rattle.seqpool.specs.declared.act.Act.TheVariants as acts;
     ghost use Rattle.seqpool.specs.declared.fault.ApplyFault.TheVariants as faults;
-    ghost use Rattle.seqpool.specs.Pool.{Allowed, fresh, after, lane_of, is_current, spot, references_in, has, NoRepeats, AllHome};
-    ghost use Rattle.seqpool.specs.Refusals.{Refused, Adds};
-    ghost use Rattle.seqpool.specs.Kept.{pool_in, spot_of, phase_of, with_spot, gained_spot, lost_spot, marked_spot, IsPlaceOf, IsHomeFor, Answers};
+    ghost use Rattle.seqpool.specs.Pool.{with, Allowed, fresh, after, lane_of, is_current, spot, references_in, has, NoRepeats, AllHome};
+    ghost use Rattle.seqpool.specs.Refusals.{Wrong, Refused, Adds};
+    ghost use Rattle.seqpool.specs.Rows.{pool_in, spot_of, phase_of, with_spot, gained_spot, lost_spot, marked_spot, IsPlaceOf, IsHomeFor, Answers};
 
     /// The pool of a checked shape before any act: each place is with the lane of its shard, and its next
     /// generation is 1.
@@ -118,6 +118,25 @@ impl SeqPool {
         }
     }
 
+    /// The place that is with the lane, and that the key is the next one of.
+    fn place_to_fill(&self, lane: u32, key: u64) -> Result<u32, ApplyFault>
+        ensures ok { IfOk result (λ place. IsPlaceOf self.now key place × ((pool_in self.now place).phase ≡ with lane)) }
+        ensures err { (content : List ℕ) (with_ref : Bool)
+            → IfErr result (λ fault. (fault ≢ faults.Memory) × Wrong self.now.shape (pool_in self.now) (acts.Publish lane key content with_ref) fault) }
+    {
+        if !fits(key, &self.shape) {
+            return Err(ApplyFault::NotWithLane);
+        }
+        let place = place_of(key);
+        if !self.row(place).is_with(lane) {
+            return Err(ApplyFault::NotWithLane);
+        }
+        if self.row(place).generation != generation_of(key) {
+            return Err(ApplyFault::WrongGeneration);
+        }
+        Ok(place)
+    }
+
     fn publish(
         &mut self,
         lane: u32,
@@ -128,19 +147,13 @@ impl SeqPool {
         requires { lane < self.old.shape.lanes }
         ensures { Answers self.old (acts.Publish lane key content.now with_ref) result self.new }
     {
-        if !fits(key, &self.shape) {
-            return Err(ApplyFault::NotWithLane);
-        }
-        let place = place_of(key);
-        if !self.row(place).is_with(lane) {
-            return Err(ApplyFault::NotWithLane);
-        }
-        let generation = self.row(place).generation;
-        if generation != generation_of(key) {
-            return Err(ApplyFault::WrongGeneration);
-        }
+        let place = match self.place_to_fill(lane, key) {
+            Ok(place) => place,
+            Err(fault) => return Err(fault),
+        };
         let content = content.copy(self.alloc)?;
         let standing = Standing::published(self.alloc, content, lane, with_ref)?;
+        let generation = self.row(place).generation;
         self.put(place, generation, standing);
         Ok(())
     }
@@ -310,6 +323,14 @@ impl SeqPool {
         if act.lane() >= self.shape.lanes {
             return Err(ApplyFault::NotWithLane);
         }
+        self.answer(act)
+    }
+
+    /// Makes an act of a lane of the shape.
+    fn answer(&mut self, act: &Act) -> Result<(), ApplyFault>
+        requires { lane_of act.now < self.old.shape.lanes }
+        ensures { Answers self.old act.now result self.new }
+    {
         match act {
             Act::Publish {
                 lane,
@@ -325,4 +346,11 @@ impl SeqPool {
             Act::Collect { lane, places } => self.collect(*lane, places.as_slice()),
         }
     }
+}
+
+/// Whether a place is among some others.
+pub(crate) fn is_among(place: u32, places: &[u32]) -> bool
+    ensures { result ≡ has places.now place }
+{
+    places.contains(&place)
 }

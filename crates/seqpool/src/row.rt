@@ -2,8 +2,12 @@ ghost use Rattle.std.specs.Prelude.{◌≡◌, ℕ, length, slice_index};
 
 use crate::contents::Bytes;
 use crate::tally::Tally;
+use keybits::MOST_LANES;
 use std::alloc::{AllocError, Global};
 use std::array;
+
+/// How many lanes a row counts the references of.
+const LANES: usize = MOST_LANES as usize;
 
 /// Where a place stands.
 #[derive(Drop, Debug)]
@@ -15,7 +19,7 @@ pub(crate) enum Standing {
     /// Its key is published: its content, the references of each lane, and whether it was cleared.
     Published {
         content: Bytes,
-        references: [Tally; 16],
+        references: [Tally; LANES],
         marked: bool,
     },
     Home,
@@ -30,9 +34,9 @@ pub(crate) struct Row {
 }
 
 impl Standing {
-    ghost use Rattle.std.specs.Prelude.{◌≡◌, ◌<◌, false, IfOk, if◌then◌else◌};
+    ghost use Rattle.std.specs.Prelude.{◌≡◌, ◌<◌, true, false, IfOk, OnErr, if◌then◌else◌};
     ghost use Rattle.seqpool.specs.Pool.{published, put};
-    ghost use Rattle.seqpool.specs.Kept.{phase_of};
+    ghost use Rattle.seqpool.specs.Rows.{phase_of};
 
     /// How a place stands once its key is published by the lane.
     pub(crate) fn published(
@@ -41,8 +45,9 @@ impl Standing {
         lane: u32,
         with_ref: bool,
     ) -> Result<Standing, AllocError>
-        requires { lane < 16 }
-        ensures { IfOk result (λ standing. phase_of standing ≡ published content (put (λ _. 0) lane (if with_ref then 1 else 0)) false) }
+        requires { lane < MOST_LANES }
+        ensures ok { IfOk result (λ standing. phase_of standing ≡ published content (put (λ _. 0) lane (if with_ref then 1 else 0)) false) }
+        ensures err { OnErr result (with_ref ≡ true) }
     {
         let mut references = no_references(alloc);
         if with_ref {
@@ -57,8 +62,8 @@ impl Standing {
 }
 
 /// No references of any lane.
-fn no_references(alloc: Global) -> [Tally; 16]
-    ensures lanes { length result ≡ 16 }
+fn no_references(alloc: Global) -> [Tally; LANES]
+    ensures lanes { length result ≡ LANES }
     ensures none { (lane : ℕ) → slice_index result lane ≡ 0 }
 {
     array::from_fn(|_| Tally::new(alloc))
@@ -67,7 +72,7 @@ fn no_references(alloc: Global) -> [Tally; 16]
 impl Row {
     ghost use Rattle.std.specs.Prelude.{◌≡◌, ℕ, ◌<◌, ◌↔◌, Some, OnOk, OnErr, IsTrue, MatchBool};
     ghost use Rattle.seqpool.specs.Pool.{with, home, spot, references_in, content_in, is_marked, is_unmarked, gained, lost, marked};
-    ghost use Rattle.seqpool.specs.Kept.{phase_of, spot_of};
+    ghost use Rattle.seqpool.specs.Rows.{phase_of, spot_of};
 
     /// Whether the place is with the lane.
     pub(crate) fn is_with(&self, lane: u32) -> bool
@@ -136,7 +141,7 @@ impl Row {
 
     /// How many references to the place's key the lane has.
     pub(crate) fn references(&self, lane: u32) -> usize
-        requires { lane < 16 }
+        requires { lane < MOST_LANES }
         ensures { result ≡ references_in (phase_of self.now.standing) lane }
     {
         match &self.standing {
@@ -147,7 +152,7 @@ impl Row {
 
     /// One reference more of the lane.
     pub(crate) fn gain(&mut self, lane: u32) -> Result<(), AllocError>
-        requires { lane < 16 }
+        requires { lane < MOST_LANES }
         ensures ok { OnOk result (spot_of self.new ≡ spot self.old.generation (gained lane (phase_of self.old.standing))) }
         ensures err { OnErr result (self.new ≡ self.old) }
     {
@@ -159,7 +164,7 @@ impl Row {
 
     /// One reference less of the lane, which has one.
     pub(crate) fn lose(&mut self, lane: u32)
-        requires lane { lane < 16 }
+        requires lane { lane < MOST_LANES }
         requires held { 0 < references_in (phase_of self.old.standing) lane }
         ensures { spot_of self.new ≡ spot self.old.generation (lost lane (phase_of self.old.standing)) }
     {
@@ -176,15 +181,4 @@ impl Row {
             *marked = true;
         }
     }
-}
-
-/// Places that are counted together.
-#[derive(Clone, Copy, Debug)]
-pub(crate) enum Group {
-    /// Those whose key is in the pool without the mark.
-    Present,
-    /// Those whose key is in the pool with the mark.
-    Marked,
-    Home,
-    Retired,
 }

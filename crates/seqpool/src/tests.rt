@@ -30,6 +30,14 @@ const TWO_LANES: Shape = Shape {
     tag: 0,
 };
 
+const LARGEST: Shape = Shape {
+    lanes: 16,
+    first_page: 64,
+    pages: 6,
+    last_generation: 4294967295,
+    tag: 255,
+};
+
 fn act_of(alloc: Global, row: Row<'_>) -> Result<Act, AllocError> {
     Ok(match row {
         Row::Publish(lane, key, content, with_ref) => Act::Publish {
@@ -118,23 +126,49 @@ fn summary(
     }
 }
 
+const LEGAL_STRANGER: &[Row<'static>] = &[
+    Row::Publish(0, 16777216, b"", true),
+    Row::Clear(0, 16777216, true),
+    Row::Release(0, 16777216),
+    Row::None(1, 16777216),
+    Row::Reclaim(1, 16777216),
+    Row::Home(1, 0),
+];
+
+const LEGAL_ONCE: &[Row<'static>] = &[
+    Row::Publish(0, 16777216, b"hi", false),
+    Row::Some(0, 16777216, b"hi"),
+    Row::Release(0, 16777216),
+    Row::Clear(0, 16777216, true),
+    Row::Reclaim(0, 16777216),
+];
+
+const LEGAL_TAGS: &[Row<'static>] = &[
+    Row::Publish(0, 360287970206416896, b"", false),
+    Row::Some(0, 360287970206416896, b""),
+];
+
+const LEGAL_RETIRES: &[Row<'static>] = &[
+    Row::Publish(0, 16777216, b"", false),
+    Row::Clear(0, 16777216, true),
+    Row::Reclaim(0, 16777216),
+];
+
+const LEGAL_TAKEN: &[Row<'static>] = &[
+    Row::Publish(0, 16777216, b"", false),
+    Row::Some(1, 16777216, b""),
+    Row::Clear(0, 16777216, true),
+    Row::Release(1, 16777216),
+    Row::Reclaim(1, 16777216),
+    Row::Home(1, 0),
+    Row::Collect(0, &[0]),
+    Row::Publish(0, 33554432, b"", true),
+    Row::Clear(1, 33554432, true),
+    Row::Clear(1, 33554432, false),
+];
+
 #[test]
 fn legal_histories_have_their_counts(rt: HostRuntime) -> Result<(), Fail> {
-    let stranger = [
-        Row::Publish(0, 16777216, b"", true),
-        Row::Clear(0, 16777216, true),
-        Row::Release(0, 16777216),
-        Row::None(1, 16777216),
-        Row::Reclaim(1, 16777216),
-        Row::Home(1, 0),
-    ];
-    let once = [
-        Row::Publish(0, 16777216, b"hi", false),
-        Row::Some(0, 16777216, b"hi"),
-        Row::Release(0, 16777216),
-        Row::Clear(0, 16777216, true),
-        Row::Reclaim(0, 16777216),
-    ];
     let one_lane = Shape {
         lanes: 1,
         first_page: 2,
@@ -145,39 +179,18 @@ fn legal_histories_have_their_counts(rt: HostRuntime) -> Result<(), Fail> {
         tag: 5,
         ..TWO_LANES
     };
-    let tags = [
-        Row::Publish(0, 360287970206416896, b"", false),
-        Row::Some(0, 360287970206416896, b""),
-    ];
     let last = Shape {
         lanes: 1,
         last_generation: 1,
         ..TWO_LANES
     };
-    let retires = [
-        Row::Publish(0, 16777216, b"", false),
-        Row::Clear(0, 16777216, true),
-        Row::Reclaim(0, 16777216),
-    ];
-    let taken = [
-        Row::Publish(0, 16777216, b"", false),
-        Row::Some(1, 16777216, b""),
-        Row::Clear(0, 16777216, true),
-        Row::Release(1, 16777216),
-        Row::Reclaim(1, 16777216),
-        Row::Home(1, 0),
-        Row::Collect(0, &[0]),
-        Row::Publish(0, 33554432, b"", true),
-        Row::Clear(1, 33554432, true),
-        Row::Clear(1, 33554432, false),
-    ];
     for (shape, rows, want) in [
-        (TWO_LANES, &stranger[..], summary(6, 1, 1, 0, 0, 1, 0)),
+        (TWO_LANES, LEGAL_STRANGER, summary(6, 1, 1, 0, 0, 1, 0)),
         (TWO_LANES, &[], summary(0, 0, 0, 0, 0, 0, 0)),
-        (one_lane, &once[..], summary(5, 1, 1, 0, 0, 0, 0)),
-        (tagged, &tags[..], summary(2, 1, 0, 1, 0, 0, 0)),
-        (last, &retires[..], summary(3, 1, 1, 0, 0, 0, 1)),
-        (TWO_LANES, &taken[..], summary(10, 2, 1, 0, 1, 0, 0)),
+        (one_lane, LEGAL_ONCE, summary(5, 1, 1, 0, 0, 0, 0)),
+        (tagged, LEGAL_TAGS, summary(2, 1, 0, 1, 0, 0, 0)),
+        (last, LEGAL_RETIRES, summary(3, 1, 1, 0, 0, 0, 1)),
+        (TWO_LANES, LEGAL_TAKEN, summary(10, 2, 1, 0, 1, 0, 0)),
     ] {
         let (whole, refused) = both(rt.alloc(), shape, rows)?;
         assert_eq!(rt; whole, Ok(want));
@@ -185,6 +198,160 @@ fn legal_histories_have_their_counts(rt: HostRuntime) -> Result<(), Fail> {
     }
     Ok(())
 }
+
+// Of tag 255: the keys of place 983040 (shard 15, page 0, slot 0) and the generations 1 and 2 are 18374686479689383936 and
+// 18374686479706161152; those of place 1005567 (shard 15, page 5, slot 2047) and the generations 1 to 3 are
+// 18374686479689406463, 18374686479706183679 and 18374686479722960895.
+const LARGEST_HISTORY: &[Row<'static>] = &[
+    Row::Publish(15, 18374686479689383936, b"hi", true),
+    Row::Some(3, 18374686479689383936, b"hi"),
+    Row::Clear(0, 18374686479689383936, true),
+    Row::None(15, 18374686479689383936),
+    Row::Release(15, 18374686479689383936),
+    Row::Release(3, 18374686479689383936),
+    Row::Reclaim(7, 18374686479689383936),
+    Row::Home(7, 983040),
+    Row::Collect(15, &[983040]),
+    Row::Publish(15, 18374686479706161152, b"x", false),
+    Row::Some(14, 18374686479706161152, b"x"),
+    Row::Publish(15, 18374686479689406463, b"", true),
+    Row::Clear(15, 18374686479689406463, true),
+    Row::Release(15, 18374686479689406463),
+    Row::Reclaim(0, 18374686479689406463),
+    Row::Home(0, 1005567),
+    Row::Collect(15, &[1005567]),
+    Row::Publish(15, 18374686479706183679, b"", false),
+];
+
+const LARGEST_TWO_GENERATIONS: &[Row<'static>] = &[
+    Row::Publish(15, 18374686479689406463, b"", false),
+    Row::Clear(4, 18374686479689406463, true),
+    Row::Reclaim(4, 18374686479689406463),
+    Row::Home(4, 1005567),
+    Row::Collect(15, &[1005567]),
+    Row::Publish(15, 18374686479706183679, b"", true),
+    Row::Clear(9, 18374686479706183679, true),
+    Row::Release(15, 18374686479706183679),
+    Row::Reclaim(9, 18374686479706183679),
+    Row::None(9, 18374686479706183679),
+    Row::Clear(15, 18374686479722960895, false),
+];
+
+const LARGEST_EARLY: &[Row<'static>] = &[Row::Publish(15, 18446744073693779967, b"", false)];
+
+const LARGEST_NO_SLOT: &[Row<'static>] = &[Row::Publish(15, 18374686479689406464, b"", false)];
+
+const LARGEST_FOREIGN: &[Row<'static>] = &[Row::Publish(15, 18302628885651478527, b"", false)];
+
+const LARGEST_NO_LANE: &[Row<'static>] = &[Row::Clear(16, 18374686479689383936, false)];
+
+#[test]
+fn the_largest_shape_has_a_pool(rt: HostRuntime) -> Result<(), Fail> {
+    let short = Shape {
+        last_generation: 2,
+        ..LARGEST
+    };
+    for (shape, rows, want) in [
+        (LARGEST, LARGEST_HISTORY, summary(18, 4, 2, 2, 0, 0, 0)),
+        (LARGEST, &[], summary(0, 0, 0, 0, 0, 0, 0)),
+        (
+            short,
+            LARGEST_TWO_GENERATIONS,
+            summary(11, 2, 2, 0, 0, 0, 1),
+        ),
+    ] {
+        let (whole, refused) = both(rt.alloc(), shape, rows)?;
+        assert_eq!(rt; whole, Ok(want));
+        assert_eq!(rt; refused, None);
+    }
+    // The last generation of a key, a slot past the last, another tag, and a lane past the last.
+    for (shape, rows, fault) in [
+        (LARGEST, LARGEST_EARLY, ApplyFault::WrongGeneration),
+        (short, LARGEST_EARLY, ApplyFault::NotWithLane),
+        (LARGEST, LARGEST_NO_SLOT, ApplyFault::NotWithLane),
+        (LARGEST, LARGEST_FOREIGN, ApplyFault::NotWithLane),
+        (LARGEST, LARGEST_NO_LANE, ApplyFault::NotWithLane),
+    ] {
+        let (whole, refused) = both(rt.alloc(), shape, rows)?;
+        assert_eq!(rt; whole, Err(CheckFault::Illegal { index: 0, fault }));
+        assert_eq!(rt; refused, Some((0, fault)));
+    }
+    Ok(())
+}
+
+/// A thousand places of lane 15 are published and come home by lane 0, and lane 15 takes them by one act: 4,001 acts.
+#[test]
+fn long_histories_are_checked(rt: HostRuntime) -> Result<(), Fail> {
+    let mut places = Vec::new(rt.alloc());
+    let mut rows = Vec::new(rt.alloc());
+    for slot in 0..1000 {
+        // Shard 15, page 5; generation 1, tag 255.
+        let place = 1003520 + slot;
+        let key = 18374686479688400896 + u64::from(place);
+        places.push(place)?;
+        rows.push(Row::Publish(15, key, b"", false))?;
+        rows.push(Row::Clear(0, key, true))?;
+        rows.push(Row::Reclaim(0, key))?;
+        rows.push(Row::Home(0, place))?;
+    }
+    let (whole, refused) = both(rt.alloc(), LARGEST, rows.as_slice())?;
+    assert_eq!(rt; whole, Ok(summary(4000, 1000, 1000, 0, 0, 1000, 0)));
+    assert_eq!(rt; refused, None);
+    rows.push(Row::Collect(15, places.as_slice()))?;
+    let (whole, refused) = both(rt.alloc(), LARGEST, rows.as_slice())?;
+    assert_eq!(rt; whole, Ok(summary(4001, 1000, 1000, 0, 0, 0, 0)));
+    assert_eq!(rt; refused, None);
+    rows.push(Row::Collect(15, &[1004519]))?;
+    let (whole, refused) = both(rt.alloc(), LARGEST, rows.as_slice())?;
+    let fault = ApplyFault::NotHome;
+    assert_eq!(rt; whole, Err(CheckFault::Illegal { index: 4001, fault }));
+    assert_eq!(rt; refused, Some((4001, fault)));
+    Ok(())
+}
+
+#[test]
+fn contents_and_places_give_their_vectors_back(rt: HostRuntime) -> Result<(), Fail> {
+    for bytes in [&b""[..], b"\x00\xffhi"] {
+        let content = Bytes::from_vec(Vec::from_slice(rt.alloc(), bytes)?);
+        assert_eq!(rt; content.into_vec().as_slice(), bytes);
+    }
+    for numbers in [&[][..], &[7, 0, 16777215]] {
+        let places = Places::from_vec(Vec::from_slice(rt.alloc(), numbers)?);
+        assert_eq!(rt; places.into_vec().as_slice(), numbers);
+    }
+    Ok(())
+}
+
+const REFUSED_WRONG_REPLY: &[Row<'static>] = &[
+    Row::Publish(0, 16777216, b"hi", false),
+    Row::None(0, 16777216),
+];
+
+const REFUSED_NOT_HELD: &[Row<'static>] = &[
+    Row::Publish(0, 16777216, b"", false),
+    Row::Release(1, 16777216),
+];
+
+const REFUSED_STILL_HELD: &[Row<'static>] = &[
+    Row::Publish(0, 16777216, b"", true),
+    Row::Clear(1, 16777216, true),
+    Row::Reclaim(1, 16777216),
+];
+
+const REFUSED_NOT_MARKED: &[Row<'static>] = &[
+    Row::Publish(0, 16777216, b"", false),
+    Row::Reclaim(0, 16777216),
+];
+
+const REFUSED_FOREIGN: &[Row<'static>] = &[Row::Publish(1, 16777216, b"", false)];
+
+const REFUSED_NO_LANE: &[Row<'static>] = &[Row::Clear(2, 16777216, false)];
+
+const REFUSED_EARLY: &[Row<'static>] = &[Row::Publish(0, 33554432, b"", false)];
+
+const REFUSED_NOT_HOME: &[Row<'static>] = &[Row::Collect(0, &[0])];
+
+const REFUSED_UNTAGGED: &[Row<'static>] = &[Row::Publish(0, 16777216, b"", false)];
 
 #[test]
 fn illegal_acts_are_refused(rt: HostRuntime) -> Result<(), Fail> {
@@ -198,38 +365,16 @@ fn illegal_acts_are_refused(rt: HostRuntime) -> Result<(), Fail> {
         tag: 5,
         ..TWO_LANES
     };
-    let wrong_reply = [
-        Row::Publish(0, 16777216, b"hi", false),
-        Row::None(0, 16777216),
-    ];
-    let not_held = [
-        Row::Publish(0, 16777216, b"", false),
-        Row::Release(1, 16777216),
-    ];
-    let still_held = [
-        Row::Publish(0, 16777216, b"", true),
-        Row::Clear(1, 16777216, true),
-        Row::Reclaim(1, 16777216),
-    ];
-    let not_marked = [
-        Row::Publish(0, 16777216, b"", false),
-        Row::Reclaim(0, 16777216),
-    ];
-    let foreign = [Row::Publish(1, 16777216, b"", false)];
-    let no_lane = [Row::Clear(2, 16777216, false)];
-    let early = [Row::Publish(0, 33554432, b"", false)];
-    let not_home = [Row::Collect(0, &[0])];
-    let untagged = [Row::Publish(0, 16777216, b"", false)];
     for (shape, rows, index, fault, number) in [
-        (TWO_LANES, &foreign[..], 0, ApplyFault::NotWithLane, 11),
-        (TWO_LANES, &no_lane[..], 0, ApplyFault::NotWithLane, 11),
-        (TWO_LANES, &early[..], 0, ApplyFault::WrongGeneration, 12),
-        (one_lane, &wrong_reply[..], 1, ApplyFault::WrongReply, 13),
-        (TWO_LANES, &not_held[..], 1, ApplyFault::NotHeld, 14),
-        (TWO_LANES, &still_held[..], 2, ApplyFault::StillHeld, 15),
-        (TWO_LANES, &not_marked[..], 1, ApplyFault::NotMarked, 16),
-        (TWO_LANES, &not_home[..], 0, ApplyFault::NotHome, 17),
-        (tagged, &untagged[..], 0, ApplyFault::NotWithLane, 11),
+        (TWO_LANES, REFUSED_FOREIGN, 0, ApplyFault::NotWithLane, 11),
+        (TWO_LANES, REFUSED_NO_LANE, 0, ApplyFault::NotWithLane, 11),
+        (TWO_LANES, REFUSED_EARLY, 0, ApplyFault::WrongGeneration, 12),
+        (one_lane, REFUSED_WRONG_REPLY, 1, ApplyFault::WrongReply, 13),
+        (TWO_LANES, REFUSED_NOT_HELD, 1, ApplyFault::NotHeld, 14),
+        (TWO_LANES, REFUSED_STILL_HELD, 2, ApplyFault::StillHeld, 15),
+        (TWO_LANES, REFUSED_NOT_MARKED, 1, ApplyFault::NotMarked, 16),
+        (TWO_LANES, REFUSED_NOT_HOME, 0, ApplyFault::NotHome, 17),
+        (tagged, REFUSED_UNTAGGED, 0, ApplyFault::NotWithLane, 11),
     ] {
         let (whole, refused) = both(rt.alloc(), shape, rows)?;
         assert_eq!(rt; whole, Err(CheckFault::Illegal { index, fault }));
@@ -240,6 +385,23 @@ fn illegal_acts_are_refused(rt: HostRuntime) -> Result<(), Fail> {
     assert_eq!(rt; ApplyFault::Memory.number(), 18);
     Ok(())
 }
+
+const WRITTEN_ONCE: &[Row<'static>] = &[
+    Row::Publish(0, 16777216, b"hi", false),
+    Row::Some(0, 16777216, b"hi"),
+    Row::Release(0, 16777216),
+    Row::Clear(0, 16777216, true),
+    Row::Reclaim(0, 16777216),
+];
+
+const WRITTEN_OTHERS: &[Row<'static>] = &[
+    Row::Publish(0, 16777216, b"\x0a\xfe", true),
+    Row::Some(1, 16777216, b""),
+    Row::None(1, 18446744073709551615),
+    Row::Clear(1, 16777216, false),
+    Row::Home(1, 0),
+    Row::Collect(0, &[12, 3, 7]),
+];
 
 #[test]
 fn acts_are_written(rt: HostRuntime) -> Result<(), Fail> {
@@ -253,31 +415,16 @@ fn acts_are_written(rt: HostRuntime) -> Result<(), Fail> {
         tag: 5,
         ..TWO_LANES
     };
-    let once = [
-        Row::Publish(0, 16777216, b"hi", false),
-        Row::Some(0, 16777216, b"hi"),
-        Row::Release(0, 16777216),
-        Row::Clear(0, 16777216, true),
-        Row::Reclaim(0, 16777216),
-    ];
-    let others = [
-        Row::Publish(0, 16777216, b"\x0a\xfe", true),
-        Row::Some(1, 16777216, b""),
-        Row::None(1, 18446744073709551615),
-        Row::Clear(1, 16777216, false),
-        Row::Home(1, 0),
-        Row::Collect(0, &[12, 3, 7]),
-    ];
     for (shape, rows, want) in [
         (
             one_lane,
-            &once[..],
+            WRITTEN_ONCE,
             "kept:shape 1 2 1 4294967295\n0 publish 16777216 6869 0\n0 get 16777216 some 6869\n0 release 16777216\n0 clear 16777216 true\n0 reclaim 16777216\n",
         ),
         (tagged, &[], "kept:shape 1 1 1 4294967295 5\n"),
         (
             TWO_LANES,
-            &others[..],
+            WRITTEN_OTHERS,
             "kept:shape 2 1 1 4294967295\n0 publish 16777216 0afe 1\n1 get 16777216 some -\n1 get 18446744073709551615 none\n1 clear 16777216 false\n1 home 0\n0 collect 3,7,12\n",
         ),
     ] {

@@ -120,7 +120,7 @@ key_in (Releasing key) = key
 key_in (Clearing key) = key
 key_in (Creating own chain opened) = 0
 
--- the place that a return word is for
+-- the place that a lifecycle or link word is for; 0 for a stack word
 abbrev pub place_in : Word → ℕ
 place_in (Life place) = place
 place_in (Link place) = place

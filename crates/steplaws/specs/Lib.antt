@@ -1,2 +1,4 @@
 pub mod Calls
 pub mod Facts
+pub mod StepLaws
+pub mod MomentLaws

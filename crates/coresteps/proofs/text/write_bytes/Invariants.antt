@@ -1,6 +1,6 @@
 use Rattle.std.proofs.Common.{◌≡◌, ◌++◌, take}
 use Rattle.std.specs.List.{flat_map}
-use Rattle.seqpool.specs.Texts.{hex_pair}
+use Rattle.seqpool.specs.ActsText.{hex_pair}
 use Rattle.coresteps.proofs.text.write_bytes.Given as goal
 
 abbrev pub invariant-loop-byte : goal.invariant-loop-byte

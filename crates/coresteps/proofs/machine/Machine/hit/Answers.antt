@@ -25,17 +25,17 @@ pub position-position-requires-clause-place : goal.position-position-requires-cl
 position-position-requires-clause-place c =
     let old = c.args.self.now in
     let k = c.requires.core.1 in
-    let f = enter_facts old.shape c.requires.core.0 old.script old.lane old.words.items old.contents.items old.acts.items k c.args.before c.args.lane c.requires.ready c.requires.works c.args.key c.requires.call.4 in
-    ap (is_place old.shape) c.place_of-place.ensures ∙ f.0
+    let f = enter_facts old.shape c.requires.core.0 old.script old.lane old.words.items old.contents.items old.acts.items k c.requires.ready c.args.key c.requires.call.4 in
+    ap (is_place old.shape) c.place_of-place.ensures.place ∙ f.0
 
 pub entered-requires : goal.entered-requires
 entered-requires c =
     let old = c.args.self.now in
     let w = c.requires.core.0 in
     let k = c.requires.core.1 in
-    let f = enter_facts old.shape w old.script old.lane old.words.items old.contents.items old.acts.items k c.args.before c.args.lane c.requires.ready c.requires.works c.args.key c.requires.call.4 in
+    let f = enter_facts old.shape w old.script old.lane old.words.items old.contents.items old.acts.items k c.requires.ready c.args.key c.requires.call.4 in
     let e = word_read old.shape w old.script old.lane old.words.items old.contents.items old.acts.items k (place_of c.args.key) c.position-position.result c.index-found.result.now f.0
-    (c.position-position.ensures.position ∙ ap (position_of old.shape) c.place_of-place.ensures) c.index-found.ensures in
+    (c.position-position.ensures.position ∙ ap (position_of old.shape) c.place_of-place.ensures.place) c.index-found.ensures in
     subst (λ (n : ℕ). count_in n < 1073741823) (sym e) f.1
 
 pub work-requires-clause-ready : goal.work-requires-clause-ready
@@ -55,25 +55,25 @@ returns-clause-ok c = λ w k unfinished.
     let lane3 = c.work.new.self in
     let found = c.index-found.result.now in
     let content = c.index-content.result.now in
-    let f = enter_facts z w old.script old.lane old.words.items old.contents.items old.acts.items k c.args.before lane1 c.requires.ready c.requires.works key c.requires.call.4 in
-    let at : position_of z (place_of key) ≡ c.position-position.result = ap (position_of z) (sym c.place_of-place.ensures) ∙ sym c.position-position.ensures.position in
+    let f = enter_facts z w old.script old.lane old.words.items old.contents.items old.acts.items k c.requires.ready key c.requires.call.4 in
+    let at : position_of z (place_of key) ≡ c.position-position.result = ap (position_of z) (sym c.place_of-place.ensures.place) ∙ sym c.position-position.ensures.position in
     let read : w.words.life (place_of key) ≡ found = sym (word_read z w old.script old.lane old.words.items old.contents.items old.acts.items k (place_of key) c.position-position.result found f.0 (sym at) c.index-found.ensures) in
     let value : w.words.life (place_of key) + 4 ≡ c.entered.result = ap (λ (n : ℕ). n + 4) read ∙ sym (c.entered.ensures.step 0) in
     let was_hit : is_hit key (w.words.life (place_of key)) ≡ true = ap (is_hit key) (sym (k.word (place_of key) f.0)) ∙ c.requires.hit in
     let shows : slice_get old.contents.items (position_of z (place_of key)) ≡ Some content =
     content_read z w old.script old.lane old.words.items old.contents.items old.acts.items k (place_of key) c.position-position.result content f.0 (sym at) c.index-content.ensures in
-    let told : acts.Get 0 key (Some content) ≡ c.in_ok-told.told = ap (λ (d : List ℕ). acts.Get 0 key (Some d)) (sym c.in_ok-copy.ensures) ∙ sym c.in_ok-told.ensures in
-    let history = ap (λ (d : List ℕ). old.acts.items ++ acts.Get 0 key (Some d) ∷ []) (sym c.in_ok-copy.ensures) ∙ sym c.in_ok-push.ensures.items in
-    let after = ap (λ (d : List ℕ). replies.Found d ∷ rs2) (sym c.in_ok-shown.ensures) ∙ sym c.in_ok-push_front.ensures.ok in
+    let told : acts.Get 0 key (Some content) ≡ c.in_ok-told.told = ap (λ (d : List ℕ). acts.Get 0 key (Some d)) (sym c.in_ok-copy.ensures.ok) ∙ sym c.in_ok-told.ensures in
+    let history = ap (λ (d : List ℕ). old.acts.items ++ acts.Get 0 key (Some d) ∷ []) (sym c.in_ok-copy.ensures.ok) ∙ sym c.in_ok-push.ensures.items in
+    let after = ap (λ (d : List ℕ). replies.Found d ∷ rs2) (sym c.in_ok-shown.ensures.ok) ∙ sym c.in_ok-push_front.ensures.ok in
     let works2 = subst (λ (t : Lane × List Command). Works z t.1 t.0 rs2 lane3)
-    (λ i. ((c.put_reference.ensures ∙ ap (λ (d : List ℕ). next_lane lane1 (set lane1.registers c.args.register.number (register_with (Reference key d) (Some key)))) c.in_ok-copy-2.ensures) i, c.as_slice-2.ensures i)) c.in_ok-after.ensures in
+    (λ i. ((c.put_reference.ensures ∙ ap (λ (d : List ℕ). next_lane lane1 (set lane1.registers c.args.register.number (register_with (Reference key d) (Some key)))) c.in_ok-copy-2.ensures.ok) i, c.as_slice-2.ensures i)) c.in_ok-after.ensures in
     let made_turn = keeps_hit z w old.script old.lane old.words.items old.contents.items old.acts.items k c.args.before rs2 lane1 lane3 unfinished c.requires.ready c.requires.works c.args.register c.args.operand c.requires.call.0 key content c.requires.call.1 c.requires.call.2 c.requires.call.3 c.requires.call.4 was_hit shows works2 in
     let moved = subst (λ (t : Turn × List ℕ × List Act). IsNextTurn z w t.0 × Keeps z (world_after z w t.0) old.script lane3 t.1 old.contents.items t.2)
     (λ i. (
       record {
         lane = 0;
         before = c.args.before;
-        step = Some (record { kind = kinds.Enter; word = Life (sym c.place_of-place.ensures i); before = read i; after = value i });
+        step = Some (record { kind = kinds.Enter; word = Life (sym c.place_of-place.ensures.place i); before = read i; after = value i });
         act = Some (told i);
         after = after i;
       },

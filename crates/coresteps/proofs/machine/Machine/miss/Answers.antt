@@ -19,17 +19,17 @@ pub position-position-requires-clause-place : goal.position-position-requires-cl
 position-position-requires-clause-place c =
     let old = c.args.self.now in
     let k = c.requires.core.1 in
-    let f = enter_facts old.shape c.requires.core.0 old.script old.lane old.words.items old.contents.items old.acts.items k c.args.before c.args.lane c.requires.ready c.requires.works c.args.key c.requires.call.4 in
-    ap (is_place old.shape) c.place_of-place.ensures ∙ f.0
+    let f = enter_facts old.shape c.requires.core.0 old.script old.lane old.words.items old.contents.items old.acts.items k c.requires.ready c.args.key c.requires.call.4 in
+    ap (is_place old.shape) c.place_of-place.ensures.place ∙ f.0
 
 pub entered-requires : goal.entered-requires
 entered-requires c =
     let old = c.args.self.now in
     let w = c.requires.core.0 in
     let k = c.requires.core.1 in
-    let f = enter_facts old.shape w old.script old.lane old.words.items old.contents.items old.acts.items k c.args.before c.args.lane c.requires.ready c.requires.works c.args.key c.requires.call.4 in
+    let f = enter_facts old.shape w old.script old.lane old.words.items old.contents.items old.acts.items k c.requires.ready c.args.key c.requires.call.4 in
     let e = word_read old.shape w old.script old.lane old.words.items old.contents.items old.acts.items k (place_of c.args.key) c.position-position.result c.index-found.result.now f.0
-    (c.position-position.ensures.position ∙ ap (position_of old.shape) c.place_of-place.ensures) c.index-found.ensures in
+    (c.position-position.ensures.position ∙ ap (position_of old.shape) c.place_of-place.ensures.place) c.index-found.ensures in
     subst (λ (n : ℕ). count_in n < 1073741823) (sym e) f.1
 
 pub returns-clause-ok : goal.returns-clause-ok
@@ -39,8 +39,8 @@ returns-clause-ok c = λ w k unfinished.
     let key = c.args.key in
     let lane1 = c.args.lane in
     let found = c.index-found.result.now in
-    let f = enter_facts z w old.script old.lane old.words.items old.contents.items old.acts.items k c.args.before lane1 c.requires.ready c.requires.works key c.requires.call.4 in
-    let at : position_of z (place_of key) ≡ c.position-position.result = ap (position_of z) (sym c.place_of-place.ensures) ∙ sym c.position-position.ensures.position in
+    let f = enter_facts z w old.script old.lane old.words.items old.contents.items old.acts.items k c.requires.ready key c.requires.call.4 in
+    let at : position_of z (place_of key) ≡ c.position-position.result = ap (position_of z) (sym c.place_of-place.ensures.place) ∙ sym c.position-position.ensures.position in
     let read : w.words.life (place_of key) ≡ found = sym (word_read z w old.script old.lane old.words.items old.contents.items old.acts.items k (place_of key) c.position-position.result found f.0 (sym at) c.index-found.ensures) in
     let value : w.words.life (place_of key) + 4 ≡ c.entered.result = ap (λ (n : ℕ). n + 4) read ∙ sym (c.entered.ensures.step 0) in
     let missed : is_hit key (w.words.life (place_of key)) ≡ false = ap (is_hit key) (sym (k.word (place_of key) f.0)) ∙ c.requires.miss in
@@ -50,7 +50,7 @@ returns-clause-ok c = λ w k unfinished.
       record {
         lane = 0;
         before = c.args.before;
-        step = Some (record { kind = kinds.Enter; word = Life (sym c.place_of-place.ensures i); before = read i; after = value i });
+        step = Some (record { kind = kinds.Enter; word = Life (sym c.place_of-place.ensures.place i); before = read i; after = value i });
         act = Some (acts.Get 0 key None);
         after = sym c.empty.ensures i;
       },

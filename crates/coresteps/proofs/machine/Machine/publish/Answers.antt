@@ -22,7 +22,7 @@ position-position-requires-clause-place c =
     let old = c.args.self.now in
     let k = c.requires.core.1 in
     let f = publish_facts old.shape c.requires.core.0 old.script old.lane old.words.items old.contents.items old.acts.items k c.args.before c.args.lane c.requires.ready c.requires.works c.args.register c.args.key c.requires.call.1 c.requires.call.3 in
-    ap (is_place old.shape) c.place_of-place.ensures ∙ f.0
+    ap (is_place old.shape) c.place_of-place.ensures.place ∙ f.0
 
 pub published-requires-clause-idle : goal.published-requires-clause-idle
 published-requires-clause-idle c =
@@ -31,8 +31,8 @@ published-requires-clause-idle c =
     let k = c.requires.core.1 in
     let f = publish_facts old.shape w old.script old.lane old.words.items old.contents.items old.acts.items k c.args.before c.args.lane c.requires.ready c.requires.works c.args.register c.args.key c.requires.call.1 c.requires.call.3 in
     let e = word_read old.shape w old.script old.lane old.words.items old.contents.items old.acts.items k (place_of c.args.key) c.position-position.result c.index-found.result.now f.0
-    (c.position-position.ensures.position ∙ ap (position_of old.shape) c.place_of-place.ensures) c.index-found.ensures in
-    ap state_in (e ∙ f.1)
+    (c.position-position.ensures.position ∙ ap (position_of old.shape) c.place_of-place.ensures.place) c.index-found.ensures in
+    ap state_in e ∙ f.1
 
 pub work-requires-clause-ready : goal.work-requires-clause-ready
 work-requires-clause-ready c =
@@ -54,11 +54,11 @@ returns-clause-ok c = λ w k unfinished.
     let same : Filling key c.requires.call.1 ≡ Filling c.take_filling-content.ensures.content.0 content = sym holds ∙ c.take_filling-content.ensures.content.1 in
     let same_content : c.requires.call.1 ≡ content = cc same in
     let f = publish_facts z w old.script old.lane old.words.items old.contents.items old.acts.items k c.args.before lane1 c.requires.ready c.requires.works c.args.register key c.requires.call.1 holds in
-    let at : position_of z (place_of key) ≡ c.position-position.result = ap (position_of z) (sym c.place_of-place.ensures) ∙ sym c.position-position.ensures.position in
+    let at : position_of z (place_of key) ≡ c.position-position.result = ap (position_of z) (sym c.place_of-place.ensures.place) ∙ sym c.position-position.ensures.position in
     let read : w.words.life (place_of key) ≡ found = sym (word_read z w old.script old.lane old.words.items old.contents.items old.acts.items k (place_of key) c.position-position.result found f.0 (sym at) c.index-found.ensures) in
     let value : w.words.life (place_of key) + 1 ≡ c.published.result = ap (λ (n : ℕ). n + 1) read ∙ sym (c.published.ensures.step 0).1 in
-    let told : acts.Publish 0 key c.requires.call.1 false ≡ c.in_ok-told.told = ap (λ (d : List ℕ). acts.Publish 0 key d false) (same_content ∙ sym c.in_ok-copy.ensures) ∙ sym c.in_ok-told.ensures in
-    let kept : acts.Publish 0 key c.requires.call.1 false ≡ acts.Publish 0 key c.in_ok-copy.field-0 false = ap (λ (d : List ℕ). acts.Publish 0 key d false) (same_content ∙ sym c.in_ok-copy.ensures) in
+    let told : acts.Publish 0 key c.requires.call.1 false ≡ c.in_ok-told.told = ap (λ (d : List ℕ). acts.Publish 0 key d false) (same_content ∙ sym c.in_ok-copy.ensures.ok) ∙ sym c.in_ok-told.ensures in
+    let kept : acts.Publish 0 key c.requires.call.1 false ≡ acts.Publish 0 key c.in_ok-copy.field-0 false = ap (λ (d : List ℕ). acts.Publish 0 key d false) (same_content ∙ sym c.in_ok-copy.ensures.ok) in
     let history = ap (λ (a : Act). old.acts.items ++ a ∷ []) kept ∙ sym c.in_ok-push.ensures.items in
     let works2 = subst (λ (t : Lane × List Command). Works z t.1 t.0 rs2 lane3) (λ i. (c.take_filling-content.ensures.after i, c.as_slice-2.ensures i)) c.in_ok-after.ensures in
     let made_turn = keeps_publish z w old.script old.lane old.words.items old.contents.items old.acts.items k c.args.before rs2 lane1 lane3 unfinished c.requires.ready c.requires.works c.args.register c.requires.call.0 key c.requires.call.1 c.requires.call.2 holds works2 in
@@ -67,7 +67,7 @@ returns-clause-ok c = λ w k unfinished.
       record {
         lane = 0;
         before = c.args.before;
-        step = Some (record { kind = kinds.Publish false; word = Life (sym c.place_of-place.ensures i); before = read i; after = value i });
+        step = Some (record { kind = kinds.Publish false; word = Life (sym c.place_of-place.ensures.place i); before = read i; after = value i });
         act = Some (told i);
         after = sym c.in_ok-push_front.ensures.ok i;
       },

@@ -1,4 +1,4 @@
-use Rattle.std.proofs.Common.{◌≡◌, ◌≤◌, Some, sym, ap, ◌∙◌, subst, arith}
+use Rattle.std.proofs.Common.{◌≡◌, ◌≤◌, Option, Some, sym, ap, ◌∙◌, subst, arith}
 use Rattle.keybits.specs.declared.place.Place.{Place}
 use Rattle.keybits.specs.Places.{number_of}
 use Rattle.keybits.specs.Links.{link_to}
@@ -6,6 +6,7 @@ use Rattle.keybits.proofs.LinkLemmas.{link_to-positive}
 use Rattle.freelists.specs.Shards.{IsOwn}
 use Rattle.freelists.specs.Queues.{FreePlaces}
 use Rattle.freelists.proofs.ShardLemmas.{linked_own}
+use Rattle.freelists.proofs.FreeLemmas.{Keeps, keeps-none, keeps-followed, all_free}
 use Rattle.freelists.proofs.local.LocalFree.follow.Goals as goal
 use Rattle.freelists.proofs.local.LocalFree.follow.Goals.{then-link-eq0, else-link-eq0}
 
@@ -19,3 +20,17 @@ returns-clause-goes_on c place is_own same =
       | else-link-eq0 w ↦ w.self-is ∙ ap (λ (p : Place). Some p)
           (w.place_of_word.ensures.place ∙ linked_own c.self.inside.shard.shape c.self.inside.shard.number c.args.link place c.self.invariant.0 own same)
     ]
+
+pub invariant_of-self : goal.invariant_of-self
+invariant_of-self c = elim c.if-link-eq0.branch [
+  | then-link-eq0 w ↦ subst (λ (chain : Option Place). Keeps (record c.self.inside { chain = chain })) (sym w.self-is) (keeps-none c.self.inside c.self.invariant)
+  | else-link-eq0 w ↦ subst (λ (chain : Option Place). Keeps (record c.self.inside { chain = chain })) (sym w.self-is)
+      (keeps-followed c.self.inside c.args.self.now c.args.link w.place_of_word.result c.self.view_is c.self.invariant w.if-link-eq0.false c.requires.link w.place_of_word.ensures.place)
+]
+
+pub returns-clause-places : goal.returns-clause-places
+returns-clause-places c = all_free (record c.self.inside { chain = c.if-link-eq0.self }) (elim c.if-link-eq0.branch [
+  | then-link-eq0 w ↦ subst (λ (chain : Option Place). Keeps (record c.self.inside { chain = chain })) (sym w.self-is) (keeps-none c.self.inside c.self.invariant)
+  | else-link-eq0 w ↦ subst (λ (chain : Option Place). Keeps (record c.self.inside { chain = chain })) (sym w.self-is)
+      (keeps-followed c.self.inside c.args.self.now c.args.link w.place_of_word.result c.self.view_is c.self.invariant w.if-link-eq0.false c.requires.link w.place_of_word.ensures.place)
+])

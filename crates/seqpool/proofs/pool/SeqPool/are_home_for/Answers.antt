@@ -1,13 +1,13 @@
 use Rattle.std.proofs.Common.{◌≡◌, true, sym, subst, ◌∙◌}
 use Rattle.std.proofs.lemmas.List.{take_more}
 use Rattle.seqpool.specs.Pool.{NoRepeats, AllHome}
-use Rattle.seqpool.specs.Kept.{pool_in}
-use Rattle.seqpool.proofs.Collects.{repeats-more, repeats-at, home-more, home-at}
+use Rattle.seqpool.specs.Rows.{pool_in}
+use Rattle.seqpool.proofs.Collects.{repeats-more, repeats-at, home-more, home-at, from-false}
 use Rattle.seqpool.proofs.pool.SeqPool.are_home_for.Goals as goal
 
 pub returns-then-not-may_take : goal.returns-then-not-may_take
 returns-then-not-may_take c = (
-  λ never. absurd (cc never),
+  λ never. from-false never,
   λ both. let may : c.may_take.result ≡ true = c.may_take.ensures.1 (
     home-at c.args.self.now.shape (pool_in c.args.self.now) c.args.lane c.args.places.now c.loop-i.i 0 c.loop-i-test.true both.1,
     repeats-at c.args.places.now c.loop-i.i 0 c.loop-i-test.true both.0,

@@ -1,6 +1,6 @@
 use Rattle.std.proofs.Common.{take}
 use Rattle.seqpool.specs.Pool.{NoRepeats, AllHome}
-use Rattle.seqpool.specs.Kept.{pool_in}
+use Rattle.seqpool.specs.Rows.{pool_in}
 use Rattle.seqpool.proofs.pool.SeqPool.are_home_for.Given as goal
 
 abbrev pub invariant-loop-i : goal.invariant-loop-i

@@ -1,6 +1,6 @@
 use Rattle.std.proofs.Common.{rules, ◌≡◌, ◌∙◌, true, sym, ap}
 use Rattle.seqpool.specs.Pool.{Spot, is_unmarked}
-use Rattle.seqpool.specs.Kept.{pool_in}
+use Rattle.seqpool.specs.Rows.{pool_in}
 use Rattle.seqpool.proofs.Acts.{clearing}
 use Rattle.seqpool.proofs.pool.SeqPool.clear.Goals as goal
 

@@ -4,7 +4,7 @@ use Rattle.keybits.specs.declared.shape.Shape.{Shape}
 use Rattle.keybits.specs.Shapes.{is_place}
 use Rattle.seqpool.specs.declared.act.Act.TheVariants.{Collect}
 use Rattle.seqpool.specs.Pool.{Spot, after}
-use Rattle.seqpool.specs.Kept.{pool_in}
+use Rattle.seqpool.specs.Rows.{pool_in}
 use Rattle.seqpool.proofs.Collects.{home-at, collects-more}
 use Rattle.seqpool.proofs.pool.SeqPool.collect.Goals as goal
 

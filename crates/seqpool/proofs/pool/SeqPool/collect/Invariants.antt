@@ -1,7 +1,7 @@
 use Rattle.std.proofs.Common.{◌≡◌, take}
 use Rattle.seqpool.specs.declared.act.Act.TheVariants.{Collect}
 use Rattle.seqpool.specs.Pool.{after}
-use Rattle.seqpool.specs.Kept.{pool_in}
+use Rattle.seqpool.specs.Rows.{pool_in}
 use Rattle.seqpool.proofs.pool.SeqPool.collect.Given as goal
 
 abbrev pub invariant-loop-place : goal.invariant-loop-place

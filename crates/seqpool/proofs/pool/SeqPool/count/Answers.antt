@@ -1,9 +1,9 @@
 use Rattle.std.proofs.Common.{◌≡◌, ◌+◌, ◌∙◌, ℕ, Bool, sym, ap, subst, arith}
 use Rattle.keybits.specs.Shapes.{all_places}
 use Rattle.seqpool.specs.Pool.{Spot}
-use Rattle.seqpool.specs.Kept.{pool_in}
-use Rattle.seqpool.specs.Checks.{AreMany, is_in}
-use Rattle.seqpool.proofs.Counts.{before, many-none, many-yes, many-no, many-all}
+use Rattle.seqpool.specs.Rows.{pool_in}
+use Rattle.seqpool.specs.Checker.{AreMany, is_in}
+use Rattle.seqpool.proofs.GroupCounts.{before, many-none, many-yes, many-no, many-all}
 use Rattle.seqpool.proofs.pool.SeqPool.count.Goals as goal
 use Rattle.seqpool.proofs.pool.SeqPool.count.Goals.{then-is_in, else-is_in}
 

@@ -1,7 +1,7 @@
 use Rattle.std.proofs.Common.{◌≤◌}
-use Rattle.seqpool.specs.Kept.{pool_in}
-use Rattle.seqpool.specs.Checks.{AreMany, is_in}
-use Rattle.seqpool.proofs.Counts.{before}
+use Rattle.seqpool.specs.Rows.{pool_in}
+use Rattle.seqpool.specs.Checker.{AreMany, is_in}
+use Rattle.seqpool.proofs.GroupCounts.{before}
 use Rattle.seqpool.proofs.pool.SeqPool.count.Given as goal
 
 abbrev pub invariant-loop-position : goal.invariant-loop-position

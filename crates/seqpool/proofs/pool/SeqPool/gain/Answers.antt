@@ -1,6 +1,6 @@
 use Rattle.std.proofs.Common.{arith}
 use Rattle.std.proofs.lemmas.Result.{on_ok_weaker}
-use Rattle.seqpool.specs.Kept.{gained_spot}
+use Rattle.seqpool.specs.Rows.{gained_spot}
 use Rattle.seqpool.proofs.Acts.{change-row}
 use Rattle.seqpool.proofs.pool.SeqPool.gain.Goals as goal
 

@@ -1,7 +1,7 @@
 use Rattle.std.proofs.Common.{rules, ◌≡◌, ◌∙◌, ℕ, Option, List, Some, sym, ap}
 use Rattle.seqpool.specs.declared.act.Act.TheVariants.{Get}
 use Rattle.seqpool.specs.Pool.{after, Spot, content_in}
-use Rattle.seqpool.specs.Kept.{pool_in, phase_of}
+use Rattle.seqpool.specs.Rows.{pool_in, phase_of}
 use Rattle.seqpool.proofs.Acts.{gets}
 use Rattle.seqpool.proofs.pool.SeqPool.get.Goals as goal
 

@@ -1,6 +1,6 @@
 use Rattle.std.proofs.Common.{rules, ◌≡◌, ◌∙◌, sym, ap}
 use Rattle.seqpool.specs.Pool.{Spot, with}
-use Rattle.seqpool.specs.Kept.{pool_in, phase_of}
+use Rattle.seqpool.specs.Rows.{pool_in, phase_of}
 use Rattle.seqpool.proofs.Acts.{homes}
 use Rattle.seqpool.proofs.pool.SeqPool.home.Goals as goal
 

@@ -1,5 +1,5 @@
 use Rattle.std.proofs.Common.{arith}
-use Rattle.seqpool.specs.Kept.{lost_spot}
+use Rattle.seqpool.specs.Rows.{lost_spot}
 use Rattle.seqpool.proofs.Acts.{change-row}
 use Rattle.seqpool.proofs.pool.SeqPool.lose.Goals as goal
 

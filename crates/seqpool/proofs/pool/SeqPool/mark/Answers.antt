@@ -1,5 +1,5 @@
 use Rattle.std.proofs.Common.{arith}
-use Rattle.seqpool.specs.Kept.{marked_spot}
+use Rattle.seqpool.specs.Rows.{marked_spot}
 use Rattle.seqpool.proofs.Acts.{change-row}
 use Rattle.seqpool.proofs.pool.SeqPool.mark.Goals as goal
 

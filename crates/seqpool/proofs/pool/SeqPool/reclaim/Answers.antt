@@ -1,6 +1,6 @@
 use Rattle.std.proofs.Common.{rules, ◌≡◌, ◌+◌, ◌∙◌, ℕ, true, cond, sym, ap, eq-eqb, ne_eqb}
 use Rattle.seqpool.specs.Pool.{Spot, spot, with, retired, references_in, is_marked}
-use Rattle.seqpool.specs.Kept.{pool_in, phase_of}
+use Rattle.seqpool.specs.Rows.{pool_in, phase_of}
 use Rattle.seqpool.proofs.Acts.{reclaims}
 use Rattle.seqpool.proofs.pool.SeqPool.reclaim.Goals as goal
 

@@ -1,6 +1,6 @@
 use Rattle.std.proofs.Common.{◌≡◌, ◌∙◌, sym, ap, arith}
 use Rattle.seqpool.specs.Pool.{Spot, references_in}
-use Rattle.seqpool.specs.Kept.{pool_in}
+use Rattle.seqpool.specs.Rows.{pool_in}
 use Rattle.seqpool.proofs.Acts.{releases}
 use Rattle.seqpool.proofs.pool.SeqPool.release.Goals as goal
 

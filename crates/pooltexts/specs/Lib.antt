@@ -1,0 +1,3 @@
+pub mod Replays
+pub mod RunFaults
+pub mod Checks

@@ -1,0 +1,108 @@
+ghost use Rattle.std.specs.Prelude.{◌≡◌};
+ghost use Rattle.pooltexts.specs.RunFaults.{shape_fault_name, acts_fault_name};
+ghost use Rattle.pooltexts.specs.declared.run_fault.RunFault.TheVariants as runs;
+
+use coresteps::CoreFault;
+use keybits::ShapeFault;
+use scripts::ReadFault;
+use seqpool::ActsFault;
+use std::alloc::AllocError;
+use thiserror::Error;
+use watched::WriteFailed;
+
+/// Why the program could not do what it was told.
+#[derive(Debug, Drop, Error)]
+pub enum RunFault {
+    /// The script file is no plan that can be replayed (31, 32, 36).
+    #[error(transparent)]
+    Read(ReadFault),
+    /// The text of acts stands for none: a line is wrong (19), the shape is refused (1, 2, 3, 4, 6) or
+    /// memory was refused (18).
+    #[error(transparent)]
+    Acts(ActsFault),
+    /// The core was refused memory (25).
+    #[error(transparent)]
+    Core(CoreFault),
+    /// The file can't be opened or read to its end (41).
+    #[error("the file can't be read")]
+    File,
+    /// A write failed (42).
+    #[error("the output can't be written")]
+    Output,
+    /// Memory was refused (43).
+    #[error("out of memory")]
+    Memory,
+}
+
+/// The name of a shape's fault.
+fn shape_fault_name(fault: &ShapeFault) -> &'static str
+    ensures { result.now ≡ shape_fault_name fault.now }
+{
+    match fault {
+        ShapeFault::Lanes => "Lanes",
+        ShapeFault::FirstPage => "FirstPage",
+        ShapeFault::Pages => "Pages",
+        ShapeFault::Generation => "Generation",
+        ShapeFault::Tag => "Tag",
+    }
+}
+
+/// The name of a fault of a text of acts.
+fn acts_fault_name(fault: &ActsFault) -> &'static str
+    ensures { result.now ≡ acts_fault_name fault.now }
+{
+    match fault {
+        ActsFault::ActsLine => "ActsLine",
+        ActsFault::Shape(fault) => shape_fault_name(fault),
+        ActsFault::Memory => "Memory",
+    }
+}
+
+impl RunFault {
+    ghost use Rattle.std.specs.Prelude.{◌≡◌};
+    ghost use Rattle.pooltexts.specs.RunFaults.{run_fault_number, run_fault_name};
+
+    /// The fault's number, the first part of its line.
+    pub fn number(&self) -> u32
+        ensures { result ≡ run_fault_number self.now }
+    {
+        match self {
+            RunFault::Read(fault) => fault.number(),
+            RunFault::Acts(fault) => fault.number(),
+            RunFault::Core(_) => 25,
+            RunFault::File => 41,
+            RunFault::Output => 42,
+            RunFault::Memory => 43,
+        }
+    }
+
+    /// The fault's name, the second part of its line.
+    pub fn name(&self) -> &'static str
+        ensures { result.now ≡ run_fault_name self.now }
+    {
+        match self {
+            RunFault::Read(fault) => fault.name(),
+            RunFault::Acts(fault) => acts_fault_name(fault),
+            RunFault::Core(_) => "Memory",
+            RunFault::File => "File",
+            RunFault::Output => "Output",
+            RunFault::Memory => "Memory",
+        }
+    }
+}
+
+impl From<WriteFailed> for RunFault {
+    ghost from_gives = { λ _ fault. fault ≡ runs.Output };
+
+    fn from(_failed: WriteFailed) -> RunFault {
+        RunFault::Output
+    }
+}
+
+impl From<AllocError> for RunFault {
+    ghost from_gives = { λ _ fault. fault ≡ runs.Memory };
+
+    fn from(_refused: AllocError) -> RunFault {
+        RunFault::Memory
+    }
+}

@@ -1,0 +1,5 @@
+pub mod Registers
+pub mod Values
+pub mod Sequences
+pub mod Hexes
+pub mod Plans

@@ -1,0 +1,5 @@
+pub mod Hex
+pub mod CommandNames
+pub mod ReadFaults
+pub mod ScriptFiles
+pub mod Readings

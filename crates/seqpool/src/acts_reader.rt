@@ -1,0 +1,208 @@
+//! The text of acts, as it is read: line by line, and a line part by part.
+
+ghost use Rattle.std.specs.Prelude.{◌≡◌, ◌↔◌, ◌<◌, ◌∷◌, ℕ, List, Some, length, IfOk, IsErrOf, MatchResult, option_map};
+ghost use Rattle.keybits.specs.declared.shape.Shape.{Shape};
+ghost use Rattle.keybits.specs.declared.shape.ShapeFault.{ShapeFault};
+ghost use Rattle.seqpool.specs.declared.act.Act.{Act};
+ghost use Rattle.seqpool.specs.declared.acts_fault.ActsFault.TheVariants as acts_faults;
+ghost use Rattle.seqpool.specs.ActsText.{RefusesText, StandsFor, StandsForNothing, HasShapeFault, HasShape};
+ghost use Rattle.seqpool.specs.ActsReader.{publish_of, get_of, clear_of, act_with, act_of, ending_at, numbers_of, shape_of, cut, lines, each, Reads, Refuses};
+
+use crate::act::{Act, ActName};
+use crate::acts_fault::ActsFault;
+use crate::acts_fields::{
+    cut, is_word, read_content, read_flag, read_key, read_name, read_place, read_places,
+    read_reply, read_truth, read_u32,
+};
+use keybits::Shape;
+use std::alloc::Global;
+
+#[tactic(auto, unfolding(crate::specs::ActsReader::publish_of))]
+fn read_publish(alloc: Global, lane: u32, operands: &[u8]) -> Result<Act, ActsFault>
+    ensures { Reads (publish_of lane operands.now) result }
+{
+    let (key, rest) = cut(operands, b' ').ok_or(ActsFault::ActsLine)?;
+    let key = read_key(key).ok_or(ActsFault::ActsLine)?;
+    let (content, flag) = cut(rest, b' ').ok_or(ActsFault::ActsLine)?;
+    let content = read_content(alloc, content)?;
+    let with_ref = read_flag(flag).ok_or(ActsFault::ActsLine)?;
+    Ok(Act::Publish {
+        lane,
+        key,
+        content,
+        with_ref,
+    })
+}
+
+#[tactic(auto, unfolding(crate::specs::ActsReader::get_of))]
+fn read_get(alloc: Global, lane: u32, operands: &[u8]) -> Result<Act, ActsFault>
+    ensures { Reads (get_of lane operands.now) result }
+{
+    let (key, reply) = cut(operands, b' ').ok_or(ActsFault::ActsLine)?;
+    let key = read_key(key).ok_or(ActsFault::ActsLine)?;
+    let reply = read_reply(alloc, reply)?;
+    Ok(Act::Get { lane, key, reply })
+}
+
+#[tactic(auto, unfolding(crate::specs::ActsReader::clear_of))]
+fn read_clear(lane: u32, operands: &[u8]) -> Option<Act>
+    ensures { result ≡ clear_of lane operands.now }
+{
+    let (key, reply) = cut(operands, b' ')?;
+    let key = read_key(key)?;
+    let reply = read_truth(reply)?;
+    Some(Act::Clear { lane, key, reply })
+}
+
+/// The act of this name and lane with these operands.
+fn read_act_with(alloc: Global, name: ActName, lane: u32, operands: &[u8]) -> Result<Act, ActsFault>
+    ensures { Reads (act_with name lane operands.now) result }
+{
+    match name {
+        ActName::Publish => read_publish(alloc, lane, operands),
+        ActName::Get => read_get(alloc, lane, operands),
+        ActName::Release => {
+            let key = read_key(operands).ok_or(ActsFault::ActsLine)?;
+            Ok(Act::Release { lane, key })
+        }
+        ActName::Clear => read_clear(lane, operands).ok_or(ActsFault::ActsLine),
+        ActName::Reclaim => {
+            let key = read_key(operands).ok_or(ActsFault::ActsLine)?;
+            Ok(Act::Reclaim { lane, key })
+        }
+        ActName::Home => {
+            let place = read_place(operands).ok_or(ActsFault::ActsLine)?;
+            Ok(Act::Home { lane, place })
+        }
+        ActName::Collect => {
+            let places = read_places(alloc, operands)?;
+            Ok(Act::Collect { lane, places })
+        }
+    }
+}
+
+/// The act of a line.
+#[tactic(auto, unfolding(crate::specs::ActsReader::act_of))]
+fn read_act(alloc: Global, line: &[u8]) -> Result<Act, ActsFault>
+    ensures { Reads (act_of line.now) result }
+{
+    let (lane, rest) = cut(line, b' ').ok_or(ActsFault::ActsLine)?;
+    let lane = read_u32(lane).ok_or(ActsFault::ActsLine)?;
+    let (name, operands) = cut(rest, b' ').ok_or(ActsFault::ActsLine)?;
+    let name = read_name(name).ok_or(ActsFault::ActsLine)?;
+    read_act_with(alloc, name, lane, operands)
+}
+
+/// The last generation of a shape and its tag, which is 0 where it isn't there.
+fn read_ending(text: &[u8]) -> Option<(u32, u32)>
+    ensures { result ≡ ending_at text.now (cut 32 text.now) }
+{
+    match cut(text, b' ') {
+        Some((last_generation, tag)) => {
+            let last_generation = read_u32(last_generation)?;
+            let tag = read_u32(tag)?;
+            Some((last_generation, tag))
+        }
+        None => {
+            let last_generation = read_u32(text)?;
+            Some((last_generation, 0))
+        }
+    }
+}
+
+#[tactic(auto, unfolding(crate::specs::ActsReader::numbers_of))]
+fn read_numbers(text: &[u8]) -> Option<Shape>
+    ensures { result ≡ numbers_of text.now }
+{
+    let (lanes, rest) = cut(text, b' ')?;
+    let lanes = read_u32(lanes)?;
+    let (first_page, rest) = cut(rest, b' ')?;
+    let first_page = read_u32(first_page)?;
+    let (pages, rest) = cut(rest, b' ')?;
+    let pages = read_u32(pages)?;
+    let (last_generation, tag) = read_ending(rest)?;
+    Some(Shape {
+        lanes,
+        first_page,
+        pages,
+        last_generation,
+        tag,
+    })
+}
+
+/// The shape of a line; it is still to be checked.
+#[tactic(auto, unfolding(crate::specs::ActsReader::shape_of))]
+fn read_shape(line: &[u8]) -> Option<Shape>
+    ensures { result ≡ shape_of line.now }
+{
+    let (word, numbers) = cut(line, b' ')?;
+    if !is_word(word, "shape") {
+        return None;
+    }
+    read_numbers(numbers)
+}
+
+/// The first line of a text, without its line feed, and what comes after it.
+fn first_line(text: &[u8]) -> (&[u8], &[u8])
+    requires { 0 < length text.now }
+    ensures lines { lines text.now ≡ result.0.now ∷ lines result.1.now }
+    ensures shorter { length result.1.now < length text.now }
+{
+    match cut(text, b'\n') {
+        Some(parts) => parts,
+        None => (text, &text[text.len()..]),
+    }
+}
+
+/// The acts of the lines of a text.
+fn read_lines(alloc: Global, text: &[u8]) -> Result<Vec<Act>, ActsFault>
+    ensures { MatchResult result (λ acts. each act_of (lines text.now) ≡ Some acts.items)
+        (Refuses (each act_of (lines text.now))) }
+{
+    let mut acts = Vec::new(alloc);
+    let mut rest = text;
+    while !rest.is_empty() {
+        let (line, after) = first_line(rest);
+        let act = read_act(alloc, line)?;
+        acts.push(act)?;
+        rest = after;
+    }
+    Ok(acts)
+}
+
+/// The shape and the acts of a text.
+fn read_text(alloc: Global, bytes: &[u8]) -> Result<(Shape, Vec<Act>), ActsFault>
+    ensures { MatchResult result (λ found. StandsFor bytes.now found.0 found.1.items) (RefusesText bytes.now) }
+{
+    if bytes.is_empty() {
+        return Err(ActsFault::ActsLine);
+    }
+    let (line, rest) = first_line(bytes);
+    let Some(shape) = read_shape(line) else {
+        return Err(ActsFault::ActsLine);
+    };
+    shape.check()?;
+    let acts = read_lines(alloc, rest)?;
+    Ok((shape, acts))
+}
+
+/// Reads the text of a shape and acts: a line for the shape, `shape` with the lanes, the places of the first page, the pages, the
+/// last generation and, where it isn't 0, the tag; and a line for each act. Numbers are decimal and have no leading zeros: a lane
+/// and the shape's numbers are at most 4294967295, a key at most 18446744073709551615, a place at most 16777215. Single spaces
+/// are between the fields, contents are pairs of lower-case hexadecimal digits or a dash for none, and the places of a collect, in
+/// any order, have commas between them. Each line ends with a line feed, which the last may lack; an explicit tag 0 is taken.
+///
+/// `Shape` comes where the first line is that of a shape which `Shape::check` refuses, whatever follows; `ActsLine` for any other
+/// text that stands for no shape with acts, an empty one too; `Memory` where a growth was refused, and only after a checked
+/// shape. This project's profile.
+pub fn read_acts(alloc: Global, bytes: &[u8]) -> Result<(Shape, Vec<Act>), ActsFault>
+    // What is read is what the text stands for, and a text that stands for something is read.
+    ensures ok { IfOk result (λ found. StandsFor bytes.now found.0 found.1.items) }
+    ensures only { (z : Shape) (acts : List Act) → StandsFor bytes.now z acts
+        → MatchResult result (λ found. (found.0 ≡ z) × (found.1.items ≡ acts)) (λ fault. fault ≡ acts_faults.Memory) }
+    ensures shape { (fault : ShapeFault) → IsErrOf result (acts_faults.Shape fault) ↔ HasShapeFault bytes.now fault }
+    ensures line { IsErrOf result acts_faults.ActsLine → StandsForNothing bytes.now }
+    ensures memory { IsErrOf result acts_faults.Memory → HasShape bytes.now }
+{
+    read_text(alloc, bytes)
+}

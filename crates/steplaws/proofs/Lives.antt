@@ -1,0 +1,106 @@
+-- What has to be shown of a step on a lifecycle word, so that the rule is kept.
+use Rattle.std.proofs.Common.{◌≡◌, ◌≢◌, ℕ, ◌+◌, ◌<◌, ◌≤◌, Bool, true, false, cond, eqb, ◌&&◌, List, refl, ap, sym, ◌∙◌, subst, arith, eq-eqb}
+use mathlib.Core.Logic.{dite}
+use native.Mathlib.Decide.{ℕ_discrete}
+use Rattle.keybits.specs.declared.shape.Shape.{Shape}
+use Rattle.keybits.specs.declared.step.Word.TheVariants.{Life}
+use Rattle.keybits.specs.Shapes.{is_place}
+use Rattle.keybits.specs.Keys.{place_of, generation_of, is_key}
+use Rattle.keybits.specs.Counts.{sum_below}
+use Rattle.keybits.specs.Words.{state_in, count_in, generation_in, claimable}
+use Rattle.keybits.proofs.CountLemmas.{sum-part, sum-at, sum-bound}
+use Rattle.seqpool.specs.declared.act.Act.{Act}
+use Rattle.seqpool.specs.Pool.{Phase, Spot, references_in, has_key, is_published, pool_after, IsLegal}
+use Rattle.steplaws.specs.declared.pending.Pending.{Pending}
+use Rattle.steplaws.specs.declared.pending.Pending.TheVariants.{Nothing, Undo, Owes, Returns}
+use Rattle.steplaws.specs.Facts.{put_at, Words, with_value, Lanes, with_under, moment, to_undo, bits_of, most_references, Home, Rule}
+use Rattle.steplaws.proofs.Updates.{at-here, at-else, at-lane}
+
+-- the references of all lanes, and the ENTERs to undo
+abbrev pub all_refs : Shape → Phase → ℕ
+all_refs z f = sum_below z.lanes (λ lane. references_in f lane)
+
+abbrev pub all_undo : Shape → (ℕ → Pending) → ℕ → ℕ
+all_undo z u place = sum_below z.lanes (λ lane. to_undo place (u lane))
+
+-- what has to be shown of a step of a lane on the lifecycle word of a place, which becomes n
+pub record StepsOn (z : Shape) (w : Words) (h k : List Act) (r : Lanes) (lane place n : ℕ) (u : Pending) : Type 0 where
+  pub legal : IsLegal z k
+  pub elsewhere : (q : ℕ) → q ≢ place → pool_after z k q ≡ pool_after z h q
+  pub undo_elsewhere : (q : ℕ) → q ≢ place → to_undo q u ≡ to_undo q (r.under lane)
+  pub count : count_in n + to_undo place (r.under lane) ≡ all_refs z (pool_after z k place).phase + all_undo z r.under place + to_undo place u
+  pub state : (state_in n ≡ bits_of (pool_after z k place).phase) × (generation_in n ≡ (pool_after z k place).generation)
+  pub pinned : (key : ℕ) → place_of key ≡ place → has_key z (pool_after z h) key ≡ true → 0 < all_undo z r.under place → has_key z (pool_after z k) key ≡ true
+  pub own_pinned : (key : ℕ) → u ≡ Undo key true → has_key z (pool_after z k) key ≡ true
+  pub own_owes : (q generation : ℕ) → r.under lane ≡ Owes q generation → q ≡ place
+  pub owed : (generation : ℕ) → n ≡ claimable generation → (o : ℕ) × (o < z.lanes) × (put_at r.under lane u o ≡ Owes place generation)
+  pub few : (m : ℕ) → references_in (pool_after z k place).phase m ≤ most_references
+  pub home : Home z (with_value w (Life place) n) k (with_under r lane u)
+
+-- then the rule is kept
+pub life_keeps : (z : Shape) (w : Words) (h k : List Act) (r : Lanes) (lane place n : ℕ) (u : Pending) → lane < z.lanes → Rule z (moment w h r) → StepsOn z w h k r lane place n u
+    → Rule z (moment (with_value w (Life place) n) k (with_under r lane u))
+life_keeps z w h k r lane place n u below s o = record {
+  limits = s.limits;
+  wide = s.wide;
+  legal = o.legal;
+  count = λ q inside.
+      let whole = sum-at z.lanes lane (λ m. to_undo q (put_at r.under lane u m)) (λ m. to_undo q (r.under m)) below
+      (λ m b other. ap (to_undo q) (at-else r.under lane u m other)) in
+      let new : to_undo q (put_at r.under lane u lane) ≡ to_undo q u = ap (to_undo q) (at-here r.under lane u lane refl) in
+      dite (ℕ_discrete q place)
+      (λ e. let word : count_in (put_at w.life place n q) ≡ count_in n = ap count_in (at-here w.life place n q e) in
+      let c = o.count in
+      let refs : all_refs z (pool_after z k q).phase ≡ all_refs z (pool_after z k place).phase = ap (λ (p : ℕ). all_refs z (pool_after z k p).phase) e in
+      let a : to_undo q (r.under lane) ≡ to_undo place (r.under lane) = ap (λ (p : ℕ). to_undo p (r.under lane)) e in
+      let b : to_undo q u ≡ to_undo place u = ap (λ (p : ℕ). to_undo p u) e in
+      let d : all_undo z r.under q ≡ all_undo z r.under place = ap (λ (p : ℕ). all_undo z r.under p) e in
+      omega arith)
+      (λ other. let word : count_in (put_at w.life place n q) ≡ count_in (w.life q) = ap count_in (at-else w.life place n q other) in
+      let old = s.count q inside in
+      let refs : all_refs z (pool_after z k q).phase ≡ all_refs z (pool_after z h q).phase = ap (λ (t : Spot). all_refs z t.phase) (o.elsewhere q other) in
+      let same = o.undo_elsewhere q other in
+      omega arith);
+  pinned = λ m key b. at-lane r.under lane u (λ x y. x < z.lanes → y ≡ Undo key true → has_key z (pool_after z k) key ≡ true) m
+      (λ c e. o.own_pinned key e)
+      (λ other c e. let old = s.pinned m key c e in dite (ℕ_discrete (place_of key) place)
+      (λ here. o.pinned key here old (
+      let one : to_undo place (r.under m) ≡ 1 = ap (to_undo place) e ∙ ap (λ (x : Bool). let i : ℕ = cond x 1 0 in i) (eq-eqb (place_of key) place here) in
+      let part = sum-part z.lanes m (λ x. to_undo place (r.under x)) c in omega arith))
+      (λ away. ap (λ (t : Spot). (is_key z key && eqb t.generation (generation_of key)) && is_published t.phase) (o.elsewhere (place_of key) away) ∙ old)) b;
+  state = λ q inside. dite (ℕ_discrete q place)
+      (λ e. subst (λ (p : ℕ). (state_in (put_at w.life place n p) ≡ bits_of (pool_after z k p).phase) × (generation_in (put_at w.life place n p) ≡ (pool_after z k p).generation)) (sym e)
+      (ap state_in (at-here w.life place n place refl) ∙ o.state.0, ap generation_in (at-here w.life place n place refl) ∙ o.state.1))
+      (λ other. let old = s.state q inside in (
+        ap state_in (at-else w.life place n q other) ∙ (old.0 ∙ sym (ap (λ (t : Spot). bits_of t.phase) (o.elsewhere q other))),
+        ap generation_in (at-else w.life place n q other) ∙ (old.1 ∙ sym (ap (λ (t : Spot). t.generation) (o.elsewhere q other))),
+      ));
+  owed = λ q generation inside e. dite (ℕ_discrete q place)
+      (λ here. let r' = o.owed generation (sym (at-here w.life place n q here) ∙ e) in (r'.0, r'.1, r'.2 ∙ ap (λ (p : ℕ). Owes p generation) (sym here)))
+      (λ other. let old = s.owed q generation inside (sym (at-else w.life place n q other) ∙ e) in
+      (old.0, old.1, at-else r.under lane u old.0 (λ same. other (o.own_owes q generation (ap r.under (sym same) ∙ old.2))) ∙ old.2));
+  few = λ q m. dite (ℕ_discrete q place)
+      (λ e. subst (λ (p : ℕ). references_in (pool_after z k p).phase m ≤ most_references) (sym e) (o.few m))
+      (λ other. let old = s.few q m in let same = ap (λ (t : Spot). references_in t.phase m) (o.elsewhere q other) in omega arith);
+  home = o.home;
+}
+
+-- a lane has one ENTER to undo at most
+undo_le : (place : ℕ) (u : Pending) → to_undo place u ≤ 1
+undo_le place Nothing = omega arith
+undo_le place (Undo key hit) = bit (eqb (place_of key) place)
+  where
+    bit : (b : Bool) → (let i : ℕ = cond b 1 0 in i) ≤ 1
+    bit true = omega arith
+    bit false = omega arith
+undo_le place (Owes p g) = omega arith
+undo_le place (Returns p l f) = omega arith
+
+-- a count has room for one more
+pub count_room : (z : Shape) (w : Words) (h : List Act) (r : Lanes) → Rule z (moment w h r) → (place : ℕ) → is_place z place ≡ true → count_in (w.life place) < 1073741823
+count_room z w h r s place inside =
+    let few : z.lanes ≤ 16 = s.limits.lanes.1 in
+    let c = s.count place inside in
+    let a = sum-bound z.lanes most_references (λ lane. references_in (pool_after z h place).phase lane) (λ lane. s.few place lane) in
+    let b = sum-bound z.lanes 1 (λ lane. to_undo place (r.under lane)) (λ lane. undo_le place (r.under lane)) in
+    omega arith
