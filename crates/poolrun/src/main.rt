@@ -2,6 +2,13 @@
 //! a legal history.
 #![tactic(auto)]
 
+ghost use Rattle.std.specs.Prelude.{◌≡◌, ◌≤◌, if◌then◌else◌};
+ghost use Rattle.std.specs.Process.{exit_status};
+ghost use Rattle.clap.specs.Values.{kind_of};
+ghost use Rattle.clap.specs.declared.error.Error.{Error as ClapError};
+ghost use Rattle.std.specs.declared.alloc.AllocError.{AllocError};
+ghost use Rattle.poolrun.specs.Statuses.{IsHelp, IsMistake};
+
 use clap::Error as ClapError;
 use clap::error::ErrorKind;
 use commandline::{Task, TaskFault, task};
@@ -33,14 +40,32 @@ fn work(rt: &HostRuntime, task: Task) -> Result<bool, RunFault> {
     }
 }
 
-/// Prints the line of a fault, and gives the status.
-fn report(rt: &HostRuntime, fault: &RunFault) -> ExitCode {
+/// The status after a task that was done: 0, or 1 where acts were found illegal.
+fn status_of(legal: bool) -> ExitCode
+    ensures { exit_status result ≡ (if legal then 0 else 1) }
+{
+    if legal {
+        ExitCode::SUCCESS
+    } else {
+        ExitCode::FAILURE
+    }
+}
+
+/// Prints the line of a fault. The status is 1.
+fn report(rt: &HostRuntime, fault: &RunFault) -> ExitCode
+    ensures { exit_status result ≡ 1 }
+{
     let _ = eprintln!(rt; "fault {} {}", fault.number(), fault.name());
     ExitCode::FAILURE
 }
 
-/// Prints what `clap` says, and gives the status.
-fn report_clap(rt: &HostRuntime, error: &ClapError) -> ExitCode {
+/// Prints what `clap` says. The status is 2 for a mistake in the words, and 0 for help, or 1 where that can't be printed.
+/// A want of memory is a fault.
+fn report_clap(rt: &HostRuntime, error: &ClapError) -> ExitCode
+    ensures memory { kind_of error.now ≡ ErrorKind.OutOfMemory → exit_status result ≡ 1 }
+    ensures help { IsHelp (kind_of error.now) → exit_status result ≤ 1 }
+    ensures mistake { IsMistake (kind_of error.now) → exit_status result ≡ 2 }
+{
     if error.kind() == ErrorKind::OutOfMemory {
         return report(rt, &RunFault::Memory);
     }
@@ -51,11 +76,15 @@ fn report_clap(rt: &HostRuntime, error: &ClapError) -> ExitCode {
     if printed.is_err() {
         return report(rt, &RunFault::Output);
     }
-    ExitCode::SUCCESS
+    status_of(true)
 }
 
-/// Prints what is wrong with the words, and gives the status.
-fn report_words(rt: &HostRuntime, fault: TaskFault) -> ExitCode {
+/// Prints what is wrong with the words. The status is 2, but for a want of memory, which is a fault, and for help.
+fn report_words(rt: &HostRuntime, fault: TaskFault) -> ExitCode
+    ensures words { fault ≡ TaskFault.Words → exit_status result ≡ 2 }
+    ensures memory { (refused : AllocError) → fault ≡ TaskFault.Memory refused → exit_status result ≡ 1 }
+    ensures clap { (error : ClapError) → fault ≡ TaskFault.Clap error → IsMistake (kind_of error) → exit_status result ≡ 2 }
+{
     match fault {
         TaskFault::Clap(error) => report_clap(rt, &error),
         TaskFault::Words => {
@@ -85,13 +114,19 @@ fn read_task(rt: &HostRuntime) -> Result<Task, TaskFault> {
     task(rt.alloc(), words.as_slice())
 }
 
+/// Does a task and prints the line of its fault, if there is one. The status is 0 where it was done, and else 1.
+fn run(rt: &HostRuntime, task: Task) -> ExitCode
+    ensures { exit_status result ≤ 1 }
+{
+    match work(rt, task) {
+        Ok(legal) => status_of(legal),
+        Err(fault) => report(rt, &fault),
+    }
+}
+
 fn main(rt: HostRuntime) -> ExitCode {
     match read_task(&rt) {
-        Ok(task) => match work(&rt, task) {
-            Ok(true) => ExitCode::SUCCESS,
-            Ok(false) => ExitCode::FAILURE,
-            Err(fault) => report(&rt, &fault),
-        },
+        Ok(task) => run(&rt, task),
         Err(fault) => report_words(&rt, fault),
     }
 }

@@ -349,7 +349,7 @@ impl SeqPool {
 }
 
 /// Whether a place is among some others.
-pub(crate) fn is_among(place: u32, places: &[u32]) -> bool
+fn is_among(place: u32, places: &[u32]) -> bool
     ensures { result ≡ has places.now place }
 {
     places.contains(&place)
