@@ -56,7 +56,8 @@ impl Bytes {
     pub fn into_vec(self) -> Vec<u8>
         ensures { result.items ≡ self }
     {
-        self.bytes
+        let Bytes { bytes } = self;
+        bytes
     }
 
     /// The bytes as a slice.
@@ -99,7 +100,8 @@ impl Places {
     pub fn into_vec(self) -> Vec<u32>
         ensures { result.items ≡ self }
     {
-        self.places
+        let Places { places } = self;
+        places
     }
 
     /// The places as a slice.
