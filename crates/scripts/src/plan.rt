@@ -31,7 +31,8 @@ impl Scripts {
     pub fn into_vec(self) -> Vec<Script>
         ensures { result.items ≡ self }
     {
-        self.scripts
+        let Scripts { scripts } = self;
+        scripts
     }
 
     /// The scripts as a slice.
