@@ -1,34 +1,22 @@
--- Lines of acts.
-use Rattle.std.proofs.Common.{◌≡◌, ℕ, ◌≤◌, List, [], ◌∷◌, ◌++◌, Bool, true, false, nat_eq, cond, Option, Some, None, option_map, decimal, codes, refl, sym, ap, ◌∙◌, arith, subst, append_assoc, length-append}
+-- Lines of acts, by their parts.
+use Rattle.std.proofs.Common.{◌≡◌, ℕ, List, [], ◌∷◌, ◌++◌, Bool, true, false, cond, Option, Some, None, IfSome, decimal, codes, refl, sym, ap, ◌∙◌, arith, subst, append_assoc, length-append}
 use Rattle.std.specs.Str.{bytes_eq}
-use Rattle.std.proofs.lemmas.Bool.{eqb-false}
-use Rattle.std.proofs.lemmas.Fmt.{decimal_digit}
-use Rattle.std.proofs.lemmas.Option.{same_Some, option_and_then_some}
-use Rattle.std.proofs.lemmas.Slice.Eq.{bytes_eq-Decides}
-use Rattle.keybits.specs.declared.place.TheConstants.{GREATEST_PLACE}
+use Rattle.std.proofs.lemmas.Fmt.{decimal_injective}
 use Rattle.seqpool.specs.declared.act.Act.{Act}
 use Rattle.seqpool.specs.declared.act.Act.TheVariants.{Publish, Get, Release, Clear, Reclaim, Home, Collect}
 use Rattle.seqpool.specs.declared.act.ActName.{ActName}
 use Rattle.seqpool.specs.declared.act.ActName.TheVariants as names
 use Rattle.seqpool.specs.Pool.{lane_of}
-use Rattle.seqpool.specs.ActsText.{content_text, places_text, act_line, HasLine, AreBytes, IsU32, IsKeyNumber}
-use Rattle.seqpool.specs.ActsReader.{cut, number_of, content_of, places_of, flag_of, truth_of, some_of, reply_of, publish_of, get_of, clear_of, act_with, name_of, act_of}
-use Rattle.seqpool.proofs.Parts.{Without, Without-append, cut-again, cut-sound, option_map-some}
-use Rattle.seqpool.proofs.Numbers.{number_of-again, number_of-sound, decimal-Without}
-use Rattle.seqpool.proofs.HexTexts.{content-again, content-sound, content-Without}
-use Rattle.seqpool.proofs.PlaceTexts.{places-again, places-sound, places-Without}
+use Rattle.seqpool.specs.ActsText.{content_text, flag_text, reply_text, truth_text, places_text, act_line, HasLine, AreBytes, IsU32, IsKeyNumber, IsPlaceNumber}
+use Rattle.seqpool.specs.ReadTexts.{Without, spaced, ArePlaces, name_text, HasOperands, IsAct}
+use Rattle.seqpool.proofs.Parts.{Without-append, spaced-Without, lacks, lacks-Without, one-cut}
+use Rattle.seqpool.proofs.Numbers.{one-u32, one-key, key-same, place-same, u32-Without, key-Without, place-Without, decimal-Without}
+use Rattle.seqpool.proofs.HexTexts.{content-same, content-Without}
+use Rattle.seqpool.proofs.PlaceTexts.{places-same, places-Without}
 use Rattle.seqpool.proofs.ReadLines.{IsLine}
 
-abbrev word : ActName → List ℕ
-word names.Publish = codes "publish"
-word names.Get = codes "get"
-word names.Release = codes "release"
-word names.Clear = codes "clear"
-word names.Reclaim = codes "reclaim"
-word names.Home = codes "home"
-word names.Collect = codes "collect"
-
-abbrev name_at : Act → ActName
+-- the name of an act
+abbrev pub name_at : Act → ActName
 name_at (Publish lane key content with_ref) = names.Publish
 name_at (Get lane key reply) = names.Get
 name_at (Release lane key) = names.Release
@@ -37,404 +25,202 @@ name_at (Reclaim lane key) = names.Reclaim
 name_at (Home lane place) = names.Home
 name_at (Collect lane places) = names.Collect
 
-abbrev flag_text : Bool → List ℕ
-flag_text with_ref = decimal (cond with_ref 1 0)
-
-abbrev truth_text : Bool → List ℕ
-truth_text true = codes "true"
-truth_text false = codes "false"
-
-abbrev reply_text : Option (List ℕ) → List ℕ
-reply_text (Some content) = codes "some" ++ 32 ∷ content_text content
-reply_text None = codes "none"
-
-abbrev operands : Act → List ℕ
-operands (Publish lane key content with_ref) = decimal key ++ 32 ∷ (content_text content ++ 32 ∷ flag_text with_ref)
-operands (Get lane key reply) = decimal key ++ 32 ∷ reply_text reply
+-- what stands behind the name
+abbrev pub operands : Act → List ℕ
+operands (Publish lane key content with_ref) = spaced (decimal key) (spaced (content_text content) (flag_text with_ref))
+operands (Get lane key reply) = spaced (decimal key) (reply_text reply)
 operands (Release lane key) = decimal key
-operands (Clear lane key reply) = decimal key ++ 32 ∷ truth_text reply
+operands (Clear lane key reply) = spaced (decimal key) (truth_text reply)
 operands (Reclaim lane key) = decimal key
 operands (Home lane place) = decimal place
 operands (Collect lane places) = places_text places
 
-three : (a w k : List ℕ) → (a ++ (32 ∷ (w ++ 32 ∷ []))) ++ k ≡ a ++ 32 ∷ (w ++ 32 ∷ k)
+-- what stands behind the lane
+abbrev pub named : Act → List ℕ
+named act = spaced (name_text (name_at act)) (operands act)
+
+three : (a w k : List ℕ) → (a ++ (32 ∷ (w ++ 32 ∷ []))) ++ k ≡ spaced a (spaced w k)
 three a w k = simp append_assoc
 
-four : (a w k v : List ℕ) → ((a ++ (32 ∷ (w ++ 32 ∷ []))) ++ k) ++ 32 ∷ v ≡ a ++ 32 ∷ (w ++ 32 ∷ (k ++ 32 ∷ v))
+four : (a w k v : List ℕ) → (((a ++ (32 ∷ (w ++ 32 ∷ []))) ++ k) ++ 32 ∷ []) ++ v ≡ spaced a (spaced w (spaced k v))
 four a w k v = simp append_assoc
 
-five : (a w k c f : List ℕ) → (((((a ++ (32 ∷ (w ++ 32 ∷ []))) ++ k) ++ 32 ∷ []) ++ c) ++ 32 ∷ []) ++ f ≡ a ++ 32 ∷ (w ++ 32 ∷ (k ++ 32 ∷ (c ++ 32 ∷ f)))
+five : (a w k c f : List ℕ) → (((((a ++ (32 ∷ (w ++ 32 ∷ []))) ++ k) ++ 32 ∷ []) ++ c) ++ 32 ∷ []) ++ f ≡ spaced a (spaced w (spaced k (spaced c f)))
 five a w k c f = simp append_assoc
 
-some-five : (a w k s c : List ℕ) → (((a ++ (32 ∷ (w ++ 32 ∷ []))) ++ k) ++ (32 ∷ (s ++ 32 ∷ []))) ++ c ≡ a ++ 32 ∷ (w ++ 32 ∷ (k ++ 32 ∷ (s ++ 32 ∷ c)))
-some-five a w k s c = simp append_assoc
-
 -- a line is a lane, a name and operands, with single spaces between
-act_line-parts : (act : Act) → act_line act ≡ decimal (lane_of act) ++ 32 ∷ (word (name_at act) ++ 32 ∷ operands act)
-act_line-parts (Publish lane key content with_ref) = five (decimal lane) (codes "publish") (decimal key) (content_text content) (flag_text with_ref)
-act_line-parts (Get lane key (Some content)) = some-five (decimal lane) (codes "get") (decimal key) (codes "some") (content_text content)
-act_line-parts (Get lane key None) = four (decimal lane) (codes "get") (decimal key) (codes "none")
+pub act_line-parts : (act : Act) → act_line act ≡ spaced (decimal (lane_of act)) (named act)
+act_line-parts (Publish lane key content with_ref) =
+    five (decimal lane) (codes "publish") (decimal key) (content_text content) (flag_text with_ref)
+act_line-parts (Get lane key reply) = four (decimal lane) (codes "get") (decimal key) (reply_text reply)
 act_line-parts (Release lane key) = three (decimal lane) (codes "release") (decimal key)
-act_line-parts (Clear lane key true) = four (decimal lane) (codes "clear") (decimal key) (codes "true")
-act_line-parts (Clear lane key false) = four (decimal lane) (codes "clear") (decimal key) (codes "false")
+act_line-parts (Clear lane key reply) = four (decimal lane) (codes "clear") (decimal key) (truth_text reply)
 act_line-parts (Reclaim lane key) = three (decimal lane) (codes "reclaim") (decimal key)
 act_line-parts (Home lane place) = three (decimal lane) (codes "home") (decimal place)
 act_line-parts (Collect lane places) = three (decimal lane) (codes "collect") (places_text places)
 
--- reading again what is written
+-- a name has no space and no line feed, and is that of one kind of act
 
-name-again : (name : ActName) → name_of (word name) ≡ Some name
-unfolding name_of
-name-again names.Publish = refl
-name-again names.Get = refl
-name-again names.Release = refl
-name-again names.Clear = refl
-name-again names.Reclaim = refl
-name-again names.Home = refl
-name-again names.Collect = refl
+name-lacks : (name : ActName) → (lacks 32 (name_text name) ≡ true) × (lacks 10 (name_text name) ≡ true)
+name-lacks names.Publish = (refl, refl)
+name-lacks names.Get = (refl, refl)
+name-lacks names.Release = (refl, refl)
+name-lacks names.Clear = (refl, refl)
+name-lacks names.Reclaim = (refl, refl)
+name-lacks names.Home = (refl, refl)
+name-lacks names.Collect = (refl, refl)
 
-flag-again : (with_ref : Bool) → flag_of (flag_text with_ref) ≡ Some with_ref
-unfolding flag_of
-flag-again true = ap flag_of (decimal_digit 1 (omega arith))
-flag-again false = ap flag_of (decimal_digit 0 (omega arith))
+pub name-Without : (name : ActName) → Without 32 (name_text name)
+name-Without name = lacks-Without 32 (name_text name) (name-lacks name).0
 
-truth-again : (reply : Bool) → truth_of (truth_text reply) ≡ Some reply
-unfolding truth_of
-truth-again true = refl
-truth-again false = refl
+name_in : List ℕ → ActName
+name_in text =
+    cond (bytes_eq text (codes "publish")) names.Publish (cond (bytes_eq text (codes "get")) names.Get
+    (cond (bytes_eq text (codes "release")) names.Release (cond (bytes_eq text (codes "clear")) names.Clear
+    (cond (bytes_eq text (codes "reclaim")) names.Reclaim (cond (bytes_eq text (codes "home")) names.Home names.Collect)))))
 
-some_of-is : (content : List ℕ) → some_of (codes "some" ++ 32 ∷ content) ≡ content_of content
-unfolding some_of
-some_of-is content = refl
+name_in-text : (name : ActName) → name_in (name_text name) ≡ name
+unfolding name_in
+name_in-text names.Publish = refl
+name_in-text names.Get = refl
+name_in-text names.Release = refl
+name_in-text names.Clear = refl
+name_in-text names.Reclaim = refl
+name_in-text names.Home = refl
+name_in-text names.Collect = refl
 
-reply_of-none : reply_of (codes "none") ≡ Some None
-unfolding reply_of
-reply_of-none = refl
+name-same : (name other : ActName) → name_text name ≡ name_text other → name ≡ other
+name-same name other is = sym (name_in-text name) ∙ (ap name_in is ∙ name_in-text other)
 
-reply_of-some : (text content : List ℕ) → bytes_eq text (codes "none") ≡ false → some_of text ≡ Some content → reply_of text ≡ Some (Some content)
-unfolding reply_of
-reply_of-some text content other is = rw (other, is) refl
+-- an act of this name and lane, by its operands
+abbrev pub ByOperands : ActName → ℕ → List ℕ → Act → Type 0
+ByOperands names.Publish lane text act =
+    (key : ℕ) × (content : List ℕ) × (with_ref : Bool) × (act ≡ Publish lane key content with_ref) × IsKeyNumber key × AreBytes content
+    × (text ≡ spaced (decimal key) (spaced (content_text content) (flag_text with_ref)))
+ByOperands names.Get lane text act =
+    (key : ℕ) × (reply : Option (List ℕ)) × (act ≡ Get lane key reply) × IsKeyNumber key × IfSome reply AreBytes
+    × (text ≡ spaced (decimal key) (reply_text reply))
+ByOperands names.Release lane text act = (key : ℕ) × (act ≡ Release lane key) × IsKeyNumber key × (text ≡ decimal key)
+ByOperands names.Clear lane text act =
+    (key : ℕ) × (reply : Bool) × (act ≡ Clear lane key reply) × IsKeyNumber key × (text ≡ spaced (decimal key) (truth_text reply))
+ByOperands names.Reclaim lane text act = (key : ℕ) × (act ≡ Reclaim lane key) × IsKeyNumber key × (text ≡ decimal key)
+ByOperands names.Home lane text act = (place : ℕ) × (act ≡ Home lane place) × IsPlaceNumber place × (text ≡ decimal place)
+ByOperands names.Collect lane text act = (places : List ℕ) × (act ≡ Collect lane places) × ArePlaces places text
 
-reply-again : (lane key : ℕ) (reply : Option (List ℕ)) → HasLine (Get lane key reply) → reply_of (reply_text reply) ≡ Some reply
-reply-again lane key None has = reply_of-none
-reply-again lane key (Some content) has = reply_of-some (codes "some" ++ 32 ∷ content_text content) content refl (some_of-is (content_text content) ∙ content-again content has.2)
+by-operands : (act : Act) → HasLine act → ByOperands (name_at act) (lane_of act) (operands act) act
+by-operands (Publish lane key content with_ref) has = (key, content, with_ref, refl, has.1, has.2, refl)
+by-operands (Get lane key reply) has = (key, reply, refl, has.1, has.2, refl)
+by-operands (Release lane key) has = (key, refl, has.1, refl)
+by-operands (Clear lane key reply) has = (key, reply, refl, has.1, refl)
+by-operands (Reclaim lane key) has = (key, refl, has.1, refl)
+by-operands (Home lane place) has = (place, refl, has.1, refl)
+by-operands (Collect lane places) has = (places, refl, (has.1, has.2, refl))
 
-publish_of-is : (lane key : ℕ) (text a b c d content : List ℕ) (with_ref : Bool) → cut 32 text ≡ Some (a, b) → number_of 18446744073709551615 a ≡ Some key → cut 32 b ≡ Some (c, d)
-    → content_of c ≡ Some content → flag_of d ≡ Some with_ref → publish_of lane text ≡ Some (Publish lane key content with_ref)
-unfolding publish_of
-publish_of-is lane key text a b c d content with_ref one two three four five = rw (one, two, three, four, five) refl
-
-get_of-is : (lane key : ℕ) (text a b : List ℕ) (reply : Option (List ℕ)) → cut 32 text ≡ Some (a, b) → number_of 18446744073709551615 a ≡ Some key → reply_of b ≡ Some reply
-    → get_of lane text ≡ Some (Get lane key reply)
-unfolding get_of
-get_of-is lane key text a b reply one two three = rw (one, two, three) refl
-
-clear_of-is : (lane key : ℕ) (text a b : List ℕ) (reply : Bool) → cut 32 text ≡ Some (a, b) → number_of 18446744073709551615 a ≡ Some key → truth_of b ≡ Some reply
-    → clear_of lane text ≡ Some (Clear lane key reply)
-unfolding clear_of
-clear_of-is lane key text a b reply one two three = rw (one, two, three) refl
-
-key-again : (key : ℕ) → IsKeyNumber key → number_of 18446744073709551615 (decimal key) ≡ Some key
-key-again key low = number_of-again 18446744073709551615 key low (omega arith)
-
-cut-key : (key : ℕ) (rest : List ℕ) → IsKeyNumber key → cut 32 (decimal key ++ 32 ∷ rest) ≡ Some (decimal key, rest)
-cut-key key rest low = cut-again 32 (decimal key) rest (decimal-Without 32 key (omega arith) (omega (arith, low)))
-
-operands-again : (act : Act) → HasLine act → act_with (name_at act) (lane_of act) (operands act) ≡ Some act
-operands-again (Publish lane key content with_ref) has =
-    publish_of-is lane key (operands (Publish lane key content with_ref)) (decimal key) (content_text content ++ 32 ∷ flag_text with_ref) (content_text content) (flag_text with_ref) content with_ref
-    (cut-key key (content_text content ++ 32 ∷ flag_text with_ref) has.1) (key-again key has.1) (cut-again 32 (content_text content) (flag_text with_ref) (content-Without 32 content (omega arith)))
-    (content-again content has.2) (flag-again with_ref)
-operands-again (Get lane key (Some content)) has =
-    get_of-is lane key (operands (Get lane key (Some content))) (decimal key) (reply_text (Some content)) (Some content) (cut-key key (reply_text (Some content)) has.1) (key-again key has.1) (reply-again lane key (Some content) has)
-operands-again (Get lane key None) has =
-    get_of-is lane key (operands (Get lane key None)) (decimal key) (reply_text None) None (cut-key key (reply_text None) has.1) (key-again key has.1) (reply-again lane key None has)
-operands-again (Release lane key) has = ap (option_map (Release lane)) (key-again key has.1)
-operands-again (Clear lane key reply) has =
-    clear_of-is lane key (operands (Clear lane key reply)) (decimal key) (truth_text reply) reply (cut-key key (truth_text reply) has.1) (key-again key has.1) (truth-again reply)
-operands-again (Reclaim lane key) has = ap (option_map (Reclaim lane)) (key-again key has.1)
-operands-again (Home lane place) has = ap (option_map (Home lane)) (number_of-again GREATEST_PLACE place has.1 (omega arith))
-operands-again (Collect lane places) has = ap (option_map (Collect lane)) (places-again places has.1 has.2)
-
--- a test for bytes that are written out
-abbrev pub lacks : ℕ → List ℕ → Bool
-lacks separator [] = true
-lacks separator (byte ∷ more) = cond (nat_eq byte separator) false (lacks separator more)
-
-pub lacks-Without : (separator : ℕ) (text : List ℕ) → lacks separator text ≡ true → Without separator text
-lacks-Without separator [] e = tt
-lacks-Without separator (byte ∷ more) e = at (nat_eq byte separator) refl e (lacks-Without separator more)
-  where
-    at : (b : Bool) → nat_eq byte separator ≡ b → cond b false (lacks separator more) ≡ true → (lacks separator more ≡ true → Without separator more) → Without separator (byte ∷ more)
-    at true test found later = absurd (cc)
-    at false test found later = (eqb-false byte separator test, later found)
-
-word-lacks : (name : ActName) → (lacks 32 (word name) ≡ true) × (lacks 10 (word name) ≡ true)
-word-lacks names.Publish = (refl, refl)
-word-lacks names.Get = (refl, refl)
-word-lacks names.Release = (refl, refl)
-word-lacks names.Clear = (refl, refl)
-word-lacks names.Reclaim = (refl, refl)
-word-lacks names.Home = (refl, refl)
-word-lacks names.Collect = (refl, refl)
-
-lane-low : (act : Act) → HasLine act → IsU32 (lane_of act)
+pub lane-low : (act : Act) → HasLine act → IsU32 (lane_of act)
 lane-low (Publish lane key content with_ref) has = has.0
-lane-low (Get lane key (Some content)) has = has.0
-lane-low (Get lane key None) has = has.0
+lane-low (Get lane key reply) has = has.0
 lane-low (Release lane key) has = has.0
 lane-low (Clear lane key reply) has = has.0
 lane-low (Reclaim lane key) has = has.0
 lane-low (Home lane place) has = has.0
 lane-low (Collect lane places) has = has.0
 
-act_of-is : (text a b c d : List ℕ) (lane : ℕ) (name : ActName) (act : Act) → cut 32 text ≡ Some (a, b) → number_of 4294967295 a ≡ Some lane → cut 32 b ≡ Some (c, d) → name_of c ≡ Some name
-    → act_with name lane d ≡ Some act → act_of text ≡ Some act
-unfolding act_of
-act_of-is text a b c d lane name act one two three four five = rw (one, two, three, four) five
+-- an act whose line has this lane, this name and these operands is made of them
+pub has-operands : (lane : ℕ) (name : ActName) (act : Act) (text : List ℕ) → IsU32 lane → HasOperands lane name act text
+    → ByOperands name lane text act
+has-operands lane name act text low (has, is) =
+    let (lane-is, others) =
+    one-u32 (lane_of act) lane (named act) (spaced (name_text name) text) (lane-low act has) low (sym (act_line-parts act) ∙ is) in
+    let (name-is, text-is) =
+    one-cut 32 (name_text (name_at act)) (operands act) (name_text name) text (name-Without (name_at act)) (name-Without name) others in
+    subst (λ (n : ActName). ByOperands n lane text act) (name-same (name_at act) name name-is)
+    (subst (λ (l : ℕ). ByOperands (name_at act) l text act) lane-is
+    (subst (λ (xs : List ℕ). ByOperands (name_at act) (lane_of act) xs act) text-is (by-operands act has)))
 
--- what is read of the line of an act
-pub act_of-again : (act : Act) → HasLine act → act_of (act_line act) ≡ Some act
-act_of-again act has =
-    let low : lane_of act ≤ 4294967295 = lane-low act has in
-    ap act_of (act_line-parts act)
-    ∙ act_of-is (decimal (lane_of act) ++ 32 ∷ (word (name_at act) ++ 32 ∷ operands act)) (decimal (lane_of act)) (word (name_at act) ++ 32 ∷ operands act) (word (name_at act)) (operands act) (lane_of act) (name_at act) act
-    (cut-again 32 (decimal (lane_of act)) (word (name_at act) ++ 32 ∷ operands act) (decimal-Without 32 (lane_of act) (omega arith) (omega arith)))
-    (number_of-again 4294967295 (lane_of act) low (omega arith))
-    (cut-again 32 (word (name_at act)) (operands act) (lacks-Without 32 (word (name_at act)) (word-lacks (name_at act)).0))
-    (name-again (name_at act)) (operands-again act has)
+-- a line is that of one act
+
+flag-same : (one two : Bool) → flag_text one ≡ flag_text two → one ≡ two
+flag-same true true is = refl
+flag-same true false is = let same : ◌≡◌ {A = ℕ} 1 0 = decimal_injective 1 0 (omega arith) (omega arith) is in absurd (omega arith)
+flag-same false true is = let same : ◌≡◌ {A = ℕ} 0 1 = decimal_injective 0 1 (omega arith) (omega arith) is in absurd (omega arith)
+flag-same false false is = refl
+
+truth-same : (one two : Bool) → truth_text one ≡ truth_text two → one ≡ two
+truth-same true true is = refl
+truth-same true false is = absurd (cc)
+truth-same false true is = absurd (cc)
+truth-same false false is = refl
+
+reply-same : (one two : Option (List ℕ)) → IfSome one AreBytes → IfSome two AreBytes → reply_text one ≡ reply_text two → one ≡ two
+reply-same None None all each is = refl
+reply-same None (Some y) all each is = absurd (cc)
+reply-same (Some x) None all each is = absurd (cc)
+reply-same (Some x) (Some y) all each is =
+    let same : content_text x ≡ content_text y = cc in ap (λ (xs : List ℕ). Some xs) (content-same x y all each same)
+
+one-act : (name : ActName) (lane : ℕ) (text : List ℕ) (x y : Act) → ByOperands name lane text x → ByOperands name lane text y → x ≡ y
+one-act names.Publish lane text x y (k, c, f, x-is, low, all, one) (l, d, g, y-is, small, each, two) =
+    let (keys, rests) =
+    one-key k l (spaced (content_text c) (flag_text f)) (spaced (content_text d) (flag_text g)) low small (sym one ∙ two) in
+    let (texts, flags) =
+    one-cut 32 (content_text c) (flag_text f) (content_text d) (flag_text g) (content-Without 32 c (omega arith))
+    (content-Without 32 d (omega arith)) rests in
+    let contents : c ≡ d = content-same c d all each texts in
+    let references : f ≡ g = flag-same f g flags in cc
+one-act names.Get lane text x y (k, r, x-is, low, all, one) (l, s, y-is, small, each, two) =
+    let (keys, rests) = one-key k l (reply_text r) (reply_text s) low small (sym one ∙ two) in
+    let replies : r ≡ s = reply-same r s all each rests in cc
+one-act names.Release lane text x y (k, x-is, low, one) (l, y-is, small, two) =
+    let keys : k ≡ l = key-same k l low small (sym one ∙ two) in cc
+one-act names.Clear lane text x y (k, r, x-is, low, one) (l, s, y-is, small, two) =
+    let (keys, rests) = one-key k l (truth_text r) (truth_text s) low small (sym one ∙ two) in
+    let replies : r ≡ s = truth-same r s rests in cc
+one-act names.Reclaim lane text x y (k, x-is, low, one) (l, y-is, small, two) =
+    let keys : k ≡ l = key-same k l low small (sym one ∙ two) in cc
+one-act names.Home lane text x y (p, x-is, low, one) (q, y-is, small, two) =
+    let places : p ≡ q = place-same p q low small (sym one ∙ two) in cc
+one-act names.Collect lane text x y (ps, x-is, one) (qs, y-is, two) = let places : ps ≡ qs = places-same ps qs text one two in cc
+
+pub act-same : (x y : Act) (line : List ℕ) → IsAct x line → IsAct y line → x ≡ y
+act-same x y line (has, is) (also, too) =
+    let low = lane-low x has in
+    one-act (name_at x) (lane_of x) (operands x) x y (has-operands (lane_of x) (name_at x) x (operands x) low (has, act_line-parts x))
+    (has-operands (lane_of x) (name_at x) y (operands x) low (also, sym too ∙ (is ∙ act_line-parts x)))
 
 -- a line of an act has no line feed
-
-spaced : (a b : List ℕ) → Without 10 a → Without 10 b → Without 10 (a ++ 32 ∷ b)
-spaced a b one two = Without-append 10 a (32 ∷ b) one ((λ same. omega (arith, same)), two)
 
 flag-Without : (with_ref : Bool) → Without 10 (flag_text with_ref)
 flag-Without true = decimal-Without 10 1 (omega arith) (omega arith)
 flag-Without false = decimal-Without 10 0 (omega arith) (omega arith)
 
-key-Without : (key : ℕ) → IsKeyNumber key → Without 10 (decimal key)
-key-Without key low = decimal-Without 10 key (omega arith) (omega (arith, low))
+reply-Without : (reply : Option (List ℕ)) → Without 10 (reply_text reply)
+reply-Without None = lacks-Without 10 (codes "none") refl
+reply-Without (Some content) =
+    Without-append 10 (codes "some ") (content_text content) (lacks-Without 10 (codes "some ") refl) (content-Without 10 content (omega arith))
+
+truth-Without : (reply : Bool) → Without 10 (truth_text reply)
+truth-Without true = lacks-Without 10 (codes "true") refl
+truth-Without false = lacks-Without 10 (codes "false") refl
+
+keyed-Without : (key : ℕ) (text : List ℕ) → IsKeyNumber key → Without 10 text → Without 10 (spaced (decimal key) text)
+keyed-Without key text low rest = spaced-Without 10 (decimal key) text (omega arith) (key-Without 10 key (omega arith) low) rest
 
 operands-Without : (act : Act) → HasLine act → Without 10 (operands act)
-operands-Without (Publish lane key content with_ref) has = spaced (decimal key) (content_text content ++ 32 ∷ flag_text with_ref) (key-Without key has.1) (spaced (content_text content) (flag_text with_ref) (content-Without 10 content (omega arith)) (flag-Without with_ref))
-operands-Without (Get lane key (Some content)) has =
-    spaced (decimal key) (reply_text (Some content)) (key-Without key has.1) (spaced (codes "some") (content_text content) (lacks-Without 10 (codes "some") refl) (content-Without 10 content (omega arith)))
-operands-Without (Get lane key None) has = spaced (decimal key) (codes "none") (key-Without key has.1) (lacks-Without 10 (codes "none") refl)
-operands-Without (Release lane key) has = key-Without key has.1
-operands-Without (Clear lane key true) has = spaced (decimal key) (codes "true") (key-Without key has.1) (lacks-Without 10 (codes "true") refl)
-operands-Without (Clear lane key false) has = spaced (decimal key) (codes "false") (key-Without key has.1) (lacks-Without 10 (codes "false") refl)
-operands-Without (Reclaim lane key) has = key-Without key has.1
-operands-Without (Home lane place) has = let low : place ≤ GREATEST_PLACE = has.1 in decimal-Without 10 place (omega arith) (omega arith)
+operands-Without (Publish lane key content with_ref) has =
+    keyed-Without key (spaced (content_text content) (flag_text with_ref)) has.1
+    (spaced-Without 10 (content_text content) (flag_text with_ref) (omega arith) (content-Without 10 content (omega arith)) (flag-Without with_ref))
+operands-Without (Get lane key reply) has = keyed-Without key (reply_text reply) has.1 (reply-Without reply)
+operands-Without (Release lane key) has = key-Without 10 key (omega arith) has.1
+operands-Without (Clear lane key reply) has = keyed-Without key (truth_text reply) has.1 (truth-Without reply)
+operands-Without (Reclaim lane key) has = key-Without 10 key (omega arith) has.1
+operands-Without (Home lane place) has = place-Without 10 place (omega arith) has.1
 operands-Without (Collect lane places) has = places-Without 10 places (omega arith) has.2
 
 pub act_line-IsLine : (act : Act) → HasLine act → IsLine (act_line act)
 act_line-IsLine act has =
-    let low : lane_of act ≤ 4294967295 = lane-low act has in
     subst (λ (xs : List ℕ). IsLine xs) (sym (act_line-parts act)) (record {
-      some = omega (arith, length-append (decimal (lane_of act)) (32 ∷ (word (name_at act) ++ 32 ∷ operands act)));
-      one = spaced (decimal (lane_of act)) (word (name_at act) ++ 32 ∷ operands act) (decimal-Without 10 (lane_of act) (omega arith) (omega arith))
-          (spaced (word (name_at act)) (operands act) (lacks-Without 10 (word (name_at act)) (word-lacks (name_at act)).1) (operands-Without act has));
+      some = omega (arith, length-append (decimal (lane_of act)) (32 ∷ named act));
+      one = spaced-Without 10 (decimal (lane_of act)) (named act) (omega arith) (u32-Without 10 (lane_of act) (omega arith) (lane-low act has))
+          (spaced-Without 10 (name_text (name_at act)) (operands act) (omega arith)
+          (lacks-Without 10 (name_text (name_at act)) (name-lacks (name_at act)).1) (operands-Without act has));
     })
-
--- a line that is read as an act is written so
-
--- the act with this name and these operands, of this lane
-record Matches (name : ActName) (lane : ℕ) (text : List ℕ) (act : Act) : Type 0 where
-  pub has : HasLine act
-  pub name_is : word (name_at act) ≡ word name
-  pub lane_is : lane_of act ≡ lane
-  pub text_is : operands act ≡ text
-
-name-sound : (text : List ℕ) (name : ActName) → name_of text ≡ Some name → text ≡ word name
-unfolding name_of
-name-sound text name e = at (bytes_eq text (codes "publish")) refl e
-  where
-    here : (w : List ℕ) (found : ActName) → bytes_eq text w ≡ true → w ≡ word found → ◌≡◌ {A = Option ActName} (Some found) (Some name) → text ≡ word name
-    here w found test is same = (bytes_eq-Decides text w).0 test ∙ (is ∙ ap word (same_Some found name same))
-
-    collect : (b : Bool) → bytes_eq text (codes "collect") ≡ b → cond b (Some names.Collect) None ≡ Some name → text ≡ word name
-    collect true test found = here (codes "collect") names.Collect test refl found
-    collect false test found = absurd (cc)
-
-    home : (b : Bool) → bytes_eq text (codes "home") ≡ b → cond b (Some names.Home) (cond (bytes_eq text (codes "collect")) (Some names.Collect) None) ≡ Some name → text ≡ word name
-    home true test found = here (codes "home") names.Home test refl found
-    home false test found = collect (bytes_eq text (codes "collect")) refl found
-
-    reclaim : (b : Bool) → bytes_eq text (codes "reclaim") ≡ b → cond b (Some names.Reclaim) (cond (bytes_eq text (codes "home")) (Some names.Home) (cond (bytes_eq text (codes "collect")) (Some names.Collect) None)) ≡ Some name → text ≡ word name
-    reclaim true test found = here (codes "reclaim") names.Reclaim test refl found
-    reclaim false test found = home (bytes_eq text (codes "home")) refl found
-
-    clear : (b : Bool) → bytes_eq text (codes "clear") ≡ b → cond b (Some names.Clear) (cond (bytes_eq text (codes "reclaim")) (Some names.Reclaim) (cond (bytes_eq text (codes "home")) (Some names.Home) (cond (bytes_eq text (codes "collect")) (Some names.Collect) None))) ≡ Some name → text ≡ word name
-    clear true test found = here (codes "clear") names.Clear test refl found
-    clear false test found = reclaim (bytes_eq text (codes "reclaim")) refl found
-
-    release : (b : Bool) → bytes_eq text (codes "release") ≡ b → cond b (Some names.Release) (cond (bytes_eq text (codes "clear")) (Some names.Clear) (cond (bytes_eq text (codes "reclaim")) (Some names.Reclaim) (cond (bytes_eq text (codes "home")) (Some names.Home) (cond (bytes_eq text (codes "collect")) (Some names.Collect) None)))) ≡ Some name → text ≡ word name
-    release true test found = here (codes "release") names.Release test refl found
-    release false test found = clear (bytes_eq text (codes "clear")) refl found
-
-    get : (b : Bool) → bytes_eq text (codes "get") ≡ b → cond b (Some names.Get) (cond (bytes_eq text (codes "release")) (Some names.Release) (cond (bytes_eq text (codes "clear")) (Some names.Clear) (cond (bytes_eq text (codes "reclaim")) (Some names.Reclaim) (cond (bytes_eq text (codes "home")) (Some names.Home) (cond (bytes_eq text (codes "collect")) (Some names.Collect) None))))) ≡ Some name → text ≡ word name
-    get true test found = here (codes "get") names.Get test refl found
-    get false test found = release (bytes_eq text (codes "release")) refl found
-
-    at : (b : Bool) → bytes_eq text (codes "publish") ≡ b → cond b (Some names.Publish) (cond (bytes_eq text (codes "get")) (Some names.Get) (cond (bytes_eq text (codes "release")) (Some names.Release) (cond (bytes_eq text (codes "clear")) (Some names.Clear) (cond (bytes_eq text (codes "reclaim")) (Some names.Reclaim) (cond (bytes_eq text (codes "home")) (Some names.Home) (cond (bytes_eq text (codes "collect")) (Some names.Collect) None)))))) ≡ Some name → text ≡ word name
-    at true test found = here (codes "publish") names.Publish test refl found
-    at false test found = get (bytes_eq text (codes "get")) refl found
-
-flag-sound : (text : List ℕ) (with_ref : Bool) → flag_of text ≡ Some with_ref → flag_text with_ref ≡ text
-unfolding flag_of
-flag-sound text with_ref e = at (bytes_eq text (codes "1")) refl e
-  where
-    here : (w : List ℕ) (found : Bool) → bytes_eq text w ≡ true → flag_text found ≡ w → ◌≡◌ {A = Option Bool} (Some found) (Some with_ref) → flag_text with_ref ≡ text
-    here w found test is same = ap flag_text (sym (same_Some found with_ref same)) ∙ (is ∙ sym ((bytes_eq-Decides text w).0 test))
-
-    zero-flag : (b : Bool) → bytes_eq text (codes "0") ≡ b → cond b (Some false) None ≡ Some with_ref → flag_text with_ref ≡ text
-    zero-flag true test found = here (codes "0") false test (decimal_digit 0 (omega arith)) found
-    zero-flag false test found = absurd (cc)
-
-    at : (b : Bool) → bytes_eq text (codes "1") ≡ b → cond b (Some true) (cond (bytes_eq text (codes "0")) (Some false) None) ≡ Some with_ref → flag_text with_ref ≡ text
-    at true test found = here (codes "1") true test (decimal_digit 1 (omega arith)) found
-    at false test found = zero-flag (bytes_eq text (codes "0")) refl found
-
-truth-sound : (text : List ℕ) (reply : Bool) → truth_of text ≡ Some reply → truth_text reply ≡ text
-unfolding truth_of
-truth-sound text reply e = at (bytes_eq text (codes "true")) refl e
-  where
-    here : (w : List ℕ) (found : Bool) → bytes_eq text w ≡ true → truth_text found ≡ w → ◌≡◌ {A = Option Bool} (Some found) (Some reply) → truth_text reply ≡ text
-    here w found test is same = ap truth_text (sym (same_Some found reply same)) ∙ (is ∙ sym ((bytes_eq-Decides text w).0 test))
-
-    untrue : (b : Bool) → bytes_eq text (codes "false") ≡ b → cond b (Some false) None ≡ Some reply → truth_text reply ≡ text
-    untrue true test found = here (codes "false") false test refl found
-    untrue false test found = absurd (cc)
-
-    at : (b : Bool) → bytes_eq text (codes "true") ≡ b → cond b (Some true) (cond (bytes_eq text (codes "false")) (Some false) None) ≡ Some reply → truth_text reply ≡ text
-    at true test found = here (codes "true") true test refl found
-    at false test found = untrue (bytes_eq text (codes "false")) refl found
-
-some-sound : (text content : List ℕ) → some_of text ≡ Some content → (codes "some" ++ 32 ∷ content_text content ≡ text) × AreBytes content
-unfolding some_of
-some-sound text content e =
-    option_and_then_some (λ (p : List ℕ × List ℕ). cond (bytes_eq p.0 (codes "some")) (content_of p.1) None) (cut 32 text) content e (λ p cut-is e1. at p cut-is (bytes_eq p.0 (codes "some")) refl e1)
-  where
-    at : (p : List ℕ × List ℕ) → cut 32 text ≡ Some p → (b : Bool) → bytes_eq p.0 (codes "some") ≡ b → cond b (content_of p.1) None ≡ Some content → (codes "some" ++ 32 ∷ content_text content ≡ text) × AreBytes content
-    at p cut-is true test found =
-        let read = content-sound p.1 content found in (
-          ap (λ (xs : List ℕ). xs ++ 32 ∷ content_text content) (sym ((bytes_eq-Decides p.0 (codes "some")).0 test))
-              ∙ (ap (λ (xs : List ℕ). p.0 ++ 32 ∷ xs) (sym read.0) ∙ sym (cut-sound 32 text p cut-is)),
-          read.1,
-        )
-    at p cut-is false test found = absurd (cc)
-
--- what a reply that was read says of its text
-abbrev IsReply : Option (List ℕ) → Type 0
-IsReply None = Unit {0}
-IsReply (Some content) = AreBytes content
-
-reply-sound : (text : List ℕ) (reply : Option (List ℕ)) → reply_of text ≡ Some reply → (reply_text reply ≡ text) × IsReply reply
-unfolding reply_of
-reply-sound text reply e = at (bytes_eq text (codes "none")) refl e
-  where
-    at : (b : Bool) → bytes_eq text (codes "none") ≡ b → cond b (Some None) (option_map (λ (xs : List ℕ). Some xs) (some_of text)) ≡ Some reply → (reply_text reply ≡ text) × IsReply reply
-    at true test found =
-        subst (λ (r : Option (List ℕ)). (reply_text r ≡ text) × IsReply r) (same_Some None reply found) (sym ((bytes_eq-Decides text (codes "none")).0 test), tt)
-    at false test found =
-        let (content, is, same) = option_map-some (λ (xs : List ℕ). Some xs) (some_of text) reply found in
-        subst (λ (r : Option (List ℕ)). (reply_text r ≡ text) × IsReply r) same (some-sound text content is)
-
-get-has : (lane key : ℕ) (reply : Option (List ℕ)) → IsU32 lane → IsKeyNumber key → IsReply reply → HasLine (Get lane key reply)
-get-has lane key None low number is = (low, number)
-get-has lane key (Some content) low number is = (low, number, is)
-
-publish-sound : (lane : ℕ) (text : List ℕ) (act : Act) → IsU32 lane → publish_of lane text ≡ Some act → Matches names.Publish lane text act
-unfolding publish_of
-publish-sound lane text act low e =
-    option_and_then_some _ (cut 32 text) act e (λ front cut-front e1.
-    option_and_then_some _ (number_of 18446744073709551615 front.0) act e1 (λ key key-is e2.
-    option_and_then_some _ (cut 32 front.1) act e2 (λ back cut-back e3.
-    option_and_then_some _ (content_of back.0) act e3 (λ content content-is e4.
-    option_and_then_some _ (flag_of back.1) act e4 (λ with_ref flag-is e5.
-    let number = number_of-sound 18446744073709551615 front.0 key key-is in
-    let bytes = content-sound back.0 content content-is in
-    let flag : flag_text with_ref ≡ back.1 = flag-sound back.1 with_ref flag-is in
-    subst (λ (a : Act). Matches names.Publish lane text a) (same_Some (Publish lane key content with_ref) act e5) (record {
-      has = (low, number.0, bytes.1);
-      name_is = refl;
-      lane_is = refl;
-      text_is = ap (λ (xs : List ℕ). xs ++ 32 ∷ (content_text content ++ 32 ∷ flag_text with_ref)) (sym number.1)
-          ∙ (ap (λ (xs : List ℕ). front.0 ++ 32 ∷ (xs ++ 32 ∷ flag_text with_ref)) (sym bytes.0)
-          ∙ (ap (λ (xs : List ℕ). front.0 ++ 32 ∷ (back.0 ++ 32 ∷ xs)) flag
-          ∙ (ap (λ (xs : List ℕ). front.0 ++ 32 ∷ xs) (sym (cut-sound 32 front.1 back cut-back)) ∙ sym (cut-sound 32 text front cut-front))));
-    }))))))
-
-get-sound : (lane : ℕ) (text : List ℕ) (act : Act) → IsU32 lane → get_of lane text ≡ Some act → Matches names.Get lane text act
-unfolding get_of
-get-sound lane text act low e =
-    option_and_then_some _ (cut 32 text) act e (λ front cut-front e1.
-    option_and_then_some _ (number_of 18446744073709551615 front.0) act e1 (λ key key-is e2.
-    option_and_then_some _ (reply_of front.1) act e2 (λ reply reply-is e3.
-    let number = number_of-sound 18446744073709551615 front.0 key key-is in
-    let read = reply-sound front.1 reply reply-is in
-    subst (λ (a : Act). Matches names.Get lane text a) (same_Some (Get lane key reply) act e3) (record {
-      has = get-has lane key reply low number.0 read.1;
-      name_is = refl;
-      lane_is = refl;
-      text_is = ap (λ (xs : List ℕ). xs ++ 32 ∷ reply_text reply) (sym number.1)
-          ∙ (ap (λ (xs : List ℕ). front.0 ++ 32 ∷ xs) read.0 ∙ sym (cut-sound 32 text front cut-front));
-    }))))
-
-clear-sound : (lane : ℕ) (text : List ℕ) (act : Act) → IsU32 lane → clear_of lane text ≡ Some act → Matches names.Clear lane text act
-unfolding clear_of
-clear-sound lane text act low e =
-    option_and_then_some _ (cut 32 text) act e (λ front cut-front e1.
-    option_and_then_some _ (number_of 18446744073709551615 front.0) act e1 (λ key key-is e2.
-    option_and_then_some _ (truth_of front.1) act e2 (λ reply reply-is e3.
-    let number = number_of-sound 18446744073709551615 front.0 key key-is in
-    let read : truth_text reply ≡ front.1 = truth-sound front.1 reply reply-is in
-    subst (λ (a : Act). Matches names.Clear lane text a) (same_Some (Clear lane key reply) act e3) (record {
-      has = (low, number.0);
-      name_is = refl;
-      lane_is = refl;
-      text_is = ap (λ (xs : List ℕ). xs ++ 32 ∷ truth_text reply) (sym number.1)
-          ∙ (ap (λ (xs : List ℕ). front.0 ++ 32 ∷ xs) read ∙ sym (cut-sound 32 text front cut-front));
-    }))))
-
-with-sound : (name : ActName) (lane : ℕ) (text : List ℕ) (act : Act) → IsU32 lane → act_with name lane text ≡ Some act → Matches name lane text act
-with-sound names.Publish lane text act low e = publish-sound lane text act low e
-with-sound names.Get lane text act low e = get-sound lane text act low e
-with-sound names.Clear lane text act low e = clear-sound lane text act low e
-with-sound names.Release lane text act low e =
-    let (key, is, same) = option_map-some (λ (k : ℕ). Release lane k) (number_of 18446744073709551615 text) act e in
-    let number = number_of-sound 18446744073709551615 text key is in
-    subst (λ (a : Act). Matches names.Release lane text a) same (record { has = (low, number.0); name_is = refl; lane_is = refl; text_is = sym number.1 })
-with-sound names.Reclaim lane text act low e =
-    let (key, is, same) = option_map-some (λ (k : ℕ). Reclaim lane k) (number_of 18446744073709551615 text) act e in
-    let number = number_of-sound 18446744073709551615 text key is in
-    subst (λ (a : Act). Matches names.Reclaim lane text a) same (record { has = (low, number.0); name_is = refl; lane_is = refl; text_is = sym number.1 })
-with-sound names.Home lane text act low e =
-    let (place, is, same) = option_map-some (λ (p : ℕ). Home lane p) (number_of GREATEST_PLACE text) act e in
-    let number = number_of-sound GREATEST_PLACE text place is in
-    subst (λ (a : Act). Matches names.Home lane text a) same (record { has = (low, number.0); name_is = refl; lane_is = refl; text_is = sym number.1 })
-with-sound names.Collect lane text act low e =
-    let (places, is, same) = option_map-some (λ (ps : List ℕ). Collect lane ps) (places_of text) act e in
-    let read = places-sound text places is in
-    subst (λ (a : Act). Matches names.Collect lane text a) same (record { has = (low, read.0, read.1); name_is = refl; lane_is = refl; text_is = sym read.2 })
-
--- a line that is read is that of its act
-pub act_of-sound : (line : List ℕ) (act : Act) → act_of line ≡ Some act → HasLine act × (line ≡ act_line act)
-unfolding act_of
-act_of-sound line act e =
-    option_and_then_some _ (cut 32 line) act e (λ front cut-front e1.
-    option_and_then_some _ (number_of 4294967295 front.0) act e1 (λ lane lane-is e2.
-    option_and_then_some _ (cut 32 front.1) act e2 (λ back cut-back e3.
-    option_and_then_some _ (name_of back.0) act e3 (λ name name-is e4.
-    let number = number_of-sound 4294967295 front.0 lane lane-is in
-    let named : back.0 ≡ word name = name-sound back.0 name name-is in
-    let found = with-sound name lane back.1 act number.0 e4 in (
-      found.has,
-      cut-sound 32 line front cut-front
-          ∙ (ap (λ (xs : List ℕ). xs ++ 32 ∷ front.1) (number.1 ∙ ap decimal (sym found.lane_is))
-          ∙ (ap (λ (xs : List ℕ). decimal (lane_of act) ++ 32 ∷ xs) (cut-sound 32 front.1 back cut-back)
-          ∙ (ap (λ (xs : List ℕ). decimal (lane_of act) ++ 32 ∷ (xs ++ 32 ∷ back.1)) (named ∙ sym found.name_is)
-          ∙ (ap (λ (xs : List ℕ). decimal (lane_of act) ++ 32 ∷ (word (name_at act) ++ 32 ∷ xs)) (sym found.text_is)
-          ∙ sym (act_line-parts act))))),
-    )))))

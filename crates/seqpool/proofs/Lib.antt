@@ -17,5 +17,6 @@ pub mod HexTexts
 pub mod PlaceTexts
 pub mod ReadLines
 pub mod ActTexts
+pub mod ActRefusals
 pub mod ShapeTexts
 pub mod TextLaws

@@ -1,58 +1,25 @@
 -- Decimal numbers.
-use Rattle.std.proofs.Common.{◌≡◌, ◌≢◌, ℕ, ◌<◌, ◌≤◌, ◌^◌, List, [], ◌∷◌, length, get_or, Bool, true, false, ◌&&◌, nat_le, cond, Some, None, Result, Ok, Err, decimal, IsUtf8, refl, sym, ap, ◌∙◌, arith, subst, inl, inr, Bor}
-use Rattle.std.specs.Str.{bytes_eq}
+use Rattle.std.proofs.Common.{◌≡◌, ◌≢◌, ℕ, ◌<◌, ◌≤◌, ◌^◌, List, [], ◌∷◌, length, get_or, Some, None, Result, Ok, Err, decimal, IsUtf8, sym, ap, ◌∙◌, arith, subst, inl, inr, Bor}
 use Rattle.std.specs.Str.Parse.{digits_value, ParsesUnsigned, AllDigits}
-use Rattle.std.proofs.lemmas.Fmt.{decimal_is_IsNumeral, decimal_nonempty, first_decimal, decimal_digit, decimal-digits_value, parse-decimal, IsAscii-decimal}
+use Rattle.std.proofs.lemmas.Fmt.{decimal_is_IsNumeral, decimal_nonempty, first_decimal, decimal_digit, decimal-digits_value, parse-decimal, IsAscii-decimal, decimal_injective}
 use Rattle.std.proofs.lemmas.Str.{IsUtf8-from_ascii}
 use Rattle.std.proofs.lemmas.Str.Parse.{IsNumeralModel, numerals_by_value, tells_digits, parse_plain, digit_from_value, digit_at}
-use Rattle.std.proofs.lemmas.Slice.Eq.{bytes_eq-Decides}
-use Rattle.std.proofs.lemmas.Bool.{and_parts, and_from, leb-true, le-leb, cases_eq}
-use Rattle.std.proofs.lemmas.Option.{cond_some, same_Some}
+use Rattle.std.proofs.lemmas.Bool.{cases_eq}
+use Rattle.std.proofs.lemmas.Option.{same_Some}
 use Rattle.std.specs.Result.{MatchResult, result_ok}
-use Rattle.seqpool.specs.ActsReader.{number_of}
-use Rattle.seqpool.proofs.Parts.{Without}
+use Rattle.keybits.specs.declared.place.TheConstants.{GREATEST_PLACE}
+use Rattle.seqpool.specs.ActsText.{IsU32, IsKeyNumber, IsPlaceNumber}
+use Rattle.seqpool.specs.ReadTexts.{Without, spaced}
+use Rattle.seqpool.proofs.Parts.{IsCut, one-cut, uncut}
+
+-- no number up to the limit is written so
+abbrev pub IsNoNumber : ℕ → List ℕ → Type 0
+IsNoNumber limit text = (n : ℕ) → n ≤ limit → text ≡ decimal n → ⊥
 
 own : IsNumeralModel (AllDigits 10) (digits_value 10)
 own = numerals_by_value (AllDigits 10) tells_digits
 
--- the number is at most the limit, and this is its text
-pub number_of-sound : (limit : ℕ) (text : List ℕ) (n : ℕ) → number_of limit text ≡ Some n → (n ≤ limit) × (text ≡ decimal n)
-unfolding number_of
-number_of-sound limit text n e =
-    let value : ℕ = digits_value 10 text in
-    let (test, same) = cond_some (nat_le value limit && bytes_eq text (decimal value)) value n e in
-    let (low, is) = and_parts (nat_le value limit) (bytes_eq text (decimal value)) test in
-    (subst (λ (m : ℕ). m ≤ limit) same (leb-true value limit low), (bytes_eq-Decides text (decimal value)).0 is ∙ ap decimal same)
-
-some-when : (b : Bool) (v n : ℕ) → b ≡ true → v ≡ n → cond b (Some v) None ≡ Some n
-some-when true v n test same = ap (λ (m : ℕ). Some m) same
-some-when false v n test same = absurd (cc)
-
-none-when : (b : Bool) (v : ℕ) → (b ≡ true → ⊥) → cond b (Some v) None ≡ None
-none-when true v never = absurd (never refl)
-none-when false v never = refl
-
--- what is read of a text that is written so
-pub number_of-text : (limit : ℕ) (text : List ℕ) (n : ℕ) → n ≤ limit → digits_value 10 text ≡ n → text ≡ decimal n → number_of limit text ≡ Some n
-unfolding number_of
-number_of-text limit text n low value is =
-    let v : ℕ = digits_value 10 text in
-    some-when (nat_le v limit && bytes_eq text (decimal v)) v n
-    (and_from (nat_le v limit) (bytes_eq text (decimal v)) (le-leb v limit (subst (λ (m : ℕ). m ≤ limit) (sym value) low))
-    ((bytes_eq-Decides text (decimal v)).1 (is ∙ ap decimal (sym value)))) value
-
-pub number_of-again : (limit n : ℕ) → n ≤ limit → limit < 2 ^ 64 → number_of limit (decimal n) ≡ Some n
-number_of-again limit n low small = number_of-text limit (decimal n) n low (decimal_is_IsNumeral n (omega arith)).1 refl
-
-pub number_of-none : (limit : ℕ) (text : List ℕ) → ((n : ℕ) → n ≤ limit → text ≡ decimal n → ⊥) → number_of limit text ≡ None
-unfolding number_of
-number_of-none limit text never =
-    let v : ℕ = digits_value 10 text in
-    none-when (nat_le v limit && bytes_eq text (decimal v)) v (λ test.
-    let (low, is) = and_parts (nat_le v limit) (bytes_eq text (decimal v)) test in
-    never v (leb-true v limit low) ((bytes_eq-Decides text (decimal v)).0 is))
-
--- the first byte is a digit, and not 0 where more follow
+-- a number's first byte is a digit, and not 0 where more follow
 first-digit : (n : ℕ) → n < 2 ^ 64 → 48 ≤ get_or (decimal n) 0 0
 first-digit n small = (digit_at (decimal n) 0 (decimal_is_IsNumeral n small).0.1 (decimal_nonempty n small)).0
 
@@ -62,32 +29,35 @@ zero-alone n small first = elim (cases_eq n 0) [
   | inr other ↦ absurd (let above : 48 < get_or (decimal n) 0 0 = first_decimal n (omega arith) small in omega arith)
 ]
 
-pub number_of-empty : (limit : ℕ) (text : List ℕ) → limit < 2 ^ 64 → length text ≡ 0 → number_of limit text ≡ None
-number_of-empty limit text small none = number_of-none limit text (λ n low is.
+pub number-empty : (limit : ℕ) (text : List ℕ) → limit < 2 ^ 64 → length text ≡ 0 → IsNoNumber limit text
+number-empty limit text small none n low is =
     let some : 0 < length (decimal n) = decimal_nonempty n (omega arith) in
-    let same : length text ≡ length (decimal n) = ap length is in omega arith)
+    let same : length text ≡ length (decimal n) = ap length is in omega arith
 
-pub number_of-plus : (limit : ℕ) (text : List ℕ) → limit < 2 ^ 64 → get_or text 0 0 ≡ 43 → number_of limit text ≡ None
-number_of-plus limit text small plus = number_of-none limit text (λ n low is.
+pub number-plus : (limit : ℕ) (text : List ℕ) → limit < 2 ^ 64 → get_or text 0 0 ≡ 43 → IsNoNumber limit text
+number-plus limit text small plus n low is =
     let digit : 48 ≤ get_or (decimal n) 0 0 = first-digit n (omega arith) in
-    let same : get_or text 0 0 ≡ get_or (decimal n) 0 0 = ap (λ (xs : List ℕ). get_or xs 0 0) is in omega arith)
+    let same : get_or text 0 0 ≡ get_or (decimal n) 0 0 = ap (λ (xs : List ℕ). get_or xs 0 0) is in omega arith
 
-pub number_of-zeros : (limit : ℕ) (text : List ℕ) → limit < 2 ^ 64 → get_or text 0 0 ≡ 48 → 1 < length text → number_of limit text ≡ None
-number_of-zeros limit text small zero long = number_of-none limit text (λ n low is.
+pub number-zeros : (limit : ℕ) (text : List ℕ) → limit < 2 ^ 64 → get_or text 0 0 ≡ 48 → 1 < length text → IsNoNumber limit text
+number-zeros limit text small zero long n low is =
     let one : length (decimal n) ≡ 1 = zero-alone n (omega arith) (sym (ap (λ (xs : List ℕ). get_or xs 0 0) is) ∙ zero) in
-    let same : length text ≡ length (decimal n) = ap length is in omega arith)
+    let same : length text ≡ length (decimal n) = ap length is in omega arith
 
 -- where `from_utf8` answers an error it is no text, and else the same text
-never-utf8 : {A E : Type 0} (r : Result A E) (U : Type 0) (P : A → Type 0) (V : E → Type 0) → None ≡ result_ok r → MatchResult r P (λ e. ¬ U × V e) → ¬ U
+never-utf8 : {A E : Type 0} (r : Result A E) (U : Type 0) (P : A → Type 0) (V : E → Type 0) → None ≡ result_ok r
+    → MatchResult r P (λ e. ¬ U × V e) → ¬ U
 never-utf8 (Ok x) U P V e h = absurd (cc)
 never-utf8 (Err x) U P V e h = h.0
 
-pub number_of-no_text : {A E : Type 0} (limit : ℕ) (text : List ℕ) (r : Result A E) (P : A → Type 0) (V : E → Type 0) → limit < 2 ^ 64 → None ≡ result_ok r
-    → MatchResult r P (λ e. ¬ (IsUtf8 text) × V e) → number_of limit text ≡ None
-number_of-no_text limit text r P V small none cases = number_of-none limit text (λ n low is.
-    never-utf8 r (IsUtf8 text) P V none cases (subst (λ (xs : List ℕ). IsUtf8 xs) (sym is) (IsUtf8-from_ascii (decimal n) (IsAscii-decimal n (omega arith)))))
+pub number-no_text : {A E : Type 0} (limit : ℕ) (text : List ℕ) (r : Result A E) (P : A → Type 0) (V : E → Type 0) → limit < 2 ^ 64
+    → None ≡ result_ok r → MatchResult r P (λ e. ¬ (IsUtf8 text) × V e) → IsNoNumber limit text
+number-no_text limit text r P V small none cases n low is =
+    never-utf8 r (IsUtf8 text) P V none cases
+    (subst (λ (xs : List ℕ). IsUtf8 xs) (sym is) (IsUtf8-from_ascii (decimal n) (IsAscii-decimal n (omega arith))))
 
-pub is-text : {E : Type 0} (text : List ℕ) (r : Result (Bor (List ℕ)) E) (s : Bor (List ℕ)) (U : Type 0) (Q : E → Type 0) → Some s ≡ result_ok r → MatchResult r (λ t. (t.now ≡ text) × U) Q → s.now ≡ text
+pub is-text : {E : Type 0} (text : List ℕ) (r : Result (Bor (List ℕ)) E) (s : Bor (List ℕ)) (U : Type 0) (Q : E → Type 0)
+    → Some s ≡ result_ok r → MatchResult r (λ t. (t.now ≡ text) × U) Q → s.now ≡ text
 is-text text (Ok t) s U Q e h = ap (λ (x : Bor (List ℕ)). x.now) (same_Some s t e) ∙ h.0
 is-text text (Err x) s U Q e h = absurd (cc)
 
@@ -95,25 +65,29 @@ result_ok-some : {E : Type 0} (r : Result ℕ E) (m : ℕ) → Some m ≡ result
 result_ok-some (Ok x) m e = ap (λ (n : ℕ). Ok n) (sym (same_Some m x e))
 result_ok-some (Err x) m e = absurd (cc)
 
-pub number_of-unparsed : {E : Type 0} (limit : ℕ) (text digits : List ℕ) (r : Result ℕ E) → limit < 2 ^ 64 → digits ≡ text → None ≡ result_ok r → ParsesUnsigned 64 10 digits r → number_of limit text ≡ None
-number_of-unparsed {E} limit text digits r small same none parsed = number_of-none limit text (λ n low is.
+pub number-unparsed : {E : Type 0} (limit : ℕ) (text digits : List ℕ) (r : Result ℕ E) → limit < 2 ^ 64 → digits ≡ text
+    → None ≡ result_ok r → ParsesUnsigned 64 10 digits r → IsNoNumber limit text
+number-unparsed {E} limit text digits r small same none parsed n low is =
     let ok : r ≡ Ok n = parse-decimal 64 n digits r (omega arith) (omega arith) (same ∙ is) parsed in
-    let some : result_ok r ≡ Some n = ap (λ (q : Result ℕ E). result_ok q) ok in absurd (cc))
+    let some : result_ok r ≡ Some n = ap (λ (q : Result ℕ E). result_ok q) ok in absurd (cc)
 
-pub number_of-large : {E : Type 0} (limit : ℕ) (text digits : List ℕ) (r : Result ℕ E) (m : ℕ) → limit < 2 ^ 64 → digits ≡ text → Some m ≡ result_ok r → ParsesUnsigned 64 10 digits r → limit < m → number_of limit text ≡ None
-number_of-large {E} limit text digits r m small same some parsed large = number_of-none limit text (λ n low is.
+pub number-large : {E : Type 0} (limit : ℕ) (text digits : List ℕ) (r : Result ℕ E) (m : ℕ) → limit < 2 ^ 64 → digits ≡ text
+    → Some m ≡ result_ok r → ParsesUnsigned 64 10 digits r → limit < m → IsNoNumber limit text
+number-large {E} limit text digits r m small same some parsed large n low is =
     let ok : r ≡ Ok n = parse-decimal 64 n digits r (omega arith) (omega arith) (same ∙ is) parsed in
-    let equal : m ≡ n = same_Some m n (some ∙ ap (λ (q : Result ℕ E). result_ok q) ok) in omega arith)
+    let equal : m ≡ n = same_Some m n (some ∙ ap (λ (q : Result ℕ E). result_ok q) ok) in omega arith
 
-pub number_of-parsed : {E : Type 0} (limit : ℕ) (text digits : List ℕ) (r : Result ℕ E) (m : ℕ) → digits ≡ text → Some m ≡ result_ok r → ParsesUnsigned 64 10 digits r → get_or text 0 0 ≢ 43
-    → (get_or text 0 0 ≡ 48 → length text ≤ 1) → 0 < length text → m ≤ limit → number_of limit text ≡ Some m
-number_of-parsed {E} limit text digits r m same some parsed unsigned alone long low =
+pub number-parsed : {E : Type 0} (text digits : List ℕ) (r : Result ℕ E) (m : ℕ) → digits ≡ text → Some m ≡ result_ok r
+    → ParsesUnsigned 64 10 digits r → get_or text 0 0 ≢ 43 → (get_or text 0 0 ≡ 48 → length text ≤ 1) → text ≡ decimal m
+number-parsed {E} text digits r m same some parsed unsigned alone =
     let here : ParsesUnsigned 64 10 text r = subst (λ (xs : List ℕ). ParsesUnsigned 64 10 xs r) same parsed in
-    let read : ParsesUnsigned {E = E} 64 10 text (Ok m) = subst (λ (q : Result ℕ E). ParsesUnsigned 64 10 text q) (result_ok-some r m some) here in
+    let read : ParsesUnsigned {E = E} 64 10 text (Ok m) =
+    subst (λ (q : Result ℕ E). ParsesUnsigned 64 10 text q) (result_ok-some r m some) here in
     let plain = parse_plain own {E = E} 64 text (Ok m) read unsigned in
     let value : m ≡ digits_value 10 text = plain.1 in
-    let written : decimal (digits_value 10 text) ≡ text = decimal-digits_value own text plain.0.0 plain.0.1 (λ zero. let short : length text ≤ 1 = alone zero in omega arith) plain.0.2 in
-    number_of-text limit text m low (sym value) (sym written ∙ ap decimal (sym value))
+    let written : decimal (digits_value 10 text) ≡ text =
+    decimal-digits_value own text plain.0.0 plain.0.1 (λ zero. let short : length text ≤ 1 = alone zero in omega arith) plain.0.2 in
+    sym written ∙ ap decimal (sym value)
 
 digits-Without : (separator : ℕ) (ds : List ℕ) → separator < 48 → AllDigits 10 ds → Without separator ds
 digits-Without separator [] low digits = tt
@@ -123,3 +97,61 @@ digits-Without separator (d ∷ ds) low digits =
 -- a number's text has digits only
 pub decimal-Without : (separator n : ℕ) → separator < 48 → n < 2 ^ 64 → Without separator (decimal n)
 decimal-Without separator n low small = digits-Without separator (decimal n) low (decimal_is_IsNumeral n small).0.1
+
+-- a number and what stands behind it have one text
+pub one-number : (n m : ℕ) (a b : List ℕ) → n < 2 ^ 64 → m < 2 ^ 64 → spaced (decimal n) a ≡ spaced (decimal m) b → (n ≡ m) × (a ≡ b)
+one-number n m a b small few is =
+    let (front, back) =
+    one-cut 32 (decimal n) a (decimal m) b (decimal-Without 32 n (omega arith) small) (decimal-Without 32 m (omega arith) few) is in
+    (decimal_injective n m small few front, back)
+
+-- the text begins with this number and a space
+abbrev pub IsLed : ℕ → ℕ → List ℕ → List ℕ → Type 0
+IsLed limit n text rest = (n ≤ limit) × (text ≡ spaced (decimal n) rest)
+
+-- no number up to the limit stands before the first space
+abbrev pub IsNotLed : ℕ → List ℕ → Type 0
+IsNotLed limit text = (n : ℕ) (rest : List ℕ) → n ≤ limit → text ≡ spaced (decimal n) rest → ⊥
+
+pub uncut-unled : (limit : ℕ) (text : List ℕ) → Without 32 text → IsNotLed limit text
+uncut-unled limit text none n rest low is = uncut 32 text (decimal n) rest none is
+
+pub no-number-unled : (limit : ℕ) (text a b : List ℕ) → limit < 2 ^ 64 → IsCut 32 text a b → IsNoNumber limit a → IsNotLed limit text
+no-number-unled limit text a b small (is, one) never n rest low other =
+    never n low (one-cut 32 a b (decimal n) rest one (decimal-Without 32 n (omega arith) (omega arith)) (sym is ∙ other)).0
+
+-- the ranges of a reader
+
+pub one-u32 : (n m : ℕ) (a b : List ℕ) → IsU32 n → IsU32 m → spaced (decimal n) a ≡ spaced (decimal m) b → (n ≡ m) × (a ≡ b)
+one-u32 n m a b low small is =
+    let few : n ≤ 4294967295 = low in
+    let less : m ≤ 4294967295 = small in one-number n m a b (omega arith) (omega arith) is
+
+pub one-key : (n m : ℕ) (a b : List ℕ) → IsKeyNumber n → IsKeyNumber m → spaced (decimal n) a ≡ spaced (decimal m) b → (n ≡ m) × (a ≡ b)
+one-key n m a b low small is =
+    let few : n ≤ 18446744073709551615 = low in
+    let less : m ≤ 18446744073709551615 = small in one-number n m a b (omega arith) (omega arith) is
+
+pub u32-same : (n m : ℕ) → IsU32 n → IsU32 m → decimal n ≡ decimal m → n ≡ m
+u32-same n m low small is =
+    let few : n ≤ 4294967295 = low in
+    let less : m ≤ 4294967295 = small in decimal_injective n m (omega arith) (omega arith) is
+
+pub key-same : (n m : ℕ) → IsKeyNumber n → IsKeyNumber m → decimal n ≡ decimal m → n ≡ m
+key-same n m low small is =
+    let few : n ≤ 18446744073709551615 = low in
+    let less : m ≤ 18446744073709551615 = small in decimal_injective n m (omega arith) (omega arith) is
+
+pub place-same : (n m : ℕ) → IsPlaceNumber n → IsPlaceNumber m → decimal n ≡ decimal m → n ≡ m
+place-same n m low small is =
+    let few : n ≤ GREATEST_PLACE = low in
+    let less : m ≤ GREATEST_PLACE = small in decimal_injective n m (omega arith) (omega arith) is
+
+pub u32-Without : (separator n : ℕ) → separator < 48 → IsU32 n → Without separator (decimal n)
+u32-Without separator n below low = let few : n ≤ 4294967295 = low in decimal-Without separator n below (omega arith)
+
+pub key-Without : (separator n : ℕ) → separator < 48 → IsKeyNumber n → Without separator (decimal n)
+key-Without separator n below low = let few : n ≤ 18446744073709551615 = low in decimal-Without separator n below (omega arith)
+
+pub place-Without : (separator n : ℕ) → separator < 48 → IsPlaceNumber n → Without separator (decimal n)
+place-Without separator n below low = let few : n ≤ GREATEST_PLACE = low in decimal-Without separator n below (omega arith)

@@ -1,107 +1,83 @@
 -- Places with commas between them.
-use Rattle.std.proofs.Common.{◌≡◌, ◌≢◌, ℕ, ◌<◌, ◌≤◌, List, [], ◌∷◌, ◌++◌, Bool, true, false, nat_eq, Some, option_map, decimal, codes, refl, sym, ap, ◌∙◌, arith, subst, append_assoc}
+use Rattle.std.proofs.Common.{◌≡◌, ℕ, ◌<◌, List, [], ◌∷◌, ◌++◌, decimal, codes, refl, sym, ap, ◌∙◌, arith, append_assoc}
 use Rattle.std.specs.List.{AllByRecursion}
-use Rattle.std.proofs.lemmas.Option.{same_Some, option_and_then_some}
-use Rattle.std.proofs.lemmas.Bool.{eqb-true}
 use Rattle.keybits.specs.declared.place.TheConstants.{GREATEST_PLACE}
 use Rattle.seqpool.specs.ActsText.{places_text, IsPlaceNumber}
-use Rattle.seqpool.specs.ActsReader.{onto, parts, each, number_of, places_of}
-use Rattle.seqpool.proofs.Parts.{Without, Without-append, cut-again, cut-nothing, parts-cut, parts-whole, parts-here, parts-there, each-part, option_map-some}
-use Rattle.seqpool.proofs.Numbers.{number_of-again, number_of-sound, decimal-Without}
+use Rattle.seqpool.specs.ReadTexts.{Without, NothingHas, ArePlaces}
+use Rattle.seqpool.proofs.Parts.{IsCut, Without-append, one-cut, uncut, IsFirst}
+use Rattle.seqpool.proofs.Numbers.{IsNoNumber, place-same, place-Without}
 
--- parts with such a byte between them
-abbrev joined : ℕ → List (List ℕ) → List ℕ
-joined separator [] = []
-joined separator (part ∷ []) = part
-joined separator (part ∷ next ∷ more) = part ++ separator ∷ joined separator (next ∷ more)
+places_text-more : (p q : ℕ) (more : List ℕ) → places_text (p ∷ q ∷ more) ≡ decimal p ++ 44 ∷ places_text (q ∷ more)
+places_text-more p q more = append_assoc (decimal p) (codes ",") (places_text (q ∷ more))
 
--- a text has a first part
-parts-some : (separator : ℕ) (text : List ℕ) → (part : List ℕ) × (more : List (List ℕ)) × (parts separator text ≡ part ∷ more)
-parts-some separator [] = ([], [], refl)
-parts-some separator (byte ∷ text) = at (nat_eq byte separator) refl (parts-some separator text)
+-- one place has no comma
+one-place : (p : ℕ) (s a b : List ℕ) → IsPlaceNumber p → s ≡ decimal p → s ≡ a ++ 44 ∷ b → ⊥
+one-place p s a b low is cuts = uncut 44 (decimal p) a b (place-Without 44 p (omega arith) low) (sym is ∙ cuts)
+
+-- the first comma of several places is behind the first of them
+first-comma : (p q : ℕ) (more s front after : List ℕ) → IsPlaceNumber p → s ≡ places_text (p ∷ q ∷ more) → IsCut 44 s front after
+    → (front ≡ decimal p) × (after ≡ places_text (q ∷ more))
+first-comma p q more s front after low is (cuts, one) =
+    one-cut 44 front after (decimal p) (places_text (q ∷ more)) one (place-Without 44 p (omega arith) low)
+    (sym cuts ∙ (is ∙ places_text-more p q more))
+
+-- what a comma cuts off is the first place
+pub places-first : (p : ℕ) (s front after : List ℕ) → IsCut 44 s front after → IsPlaceNumber p × (front ≡ decimal p)
+    → IsFirst ArePlaces p s after
+places-first p s front after cuts (low, written) = record { on = on; only = only }
   where
-    at : (b : Bool) → nat_eq byte separator ≡ b → ((part : List ℕ) × (more : List (List ℕ)) × (parts separator text ≡ part ∷ more))
-        → (part : List ℕ) × (more : List (List ℕ)) × (parts separator (byte ∷ text) ≡ part ∷ more)
-    at true test later = ([], parts separator text, parts-here separator byte text test)
-    at false test (part, more, is) = (byte ∷ part, more, parts-there separator byte text test ∙ ap (onto byte) is)
+    on : (more : List ℕ) → ArePlaces more after → ArePlaces (p ∷ more) s
+    on [] h = absurd (h.0 refl)
+    on (q ∷ more) h = (
+      (λ none. absurd (cc)),
+      (low, h.1),
+      cuts.0 ∙ (ap (λ (xs : List ℕ). xs ++ 44 ∷ after) written
+          ∙ (ap (λ (xs : List ℕ). decimal p ++ 44 ∷ xs) h.2 ∙ sym (places_text-more p q more))),
+    )
 
-joined-onto : (separator byte : ℕ) (part : List ℕ) (more : List (List ℕ)) → joined separator ((byte ∷ part) ∷ more) ≡ byte ∷ joined separator (part ∷ more)
-joined-onto separator byte part [] = refl
-joined-onto separator byte part (next ∷ more) = refl
+    only : (all : List ℕ) → ArePlaces all s → (more : List ℕ) × (all ≡ p ∷ more) × ArePlaces more after
+    only [] h = absurd (h.0 refl)
+    only (q ∷ []) h = absurd (one-place q s front after h.1.0 h.2 cuts.0)
+    only (q ∷ r ∷ more) h =
+        let (first, others) = first-comma q r more s front after h.1.0 h.2 cuts in
+        (r ∷ more, ap (λ (x : ℕ). x ∷ r ∷ more) (place-same q p h.1.0 low (sym first ∙ written)), ((λ none. absurd (cc)), h.1.1, others))
 
-joined-parts : (separator : ℕ) (text : List ℕ) → joined separator (parts separator text) ≡ text
-joined-parts separator [] = refl
-joined-parts separator (byte ∷ text) = at (nat_eq byte separator) refl (parts-some separator text) (joined-parts separator text)
-  where
-    at : (b : Bool) → nat_eq byte separator ≡ b → ((part : List ℕ) × (more : List (List ℕ)) × (parts separator text ≡ part ∷ more)) → joined separator (parts separator text) ≡ text
-        → joined separator (parts separator (byte ∷ text)) ≡ byte ∷ text
-    at true test (part, more, is) later =
-        let same : byte ≡ separator = eqb-true byte separator test in
-        ap (joined separator) (parts-here separator byte text test ∙ ap (λ (ps : List (List ℕ)). [] ∷ ps) is)
-        ∙ (ap (λ (xs : List ℕ). separator ∷ xs) (sym (ap (joined separator) is) ∙ later)
-        ∙ ap (λ (b : ℕ). b ∷ text) (sym same))
-    at false test (part, more, is) later =
-        ap (joined separator) (parts-there separator byte text test ∙ ap (onto byte) is)
-        ∙ (joined-onto separator byte part more ∙ ap (λ (xs : List ℕ). byte ∷ xs) (sym (ap (joined separator) is) ∙ later))
+-- what a comma cuts off is no place
+pub places-never : (s front after : List ℕ) → IsCut 44 s front after → IsNoNumber GREATEST_PLACE front → NothingHas ArePlaces s
+places-never s front after cuts never [] h = h.0 refl
+places-never s front after cuts never (q ∷ []) h = one-place q s front after h.1.0 h.2 cuts.0
+places-never s front after cuts never (q ∷ r ∷ more) h = never q h.1.0 (first-comma q r more s front after h.1.0 h.2 cuts).0
 
-each-places : (p : ℕ) (ps : List ℕ) → IsPlaceNumber p → AllByRecursion IsPlaceNumber ps → each (number_of GREATEST_PLACE) (parts 44 (places_text (p ∷ ps))) ≡ Some (p ∷ ps)
-each-places p [] low all =
-    ap (each (number_of GREATEST_PLACE)) (parts-whole 44 (decimal p) (cut-nothing 44 (decimal p) (decimal-Without 44 p (omega arith) (omega (arith, low)))))
-    ∙ each-part (number_of GREATEST_PLACE) (decimal p) [] p (number_of-again GREATEST_PLACE p low (omega arith))
-each-places p (q ∷ ps) low all =
-    ap (each (number_of GREATEST_PLACE)) (ap (parts 44) (append_assoc (decimal p) (codes ",") (places_text (q ∷ ps)))
-    ∙ parts-cut 44 (decimal p ++ 44 ∷ places_text (q ∷ ps)) (decimal p, places_text (q ∷ ps)) (cut-again 44 (decimal p) (places_text (q ∷ ps)) (decimal-Without 44 p (omega arith) (omega (arith, low)))))
-    ∙ (each-part (number_of GREATEST_PLACE) (decimal p) (parts 44 (places_text (q ∷ ps))) p (number_of-again GREATEST_PLACE p low (omega arith))
-    ∙ ap (option_map (λ (xs : List ℕ). p ∷ xs)) (each-places q ps all.0 all.1))
+-- the last part is a place
+pub places-last : (p : ℕ) (s : List ℕ) → IsPlaceNumber p × (s ≡ decimal p) → ArePlaces (p ∷ []) s
+places-last p s (low, is) = ((λ none. absurd (cc)), (low, tt), is)
 
--- what is read of places that are written
-pub places-again : (ps : List ℕ) → ps ≢ [] → AllByRecursion IsPlaceNumber ps → places_of (places_text ps) ≡ Some ps
-unfolding places_of
-places-again [] some all = absurd (some refl)
-places-again (p ∷ ps) some all = each-places p ps all.0 all.1
+-- the last part is no place
+pub places-never-last : (s : List ℕ) → Without 44 s → IsNoNumber GREATEST_PLACE s → NothingHas ArePlaces s
+places-never-last s one never [] h = h.0 refl
+places-never-last s one never (q ∷ []) h = never q h.1.0 h.2
+places-never-last s one never (q ∷ r ∷ more) h =
+    uncut 44 s (decimal q) (places_text (r ∷ more)) one (h.2 ∙ places_text-more q r more)
 
--- what places that were read say of their text
-record AreRead (text ps : List ℕ) : Type 0 where
-  pub some : ps ≢ []
-  pub all : AllByRecursion IsPlaceNumber ps
-  pub is : text ≡ places_text ps
-
-joined-more : (p : ℕ) (part : List ℕ) (more : List (List ℕ)) (qs : List ℕ) → part ≡ decimal p → IsPlaceNumber p → AreRead (joined 44 more) qs → (next : List ℕ) (rest : List (List ℕ)) → more ≡ next ∷ rest
-    → AreRead (joined 44 (part ∷ more)) (p ∷ qs)
-joined-more p part more [] is low others next rest some = absurd (others.some refl)
-joined-more p part more (q ∷ qs) is low others next rest some = record {
-  some = λ e. absurd (cc);
-  all = (low, others.all);
-  is = ap (λ (ps : List (List ℕ)). joined 44 (part ∷ ps)) some
-      ∙ (ap (λ (xs : List ℕ). part ++ 44 ∷ xs) (sym (ap (joined 44) some) ∙ others.is)
-      ∙ (ap (λ (xs : List ℕ). xs ++ 44 ∷ places_text (q ∷ qs)) is
-      ∙ sym (append_assoc (decimal p) (codes ",") (places_text (q ∷ qs)))));
-}
-
-each-sound : (part : List ℕ) (more : List (List ℕ)) (ps : List ℕ) → each (number_of GREATEST_PLACE) (part ∷ more) ≡ Some ps → AreRead (joined 44 (part ∷ more)) ps
-each-sound part [] ps e =
-    option_and_then_some (λ x. option_map (λ xs. x ∷ xs) (each (number_of GREATEST_PLACE) [])) (number_of GREATEST_PLACE part) ps e (λ p one e1.
-    let number = number_of-sound GREATEST_PLACE part p one in
-    subst (λ (xs : List ℕ). AreRead part xs) (same_Some (p ∷ []) ps e1) (record { some = λ none. absurd (cc); all = (number.0, tt); is = number.1 }))
-each-sound part (next ∷ more) ps e =
-    option_and_then_some (λ x. option_map (λ xs. x ∷ xs) (each (number_of GREATEST_PLACE) (next ∷ more))) (number_of GREATEST_PLACE part) ps e (λ p one e1.
-    let number = number_of-sound GREATEST_PLACE part p one in
-    let (qs, found, same) = option_map-some (λ (xs : List ℕ). p ∷ xs) (each (number_of GREATEST_PLACE) (next ∷ more)) ps e1 in
-    subst (λ (xs : List ℕ). AreRead (joined 44 (part ∷ next ∷ more)) xs) same (joined-more p part (next ∷ more) qs number.1 number.0 (each-sound next more qs found) next more refl))
-
--- places that are read are written so
-pub places-sound : (text ps : List ℕ) → places_of text ≡ Some ps → (ps ≢ []) × AllByRecursion IsPlaceNumber ps × (text ≡ places_text ps)
-unfolding places_of
-places-sound text ps e =
-    let (part, more, is) = parts-some 44 text in
-    let read = each-sound part more ps (sym (ap (each (number_of GREATEST_PLACE)) is) ∙ e) in
-    (read.some, read.all, sym (joined-parts 44 text) ∙ (ap (joined 44) is ∙ read.is))
+-- a text is that of one list of places
+pub places-same : (ps qs text : List ℕ) → ArePlaces ps text → ArePlaces qs text → ps ≡ qs
+places-same [] qs text one two = absurd (one.0 refl)
+places-same (p ∷ ps) [] text one two = absurd (two.0 refl)
+places-same (p ∷ []) (q ∷ []) text one two = ap (λ (x : ℕ). x ∷ []) (place-same p q one.1.0 two.1.0 (sym one.2 ∙ two.2))
+places-same (p ∷ []) (q ∷ r ∷ qs) text one two =
+    absurd (one-place p text (decimal q) (places_text (r ∷ qs)) one.1.0 one.2 (two.2 ∙ places_text-more q r qs))
+places-same (p ∷ r ∷ ps) (q ∷ []) text one two =
+    absurd (one-place q text (decimal p) (places_text (r ∷ ps)) two.1.0 two.2 (one.2 ∙ places_text-more p r ps))
+places-same (p ∷ r ∷ ps) (q ∷ t ∷ qs) text one two =
+    let (first, others) = first-comma q t qs text (decimal p) (places_text (r ∷ ps)) two.1.0 two.2
+    (one.2 ∙ places_text-more p r ps, place-Without 44 p (omega arith) one.1.0) in
+    let rest = places-same (r ∷ ps) (t ∷ qs) (places_text (r ∷ ps)) ((λ none. absurd (cc)), one.1.1, refl) ((λ none. absurd (cc)), two.1.1, others) in
+    ap (λ (x : ℕ). x ∷ r ∷ ps) (place-same p q one.1.0 two.1.0 first) ∙ ap (λ (xs : List ℕ). q ∷ xs) rest
 
 pub places-Without : (separator : ℕ) (ps : List ℕ) → separator < 44 → AllByRecursion IsPlaceNumber ps → Without separator (places_text ps)
 places-Without separator [] low all = tt
-places-Without separator (p ∷ []) low all = let small : p ≤ GREATEST_PLACE = all.0 in decimal-Without separator p (omega arith) (omega arith)
+places-Without separator (p ∷ []) low all = place-Without separator p (omega arith) all.0
 places-Without separator (p ∷ q ∷ more) low all =
-    let small : p ≤ GREATEST_PLACE = all.0 in
     Without-append separator (decimal p ++ codes ",") (places_text (q ∷ more))
-    (Without-append separator (decimal p) (codes ",") (decimal-Without separator p (omega arith) (omega arith)) ((λ same. omega (arith, same)), tt))
+    (Without-append separator (decimal p) (codes ",") (place-Without separator p (omega arith) all.0) ((λ same. omega (arith, same)), tt))
     (places-Without separator (q ∷ more) low all.1)

@@ -1,191 +1,198 @@
 -- Lines of shapes.
-use Rattle.std.proofs.Common.{◌≡◌, ℕ, ◌≤◌, List, [], ◌∷◌, ◌++◌, Bool, true, false, cond, Option, Some, None, option_and_then, decimal, codes, refl, sym, ap, ◌∙◌, arith, subst, append_assoc, ◌⊎◌, inl, inr}
-use Rattle.std.specs.Str.{bytes_eq}
-use Rattle.std.proofs.lemmas.Option.{same_Some, option_and_then_some}
-use Rattle.std.proofs.lemmas.Slice.Eq.{bytes_eq-Decides}
+use Rattle.std.proofs.Common.{◌≡◌, ◌≢◌, ℕ, ◌≤◌, List, [], ◌∷◌, ◌++◌, Bool, true, false, decimal, codes, refl, sym, ap, ◌∙◌, arith, subst, append_assoc, ◌⊎◌, inl, inr}
+use Rattle.std.proofs.lemmas.List.{append_cancel_left, append_cancel_right}
 use Rattle.keybits.specs.declared.shape.Shape.{Shape}
-use Rattle.seqpool.specs.ActsText.{shape_line, IsU32, AreNumbers, IsShapeText}
-use Rattle.seqpool.specs.ActsReader.{cut, number_of, ending_at, numbers_of, shape_of}
-use Rattle.seqpool.proofs.Parts.{Without, Without-append, cut-again, cut-nothing, cut-sound, option_map-some}
-use Rattle.seqpool.proofs.Numbers.{number_of-again, number_of-sound, decimal-Without}
-use Rattle.seqpool.proofs.ReadLines.{IsLine}
-use Rattle.seqpool.proofs.ActTexts.{lacks-Without}
+use Rattle.seqpool.specs.ActsText.{shape_line, AreNumbers, IsShapeText}
+use Rattle.seqpool.specs.ReadTexts.{Without, spaced, NothingHas, IsShapeOf, AreLast}
+use Rattle.seqpool.proofs.Parts.{IsCut, Without-append, spaced-Without, lacks-Without, one-cut, uncut}
+use Rattle.seqpool.proofs.Numbers.{IsNoNumber, IsLed, IsNotLed, one-u32, u32-same, u32-Without}
 
 -- the numbers of a shape behind its word
-abbrev four_numbers : Shape → List ℕ → List ℕ
-four_numbers z ending = decimal z.lanes ++ 32 ∷ (decimal z.first_page ++ 32 ∷ (decimal z.pages ++ 32 ∷ ending))
 
-abbrev ending_text : Shape → Bool → List ℕ
-ending_text z true = decimal z.last_generation ++ 32 ∷ decimal z.tag
-ending_text z false = decimal z.last_generation
+abbrev behind_first_page : Shape → List ℕ → List ℕ
+behind_first_page z ending = spaced (decimal z.pages) ending
 
-regroup : (s a b c d : List ℕ) → ((((((s ++ a) ++ 32 ∷ []) ++ b) ++ 32 ∷ []) ++ c) ++ 32 ∷ []) ++ d ≡ s ++ (a ++ 32 ∷ (b ++ 32 ∷ (c ++ 32 ∷ d)))
+abbrev behind_lanes : Shape → List ℕ → List ℕ
+behind_lanes z ending = spaced (decimal z.first_page) (behind_first_page z ending)
+
+abbrev all_numbers : Shape → List ℕ → List ℕ
+all_numbers z ending = spaced (decimal z.lanes) (behind_lanes z ending)
+
+regroup : (s a b c d : List ℕ) → ((((((s ++ a) ++ 32 ∷ []) ++ b) ++ 32 ∷ []) ++ c) ++ 32 ∷ []) ++ d ≡ s ++ spaced a (spaced b (spaced c d))
 regroup s a b c d = simp append_assoc
 
-regroup-tagged : (s a b c d e : List ℕ) → ((((((((s ++ a) ++ 32 ∷ []) ++ b) ++ 32 ∷ []) ++ c) ++ 32 ∷ []) ++ d) ++ 32 ∷ []) ++ e ≡ s ++ (a ++ 32 ∷ (b ++ 32 ∷ (c ++ 32 ∷ (d ++ 32 ∷ e))))
+regroup-tagged : (s a b c d e : List ℕ) → ((((((((s ++ a) ++ 32 ∷ []) ++ b) ++ 32 ∷ []) ++ c) ++ 32 ∷ []) ++ d) ++ 32 ∷ []) ++ e
+    ≡ s ++ spaced a (spaced b (spaced c (spaced d e)))
 regroup-tagged s a b c d e = simp append_assoc
 
-shape_line-parts : (z : Shape) (tagged : Bool) → shape_line z tagged ≡ codes "shape " ++ four_numbers z (ending_text z tagged)
-shape_line-parts z true = regroup-tagged (codes "shape ") (decimal z.lanes) (decimal z.first_page) (decimal z.pages) (decimal z.last_generation) (decimal z.tag)
+-- what an ending may be
+abbrev ending_text : Shape → Bool → List ℕ
+ending_text z true = spaced (decimal z.last_generation) (decimal z.tag)
+ending_text z false = decimal z.last_generation
+
+shape_line-parts : (z : Shape) (tagged : Bool) → shape_line z tagged ≡ codes "shape " ++ all_numbers z (ending_text z tagged)
+shape_line-parts z true =
+    regroup-tagged (codes "shape ") (decimal z.lanes) (decimal z.first_page) (decimal z.pages) (decimal z.last_generation) (decimal z.tag)
 shape_line-parts z false = regroup (codes "shape ") (decimal z.lanes) (decimal z.first_page) (decimal z.pages) (decimal z.last_generation)
 
-shape_of-word : (text : List ℕ) → shape_of (codes "shape " ++ text) ≡ numbers_of text
-unfolding shape_of
-shape_of-word text = refl
+-- a line is the word, three numbers and an ending
+record IsParted (z : Shape) (line : List ℕ) : Type 0 where
+  pub ending : List ℕ
+  pub last : AreLast (z.last_generation, z.tag) ending
+  pub is : line ≡ codes "shape " ++ all_numbers z ending
 
--- a shape with another ending
-abbrev ended : Shape → ℕ → ℕ → Shape
-ended z generation tag = record { lanes = z.lanes; first_page = z.first_page; pages = z.pages; last_generation = generation; tag = tag }
+parted : (z : Shape) (line : List ℕ) → IsShapeOf z line → IsParted z line
+parted z line (numbers, inl tagged) = record {
+  ending = ending_text z true;
+  last = (numbers.last_generation, numbers.tag, inl refl);
+  is = append_cancel_right line (shape_line z true) (codes "\n") tagged ∙ shape_line-parts z true;
+}
+parted z line (numbers, inr (none, untagged)) = record {
+  ending = ending_text z false;
+  last = (numbers.last_generation, numbers.tag, inr (none, refl));
+  is = append_cancel_right line (shape_line z false) (codes "\n") untagged ∙ shape_line-parts z false;
+}
 
-numbers_of-is : (z : Shape) (text a b c d e f : List ℕ) (ending : ℕ × ℕ) → cut 32 text ≡ Some (a, b) → number_of 4294967295 a ≡ Some z.lanes → cut 32 b ≡ Some (c, d) → number_of 4294967295 c ≡ Some z.first_page
-    → cut 32 d ≡ Some (e, f) → number_of 4294967295 e ≡ Some z.pages → ending_at f (cut 32 f) ≡ Some ending → numbers_of text ≡ Some (ended z ending.0 ending.1)
-unfolding numbers_of
-numbers_of-is z text a b c d e f ending one two three four five six seven = rw (one, two, three, four, five, six, seven) refl
+line-of : (z : Shape) (tagged : Bool) (text c : List ℕ) → text ≡ all_numbers z c → c ≡ ending_text z tagged
+    → (codes "shape " ++ text) ++ codes "\n" ≡ shape_line z tagged ++ codes "\n"
+line-of z tagged text c is last =
+    ap (λ (xs : List ℕ). (codes "shape " ++ xs) ++ codes "\n") (is ∙ ap (all_numbers z) last)
+    ∙ ap (λ (xs : List ℕ). xs ++ codes "\n") (sym (shape_line-parts z tagged))
 
-ending-tagged : (text a b : List ℕ) (generation tag : ℕ) → cut 32 text ≡ Some (a, b) → number_of 4294967295 a ≡ Some generation → number_of 4294967295 b ≡ Some tag → ending_at text (cut 32 text) ≡ Some (generation, tag)
-ending-tagged text a b generation tag one two three = rw (one, two, three) refl
-
-ending-untagged : (text : List ℕ) (generation : ℕ) → cut 32 text ≡ None → number_of 4294967295 text ≡ Some generation → ending_at text (cut 32 text) ≡ Some (generation, 0)
-ending-untagged text generation one two = rw (one, two) refl
-
-u32-again : (n : ℕ) → IsU32 n → number_of 4294967295 (decimal n) ≡ Some n
-u32-again n low = number_of-again 4294967295 n low (omega arith)
-
-cut-u32 : (n : ℕ) (rest : List ℕ) → IsU32 n → cut 32 (decimal n ++ 32 ∷ rest) ≡ Some (decimal n, rest)
-cut-u32 n rest low = cut-again 32 (decimal n) rest (decimal-Without 32 n (omega arith) (omega (arith, low)))
-
-ending-again : (z : Shape) → AreNumbers z → ending_at (ending_text z true) (cut 32 (ending_text z true)) ≡ Some (z.last_generation, z.tag)
-ending-again z numbers =
-    ending-tagged (ending_text z true) (decimal z.last_generation) (decimal z.tag) z.last_generation z.tag (cut-u32 z.last_generation (decimal z.tag) numbers.last_generation) (u32-again z.last_generation numbers.last_generation) (u32-again z.tag numbers.tag)
-
-ending-again-untagged : (z : Shape) → AreNumbers z → ending_at (ending_text z false) (cut 32 (ending_text z false)) ≡ Some (z.last_generation, 0)
-ending-again-untagged z numbers =
-    let low : z.last_generation ≤ 4294967295 = numbers.last_generation in
-    ending-untagged (ending_text z false) z.last_generation (cut-nothing 32 (decimal z.last_generation) (decimal-Without 32 z.last_generation (omega arith) (omega arith))) (u32-again z.last_generation low)
-
-line-again : (z : Shape) (tagged : Bool) (ending : ℕ × ℕ) → AreNumbers z → ending_at (ending_text z tagged) (cut 32 (ending_text z tagged)) ≡ Some ending → shape_of (shape_line z tagged) ≡ Some (ended z ending.0 ending.1)
-line-again z tagged ending numbers last =
-    ap shape_of (shape_line-parts z tagged)
-    ∙ (shape_of-word (four_numbers z (ending_text z tagged))
-    ∙ numbers_of-is z (four_numbers z (ending_text z tagged)) (decimal z.lanes) (decimal z.first_page ++ 32 ∷ (decimal z.pages ++ 32 ∷ ending_text z tagged))
-    (decimal z.first_page) (decimal z.pages ++ 32 ∷ ending_text z tagged) (decimal z.pages) (ending_text z tagged) ending
-    (cut-u32 z.lanes (decimal z.first_page ++ 32 ∷ (decimal z.pages ++ 32 ∷ ending_text z tagged)) numbers.lanes) (u32-again z.lanes numbers.lanes)
-    (cut-u32 z.first_page (decimal z.pages ++ 32 ∷ ending_text z tagged) numbers.first_page) (u32-again z.first_page numbers.first_page)
-    (cut-u32 z.pages (ending_text z tagged) numbers.pages) (u32-again z.pages numbers.pages) last)
-
-u32-Without : (n : ℕ) → IsU32 n → Without 10 (decimal n)
-u32-Without n low = decimal-Without 10 n (omega arith) (omega (arith, low))
-
-spaced : (a b : List ℕ) → Without 10 a → Without 10 b → Without 10 (a ++ 32 ∷ b)
-spaced a b one two = Without-append 10 a (32 ∷ b) one ((λ same. omega (arith, same)), two)
-
-ending-Without : (z : Shape) (tagged : Bool) → AreNumbers z → Without 10 (ending_text z tagged)
-ending-Without z true numbers = spaced (decimal z.last_generation) (decimal z.tag) (u32-Without z.last_generation numbers.last_generation) (u32-Without z.tag numbers.tag)
-ending-Without z false numbers = u32-Without z.last_generation numbers.last_generation
-
-shape_line-IsLine : (z : Shape) (tagged : Bool) → AreNumbers z → IsLine (shape_line z tagged)
-shape_line-IsLine z tagged numbers =
-    subst (λ (xs : List ℕ). IsLine xs) (sym (shape_line-parts z tagged)) (record {
-      some = omega arith;
-      one = Without-append 10 (codes "shape ") (four_numbers z (ending_text z tagged)) (lacks-Without 10 (codes "shape ") refl)
-          (spaced (decimal z.lanes) (decimal z.first_page ++ 32 ∷ (decimal z.pages ++ 32 ∷ ending_text z tagged)) (u32-Without z.lanes numbers.lanes)
-          (spaced (decimal z.first_page) (decimal z.pages ++ 32 ∷ ending_text z tagged) (u32-Without z.first_page numbers.first_page)
-          (spaced (decimal z.pages) (ending_text z tagged) (u32-Without z.pages numbers.pages) (ending-Without z tagged numbers))));
-    })
-
--- a shape's line, without its line feed
-pub record IsShapeLine (z : Shape) (first text : List ℕ) : Type 0 where
-  pub is : first ≡ text ++ 10 ∷ []
-  pub line : IsLine text
-  pub read : shape_of text ≡ Some z
-
--- what is read of the line of a shape
-pub shape_of-again : (z : Shape) (first : List ℕ) → AreNumbers z → IsShapeText z first → (line : List ℕ) × IsShapeLine z first line
-shape_of-again z first numbers (inl tagged) =
-    (shape_line z true, record { is = tagged; line = shape_line-IsLine z true numbers; read = line-again z true (z.last_generation, z.tag) numbers (ending-again z numbers) })
-shape_of-again z first numbers (inr (none, untagged)) = (
-  shape_line z false,
-  record {
-    is = untagged;
-    line = shape_line-IsLine z false numbers;
-    read = line-again z false (z.last_generation, 0) numbers (ending-again-untagged z numbers) ∙ ap (λ (tag : ℕ). Some (ended z z.last_generation tag)) (sym none);
-  },
+-- the line of these numbers
+pub shape-of : (z : Shape) (text a b c : List ℕ) → IsLed 4294967295 z.lanes text a → IsLed 4294967295 z.first_page a b
+    → IsLed 4294967295 z.pages b c → AreLast (z.last_generation, z.tag) c → IsShapeOf z (codes "shape " ++ text)
+shape-of z text a b c (one, first) (two, second) (three, third) (four, five, last) = (
+  record { lanes = one; first_page = two; pages = three; last_generation = four; tag = five },
+  at last,
 )
-
--- what an ending that was read says of its text
-record IsEnding (text : List ℕ) (g t : ℕ) : Type 0 where
-  pub generation : IsU32 g
-  pub tag : IsU32 t
-  pub is : (text ≡ decimal g ++ 32 ∷ decimal t) ⊎ ((t ≡ 0) × (text ≡ decimal g))
-
-ending-sound : (text : List ℕ) (ending : ℕ × ℕ) → ending_at text (cut 32 text) ≡ Some ending → IsEnding text ending.0 ending.1
-ending-sound text ending e = at (cut 32 text) refl e
   where
-    at : (o : Option (List ℕ × List ℕ)) → cut 32 text ≡ o → ending_at text o ≡ Some ending → IsEnding text ending.0 ending.1
-    at None none found =
-        let (generation, is, same) = option_map-some (λ (g : ℕ). (g, 0)) (number_of 4294967295 text) ending found in
-        let number = number_of-sound 4294967295 text generation is in
-        subst (λ (p : ℕ × ℕ). IsEnding text p.0 p.1) same (record { generation = number.0; tag = omega arith; is = inr (refl, number.1) })
-    at (Some p) cut-is found =
-        option_and_then_some (λ g. option_and_then (λ t. Some (g, t)) (number_of 4294967295 p.1)) (number_of 4294967295 p.0) ending found (λ generation one e1.
-        option_and_then_some (λ t. Some (generation, t)) (number_of 4294967295 p.1) ending e1 (λ tag two e2.
-        let number = number_of-sound 4294967295 p.0 generation one in
-        let other = number_of-sound 4294967295 p.1 tag two in
-        subst (λ (q : ℕ × ℕ). IsEnding text q.0 q.1) (same_Some (generation, tag) ending e2) (record {
-          generation = number.0;
-          tag = other.0;
-          is = inl (cut-sound 32 text p cut-is ∙ (ap (λ (xs : List ℕ). xs ++ 32 ∷ p.1) number.1 ∙ ap (λ (xs : List ℕ). decimal generation ++ 32 ∷ xs) other.1));
-        })))
+    is : text ≡ all_numbers z c
+    is =
+        first ∙ (ap (λ (xs : List ℕ). spaced (decimal z.lanes) xs) second
+        ∙ ap (λ (xs : List ℕ). spaced (decimal z.lanes) (spaced (decimal z.first_page) xs)) third)
 
--- the text of a shape's numbers
-record HasNumbers (text : List ℕ) (z : Shape) : Type 0 where
-  pub numbers : AreNumbers z
-  pub is : (text ≡ four_numbers z (ending_text z true)) ⊎ ((z.tag ≡ 0) × (text ≡ four_numbers z (ending_text z false)))
+    at : (c ≡ ending_text z true) ⊎ ((z.tag ≡ 0) × (c ≡ ending_text z false)) → IsShapeText z ((codes "shape " ++ text) ++ codes "\n")
+    at (inl tagged) = inl (line-of z true text c is tagged)
+    at (inr (none, untagged)) = inr (none, line-of z false text c is untagged)
 
-numbers-sound : (text : List ℕ) (z : Shape) → numbers_of text ≡ Some z → HasNumbers text z
-unfolding numbers_of
-numbers-sound text z e =
-    option_and_then_some _ (cut 32 text) z e (λ front cut-front e1.
-    option_and_then_some _ (number_of 4294967295 front.0) z e1 (λ lanes lanes-is e2.
-    option_and_then_some _ (cut 32 front.1) z e2 (λ middle cut-middle e3.
-    option_and_then_some _ (number_of 4294967295 middle.0) z e3 (λ first_page first_page-is e4.
-    option_and_then_some _ (cut 32 middle.1) z e4 (λ back cut-back e5.
-    option_and_then_some _ (number_of 4294967295 back.0) z e5 (λ pages pages-is e6.
-    option_and_then_some _ (ending_at back.1 (cut 32 back.1)) z e6 (λ ending ending-is e7.
-    let one = number_of-sound 4294967295 front.0 lanes lanes-is in
-    let two = number_of-sound 4294967295 middle.0 first_page first_page-is in
-    let three = number_of-sound 4294967295 back.0 pages pages-is in
-    let last = ending-sound back.1 ending ending-is in
-    let found : Shape = record { lanes = lanes; first_page = first_page; pages = pages; last_generation = ending.0; tag = ending.1 } in
-    let grouped : text ≡ four_numbers found back.1 =
-    cut-sound 32 text front cut-front
-    ∙ (ap (λ (xs : List ℕ). xs ++ 32 ∷ front.1) one.1
-    ∙ (ap (λ (xs : List ℕ). decimal lanes ++ 32 ∷ xs) (cut-sound 32 front.1 middle cut-middle)
-    ∙ (ap (λ (xs : List ℕ). decimal lanes ++ 32 ∷ (xs ++ 32 ∷ middle.1)) two.1
-    ∙ (ap (λ (xs : List ℕ). decimal lanes ++ 32 ∷ (decimal first_page ++ 32 ∷ xs)) (cut-sound 32 middle.1 back cut-back)
-    ∙ ap (λ (xs : List ℕ). decimal lanes ++ 32 ∷ (decimal first_page ++ 32 ∷ (xs ++ 32 ∷ back.1))) three.1)))) in
-    subst (λ (y : Shape). HasNumbers text y) (same_Some found z e7) (record {
-      numbers = record { lanes = one.0; first_page = two.0; pages = three.0; last_generation = last.generation; tag = last.tag };
-      is = elim last.is [
-        | inl tagged ↦ inl (grouped ∙ ap (four_numbers found) tagged)
-        | inr untagged ↦ inr (untagged.0, grouped ∙ ap (four_numbers found) untagged.1)
-      ];
-    }))))))))
+-- where a line is refused
 
-word-sound : (line : List ℕ) (z : Shape) (p : List ℕ × List ℕ) → cut 32 line ≡ Some p → (b : Bool) → bytes_eq p.0 (codes "shape") ≡ b → cond b (numbers_of p.1) None ≡ Some z → (line ≡ codes "shape " ++ p.1) × HasNumbers p.1 z
-word-sound line z p cut-is true test found =
-    (cut-sound 32 line p cut-is ∙ ap (λ (xs : List ℕ). xs ++ 32 ∷ p.1) ((bytes_eq-Decides p.0 (codes "shape")).0 test), numbers-sound p.1 z found)
-word-sound line z p cut-is false test found = absurd (cc)
+pub shape-uncut : (line : List ℕ) → Without 32 line → NothingHas IsShapeOf line
+shape-uncut line none z has = let p = parted z line has in uncut 32 line (codes "shape") (all_numbers z p.ending) none p.is
 
--- a line that is read is that of its shape
-pub shape_of-sound : (line : List ℕ) (z : Shape) → shape_of line ≡ Some z → AreNumbers z × IsShapeText z (line ++ 10 ∷ [])
-unfolding shape_of
-shape_of-sound line z e =
-    option_and_then_some (λ (p : List ℕ × List ℕ). cond (bytes_eq p.0 (codes "shape")) (numbers_of p.1) None) (cut 32 line) z e (λ p cut-is e1.
-    let (worded, has) = word-sound line z p cut-is (bytes_eq p.0 (codes "shape")) refl e1 in (
-      has.numbers,
-      elim has.is [
-        | inl tagged ↦ inl (ap (λ (xs : List ℕ). xs ++ 10 ∷ []) (worded ∙ (ap (λ (xs : List ℕ). codes "shape " ++ xs) tagged ∙ sym (shape_line-parts z true))))
-        | inr untagged ↦ inr (untagged.0, ap (λ (xs : List ℕ). xs ++ 10 ∷ []) (worded ∙ (ap (λ (xs : List ℕ). codes "shape " ++ xs) untagged.1 ∙ sym (shape_line-parts z false))))
-      ],
-    ))
+pub shape-unworded : (line a b : List ℕ) → IsCut 32 line a b → a ≢ codes "shape" → NothingHas IsShapeOf line
+shape-unworded line a b (cuts, one) other z has =
+    let p = parted z line has in
+    other (one-cut 32 a b (codes "shape") (all_numbers z p.ending) one (lacks-Without 32 (codes "shape") refl) (sym cuts ∙ p.is)).0
+
+-- these are the numbers behind the word
+abbrev pub AreNumbersOf : Shape → List ℕ → Type 0
+AreNumbersOf z numbers = IsShapeOf z (codes "shape " ++ numbers)
+
+behind-word : (z : Shape) (text : List ℕ) (p : IsParted z (codes "shape " ++ text)) → text ≡ all_numbers z p.ending
+behind-word z text p = append_cancel_left (codes "shape ") text (all_numbers z p.ending) p.is
+
+pub no-lanes : (text : List ℕ) → IsNotLed 4294967295 text → NothingHas AreNumbersOf text
+no-lanes text never z has =
+    let p = parted z (codes "shape " ++ text) has in never z.lanes (behind_lanes z p.ending) has.0.lanes (behind-word z text p)
+
+lanes-led : (lanes : ℕ) (text a : List ℕ) (z : Shape) (ending : List ℕ) → AreNumbers z → IsLed 4294967295 lanes text a
+    → text ≡ all_numbers z ending → a ≡ behind_lanes z ending
+lanes-led lanes text a z ending numbers (low, led) is = (one-u32 lanes z.lanes a (behind_lanes z ending) low numbers.lanes (sym led ∙ is)).1
+
+first_page-led : (first_page : ℕ) (a b : List ℕ) (z : Shape) (ending : List ℕ) → AreNumbers z → IsLed 4294967295 first_page a b
+    → a ≡ behind_lanes z ending → b ≡ behind_first_page z ending
+first_page-led first_page a b z ending numbers (low, led) is =
+    (one-u32 first_page z.first_page b (behind_first_page z ending) low numbers.first_page (sym led ∙ is)).1
+
+pages-led : (pages : ℕ) (b c : List ℕ) (z : Shape) (ending : List ℕ) → AreNumbers z → IsLed 4294967295 pages b c
+    → b ≡ behind_first_page z ending → c ≡ ending
+pages-led pages b c z ending numbers (low, led) is = (one-u32 pages z.pages c ending low numbers.pages (sym led ∙ is)).1
+
+pub no-first_page : (lanes : ℕ) (text a : List ℕ) → IsLed 4294967295 lanes text a → IsNotLed 4294967295 a → NothingHas AreNumbersOf text
+no-first_page lanes text a first never z has =
+    let p = parted z (codes "shape " ++ text) has in
+    never z.first_page (behind_first_page z p.ending) has.0.first_page (lanes-led lanes text a z p.ending has.0 first (behind-word z text p))
+
+pub no-pages : (lanes first_page : ℕ) (text a b : List ℕ) → IsLed 4294967295 lanes text a → IsLed 4294967295 first_page a b
+    → IsNotLed 4294967295 b → NothingHas AreNumbersOf text
+no-pages lanes first_page text a b first second never z has =
+    let p = parted z (codes "shape " ++ text) has in
+    never z.pages p.ending has.0.pages
+    (first_page-led first_page a b z p.ending has.0 second (lanes-led lanes text a z p.ending has.0 first (behind-word z text p)))
+
+pub no-last : (lanes first_page pages : ℕ) (text a b c : List ℕ) → IsLed 4294967295 lanes text a → IsLed 4294967295 first_page a b
+    → IsLed 4294967295 pages b c → NothingHas AreLast c → NothingHas AreNumbersOf text
+no-last lanes first_page pages text a b c first second third never z has =
+    let p = parted z (codes "shape " ++ text) has in
+    let same : c ≡ p.ending =
+    pages-led pages b c z p.ending has.0 third
+    (first_page-led first_page a b z p.ending has.0 second (lanes-led lanes text a z p.ending has.0 first (behind-word z text p))) in
+    never (z.last_generation, z.tag) (subst (λ (xs : List ℕ). AreLast (z.last_generation, z.tag) xs) (sym same) p.last)
+
+pub no-tag : (generation : ℕ) (text rest : List ℕ) → IsLed 4294967295 generation text rest → IsNoNumber 4294967295 rest
+    → NothingHas AreLast text
+no-tag generation text rest (low, is) never (g, t) (few, less, inl tagged) =
+    never t less (one-u32 generation g rest (decimal t) low few (sym is ∙ tagged)).1
+no-tag generation text rest (low, is) never (g, t) (few, less, inr (none, untagged)) =
+    uncut 32 (decimal g) (decimal generation) rest (u32-Without 32 g (omega arith) few) (sym untagged ∙ is)
+
+-- a line is that of one shape
+
+last-same : (g t h u : ℕ) (text : List ℕ) → AreLast (g, t) text → AreLast (h, u) text → (g ≡ h) × (t ≡ u)
+last-same g t h u text (low, small, inl one) (few, less, inl two) =
+    let (generations, tags) = one-u32 g h (decimal t) (decimal u) low few (sym one ∙ two) in (generations, u32-same t u small less tags)
+last-same g t h u text (low, small, inl one) (few, less, inr (none, two)) =
+    absurd (uncut 32 (decimal h) (decimal g) (decimal t) (u32-Without 32 h (omega arith) few) (sym two ∙ one))
+last-same g t h u text (low, small, inr (none, one)) (few, less, inl two) =
+    absurd (uncut 32 (decimal g) (decimal h) (decimal u) (u32-Without 32 g (omega arith) low) (sym one ∙ two))
+last-same g t h u text (low, small, inr (none, one)) (few, less, inr (nothing, two)) =
+    (u32-same g h low few (sym one ∙ two), none ∙ sym nothing)
+
+abbrev shape_with : ℕ → ℕ → ℕ → ℕ → ℕ → Shape
+shape_with lanes first_page pages generation tag =
+    record { lanes = lanes; first_page = first_page; pages = pages; last_generation = generation; tag = tag }
+
+fields-same : (y z : Shape) → y.lanes ≡ z.lanes → y.first_page ≡ z.first_page → y.pages ≡ z.pages → y.last_generation ≡ z.last_generation
+    → y.tag ≡ z.tag → y ≡ z
+fields-same y z one two three four five =
+    ap (λ (n : ℕ). shape_with n y.first_page y.pages y.last_generation y.tag) one
+    ∙ (ap (λ (n : ℕ). shape_with z.lanes n y.pages y.last_generation y.tag) two
+    ∙ (ap (λ (n : ℕ). shape_with z.lanes z.first_page n y.last_generation y.tag) three
+    ∙ (ap (λ (n : ℕ). shape_with z.lanes z.first_page z.pages n y.tag) four
+    ∙ ap (λ (n : ℕ). shape_with z.lanes z.first_page z.pages z.last_generation n) five)))
+
+pub shape-same : (y z : Shape) (line : List ℕ) → IsShapeOf y line → IsShapeOf z line → y ≡ z
+shape-same y z line has also =
+    let p = parted y line has in
+    let q = parted z line also in
+    let whole : all_numbers y p.ending ≡ all_numbers z q.ending =
+    append_cancel_left (codes "shape ") (all_numbers y p.ending) (all_numbers z q.ending) (sym p.is ∙ q.is) in
+    let (lanes, first) = one-u32 y.lanes z.lanes (behind_lanes y p.ending) (behind_lanes z q.ending) has.0.lanes also.0.lanes whole in
+    let (first_pages, second) =
+    one-u32 y.first_page z.first_page (behind_first_page y p.ending) (behind_first_page z q.ending) has.0.first_page also.0.first_page first in
+    let (pages, third) = one-u32 y.pages z.pages p.ending q.ending has.0.pages also.0.pages second in
+    let (generations, tags) =
+    last-same y.last_generation y.tag z.last_generation z.tag p.ending p.last
+    (subst (λ (xs : List ℕ). AreLast (z.last_generation, z.tag) xs) (sym third) q.last) in
+    fields-same y z lanes first_pages pages generations tags
+
+-- a line of a shape has no line feed
+
+led-Without : (n : ℕ) (text : List ℕ) → n ≤ 4294967295 → Without 10 text → Without 10 (spaced (decimal n) text)
+led-Without n text low rest = spaced-Without 10 (decimal n) text (omega arith) (u32-Without 10 n (omega arith) low) rest
+
+last-Without : (g t : ℕ) (text : List ℕ) → AreLast (g, t) text → Without 10 text
+last-Without g t text (low, small, inl is) =
+    subst (λ (xs : List ℕ). Without 10 xs) (sym is) (led-Without g (decimal t) low (u32-Without 10 t (omega arith) small))
+last-Without g t text (low, small, inr (none, is)) = subst (λ (xs : List ℕ). Without 10 xs) (sym is) (u32-Without 10 g (omega arith) low)
+
+pub shape-Without : (z : Shape) (line : List ℕ) → IsShapeOf z line → Without 10 line
+shape-Without z line has =
+    let p = parted z line has in
+    subst (λ (xs : List ℕ). Without 10 xs) (sym p.is)
+    (Without-append 10 (codes "shape ") (all_numbers z p.ending) (lacks-Without 10 (codes "shape ") refl)
+    (led-Without z.lanes (behind_lanes z p.ending) has.0.lanes
+    (led-Without z.first_page (behind_first_page z p.ending) has.0.first_page
+    (led-Without z.pages p.ending has.0.pages (last-Without z.last_generation z.tag p.ending p.last)))))

@@ -1,9 +1,8 @@
 -- What a text of acts stands for, by its lines.
-use Rattle.std.proofs.Common.{◌≡◌, ℕ, List, [], ◌∷◌, ◌++◌, map, flat_map, Some, None, Result, Ok, Err, option_map, refl, sym, ap, ◌∙◌, subst, inl, inr, cond, nat_eq}
+use Rattle.std.proofs.Common.{◌≡◌, ℕ, ◌<◌, List, [], ◌∷◌, ◌++◌, length, flat_map, true, false, Result, Ok, Err, refl, sym, ap, ◌∙◌, subst, inl, inr, cond, nat_eq, arith, length-append}
 use Rattle.std.specs.List.{AllByRecursion}
 use Rattle.std.specs.Result.{MatchResult}
 use Rattle.std.proofs.lemmas.Bool.{cases_order}
-use Rattle.std.proofs.lemmas.Option.{same_Some, option_and_then_some}
 use Rattle.keybits.specs.declared.shape.Shape.{Shape}
 use Rattle.keybits.specs.declared.shape.ShapeFault.{ShapeFault}
 use Rattle.keybits.specs.declared.shape.ShapeFault.TheVariants as shapes
@@ -12,120 +11,170 @@ use Rattle.keybits.specs.ShapeFaults.{fault_number, IsWithin, IsFirstFault}
 use Rattle.seqpool.specs.declared.act.Act.{Act}
 use Rattle.seqpool.specs.declared.acts_fault.ActsFault.{ActsFault}
 use Rattle.seqpool.specs.declared.acts_fault.ActsFault.TheVariants as acts_faults
-use Rattle.seqpool.specs.ActsText.{act_line, act_text, HasLine, IsUpToLineFeed, BeginsWith, StandsFor, HasShapeFault, StandsForNothing, RefusesText}
-use Rattle.seqpool.specs.ActsReader.{Refuses, each, lines, act_of, shape_of}
-use Rattle.seqpool.proofs.Parts.{each-part, option_map-some}
-use Rattle.seqpool.proofs.ReadLines.{IsLine, unlines, lines-text, lines-first, unlines-lines}
-use Rattle.seqpool.proofs.ActTexts.{act_of-again, act_of-sound, act_line-IsLine}
-use Rattle.seqpool.proofs.ShapeTexts.{shape_of-again, shape_of-sound}
+use Rattle.seqpool.specs.ActsText.{act_line, act_text, shape_line, HasLine, IsShapeText, AreNumbers, IsUpToLineFeed, BeginsWith, StandsFor, HasShapeFault, StandsForNothing, RefusesText}
+use Rattle.seqpool.specs.ReadTexts.{NothingHas, Refuses, IsAct, AreActs, IsShapeOf, IsFirstLine}
+use Rattle.seqpool.proofs.Parts.{IsFirst, one-cut}
+use Rattle.seqpool.proofs.ReadLines.{lined, lined-is, lined-end, first-split, first-join, AreAlike, heads-same}
+use Rattle.seqpool.proofs.ActTexts.{act-same, act_line-IsLine}
+use Rattle.seqpool.proofs.ShapeTexts.{shape-same, shape-Without}
 
-acts-unlines : (acts : List Act) → flat_map act_text acts ≡ unlines (map act_line acts)
-acts-unlines [] = refl
-acts-unlines (act ∷ acts) = ap (λ (xs : List ℕ). (act_line act ++ 10 ∷ []) ++ xs) (acts-unlines acts)
+-- acts whose text is empty are none
+no-text : (acts : List Act) → AllByRecursion HasLine acts → IsUpToLineFeed [] (flat_map act_text acts) → acts ≡ []
+no-text [] all up = refl
+no-text (act ∷ acts) all (inl whole) =
+    let long : 0 ≡ length (act_line act ++ 10 ∷ flat_map act_text acts) = ap length (whole ∙ lined-is (act_line act) (flat_map act_text acts)) in
+    absurd (omega (arith, length-append (act_line act) (10 ∷ flat_map act_text acts)))
+no-text (act ∷ acts) all (inr lacking) =
+    let line = act_line-IsLine act all.0 in
+    let cuts = one-cut 10 [] [] (act_line act) (flat_map act_text acts) tt line.one (lacking ∙ lined-is (act_line act) (flat_map act_text acts)) in
+    let some : 0 < length (act_line act) = line.some in
+    let none : 0 ≡ length (act_line act) = ap length cuts.0 in absurd (omega arith)
 
-each-again : (acts : List Act) → AllByRecursion HasLine acts → each act_of (map act_line acts) ≡ Some acts
-each-again [] all = refl
-each-again (act ∷ acts) all =
-    each-part act_of (act_line act) (map act_line acts) act (act_of-again act all.0) ∙ ap (option_map (λ (xs : List Act). act ∷ xs)) (each-again acts all.1)
+-- the rest of a text whose rest is empty
+nothing-more : (acts : List Act) (rest : List ℕ) → AreActs acts rest → rest ≡ [] → flat_map act_text acts ≡ []
+nothing-more acts rest (all, up) empty =
+    ap (flat_map act_text) (no-text acts all (subst (λ (xs : List ℕ). IsUpToLineFeed xs (flat_map act_text acts)) empty up))
 
-lines-all : (acts : List Act) → AllByRecursion HasLine acts → AllByRecursion IsLine (map act_line acts)
-lines-all [] all = tt
-lines-all (act ∷ acts) all = (act_line-IsLine act all.0, lines-all acts all.1)
+-- a text with a byte is not that of no acts
+no-acts-text : (s : List ℕ) → 0 < length s → IsUpToLineFeed s [] → ⊥
+no-acts-text s some (inl none) = let zero : length s ≡ 0 = ap length none in omega arith
+no-acts-text s some (inr none) = let zero : length (s ++ 10 ∷ []) ≡ 0 = ap length none in omega (arith, length-append s (10 ∷ []))
 
--- the lines that are read as these acts
-record AreRead (ls : List (List ℕ)) (acts : List Act) : Type 0 where
-  pub all : AllByRecursion HasLine acts
-  pub is : unlines ls ≡ flat_map act_text acts
+-- a line that is read is that of the first act
+pub acts-first : (act : Act) (line rest s : List ℕ) → 0 < length s → IsFirstLine line rest s → IsAct act line → IsFirst AreActs act s rest
+acts-first act line rest s some first is = record { on = on; only = only }
+  where
+    on : (more : List Act) → AreActs more rest → AreActs (act ∷ more) s
+    on more h = (
+      (is.0, h.0),
+      subst (λ (xs : List ℕ). IsUpToLineFeed s (lined xs (flat_map act_text more))) is.1
+          (first-join line rest s (flat_map act_text more) first h.1 (nothing-more more rest h)),
+    )
 
-each-sound : (ls : List (List ℕ)) (acts : List Act) → each act_of ls ≡ Some acts → AreRead ls acts
-each-sound [] acts e = let none : [] ≡ acts = same_Some [] acts e in subst (λ (xs : List Act). AreRead [] xs) none (record { all = tt; is = refl })
-each-sound (line ∷ ls) acts e =
-    option_and_then_some (λ x. option_map (λ xs. x ∷ xs) (each act_of ls)) (act_of line) acts e (λ act one e1.
-    let (others, rest, same) = option_map-some (λ (xs : List Act). act ∷ xs) (each act_of ls) acts e1 in
-    let first = act_of-sound line act one in
-    let later = each-sound ls others rest in
-    subst (λ (xs : List Act). AreRead (line ∷ ls) xs) same (record {
-      all = (first.0, later.all);
-      is = ap (λ (xs : List ℕ). (xs ++ 10 ∷ []) ++ unlines ls) first.1 ∙ ap (λ (xs : List ℕ). act_text act ++ xs) later.is;
-    }))
+    only : (all : List Act) → AreActs all s → (more : List Act) × (all ≡ act ∷ more) × AreActs more rest
+    only [] (all, up) = absurd (no-acts-text s some up)
+    only (other ∷ more) (all, up) =
+        let (line-is, goes) = first-split line rest s (act_line other) (flat_map act_text more) first (act_line-IsLine other all.0).one up in
+        (more, ap (λ (x : Act). x ∷ more) (act-same other act line (all.0, line-is) is), (all.1, goes))
 
-up-to-is : (bytes text other : List ℕ) → text ≡ other → IsUpToLineFeed bytes text → IsUpToLineFeed bytes other
-up-to-is bytes text other same (inl whole) = inl (whole ∙ same)
-up-to-is bytes text other same (inr lacking) = inr (lacking ∙ same)
+-- a first line that is no act's
+pub acts-never : (line rest s : List ℕ) → 0 < length s → IsFirstLine line rest s → NothingHas IsAct line → NothingHas AreActs s
+acts-never line rest s some first never [] (all, up) = no-acts-text s some up
+acts-never line rest s some first never (other ∷ more) (all, up) =
+    never other (all.0, (first-split line rest s (act_line other) (flat_map act_text more) first (act_line-IsLine other all.0).one up).0)
+
+-- no lines are left
+pub acts-end : (s : List ℕ) → length s ≡ 0 → AreActs [] s
+acts-end [] none = (tt, inl refl)
+acts-end (x ∷ s) none = absurd (omega arith)
+
+-- the text of acts does not end in a line that is empty
+flat-never : (xs ys : List Act) → AllByRecursion HasLine xs → AllByRecursion HasLine ys
+    → flat_map act_text xs ++ 10 ∷ [] ≡ flat_map act_text ys → ⊥
+flat-never [] ys all each is =
+    let none : ys ≡ [] = no-text ys each (inr is) in
+    let long : 1 ≡ length (flat_map act_text ys) = ap length is in
+    let zero : length (flat_map act_text ys) ≡ 0 = ap (λ (zs : List Act). length (flat_map act_text zs)) none in omega arith
+flat-never (x ∷ xs) [] all each is =
+    let long : length (flat_map act_text (x ∷ xs) ++ 10 ∷ []) ≡ 0 = ap length is in
+    omega (arith, length-append (flat_map act_text (x ∷ xs)) (10 ∷ []))
+flat-never (x ∷ xs) (y ∷ ys) all each is =
+    let cuts = one-cut 10 (act_line x) (flat_map act_text xs ++ 10 ∷ []) (act_line y) (flat_map act_text ys) (act_line-IsLine x all.0).one
+    (act_line-IsLine y each.0).one (sym (lined-end (act_line x) (flat_map act_text xs)) ∙ (is ∙ lined-is (act_line y) (flat_map act_text ys))) in
+    flat-never xs ys all.1 each.1 cuts.1
+
+-- a text is that of one list of acts
+flat-same : (xs ys : List Act) → AllByRecursion HasLine xs → AllByRecursion HasLine ys → flat_map act_text xs ≡ flat_map act_text ys
+    → xs ≡ ys
+flat-same [] ys all each is = sym (no-text ys each (inl is))
+flat-same (x ∷ xs) [] all each is = no-text (x ∷ xs) all (inl (sym is))
+flat-same (x ∷ xs) (y ∷ ys) all each is =
+    let cuts = one-cut 10 (act_line x) (flat_map act_text xs) (act_line y) (flat_map act_text ys) (act_line-IsLine x all.0).one
+    (act_line-IsLine y each.0).one (sym (lined-is (act_line x) (flat_map act_text xs)) ∙ (is ∙ lined-is (act_line y) (flat_map act_text ys))) in
+    ap (λ (a : Act). a ∷ xs) (act-same x y (act_line x) (all.0, refl) (each.0, cuts.0))
+    ∙ ap (λ (more : List Act). y ∷ more) (flat-same xs ys all.1 each.1 cuts.1)
+
+alike-same : (xs ys : List Act) → AllByRecursion HasLine xs → AllByRecursion HasLine ys
+    → AreAlike (flat_map act_text xs) (flat_map act_text ys) → xs ≡ ys
+alike-same xs ys all each (inl is) = flat-same xs ys all each is
+alike-same xs ys all each (inr (inl is)) = absurd (flat-never xs ys all each is)
+alike-same xs ys all each (inr (inr is)) = absurd (flat-never ys xs each all is)
 
 -- the text begins with the shape of its first line
-pub begins : (bytes line : List ℕ) (more : List (List ℕ)) (z : Shape) → lines bytes ≡ line ∷ more → shape_of line ≡ Some z → BeginsWith bytes z
-begins bytes line more z is read =
-    let shape = shape_of-sound line z read in
-    record {
-      numbers = shape.0;
-      first = line ++ 10 ∷ [];
-      first_line = shape.1;
-      rest = unlines more;
-      text = up-to-is bytes (unlines (lines bytes)) (unlines (line ∷ more)) (ap unlines is) (unlines-lines bytes);
-    }
+pub begins : (bytes line rest : List ℕ) (z : Shape) → IsFirstLine line rest bytes → IsShapeOf z line → BeginsWith bytes z
+begins bytes line rest z first shape = record {
+  numbers = shape.0;
+  first = line ++ 10 ∷ [];
+  first_line = shape.1;
+  rest = rest;
+  text = first-join line rest bytes rest first (inl refl) (λ empty. empty);
+}
 
 -- the text stands for the shape of its first line and the acts of the others
-pub stands : (bytes line : List ℕ) (more : List (List ℕ)) (z : Shape) (acts : List Act) → lines bytes ≡ line ∷ more → shape_of line ≡ Some z → IsShape z → each act_of more ≡ Some acts → StandsFor bytes z acts
-stands bytes line more z acts is read checked found =
-    let shape = shape_of-sound line z read in
-    let are = each-sound more acts found in
-    record {
-      checked = checked;
-      numbers = shape.0;
-      lines = are.all;
-      first = line ++ 10 ∷ [];
-      first_line = shape.1;
-      text = up-to-is bytes (unlines (lines bytes)) ((line ++ 10 ∷ []) ++ flat_map act_text acts)
-          (ap unlines is ∙ ap (λ (xs : List ℕ). (line ++ 10 ∷ []) ++ xs) are.is) (unlines-lines bytes);
-    }
+pub stands : (bytes line rest : List ℕ) (z : Shape) (acts : List Act) → IsFirstLine line rest bytes → IsShapeOf z line → IsShape z
+    → AreActs acts rest → StandsFor bytes z acts
+stands bytes line rest z acts first shape checked are = record {
+  checked = checked;
+  numbers = shape.0;
+  lines = are.0;
+  first = line ++ 10 ∷ [];
+  first_line = shape.1;
+  text = first-join line rest bytes (flat_map act_text acts) first are.1 (nothing-more acts rest are);
+}
 
--- the first line of a text, and the shape of it
-record FirstShape (bytes : List ℕ) (z : Shape) : Type 0 where
+-- the line of a shape that a text begins with
+record HasHead (bytes : List ℕ) (z : Shape) (rest : List ℕ) : Type 0 where
   pub line : List ℕ
-  pub more : List (List ℕ)
-  pub is : lines bytes ≡ line ∷ more
-  pub read : shape_of line ≡ Some z
+  pub shape : IsShapeOf z line
+  pub text : IsUpToLineFeed bytes (lined line rest)
 
-begins-read : (bytes : List ℕ) (z : Shape) → BeginsWith bytes z → FirstShape bytes z
-begins-read bytes z begun =
-    let (line, shape) = shape_of-again z begun.first begun.numbers begun.first_line in
-    let (more, is) = lines-first bytes line begun.rest shape.line (up-to-is bytes (begun.first ++ begun.rest) ((line ++ 10 ∷ []) ++ begun.rest) (ap (λ (xs : List ℕ). xs ++ begun.rest) shape.is) begun.text) in
-    record { line = line; more = more; is = is; read = shape.read }
+head-of : (bytes : List ℕ) (z : Shape) (first rest : List ℕ) → AreNumbers z → IsShapeText z first → IsUpToLineFeed bytes (first ++ rest)
+    → HasHead bytes z rest
+head-of bytes z first rest numbers (inl tagged) text = record {
+  line = shape_line z true;
+  shape = (numbers, inl refl);
+  text = subst (λ (xs : List ℕ). IsUpToLineFeed bytes (xs ++ rest)) tagged text;
+}
+head-of bytes z first rest numbers (inr (none, untagged)) text = record {
+  line = shape_line z false;
+  shape = (numbers, inr (none, refl));
+  text = subst (λ (xs : List ℕ). IsUpToLineFeed bytes (xs ++ rest)) untagged text;
+}
 
--- the lines of a text that stands for a shape and acts
-record AllRead (bytes : List ℕ) (z : Shape) (acts : List Act) : Type 0 where
-  pub line : List ℕ
-  pub more : List (List ℕ)
-  pub is : lines bytes ≡ line ∷ more
-  pub read : shape_of line ≡ Some z
-  pub acts_read : each act_of more ≡ Some acts
+begins-head : (bytes : List ℕ) (z : Shape) (begun : BeginsWith bytes z) → HasHead bytes z begun.rest
+begins-head bytes z begun = head-of bytes z begun.first begun.rest begun.numbers begun.first_line begun.text
 
-stands-read : (bytes : List ℕ) (z : Shape) (acts : List Act) → StandsFor bytes z acts → AllRead bytes z acts
-stands-read bytes z acts there =
-    let (line, shape) = shape_of-again z there.first there.numbers there.first_line in
-    record {
-      line = line;
-      more = map act_line acts;
-      is = lines-text bytes (line ∷ map act_line acts) (shape.line, lines-all acts there.lines)
-          (up-to-is bytes (there.first ++ flat_map act_text acts) (unlines (line ∷ map act_line acts))
-          (ap (λ (xs : List ℕ). xs ++ flat_map act_text acts) shape.is ∙ ap (λ (xs : List ℕ). (line ++ 10 ∷ []) ++ xs) (acts-unlines acts)) there.text);
-      read = shape.read;
-      acts_read = each-again acts there.lines;
-    }
+stands-head : (bytes : List ℕ) (z : Shape) (acts : List Act) → StandsFor bytes z acts → HasHead bytes z (flat_map act_text acts)
+stands-head bytes z acts there = head-of bytes z there.first (flat_map act_text acts) there.numbers there.first_line there.text
 
--- a text has one first shape
-first-same : (bytes : List ℕ) (y z : Shape) (line : List ℕ) (more : List (List ℕ)) → lines bytes ≡ line ∷ more → shape_of line ≡ Some y → FirstShape bytes z → y ≡ z
-first-same bytes y z line more is read first =
-    let same : line ≡ first.line = (let lists : line ∷ more ≡ first.line ∷ first.more = sym is ∙ first.is in cc) in
-    same_Some y z (sym read ∙ (ap shape_of same ∙ first.read))
+-- a text has one first shape, and one rest
+heads-are : (bytes : List ℕ) (y z : Shape) (r s : List ℕ) → HasHead bytes y r → HasHead bytes z s → (y ≡ z) × AreAlike r s
+heads-are bytes y z r s one two =
+    let (lines, rests) =
+    heads-same bytes one.line r two.line s (shape-Without y one.line one.shape) (shape-Without z two.line two.shape) one.text two.text in
+    (shape-same y z one.line one.shape (subst (λ (xs : List ℕ). IsShapeOf z xs) (sym lines) two.shape), rests)
 
 begins-same : (bytes : List ℕ) (y z : Shape) → BeginsWith bytes y → BeginsWith bytes z → y ≡ z
-begins-same bytes y z one two = let first = begins-read bytes y one in first-same bytes y z first.line first.more first.is first.read (begins-read bytes z two)
+begins-same bytes y z one two = (heads-are bytes y z one.rest two.rest (begins-head bytes y one) (begins-head bytes z two)).0
 
 stands-begins : (bytes : List ℕ) (z : Shape) (acts : List Act) → StandsFor bytes z acts → BeginsWith bytes z
 stands-begins bytes z acts there =
     record { numbers = there.numbers; first = there.first; first_line = there.first_line; rest = flat_map act_text acts; text = there.text }
+
+-- a text stands for one shape and one list of acts
+pub stands-same : (bytes : List ℕ) (y z : Shape) (some others : List Act) → StandsFor bytes y some → StandsFor bytes z others
+    → (y ≡ z) × (some ≡ others)
+stands-same bytes y z some others one two =
+    let (shapes-are, rests) =
+    heads-are bytes y z (flat_map act_text some) (flat_map act_text others) (stands-head bytes y some one) (stands-head bytes z others two) in
+    (shapes-are, alike-same some others one.lines two.lines rests)
+
+-- what the first line and the rest of a text are, where it has a head
+head-split : (bytes line rest : List ℕ) (z : Shape) (more : List ℕ) → IsFirstLine line rest bytes → HasHead bytes z more
+    → IsShapeOf z line × IsUpToLineFeed rest more
+head-split bytes line rest z more first head =
+    let (lines, goes) = first-split line rest bytes head.line more first (shape-Without z head.line head.shape) head.text in
+    (subst (λ (xs : List ℕ). IsShapeOf z xs) (sym lines) head.shape, goes)
 
 -- a checked shape has no fault
 checked-within : (z : Shape) (fault : ShapeFault) → IsShape z → IsWithin z fault
@@ -139,7 +188,9 @@ no-fault : (z : Shape) (fault : ShapeFault) → IsShape z → IsFirstFault z fau
 no-fault z fault checked first = first.0 (checked-within z fault checked)
 
 fault_at : ℕ → ShapeFault
-fault_at n = cond (nat_eq n 1) shapes.Lanes (cond (nat_eq n 2) shapes.FirstPage (cond (nat_eq n 3) shapes.Pages (cond (nat_eq n 4) shapes.Generation shapes.Tag)))
+fault_at n =
+    cond (nat_eq n 1) shapes.Lanes (cond (nat_eq n 2) shapes.FirstPage (cond (nat_eq n 3) shapes.Pages
+    (cond (nat_eq n 4) shapes.Generation shapes.Tag)))
 
 fault_at-number : (fault : ShapeFault) → fault_at (fault_number fault) ≡ fault
 unfolding fault_at
@@ -161,61 +212,46 @@ refused-shape : (bytes : List ℕ) (y : Shape) (fault : ShapeFault) → BeginsWi
 refused-shape bytes y fault begun checked (z, other, first) =
     no-fault z fault (subst (λ (x : Shape). IsShape x) (begins-same bytes y z begun other) checked) first
 
--- no line is that of a shape
-pub no-shape : (bytes line : List ℕ) (more : List (List ℕ)) → lines bytes ≡ line ∷ more → shape_of line ≡ None → StandsForNothing bytes
-no-shape bytes line more is none =
-    let never : (z : Shape) → BeginsWith bytes z → ⊥ = λ z begun.
-    let first = begins-read bytes z begun in
-    let lists : line ∷ more ≡ first.line ∷ first.more = sym is ∙ first.is in
-    let same : line ≡ first.line = cc in
-    let read : shape_of line ≡ Some z = ap shape_of same ∙ first.read in absurd (cc) in
-    record {
-      no_acts = λ z acts there. never z (stands-begins bytes z acts there);
-      no_fault = λ fault (z, begun, first). never z begun;
-    }
+-- the first line is none of a shape
+pub no-shape : (bytes line rest : List ℕ) → IsFirstLine line rest bytes → NothingHas IsShapeOf line → StandsForNothing bytes
+no-shape bytes line rest first never = record {
+  no_acts = λ z acts there. never z (head-split bytes line rest z (flat_map act_text acts) first (stands-head bytes z acts there)).0;
+  no_fault = λ fault (z, begun, is). never z (head-split bytes line rest z begun.rest first (begins-head bytes z begun)).0;
+}
 
--- a line can't be read as an act
-no-acts : (bytes line : List ℕ) (more : List (List ℕ)) (y : Shape) → lines bytes ≡ line ∷ more → shape_of line ≡ Some y → IsShape y → each act_of more ≡ None → StandsForNothing bytes
-no-acts bytes line more y is read checked none = record {
+-- the other lines are none of acts
+no-acts : (bytes line rest : List ℕ) (y : Shape) → IsFirstLine line rest bytes → IsShapeOf y line → IsShape y → NothingHas AreActs rest
+    → StandsForNothing bytes
+no-acts bytes line rest y first shape checked never = record {
   no_acts = λ z acts there.
-      let found = stands-read bytes z acts there in
-      let lists : line ∷ more ≡ found.line ∷ found.more = sym is ∙ found.is in
-      let same : more ≡ found.more = cc in
-      let some : each act_of more ≡ Some acts = ap (each act_of) same ∙ found.acts_read in absurd (cc);
-  no_fault = λ fault has. refused-shape bytes y fault (begins bytes line more y is read) checked has;
+      never acts (there.lines, (head-split bytes line rest z (flat_map act_text acts) first (stands-head bytes z acts there)).1);
+  no_fault = λ fault has. refused-shape bytes y fault (begins bytes line rest y first shape) checked has;
 }
 
 -- the acts' lines are refused
-pub refuses-text : (bytes line : List ℕ) (more : List (List ℕ)) (y : Shape) (fault : ActsFault) → lines bytes ≡ line ∷ more → shape_of line ≡ Some y → IsShape y
-    → Refuses (each act_of more) fault → RefusesText bytes fault
-refuses-text bytes line more y acts_faults.ActsLine is read checked refused = no-acts bytes line more y is read checked refused
-refuses-text bytes line more y (acts_faults.Shape fault) is read checked refused = absurd refused
-refuses-text bytes line more y acts_faults.Memory is read checked refused = (y, begins bytes line more y is read, checked)
-
--- a text stands for one shape and one list of acts
-pub stands-same : (bytes : List ℕ) (y z : Shape) (some others : List Act) → StandsFor bytes y some → StandsFor bytes z others → (y ≡ z) × (some ≡ others)
-stands-same bytes y z some others one two =
-    let first = stands-read bytes y some one in
-    let second = stands-read bytes z others two in
-    let lists : first.line ∷ first.more ≡ second.line ∷ second.more = sym first.is ∙ second.is in
-    let same : first.more ≡ second.more = cc in (
-      begins-same bytes y z (stands-begins bytes y some one) (stands-begins bytes z others two),
-      same_Some some others (sym first.acts_read ∙ (ap (each act_of) same ∙ second.acts_read)),
-    )
+pub refuses-text : (bytes line rest : List ℕ) (y : Shape) (fault : ActsFault) → IsFirstLine line rest bytes → IsShapeOf y line → IsShape y
+    → Refuses AreActs rest fault → RefusesText bytes fault
+refuses-text bytes line rest y acts_faults.ActsLine first shape checked refused = no-acts bytes line rest y first shape checked refused
+refuses-text bytes line rest y (acts_faults.Shape fault) first shape checked refused = absurd refused
+refuses-text bytes line rest y acts_faults.Memory first shape checked refused = (y, begins bytes line rest y first shape, checked)
 
 -- a text that stands for a shape and acts is refused for want of memory alone
-pub only-memory : (bytes : List ℕ) (z : Shape) (acts : List Act) (fault : ActsFault) → StandsFor bytes z acts → RefusesText bytes fault → fault ≡ acts_faults.Memory
+pub only-memory : (bytes : List ℕ) (z : Shape) (acts : List Act) (fault : ActsFault) → StandsFor bytes z acts → RefusesText bytes fault
+    → fault ≡ acts_faults.Memory
 only-memory bytes z acts acts_faults.ActsLine there refused = absurd (refused.no_acts z acts there)
-only-memory bytes z acts (acts_faults.Shape fault) there refused = absurd (refused-shape bytes z fault (stands-begins bytes z acts there) there.checked refused)
+only-memory bytes z acts (acts_faults.Shape fault) there refused =
+    absurd (refused-shape bytes z fault (stands-begins bytes z acts there) there.checked refused)
 only-memory bytes z acts acts_faults.Memory there refused = refl
 
 -- a text whose shape is refused is answered with its fault
 pub shape-refused : {X : Type 0} (bytes : List ℕ) (r : Result X ActsFault) (z_of : X → Shape) (acts_in : X → List Act) (fault : ShapeFault)
-    → MatchResult r (λ found. StandsFor bytes (z_of found) (acts_in found)) (RefusesText bytes) → HasShapeFault bytes fault → r ≡ Err (acts_faults.Shape fault)
+    → MatchResult r (λ found. StandsFor bytes (z_of found) (acts_in found)) (RefusesText bytes) → HasShapeFault bytes fault
+    → r ≡ Err (acts_faults.Shape fault)
 shape-refused bytes (Ok found) z_of acts_in fault answer has =
     absurd (refused-shape bytes (z_of found) fault (stands-begins bytes (z_of found) (acts_in found) answer) answer.checked has)
 shape-refused bytes (Err acts_faults.ActsLine) z_of acts_in fault answer has = absurd (answer.no_fault fault has)
 shape-refused {X} bytes (Err (acts_faults.Shape other)) z_of acts_in fault (y, begun, first) (z, begins-too, second) =
     let same : y ≡ z = begins-same bytes y z begun begins-too in
-    ap (λ (f : ShapeFault). let r : Result X ActsFault = Err (acts_faults.Shape f) in r) (one-fault z other fault (subst (λ (x : Shape). IsFirstFault x other) same first) second)
+    ap (λ (f : ShapeFault). let r : Result X ActsFault = Err (acts_faults.Shape f) in r)
+    (one-fault z other fault (subst (λ (x : Shape). IsFirstFault x other) same first) second)
 shape-refused bytes (Err acts_faults.Memory) z_of acts_in fault (y, begun, checked) has = absurd (refused-shape bytes y fault begun checked has)

@@ -1,5 +1,5 @@
 -- Acts as text: a line for the shape, and a line for each act. What the writer makes, and what a text stands for that is read.
-use Rattle.std.specs.Prelude.{◌≡◌, ◌==◌, ℕ, ◌+◌, ◌/◌, ◌%◌, Bool, true, false, not, nat_lt, List, [], ◌∷◌, ◌++◌, Some, None, flat_map, decimal, codes, IsPermutation, IsSorted, if◌then◌else◌, ◌≢◌, ◌⊎◌, ◌<◌, ◌≤◌}
+use Rattle.std.specs.Prelude.{◌≡◌, ◌==◌, ℕ, ◌+◌, ◌/◌, ◌%◌, Bool, true, false, not, nat_lt, List, [], ◌∷◌, ◌++◌, Option, Some, None, IfSome, flat_map, decimal, codes, IsPermutation, IsSorted, if◌then◌else◌, ◌≢◌, ◌⊎◌, ◌<◌, ◌≤◌}
 use Rattle.std.specs.List.{AllZip, AllByRecursion}
 use Rattle.std.specs.Ordering.{nat_cmp}
 use Rattle.keybits.specs.declared.shape.Shape.{Shape}
@@ -35,15 +35,27 @@ places_text [] = []
 places_text (place ∷ []) = decimal place
 places_text (place ∷ next ∷ more) = decimal place ++ codes "," ++ places_text (next ∷ more)
 
+-- whether a reference was made with a publish
+abbrev pub flag_text : Bool → List ℕ
+flag_text with_ref = decimal (if with_ref then 1 else 0)
+
+-- the reply of a get: a content, or none
+abbrev pub reply_text : Option (List ℕ) → List ℕ
+reply_text (Some content) = codes "some " ++ content_text content
+reply_text None = codes "none"
+
+-- the reply of a clear
+abbrev pub truth_text : Bool → List ℕ
+truth_text true = codes "true"
+truth_text false = codes "false"
+
 -- an act, without a line feed
 abbrev pub act_line : Act → List ℕ
 act_line (Publish lane key content with_ref) =
-    decimal lane ++ codes " publish " ++ decimal key ++ codes " " ++ content_text content ++ codes " " ++ decimal (if with_ref then 1 else 0)
-act_line (Get lane key (Some content)) = decimal lane ++ codes " get " ++ decimal key ++ codes " some " ++ content_text content
-act_line (Get lane key None) = decimal lane ++ codes " get " ++ decimal key ++ codes " none"
+    decimal lane ++ codes " publish " ++ decimal key ++ codes " " ++ content_text content ++ codes " " ++ flag_text with_ref
+act_line (Get lane key reply) = decimal lane ++ codes " get " ++ decimal key ++ codes " " ++ reply_text reply
 act_line (Release lane key) = decimal lane ++ codes " release " ++ decimal key
-act_line (Clear lane key true) = decimal lane ++ codes " clear " ++ decimal key ++ codes " true"
-act_line (Clear lane key false) = decimal lane ++ codes " clear " ++ decimal key ++ codes " false"
+act_line (Clear lane key reply) = decimal lane ++ codes " clear " ++ decimal key ++ codes " " ++ truth_text reply
 act_line (Reclaim lane key) = decimal lane ++ codes " reclaim " ++ decimal key
 act_line (Home lane place) = decimal lane ++ codes " home " ++ decimal place
 act_line (Collect lane places) = decimal lane ++ codes " collect " ++ places_text places
@@ -93,8 +105,7 @@ AreBytes bytes = AllByRecursion (λ b. b < 256) bytes
 -- an act that has a line: its numbers are within their ranges, and a collect has one or more places
 abbrev pub HasLine : Act → Type 0
 HasLine (Publish lane key content with_ref) = IsU32 lane × IsKeyNumber key × AreBytes content
-HasLine (Get lane key (Some content)) = IsU32 lane × IsKeyNumber key × AreBytes content
-HasLine (Get lane key None) = IsU32 lane × IsKeyNumber key
+HasLine (Get lane key reply) = IsU32 lane × IsKeyNumber key × IfSome reply AreBytes
 HasLine (Release lane key) = IsU32 lane × IsKeyNumber key
 HasLine (Clear lane key reply) = IsU32 lane × IsKeyNumber key
 HasLine (Reclaim lane key) = IsU32 lane × IsKeyNumber key

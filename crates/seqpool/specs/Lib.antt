@@ -5,4 +5,4 @@ pub mod Refusals
 pub mod Rows
 pub mod Checker
 pub mod ActsText
-pub mod ActsReader
+pub mod ReadTexts

@@ -1,8 +1,8 @@
 //! The fields of a line of acts.
 
-ghost use Rattle.std.specs.Prelude.{◌≡◌, ◌==◌, ◌≤◌, IfSome, option_map, position};
-ghost use Rattle.std.specs.Str.{bytes_eq};
-ghost use Rattle.seqpool.specs.ActsReader.{cut, number_of, digit_of, byte_of, bytes_of, content_of, places_of, flag_of, truth_of, some_of, reply_of, name_of, Reads};
+ghost use Rattle.std.specs.Prelude.{◌≡◌, ◌↔◌, ◌==◌, ◌≤◌, ◌<◌, ◌++◌, ◌∷◌, ℕ, List, [], IsTrue, MatchOption, decimal, codes, position};
+ghost use Rattle.seqpool.specs.ActsText.{hex_digit, hex_pair, content_text, flag_text, truth_text, AreBytes};
+ghost use Rattle.seqpool.specs.ReadTexts.{Without, spaced, name_text, Finds, Reads, ArePairs, IsContent, IsReply, ArePlaces};
 
 use crate::act::ActName;
 use crate::acts_fault::ActsFault;
@@ -13,7 +13,7 @@ use std::str::from_utf8;
 
 /// Whether a text is this word.
 pub(crate) fn is_word(text: &[u8], word: &str) -> bool
-    ensures { result ≡ bytes_eq text.now word.now }
+    ensures { IsTrue result ↔ text.now ≡ word.now }
 {
     text == word.as_bytes()
 }
@@ -27,7 +27,8 @@ fn first_of(text: &[u8], separator: u8) -> Option<usize>
 
 /// What is before the first such byte of a text, and what is after it.
 pub(crate) fn cut(text: &[u8], separator: u8) -> Option<(&[u8], &[u8])>
-    ensures { option_map (λ p. (p.0.now, p.1.now)) result ≡ cut separator text.now }
+    ensures { MatchOption result (Without separator text.now)
+        (λ p. (text.now ≡ p.0.now ++ separator ∷ p.1.now) × Without separator p.0.now) }
 {
     let end = first_of(text, separator)?;
     Some((&text[..end], &text[end + 1..]))
@@ -35,8 +36,7 @@ pub(crate) fn cut(text: &[u8], separator: u8) -> Option<(&[u8], &[u8])>
 
 /// The number of a decimal text without leading zeros, at most the limit.
 fn read_number(text: &[u8], limit: u64) -> Option<u64>
-    ensures number { result ≡ number_of limit text.now }
-    ensures limit { IfSome result (λ n. n ≤ limit) }
+    ensures { MatchOption result ((n : ℕ) → n ≤ limit → text.now ≡ decimal n → ⊥) (λ n. (n ≤ limit) × (text.now ≡ decimal n)) }
 {
     if text.is_empty() {
         return None;
@@ -57,7 +57,8 @@ fn read_number(text: &[u8], limit: u64) -> Option<u64>
 
 /// A lane, or a number of a shape: at most 4294967295.
 pub(crate) fn read_u32(text: &[u8]) -> Option<u32>
-    ensures { result ≡ number_of 4294967295 text.now }
+    ensures { MatchOption result ((n : ℕ) → n ≤ 4294967295 → text.now ≡ decimal n → ⊥)
+        (λ n. (n ≤ 4294967295) × (text.now ≡ decimal n)) }
 {
     let number = read_number(text, 4_294_967_295)?;
     Some(number as u32)
@@ -65,22 +66,46 @@ pub(crate) fn read_u32(text: &[u8]) -> Option<u32>
 
 /// A key: at most 18446744073709551615.
 pub(crate) fn read_key(text: &[u8]) -> Option<u64>
-    ensures { result ≡ number_of 18446744073709551615 text.now }
+    ensures { MatchOption result ((n : ℕ) → n ≤ 18446744073709551615 → text.now ≡ decimal n → ⊥)
+        (λ n. (n ≤ 18446744073709551615) × (text.now ≡ decimal n)) }
 {
     read_number(text, 18_446_744_073_709_551_615)
 }
 
 /// A place: at most `GREATEST_PLACE`.
 pub(crate) fn read_place(text: &[u8]) -> Option<u32>
-    ensures { result ≡ number_of GREATEST_PLACE text.now }
+    ensures { MatchOption result ((n : ℕ) → n ≤ GREATEST_PLACE → text.now ≡ decimal n → ⊥)
+        (λ n. (n ≤ GREATEST_PLACE) × (text.now ≡ decimal n)) }
 {
     let number = read_number(text, u64::from(GREATEST_PLACE))?;
     Some(number as u32)
 }
 
+/// The lane or number of a shape before the first space, and what is after it.
+pub(crate) fn read_u32_before(text: &[u8]) -> Option<(u32, &[u8])>
+    ensures { MatchOption result
+        ((n : ℕ) (rest : List ℕ) → n ≤ 4294967295 → text.now ≡ spaced (decimal n) rest → ⊥)
+        (λ p. (p.0 ≤ 4294967295) × (text.now ≡ spaced (decimal p.0) p.1.now)) }
+{
+    let (number, rest) = cut(text, b' ')?;
+    let number = read_u32(number)?;
+    Some((number, rest))
+}
+
+/// The key before the first space, and what is after it.
+pub(crate) fn read_key_before(text: &[u8]) -> Option<(u64, &[u8])>
+    ensures { MatchOption result
+        ((n : ℕ) (rest : List ℕ) → n ≤ 18446744073709551615 → text.now ≡ spaced (decimal n) rest → ⊥)
+        (λ p. (p.0 ≤ 18446744073709551615) × (text.now ≡ spaced (decimal p.0) p.1.now)) }
+{
+    let (key, rest) = cut(text, b' ')?;
+    let key = read_key(key)?;
+    Some((key, rest))
+}
+
 /// One or more places with single commas between them.
 pub(crate) fn read_places(alloc: Global, text: &[u8]) -> Result<Places, ActsFault>
-    ensures { Reads (places_of text.now) result }
+    ensures { Reads ArePlaces text.now result }
 {
     let mut places = Vec::new(alloc);
     let mut rest = text;
@@ -100,8 +125,8 @@ pub(crate) fn read_places(alloc: Global, text: &[u8]) -> Result<Places, ActsFaul
 
 /// The value of a hexadecimal digit in lower case.
 fn read_digit(byte: u8) -> Option<u8>
-    ensures digit { result ≡ digit_of byte }
-    ensures small { IfSome result (λ value. value ≤ 15) }
+    ensures { MatchOption result ((value : ℕ) → value < 16 → byte ≡ hex_digit value → ⊥)
+        (λ value. (value < 16) × (byte ≡ hex_digit value)) }
 {
     match byte {
         b'0'..=b'9' => Some(byte - b'0'),
@@ -112,7 +137,8 @@ fn read_digit(byte: u8) -> Option<u8>
 
 /// The byte of two hexadecimal digits.
 fn read_byte(high: u8, low: u8) -> Option<u8>
-    ensures { result ≡ byte_of high low }
+    ensures { MatchOption result ((byte : ℕ) → byte < 256 → high ∷ low ∷ [] ≡ hex_pair byte → ⊥)
+        (λ byte. (byte < 256) × (high ∷ low ∷ [] ≡ hex_pair byte)) }
 {
     let high = read_digit(high)?;
     let low = read_digit(low)?;
@@ -121,7 +147,7 @@ fn read_byte(high: u8, low: u8) -> Option<u8>
 
 /// The bytes of pairs of hexadecimal digits.
 fn read_bytes(alloc: Global, text: &[u8]) -> Result<Bytes, ActsFault>
-    ensures { Reads (bytes_of text.now) result }
+    ensures { Reads ArePairs text.now result }
 {
     let mut bytes = Vec::with_capacity(alloc, text.len() / 2)?;
     let mut rest = text;
@@ -137,9 +163,8 @@ fn read_bytes(alloc: Global, text: &[u8]) -> Result<Bytes, ActsFault>
 }
 
 /// A content: a dash for none, or pairs of hexadecimal digits.
-#[tactic(auto, unfolding(crate::specs::ActsReader::content_of))]
 pub(crate) fn read_content(alloc: Global, text: &[u8]) -> Result<Bytes, ActsFault>
-    ensures { Reads (content_of text.now) result }
+    ensures { Reads IsContent text.now result }
 {
     if is_word(text, "-") {
         return Ok(Bytes::empty(alloc));
@@ -151,9 +176,8 @@ pub(crate) fn read_content(alloc: Global, text: &[u8]) -> Result<Bytes, ActsFaul
 }
 
 /// Whether a reference was made with a publish.
-#[tactic(auto, unfolding(crate::specs::ActsReader::flag_of))]
 pub(crate) fn read_flag(text: &[u8]) -> Option<bool>
-    ensures { result ≡ flag_of text.now }
+    ensures { Finds (λ with_ref digit. digit ≡ flag_text with_ref) text.now result }
 {
     if is_word(text, "1") {
         Some(true)
@@ -165,9 +189,8 @@ pub(crate) fn read_flag(text: &[u8]) -> Option<bool>
 }
 
 /// The reply of a clear.
-#[tactic(auto, unfolding(crate::specs::ActsReader::truth_of))]
 pub(crate) fn read_truth(text: &[u8]) -> Option<bool>
-    ensures { result ≡ truth_of text.now }
+    ensures { Finds (λ reply word. word ≡ truth_text reply) text.now result }
 {
     if is_word(text, "true") {
         Some(true)
@@ -179,9 +202,8 @@ pub(crate) fn read_truth(text: &[u8]) -> Option<bool>
 }
 
 /// The content that a get replied.
-#[tactic(auto, unfolding(crate::specs::ActsReader::some_of))]
 fn read_some(alloc: Global, text: &[u8]) -> Result<Bytes, ActsFault>
-    ensures { Reads (some_of text.now) result }
+    ensures { Reads (λ bytes words. AreBytes bytes × (words ≡ codes "some " ++ content_text bytes)) text.now result }
 {
     let (word, content) = cut(text, b' ').ok_or(ActsFault::ActsLine)?;
     if !is_word(word, "some") {
@@ -191,9 +213,8 @@ fn read_some(alloc: Global, text: &[u8]) -> Result<Bytes, ActsFault>
 }
 
 /// The reply of a get.
-#[tactic(auto, unfolding(crate::specs::ActsReader::reply_of))]
 pub(crate) fn read_reply(alloc: Global, text: &[u8]) -> Result<Option<Bytes>, ActsFault>
-    ensures { Reads (reply_of text.now) result }
+    ensures { Reads IsReply text.now result }
 {
     if is_word(text, "none") {
         return Ok(None);
@@ -203,9 +224,8 @@ pub(crate) fn read_reply(alloc: Global, text: &[u8]) -> Result<Option<Bytes>, Ac
 }
 
 /// The name of an act.
-#[tactic(auto, unfolding(crate::specs::ActsReader::name_of))]
 pub(crate) fn read_name(text: &[u8]) -> Option<ActName>
-    ensures { result ≡ name_of text.now }
+    ensures { Finds (λ name word. word ≡ name_text name) text.now result }
 {
     if is_word(text, "publish") {
         Some(ActName::Publish)

@@ -1,28 +1,27 @@
 //! The text of acts, as it is read: line by line, and a line part by part.
 
-ghost use Rattle.std.specs.Prelude.{◌≡◌, ◌↔◌, ◌<◌, ◌∷◌, ℕ, List, Some, length, IfOk, IsErrOf, MatchResult, option_map};
+ghost use Rattle.std.specs.Prelude.{◌≡◌, ◌↔◌, ◌<◌, ◌++◌, codes, List, length, IfOk, IsErrOf, MatchResult};
 ghost use Rattle.keybits.specs.declared.shape.Shape.{Shape};
 ghost use Rattle.keybits.specs.declared.shape.ShapeFault.{ShapeFault};
 ghost use Rattle.seqpool.specs.declared.act.Act.{Act};
 ghost use Rattle.seqpool.specs.declared.acts_fault.ActsFault.TheVariants as acts_faults;
 ghost use Rattle.seqpool.specs.ActsText.{RefusesText, StandsFor, StandsForNothing, HasShapeFault, HasShape};
-ghost use Rattle.seqpool.specs.ActsReader.{publish_of, get_of, clear_of, act_with, act_of, ending_at, numbers_of, shape_of, cut, lines, each, Reads, Refuses};
+ghost use Rattle.seqpool.specs.declared.act.ActName.TheVariants as names;
+ghost use Rattle.seqpool.specs.ReadTexts.{Finds, Reads, Refuses, HasOperands, IsAct, AreActs, IsShapeOf, AreLast, IsFirstLine};
 
 use crate::act::{Act, ActName};
 use crate::acts_fault::ActsFault;
 use crate::acts_fields::{
-    cut, is_word, read_content, read_flag, read_key, read_name, read_place, read_places,
-    read_reply, read_truth, read_u32,
+    cut, is_word, read_content, read_flag, read_key, read_key_before, read_name, read_place,
+    read_places, read_reply, read_truth, read_u32, read_u32_before,
 };
 use keybits::Shape;
 use std::alloc::Global;
 
-#[tactic(auto, unfolding(crate::specs::ActsReader::publish_of))]
 fn read_publish(alloc: Global, lane: u32, operands: &[u8]) -> Result<Act, ActsFault>
-    ensures { Reads (publish_of lane operands.now) result }
+    ensures { Reads (HasOperands lane names.Publish) operands.now result }
 {
-    let (key, rest) = cut(operands, b' ').ok_or(ActsFault::ActsLine)?;
-    let key = read_key(key).ok_or(ActsFault::ActsLine)?;
+    let (key, rest) = read_key_before(operands).ok_or(ActsFault::ActsLine)?;
     let (content, flag) = cut(rest, b' ').ok_or(ActsFault::ActsLine)?;
     let content = read_content(alloc, content)?;
     let with_ref = read_flag(flag).ok_or(ActsFault::ActsLine)?;
@@ -34,29 +33,25 @@ fn read_publish(alloc: Global, lane: u32, operands: &[u8]) -> Result<Act, ActsFa
     })
 }
 
-#[tactic(auto, unfolding(crate::specs::ActsReader::get_of))]
 fn read_get(alloc: Global, lane: u32, operands: &[u8]) -> Result<Act, ActsFault>
-    ensures { Reads (get_of lane operands.now) result }
+    ensures { Reads (HasOperands lane names.Get) operands.now result }
 {
-    let (key, reply) = cut(operands, b' ').ok_or(ActsFault::ActsLine)?;
-    let key = read_key(key).ok_or(ActsFault::ActsLine)?;
+    let (key, reply) = read_key_before(operands).ok_or(ActsFault::ActsLine)?;
     let reply = read_reply(alloc, reply)?;
     Ok(Act::Get { lane, key, reply })
 }
 
-#[tactic(auto, unfolding(crate::specs::ActsReader::clear_of))]
 fn read_clear(lane: u32, operands: &[u8]) -> Option<Act>
-    ensures { result ≡ clear_of lane operands.now }
+    ensures { Finds (HasOperands lane names.Clear) operands.now result }
 {
-    let (key, reply) = cut(operands, b' ')?;
-    let key = read_key(key)?;
+    let (key, reply) = read_key_before(operands)?;
     let reply = read_truth(reply)?;
     Some(Act::Clear { lane, key, reply })
 }
 
 /// The act of this name and lane with these operands.
 fn read_act_with(alloc: Global, name: ActName, lane: u32, operands: &[u8]) -> Result<Act, ActsFault>
-    ensures { Reads (act_with name lane operands.now) result }
+    ensures { Reads (HasOperands lane name) operands.now result }
 {
     match name {
         ActName::Publish => read_publish(alloc, lane, operands),
@@ -82,12 +77,10 @@ fn read_act_with(alloc: Global, name: ActName, lane: u32, operands: &[u8]) -> Re
 }
 
 /// The act of a line.
-#[tactic(auto, unfolding(crate::specs::ActsReader::act_of))]
 fn read_act(alloc: Global, line: &[u8]) -> Result<Act, ActsFault>
-    ensures { Reads (act_of line.now) result }
+    ensures { Reads IsAct line.now result }
 {
-    let (lane, rest) = cut(line, b' ').ok_or(ActsFault::ActsLine)?;
-    let lane = read_u32(lane).ok_or(ActsFault::ActsLine)?;
+    let (lane, rest) = read_u32_before(line).ok_or(ActsFault::ActsLine)?;
     let (name, operands) = cut(rest, b' ').ok_or(ActsFault::ActsLine)?;
     let name = read_name(name).ok_or(ActsFault::ActsLine)?;
     read_act_with(alloc, name, lane, operands)
@@ -95,11 +88,10 @@ fn read_act(alloc: Global, line: &[u8]) -> Result<Act, ActsFault>
 
 /// The last generation of a shape and its tag, which is 0 where it isn't there.
 fn read_ending(text: &[u8]) -> Option<(u32, u32)>
-    ensures { result ≡ ending_at text.now (cut 32 text.now) }
+    ensures { Finds AreLast text.now result }
 {
-    match cut(text, b' ') {
+    match read_u32_before(text) {
         Some((last_generation, tag)) => {
-            let last_generation = read_u32(last_generation)?;
             let tag = read_u32(tag)?;
             Some((last_generation, tag))
         }
@@ -110,16 +102,12 @@ fn read_ending(text: &[u8]) -> Option<(u32, u32)>
     }
 }
 
-#[tactic(auto, unfolding(crate::specs::ActsReader::numbers_of))]
 fn read_numbers(text: &[u8]) -> Option<Shape>
-    ensures { result ≡ numbers_of text.now }
+    ensures { Finds (λ z numbers. IsShapeOf z (codes "shape " ++ numbers)) text.now result }
 {
-    let (lanes, rest) = cut(text, b' ')?;
-    let lanes = read_u32(lanes)?;
-    let (first_page, rest) = cut(rest, b' ')?;
-    let first_page = read_u32(first_page)?;
-    let (pages, rest) = cut(rest, b' ')?;
-    let pages = read_u32(pages)?;
+    let (lanes, rest) = read_u32_before(text)?;
+    let (first_page, rest) = read_u32_before(rest)?;
+    let (pages, rest) = read_u32_before(rest)?;
     let (last_generation, tag) = read_ending(rest)?;
     Some(Shape {
         lanes,
@@ -131,9 +119,8 @@ fn read_numbers(text: &[u8]) -> Option<Shape>
 }
 
 /// The shape of a line; it is still to be checked.
-#[tactic(auto, unfolding(crate::specs::ActsReader::shape_of))]
 fn read_shape(line: &[u8]) -> Option<Shape>
-    ensures { result ≡ shape_of line.now }
+    ensures { Finds IsShapeOf line.now result }
 {
     let (word, numbers) = cut(line, b' ')?;
     if !is_word(word, "shape") {
@@ -145,7 +132,7 @@ fn read_shape(line: &[u8]) -> Option<Shape>
 /// The first line of a text, without its line feed, and what comes after it.
 fn first_line(text: &[u8]) -> (&[u8], &[u8])
     requires { 0 < length text.now }
-    ensures lines { lines text.now ≡ result.0.now ∷ lines result.1.now }
+    ensures line { IsFirstLine result.0.now result.1.now text.now }
     ensures shorter { length result.1.now < length text.now }
 {
     match cut(text, b'\n') {
@@ -156,8 +143,7 @@ fn first_line(text: &[u8]) -> (&[u8], &[u8])
 
 /// The acts of the lines of a text.
 fn read_lines(alloc: Global, text: &[u8]) -> Result<Vec<Act>, ActsFault>
-    ensures { MatchResult result (λ acts. each act_of (lines text.now) ≡ Some acts.items)
-        (Refuses (each act_of (lines text.now))) }
+    ensures { MatchResult result (λ acts. AreActs acts.items text.now) (Refuses AreActs text.now) }
 {
     let mut acts = Vec::new(alloc);
     let mut rest = text;

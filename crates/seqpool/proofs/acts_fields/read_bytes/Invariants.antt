@@ -1,11 +1,10 @@
-use Rattle.std.proofs.Common.{◌≡◌, length}
-use Rattle.seqpool.specs.ActsReader.{bytes_of}
-use Rattle.seqpool.proofs.Parts.{read_so_far}
+use Rattle.std.proofs.Common.{length}
+use Rattle.seqpool.specs.ReadTexts.{ArePairs}
+use Rattle.seqpool.proofs.Parts.{IsReadUpTo}
 use Rattle.seqpool.proofs.acts_fields.read_bytes.Given as goal
 
--- the bytes so far, and those of the rest, are those of the whole text
 abbrev pub invariant-loop-rest : goal.invariant-loop-rest
-invariant-loop-rest l = bytes_of l.text ≡ read_so_far l.bytes.items (bytes_of l.rest)
+invariant-loop-rest l = IsReadUpTo ArePairs l.bytes.items l.rest l.text
 
 abbrev pub decreases-loop-rest : goal.decreases-loop-rest
 decreases-loop-rest l = length l.rest

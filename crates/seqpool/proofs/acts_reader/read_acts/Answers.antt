@@ -12,6 +12,8 @@ returns-clause-only c = λ z acts there.
 
 pub returns-clause-shape : goal.returns-clause-shape
 returns-clause-shape c = λ fault. (
-  (λ is. MatchResult-at_err (λ found. StandsFor c.args.bytes.now found.0 found.1.items) (RefusesText c.args.bytes.now) (acts_faults.Shape fault) is c.read_text.ensures),
+  (λ is.
+      MatchResult-at_err (λ found. StandsFor c.args.bytes.now found.0 found.1.items) (RefusesText c.args.bytes.now) (acts_faults.Shape fault) is
+      c.read_text.ensures),
   (λ has. shape-refused c.args.bytes.now c.read_text.result (λ found. found.0) (λ found. found.1.items) fault c.read_text.ensures has),
 )
