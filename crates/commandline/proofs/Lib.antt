@@ -1,1 +1,1 @@
-pub mod NoTasks
+pub mod LineLemmas

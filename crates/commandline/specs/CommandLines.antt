@@ -1,26 +1,43 @@
 -- What the words of the command line stand for, by what `clap` matches.
-use Rattle.std.specs.Prelude.{◌≡◌, ℕ, List, [], Some, true, codes, string_bytes}
+use Rattle.std.specs.Prelude.{◌≡◌, ◌↔◌, ℕ, Bool, IsTrue, List, [], ◌∷◌, Option, Some, true, codes, fold, option_and_then, string_bytes}
 use Rattle.clap.specs.Simple.{new_shape}
 use Rattle.clap.specs.Words.{App, Row, Rule, first_of, new_app, new_rule, subcommand_of, with_rule, with_subcommand}
+use Rattle.clap.specs.declared.builder.action.ArgAction.TheVariants.{SetTrue}
+use Rattle.commandline.specs.declared.tasks.Stop.{Stop}
 use Rattle.commandline.specs.declared.tasks.Task.{Task}
-use Rattle.commandline.specs.declared.tasks.Task.TheVariants.{Replay, Check}
-use Rattle.schedules.specs.Schedules.{schedule_of}
+use Rattle.commandline.specs.declared.tasks.Task.TheVariants.{Replay, Check, Key}
+use Rattle.commandline.specs.declared.tasks.Turns.{Turns}
+use Rattle.commandline.specs.Readings.{long_number, AreTurns, IsStop}
 
 -- a positional argument with this id, which must be there
 abbrev pub positional : List ℕ → Rule
 positional id = record (new_rule id) { value_names = 1; required = true }
 
--- the option `--schedule`
-abbrev pub schedule_rule : Rule
-schedule_rule = record (new_rule (codes "schedule")) { long = Some (codes "schedule"); value_names = 1; required = true }
+-- an option of this name, with a value
+abbrev pub option_named : List ℕ → Rule
+option_named name = record (new_rule name) { long = Some name; value_names = 1 }
+
+-- a flag of this name
+abbrev pub flag_named : List ℕ → Rule
+flag_named name = record (new_rule name) { long = Some name; action = Some SetTrue }
+
+-- the subcommand of this name with these arguments
+abbrev pub line_of : List ℕ → List Rule → App
+line_of name arguments = fold with_rule (new_app name) arguments
 
 -- the subcommand `replay`
 abbrev pub replay_line : App
-replay_line = with_rule (with_rule (new_app (codes "replay")) (positional (codes "file"))) schedule_rule
+replay_line = line_of (codes "replay")
+    (positional (codes "file") ∷ option_named (codes "schedule") ∷ option_named (codes "seed") ∷ option_named (codes "turns")
+    ∷ option_named (codes "stop") ∷ flag_named (codes "acts") ∷ [])
 
 -- the subcommand `check`
 abbrev pub check_line : App
-check_line = with_rule (new_app (codes "check")) (positional (codes "acts"))
+check_line = line_of (codes "check") (positional (codes "acts") ∷ [])
+
+-- the subcommand `key`
+abbrev pub key_line : App
+key_line = line_of (codes "key") (positional (codes "number") ∷ [])
 
 -- the program, before its subcommands
 abbrev pub program : App
@@ -28,19 +45,20 @@ program = record { top = record (new_shape (codes "poolrun")) { subcommand_requi
 
 -- the program's command line
 abbrev pub command_line : App
-command_line = with_subcommand (with_subcommand program replay_line.top) check_line.top
+command_line = with_subcommand (with_subcommand (with_subcommand program replay_line.top) check_line.top) key_line.top
 
--- a replay of this file over this schedule, by the matches of `replay`
-pub record IsReplayTask (rows : List Row) (file schedule : List ℕ) : Type 0 where
+-- a replay, by the matches of `replay`: its file, its turns, its stop, and that the acts are wanted where the flag was used
+pub record IsReplayTask (rows : List Row) (file : List ℕ) (turns : Turns) (stop : Option Stop) (acts : Bool) : Type 0 where
   pub is_file : first_of (codes "file") rows ≡ Some file
-  pub text : List ℕ
-  pub given : first_of (codes "schedule") rows ≡ Some text
-  pub is_schedule : schedule_of text ≡ Some schedule
+  pub are_turns : AreTurns (first_of (codes "schedule") rows) (first_of (codes "seed") rows) (first_of (codes "turns") rows) turns
+  pub is_stop : IsStop (first_of (codes "stop") rows) stop
+  pub are_acts : IsTrue acts ↔ (first_of (codes "acts") rows ≡ Some (codes "true"))
 
 -- a task, by the name of a subcommand and its matches
 abbrev pub AreMatchesOf : List ℕ → List Row → Task → Type 0
-AreMatchesOf name rows (Replay file schedule) = (name ≡ codes "replay") × IsReplayTask rows (string_bytes file) schedule.items
+AreMatchesOf name rows (Replay file turns stop acts) = (name ≡ codes "replay") × IsReplayTask rows (string_bytes file) turns stop acts
 AreMatchesOf name rows (Check file) = (name ≡ codes "check") × (first_of (codes "acts") rows ≡ Some (string_bytes file))
+AreMatchesOf name rows (Key number) = (name ≡ codes "key") × (option_and_then long_number (first_of (codes "number") rows) ≡ Some number)
 
 -- the words stand for the task
 pub record AreWordsOf (words : List (List ℕ)) (task : Task) : Type 0 where

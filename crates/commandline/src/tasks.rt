@@ -1,8 +1,38 @@
 /// What the program is told to do.
 #[derive(Drop, Debug)]
 pub enum Task {
-    /// Replay the script file at this path over this schedule, whose entries are numbers of lanes.
-    Replay { file: String, schedule: Vec<u32> },
+    /// Replay the script file at this path over these turns, of which a stopped lane has no more after
+    /// its stop. The acts are wanted where `acts` holds, and otherwise the trace.
+    Replay {
+        file: String,
+        turns: Turns,
+        stop: Option<Stop>,
+        acts: bool,
+    },
     /// Check the acts in the file at this path.
-    Check { file: String },
+    Check {
+        file: String,
+    },
+    /// Say what this number names as a key.
+    Key {
+        number: u64,
+    },
+}
+
+/// The turns of a replay.
+#[derive(Drop, Debug)]
+pub enum Turns {
+    /// Those of this schedule, whose entries are numbers of lanes.
+    Listed(Vec<u32>),
+    /// So many, drawn from this seed.
+    Drawn { seed: u64, turns: u32 },
+}
+
+/// Where a lane stops: after so many of its entries in the schedule.
+#[derive(Clone, Copy, Debug, PartialEq, Eq)]
+pub struct Stop {
+    /// The number of the lane.
+    pub lane: u32,
+    /// How many of its entries count.
+    pub after: u32,
 }

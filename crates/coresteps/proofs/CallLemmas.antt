@@ -15,18 +15,18 @@ use Rattle.seqpool.specs.declared.act.Act.TheVariants as acts
 use Rattle.seqpool.specs.Pool.{Pool, Phase, with, published, home, retired, references_in, content_in, is_current, Allowed, after}
 use Rattle.steplaws.specs.Calls.{Call, Publishing, Getting, aim, is_hit, owes_claim, next_step, end_next}
 use Rattle.steplaws.specs.Facts.{bits_of, Words}
-use Rattle.coresteps.specs.declared.script.Register.{Register}
-use Rattle.coresteps.specs.declared.script.Operand.{Operand}
-use Rattle.coresteps.specs.declared.script.Command.{Command}
-use Rattle.coresteps.specs.declared.script.Command.TheVariants as commands
-use Rattle.coresteps.specs.declared.reply.Reply.TheVariants as replies
-use Rattle.coresteps.specs.declared.registers.RegisterState.{RegisterState}
-use Rattle.coresteps.specs.declared.registers.Holding.{Holding}
-use Rattle.coresteps.specs.declared.registers.Holding.TheVariants.{Empty, Filling}
-use Rattle.coresteps.specs.Registers.{register_with, register_at, operand_key}
-use Rattle.coresteps.specs.Books.{Book, caller, holding_at, call_of_first, call_under_way, publishing, getting, next_in, next_aim, got, reclaimed, of_shard, shown, stepped, answered_first, answered}
-use Rattle.coresteps.specs.Following.{WhereEmpty, WhereFilling, WhereKey, FirstReplies, IsReply, get_reply}
-use Rattle.coresteps.specs.Lawful.{IsStep}
+use Rattle.traces.specs.declared.script.Register.{Register}
+use Rattle.traces.specs.declared.script.Operand.{Operand}
+use Rattle.traces.specs.declared.script.Command.{Command}
+use Rattle.traces.specs.declared.script.Command.TheVariants as commands
+use Rattle.traces.specs.declared.reply.Reply.TheVariants as replies
+use Rattle.traces.specs.declared.registers.RegisterState.{RegisterState}
+use Rattle.traces.specs.declared.registers.Holding.{Holding}
+use Rattle.traces.specs.declared.registers.Holding.TheVariants.{Empty, Filling}
+use Rattle.traces.specs.Registers.{register_with, register_at, operand_key}
+use Rattle.traces.specs.Books.{Book, caller, holding_at, call_of_first, call_under_way, publishing, getting, next_in, next_aim, got, reclaimed, of_shard, shown, stepped, answered_first, answered}
+use Rattle.traces.specs.Following.{WhereEmpty, WhereFilling, WhereKey, FirstReplies, IsReply, get_reply}
+use Rattle.traces.specs.Lawful.{IsStep}
 use Rattle.coresteps.specs.OneLane.{first_key, IsSimple, IsSimpleLane, IsSimpleBook, AreReplayed}
 use Rattle.coresteps.proofs.RegisterLemmas.{held_references-le}
 use Rattle.coresteps.proofs.LocalLemmas.{nil}
@@ -59,7 +59,7 @@ module _ (z : Shape) (shape : IsShape z) (wide : z.last_generation < 4294967296)
       next = next_of z b [] (Publishing key content false) fresh (publish_call z b r more key content left holds);
       before = refl;
       changes = changes;
-      makes = subst (λ (call : Option Call). Rattle.coresteps.specs.Lawful.CallMakes (caller z 0 b) call words.link (made (kinds.Publish false) (place_of key) (words.life (place_of key)) (words.life (place_of key) + 1)) (Some (acts.Publish 0 key content false)))
+      makes = subst (λ (call : Option Call). Rattle.traces.specs.Lawful.CallMakes (caller z 0 b) call words.link (made (kinds.Publish false) (place_of key) (words.life (place_of key)) (words.life (place_of key) + 1)) (Some (acts.Publish 0 key content false)))
           (sym (publish_call z b r more key content left holds)) refl;
     }
 
@@ -128,7 +128,7 @@ module _ (z : Shape) (shape : IsShape z) (wide : z.last_generation < 4294967296)
             ∙ ap (λ (t : Bool). cond t (Some (aim kinds.Enter (Life (place_of key)))) None) fits;
         before = refl;
         changes = refl;
-        makes = subst (λ (call : Option Call). Rattle.coresteps.specs.Lawful.CallMakes (caller z 0 b) call words.link (made kinds.Enter (place_of key) (words.life (place_of key)) (words.life (place_of key) + 4)) (Some (acts.Get 0 key reply)))
+        makes = subst (λ (call : Option Call). Rattle.traces.specs.Lawful.CallMakes (caller z 0 b) call words.link (made kinds.Enter (place_of key) (words.life (place_of key)) (words.life (place_of key) + 4)) (Some (acts.Get 0 key reply)))
             (sym (get_call z b r operand more key left empty op)) (reply, same, refl);
       }
 
@@ -170,7 +170,7 @@ module _ (z : Shape) (shape : IsShape z) (wide : z.last_generation < 4294967296)
         next = leave_next;
         before = refl;
         changes = changes;
-        makes = subst (λ (call : Option Call). Rattle.coresteps.specs.Lawful.CallMakes (caller z 0 b) call words.link (made kinds.Leave (place_of key) (words.life (place_of key)) after_leave) None)
+        makes = subst (λ (call : Option Call). Rattle.traces.specs.Lawful.CallMakes (caller z 0 b) call words.link (made kinds.Leave (place_of key) (words.life (place_of key)) after_leave) None)
             (sym (get_call z b r operand more key left empty op)) refl;
       }
 

@@ -7,20 +7,20 @@ use Rattle.keybits.specs.Shapes.{IsShape, page_size}
 use Rattle.keybits.specs.Keys.{place_of}
 use Rattle.keybits.proofs.ShapeLemmas.{page_size-le, shape_bounds}
 use Rattle.keybits.proofs.KeyLemmas.{place_of-key_number}
-use Rattle.coresteps.specs.declared.script.Register.{Register}
-use Rattle.coresteps.specs.declared.script.Command.{Command}
-use Rattle.coresteps.specs.declared.script.Command.TheVariants.{Create}
-use Rattle.coresteps.specs.Lawful.{at_end, IsAtRest}
-use Rattle.coresteps.specs.declared.reply.Reply.TheVariants as replies
+use Rattle.traces.specs.declared.script.Register.{Register}
+use Rattle.traces.specs.declared.script.Command.{Command}
+use Rattle.traces.specs.declared.script.Command.TheVariants.{Create}
+use Rattle.traces.specs.Lawful.{at_end, IsAtRest}
+use Rattle.traces.specs.declared.reply.Reply.TheVariants as replies
 use Rattle.coresteps.specs.declared.lane.Lane.{Lane}
-use Rattle.coresteps.specs.declared.registers.Holding.{Holding}
-use Rattle.coresteps.specs.declared.registers.Holding.TheVariants.{Empty, Filling, Reference}
-use Rattle.coresteps.specs.Registers.{register_with, register_at}
+use Rattle.traces.specs.declared.registers.Holding.{Holding}
+use Rattle.traces.specs.declared.registers.Holding.TheVariants.{Empty, Filling, Reference}
+use Rattle.traces.specs.Registers.{register_with, register_at}
 use Rattle.keybits.specs.declared.step.Kind.TheVariants as kinds
 use Rattle.keybits.specs.declared.step.Word.TheVariants.{Stack}
 use Rattle.steplaws.specs.Calls.{Creating, Aim, aim, next_step, take_next}
-use Rattle.coresteps.specs.Books.{caller, call_of, creating, next_in, next_aim, slots_from, page_places, handed_first, handed_out, Free, free_with, after_own, free_after_create}
-use Rattle.coresteps.specs.Following.{WhereEmpty}
+use Rattle.traces.specs.Books.{caller, call_of, creating, next_in, next_aim, slots_from, page_places, handed_first, handed_out, Free, free_with, after_own, free_after_create}
+use Rattle.traces.specs.Following.{WhereEmpty}
 use Rattle.coresteps.specs.OneLane.{first_key, first_reply}
 use Rattle.coresteps.specs.Lanes.{book_before_step, AreFirstKeys, Answers, IsRefilled}
 use Rattle.coresteps.proofs.LocalLemmas.{not_below, page_size-positive}
@@ -54,7 +54,7 @@ create_steps z lanes old Empty = by_own old.free
 
 module _ (z : Shape) (shape : IsShape z) (lanes : z.lanes ≡ 1) (old : Lane) (r : Register) (keys : AreFirstKeys z old.free) (empty : (register_at old.registers r.number).holding ≡ Empty) where
   -- a lane like the old one, with these free keys, pages and registers
-  abbrev pub lane_with : List ℕ → ℕ → List Rattle.coresteps.specs.declared.registers.RegisterState.RegisterState → Lane
+  abbrev pub lane_with : List ℕ → ℕ → List Rattle.traces.specs.declared.registers.RegisterState.RegisterState → Lane
   lane_with free pages registers = record { done = old.done; registers = registers; free = free; opened = pages; stage = old.stage }
 
   out : (own : List ℕ) → Option ℕ

@@ -7,4 +7,3 @@ pub mod RuleLemmas
 pub mod TurnLemmas
 pub mod RunLemmas
 pub mod StandLemmas
-pub mod TextLemmas

@@ -15,19 +15,19 @@ use Rattle.keybits.proofs.KeyLemmas.{place_of-key_number}
 use Rattle.seqpool.specs.declared.act.Act.{Act}
 use Rattle.seqpool.specs.Pool.{Pool, Phase, with, published, home, retired, is_published}
 use Rattle.keybits.specs.Counts.{times}
-use Rattle.coresteps.specs.declared.script.Register.{Register}
-use Rattle.coresteps.specs.declared.script.Operand.{Operand}
-use Rattle.coresteps.specs.declared.script.Command.{Command}
-use Rattle.coresteps.specs.declared.script.Command.TheVariants as commands
-use Rattle.coresteps.specs.declared.reply.Reply.{Reply}
-use Rattle.coresteps.specs.declared.reply.Reply.TheVariants as replies
-use Rattle.coresteps.specs.declared.registers.RegisterState.{RegisterState}
-use Rattle.coresteps.specs.declared.registers.Holding.{Holding}
-use Rattle.coresteps.specs.declared.registers.Holding.TheVariants.{Empty, Filling, Reference}
-use Rattle.coresteps.specs.Registers.{register_with, register_at, operand_key, fills, refers, held_references}
-use Rattle.coresteps.specs.Books.{Book, holding_at, handed_out, handed_first, taken, shown, reclaimed, of_shard, slots_from, page_places, Free, free_with, after_opening, after_own, free_after_create, written, answered_first, answered, all_answered, next_aim}
-use Rattle.coresteps.specs.Following.{HasContent, CreateReply, WhereEmpty, WhereFilling, WhereReference, WhereKey, FirstReplies, AreReplies, get_reply}
-use Rattle.coresteps.specs.Parts.{count_if}
+use Rattle.traces.specs.declared.script.Register.{Register}
+use Rattle.traces.specs.declared.script.Operand.{Operand}
+use Rattle.traces.specs.declared.script.Command.{Command}
+use Rattle.traces.specs.declared.script.Command.TheVariants as commands
+use Rattle.traces.specs.declared.reply.Reply.{Reply}
+use Rattle.traces.specs.declared.reply.Reply.TheVariants as replies
+use Rattle.traces.specs.declared.registers.RegisterState.{RegisterState}
+use Rattle.traces.specs.declared.registers.Holding.{Holding}
+use Rattle.traces.specs.declared.registers.Holding.TheVariants.{Empty, Filling, Reference}
+use Rattle.traces.specs.Registers.{register_with, register_at, operand_key, fills, refers, held_references}
+use Rattle.traces.specs.Books.{Book, holding_at, handed_out, handed_first, taken, shown, reclaimed, of_shard, slots_from, page_places, Free, free_with, after_opening, after_own, free_after_create, written, answered_first, answered, all_answered, next_aim}
+use Rattle.traces.specs.Following.{HasContent, CreateReply, WhereEmpty, WhereFilling, WhereReference, WhereKey, FirstReplies, AreReplies, get_reply}
+use Rattle.traces.specs.Parts.{count_if}
 use Rattle.coresteps.specs.OneLane.{first_key, ReadReply, first_reply, FirstLocal, AreLocal, IsHeld, IsSimple, IsSimpleLane, IsSimpleBook, AreReplayed}
 use Rattle.coresteps.proofs.RegisterLemmas.{fillings-set, held_references-set, held-set, held-at}
 

@@ -2,10 +2,10 @@
 use Rattle.std.proofs.Common.{◌≡◌, ◌≢◌, ℕ, zero, suc, ◌+◌, ◌<◌, ◌≤◌, Bool, true, false, cond, List, [], ◌∷◌, length, set, refl, ap, sym, ◌∙◌, subst, arith, Option, Some, None, slice_get}
 use Rattle.keybits.specs.declared.shape.Shape.{Shape}
 use Rattle.seqpool.specs.Pool.{Pool}
-use Rattle.coresteps.specs.declared.registers.RegisterState.{RegisterState}
-use Rattle.coresteps.specs.declared.registers.Holding.{Holding}
-use Rattle.coresteps.specs.declared.registers.Holding.TheVariants.{Empty, Filling, Reference}
-use Rattle.coresteps.specs.Registers.{register_or_empty, register_at, fills, refers, fillings, held_references}
+use Rattle.traces.specs.declared.registers.RegisterState.{RegisterState}
+use Rattle.traces.specs.declared.registers.Holding.{Holding}
+use Rattle.traces.specs.declared.registers.Holding.TheVariants.{Empty, Filling, Reference}
+use Rattle.traces.specs.Registers.{register_or_empty, register_at, fills, refers, fillings, held_references}
 use Rattle.coresteps.specs.OneLane.{IsHeld, AreHeld}
 
 pub register_at-is : (xs : List RegisterState) (i : ℕ) (x : RegisterState) → slice_get xs i ≡ Some x → register_at xs i ≡ x

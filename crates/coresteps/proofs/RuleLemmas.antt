@@ -8,14 +8,14 @@ use Rattle.steplaws.specs.declared.pending.Pending.{Pending}
 use Rattle.steplaws.specs.declared.pending.Pending.TheVariants.{Nothing, Undo}
 use Rattle.steplaws.specs.Calls.{Call, Publishing, Getting, Releasing, Clearing, Creating}
 use Rattle.steplaws.specs.Facts.{Words, Lanes, with_under, moment, Rule}
-use Rattle.coresteps.specs.declared.script.Command.{Command}
+use Rattle.traces.specs.declared.script.Command.{Command}
 use Rattle.coresteps.specs.declared.lane.Lane.{Lane}
 use Rattle.coresteps.specs.declared.lane.Stage.{Stage}
 use Rattle.coresteps.specs.declared.lane.Stage.TheVariants.{Ready, Missed}
-use Rattle.coresteps.specs.Registers.{operand_key}
-use Rattle.coresteps.specs.Books.{Book, holding_at, taken, reclaimed, call_under_way}
-use Rattle.coresteps.specs.Lawful.{World, with_book}
-use Rattle.coresteps.specs.Parts.{under_first, under_way, chain_of, lanes_in, moment_of}
+use Rattle.traces.specs.Registers.{operand_key}
+use Rattle.traces.specs.Books.{Book, holding_at, taken, reclaimed, call_under_way}
+use Rattle.traces.specs.Lawful.{World, with_book}
+use Rattle.traces.specs.Parts.{under_first, under_way, chain_of, lanes_in, moment_of}
 use Rattle.coresteps.specs.Lanes.{ready_book}
 use Rattle.coresteps.specs.Kept.{StageStands, entered_step}
 use Rattle.coresteps.proofs.CallLemmas.{get_call}

@@ -10,12 +10,12 @@ use Rattle.keybits.proofs.ShapeLemmas.{is_place-parts, position_of-lt}
 use Rattle.seqpool.specs.Pool.{Pool, fresh}
 use Rattle.steplaws.specs.Facts.{Lanes, moment, Rule}
 use Rattle.steplaws.proofs.Starts.{start-law}
-use Rattle.coresteps.specs.declared.script.Command.{Command}
-use Rattle.coresteps.specs.declared.trace.Turn.{Turn}
-use Rattle.coresteps.specs.Registers.{empty_register, fillings, held_references}
-use Rattle.coresteps.specs.Books.{call_under_way}
-use Rattle.coresteps.specs.Lawful.{World, first_words, first_world, world_after, world_from, is_finished, IsNextTurn, AreTurns}
-use Rattle.coresteps.specs.Parts.{count_if, moment_of}
+use Rattle.traces.specs.declared.script.Command.{Command}
+use Rattle.traces.specs.declared.trace.Turn.{Turn}
+use Rattle.traces.specs.Registers.{empty_register, fillings, held_references}
+use Rattle.traces.specs.Books.{call_under_way}
+use Rattle.traces.specs.Lawful.{World, first_words, first_world, world_after, world_from, is_finished, IsNextTurn, AreTurns}
+use Rattle.traces.specs.Parts.{count_if, moment_of}
 use Rattle.coresteps.specs.OneLane.{AreHeld, AreReplayed}
 use Rattle.coresteps.specs.Lanes.{first_lane}
 use Rattle.coresteps.specs.Kept.{Keeps}

@@ -12,14 +12,14 @@ use Rattle.seqpool.specs.Pool.{Phase, with, published, home, retired, pool_after
 use Rattle.steplaws.specs.declared.pending.Pending.TheVariants.{Nothing}
 use Rattle.steplaws.specs.Facts.{is_home}
 use Rattle.steplaws.proofs.Counts.{quiet-law}
-use Rattle.coresteps.specs.declared.script.Command.{Command}
-use Rattle.coresteps.specs.declared.registers.RegisterState.{RegisterState}
+use Rattle.traces.specs.declared.script.Command.{Command}
+use Rattle.traces.specs.declared.registers.RegisterState.{RegisterState}
 use Rattle.coresteps.specs.declared.lane.Lane.{Lane}
-use Rattle.coresteps.specs.Registers.{fillings}
-use Rattle.coresteps.specs.Books.{Book, taken, reclaimed, returned, call_of_first}
-use Rattle.coresteps.specs.declared.trace.Turn.{Turn}
-use Rattle.coresteps.specs.Lawful.{World, world_after, world_from, at_end, is_finished}
-use Rattle.coresteps.specs.Parts.{count_if, unopened, listed, clearing, is_retired, parts, under_first, under_way, moment_of, Stands, StandsThroughout}
+use Rattle.traces.specs.Registers.{fillings}
+use Rattle.traces.specs.Books.{Book, taken, reclaimed, returned, call_of_first}
+use Rattle.traces.specs.declared.trace.Turn.{Turn}
+use Rattle.traces.specs.Lawful.{World, world_after, world_from, at_end, is_finished}
+use Rattle.traces.specs.Parts.{count_if, unopened, listed, clearing, is_retired, parts, under_first, under_way, moment_of, Stands, StandsThroughout}
 use Rattle.coresteps.specs.OneLane.{IsSimple}
 use Rattle.coresteps.specs.Kept.{Keeps}
 use Rattle.coresteps.proofs.RuleLemmas.{pending_at, Tells, tells}

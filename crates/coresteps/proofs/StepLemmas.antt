@@ -14,13 +14,13 @@ use Rattle.seqpool.specs.declared.act.Act.{Act}
 use Rattle.seqpool.specs.declared.act.Act.TheVariants as acts
 use Rattle.seqpool.specs.Pool.{touches, Pool, Spot, spot, Phase, with, published, put, is_published, is_current, after}
 use Rattle.seqpool.proofs.Growth.{after-here, after-else}
-use Rattle.coresteps.specs.declared.script.Command.{Command}
-use Rattle.coresteps.specs.declared.registers.RegisterState.{RegisterState}
-use Rattle.coresteps.specs.declared.registers.Holding.{Holding}
-use Rattle.coresteps.specs.declared.registers.Holding.TheVariants.{Empty, Filling, Reference}
-use Rattle.coresteps.specs.Registers.{register_with, register_at, fills, refers, fillings, held_references}
-use Rattle.coresteps.specs.Following.{row_content}
-use Rattle.coresteps.specs.Parts.{count_if}
+use Rattle.traces.specs.declared.script.Command.{Command}
+use Rattle.traces.specs.declared.registers.RegisterState.{RegisterState}
+use Rattle.traces.specs.declared.registers.Holding.{Holding}
+use Rattle.traces.specs.declared.registers.Holding.TheVariants.{Empty, Filling, Reference}
+use Rattle.traces.specs.Registers.{register_with, register_at, fills, refers, fillings, held_references}
+use Rattle.traces.specs.Following.{row_content}
+use Rattle.traces.specs.Parts.{count_if}
 use Rattle.coresteps.specs.OneLane.{first_key, IsHeld, AreHeld, IsSimple, IsSimpleLane, AreReplayed}
 use Rattle.coresteps.proofs.RegisterLemmas.{fillings-set, held_references-set, held-set, held-at, held-map}
 use Rattle.coresteps.proofs.LocalLemmas.{unpublished, simple_same}

@@ -23,19 +23,19 @@ use Rattle.steplaws.specs.StepLaws as laws
 use Rattle.steplaws.proofs.Enters.{get-hits-law, get-misses-law}
 use Rattle.steplaws.proofs.Leaves.{undo-law}
 use Rattle.steplaws.proofs.Publishes.{publish-law}
-use Rattle.coresteps.specs.declared.script.Register.{Register}
-use Rattle.coresteps.specs.declared.script.Operand.{Operand}
-use Rattle.coresteps.specs.declared.script.Command.{Command}
-use Rattle.coresteps.specs.declared.script.Command.TheVariants as commands
-use Rattle.coresteps.specs.declared.reply.Reply.{Reply}
-use Rattle.coresteps.specs.declared.reply.Reply.TheVariants as replies
-use Rattle.coresteps.specs.declared.registers.RegisterState.{RegisterState}
-use Rattle.coresteps.specs.declared.registers.Holding.TheVariants.{Empty, Filling, Reference}
-use Rattle.coresteps.specs.Registers.{register_with, register_at, operand_key}
-use Rattle.coresteps.specs.Books.{Book, holding_at, got, stepped, answered_first, answered}
-use Rattle.coresteps.specs.Following.{row_content}
-use Rattle.coresteps.specs.Lawful.{IsStep}
-use Rattle.coresteps.specs.Parts.{lanes_in, moment_of}
+use Rattle.traces.specs.declared.script.Register.{Register}
+use Rattle.traces.specs.declared.script.Operand.{Operand}
+use Rattle.traces.specs.declared.script.Command.{Command}
+use Rattle.traces.specs.declared.script.Command.TheVariants as commands
+use Rattle.traces.specs.declared.reply.Reply.{Reply}
+use Rattle.traces.specs.declared.reply.Reply.TheVariants as replies
+use Rattle.traces.specs.declared.registers.RegisterState.{RegisterState}
+use Rattle.traces.specs.declared.registers.Holding.TheVariants.{Empty, Filling, Reference}
+use Rattle.traces.specs.Registers.{register_with, register_at, operand_key}
+use Rattle.traces.specs.Books.{Book, holding_at, got, stepped, answered_first, answered}
+use Rattle.traces.specs.Following.{row_content}
+use Rattle.traces.specs.Lawful.{IsStep}
+use Rattle.traces.specs.Parts.{lanes_in, moment_of}
 use Rattle.coresteps.specs.OneLane.{first_key, IsSimpleBook, AreReplayed}
 use Rattle.coresteps.proofs.LocalLemmas.{nil}
 use Rattle.std.proofs.Common.{get_or, get_or-set_same, get_or-set_other, slice_get, drop, is_some, map}
@@ -43,13 +43,13 @@ use Rattle.keybits.specs.Shapes.{all_places, position_of}
 use Rattle.keybits.proofs.ShapeLemmas.{position_of-injective, position_of-lt}
 use Rattle.seqpool.specs.Pool.{pool_after, fresh}
 use Rattle.seqpool.proofs.Growth.{pool-snoc, after-here, after-else}
-use Rattle.coresteps.specs.declared.trace.Turn.{Turn}
+use Rattle.traces.specs.declared.trace.Turn.{Turn}
 use Rattle.coresteps.specs.declared.lane.Lane.{Lane}
 use Rattle.coresteps.specs.declared.lane.Stage.{Stage}
 use Rattle.coresteps.specs.declared.lane.Stage.TheVariants.{Ready, Missed}
-use Rattle.coresteps.specs.Books.{act_list, all_answered}
-use Rattle.coresteps.specs.Following.{AreReplies}
-use Rattle.coresteps.specs.Lawful.{World, at_end, is_finished, world_after, book_after, IsAtRest, IsNextTurn}
+use Rattle.traces.specs.Books.{act_list, all_answered}
+use Rattle.traces.specs.Following.{AreReplies}
+use Rattle.traces.specs.Lawful.{World, at_end, is_finished, world_after, book_after, IsAtRest, IsNextTurn}
 use Rattle.coresteps.specs.Lanes.{AreFirstKeys, ready_book, IsReady, Works, next_lane}
 use Rattle.std.specs.Prelude.{Result, Ok, Err, IfOk, OnErr, MatchBool}
 use Rattle.coresteps.specs.declared.machine.Machine.{Machine}

@@ -11,21 +11,21 @@ use Rattle.seqpool.specs.declared.act.Act.TheVariants as acts
 use Rattle.seqpool.specs.Pool.{pool_after}
 use Rattle.steplaws.specs.Calls.{is_hit}
 use Rattle.steplaws.specs.Facts.{Rule}
-use Rattle.coresteps.specs.declared.script.Command.{Command}
-use Rattle.coresteps.specs.declared.script.Command.TheVariants as commands
-use Rattle.coresteps.specs.declared.script.Register.{Register}
-use Rattle.coresteps.specs.declared.script.Operand.{Operand}
-use Rattle.coresteps.specs.declared.registers.Holding.TheVariants.{Empty}
+use Rattle.traces.specs.declared.script.Command.{Command}
+use Rattle.traces.specs.declared.script.Command.TheVariants as commands
+use Rattle.traces.specs.declared.script.Register.{Register}
+use Rattle.traces.specs.declared.script.Operand.{Operand}
+use Rattle.traces.specs.declared.registers.Holding.TheVariants.{Empty}
 use Rattle.coresteps.specs.declared.lane.Lane.{Lane}
 use Rattle.coresteps.specs.declared.lane.Stage.{Stage}
 use Rattle.coresteps.specs.declared.lane.Stage.TheVariants.{Ready, Missed}
-use Rattle.coresteps.specs.Registers.{register_at, operand_key}
-use Rattle.coresteps.specs.Books.{Book}
-use Rattle.coresteps.specs.Following.{row_content}
-use Rattle.coresteps.specs.declared.trace.Turn.{Turn}
+use Rattle.traces.specs.Registers.{register_at, operand_key}
+use Rattle.traces.specs.Books.{Book}
+use Rattle.traces.specs.Following.{row_content}
+use Rattle.traces.specs.declared.trace.Turn.{Turn}
 use Rattle.coresteps.specs.declared.machine.Machine.{Machine}
-use Rattle.coresteps.specs.Lawful.{World, world_after, world_from, is_finished, IsNextTurn, AreTurns}
-use Rattle.coresteps.specs.Parts.{moment_of, StandsThroughout}
+use Rattle.traces.specs.Lawful.{World, world_after, world_from, is_finished, IsNextTurn, AreTurns}
+use Rattle.traces.specs.Parts.{moment_of, StandsThroughout}
 use Rattle.coresteps.specs.OneLane.{IsSimpleBook}
 use Rattle.coresteps.specs.Lanes.{AreFirstKeys, ready_book}
 

@@ -2,19 +2,19 @@
 use Rattle.std.specs.Prelude.{◌≡◌, ◌≢◌, ◌⊎◌, ℕ, ◌+◌, ◌<◌, ◌≤◌, true, List, [], ◌∷◌, map, drop, length, Option, Some, None, MatchOption, is_some, slice_set, replicate}
 use Rattle.keybits.specs.declared.shape.Shape.{Shape}
 use Rattle.keybits.specs.Keys.{place_of, is_key}
-use Rattle.coresteps.specs.declared.script.Command.{Command}
-use Rattle.coresteps.specs.declared.script.Command.TheVariants as commands
+use Rattle.traces.specs.declared.script.Command.{Command}
+use Rattle.traces.specs.declared.script.Command.TheVariants as commands
 use Rattle.coresteps.specs.declared.lane.NextCall.{NextCall}
 use Rattle.coresteps.specs.declared.lane.NextCall.TheVariants.{End, Publishes, Gets}
-use Rattle.coresteps.specs.declared.registers.RegisterState.{RegisterState}
-use Rattle.coresteps.specs.declared.registers.Holding.{Holding}
-use Rattle.coresteps.specs.declared.registers.Holding.TheVariants.{Empty, Filling}
-use Rattle.coresteps.specs.Registers.{empty_register, register_at, register_with, operand_key}
-use Rattle.coresteps.specs.declared.reply.Reply.{Reply}
+use Rattle.traces.specs.declared.registers.RegisterState.{RegisterState}
+use Rattle.traces.specs.declared.registers.Holding.{Holding}
+use Rattle.traces.specs.declared.registers.Holding.TheVariants.{Empty, Filling}
+use Rattle.traces.specs.Registers.{empty_register, register_at, register_with, operand_key}
+use Rattle.traces.specs.declared.reply.Reply.{Reply}
 use Rattle.coresteps.specs.declared.lane.Lane.{Lane}
 use Rattle.coresteps.specs.declared.lane.Stage.TheVariants.{Ready}
-use Rattle.coresteps.specs.Books.{Book, page_places, registers_after, free_after, caller, call_of, next_in, next_aim, answered, all_answered}
-use Rattle.coresteps.specs.Lawful.{IsAtRest}
+use Rattle.traces.specs.Books.{Book, page_places, registers_after, free_after, caller, call_of, next_in, next_aim, answered, all_answered}
+use Rattle.traces.specs.Lawful.{IsAtRest}
 use Rattle.coresteps.specs.OneLane.{AreReplayed, first_key, LocalReply, FirstLocal, AreLocal}
 
 -- the book of a lane that stands before these commands, and has made no step of the first

@@ -1,9 +1,3 @@
-pub mod Registers
-pub mod Books
-pub mod Following
-pub mod Lawful
-pub mod Parts
-pub mod Text
 pub mod OneLane
 pub mod Lanes
 pub mod Kept

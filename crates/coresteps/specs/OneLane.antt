@@ -6,17 +6,17 @@ use Rattle.keybits.specs.Shapes.{is_place}
 use Rattle.keybits.specs.Keys.{key_number, place_of}
 use Rattle.seqpool.specs.Pool.{Pool, Phase, with, published, home, retired, is_published}
 use Rattle.keybits.specs.Counts.{times}
-use Rattle.coresteps.specs.declared.script.Command.{Command}
-use Rattle.coresteps.specs.declared.script.Command.TheVariants.{Create, Write, Publish, Downgrade, Get, Read, Release, Clear}
-use Rattle.coresteps.specs.declared.reply.Reply.{Reply}
-use Rattle.coresteps.specs.declared.reply.Reply.TheVariants as replies
-use Rattle.coresteps.specs.declared.registers.RegisterState.{RegisterState}
-use Rattle.coresteps.specs.declared.registers.Holding.{Holding}
-use Rattle.coresteps.specs.declared.registers.Holding.TheVariants.{Empty, Filling, Reference}
-use Rattle.coresteps.specs.Registers.{operand_key, fillings, held_references}
-use Rattle.coresteps.specs.Books.{Book, holding_at, handed_out, next_aim, answered}
-use Rattle.coresteps.specs.Following.{HasContent, WhereEmpty, WhereFilling, WhereKey}
-use Rattle.coresteps.specs.Parts.{count_if}
+use Rattle.traces.specs.declared.script.Command.{Command}
+use Rattle.traces.specs.declared.script.Command.TheVariants.{Create, Write, Publish, Downgrade, Get, Read, Release, Clear}
+use Rattle.traces.specs.declared.reply.Reply.{Reply}
+use Rattle.traces.specs.declared.reply.Reply.TheVariants as replies
+use Rattle.traces.specs.declared.registers.RegisterState.{RegisterState}
+use Rattle.traces.specs.declared.registers.Holding.{Holding}
+use Rattle.traces.specs.declared.registers.Holding.TheVariants.{Empty, Filling, Reference}
+use Rattle.traces.specs.Registers.{operand_key, fillings, held_references}
+use Rattle.traces.specs.Books.{Book, holding_at, handed_out, next_aim, answered}
+use Rattle.traces.specs.Following.{HasContent, WhereEmpty, WhereFilling, WhereKey}
+use Rattle.traces.specs.Parts.{count_if}
 
 -- a command that is replayed so far
 abbrev pub IsReplayed : Command → Type 0

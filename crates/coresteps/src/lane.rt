@@ -1,22 +1,20 @@
 ghost use Rattle.std.specs.Prelude.{slice_set, ℕ, List, ◌≡◌, ◌∷◌, ◌++◌, ◌<◌, ◌+◌, ◌≤◌, [], IfOk, OnOk, map, take, drop, length};
 ghost use Rattle.keybits.specs.Shapes.{IsShape};
 ghost use Rattle.keybits.specs.Places.{number_of};
-ghost use Rattle.coresteps.specs.Registers.{operand_key, register_at, register_with};
-ghost use Rattle.coresteps.specs.declared.registers.Holding.TheVariants.{Empty, Filling, Reference};
+ghost use Rattle.traces.specs.Registers.{operand_key, register_at, register_with};
+ghost use Rattle.traces.specs.declared.registers.Holding.TheVariants.{Empty, Filling, Reference};
 ghost use Rattle.coresteps.specs.OneLane.{IsReplayed, first_key};
 ghost use Rattle.coresteps.specs.Lanes.{Answers, Answered, AreFirstKeys, IsNextCall, IsReady, IsRefilled, Responds, Works, ready_book, next_lane, first_lane, holding_now};
-ghost use Rattle.coresteps.specs.declared.script.Command.TheVariants.{Create, Write, Publish, Get, Read};
-ghost use Rattle.coresteps.specs.Books.{page_places};
-ghost use Rattle.coresteps.specs.Lawful.{IsAtRest};
+ghost use Rattle.traces.specs.declared.script.Command.TheVariants.{Create, Write, Publish, Get, Read};
+ghost use Rattle.traces.specs.Books.{page_places};
+ghost use Rattle.traces.specs.Lawful.{IsAtRest};
 
 use crate::fault::CoreFault;
 use crate::keys::Keys;
-use crate::registers::{Holding, RegisterState, Registers};
-use crate::reply::{Replies, Reply};
-use crate::script::{Command, Operand, Register};
 use keybits::{Key, Place, Shape, fits};
 use seqpool::Bytes;
 use std::alloc::Global;
+use traces::{Command, Holding, Operand, Register, RegisterState, Registers, Replies, Reply};
 
 /// How far the first command without a reply has come.
 #[derive(Clone, Copy, Debug, PartialEq, Eq)]

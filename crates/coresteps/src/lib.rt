@@ -5,19 +5,11 @@ mod fault;
 mod keys;
 mod lane;
 mod machine;
-mod registers;
 mod replay;
-mod reply;
-mod script;
-mod text;
-mod trace;
 
 pub use fault::CoreFault;
 pub use replay::{Core, run};
-pub use reply::{Replies, Reply};
-pub use script::{Command, Operand, Register, Script};
-pub use text::write_trace;
-pub use trace::{Trace, Turn};
+pub use traces::{Command, Operand, Register, Replies, Reply, Script, Trace, Turn, write_trace};
 
 #[cfg(test)]
 mod tests;

@@ -3,19 +3,16 @@ ghost use Rattle.keybits.specs.Shapes.{IsShape, is_place, position_of};
 ghost use Rattle.keybits.specs.Keys.{place_of, is_key, generation_of};
 ghost use Rattle.keybits.specs.Words.{state_in, count_in, fresh_word};
 ghost use Rattle.steplaws.specs.Calls.{is_hit};
-ghost use Rattle.coresteps.specs.Lawful.{World, first_world};
+ghost use Rattle.traces.specs.Lawful.{World, first_world};
 
 use crate::fault::CoreFault;
 use crate::lane::{Lane, NextCall, Stage};
-use crate::registers::{Holding, RegisterState};
-use crate::reply::{Replies, Reply};
-use crate::script::{Command, Operand, Register, Script};
-use crate::trace::Turn;
 use keybits::{
     Kind, Life, Shape, State, Step, Word, entered, generation_of, left, place_of, published,
 };
 use seqpool::{Act, Bytes};
 use std::alloc::Global;
+use traces::{Command, Holding, Operand, Register, RegisterState, Replies, Reply, Script, Turn};
 
 /// The words of a pool, and the lanes that run their scripts over them.
 #[derive(Drop)]
@@ -35,7 +32,7 @@ impl Machine {
     ghost use Rattle.coresteps.specs.Lanes.{IsNextCall, Works};
     ghost use Rattle.coresteps.specs.declared.lane.Stage.TheVariants.{Ready, Missed};
     ghost use Rattle.coresteps.specs.declared.lane.NextCall.TheVariants.{End, Publishes, Gets};
-    ghost use Rattle.coresteps.specs.Lawful.{World, first_world, is_finished};
+    ghost use Rattle.traces.specs.Lawful.{World, first_world, is_finished};
     ghost use Rattle.coresteps.specs.OneLane.{ScriptsAreReplayed};
     ghost use Rattle.coresteps.specs.Kept.{IsCore, IsCoreAt, IsSameCore, MakesTurn, Turns};
 

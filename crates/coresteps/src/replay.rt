@@ -1,18 +1,17 @@
 ghost use Rattle.std.specs.Prelude.{ℕ, List, ◌≡◌, ◌∷◌, ◌++◌, [], true, IsOk, IfOk, OnOk, OnErr, length};
 ghost use Rattle.keybits.specs.Shapes.{IsShape};
 ghost use Rattle.coresteps.specs.OneLane.{ScriptsAreReplayed};
-ghost use Rattle.coresteps.specs.Lawful.{IsLawful, World, first_world};
-ghost use Rattle.coresteps.specs.Parts.{StandsThroughout};
+ghost use Rattle.traces.specs.Lawful.{IsLawful, World, first_world};
+ghost use Rattle.traces.specs.Parts.{StandsThroughout};
 ghost use Rattle.coresteps.specs.Kept.{IsRun};
 
 use crate::fault::CoreFault;
 use crate::machine::Machine;
-use crate::script::Script;
-use crate::trace::{Trace, Turn};
 use keybits::Shape;
 use seqpool::Act;
 use std::alloc::Global;
 use std::marker::Model;
+use traces::{Script, Trace, Turn};
 
 /// The pool's algorithm as a pure machine, after some turns of its scripts.
 #[derive(Drop)]
@@ -32,7 +31,7 @@ impl Model for Core {
 }
 
 impl Core {
-    ghost use Rattle.coresteps.specs.Lawful.{World, first_world, is_finished};
+    ghost use Rattle.traces.specs.Lawful.{World, first_world, is_finished};
     ghost use Rattle.coresteps.specs.OneLane.{ScriptsAreReplayed};
     ghost use Rattle.coresteps.specs.Kept.{IsCoreAt, IsSameCore, Turns};
 

@@ -1,5 +1,5 @@
-//! The program: it replays a script file over a schedule and prints the trace, or checks that acts are
-//! a legal history.
+//! The program: it replays a script file over a schedule and prints the trace, checks that acts are a
+//! legal history, or says what a key names.
 #![tactic(auto)]
 
 ghost use Rattle.std.specs.Prelude.{◌≡◌, ◌≤◌, if◌then◌else◌};
@@ -11,25 +11,68 @@ ghost use Rattle.poolrun.specs.Statuses.{IsHelp, IsMistake};
 
 use clap::Error as ClapError;
 use clap::error::ErrorKind;
-use commandline::{Task, TaskFault, task};
-use pooltexts::{RunFault, Watched, check_text, load, replay_text};
+use commandline::{Stop, Task, TaskFault, Turns, task};
+use pooltexts::{
+    RunFault, Watched, check_text, draw_turns, key_text, load, replay_text, stop_after,
+};
+use scripts::ScriptFault;
 use std::alloc::AllocError;
 use std::process::ExitCode;
 use std::{env, io};
 
-/// Does a task, with its output on standard output. The answer is false where acts were found illegal.
+/// The schedule of a replay, without what comes after a lane's stop.
+fn schedule_of(
+    rt: &HostRuntime,
+    script: &[u8],
+    turns: Turns,
+    stop: Option<Stop>,
+) -> Result<Vec<u32>, RunFault> {
+    let schedule = match turns {
+        Turns::Listed(lanes) => lanes,
+        Turns::Drawn { seed, turns } => draw_turns(rt.alloc(), script, seed, turns)?,
+    };
+    match stop {
+        Some(Stop { lane, after }) => stop_after(
+            rt.alloc(),
+            schedule.as_slice(),
+            lane,
+            after,
+        ).map_err(|_| RunFault::Read(ScriptFault::Memory)),
+        None => Ok(schedule),
+    }
+}
+
+/// Replays a script file, with the text of the trace, or of its acts, on standard output.
+fn replay(
+    rt: &HostRuntime,
+    file: &str,
+    turns: Turns,
+    stop: Option<Stop>,
+    acts: bool,
+) -> Result<(), RunFault> {
+    let script = load(rt, file)?;
+    let schedule = schedule_of(rt, script.as_slice(), turns, stop)?;
+    let mut out = Watched::new(rt.stdout());
+    replay_text(
+        rt.alloc(),
+        script.as_slice(),
+        schedule.as_slice(),
+        acts,
+        &mut out,
+    )
+}
+
+/// Does a task, with its output on standard output. The answer is false where acts were found illegal
+/// or a number is no key's.
 fn work(rt: &HostRuntime, task: Task) -> Result<bool, RunFault> {
     match task {
-        Task::Replay { file, schedule } => {
-            let file = load(rt, file.as_str())?;
-            let mut out = Watched::new(rt.stdout());
-            replay_text(
-                rt.alloc(),
-                file.as_slice(),
-                schedule.as_slice(),
-                false,
-                &mut out,
-            )?;
+        Task::Replay {
+            file,
+            turns,
+            stop,
+            acts,
+        } => {
+            replay(rt, file.as_str(), turns, stop, acts)?;
             Ok(true)
         }
         Task::Check { file } => {
@@ -37,14 +80,18 @@ fn work(rt: &HostRuntime, task: Task) -> Result<bool, RunFault> {
             let mut out = Watched::new(rt.stdout());
             check_text(rt.alloc(), acts.as_slice(), &mut out)
         }
+        Task::Key { number } => {
+            let mut out = Watched::new(rt.stdout());
+            key_text(rt.alloc(), number, &mut out)
+        }
     }
 }
 
-/// The status after a task that was done: 0, or 1 where acts were found illegal.
-fn status_of(legal: bool) -> ExitCode
-    ensures { exit_status result ≡ (if legal then 0 else 1) }
+/// The status after a task that was done: 0, or 1 where acts were found illegal or a number is no key's.
+fn status_of(good: bool) -> ExitCode
+    ensures { exit_status result ≡ (if good then 0 else 1) }
 {
-    if legal {
+    if good {
         ExitCode::SUCCESS
     } else {
         ExitCode::FAILURE
@@ -119,7 +166,7 @@ fn run(rt: &HostRuntime, task: Task) -> ExitCode
     ensures { exit_status result ≤ 1 }
 {
     match work(rt, task) {
-        Ok(legal) => status_of(legal),
+        Ok(good) => status_of(good),
         Err(fault) => report(rt, &fault),
     }
 }
@@ -136,6 +183,12 @@ mod fake_writers;
 #[cfg(test)]
 mod test_checks;
 #[cfg(test)]
+mod test_keys;
+#[cfg(test)]
+mod test_plans;
+#[cfg(test)]
 mod test_replays;
+#[cfg(test)]
+mod test_schedules;
 #[cfg(test)]
 mod test_words;

@@ -2,7 +2,7 @@ use crate::fake_writers::{Clogged, Deaf, Halting};
 use coresteps::CoreFault;
 use keybits::ShapeFault;
 use pooltexts::{RunFault, Watched, check_text};
-use scripts::ReadFault;
+use scripts::ScriptFault;
 use seqpool::ActsFault;
 use std::io::Write;
 use std::test::Fail;
@@ -163,9 +163,37 @@ fn watches(rt: HostRuntime) {
 #[test]
 fn names_faults(rt: HostRuntime) {
     let faults = [
-        (RunFault::Read(ReadFault::NotJson), 31, "NotJson"),
-        (RunFault::Read(ReadFault::Field), 32, "Field"),
-        (RunFault::Read(ReadFault::Memory), 36, "Memory"),
+        (RunFault::Read(ScriptFault::NotJson), 31, "NotJson"),
+        (RunFault::Read(ScriptFault::Field), 32, "Field"),
+        (RunFault::Read(ScriptFault::Act), 33, "Act"),
+        (RunFault::Read(ScriptFault::Register), 34, "Register"),
+        (RunFault::Read(ScriptFault::Number), 35, "Number"),
+        (
+            RunFault::Read(ScriptFault::Shape(ShapeFault::Lanes)),
+            1,
+            "Lanes",
+        ),
+        (
+            RunFault::Read(ScriptFault::Shape(ShapeFault::FirstPage)),
+            2,
+            "FirstPage",
+        ),
+        (
+            RunFault::Read(ScriptFault::Shape(ShapeFault::Pages)),
+            3,
+            "Pages",
+        ),
+        (
+            RunFault::Read(ScriptFault::Shape(ShapeFault::Generation)),
+            4,
+            "Generation",
+        ),
+        (
+            RunFault::Read(ScriptFault::Shape(ShapeFault::Tag)),
+            6,
+            "Tag",
+        ),
+        (RunFault::Read(ScriptFault::Memory), 36, "Memory"),
         (RunFault::Acts(ActsFault::ActsLine), 19, "ActsLine"),
         (RunFault::Acts(ActsFault::Shape(ShapeFault::Tag)), 6, "Tag"),
         (RunFault::Acts(ActsFault::Memory), 18, "Memory"),

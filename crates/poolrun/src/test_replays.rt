@@ -1,6 +1,5 @@
 use crate::fake_writers::{Clogged, Deaf, Halting};
-use pooltexts::{RunFault, Watched, load, read_schedule, replay_text};
-use scripts::{ReadFault, parse};
+use pooltexts::{RunFault, Watched, draw_turns, load, read_schedule, replay_text};
 use std::alloc::{AllocError, Global};
 use std::test::Fail;
 
@@ -54,37 +53,6 @@ const REPLAYS: [(&str, &[u32], &str); 10] = [
     ),
 ];
 
-// Files that are JSON and no plan.
-const REFUSED: [&str; 18] = [
-    "[]",
-    "{\"shape\":{\"lanes\":4294967296,\"first_page\":2,\"pages\":1,\"last_generation\":1},\"scripts\":[[]]}",
-    "{\"shape\":{\"lanes\":1.0,\"first_page\":2,\"pages\":1,\"last_generation\":1},\"scripts\":[[]]}",
-    "{\"shape\":{\"lanes\":1,\"first_page\":3,\"pages\":1,\"last_generation\":1},\"scripts\":[[]]}",
-    "{\"shape\":{\"lanes\":1,\"first_page\":2,\"pages\":7,\"last_generation\":1},\"scripts\":[[]]}",
-    "{\"shape\":{\"lanes\":1,\"first_page\":2,\"pages\":1,\"last_generation\":0},\"scripts\":[[]]}",
-    "{\"shape\":{\"lanes\":1,\"first_page\":2,\"pages\":1,\"last_generation\":1,\"tag\":256},\"scripts\":[[]]}",
-    "{\"shape\":{\"lanes\":1,\"first_page\":2,\"pages\":1,\"last_generation\":1,\"tags\":0},\"scripts\":[[]]}",
-    "{\"shape\":{\"lanes\":1,\"first_page\":2,\"pages\":1,\"last_generation\":1},\"scripts\":[]}",
-    "{\"shape\":{\"lanes\":1,\"first_page\":2,\"pages\":1,\"last_generation\":1},\"scripts\":[[]],\"more\":0}",
-    "{\"shape\":{\"lanes\":2,\"first_page\":2,\"pages\":1,\"last_generation\":1},\"scripts\":[[],[]]}",
-    "{\"shape\":{\"lanes\":1,\"first_page\":2,\"pages\":1,\"last_generation\":1},\"scripts\":[[[\"pop\",0]]]}",
-    "{\"shape\":{\"lanes\":1,\"first_page\":2,\"pages\":1,\"last_generation\":1},\"scripts\":[[[\"release\",0]]]}",
-    "{\"shape\":{\"lanes\":1,\"first_page\":2,\"pages\":1,\"last_generation\":1},\"scripts\":[[[\"create\",16]]]}",
-    "{\"shape\":{\"lanes\":1,\"first_page\":2,\"pages\":1,\"last_generation\":1},\"scripts\":[[[\"write\",0,\"6\"]]]}",
-    "{\"shape\":{\"lanes\":1,\"first_page\":2,\"pages\":1,\"last_generation\":1},\"scripts\":[[[\"get\",0,\"@16\"]]]}",
-    "{\"shape\":{\"lanes\":1,\"first_page\":2,\"pages\":1,\"last_generation\":1},\"scripts\":[[[\"get\",0,\"@01\"]]]}",
-    "{\"shape\":{\"lanes\":1,\"first_page\":2,\"pages\":1,\"last_generation\":1},\"scripts\":[[[\"get\",0,-1]]]}",
-];
-
-// The fault of a replay, which must have one.
-fn fault_of(alloc: Global, file: &[u8]) -> Option<(u32, &'static str)> {
-    let mut out = Watched::new(Vec::new(alloc));
-    match replay_text(alloc, file, &[0], false, &mut out) {
-        Ok(()) => None,
-        Err(fault) => Some((fault.number(), fault.name())),
-    }
-}
-
 #[test]
 fn replays(rt: HostRuntime) -> Result<(), Fail> {
     for (file, schedule, trace) in REPLAYS {
@@ -94,6 +62,42 @@ fn replays(rt: HostRuntime) -> Result<(), Fail> {
         let text = out.into_inner();
         assert_eq!(rt; text.as_slice(), trace.as_bytes());
     }
+    Ok(())
+}
+
+// Scripts, schedules and the texts of the acts that come of them.
+const ACTS: [(&str, &[u32], &str); 3] = [
+    (
+        ROW,
+        &[0, 0],
+        "shape 1 2 1 4294967295\n0 publish 16777216 6869 0\n0 get 16777216 some 6869\n",
+    ),
+    // a tag, which stands in the shape's line
+    (
+        "{\"shape\":{\"lanes\":1,\"first_page\":1,\"pages\":1,\"last_generation\":4294967295,\"tag\":5},\"scripts\":[[[\"create\",0],[\"publish\",0],[\"get\",1,16777216],[\"get\",1,\"@0\"]]]}",
+        &[0, 0],
+        "shape 1 1 1 4294967295 5\n0 publish 360287970206416896 - 0\n0 get 360287970206416896 some -\n",
+    ),
+    (ROW, &[1], "shape 1 2 1 4294967295\n"),
+];
+
+#[test]
+fn writes_acts(rt: HostRuntime) -> Result<(), Fail> {
+    for (file, schedule, acts) in ACTS {
+        let mut out = Watched::new(Vec::new(rt.alloc()));
+        replay_text(rt.alloc(), file.as_bytes(), schedule, true, &mut out)?;
+        let text = out.into_inner();
+        assert_eq!(rt; text.as_slice(), acts.as_bytes());
+    }
+    Ok(())
+}
+
+#[test]
+fn draws_for_a_file(rt: HostRuntime) -> Result<(), Fail> {
+    let schedule = draw_turns(rt.alloc(), ROW.as_bytes(), 1, 5)?;
+    assert_eq!(rt; schedule.as_slice(), [0, 0, 0, 0, 0].as_slice());
+    let fault = draw_turns(rt.alloc(), b"[]", 1, 5);
+    assert!(rt; fault.is_err_and(|fault| fault.number() == 32));
     Ok(())
 }
 
@@ -150,34 +154,6 @@ fn fails_with_its_writer(rt: HostRuntime) {
     let fault = replay_text(rt.alloc(), ROW.as_bytes(), &[0, 0], false, &mut out);
     assert!(rt; fault.is_err_and(|fault| fault.number() == 42));
     assert!(rt; out.failed());
-}
-
-#[test]
-fn reads_a_plan(rt: HostRuntime) -> Result<(), Fail> {
-    let plan = parse(rt.alloc(), ROW.as_bytes())?;
-    assert_eq!(rt; plan.shape.last_generation, 4_294_967_295);
-    assert_eq!(rt; plan.scripts.as_slice().len(), 1);
-    assert_eq!(rt; plan.scripts.as_slice()[0].as_slice().len(), 5);
-    Ok(())
-}
-
-#[test]
-fn refuses_files(rt: HostRuntime) {
-    let row = ROW.as_bytes();
-    for n in 0..row.len() {
-        assert!(rt;
-            fault_of(rt.alloc(), &row[..n]) == Some((31, "NotJson")),
-            "the first {n} bytes"
-        );
-    }
-    assert!(rt; fault_of(rt.alloc(), &[b'['; 200]) == Some((31, "NotJson")));
-    assert!(rt; fault_of(rt.alloc(), b"\xff") == Some((31, "NotJson")));
-    for file in REFUSED {
-        assert!(rt;
-            fault_of(rt.alloc(), file.as_bytes()) == Some((32, "Field")),
-            "{file}"
-        );
-    }
 }
 
 #[test]

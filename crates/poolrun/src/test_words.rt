@@ -3,27 +3,6 @@ use pooltexts::read_schedule;
 use std::alloc::{AllocError, Global};
 use std::test::Fail;
 
-#[test]
-fn reads_schedules(rt: HostRuntime) -> Result<(), Fail> {
-    let good: [(&str, &[u32]); 4] = [
-        ("0", &[0]),
-        ("0,1,15", &[0, 1, 15]),
-        ("255,000,07", &[255, 0, 7]),
-        ("0,0", &[0, 0]),
-    ];
-    for (text, lanes) in good {
-        let schedule = read_schedule(rt.alloc(), text.as_bytes())?.ok_or("a schedule")?;
-        assert_eq!(rt; schedule.as_slice(), lanes, "{text}");
-    }
-    for text in ["", ",", "0,", ",0", "0,,0", "256", "0000", "+1", "0 1", "a"] {
-        assert!(rt;
-            read_schedule(rt.alloc(), text.as_bytes())?.is_none(),
-            "{text}"
-        );
-    }
-    Ok(())
-}
-
 // A schedule of a thousand turns of lane 0.
 fn thousand_entries(alloc: Global) -> Result<String, AllocError> {
     let mut text = String::from_str(alloc, "0")?;
@@ -52,81 +31,443 @@ fn task_of(alloc: Global, words: &[&str]) -> Result<Task, TaskFault> {
     task(alloc, list.as_slice())
 }
 
-// What comes of some words.
-fn outcome_of(alloc: Global, words: &[&str]) -> &'static str {
+// What comes of some words: the task, what `clap` says or `words`.
+fn outcome_of(alloc: Global, words: &[&str]) -> Result<String, AllocError> {
     match task_of(alloc, words) {
-        Ok(_) => "a task",
-        Err(TaskFault::Clap(error)) => { if error.use_stderr() { "clap" } else { "help" } }
-        Err(TaskFault::Words) => "words",
-        Err(TaskFault::Memory(_)) => "memory",
+        Ok(task) => format!(in alloc; "{task:?}"),
+        Err(TaskFault::Clap(error)) => {
+            String::from_str(alloc, if error.use_stderr() { "clap" } else { "help" })
+        }
+        Err(TaskFault::Words) => String::from_str(alloc, "words"),
+        Err(TaskFault::Memory(_)) => String::from_str(alloc, "memory"),
     }
 }
 
-// Whether it is a replay of this file over these lanes.
-fn is_replay(task: &Task, path: &str, lanes: &[u32]) -> bool {
-    match task {
-        Task::Replay { file, schedule } => file.as_str() == path && schedule.as_slice() == lanes,
-        Task::Check { file: _ } => false,
-    }
-}
+// Words, and their tasks.
+const TASKS: [(&[&str], &str); 11] = [
+    (
+        &["poolrun", "replay", "a.json", "--schedule", "0,1"],
+        "Replay { file: \"a.json\", turns: Listed([0, 1]), stop: None, acts: false }",
+    ),
+    (
+        &[
+            "poolrun",
+            "replay",
+            "--schedule=255,000,07",
+            "--acts",
+            "a.json",
+        ],
+        "Replay { file: \"a.json\", turns: Listed([255, 0, 7]), stop: None, acts: true }",
+    ),
+    (
+        &[
+            "poolrun",
+            "replay",
+            "a.json",
+            "--schedule",
+            "0",
+            "--stop",
+            "1:2",
+        ],
+        "Replay { file: \"a.json\", turns: Listed([0]), stop: Some(Stop { lane: 1, after: 2 }), acts: false }",
+    ),
+    (
+        &["poolrun", "replay", "a.json", "--seed", "1", "--turns", "3"],
+        "Replay { file: \"a.json\", turns: Drawn { seed: 1, turns: 3 }, stop: None, acts: false }",
+    ),
+    (
+        &[
+            "poolrun",
+            "replay",
+            "a.json",
+            "--turns",
+            "0",
+            "--seed",
+            "18446744073709551615",
+        ],
+        "Replay { file: \"a.json\", turns: Drawn { seed: 18446744073709551615, turns: 0 }, stop: None, acts: false }",
+    ),
+    (
+        &[
+            "poolrun",
+            "replay",
+            "a.json",
+            "--seed",
+            "00000000000000000007",
+            "--turns",
+            "00000000000001000000",
+            "--stop",
+            "4294967295:00000000000000000000",
+            "--acts",
+        ],
+        "Replay { file: \"a.json\", turns: Drawn { seed: 7, turns: 1000000 }, stop: Some(Stop { lane: 4294967295, after: 0 }), acts: true }",
+    ),
+    (
+        &["poolrun", "check", "a.acts"],
+        "Check { file: \"a.acts\" }",
+    ),
+    (&["poolrun", "check", "true"], "Check { file: \"true\" }"),
+    (&["poolrun", "key", "16777216"], "Key { number: 16777216 }"),
+    (
+        &["poolrun", "key", "00000000000000000000"],
+        "Key { number: 0 }",
+    ),
+    (
+        &["poolrun", "key", "18446744073709551615"],
+        "Key { number: 18446744073709551615 }",
+    ),
+];
 
-// Whether it is a check of this file.
-fn is_check(task: &Task, path: &str) -> bool {
-    match task {
-        Task::Replay {
-            file: _,
-            schedule: _,
-        } => false,
-        Task::Check { file } => file.as_str() == path,
-    }
-}
+// Words of a replay whose turns are none.
+const WRONG_TURNS: [&[&str]; 21] = [
+    &["poolrun", "replay", "a.json"],
+    &["poolrun", "replay", "a.json", "--acts"],
+    &["poolrun", "replay", "a.json", "--seed", "1"],
+    &["poolrun", "replay", "a.json", "--turns", "1"],
+    &[
+        "poolrun",
+        "replay",
+        "a.json",
+        "--schedule",
+        "0",
+        "--seed",
+        "1",
+    ],
+    &[
+        "poolrun",
+        "replay",
+        "a.json",
+        "--schedule",
+        "0",
+        "--turns",
+        "1",
+    ],
+    &[
+        "poolrun",
+        "replay",
+        "a.json",
+        "--schedule",
+        "0",
+        "--seed",
+        "1",
+        "--turns",
+        "1",
+    ],
+    &["poolrun", "replay", "a.json", "--schedule", ""],
+    &["poolrun", "replay", "a.json", "--schedule", "0,"],
+    &["poolrun", "replay", "a.json", "--schedule", "0001"],
+    &["poolrun", "replay", "a.json", "--schedule", "256"],
+    &["poolrun", "replay", "a.json", "--seed", "x", "--turns", "3"],
+    &["poolrun", "replay", "a.json", "--seed", "", "--turns", "3"],
+    &["poolrun", "replay", "a.json", "--seed=-1", "--turns", "3"],
+    &[
+        "poolrun", "replay", "a.json", "--seed", "+1", "--turns", "3",
+    ],
+    &[
+        "poolrun",
+        "replay",
+        "a.json",
+        "--seed",
+        "18446744073709551616",
+        "--turns",
+        "3",
+    ],
+    &[
+        "poolrun",
+        "replay",
+        "a.json",
+        "--seed",
+        "000000000000000000001",
+        "--turns",
+        "3",
+    ],
+    &[
+        "poolrun", "replay", "a.json", "--seed", "1", "--turns", "1000001",
+    ],
+    &["poolrun", "replay", "a.json", "--seed", "1", "--turns", ""],
+    &[
+        "poolrun", "replay", "a.json", "--seed", "1", "--turns", "1.0",
+    ],
+    &[
+        "poolrun",
+        "replay",
+        "a.json",
+        "--seed",
+        "1",
+        "--turns",
+        "000000000000000000001",
+    ],
+];
 
-// Words, and what comes of them.
-const OUTCOMES: [(&[&str], &str); 17] = [
-    (
-        &["poolrun", "replay", "a.json", "--schedule", "0"],
-        "a task",
-    ),
-    (&["poolrun"], "clap"),
-    (&["poolrun", "play"], "clap"),
-    (&["poolrun", "replay", "a.json"], "clap"),
-    (&["poolrun", "replay", "--schedule", "0"], "clap"),
-    (
-        &["poolrun", "replay", "a.json", "--schedule", "0", "--fast"],
-        "clap",
-    ),
-    (
-        &["poolrun", "replay", "a.json", "--schedule", "0,"],
-        "words",
-    ),
-    (
-        &["poolrun", "replay", "a.json", "--schedule", "256"],
-        "words",
-    ),
-    (&["poolrun", "replay", "a.json", "--schedule", ""], "words"),
-    (
-        &["poolrun", "replay", "a.json", "--schedule", "0001"],
-        "words",
-    ),
-    (&["poolrun", "check"], "clap"),
-    (&["poolrun", "check", "a.acts", "b.acts"], "clap"),
-    (&["poolrun", "check", "a.acts", "--schedule", "0"], "clap"),
-    (&["poolrun", "check", "--acts", "a.acts"], "clap"),
-    (&["poolrun", "--help"], "help"),
-    (&["poolrun", "check", "--help"], "help"),
-    (&["poolrun", "replay", "--help"], "help"),
+// Words of a replay whose stop is none, or whose turns are none beside a stop.
+const WRONG_STOPS: [&[&str]; 17] = [
+    &[
+        "poolrun",
+        "replay",
+        "a.json",
+        "--schedule",
+        "0",
+        "--stop",
+        "",
+    ],
+    &[
+        "poolrun",
+        "replay",
+        "a.json",
+        "--schedule",
+        "0",
+        "--stop",
+        "1",
+    ],
+    &[
+        "poolrun",
+        "replay",
+        "a.json",
+        "--schedule",
+        "0",
+        "--stop",
+        "1:",
+    ],
+    &[
+        "poolrun",
+        "replay",
+        "a.json",
+        "--schedule",
+        "0",
+        "--stop",
+        ":1",
+    ],
+    &[
+        "poolrun",
+        "replay",
+        "a.json",
+        "--schedule",
+        "0",
+        "--stop",
+        ":",
+    ],
+    &[
+        "poolrun",
+        "replay",
+        "a.json",
+        "--schedule",
+        "0",
+        "--stop",
+        "1:2:3",
+    ],
+    &[
+        "poolrun",
+        "replay",
+        "a.json",
+        "--schedule",
+        "0",
+        "--stop",
+        "1:2:",
+    ],
+    &[
+        "poolrun",
+        "replay",
+        "a.json",
+        "--schedule",
+        "0",
+        "--stop",
+        "a:1",
+    ],
+    &[
+        "poolrun",
+        "replay",
+        "a.json",
+        "--schedule",
+        "0",
+        "--stop",
+        "1:b",
+    ],
+    &[
+        "poolrun",
+        "replay",
+        "a.json",
+        "--schedule",
+        "0",
+        "--stop",
+        "1:+2",
+    ],
+    &[
+        "poolrun",
+        "replay",
+        "a.json",
+        "--schedule",
+        "0",
+        "--stop",
+        "1: 2",
+    ],
+    &[
+        "poolrun",
+        "replay",
+        "a.json",
+        "--schedule",
+        "0",
+        "--stop",
+        "4294967296:0",
+    ],
+    &[
+        "poolrun",
+        "replay",
+        "a.json",
+        "--schedule",
+        "0",
+        "--stop",
+        "0:4294967296",
+    ],
+    &[
+        "poolrun",
+        "replay",
+        "a.json",
+        "--schedule",
+        "0",
+        "--stop",
+        "000000000000000000001:1",
+    ],
+    &[
+        "poolrun",
+        "replay",
+        "a.json",
+        "--schedule",
+        "0",
+        "--stop",
+        "1:000000000000000000001",
+    ],
+    &[
+        "poolrun",
+        "replay",
+        "a.json",
+        "--schedule",
+        "0,",
+        "--stop",
+        "1:2",
+    ],
+    &["poolrun", "replay", "a.json", "--stop", "1:2"],
+];
+
+// Words of a key whose number is none.
+const WRONG_KEYS: [&[&str]; 8] = [
+    &["poolrun", "key", ""],
+    &["poolrun", "key", "x"],
+    &["poolrun", "key", "0x1"],
+    &["poolrun", "key", "+1"],
+    &["poolrun", "key", "1 "],
+    &["poolrun", "key", "1.0"],
+    &["poolrun", "key", "18446744073709551616"],
+    &["poolrun", "key", "000000000000000000000"],
+];
+
+// Words that `clap` refuses.
+const REFUSED: [&[&str]; 21] = [
+    &["poolrun"],
+    &["poolrun", ""],
+    &["poolrun", "play"],
+    &["poolrun", "replay"],
+    &["poolrun", "replay", "--schedule", "0"],
+    &["poolrun", "replay", "a.json", "--schedule", "0", "--fast"],
+    &["poolrun", "replay", "a.json", "--schedule"],
+    &[
+        "poolrun",
+        "replay",
+        "a.json",
+        "--schedule",
+        "0",
+        "--schedule",
+        "0",
+    ],
+    &[
+        "poolrun", "replay", "a.json", "--seed", "1", "--seed", "1", "--turns", "1",
+    ],
+    &[
+        "poolrun", "replay", "a.json", "--seed", "-1", "--turns", "1",
+    ],
+    &[
+        "poolrun",
+        "replay",
+        "a.json",
+        "--schedule",
+        "0",
+        "--acts",
+        "--acts",
+    ],
+    &[
+        "poolrun",
+        "replay",
+        "a.json",
+        "--schedule",
+        "0",
+        "--acts=true",
+    ],
+    &["poolrun", "replay", "a.json", "b.json", "--schedule", "0"],
+    &["poolrun", "check"],
+    &["poolrun", "check", "a.acts", "b.acts"],
+    &["poolrun", "check", "a.acts", "--schedule", "0"],
+    &["poolrun", "check", "--acts", "a.acts"],
+    &["poolrun", "key"],
+    &["poolrun", "key", "--acts", "1"],
+    &["poolrun", "key", "1", "2"],
+    &["poolrun", "key", "-1"],
+];
+
+// Words that ask for help, and a part of the help.
+const HELPS: [(&[&str], &str); 6] = [
+    (&["poolrun", "--help"], "Example: poolrun replay"),
+    (&["poolrun", "help"], "Example: poolrun replay"),
+    (&["poolrun", "replay", "--help"], "Example: poolrun replay"),
+    (&["poolrun", "check", "--help"], "Example: poolrun check"),
+    (&["poolrun", "key", "--help"], "Example: poolrun key"),
+    (&["poolrun", "help", "key"], "Example: poolrun key"),
 ];
 
 #[test]
-fn reads_words(rt: HostRuntime) -> Result<(), Fail> {
-    let words = ["poolrun", "replay", "a.json", "--schedule", "0,1"];
-    let task = task_of(rt.alloc(), &words)?;
-    assert!(rt; is_replay(&task, "a.json", &[0, 1]));
-    let words = ["poolrun", "check", "a.acts"];
-    let task = task_of(rt.alloc(), &words)?;
-    assert!(rt; is_check(&task, "a.acts"));
-    for (words, outcome) in OUTCOMES {
-        assert_eq!(rt; outcome_of(rt.alloc(), words), outcome, "{words:?}");
+fn reads_tasks(rt: HostRuntime) -> Result<(), Fail> {
+    for (words, wanted) in TASKS {
+        let outcome = outcome_of(rt.alloc(), words)?;
+        assert_eq!(rt; outcome.as_str(), wanted, "{words:?}");
+    }
+    Ok(())
+}
+
+// Whether this comes of each list of words.
+fn all_are(alloc: Global, lists: &[&[&str]], wanted: &str) -> Result<bool, AllocError> {
+    for words in lists {
+        let outcome = outcome_of(alloc, words)?;
+        if outcome.as_str() != wanted {
+            return Ok(false);
+        }
+    }
+    Ok(true)
+}
+
+#[test]
+fn refuses_words(rt: HostRuntime) -> Result<(), Fail> {
+    assert!(rt; all_are(rt.alloc(), &WRONG_TURNS, "words")?);
+    assert!(rt; all_are(rt.alloc(), &WRONG_STOPS, "words")?);
+    assert!(rt; all_are(rt.alloc(), &WRONG_KEYS, "words")?);
+    assert!(rt; all_are(rt.alloc(), &REFUSED, "clap")?);
+    Ok(())
+}
+
+// The help that some words ask for.
+fn help_of(alloc: Global, words: &[&str]) -> Result<String, AllocError> {
+    match task_of(alloc, words) {
+        Err(TaskFault::Clap(error)) => format!(in alloc; "{error}"),
+        _ => Ok(String::new(alloc)),
+    }
+}
+
+#[test]
+fn helps(rt: HostRuntime) -> Result<(), Fail> {
+    for (words, part) in HELPS {
+        assert_eq!(rt;
+            outcome_of(rt.alloc(), words)?.as_str(),
+            "help",
+            "{words:?}"
+        );
+        assert!(rt; help_of(rt.alloc(), words)?.contains(part), "{words:?}");
     }
     Ok(())
 }

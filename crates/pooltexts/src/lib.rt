@@ -3,12 +3,15 @@
 
 mod check;
 mod files;
+mod key;
 mod replay;
+mod replayed;
 mod run_fault;
 
 pub use check::check_text;
 pub use files::load;
-pub use replay::replay_text;
+pub use key::key_text;
+pub use replay::{draw_turns, replay_text};
 pub use run_fault::RunFault;
-pub use schedules::read_schedule;
+pub use schedules::{read_schedule, stop_after};
 pub use watched::Watched;

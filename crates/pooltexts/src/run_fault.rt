@@ -1,10 +1,9 @@
 ghost use Rattle.std.specs.Prelude.{◌≡◌};
-ghost use Rattle.pooltexts.specs.RunFaults.{shape_fault_name, acts_fault_name};
+ghost use Rattle.pooltexts.specs.RunFaults.{acts_fault_name};
 ghost use Rattle.pooltexts.specs.declared.run_fault.RunFault.TheVariants as runs;
 
 use coresteps::CoreFault;
-use keybits::ShapeFault;
-use scripts::ReadFault;
+use scripts::{ScriptFault, shape_fault_name};
 use seqpool::ActsFault;
 use std::alloc::AllocError;
 use thiserror::Error;
@@ -13,9 +12,9 @@ use watched::WriteFailed;
 /// Why the program could not do what it was told.
 #[derive(Debug, Drop, Error)]
 pub enum RunFault {
-    /// The script file is no plan that can be replayed (31, 32, 36).
+    /// The script file is no plan (1, 2, 3, 4, 6, 31 to 36), or one that isn't replayed so far (32).
     #[error(transparent)]
-    Read(ReadFault),
+    Read(ScriptFault),
     /// The text of acts stands for none: a line is wrong (19), the shape is refused (1, 2, 3, 4, 6) or
     /// memory was refused (18).
     #[error(transparent)]
@@ -32,19 +31,6 @@ pub enum RunFault {
     /// Memory was refused (43).
     #[error("out of memory")]
     Memory,
-}
-
-/// The name of a shape's fault.
-fn shape_fault_name(fault: &ShapeFault) -> &'static str
-    ensures { result.now ≡ shape_fault_name fault.now }
-{
-    match fault {
-        ShapeFault::Lanes => "Lanes",
-        ShapeFault::FirstPage => "FirstPage",
-        ShapeFault::Pages => "Pages",
-        ShapeFault::Generation => "Generation",
-        ShapeFault::Tag => "Tag",
-    }
 }
 
 /// The name of a fault of a text of acts.

@@ -1,1 +1,5 @@
+pub mod Numbers
+pub mod Parts
 pub mod Schedules
+pub mod Draws
+pub mod Stops

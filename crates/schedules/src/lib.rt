@@ -1,6 +1,15 @@
-//! Schedules of turns, as text.
+//! Schedules of turns: as text, drawn by a generator, and with a lane that stops; and decimal numbers as words.
 #![tactic(auto)]
 
+mod cut;
+mod fault;
+mod number;
 mod schedule;
+mod seeds;
+mod stop;
 
-pub use schedule::read_schedule;
+pub use fault::Memory;
+pub use number::{read_digit, read_number};
+pub use schedule::{read_schedule, read_stop};
+pub use seeds::draw;
+pub use stop::stop_after;

@@ -1,5 +1,4 @@
 pub mod Registers
 pub mod Values
 pub mod Sequences
-pub mod Hexes
 pub mod Plans

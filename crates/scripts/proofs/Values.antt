@@ -1,13 +1,11 @@
 -- Lists of values beside the data that they stand for.
-use Rattle.std.proofs.Common.{◌≡◌, ◌==◌, ℕ, List, [], ◌∷◌, length, map, Option, Some, Result, refl, sym, ap, subst}
+use Rattle.std.proofs.Common.{◌≡◌, ◌==◌, ℕ, List, [], ◌∷◌, length, map, Some, Ok, refl, ap}
 use Rattle.serde_json.specs.Data.{Data}
 use Rattle.serde_json.specs.Find.{as_object, as_array}
 use Rattle.serde_json.specs.View.{view, items_view, members_view}
 use Rattle.serde_json.specs.declared.value.Value.{Value}
 use Rattle.serde_json.proofs.Views.{Entry, members_len-members_view}
-use Rattle.scripts.specs.declared.read_fault.ReadFault.{ReadFault}
-use Rattle.scripts.specs.Readings.{Reads}
-use Rattle.scripts.specs.ScriptFiles.{has_fields, list_of, items_of, each_of, command_of, script_of, scripts_of}
+use Rattle.scripts.specs.ScriptFiles.{has_fields, list_of, items_of}
 
 pub has_fields_is : (d : Data) (es : List Entry) (count : ℕ) → Some (members_view es) ≡ as_object d → has_fields count d ≡ (length es == count)
 has_fields_is d es count e = rw (← e, members_len-members_view es) refl
@@ -16,15 +14,5 @@ list_of-items_view : (vs : List Value) → list_of (items_view vs) ≡ map view 
 list_of-items_view [] = refl
 list_of-items_view (v ∷ vs) = ap (λ ds. view v ∷ ds) (list_of-items_view vs)
 
-pub items_of_is : (d : Data) (vs : List Value) → Some (items_view vs) ≡ as_array d → items_of d ≡ Some (map view vs)
+pub items_of_is : (d : Data) (vs : List Value) → Some (items_view vs) ≡ as_array d → items_of d ≡ Ok (map view vs)
 items_of_is d vs e = rw (← e, list_of-items_view vs) refl
-
-pub script_of_is : (d : Data) (vs : List Value) → Some (items_view vs) ≡ as_array d → script_of d ≡ each_of command_of (map view vs)
-script_of_is d vs e = rw (← e, list_of-items_view vs) refl
-
-pub scripts_of_is : (d : Data) (vs : List Value) → Some (items_view vs) ≡ as_array d → scripts_of d ≡ each_of script_of (map view vs)
-scripts_of_is d vs e = rw (← e, list_of-items_view vs) refl
-
--- what reads the one reads the other
-pub reads_along : {T : Type 0} (a b : Option T) (r : Result T ReadFault) → a ≡ b → Reads b r → Reads a r
-reads_along {T} a b r e h = subst (λ (there : Option T). Reads there r) (sym e) h

@@ -1,5 +1,4 @@
-pub mod Hex
 pub mod CommandNames
-pub mod ReadFaults
+pub mod ScriptFaults
 pub mod ScriptFiles
 pub mod Readings

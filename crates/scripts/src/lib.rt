@@ -1,14 +1,15 @@
-//! Script files: what their bytes stand for.
+//! Script files: what their bytes stand for; and the schedules of their turns.
 #![tactic(auto)]
 
 mod command_name;
 mod commands;
-mod hex;
+mod fields;
 mod operands;
 mod plan;
-mod read_fault;
 mod reading;
+mod script_fault;
 
 pub use plan::{Plan, Scripts};
-pub use read_fault::ReadFault;
 pub use reading::parse;
+pub use schedules::{Memory, draw, stop_after};
+pub use script_fault::{ScriptFault, shape_fault_name};

@@ -1,80 +1,74 @@
-ghost use Rattle.std.specs.Prelude.{◌≡◌, ◌≤◌, ◌<◌, map, IfOk};
+ghost use Rattle.std.specs.Prelude.{◌≡◌};
 ghost use Rattle.serde_json.specs.View.{view};
-ghost use Rattle.scripts.specs.ScriptFiles.{register_at, register_of, decimal_digit, register_named, key_of, content_of};
+ghost use Rattle.scripts.specs.ScriptFiles.{register_at, register_of, register_named, key_named, key_of, content_of};
 ghost use Rattle.scripts.specs.Readings.{Reads};
 
-use crate::hex;
-use crate::read_fault::ReadFault;
-use coresteps::{Operand, Register};
+use crate::script_fault::ScriptFault;
+use hex::FromHexError;
+use schedules::read_digit;
 use seqpool::Bytes;
 use serde_json::Value;
 use std::alloc::Global;
+use traces::{Operand, Register};
 
-/// The register of this number, 0 to 15; another number is `Field`.
-fn register_at(number: u64) -> Result<Register, ReadFault>
-    ensures { Reads (register_at number) result }
+/// The register of this number, 0 to 15.
+fn register_at(number: u64) -> Option<Register>
+    ensures { result ≡ register_at number }
 {
     if number > 15 {
-        return Err(ReadFault::Field);
+        return None;
     }
-    Ok(Register {
+    Some(Register {
         number: number as u8,
     })
 }
 
-/// The register of a value that is a number.
-pub fn read_register(value: &Value) -> Result<Register, ReadFault>
-    ensures { Reads (register_of (view value.now)) result }
+/// A register, which is its number.
+pub fn read_register(value: &Value) -> Result<Register, ScriptFault>
+    ensures { result ≡ register_of (view value.now) }
 {
-    let number = value.as_u64().ok_or(ReadFault::Field)?;
-    register_at(number)
-}
-
-/// The value of a decimal digit that is at most the limit.
-fn read_decimal(limit: u8, byte: u8) -> Result<u8, ReadFault>
-    requires { limit ≤ 9 }
-    ensures digit { Reads (decimal_digit limit byte) result }
-    ensures small { IfOk result (λ digit. digit ≤ limit) }
-{
-    if byte < b'0' || byte > b'0' + limit {
-        return Err(ReadFault::Field);
-    }
-    Ok(byte - b'0')
+    let number = value.as_u64().ok_or(ScriptFault::Register)?;
+    register_at(number).ok_or(ScriptFault::Register)
 }
 
 /// The register that a text names: an at sign and the register's number.
-fn read_register_name(text: &[u8]) -> Result<Register, ReadFault>
-    ensures { Reads (register_named text.now) result }
+fn read_register_name(text: &[u8]) -> Option<Register>
+    ensures { result ≡ register_named text.now }
 {
     match text {
-        [b'@', digit] => {
-            let number = read_decimal(9, *digit)?;
-            register_at(u64::from(number))
-        }
-        [b'@', b'1', digit] => {
-            let number = read_decimal(5, *digit)?;
-            register_at(10 + u64::from(number))
-        }
-        _ => Err(ReadFault::Field),
+        [b'@', digit] => register_at(read_digit(*digit)?),
+        [b'@', b'1', digit] => register_at(10 + read_digit(*digit)?),
+        _ => None,
     }
 }
 
-/// The key of a value: a number, or a text that names a register.
-pub fn read_key(value: &Value) -> Result<Operand, ReadFault>
-    ensures { Reads (key_of (view value.now)) result }
+/// The key that a text names.
+fn read_key_name(text: &[u8]) -> Result<Operand, ScriptFault>
+    ensures { result ≡ key_named text.now }
+{
+    let register = read_register_name(text).ok_or(ScriptFault::Register)?;
+    Ok(Operand::LastOf(register))
+}
+
+/// A key: a number, or a text that names one.
+pub fn read_key(value: &Value) -> Result<Operand, ScriptFault>
+    ensures { result ≡ key_of (view value.now) }
 {
     if let Some(number) = value.as_u64() {
         return Ok(Operand::Number(number));
     }
-    let text = value.as_str().ok_or(ReadFault::Field)?;
-    let register = read_register_name(text.as_bytes())?;
-    Ok(Operand::LastOf(register))
+    let text = value.as_str().ok_or(ScriptFault::Number)?;
+    read_key_name(text.as_bytes())
 }
 
 /// The bytes of a value that is a text of pairs of hexadecimal digits.
-pub fn read_content(alloc: Global, value: &Value) -> Result<Bytes, ReadFault>
+pub fn read_content(alloc: Global, value: &Value) -> Result<Bytes, ScriptFault>
     ensures { Reads (content_of (view value.now)) result }
 {
-    let text = value.as_str().ok_or(ReadFault::Field)?;
-    hex::read_bytes(alloc, text.as_bytes())
+    let text = value.as_str().ok_or(ScriptFault::Number)?;
+    match hex::decode(alloc, text) {
+        Ok(bytes) => Ok(Bytes::from_vec(bytes)),
+        Err(FromHexError::OutOfMemory) => Err(ScriptFault::Memory),
+        Err(_) => Err(ScriptFault::Number),
+    }
 }

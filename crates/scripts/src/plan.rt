@@ -1,8 +1,8 @@
 ghost use Rattle.std.specs.Prelude.{◌≡◌};
 
-use coresteps::Script;
 use keybits::Shape;
 use std::marker::Model;
+use traces::Script;
 
 /// The scripts of a plan: one for each lane, by rising number.
 #[derive(Drop, Debug)]
@@ -12,7 +12,7 @@ pub struct Scripts {
 
 impl Model for Scripts {
     ghost use Rattle.std.specs.Prelude.{List};
-    ghost use Rattle.coresteps.specs.declared.script.Command.{Command};
+    ghost use Rattle.traces.specs.declared.script.Command.{Command};
 
     ghost Value = { List (List Command) };
 

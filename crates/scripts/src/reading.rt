@@ -1,53 +1,40 @@
-ghost use Rattle.std.specs.Prelude.{◌≡◌, ◌↔◌, IsTrue, IfOk, IfErr};
-ghost use Rattle.coresteps.specs.OneLane.{IsReplayed, AreReplayed, ScriptsAreReplayed};
+ghost use Rattle.std.specs.Prelude.{◌≡◌, map, IfOk, IfErr};
 ghost use Rattle.serde_json.specs.View.{view};
-ghost use Rattle.scripts.specs.ScriptFiles.{has_fields, number_at, tag_of, shape_of, fields_of, plan_of, IsJson};
-ghost use Rattle.scripts.specs.Readings.{Reads, RefusesBytes, Parses, IsReplayedPlan};
+ghost use Rattle.scripts.specs.ScriptFiles.{has_shape_fields, tag_of, shape_of, fields_of, file_of};
+ghost use Rattle.scripts.specs.Readings.{seen_by, IsJson, IsPlanOf, RefusesPlan, RefusesBytes, Parses};
 
 use crate::commands::read_scripts;
+use crate::fields::{field, has_field, has_fields, items, read_number};
 use crate::plan::Plan;
-use crate::read_fault::ReadFault;
-use coresteps::{Command, Script};
+use crate::script_fault::ScriptFault;
 use keybits::Shape;
 use serde_json::Value;
 use std::alloc::Global;
 
-/// Whether a value is an object of so many fields.
-fn has_fields(value: &Value, count: usize) -> bool
-    ensures { result ≡ has_fields count (view value.now) }
+/// Whether a value is an object with exactly the fields of a shape, with or without the tag.
+fn has_shape_fields(value: &Value) -> bool
+    ensures { result ≡ has_shape_fields (view value.now) }
 {
-    match value.as_object() {
-        Some(fields) => fields.len() == count,
-        None => false,
-    }
+    (has_fields(value, 4) || (has_fields(value, 5) && has_field(value, "tag")))
+        && has_field(value, "lanes")
+        && has_field(value, "first_page")
+        && has_field(value, "pages")
+        && has_field(value, "last_generation")
 }
 
-/// The field of a shape that has this name.
-fn read_number(value: &Value, name: &str) -> Result<u32, ReadFault>
-    ensures { Reads (number_at name.now (view value.now)) result }
+/// The tag of a shape, which is 0 where it has no such field.
+fn read_tag(value: &Value) -> Result<u32, ScriptFault>
+    ensures { result ≡ tag_of (view value.now) }
 {
-    let field = value.get(name).ok_or(ReadFault::Field)?;
-    let number = field.as_u64().ok_or(ReadFault::Field)?;
-    if number > 4_294_967_295 {
-        return Err(ReadFault::Field);
+    if has_field(value, "tag") {
+        return read_number(value, "tag");
     }
-    Ok(number as u32)
+    Ok(0)
 }
 
-fn read_tag(value: &Value) -> Result<u32, ReadFault>
-    ensures { Reads (tag_of (view value.now)) result }
-{
-    if has_fields(value, 4) {
-        return Ok(0);
-    }
-    if !has_fields(value, 5) {
-        return Err(ReadFault::Field);
-    }
-    read_number(value, "tag")
-}
-
-fn read_shape(value: &Value) -> Result<Shape, ReadFault>
-    ensures { Reads (shape_of (view value.now)) result }
+/// The shape of an object with its fields.
+fn read_shape(value: &Value) -> Result<Shape, ScriptFault>
+    ensures { result ≡ shape_of (view value.now) }
 {
     let lanes = read_number(value, "lanes")?;
     let first_page = read_number(value, "first_page")?;
@@ -63,29 +50,43 @@ fn read_shape(value: &Value) -> Result<Shape, ReadFault>
     })
 }
 
-/// The plan of an object that has the fields of a script file.
-fn read_fields(alloc: Global, value: &Value) -> Result<Plan, ReadFault>
-    ensures { Reads (fields_of (view value.now)) result }
+/// The value of the shape and those of the scripts, of an object with exactly the fields of a file.
+fn read_fields(value: &Value) -> Result<(&Value, &[Value]), ScriptFault>
+    ensures { seen_by (λ f. (view f.0.now, map view f.1.now)) result ≡ fields_of (view value.now) }
 {
-    let shape = value.get("shape").ok_or(ReadFault::Field)?;
+    let shape = field(value, "shape")?;
+    let scripts = field(value, "scripts")?;
+    let items = items(scripts)?;
+    if has_fields(value, 2) && has_shape_fields(shape) {
+        return Ok((shape, items));
+    }
+    Err(ScriptFault::Field)
+}
+
+/// The shape of a file, which is still to be checked, and the values of its scripts.
+fn read_file(value: &Value) -> Result<(Shape, &[Value]), ScriptFault>
+    ensures { seen_by (λ f. (f.0, map view f.1.now)) result ≡ file_of (view value.now) }
+{
+    let (shape, scripts) = read_fields(value)?;
     let shape = read_shape(shape)?;
-    let scripts = value.get("scripts").ok_or(ReadFault::Field)?;
-    let scripts = read_scripts(alloc, scripts)?;
+    Ok((shape, scripts))
+}
+
+/// The plan of a file's value.
+fn read_plan(alloc: Global, value: &Value) -> Result<Plan, ScriptFault>
+    ensures ok { IfOk result (λ plan. IsPlanOf (view value.now) plan) }
+    ensures err { IfErr result (λ fault. RefusesPlan (view value.now) fault) }
+{
+    let (shape, scripts) = read_file(value)?;
+    if let Err(fault) = shape.check() {
+        return Err(ScriptFault::Shape(fault));
+    }
+    let scripts = read_scripts(alloc, shape.lanes, scripts)?;
     Ok(Plan { shape, scripts })
 }
 
-/// The plan of a value, whose shape is still to be checked.
-fn read_plan(alloc: Global, value: &Value) -> Result<Plan, ReadFault>
-    ensures { Reads (plan_of (view value.now)) result }
-{
-    if !has_fields(value, 2) {
-        return Err(ReadFault::Field);
-    }
-    read_fields(alloc, value)
-}
-
 /// The value of a JSON text, of whose fields the last of each name counts.
-fn read_json(alloc: Global, file: &[u8]) -> Result<Value, ReadFault>
+fn read_json(alloc: Global, file: &[u8]) -> Result<Value, ScriptFault>
     ensures ok { IfOk result (λ value. IsJson file.now (view value)) }
     ensures err { IfErr result (λ fault. RefusesBytes file.now fault) }
 {
@@ -93,67 +94,24 @@ fn read_json(alloc: Global, file: &[u8]) -> Result<Value, ReadFault>
         Ok(value) => Ok(value),
         Err(error) => {
             if error.is_memory() {
-                return Err(ReadFault::Memory);
+                return Err(ScriptFault::Memory);
             }
-            Err(ReadFault::NotJson)
+            Err(ScriptFault::NotJson)
         }
     }
 }
 
-/// Whether a command is replayed so far.
-fn is_replayed(command: &Command) -> bool
-    ensures { IsTrue result ↔ IsReplayed command.now }
-{
-    match command {
-        Command::Create(_) => true,
-        Command::Write(_, _) => true,
-        Command::Publish(_) => true,
-        Command::Get(_, _) => true,
-        Command::Read(_) => true,
-        Command::Downgrade(_) => false,
-        Command::Release(_) => false,
-        Command::Clear(_) => false,
-    }
-}
-
-/// Whether all these commands are replayed so far.
-fn are_replayed(commands: &[Command]) -> bool
-    ensures { IsTrue result ↔ AreReplayed commands.now }
-{
-    for command in commands {
-        if !is_replayed(command) {
-            return false;
-        }
-    }
-    true
-}
-
-/// Whether all commands of these scripts are replayed so far.
-fn scripts_are_replayed(scripts: &[Script]) -> bool
-    ensures { IsTrue result ↔ ScriptsAreReplayed scripts.now }
-{
-    for script in scripts {
-        if !are_replayed(script.as_slice()) {
-            return false;
-        }
-    }
-    true
-}
-
-/// Reads a script file: the plan of one lane, with `create`, `write`, `publish`, `get` and `read`
-/// only, that its bytes stand for. The errors: `NotJson` where the bytes are no JSON text, `Field`
-/// where that text stands for no such plan, `Memory` where memory was refused, which no empty file
-/// is. The format is this project's profile.
-pub fn parse(alloc: Global, file: &[u8]) -> Result<Plan, ReadFault>
+/// Reads a script file: the plan that its bytes stand for, of any shape within its limits. An error is
+/// the first fault in this order: `NotJson` where the bytes are no JSON text; `Field` where the file or
+/// its shape has other fields, or `scripts` is no array; `Number` for the numbers of the shape, then
+/// `Shape`; `Field` where there are not as many scripts as lanes; then those of each line, in order:
+/// `Field` where it is no array that begins with a text, `Act` where that names no command, `Field`
+/// where the command wants another number of operands, and `Register` or `Number` for these, from left
+/// to right. `Memory` comes where memory was refused, which it is for no empty file. The format is this
+/// project's profile.
+pub fn parse(alloc: Global, file: &[u8]) -> Result<Plan, ScriptFault>
     ensures { Parses file.now result }
 {
     let value = read_json(alloc, file)?;
-    let plan = read_plan(alloc, &value)?;
-    if plan.shape.check().is_err() || plan.shape.lanes != 1 {
-        return Err(ReadFault::Field);
-    }
-    if plan.scripts.as_slice().len() != 1 || !scripts_are_replayed(plan.scripts.as_slice()) {
-        return Err(ReadFault::Field);
-    }
-    Ok(plan)
+    read_plan(alloc, &value)
 }

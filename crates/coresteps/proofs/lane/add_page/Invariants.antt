@@ -1,7 +1,7 @@
 use Rattle.std.proofs.Common.{◌≡◌, ◌++◌}
 use Rattle.std.specs.Prelude.{map}
 use Rattle.coresteps.specs.OneLane.{first_key}
-use Rattle.coresteps.specs.Books.{slots_from}
+use Rattle.traces.specs.Books.{slots_from}
 use Rattle.coresteps.proofs.lane.add_page.Given as goal
 
 abbrev pub invariant-loop-slot : goal.invariant-loop-slot

@@ -2,9 +2,9 @@
 use Rattle.std.proofs.Common.{◌≡◌, ◌∙◌, sym, subst, List, [], ◌∷◌, ◌++◌, refl, Bool}
 use Rattle.std.specs.Prelude.{MatchBool}
 use Rattle.keybits.specs.declared.shape.Shape.{Shape}
-use Rattle.coresteps.specs.declared.trace.Turn.{Turn}
-use Rattle.coresteps.specs.Lawful.{World, world_after, world_from}
-use Rattle.coresteps.specs.Parts.{Stands}
+use Rattle.traces.specs.declared.trace.Turn.{Turn}
+use Rattle.traces.specs.Lawful.{World, world_after, world_from}
+use Rattle.traces.specs.Parts.{Stands}
 use Rattle.coresteps.specs.Kept.{IsCoreAt, IsEmptyTurn, IsSameCore, MakesTurn, IsRun}
 use Rattle.coresteps.proofs.RunLemmas.{turns_skip, turns_more, world-one}
 use Rattle.coresteps.proofs.StandLemmas.{stands, stands_more}

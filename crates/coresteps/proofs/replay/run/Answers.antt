@@ -2,8 +2,8 @@
 use Rattle.std.proofs.Common.{◌∙◌, ℕ, ◌<◌, sym, subst, arith, List, [], take, length}
 use Rattle.std.proofs.lemmas.List.{take_more}
 use Rattle.keybits.specs.declared.shape.Shape.{Shape}
-use Rattle.coresteps.specs.declared.trace.Turn.{Turn}
-use Rattle.coresteps.specs.Lawful.{first_world}
+use Rattle.traces.specs.declared.trace.Turn.{Turn}
+use Rattle.traces.specs.Lawful.{first_world}
 use Rattle.coresteps.specs.Kept.{IsRun}
 use Rattle.coresteps.proofs.StandLemmas.{stands}
 use Rattle.coresteps.proofs.replay.run.Goals as goal

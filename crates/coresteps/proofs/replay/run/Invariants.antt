@@ -1,5 +1,5 @@
 use Rattle.std.proofs.Common.{◌≡◌, take}
-use Rattle.coresteps.specs.Lawful.{first_world}
+use Rattle.traces.specs.Lawful.{first_world}
 use Rattle.coresteps.specs.Kept.{IsRun}
 use Rattle.coresteps.proofs.replay.run.Given as goal
 

@@ -1,6 +1,6 @@
 -- One command more.
 use Rattle.std.proofs.Common.{sym, subst, List, [], ◌∷◌, ◌++◌}
-use Rattle.coresteps.specs.declared.script.Command.{Command}
+use Rattle.traces.specs.declared.script.Command.{Command}
 use Rattle.coresteps.specs.OneLane.{IsReplayed, AreReplayed}
 use Rattle.coresteps.proofs.tests.commands_of.Goals as goal
 

@@ -1,8 +1,6 @@
-use Rattle.std.proofs.Common.{rules}
-use Rattle.scripts.proofs.Plans.{refuses_file}
+use Rattle.serde_json.specs.View.{view}
+use Rattle.scripts.proofs.Plans.{parses}
 use Rattle.scripts.proofs.reading.parse.Goals as goal
 
-pub returns-in_err-plan : goal.returns-in_err-plan
-returns-in_err-plan c =
-    let refused = refuses_file c.args.file.now _ c.in_err-plan.field-0.0 c.in_ok-value.ensures.ok c.in_err-plan.ensures in
-    search rules
+pub returns : goal.returns
+returns c = parses c.args.file.now (view c.in_ok-value.value) c.read_plan.result c.in_ok-value.ensures.ok c.read_plan.ensures.ok c.read_plan.ensures.err

@@ -1,10 +1,10 @@
 -- What create hands out is the first of the keys, after the page was opened where it had to be.
 use Rattle.std.proofs.Common.{◌≡◌, ap, sym, ◌∙◌, subst, List, ℕ, [], Some, set}
-use Rattle.coresteps.specs.declared.script.Command.TheVariants.{Create}
-use Rattle.coresteps.specs.declared.reply.Reply.TheVariants as replies
-use Rattle.coresteps.specs.declared.registers.RegisterState.{RegisterState}
-use Rattle.coresteps.specs.declared.registers.Holding.TheVariants.{Filling}
-use Rattle.coresteps.specs.Registers.{register_with}
+use Rattle.traces.specs.declared.script.Command.TheVariants.{Create}
+use Rattle.traces.specs.declared.reply.Reply.TheVariants as replies
+use Rattle.traces.specs.declared.registers.RegisterState.{RegisterState}
+use Rattle.traces.specs.declared.registers.Holding.TheVariants.{Filling}
+use Rattle.traces.specs.Registers.{register_with}
 use Rattle.coresteps.specs.Lanes.{Answers}
 use Rattle.coresteps.proofs.RegisterLemmas.{register_at-is}
 use Rattle.coresteps.proofs.CreateLemmas.{handed_answers, full_answers}

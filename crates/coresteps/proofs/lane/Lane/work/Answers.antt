@@ -1,7 +1,7 @@
 -- One reply more is local, and the book has it.
 use Rattle.std.proofs.Common.{◌≡◌, ap, sym, ◌∙◌, subst, List, Option, None}
-use Rattle.coresteps.specs.declared.reply.Reply.{Reply}
-use Rattle.coresteps.specs.Books.{Book, next_aim, answered, all_answered}
+use Rattle.traces.specs.declared.reply.Reply.{Reply}
+use Rattle.traces.specs.Books.{Book, next_aim, answered, all_answered}
 use Rattle.coresteps.specs.OneLane.{FirstLocal, AreLocal}
 use Rattle.coresteps.specs.Lanes.{Answered, IsReady, ready_book}
 use Rattle.coresteps.proofs.LocalLemmas.{all_answered-one, local-one}

@@ -1,5 +1,5 @@
 use Rattle.std.proofs.Common.{◌≡◌, ◌-◌, length}
-use Rattle.coresteps.specs.Books.{all_answered}
+use Rattle.traces.specs.Books.{all_answered}
 use Rattle.coresteps.specs.OneLane.{AreLocal}
 use Rattle.coresteps.specs.Lanes.{IsReady, ready_book}
 use Rattle.coresteps.proofs.lane.Lane.work.Given as goal

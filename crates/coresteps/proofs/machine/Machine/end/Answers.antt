@@ -1,7 +1,7 @@
 -- The turn is the next one, and the core keeps what it made.
 use Rattle.std.proofs.Common.{sym, subst, refl, None}
-use Rattle.coresteps.specs.declared.trace.Turn.{Turn}
-use Rattle.coresteps.specs.Lawful.{world_after, IsNextTurn}
+use Rattle.traces.specs.declared.trace.Turn.{Turn}
+use Rattle.traces.specs.Lawful.{world_after, IsNextTurn}
 use Rattle.coresteps.specs.Kept.{Keeps}
 use Rattle.coresteps.proofs.TurnLemmas.{keeps_end}
 use Rattle.coresteps.proofs.machine.Machine.end.Goals as goal

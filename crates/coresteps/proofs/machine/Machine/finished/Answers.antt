@@ -1,6 +1,6 @@
 -- The lane's book has the commands that the core counts as left.
 use Rattle.std.proofs.Common.{◌∙◌, ap, sym, length, leb, List}
-use Rattle.coresteps.specs.declared.script.Command.{Command}
+use Rattle.traces.specs.declared.script.Command.{Command}
 use Rattle.coresteps.proofs.TurnLemmas.{finished_by}
 use Rattle.coresteps.proofs.machine.Machine.finished.Goals as goal
 

@@ -6,15 +6,15 @@ use Rattle.keybits.specs.Shapes.{is_place, position_of}
 use Rattle.keybits.specs.Keys.{place_of}
 use Rattle.seqpool.specs.declared.act.Act.{Act}
 use Rattle.seqpool.specs.declared.act.Act.TheVariants as acts
-use Rattle.coresteps.specs.declared.trace.Turn.{Turn}
-use Rattle.coresteps.specs.declared.reply.Reply.TheVariants as replies
+use Rattle.traces.specs.declared.trace.Turn.{Turn}
+use Rattle.traces.specs.declared.reply.Reply.TheVariants as replies
 use Rattle.coresteps.specs.declared.lane.Lane.{Lane}
-use Rattle.coresteps.specs.declared.script.Command.{Command}
-use Rattle.coresteps.specs.declared.registers.Holding.TheVariants.{Reference}
-use Rattle.coresteps.specs.Lawful.{world_after, IsNextTurn}
+use Rattle.traces.specs.declared.script.Command.{Command}
+use Rattle.traces.specs.declared.registers.Holding.TheVariants.{Reference}
+use Rattle.traces.specs.Lawful.{world_after, IsNextTurn}
 use Rattle.coresteps.specs.Lanes.{IsReady, Works, next_lane}
 use Rattle.coresteps.specs.Kept.{Keeps}
-use Rattle.coresteps.specs.Registers.{register_with}
+use Rattle.traces.specs.Registers.{register_with}
 use Rattle.keybits.specs.Words.{count_in}
 use Rattle.steplaws.specs.Calls.{is_hit}
 use Rattle.std.proofs.Common.{slice_get}

@@ -5,10 +5,10 @@ use Rattle.keybits.specs.declared.step.Word.TheVariants.{Life}
 use Rattle.keybits.specs.Shapes.{is_place, position_of}
 use Rattle.keybits.specs.Keys.{place_of}
 use Rattle.seqpool.specs.declared.act.Act.{Act}
-use Rattle.coresteps.specs.declared.trace.Turn.{Turn}
+use Rattle.traces.specs.declared.trace.Turn.{Turn}
 use Rattle.coresteps.specs.declared.lane.Lane.{Lane}
-use Rattle.coresteps.specs.declared.script.Command.{Command}
-use Rattle.coresteps.specs.Lawful.{world_after, IsNextTurn}
+use Rattle.traces.specs.declared.script.Command.{Command}
+use Rattle.traces.specs.Lawful.{world_after, IsNextTurn}
 use Rattle.coresteps.specs.Lanes.{IsReady, Works, next_lane}
 use Rattle.coresteps.specs.Kept.{Keeps}
 use Rattle.keybits.specs.Words.{count_in}

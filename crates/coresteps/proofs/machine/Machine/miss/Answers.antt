@@ -6,8 +6,8 @@ use Rattle.keybits.specs.Shapes.{is_place, position_of}
 use Rattle.keybits.specs.Keys.{place_of}
 use Rattle.seqpool.specs.declared.act.Act.{Act}
 use Rattle.seqpool.specs.declared.act.Act.TheVariants as acts
-use Rattle.coresteps.specs.declared.trace.Turn.{Turn}
-use Rattle.coresteps.specs.Lawful.{world_after, IsNextTurn}
+use Rattle.traces.specs.declared.trace.Turn.{Turn}
+use Rattle.traces.specs.Lawful.{world_after, IsNextTurn}
 use Rattle.coresteps.specs.Kept.{Keeps}
 use Rattle.keybits.specs.Words.{count_in}
 use Rattle.steplaws.specs.Calls.{is_hit}

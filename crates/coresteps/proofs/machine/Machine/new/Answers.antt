@@ -2,9 +2,9 @@
 use Rattle.std.proofs.Common.{◌∙◌, ℕ, ap, sym, subst, arith, List, []}
 use Rattle.std.specs.Prelude.{replicate}
 use Rattle.seqpool.specs.declared.act.Act.{Act}
-use Rattle.coresteps.specs.declared.script.Command.{Command}
+use Rattle.traces.specs.declared.script.Command.{Command}
 use Rattle.coresteps.specs.declared.lane.Lane.{Lane}
-use Rattle.coresteps.specs.Lawful.{first_world}
+use Rattle.traces.specs.Lawful.{first_world}
 use Rattle.coresteps.specs.OneLane.{ScriptsAreReplayed}
 use Rattle.coresteps.specs.Kept.{Keeps}
 use Rattle.coresteps.proofs.RunLemmas.{first_keeps}

@@ -7,11 +7,11 @@ use Rattle.keybits.specs.Keys.{place_of}
 use Rattle.keybits.specs.Words.{state_in}
 use Rattle.seqpool.specs.declared.act.Act.{Act}
 use Rattle.seqpool.specs.declared.act.Act.TheVariants as acts
-use Rattle.coresteps.specs.declared.trace.Turn.{Turn}
+use Rattle.traces.specs.declared.trace.Turn.{Turn}
 use Rattle.coresteps.specs.declared.lane.Lane.{Lane}
-use Rattle.coresteps.specs.declared.script.Command.{Command}
-use Rattle.coresteps.specs.declared.registers.Holding.TheVariants.{Empty, Filling}
-use Rattle.coresteps.specs.Lawful.{world_after, IsNextTurn}
+use Rattle.traces.specs.declared.script.Command.{Command}
+use Rattle.traces.specs.declared.registers.Holding.TheVariants.{Empty, Filling}
+use Rattle.traces.specs.Lawful.{world_after, IsNextTurn}
 use Rattle.coresteps.specs.Lanes.{IsReady, Works, holding_now}
 use Rattle.coresteps.specs.Kept.{Keeps}
 use Rattle.coresteps.proofs.TurnLemmas.{next_ready, word_read, publish_facts, keeps_publish}

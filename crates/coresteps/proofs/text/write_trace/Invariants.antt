@@ -1,6 +1,0 @@
-use Rattle.std.proofs.Common.{◌≡◌, ◌++◌, take}
-use Rattle.coresteps.specs.Text.{trace_text}
-use Rattle.coresteps.proofs.text.write_trace.Given as goal
-
-abbrev pub invariant-loop-turn : goal.invariant-loop-turn
-invariant-loop-turn l = l.out.items ≡ l.fn.out.items ++ trace_text (take l.turn-index l.turn-items)

@@ -1,0 +1,107 @@
+ghost use Rattle.std.specs.Prelude.{◌≡◌};
+ghost use Rattle.scripts.specs.ScriptFaults.{shape_fault_name};
+ghost use Rattle.scripts.specs.declared.script_fault.ScriptFault.TheVariants.{Memory};
+
+use keybits::ShapeFault;
+use std::alloc::{AllocError, AllocFailed};
+use std::error::Error;
+use std::fmt;
+
+/// Why a script file is no plan: the first fault that is found.
+#[derive(Clone, Copy, Debug, PartialEq, Eq)]
+pub enum ScriptFault {
+    /// The bytes are no JSON (31).
+    NotJson,
+    /// A field, an array or a line is wrong (32).
+    Field,
+    /// A line's first text is no command (33).
+    Act,
+    /// An operand is no register (34).
+    Register,
+    /// A number of the shape, a key or the bytes of an operand are wrong (35).
+    Number,
+    /// The shape is refused (1, 2, 3, 4, 6).
+    Shape(ShapeFault),
+    /// Memory was refused (36).
+    Memory,
+}
+
+/// The name of a shape's fault.
+pub fn shape_fault_name(fault: &ShapeFault) -> &'static str
+    ensures { result.now ≡ shape_fault_name fault.now }
+{
+    match fault {
+        ShapeFault::Lanes => "Lanes",
+        ShapeFault::FirstPage => "FirstPage",
+        ShapeFault::Pages => "Pages",
+        ShapeFault::Generation => "Generation",
+        ShapeFault::Tag => "Tag",
+    }
+}
+
+impl ScriptFault {
+    ghost use Rattle.std.specs.Prelude.{◌≡◌};
+    ghost use Rattle.scripts.specs.ScriptFaults.{script_fault_number, script_fault_name};
+
+    /// The fault's number: 31 to 36, or that of the shape's fault.
+    pub fn number(&self) -> u32
+        ensures { result ≡ script_fault_number self.now }
+    {
+        match self {
+            ScriptFault::NotJson => 31,
+            ScriptFault::Field => 32,
+            ScriptFault::Act => 33,
+            ScriptFault::Register => 34,
+            ScriptFault::Number => 35,
+            ScriptFault::Shape(fault) => fault.number(),
+            ScriptFault::Memory => 36,
+        }
+    }
+
+    /// The fault's name.
+    pub fn name(&self) -> &'static str
+        ensures { result.now ≡ script_fault_name self.now }
+    {
+        match self {
+            ScriptFault::NotJson => "NotJson",
+            ScriptFault::Field => "Field",
+            ScriptFault::Act => "Act",
+            ScriptFault::Register => "Register",
+            ScriptFault::Number => "Number",
+            ScriptFault::Shape(fault) => shape_fault_name(fault),
+            ScriptFault::Memory => "Memory",
+        }
+    }
+}
+
+impl fmt::Display for ScriptFault {
+    fn fmt<W: fmt::Write>(&self, f: &mut fmt::Formatter<W>) -> fmt::Result {
+        match self {
+            ScriptFault::NotJson => write!(f, "the file is no JSON"),
+            ScriptFault::Field => write!(f, "a field, an array or a line of the file is wrong"),
+            ScriptFault::Act => write!(f, "a line of the file names no command"),
+            ScriptFault::Register => write!(f, "an operand of the file is no register"),
+            ScriptFault::Number => write!(f, "a number or bytes of the file are wrong"),
+            ScriptFault::Shape(fault) => write!(f, "{fault}"),
+            ScriptFault::Memory => write!(f, "out of memory"),
+        }
+    }
+}
+
+impl Error for ScriptFault {}
+
+impl From<AllocError> for ScriptFault {
+    ghost from_gives = { λ _ fault. fault ≡ Memory };
+
+    fn from(_refused: AllocError) -> ScriptFault {
+        ScriptFault::Memory
+    }
+}
+
+impl<T: Drop> From<AllocFailed<T>> for ScriptFault {
+    ghost from_gives = { λ _ fault. fault ≡ Memory };
+
+    fn from(_refused: AllocFailed<T>) -> ScriptFault {
+        ScriptFault::Memory
+    }
+}

@@ -1,0 +1,10 @@
+pub mod Registers
+pub mod Books
+pub mod Following
+pub mod Lawful
+pub mod Parts
+pub mod Text
+pub mod Making
+pub mod Owning
+pub mod TraceLaws
+pub mod TurnLaws
