@@ -1,105 +1,176 @@
--- What the core keeps of what the turns so far have made.
-use Rattle.std.specs.Prelude.{◌≡◌, ℕ, ◌+◌, ◌≤◌, true, false, List, [], ◌∷◌, drop, length, Some, None, slice_get, slice_index, MatchBool}
+-- What the core keeps of the world that its turns so far have made.
+use Rattle.std.specs.Prelude.{◌≡◌, ◌==◌, ℕ, ◌+◌, ◌*◌, ◌<◌, ◌≤◌, Bool, true, List, [], ◌∷◌, ◌++◌, drop, length, Option, Some, None, slice_get, slice_index, MatchBool, if◌then◌else◌}
 use Rattle.keybits.specs.declared.shape.Shape.{Shape}
 use Rattle.keybits.specs.declared.step.Step.{Step}
-use Rattle.keybits.specs.declared.step.Kind.TheVariants as kinds
-use Rattle.keybits.specs.declared.step.Word.TheVariants.{Life}
+use Rattle.keybits.specs.declared.step.Word.{Word}
+use Rattle.keybits.specs.declared.step.Word.TheVariants.{Life, Link, Stack}
 use Rattle.keybits.specs.Shapes.{is_place, all_places, position_of}
-use Rattle.keybits.specs.Keys.{place_of, is_key}
+use Rattle.keybits.specs.Keys.{place_of}
+use Rattle.keybits.specs.Places.{shard_of}
+use Rattle.keybits.specs.Counts.{times}
 use Rattle.seqpool.specs.declared.act.Act.{Act}
 use Rattle.seqpool.specs.declared.act.Act.TheVariants as acts
-use Rattle.seqpool.specs.Pool.{pool_after}
-use Rattle.steplaws.specs.Calls.{is_hit}
-use Rattle.steplaws.specs.Facts.{Rule}
+use Rattle.seqpool.specs.Pool.{pool_after, IsLegal}
+use Rattle.steplaws.specs.Facts.{Words}
+use Rattle.steplaws.specs.Calls.{Getting}
 use Rattle.traces.specs.declared.script.Command.{Command}
-use Rattle.traces.specs.declared.script.Command.TheVariants as commands
-use Rattle.traces.specs.declared.script.Register.{Register}
-use Rattle.traces.specs.declared.script.Operand.{Operand}
-use Rattle.traces.specs.declared.registers.Holding.TheVariants.{Empty}
-use Rattle.coresteps.specs.declared.lane.Lane.{Lane}
-use Rattle.coresteps.specs.declared.lane.Stage.{Stage}
-use Rattle.coresteps.specs.declared.lane.Stage.TheVariants.{Ready, Missed}
-use Rattle.traces.specs.Registers.{register_at, operand_key}
-use Rattle.traces.specs.Books.{Book}
-use Rattle.traces.specs.Following.{row_content}
+use Rattle.traces.specs.declared.reply.Reply.{Reply}
 use Rattle.traces.specs.declared.trace.Turn.{Turn}
-use Rattle.coresteps.specs.declared.machine.Machine.{Machine}
-use Rattle.traces.specs.Lawful.{World, world_after, world_from, is_finished, IsNextTurn, AreTurns}
-use Rattle.traces.specs.Parts.{moment_of, StandsThroughout}
-use Rattle.coresteps.specs.OneLane.{IsSimpleBook}
-use Rattle.coresteps.specs.Lanes.{AreFirstKeys, ready_book}
+use Rattle.traces.specs.Books.{Book, call_under_way, taken, shown, cleared, reclaimed, of_shard, pushed_after, registers_after, free_after, all_answered, act_list}
+use Rattle.traces.specs.Following.{row_content, AreReplies}
+use Rattle.traces.specs.Lawful.{World, words_after, with_book, world_after, world_from, is_finished, IsAtRest, IsNextTurn, AreTurns}
+use Rattle.traces.specs.Parts.{Stands, StandsThroughout}
+use Rattle.traces.specs.Keeping.{IsKept, AreResting}
+use Rattle.coresteps.specs.declared.words.Table.{Table}
+use Rattle.coresteps.specs.declared.lane.Lane.{Lane}
+use Rattle.coresteps.specs.declared.progress.Progress.{Progress}
+use Rattle.coresteps.specs.declared.progress.Most.{Most}
+use Rattle.coresteps.specs.declared.shared.Made.{Made}
+use Rattle.coresteps.specs.declared.shared.Shared.{Shared}
+use Rattle.coresteps.specs.OwnLists.{IsOwnList, own_places}
+use Rattle.coresteps.specs.Lanes.{AreSlots, last_step, IsChained, most_after}
 
--- the ENTER at a key's place that found this word
-abbrev pub entered_step : ℕ → ℕ → Step
-entered_step key found = record { kind = kinds.Enter; word = Life (place_of key); before = found; after = found + 4 }
+-- ---- words
 
--- a get of the key has made its ENTER, which missed
-pub record IsEntered (z : Shape) (script : List Command) (lane : Lane) (b : Book) (key : ℕ) : Type 0 where
-  pub register : Register
-  pub operand : Operand
-  pub more : List Command
-  pub found : ℕ
-  pub first : drop lane.done script ≡ commands.Get register operand ∷ more
-  pub empty : (register_at lane.registers register.number).holding ≡ Empty
-  pub named : operand_key lane.registers operand ≡ Some key
-  pub fits : is_key z key ≡ true
-  pub missed : is_hit key found ≡ false
-  pub book : b ≡ record (ready_book script lane) { steps = entered_step key found ∷ []; acts = acts.Get 0 key None ∷ [] }
+-- the word is of a place, or of two lanes, of the shape
+abbrev pub IsWordOf : Shape → Word → Type 0
+IsWordOf z (Life place) = is_place z place ≡ true
+IsWordOf z (Link place) = is_place z place ≡ true
+IsWordOf z (Stack shard lane) = (shard < z.lanes) × (lane < z.lanes)
 
--- the book is that of the lane at this stage
-abbrev pub StageStands : Shape → List Command → Lane → Stage → Book → Type 0
-StageStands z script lane Ready b = b ≡ ready_book script lane
-StageStands z script lane (Missed key) b = IsEntered z script lane b key
+-- the table has the values of the words
+pub record IsTable (z : Shape) (words : Words) (table : Table) : Type 0 where
+  pub life_length : length table.life.items ≡ all_places z
+  pub life : (place : ℕ) → is_place z place ≡ true → slice_index table.life.items (position_of z place) ≡ words.life place
+  pub links_length : length table.links.items ≡ all_places z
+  pub links : (place : ℕ) → is_place z place ≡ true → slice_index table.links.items (position_of z place) ≡ words.link place
+  pub stacks_length : length table.stacks.items ≡ z.lanes * z.lanes
+  pub stacks : (shard lane : ℕ) → shard < z.lanes → lane < z.lanes → slice_index table.stacks.items (shard * z.lanes + lane) ≡ words.stack shard lane
 
--- what the core keeps of the world: the rule of the steps, the book of its one lane, the words and the contents by the positions of their places, and the acts
-pub record Keeps (z : Shape) (w : World) (script : List Command) (lane : Lane) (words : List ℕ) (contents : List (List ℕ)) (history : List Act) : Type 0 where
-  pub one_lane : z.lanes ≡ 1
-  pub rule : Rule z (moment_of z w)
-  pub acts : history ≡ w.history
-  pub simple : IsSimpleBook z (pool_after z w.history) (w.books 0)
-  pub keys : AreFirstKeys z lane.free
-  pub within : lane.done ≤ length script
-  pub stage : StageStands z script lane lane.stage (w.books 0)
-  pub words_length : length words ≡ all_places z
-  pub word : (place : ℕ) → is_place z place ≡ true → slice_index words (position_of z place) ≡ w.words.life place
-  pub contents_length : length contents ≡ all_places z
-  pub content : (place : ℕ) (bytes : List ℕ) → is_place z place ≡ true → row_content (pool_after z w.history place).phase ≡ Some bytes
-      → slice_get contents (position_of z place) ≡ Some bytes
+-- ---- what all lanes share
 
--- the core keeps what these turns so far have made
-abbrev pub IsCoreAt : World → Machine → Type 0
-IsCoreAt w core = Keeps core.shape w core.script core.lane core.words.items core.contents.items core.acts.items
+-- the act that is about to be made, if one is, as a list
+abbrev pub made_acts : Option Made → List Act
+made_acts None = []
+made_acts (Some made) = act_list made.act
 
--- the core keeps what some turns have made
-abbrev pub IsCore : Machine → Type 0
-IsCore core = (w : World) × IsCoreAt w core
+-- the step that is about to be made, if one is
+abbrev pub made_step : Option Made → Option Step
+made_step None = None
+made_step (Some made) = Some made.step
 
--- the core is as before
-pub record IsSameCore (old new : Machine) : Type 0 where
-  pub shape : new.shape ≡ old.shape
-  pub script : new.script ≡ old.script
-  pub lane : new.lane ≡ old.lane
-  pub words : new.words.items ≡ old.words.items
-  pub contents : new.contents.items ≡ old.contents.items
-  pub acts : new.acts.items ≡ old.acts.items
+-- the act of this index published the content
+abbrev pub IsPublished : List Act → ℕ → List ℕ → Type 0
+IsPublished history index content =
+    (lane : ℕ) × (key : ℕ) × (with_ref : Bool) × (slice_get history index ≡ Some (acts.Publish lane key content with_ref))
 
--- the core made this turn, which is the next one of its lane
-pub record MakesTurn (old : Machine) (w : World) (turn : Turn) (new : Machine) : Type 0 where
-  pub lane : turn.lane ≡ 0
-  pub next : IsNextTurn old.shape w turn
-  pub kept : IsCoreAt (world_after old.shape w turn) new
-  pub shape : new.shape ≡ old.shape
+-- which act published the key of a place: the one that is about to be made, or the one that the core has
+abbrev pub index_of_publish : Shape → List ℕ → ℕ → List Act → ℕ → ℕ
+index_of_publish z rows count [] place = slice_index rows (position_of z place)
+index_of_publish z rows count (acts.Publish lane key content with_ref ∷ more) place =
+    if place_of key == place then count else slice_index rows (position_of z place)
+index_of_publish z rows count (act ∷ more) place = slice_index rows (position_of z place)
 
--- a turn that nothing was done in
+-- what all lanes share tells of the world, in which a step may be about to be made
+pub record IsDraft (shared : Shared) (w : World) (made : Option Made) : Type 0 where
+  pub kept : IsKept shared.shape w
+  pub history : w.history ≡ shared.acts.items ++ made_acts made
+  pub before : Words
+  pub table : IsTable shared.shape before shared.words
+  pub words : w.words ≡ words_after before (made_step made)
+  pub places : length shared.published.items ≡ all_places shared.shape
+  pub published : (place : ℕ) (content : List ℕ) → is_place shared.shape place ≡ true
+      → row_content (pool_after shared.shape w.history place).phase ≡ Some content
+      → IsPublished w.history (index_of_publish shared.shape shared.published.items (length shared.acts.items) (made_acts made) place) content
+
+-- ---- a lane
+
+-- a lane that has come so far tells of its book
+pub record IsLaneAt (z : Shape) (history : List Act) (number : ℕ) (lane : Lane) (p : Progress) (b : Book) : Type 0 where
+  pub left : drop p.done lane.script ≡ b.left
+  pub within : p.done ≤ length lane.script
+  pub slots : AreSlots lane.script p.done p.slots b.registers
+  pub list : IsOwnList z lane.ring.items p.own
+  pub own : own_places z number lane.ring.items p.own ≡ b.own ++ of_shard number (reclaimed z.last_generation b.acts)
+  pub chain : IsChained history p.chain (b.chain ++ taken b.acts)
+  pub opened : p.own.opened ≡ b.opened
+  pub sixteen : length p.pushed ≡ 16
+  pub pushed : (shard : ℕ) → shard < 16 → slice_index p.pushed shard ≡ pushed_after b.steps b.pushed shard
+  pub last : p.last ≡ last_step b.steps
+  pub made : p.made ≡ length b.steps
+  pub cleared : p.cleared ≡ cleared b.acts
+  -- the own places are of the lane's shard
+  pub own_shard : (place : ℕ) → 0 < times place b.own → shard_of place ≡ number
+  -- what the Get of the call under way shows is the content of its key
+  pub shows : (key : ℕ) (content : List ℕ) → call_under_way b ≡ Some (Getting key) → shown b.acts ≡ Some content
+      → row_content (pool_after z history (place_of key)).phase ≡ Some content
+
+-- a command has its reply, but isn't counted as done yet: the registers and lists are those after it
+pub record IsReplied (z : Shape) (history : List Act) (number : ℕ) (lane : Lane) (b : Book) (command : Command) (reply : Reply) (old new : Progress) : Type 0 where
+  pub done : new.done ≡ old.done
+  pub slots : AreSlots lane.script (old.done + 1) new.slots (registers_after b command reply)
+  pub list : IsOwnList z lane.ring.items new.own
+  pub own : own_places z number lane.ring.items new.own
+      ≡ (free_after z number b command reply).own ++ of_shard number (reclaimed z.last_generation b.acts)
+  pub chain : IsChained history new.chain (free_after z number b command reply).chain
+  pub opened : new.own.opened ≡ (free_after z number b command reply).opened
+  pub pushed : new.pushed ≡ old.pushed
+  pub most : new.most ≡ old.most
+  pub settled : old.own.added ≡ None → new.own.added ≡ None
+
+-- the lane did all its work up to its next step or the script's end, with these replies
+pub record IsWorked (shared : Shared) (w : World) (made : Option Made) (number : ℕ) (lane : Lane) (old : Progress) (replies : List Reply) (new : Progress) : Type 0 where
+  pub replied : AreReplies shared.shape (pool_after shared.shape w.history) number (w.books number) replies
+  pub draft : IsDraft shared (record {
+    history = w.history;
+    words = w.words;
+    books = with_book w.books number (all_answered shared.shape number (w.books number) replies);
+  }) made
+  pub lane_at : IsLaneAt shared.shape w.history number lane new (all_answered shared.shape number (w.books number) replies)
+  pub rest : IsAtRest shared.shape number (all_answered shared.shape number (w.books number) replies)
+  pub most : new.most ≡ old.most
+  pub settled : old.own.added ≡ None → new.own.added ≡ None
+
+-- ---- the core
+
+-- what the core keeps: of the world, and for each lane the greatest numbers of steps
+pub record IsCoreAt (w : World) (most : ℕ → Most) (shared : Shared) (lanes : List Lane) : Type 0 where
+  pub draft : IsDraft shared w None
+  pub count : length lanes ≡ shared.shape.lanes
+  pub lane : (number : ℕ) (lane : Lane) → slice_get lanes number ≡ Some lane → IsLaneAt shared.shape w.history number lane lane.progress (w.books number)
+  pub settled : (number : ℕ) (lane : Lane) → slice_get lanes number ≡ Some lane → lane.progress.own.added ≡ None
+  pub most_is : (number : ℕ) (lane : Lane) → slice_get lanes number ≡ Some lane → lane.progress.most ≡ most number
+  pub bounded : (number : ℕ) → ((most number).create ≤ 16) × ((most number).other ≤ 8)
+  pub resting : AreResting shared.shape w
+
+-- a core: what all lanes share, and the lanes
+pub record CoreState : Type 0 where
+  pub shared : Shared
+  pub lanes : List Lane
+
+-- the core keeps the world that its turns so far have made, and the greatest numbers of steps of each lane's calls
+abbrev pub IsCore : World → (ℕ → Most) → CoreState → Type 0
+IsCore w most core = IsCoreAt w most core.shared core.lanes
+
+-- a turn in which nothing was done
 abbrev pub IsEmptyTurn : ℕ → Turn → Type 0
 IsEmptyTurn lane turn = (turn.lane ≡ lane) × (turn.before ≡ []) × (turn.step ≡ None) × (turn.act ≡ None) × (turn.after ≡ [])
 
+-- the core made the lane's next turn: it is the next of a lawful trace, the history with it is legal, and after it the facts stand
+pub record MakesTurn (old : CoreState) (w : World) (most : ℕ → Most) (lane : ℕ) (turn : Turn) (new : CoreState) : Type 0 where
+  pub lane_is : turn.lane ≡ lane
+  pub next : IsNextTurn old.shared.shape w turn
+  pub legal : IsLegal old.shared.shape (world_after old.shared.shape w turn).history
+  pub stands : Stands old.shared.shape (world_after old.shared.shape w turn)
+  pub kept : IsCore (world_after old.shared.shape w turn) (most_after old.shared.shape w turn most) new
+  pub shape : new.shared.shape ≡ old.shared.shape
+
 -- a turn of a lane: nothing for a finished one, and for a number that is no lane; else its next
-abbrev pub Turns : Machine → World → ℕ → Turn → Machine → Type 0
-Turns old w lane turn new = MatchBool (is_finished old.shape w lane)
-    (IsEmptyTurn lane turn × IsSameCore old new)
-    ((turn.lane ≡ lane) × MakesTurn old w turn new)
+abbrev pub Turns : CoreState → World → (ℕ → Most) → ℕ → Turn → CoreState → Type 0
+Turns old w most lane turn new = MatchBool (is_finished old.shared.shape w lane)
+    (IsEmptyTurn lane turn × IsCore w most new × (new.shared.shape ≡ old.shared.shape))
+    (MakesTurn old w most lane turn new)
 
 -- the core keeps what these turns have made, which are those of the schedule, and after each of which the facts stand
-abbrev pub IsRun : Shape → World → List ℕ → List Turn → Machine → Type 0
-IsRun z w schedule turns core = AreTurns z w schedule turns × StandsThroughout z w turns × IsCoreAt (world_from z w turns) core
+abbrev pub IsRun : Shape → World → List ℕ → List Turn → CoreState → Type 0
+IsRun z w schedule turns core = AreTurns z w schedule turns × StandsThroughout z w turns × ((most : ℕ → Most) × IsCore (world_from z w turns) most core)

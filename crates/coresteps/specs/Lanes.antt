@@ -1,99 +1,143 @@
--- What the core keeps of a lane, and what it tells of the lane's book.
-use Rattle.std.specs.Prelude.{◌≡◌, ◌≢◌, ◌⊎◌, ℕ, ◌+◌, ◌<◌, ◌≤◌, true, List, [], ◌∷◌, map, drop, length, Option, Some, None, MatchOption, is_some, slice_set, replicate}
-use Rattle.keybits.specs.declared.shape.Shape.{Shape}
-use Rattle.keybits.specs.Keys.{place_of, is_key}
+-- What the core keeps of a lane tells of its book: its registers, its call, its next step and its chain.
+use Rattle.std.specs.Prelude.{◌≡◌, ◌==◌, ℕ, ◌+◌, ◌-◌, ◌<◌, ◌≤◌, false, List, [], ◌∷◌, take, drop, flat_map, length, replicate, Option, Some, None, slice_get, max, if◌then◌else◌}
+use Rattle.keybits.specs.declared.step.Step.{Step}
+use Rattle.seqpool.specs.declared.act.Act.{Act}
+use Rattle.seqpool.specs.declared.act.Act.TheVariants as acts
+use Rattle.steplaws.specs.Calls as steps
 use Rattle.traces.specs.declared.script.Command.{Command}
 use Rattle.traces.specs.declared.script.Command.TheVariants as commands
-use Rattle.coresteps.specs.declared.lane.NextCall.{NextCall}
-use Rattle.coresteps.specs.declared.lane.NextCall.TheVariants.{End, Publishes, Gets}
 use Rattle.traces.specs.declared.registers.RegisterState.{RegisterState}
 use Rattle.traces.specs.declared.registers.Holding.{Holding}
-use Rattle.traces.specs.declared.registers.Holding.TheVariants.{Empty, Filling}
-use Rattle.traces.specs.Registers.{empty_register, register_at, register_with, operand_key}
-use Rattle.traces.specs.declared.reply.Reply.{Reply}
-use Rattle.coresteps.specs.declared.lane.Lane.{Lane}
-use Rattle.coresteps.specs.declared.lane.Stage.TheVariants.{Ready}
-use Rattle.traces.specs.Books.{Book, page_places, registers_after, free_after, caller, call_of, next_in, next_aim, answered, all_answered}
-use Rattle.traces.specs.Lawful.{IsAtRest}
-use Rattle.coresteps.specs.OneLane.{AreReplayed, first_key, LocalReply, FirstLocal, AreLocal}
+use Rattle.traces.specs.declared.registers.Holding.TheVariants as holdings
+use Rattle.traces.specs.declared.trace.Turn.{Turn}
+use Rattle.traces.specs.Registers.{register_at}
+use Rattle.traces.specs.Books.{Book}
+use Rattle.traces.specs.Lawful.{World, book_before}
+use Rattle.keybits.specs.declared.shape.Shape.{Shape}
+use Rattle.coresteps.specs.declared.aims.Aim.{Aim}
+use Rattle.coresteps.specs.declared.progress.Held.{Held}
+use Rattle.coresteps.specs.declared.progress.Held.TheVariants.{Empty, Filling, Reference}
+use Rattle.coresteps.specs.declared.progress.Slot.{Slot}
+use Rattle.coresteps.specs.declared.progress.Call.{Call}
+use Rattle.coresteps.specs.declared.progress.Call.TheVariants.{Publish, Get, Release, Clear, Create}
+use Rattle.coresteps.specs.declared.progress.Chain.{Chain}
+use Rattle.coresteps.specs.declared.progress.Most.{Most}
+use Rattle.coresteps.specs.declared.progress.Progress.{Progress}
 
--- the book of a lane that stands before these commands, and has made no step of the first
-abbrev pub book_before_step : List Command → Lane → Book
-book_before_step left lane =
-    record { left = left; registers = lane.registers; own = map place_of lane.free; chain = []; opened = lane.opened; pushed = λ _. 0; steps = []; acts = [] }
+-- ---- registers
 
--- each key is the first key of its place
-abbrev pub AreFirstKeys : Shape → List ℕ → Type 0
-AreFirstKeys z [] = Unit {0}
-AreFirstKeys z (key ∷ more) = (key ≡ first_key z (place_of key)) × AreFirstKeys z more
+-- the bytes that a command writes to the register of this number
+abbrev pub written_by : ℕ → Command → List ℕ
+written_by number (commands.Write register bytes) = if register.number == number then bytes else []
+written_by number command = []
 
--- a lane answers a command by a reply that needs no step
-pub record Answers (z : Shape) (old : Lane) (command : Command) (reply : Reply) (new : Lane) : Type 0 where
-  pub no_step : next_in (caller z 0 (book_before_step [] old)) [] (call_of (book_before_step [] old) command) ≡ None
-  pub local : LocalReply z (book_before_step [] old) command reply
-  pub registers : new.registers ≡ registers_after (book_before_step [] old) command reply
-  pub own : map place_of new.free ≡ (free_after z 0 (book_before_step [] old) command reply).own
-  pub chain : (free_after z 0 (book_before_step [] old) command reply).chain ≡ []
-  pub opened : new.opened ≡ (free_after z 0 (book_before_step [] old) command reply).opened
-  pub done : new.done ≡ old.done
-  pub stage : new.stage ≡ old.stage
-  pub keys : AreFirstKeys z new.free
+-- the bytes that were written to a register by the commands of a script from one to before another
+abbrev pub written_since : List Command → ℕ → ℕ → ℕ → List ℕ
+written_since script created done number = flat_map (written_by number) (take (done - created) (drop created script))
 
--- where no key was left and a page was unopened, the next page was opened, and its keys are the list; else nothing changed
-abbrev pub IsRefilled : Shape → ℕ → List ℕ → List ℕ → ℕ → Type 0
-IsRefilled z opened old new pages =
-    ((old ≡ []) × (opened < z.pages) × (new ≡ map (first_key z) (page_places z 0 opened)) × (pages ≡ opened + 1))
-    ⊎ (((old ≢ []) ⊎ (z.pages ≤ opened)) × (new ≡ old) × (pages ≡ opened))
+-- a slot that had nothing yet
+abbrev pub empty_slot : Slot
+empty_slot = record { held = Empty; last_key = None }
 
--- a lane answers a command, or has to make a step for it and is as before
-abbrev pub Responds : Shape → Lane → Command → Option Reply → Lane → Type 0
-Responds z old command response new = MatchOption response
-    ((is_some (next_in (caller z 0 (book_before_step [] old)) [] (call_of (book_before_step [] old) command)) ≡ true) × (new ≡ old))
-    (λ reply. Answers z old command reply new)
+-- the slot, or an empty one where there is none
+abbrev pub slot_or_empty : Option Slot → Slot
+slot_or_empty (Some slot) = slot
+slot_or_empty None = empty_slot
 
--- a lane that stands before a command of its script, or at its end, and has made no step of it
-pub record IsReady (z : Shape) (script : List Command) (lane : Lane) : Type 0 where
-  pub ready : lane.stage ≡ Ready
-  pub keys : AreFirstKeys z lane.free
-  pub replayed : AreReplayed (drop lane.done script)
-  pub within : lane.done ≤ length script
+-- the slot of this number
+abbrev pub slot_at : List Slot → ℕ → Slot
+slot_at slots number = slot_or_empty (slice_get slots number)
 
--- the book of a lane that is ready
-abbrev pub ready_book : List Command → Lane → Book
-ready_book script lane = book_before_step (drop lane.done script) lane
+-- what a slot holds stands for what the register holds: of a filling the bytes stand in the script, and of a reference its key is kept
+abbrev pub IsHeld : List Command → ℕ → ℕ → Held → Holding → Type 0
+IsHeld script done number Empty holding = holding ≡ holdings.Empty
+IsHeld script done number (Filling key created) holding =
+    (created ≤ done) × (holding ≡ holdings.Filling key (written_since script created done number))
+IsHeld script done number (Reference key) holding = (content : List ℕ) × (holding ≡ holdings.Reference key content)
 
--- what a ready lane does next of its own: it is at rest and as before, or it answers its next command
-abbrev pub Answered : Shape → List Command → Lane → Option Reply → Lane → Type 0
-Answered z script old response new = MatchOption response
-    (IsAtRest z 0 (ready_book script old) × (new ≡ old))
-    (λ reply. (next_aim z 0 (ready_book script old) ≡ None) × FirstLocal z (ready_book script old) (ready_book script old).left reply
-    × (ready_book script new ≡ answered z 0 (ready_book script old) reply) × IsReady z script new × (new.done ≡ old.done + 1))
+-- a slot stands for the register of this number, where so many commands are done
+abbrev pub IsSlot : List Command → ℕ → ℕ → Slot → RegisterState → Type 0
+IsSlot script done number slot register = (slot.last_key ≡ register.last_key) × IsHeld script done number slot.held register.holding
 
--- a ready lane did all its work up to its next step or the script's end, with these replies
-pub record Works (z : Shape) (script : List Command) (old : Lane) (replies : List Reply) (new : Lane) : Type 0 where
-  pub local : AreLocal z (ready_book script old) replies
-  pub book : ready_book script new ≡ all_answered z 0 (ready_book script old) replies
-  pub ready : IsReady z script new
-  pub rest : IsAtRest z 0 (ready_book script new)
+-- sixteen slots stand for the sixteen registers
+pub record AreSlots (script : List Command) (done : ℕ) (slots : List Slot) (registers : List RegisterState) : Type 0 where
+  pub sixteen : length slots ≡ 16
+  pub registers_sixteen : length registers ≡ 16
+  pub each : (number : ℕ) → number < 16 → IsSlot script done number (slot_at slots number) (register_at registers number)
 
--- the call that a lane at rest makes next: none at its script's end; else the publish of a filling, or the get of a key of the shape
-abbrev pub IsNextCall : Shape → List Command → Lane → NextCall → Type 0
-IsNextCall z script lane End = drop lane.done script ≡ []
-IsNextCall z script lane (Publishes register key) =
-    (more : List Command) × (content : List ℕ) × (drop lane.done script ≡ commands.Publish register ∷ more)
-    × ((register_at lane.registers register.number).holding ≡ Filling key content)
-IsNextCall z script lane (Gets register operand key) =
-    (more : List Command) × (drop lane.done script ≡ commands.Get register operand ∷ more)
-    × ((register_at lane.registers register.number).holding ≡ Empty) × (operand_key lane.registers operand ≡ Some key) × (is_key z key ≡ true)
+-- ---- calls and steps
 
--- a lane that has answered one command more, with these registers
-abbrev pub next_lane : Lane → List RegisterState → Lane
-next_lane lane registers = record { done = lane.done + 1; registers = registers; free = lane.free; opened = lane.opened; stage = Ready }
+-- the call that the core makes of a command stands for the book's
+abbrev pub IsCall : List Command → ℕ → Book → Option Call → Option steps.Call → Type 0
+IsCall script done b None is = is ≡ None
+IsCall script done b (Some (Publish register key created with_ref)) is =
+    (created ≤ done) × (is ≡ Some (steps.Publishing key (written_since script created done register.number) with_ref))
+IsCall script done b (Some (Get key)) is = is ≡ Some (steps.Getting key)
+IsCall script done b (Some (Release key)) is = is ≡ Some (steps.Releasing key)
+IsCall script done b (Some (Clear key)) is = is ≡ Some (steps.Clearing key)
+IsCall script done b (Some Create) is = is ≡ Some (steps.Creating b.own b.chain b.opened)
 
--- the registers, but the one of this number holds this, and remembers the key that it had
-abbrev pub holding_now : List RegisterState → ℕ → Holding → List RegisterState
-holding_now registers number holding = slice_set registers number (register_with holding (register_at registers number).last_key)
+-- an aim of the core as the calls tell it
+abbrev pub aim_of : Aim → steps.Aim
+aim_of a = steps.aim a.kind a.word
 
--- a lane before its first turn
-abbrev pub first_lane : Lane
-first_lane = record { done = 0; registers = replicate 16 empty_register; free = []; opened = 0; stage = Ready }
+-- the core's aim is the next step, if there is one
+abbrev pub IsAim : Option Aim → Option steps.Aim → Type 0
+IsAim None next = next ≡ None
+IsAim (Some a) next = next ≡ Some (aim_of a)
+
+-- the last of these steps
+abbrev pub last_step : List Step → Option Step
+last_step [] = None
+last_step (step ∷ []) = Some step
+last_step (step ∷ next ∷ more) = last_step (next ∷ more)
+
+-- ---- the chain
+
+-- these places of the act of this index are still to be followed
+abbrev pub AreChained : List Act → Option ℕ → ℕ → List ℕ → Type 0
+AreChained history None followed places = places ≡ []
+AreChained history (Some index) followed places =
+    (lane : ℕ) × (taken : List ℕ) × (slice_get history index ≡ Some (acts.Collect lane taken)) × (followed ≤ length taken)
+    × (places ≡ drop followed taken)
+
+-- the chain tells the places that are still to be followed
+abbrev pub IsChained : List Act → Chain → List ℕ → Type 0
+IsChained history chain places = AreChained history chain.collect chain.followed places
+
+-- ---- how many steps calls have made
+
+-- before the first turn
+abbrev pub no_most : Most
+no_most = record { create = 0; other = 0 }
+
+-- the call of the first of these commands has made so many steps
+abbrev pub counted : List Command → ℕ → Most → Most
+counted [] steps most = most
+counted (commands.Create register ∷ more) steps most = record { create = max most.create steps; other = most.other }
+counted (command ∷ more) steps most = record { create = most.create; other = max most.other steps }
+
+-- the same after the step of a turn, if it has one
+abbrev pub counted_step : Book → Option Step → Most → Most
+counted_step b None most = most
+counted_step b (Some step) most = counted b.left (length b.steps + 1) most
+
+-- for each lane the greatest number of steps of one create, and of one other call, after a turn more
+abbrev pub most_after : Shape → World → Turn → (ℕ → Most) → ℕ → Most
+most_after z w t most lane = if lane == t.lane then counted_step (book_before z w t) t.step (most lane) else most lane
+
+-- ---- before the first turn
+
+-- nothing is done
+abbrev pub first_progress : Progress
+first_progress = record {
+  done = 0;
+  slots = replicate 16 empty_slot;
+  own = record { opened = 0; unused = 0; first = 0; length = 0; added = None };
+  chain = record { collect = None; followed = 0 };
+  pushed = replicate 16 0;
+  last = None;
+  made = 0;
+  cleared = false;
+  most = no_most;
+}

@@ -1,3 +1,5 @@
-pub mod OneLane
+pub mod OwnLists
 pub mod Lanes
 pub mod Kept
+pub mod Notes
+pub mod Writes

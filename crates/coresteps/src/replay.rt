@@ -1,84 +1,299 @@
-ghost use Rattle.std.specs.Prelude.{ℕ, List, ◌≡◌, ◌∷◌, ◌++◌, [], true, IsOk, IfOk, OnOk, OnErr, length};
-ghost use Rattle.keybits.specs.Shapes.{IsShape};
-ghost use Rattle.coresteps.specs.OneLane.{ScriptsAreReplayed};
-ghost use Rattle.traces.specs.Lawful.{IsLawful, World, first_world};
+ghost use Rattle.std.specs.Prelude.{ℕ, Bool, List, ◌≡◌, ◌∷◌, ◌++◌, ◌<◌, ◌≤◌, ◌+◌, [], true, false, None, Some, IsOk, IfOk, OnOk, OnErr, length, replicate, slice_get, slice_index};
+ghost use Rattle.keybits.specs.declared.shape.Shape.{Shape};
+ghost use Rattle.keybits.specs.Shapes.{IsShape, shard_places, all_places, is_place, position_of};
+ghost use Rattle.keybits.specs.Keys.{place_of};
+ghost use Rattle.seqpool.specs.declared.act.Act.{Act};
+ghost use Rattle.seqpool.specs.declared.act.Act.TheVariants as acts;
+ghost use Rattle.seqpool.specs.declared.act.Act.TheVariants.{Publish};
+ghost use Rattle.traces.specs.Books.{Book};
+ghost use Rattle.traces.specs.Lawful.{IsLawful, World, first_world, is_finished, world_after, book_before, book_after, IsNextTurn};
 ghost use Rattle.traces.specs.Parts.{StandsThroughout};
-ghost use Rattle.coresteps.specs.Kept.{IsRun};
+ghost use Rattle.coresteps.specs.declared.progress.Most.{Most};
+ghost use Rattle.coresteps.specs.Lanes.{first_progress, no_most, counted_step};
+ghost use Rattle.coresteps.specs.Kept.{IsCore, IsCoreAt, IsDraft, IsLaneAt, IsRun, IsWordOf, MakesTurn, Turns, index_of_publish};
 
+use crate::commands::Commands;
 use crate::fault::CoreFault;
-use crate::machine::Machine;
-use keybits::Shape;
+use crate::lane::Lane;
+use crate::progress::Progress;
+use crate::shared::{Made, Shared};
+use crate::words::Table;
+use keybits::{Shape, place_of};
 use seqpool::Act;
 use std::alloc::Global;
 use std::marker::Model;
-use traces::{Script, Trace, Turn};
+use traces::{Replies, Script, Trace, Turn};
 
 /// The pool's algorithm as a pure machine, after some turns of its scripts.
 #[derive(Drop)]
 pub struct Core {
-    machine: Machine,
+    shared: Shared,
+    lanes: Vec<Lane>,
 }
 
 impl Model for Core {
-    ghost use Rattle.coresteps.specs.declared.machine.Machine.{Machine};
-    ghost use Rattle.coresteps.specs.Kept.{IsCore};
+    ghost use Rattle.coresteps.specs.Kept.{CoreState, IsCoreAt};
+    ghost use Rattle.traces.specs.Lawful.{World};
+    ghost use Rattle.coresteps.specs.declared.progress.Most.{Most};
+    ghost use Rattle.std.specs.Prelude.{ℕ};
 
-    ghost Value = { Machine };
+    ghost Value = { CoreState };
 
-    ghost view = { λ c. c.machine };
+    ghost view = { λ c. record { shared = c.shared; lanes = c.lanes.items } };
 
-    ghost invariant = { λ c. IsCore c.machine };
+    ghost invariant = { λ c. (w : World) × (most : ℕ → Most) × IsCoreAt w most c.shared c.lanes.items };
 }
 
 impl Core {
-    ghost use Rattle.traces.specs.Lawful.{World, first_world, is_finished};
-    ghost use Rattle.coresteps.specs.OneLane.{ScriptsAreReplayed};
-    ghost use Rattle.coresteps.specs.Kept.{IsCoreAt, IsSameCore, Turns};
-
     /// The core of these scripts, one for each lane, before the first turn. Memory (25) where it was refused.
     pub fn new(alloc: Global, shape: Shape, scripts: Vec<Script>) -> Result<Core, CoreFault>
         requires shape { IsShape shape }
-        requires one_lane { shape.lanes ≡ 1 }
         requires scripts { length scripts.items ≡ shape.lanes }
-        requires replayed { ScriptsAreReplayed scripts.items }
-        ensures kept { IfOk result (λ core. IsCoreAt (first_world scripts.items) core) }
-        ensures shape { IfOk result (λ core. core.shape ≡ shape) }
+        ensures kept { IfOk result (λ core. IsCore (first_world scripts.items) (λ _. no_most) core) }
+        ensures shape { IfOk result (λ core. core.shared.shape ≡ shape) }
     {
-        let machine = Machine::new(alloc, shape, scripts)?;
-        Ok(Core { machine })
+        let words = Table::new(alloc, &shape)?;
+        let published = zeros(alloc, shape.all_places())?;
+        let lanes = new_lanes(alloc, &shape, scripts)?;
+        let shared = Shared {
+            alloc,
+            shape,
+            words,
+            published,
+            acts: Vec::new(alloc),
+        };
+        Ok(Core { shared, lanes })
     }
 
     /// One turn of a lane: its next atomic step, with the work of its own before its first step and after each one. A turn of a
     /// finished lane, or of a number that is no lane, does nothing and takes no memory. Where memory is refused (25), the core
     /// is as before.
     pub fn turn(&mut self, lane: u32) -> Result<Turn, CoreFault>
-        ensures ok { IfOk result (λ turn. (w : World) → IsCoreAt w self.old → Turns self.old w lane turn self.new) }
-        ensures finished { (w : World) → IsCoreAt w self.old → is_finished self.old.shape w lane ≡ true → IsOk result }
-        ensures err { OnErr result (IsSameCore self.old self.new) }
+        ensures ok { IfOk result (λ turn. (w : World) (most : ℕ → Most) → IsCore w most self.old → Turns self.old w most lane turn self.new) }
+        ensures finished { (w : World) (most : ℕ → Most) → IsCore w most self.old → is_finished self.old.shared.shape w lane ≡ true → IsOk result }
+        ensures err { OnErr result ((w : World) (most : ℕ → Most) → IsCore w most self.old → IsCore w most self.new) }
+        ensures shape { self.new.shared.shape ≡ self.old.shared.shape }
     {
-        self.machine.turn(lane)
+        if self.finished(lane) {
+            return Ok(Turn::empty(self.shared.alloc, lane));
+        }
+        next_turn(&mut self.shared, &mut self.lanes, lane)
     }
 
     /// Whether a lane's script is at its end; true for a number that is no lane.
     pub fn finished(&self, lane: u32) -> bool
-        ensures { (w : World) → IsCoreAt w self.now → result ≡ is_finished self.now.shape w lane }
+        ensures { (w : World) (most : ℕ → Most) → IsCore w most self.now → result ≡ is_finished self.now.shared.shape w lane }
     {
-        self.machine.finished(lane)
+        match self.lanes.get(lane as usize) {
+            Some(of) => of.progress.done >= of.script.as_slice().len(),
+            None => true,
+        }
     }
 
     /// The acts of the turns so far, in order.
     pub fn acts(&self) -> &[Act]
-        ensures { (w : World) → IsCoreAt w self.now → result.now ≡ w.history }
+        ensures { (w : World) (most : ℕ → Most) → IsCore w most self.now → result.now ≡ w.history }
     {
-        self.machine.acts()
+        self.shared.acts.as_slice()
     }
+
+    /// The greatest number of steps of one create of a lane so far, and of one other call. A call under way counts with its
+    /// steps so far. It is (0, 0) for a number that is no lane. It takes no memory.
+    pub fn most(&self, lane: u32) -> (u32, u32)
+        ensures lane { (w : World) (most : ℕ → Most) → IsCore w most self.now → lane < self.now.shared.shape.lanes
+            → result ≡ ((most lane).create, (most lane).other) }
+        ensures none { self.now.shared.shape.lanes ≤ lane → result ≡ (0, 0) }
+        ensures create { result.0 ≤ 64 }
+        ensures other { result.1 ≤ 8 }
+    {
+        match self.lanes.get(lane as usize) {
+            Some(of) => (of.progress.most.create, of.progress.most.other),
+            None => (0, 0),
+        }
+    }
+}
+
+impl Shared {
+    /// Makes a step: its act joins the history, and its word has the value after it. Where memory is refused, nothing changes.
+    fn keep(&mut self, made: Made) -> Result<(), CoreFault>
+        requires draft { (w : World) × IsDraft self.old w (Some made) }
+        requires word { IsWordOf self.old.shape made.step.word }
+        requires place { (lane key : ℕ) (content : List ℕ) (with_ref : Bool) → made.act ≡ Some (Publish lane key content with_ref)
+            → is_place self.old.shape (place_of key) ≡ true }
+        ensures ok { OnOk result ((w : World) → IsDraft self.old w (Some made) → IsDraft self.new w None) }
+        ensures err { OnErr result ((w : World) → IsDraft self.old w None → IsDraft self.new w None) }
+        ensures shape { self.new.shape ≡ self.old.shape }
+    {
+        let Made { step, act } = made;
+        if let Some(act) = act {
+            self.keep_act(act)?;
+        }
+        self.words.store(&self.shape, step.word, step.after);
+        Ok(())
+    }
+
+    /// An act joins the history, and where it publishes a key, that key's place has its index. Where memory is refused, nothing
+    /// changes.
+    fn keep_act(&mut self, act: Act) -> Result<(), CoreFault>
+        requires shape { IsShape self.old.shape }
+        requires rows { length self.old.published.items ≡ all_places self.old.shape }
+        requires place { (lane key : ℕ) (content : List ℕ) (with_ref : Bool) → act ≡ Publish lane key content with_ref
+            → is_place self.old.shape (place_of key) ≡ true }
+        ensures history { OnOk result (self.new.acts.items ≡ self.old.acts.items ++ act ∷ []) }
+        ensures published { OnOk result ((place : ℕ) → is_place self.old.shape place ≡ true
+            → slice_index self.new.published.items (position_of self.old.shape place)
+            ≡ index_of_publish self.old.shape self.old.published.items (length self.old.acts.items) (act ∷ []) place) }
+        ensures err { OnErr result ((self.new.acts.items ≡ self.old.acts.items)
+            × (self.new.published.items ≡ self.old.published.items)) }
+        ensures rows { length self.new.published.items ≡ length self.old.published.items }
+        ensures words { self.new.words ≡ self.old.words }
+        ensures shape { self.new.shape ≡ self.old.shape }
+    {
+        let index = self.acts.len();
+        let published = match &act {
+            Act::Publish { key, .. } => Some(place_of(*key)),
+            _ => None,
+        };
+        self.acts.push(act)?;
+        if let Some(place) = published {
+            self.published[self.shape.position(place)] = index;
+        }
+        Ok(())
+    }
+}
+
+/// The next turn of a lane that isn't finished. Where memory is refused, the core is as before.
+fn next_turn(shared: &mut Shared, lanes: &mut Vec<Lane>, lane: u32) -> Result<Turn, CoreFault>
+    requires { (w : World) × (most : ℕ → Most) × IsCoreAt w most shared.old lanes.old.items × (is_finished shared.old.shape w lane ≡ false) }
+    ensures ok { IfOk result (λ turn. (w : World) (most : ℕ → Most) → IsCoreAt w most shared.old lanes.old.items → is_finished shared.old.shape w lane ≡ false
+        → MakesTurn (record { shared = shared.old; lanes = lanes.old.items }) w most lane turn (record { shared = shared.new; lanes = lanes.new.items })) }
+    ensures err { OnErr result ((w : World) (most : ℕ → Most) → IsCoreAt w most shared.old lanes.old.items → IsCoreAt w most shared.new lanes.new.items) }
+    ensures shape { shared.new.shape ≡ shared.old.shape }
+{
+    let index = lane as usize;
+    let of = &lanes[index];
+    let mut progress = of.progress;
+    let turn = advance(shared, of, lane, &mut progress)?;
+    settle(&mut lanes[index], progress);
+    Ok(turn)
+}
+
+/// Makes the next turn of a lane: its next step, with the work before and behind it, or only the work that ends its script.
+/// It is left to keep how far the lane has come. Where memory is refused, what all lanes share is as before.
+fn advance(
+    shared: &mut Shared,
+    of: &Lane,
+    lane: u32,
+    progress: &mut Progress,
+) -> Result<Turn, CoreFault>
+    requires lane { lane < shared.old.shape.lanes }
+    requires draft { (w : World) × IsDraft shared.old w None × IsLaneAt shared.old.shape w.history lane of.now progress.old (w.books lane) }
+    requires added { progress.old.own.added ≡ None }
+    ensures ok { IfOk result (λ turn. (w : World) → IsDraft shared.old w None → IsLaneAt shared.old.shape w.history lane of.now progress.old (w.books lane)
+        → is_finished shared.old.shape w lane ≡ false
+        → (turn.lane ≡ lane) × IsNextTurn shared.old.shape w turn × IsDraft shared.new (world_after shared.old.shape w turn) None
+        × IsLaneAt shared.old.shape (world_after shared.old.shape w turn).history lane of.now progress.new (book_after shared.old.shape w turn)
+        × (progress.new.most ≡ counted_step (book_before shared.old.shape w turn) turn.step progress.old.most)) }
+    ensures err { OnErr result ((w : World) → IsDraft shared.old w None → IsDraft shared.new w None) }
+    ensures shape { shared.new.shape ≡ shared.old.shape }
+{
+    let before = shared.work(of, lane, progress, None)?;
+    let Some(aim) = shared.next_aim(of, lane, progress, None) else {
+        return Ok(Turn {
+            lane,
+            before,
+            step: None,
+            act: None,
+            after: Replies::empty(shared.alloc),
+        });
+    };
+    let made = shared.make(of, lane, progress, aim)?;
+    let index = shared.acts.len();
+    let command = &of.script.as_slice()[progress.done];
+    progress.note(&shared.shape, lane, command, &made, index);
+    let after = shared.work(of, lane, progress, Some(&made))?;
+    let act = told(shared.alloc, &made.act)?;
+    let step = made.step;
+    shared.keep(made)?;
+    Ok(Turn {
+        lane,
+        before,
+        step: Some(step),
+        act,
+        after,
+    })
+}
+
+/// Keeps how far a lane has come.
+fn settle(of: &mut Lane, progress: Progress)
+    requires length { (place : ℕ) → progress.own.added ≡ Some place → progress.own.length < length of.old.ring.items }
+    requires first { progress.own.first < length of.old.ring.items }
+    ensures lane { (z : Shape) (history : List Act) (number : ℕ) (b : Book) → IsLaneAt z history number of.old progress b
+        → IsLaneAt z history number of.new of.new.progress b }
+    ensures added { of.new.progress.own.added ≡ None }
+    ensures most { of.new.progress.most ≡ progress.most }
+{
+    of.progress = progress;
+    of.progress.own.settle(&mut of.ring);
+}
+
+/// An act once more.
+fn told(alloc: Global, act: &Option<Act>) -> Result<Option<Act>, CoreFault>
+    ensures { IfOk result (λ copy. copy ≡ act.now) }
+{
+    match act {
+        Some(act) => Ok(Some(act.copy(alloc)?)),
+        None => Ok(None),
+    }
+}
+
+/// So many zeros.
+fn zeros(alloc: Global, length: usize) -> Result<Vec<usize>, CoreFault>
+    ensures { IfOk result (λ numbers. numbers.items ≡ replicate length 0) }
+{
+    let mut numbers = Vec::with_capacity(alloc, length)?;
+    for _ in 0..length {
+        numbers.push(0)?;
+    }
+    Ok(numbers)
+}
+
+/// The lanes of these scripts before their first turns, each with room for the places of its shard.
+fn new_lanes(alloc: Global, shape: &Shape, scripts: Vec<Script>) -> Result<Vec<Lane>, CoreFault>
+    requires { IsShape shape.now }
+    ensures { IfOk result (λ lanes. (length lanes.items ≡ length scripts.items)
+        × ((number : ℕ) (lane : Lane) → slice_get lanes.items number ≡ Some lane
+        → (slice_get scripts.items number ≡ Some lane.script) × (lane.ring.items ≡ replicate (shard_places shape.now) 0) × (lane.progress ≡ first_progress))) }
+{
+    let mut lanes = Vec::with_capacity(alloc, scripts.len())?;
+    for script in scripts {
+        lanes.push(new_lane(alloc, shape, script)?)?;
+    }
+    Ok(lanes)
+}
+
+/// A lane before its first turn.
+fn new_lane(alloc: Global, shape: &Shape, script: Script) -> Result<Lane, CoreFault>
+    requires { IsShape shape.now }
+    ensures { IfOk result (λ lane. (lane.script ≡ script) × (lane.ring.items ≡ replicate (shard_places shape.now) 0) × (lane.progress ≡ first_progress)) }
+{
+    let places = shape.shard_places();
+    let mut ring = Vec::with_capacity(alloc, places as usize)?;
+    for _ in 0..places {
+        ring.push(0)?;
+    }
+    Ok(Lane {
+        script: Commands::new(alloc, script)?,
+        ring,
+        progress: Progress::new(),
+    })
 }
 
 /// One more entry of a schedule: the turn that it makes, if it makes one, goes into the trace.
 fn add_turn(core: &mut Core, trace: &mut Trace, lane: u32) -> Result<(), CoreFault>
-    ensures { OnOk result ((w : World) (schedule : List ℕ)
-        → IsRun core.old.shape w schedule trace.old core.old
-        → IsRun core.old.shape w (schedule ++ lane ∷ []) trace.new core.new × (core.new.shape ≡ core.old.shape)) }
+    ensures run { OnOk result ((w : World) (schedule : List ℕ)
+        → IsRun core.old.shared.shape w schedule trace.old core.old → IsRun core.old.shared.shape w (schedule ++ lane ∷ []) trace.new core.new) }
+    ensures shape { core.new.shared.shape ≡ core.old.shared.shape }
 {
     if core.finished(lane) {
         return Ok(());
@@ -96,9 +311,7 @@ pub fn run(
     schedule: &[u32],
 ) -> Result<Trace, CoreFault>
     requires shape { IsShape shape }
-    requires one_lane { shape.lanes ≡ 1 }
     requires scripts { length scripts.items ≡ shape.lanes }
-    requires replayed { ScriptsAreReplayed scripts.items }
     ensures lawful { IfOk result (λ trace. IsLawful shape scripts.items schedule.now trace) }
 
     // After each turn each place is in one part, and the facts of words, history and books hold.

@@ -1,6 +1,5 @@
 ghost use Rattle.std.specs.Prelude.{◌≡◌, length, IfOk};
 ghost use Rattle.keybits.specs.Shapes.{IsShape};
-ghost use Rattle.coresteps.specs.OneLane.{IsReplayed, AreReplayed, ScriptsAreReplayed};
 
 use crate::{Command, Core, Operand, Register, Reply, Script, Trace, Turn, run, write_trace};
 use keybits::Shape;
@@ -14,9 +13,12 @@ enum Row<'a> {
     Create(u8),
     Write(u8, &'a [u8]),
     Publish(u8),
+    Downgrade(u8),
     Get(u8, u64),
     GetLast(u8, u8),
     Read(u8),
+    Release(u8),
+    Clear(u64),
 }
 
 const TWO_PLACES: Shape = Shape {
@@ -29,6 +31,11 @@ const TWO_PLACES: Shape = Shape {
 
 const ONE_PLACE: Shape = Shape {
     first_page: 1,
+    ..TWO_PLACES
+};
+
+const TWO_LANES: Shape = Shape {
+    lanes: 2,
     ..TWO_PLACES
 };
 
@@ -67,40 +74,166 @@ const SKIPS: [Row<'static>; 17] = [
 const SKIPS_TRACE: &str =
     "0 = skip\n0 = skip\n0 = skip\n0 = skip\n0 = filling 16777216\n0 = skip\n0 = skip\n0 = skip\n0 PUBLISH 0 4294967296 4294967297\n0 = key 16777216\n0 ENTER 0 4294967297 4294967301\n0 = some -\n0 = skip\n0 = skip\n0 = skip\n0 = skip\n0 = -\n0 = skip\n0 ENTER 0 4294967301 4294967305\n0 = some -\n";
 
+// A stranger clears.
+const SIXTH: &str = "0 = filling 16777216
+0 PUBLISH 0 4294967296 4294967301
+0 = key 16777216
+0 ENTER 0 4294967301 4294967305
+0 MARK 0 4294967305 4294967307
+0 LEAVE 0 4294967307 4294967303
+0 = true
+0 LEAVE 0 4294967303 4294967299
+1 ENTER 0 4294967299 4294967303
+0 CLAIM 0 4294967303 4294967303
+0 = ok
+1 LEAVE 0 4294967303 4294967299
+1 CLAIM 0 4294967299 8589934592
+1 LINK 0 0 0
+1 PUSH 0.1 0 1
+1 = none
+";
+
+// A TAKE between a LINK and its PUSH.
+const TWENTIETH: &str = "0 = filling 16777216
+0 PUBLISH 0 4294967296 4294967297
+0 = key 16777216
+0 = filling 16777217
+0 PUBLISH 1 4294967296 4294967297
+0 = key 16777217
+1 ENTER 0 4294967297 4294967301
+1 = some -
+1 ENTER 1 4294967297 4294967301
+1 = some -
+0 ENTER 0 4294967301 4294967305
+0 MARK 0 4294967305 4294967307
+0 LEAVE 0 4294967307 4294967303
+0 = true
+0 ENTER 1 4294967301 4294967305
+0 MARK 1 4294967305 4294967307
+0 LEAVE 1 4294967307 4294967303
+0 = true
+1 LEAVE 0 4294967303 4294967299
+1 CLAIM 0 4294967299 8589934592
+1 LINK 0 0 0
+1 PUSH 0.1 0 1
+1 = ok
+1 LEAVE 1 4294967303 4294967299
+1 CLAIM 1 4294967299 8589934592
+1 LINK 1 0 1
+0 TAKE 0.1 1 0
+0 FOLLOW 0 0 0
+0 = filling 33554432
+1 PUSH 0.1 0 0
+1 LINK 1 1 0
+1 PUSH 0.1 0 2
+1 = ok
+0 TAKE 0.1 2 0
+0 FOLLOW 1 0 0
+0 = filling 33554433
+";
+
+// A key of an earlier generation finds nothing.
+const FOURTH: &str = "0 = filling 16777216
+0 PUBLISH 0 4294967296 4294967297
+0 = key 16777216
+0 ENTER 0 4294967297 4294967301
+0 MARK 0 4294967301 4294967303
+0 LEAVE 0 4294967303 4294967299
+0 CLAIM 0 4294967299 8589934592
+0 = true
+0 = filling 33554432
+0 = ok
+0 PUBLISH 0 8589934592 8589934593
+0 = key 33554432
+0 ENTER 0 8589934593 8589934597
+0 LEAVE 0 8589934597 8589934593
+0 = none
+0 ENTER 0 8589934593 8589934597
+0 = some 62
+0 = 62
+";
+
+// A TAKE between a LINK and its PUSH: the scripts of two lanes, and their schedule.
+const RETURNS: [&[Row<'static>]; 2] = [
+    &[
+        Row::Create(0),
+        Row::Publish(0),
+        Row::Create(1),
+        Row::Publish(1),
+        Row::Clear(16777216),
+        Row::Clear(16777217),
+        Row::Create(2),
+        Row::Create(3),
+    ],
+    &[
+        Row::Get(0, 16777216),
+        Row::Get(1, 16777217),
+        Row::Release(0),
+        Row::Release(1),
+    ],
+];
+
+const RETURNS_SCHEDULE: [u32; 24] = [
+    0, 0, 1, 1, 0, 0, 0, 0, 0, 0, 1, 1, 1, 1, 1, 1, 1, 0, 0, 1, 1, 1, 0, 0,
+];
+
 // Scripts, schedules and the traces that they have.
-const TRACES: [(Shape, &[Row<'static>], &[u32], &str); 7] = [
-    (TWO_PLACES, &FIRST_ROW, &[0, 0], FIRST_TRACE),
+const TRACES: [(Shape, &[&[Row<'static>]], &[u32], &str); 8] = [
+    (TWO_PLACES, &[&FIRST_ROW], &[0, 0], FIRST_TRACE),
     (
         ONE_PLACE,
-        &[Row::Create(0), Row::Create(1)],
+        &[&[Row::Create(0), Row::Create(1)]],
         &[0],
         "0 = filling 16777216\n0 = full\n",
     ),
     (
         TWO_PLACES,
-        &[Row::Create(0), Row::Get(1, 16777216)],
-        &[0, 0],
-        "0 = filling 16777216\n0 ENTER 0 4294967296 4294967300\n0 LEAVE 0 4294967300 4294967296\n0 = none\n",
-    ),
-    (
-        TWO_PLACES,
-        &[
+        &[&[
             Row::Get(0, 0),
             Row::Get(0, 18446744073709551615),
             Row::Get(0, 17825792),
             Row::Get(0, 16781312),
-        ],
+            Row::Clear(16777218),
+        ]],
         &[0],
-        "0 = none\n0 = none\n0 = none\n0 = none\n",
+        "0 = none\n0 = none\n0 = none\n0 = none\n0 = false\n",
     ),
-    (TWO_PLACES, &SKIPS, &[0, 0, 0], SKIPS_TRACE),
+    (TWO_PLACES, &[&SKIPS], &[0, 0, 0], SKIPS_TRACE),
+    (TWO_PLACES, &[&[]], &[0], ""),
     (
-        TWO_PLACES,
-        &[Row::Read(0), Row::Write(0, b"a"), Row::GetLast(1, 2)],
-        &[0],
-        "0 = skip\n0 = skip\n0 = skip\n",
+        Shape {
+            lanes: 2,
+            ..ONE_PLACE
+        },
+        &[
+            &[
+                Row::Create(0),
+                Row::Downgrade(0),
+                Row::Clear(16777216),
+                Row::Release(0),
+            ],
+            &[Row::Get(0, 16777216)],
+        ],
+        &[0, 0, 0, 0, 0, 1, 0, 1, 1, 1, 1],
+        SIXTH,
     ),
-    (TWO_PLACES, &[], &[0], ""),
+    (TWO_LANES, &RETURNS, &RETURNS_SCHEDULE, TWENTIETH),
+    (
+        ONE_PLACE,
+        &[&[
+            Row::Create(0),
+            Row::Publish(0),
+            Row::Clear(16777216),
+            Row::Create(0),
+            Row::Write(0, b"b"),
+            Row::Publish(0),
+            Row::Get(1, 16777216),
+            Row::Get(1, 33554432),
+            Row::Read(1),
+        ]],
+        &[0; 9],
+        FOURTH,
+    ),
 ];
 
 fn register_of(number: u8) -> Result<Register, Fail> {
@@ -110,9 +243,7 @@ fn register_of(number: u8) -> Result<Register, Fail> {
     Ok(Register { number })
 }
 
-fn command_of(alloc: Global, row: Row<'_>) -> Result<Command, Fail>
-    ensures { IfOk result (λ command. IsReplayed command) }
-{
+fn command_of(alloc: Global, row: Row<'_>) -> Result<Command, Fail> {
     Ok(match row {
         Row::Create(register) => Command::Create(register_of(register)?),
         Row::Write(register, bytes) => {
@@ -120,61 +251,61 @@ fn command_of(alloc: Global, row: Row<'_>) -> Result<Command, Fail>
             Command::Write(register_of(register)?, bytes)
         }
         Row::Publish(register) => Command::Publish(register_of(register)?),
+        Row::Downgrade(register) => Command::Downgrade(register_of(register)?),
         Row::Get(register, key) => Command::Get(register_of(register)?, Operand::Number(key)),
         Row::GetLast(register, last) => {
             Command::Get(register_of(register)?, Operand::LastOf(register_of(last)?))
         }
         Row::Read(register) => Command::Read(register_of(register)?),
+        Row::Release(register) => Command::Release(register_of(register)?),
+        Row::Clear(key) => Command::Clear(Operand::Number(key)),
     })
 }
 
-fn commands_of(alloc: Global, rows: &[Row<'_>]) -> Result<Vec<Command>, Fail>
-    ensures { IfOk result (λ commands. AreReplayed commands.items) }
-{
+fn script_of(alloc: Global, rows: &[Row<'_>]) -> Result<Script, Fail> {
     let mut commands = Vec::new(alloc);
     for row in rows {
         let command = command_of(alloc, *row)?;
         commands.push(command)?;
     }
-    Ok(commands)
+    Ok(Script::from_vec(commands))
 }
 
-/// The one script of these commands.
-fn scripts_of(alloc: Global, rows: &[Row<'_>]) -> Result<Vec<Script>, Fail>
-    ensures one { IfOk result (λ scripts. length scripts.items ≡ 1) }
-    ensures replayed { IfOk result (λ scripts. ScriptsAreReplayed scripts.items) }
+/// The scripts of these rows, one for each lane of a checked shape.
+fn scripts_of(alloc: Global, shape: Shape, rows: &[&[Row<'_>]]) -> Result<Vec<Script>, Fail>
+    ensures shape { IfOk result (λ scripts. IsShape shape) }
+    ensures lanes { IfOk result (λ scripts. length scripts.items ≡ shape.lanes) }
 {
-    let commands = commands_of(alloc, rows)?;
     let mut scripts = Vec::new(alloc);
-    scripts.push(Script::from_vec(commands))?;
+    for script in rows {
+        scripts.push(script_of(alloc, script)?)?;
+    }
+    if shape.check().is_err() || scripts.len() != shape.lanes as usize {
+        return Err(Fail::from("the shape is refused"));
+    }
     Ok(scripts)
 }
 
-/// The shape, once it is checked that it is one, of one lane.
-fn checked(shape: Shape) -> Result<Shape, Fail>
-    ensures shape { IfOk result (λ z. IsShape z) }
-    ensures one_lane { IfOk result (λ z. z.lanes ≡ 1) }
-{
-    match shape.check() {
-        Ok(()) if shape.lanes == 1 => Ok(shape),
-        _ => Err(Fail::from("the shape is refused")),
+/// The core of these scripts, one for each lane of a checked shape.
+fn core_from(alloc: Global, shape: Shape, scripts: Vec<Script>) -> Result<Core, Fail> {
+    if shape.check().is_err() || scripts.len() != shape.lanes as usize {
+        return Err(Fail::from("the shape is refused"));
     }
+    Ok(Core::new(alloc, shape, scripts)?)
 }
 
-fn core_of(alloc: Global, shape: Shape, rows: &[Row<'_>]) -> Result<Core, Fail> {
-    let shape = checked(shape)?;
-    let scripts = scripts_of(alloc, rows)?;
-    Ok(Core::new(alloc, shape, scripts)?)
+fn core_of(alloc: Global, shape: Shape, rows: &[&[Row<'_>]]) -> Result<Core, Fail> {
+    let scripts = scripts_of(alloc, shape, rows)?;
+    core_from(alloc, shape, scripts)
 }
 
 fn trace_of(
     alloc: Global,
     shape: Shape,
-    rows: &[Row<'_>],
+    rows: &[&[Row<'_>]],
     schedule: &[u32],
 ) -> Result<Trace, Fail> {
-    let shape = checked(shape)?;
-    let scripts = scripts_of(alloc, rows)?;
+    let scripts = scripts_of(alloc, shape, rows)?;
     Ok(run(alloc, shape, scripts, schedule)?)
 }
 
@@ -228,7 +359,7 @@ fn is_empty_turn(turn: &Turn, lane: u32) -> bool {
 #[test]
 fn steps_a_core(rt: HostRuntime) -> Result<(), Fail> {
     let alloc = rt.alloc();
-    let mut core = core_of(alloc, TWO_PLACES, &FIRST_ROW)?;
+    let mut core = core_of(alloc, TWO_PLACES, &[&FIRST_ROW])?;
     assert!(rt; !core.finished(0));
     for (lines, finished) in [
         (
@@ -249,7 +380,7 @@ fn steps_a_core(rt: HostRuntime) -> Result<(), Fail> {
 
 #[test]
 fn tells_acts(rt: HostRuntime) -> Result<(), Fail> {
-    let mut core = core_of(rt.alloc(), TWO_PLACES, &FIRST_ROW)?;
+    let mut core = core_of(rt.alloc(), TWO_PLACES, &[&FIRST_ROW])?;
     assert!(rt; core.acts().is_empty());
     let published = core.turn(0)?.act;
     assert!(rt; is_publish(published.as_ref(), 16777216, b"hi"));
@@ -265,7 +396,7 @@ fn tells_acts(rt: HostRuntime) -> Result<(), Fail> {
 #[test]
 fn turns_of_no_lane_do_nothing(rt: HostRuntime) -> Result<(), Fail> {
     let alloc = rt.alloc();
-    let mut core = core_of(alloc, TWO_PLACES, &FIRST_ROW)?;
+    let mut core = core_of(alloc, TWO_PLACES, &[&FIRST_ROW])?;
     let mut trace = Trace::empty(alloc);
     for lane in [1, 255, 0, 2, 0, 4294967295, 0] {
         let finished = core.finished(lane);
@@ -282,7 +413,7 @@ fn turns_of_no_lane_do_nothing(rt: HostRuntime) -> Result<(), Fail> {
 
 #[test]
 fn finished_lanes_do_nothing(rt: HostRuntime) -> Result<(), Fail> {
-    let mut core = core_of(rt.alloc(), TWO_PLACES, &[])?;
+    let mut core = core_of(rt.alloc(), TWO_PLACES, &[&[]])?;
     for lane in [0, 1, 4294967295] {
         assert!(rt; core.finished(lane), "lane {lane}");
         assert!(rt; is_empty_turn(&core.turn(lane)?, lane), "lane {lane}");
@@ -313,7 +444,7 @@ fn runs_a_thousand_entries(rt: HostRuntime) -> Result<(), Fail> {
         mixed.push(entry % 3)?;
     }
     for schedule in [late, mixed] {
-        let trace = trace_of(alloc, TWO_PLACES, &FIRST_ROW, schedule.as_slice())?;
+        let trace = trace_of(alloc, TWO_PLACES, &[&FIRST_ROW], schedule.as_slice())?;
         let mut out = Vec::new(alloc);
         write_trace(&trace, &mut out)?;
         assert_eq!(rt; out.as_slice(), FIRST_TRACE.as_bytes());
@@ -333,7 +464,7 @@ fn runs_hundreds_of_steps(rt: HostRuntime) -> Result<(), Fail> {
         pages: 6,
         ..TWO_PLACES
     };
-    let trace = trace_of(alloc, shape, rows.as_slice(), &[0; 1000])?;
+    let trace = trace_of(alloc, shape, &[rows.as_slice()], &[0; 1000])?;
     assert_eq!(rt; trace.as_slice().len(), 193);
     for (number, wanted) in [
         (1, 16777216),
@@ -349,5 +480,75 @@ fn runs_hundreds_of_steps(rt: HostRuntime) -> Result<(), Fail> {
             "number {number}"
         );
     }
+    Ok(())
+}
+
+#[test]
+fn tells_the_most_steps(rt: HostRuntime) -> Result<(), Fail> {
+    let mut core = core_of(rt.alloc(), TWO_LANES, &RETURNS)?;
+    assert_eq!(rt; core.most(0), (0, 0));
+    for lane in RETURNS_SCHEDULE {
+        core.turn(lane)?;
+    }
+    assert_eq!(rt; core.most(0), (2, 3));
+    assert_eq!(rt; core.most(1), (0, 6));
+    assert_eq!(rt; core.most(2), (0, 0));
+    assert_eq!(rt; core.most(4294967295), (0, 0));
+    Ok(())
+}
+
+#[test]
+fn counts_a_call_under_way(rt: HostRuntime) -> Result<(), Fail> {
+    let rows: [&[Row<'_>]; 1] = [&[Row::Create(0), Row::Publish(0), Row::Clear(16777216)]];
+    let mut core = core_of(rt.alloc(), ONE_PLACE, &rows)?;
+    for most in [1, 1, 2, 3, 4] {
+        core.turn(0)?;
+        assert_eq!(rt; core.most(0), (0, most));
+    }
+    Ok(())
+}
+
+// Lane 15 of the largest shape publishes, lane 0 clears and returns the place, and lane 15 takes it before it opens a page.
+#[test]
+fn runs_the_largest_shape(rt: HostRuntime) -> Result<(), Fail> {
+    let alloc = rt.alloc();
+    let shape = Shape {
+        lanes: 16,
+        first_page: 64,
+        pages: 6,
+        last_generation: 4294967295,
+        tag: 255,
+    };
+    let key = 18374686479689383936;
+    let mut last = Vec::new(alloc);
+    last.extend_from_slice(&[Row::Create(0), Row::Publish(0)])?;
+    for _ in 0..4031u32 {
+        last.extend_from_slice(&[Row::Create(1), Row::Publish(1)])?;
+    }
+    last.push(Row::Create(2))?;
+    let mut scripts = Vec::new(alloc);
+    scripts.push(script_of(alloc, &[Row::Clear(key)])?)?;
+    for _ in 1..15u32 {
+        scripts.push(script_of(alloc, &[])?)?;
+    }
+    scripts.push(script_of(alloc, last.as_slice())?)?;
+    let mut core = core_from(alloc, shape, scripts)?;
+    core.turn(15)?;
+    for _ in 0..6u32 {
+        core.turn(0)?;
+    }
+    assert!(rt; core.finished(0));
+    for _ in 0..5000u32 {
+        core.turn(15)?;
+    }
+    assert!(rt; core.finished(15));
+    assert_eq!(rt; core.most(15), (15, 1));
+    assert_eq!(rt; core.most(0), (0, 6));
+    let collects = core
+        .acts()
+        .iter()
+        .filter(|act| matches!(act, Act::Collect { lane: 15, .. }))
+        .count();
+    assert_eq!(rt; collects, 1);
     Ok(())
 }

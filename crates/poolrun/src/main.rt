@@ -187,7 +187,11 @@ mod test_keys;
 #[cfg(test)]
 mod test_plans;
 #[cfg(test)]
+mod test_random;
+#[cfg(test)]
 mod test_replays;
+#[cfg(test)]
+mod test_rows;
 #[cfg(test)]
 mod test_schedules;
 #[cfg(test)]

@@ -1,7 +1,6 @@
 -- What a replay writes.
 use Rattle.std.specs.Prelude.{◌≡◌, ◌⊎◌, ℕ, Bool, true, false, List, Option}
 use Rattle.std.specs.Io.KnownBytes.{Appends}
-use Rattle.coresteps.specs.OneLane.{ScriptsAreReplayed}
 use Rattle.traces.specs.Lawful.{IsLawful}
 use Rattle.keybits.specs.declared.shape.Shape.{Shape}
 use Rattle.seqpool.specs.ActsText.{IsTextOf}
@@ -10,32 +9,15 @@ use Rattle.traces.specs.Text.{trace_text}
 use Rattle.traces.specs.TurnLaws.{all_acts}
 use Rattle.traces.specs.declared.trace.Turn.{Turn}
 use Rattle.scripts.specs.declared.plan.Plan.{Plan}
-use Rattle.scripts.specs.declared.script_fault.ScriptFault.{ScriptFault}
 use Rattle.scripts.specs.declared.script_fault.ScriptFault.TheVariants as faults
 use Rattle.scripts.specs.Readings.{StandsFor, RefusesFile}
 use Rattle.pooltexts.specs.declared.run_fault.RunFault.{RunFault}
 use Rattle.pooltexts.specs.declared.run_fault.RunFault.TheVariants as runs
 
--- a plan that is replayed so far: of one lane, without downgrade, release and clear
-pub record IsReplayedPlan (plan : Plan) : Type 0 where
-  pub one_lane : plan.shape.lanes ≡ 1
-  pub replayed : ScriptsAreReplayed plan.scripts
-
--- the file stands for a plan that is replayed so far
-pub record HasReplayedPlan (file : List ℕ) : Type 0 where
+-- the file stands for a plan
+pub record HasPlan (file : List ℕ) : Type 0 where
   pub plan : Plan
   pub stands : StandsFor file plan
-  pub replayed : IsReplayedPlan plan
-
--- the file stands for a plan that isn't replayed so far
-pub record HasOtherPlan (file : List ℕ) : Type 0 where
-  pub plan : Plan
-  pub stands : StandsFor file plan
-  pub other : IsReplayedPlan plan → ⊥
-
--- the script file is refused with this fault: as its reading says; or with Field, where it stands for a plan that isn't replayed so far
-abbrev pub RefusesScript : List ℕ → ScriptFault → Type 0
-RefusesScript file fault = RefusesFile file fault ⊎ ((fault ≡ faults.Field) × HasOtherPlan file)
 
 -- the text of a trace; or, where these are wanted, that of the shape and of the trace's acts
 abbrev pub IsText : Shape → List Turn → Bool → List ℕ → Type 0
@@ -76,7 +58,7 @@ pub record IsDrawnFor (file : List ℕ) (seed turns : ℕ) (schedule : List ℕ)
 
 -- the file is refused with this fault: as its reading says; or memory was refused for the schedule of the plan that it stands for
 abbrev pub RefusesDraw : List ℕ → RunFault → Type 0
-RefusesDraw file (runs.Read fault) = RefusesFile file fault ⊎ ((fault ≡ faults.Memory) × ((plan : Plan) × StandsFor file plan))
+RefusesDraw file (runs.Read fault) = RefusesFile file fault ⊎ ((fault ≡ faults.Memory) × HasPlan file)
 RefusesDraw file (runs.Core fault) = ⊥
 RefusesDraw file (runs.Acts fault) = ⊥
 RefusesDraw file runs.File = ⊥
@@ -94,8 +76,8 @@ IsCoreFault runs.Memory = ⊥
 
 -- the file is refused with this fault: as a script file; or the core was refused memory for the plan that it stands for; or memory was refused for the text of a trace
 abbrev pub RefusesReplay : List ℕ → List ℕ → RunFault → Type 0
-RefusesReplay file schedule (runs.Read fault) = RefusesScript file fault
-RefusesReplay file schedule (runs.Core fault) = HasReplayedPlan file
+RefusesReplay file schedule (runs.Read fault) = RefusesFile file fault
+RefusesReplay file schedule (runs.Core fault) = HasPlan file
 RefusesReplay file schedule runs.Memory = HasReplay file schedule
 RefusesReplay file schedule (runs.Acts fault) = ⊥
 RefusesReplay file schedule runs.File = ⊥

@@ -5,7 +5,6 @@ mod check;
 mod files;
 mod key;
 mod replay;
-mod replayed;
 mod run_fault;
 
 pub use check::check_text;

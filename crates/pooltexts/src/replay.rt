@@ -5,9 +5,8 @@ ghost use Rattle.seqpool.specs.ActsText.{IsTextOf};
 ghost use Rattle.traces.specs.Text.{trace_text};
 ghost use Rattle.traces.specs.TurnLaws.{all_acts};
 ghost use Rattle.scripts.specs.Readings.{StandsFor};
-ghost use Rattle.pooltexts.specs.Replays.{IsReplayedPlan, RefusesScript, IsText, IsCoreFault, IsTraceOf, IsReplay, RefusesReplay, WritesReplay, IsDrawnFor, RefusesDraw};
+ghost use Rattle.pooltexts.specs.Replays.{IsText, IsCoreFault, IsTraceOf, IsReplay, RefusesReplay, WritesReplay, IsDrawnFor, RefusesDraw};
 
-use crate::replayed::is_replayed_plan;
 use crate::run_fault::RunFault;
 use coresteps::run;
 use keybits::Shape;
@@ -19,23 +18,10 @@ use std::io::Write;
 use traces::{Trace, Turn, write_trace};
 use watched::{Watched, write_and_flush};
 
-/// The plan of a script file, where it is one that is replayed so far.
-fn read_plan(alloc: Global, file: &[u8]) -> Result<Plan, ScriptFault>
-    ensures ok { IfOk result (λ plan. StandsFor file.now plan × IsReplayedPlan plan) }
-    ensures err { IfErr result (λ fault. RefusesScript file.now fault) }
-{
-    let plan = parse(alloc, file)?;
-    if !is_replayed_plan(&plan) {
-        return Err(ScriptFault::Field);
-    }
-    Ok(plan)
-}
-
 /// The trace of a plan over a schedule.
 fn run_plan(alloc: Global, plan: Plan, schedule: &[u32]) -> Result<Trace, RunFault>
     requires shape { IsShape plan.shape }
     requires count { length plan.scripts ≡ plan.shape.lanes }
-    requires replayed { IsReplayedPlan plan }
     ensures ok { IfOk result (λ trace. IsLawful plan.shape plan.scripts schedule.now trace) }
     ensures err { IfErr result (λ fault. IsCoreFault fault) }
 {
@@ -48,7 +34,7 @@ fn trace_of(alloc: Global, file: &[u8], schedule: &[u32]) -> Result<(Shape, Trac
     ensures ok { IfOk result (λ found. IsTraceOf file.now schedule.now found.0 found.1) }
     ensures err { IfErr result (RefusesReplay file.now schedule.now) }
 {
-    let plan = read_plan(alloc, file).map_err(RunFault::Read)?;
+    let plan = parse(alloc, file).map_err(RunFault::Read)?;
     let shape = plan.shape;
     let trace = run_plan(alloc, plan, schedule)?;
     Ok((shape, trace))
@@ -115,8 +101,7 @@ fn replayed(alloc: Global, file: &[u8], schedule: &[u32], acts: bool) -> Result<
 }
 
 /// Replays a script file over a schedule, whose entries are numbers of lanes, and writes the text of
-/// the trace, or where `acts` holds the text of its acts. The errors: `Read` as `parse` answers it, and
-/// with `Field` where the plan has more lanes than one or a command that isn't replayed so far; `Core`
+/// the trace, or where `acts` holds the text of its acts. The errors: `Read` as `parse` answers it; `Core`
 /// where the core was refused memory for the plan, and `Memory` where it was refused for the text of a
 /// trace. These come before the first byte; `Output` comes exactly where `out` failed, and then it
 /// isn't said how much went out.

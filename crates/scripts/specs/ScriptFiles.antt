@@ -1,5 +1,5 @@
 -- What the value of a script file stands for: a shape and one script for each lane, or else the first fault that is found.
-use Rattle.std.specs.Prelude.{◌==◌, ◌&&◌, ◌||◌, ◌+◌, ℕ, List, [], ◌∷◌, length, Bool, Option, Some, None, Result, Ok, Err, codes, nat_le, if◌then◌else◌, option_map, option_and_then, unwrap_or, ok_or, is_some, false}
+use Rattle.std.specs.Prelude.{◌==◌, ◌&&◌, ◌||◌, ◌+◌, ℕ, List, [], ◌∷◌, length, Bool, Option, Some, None, Result, Ok, Err, codes, if◌then◌else◌, option_map, option_and_then, unwrap_or, ok_or, is_some, false}
 use Rattle.std.specs.Option.{option_or}
 use Rattle.std.specs.Result.{result_ok}
 use Rattle.std.proofs.Math.Decide.{dec_lt}
@@ -18,7 +18,7 @@ use Rattle.scripts.specs.declared.command_name.CommandName.{CommandName}
 use Rattle.scripts.specs.declared.command_name.CommandName.TheVariants.{Create, Write, Publish, Downgrade, Get, Read, Release, Clear}
 use Rattle.scripts.specs.declared.script_fault.ScriptFault.{ScriptFault}
 use Rattle.scripts.specs.declared.script_fault.ScriptFault.TheVariants as faults
-use Rattle.schedules.specs.Numbers.{digit_of}
+use Rattle.schedules.specs.Numbers.{digit_of, at_most}
 use Rattle.scripts.specs.CommandNames.{command_name_of}
 
 infixl 10 ◌>>=◌
@@ -30,10 +30,6 @@ abbrev pub ◌>>=◌ : {A B : Type 0} → Result A ScriptFault → (A → Result
 -- a whole number, which is written without a point, an exponent or a minus sign, and is at most 18446744073709551615
 abbrev pub whole_of : Data → Option ℕ
 whole_of d = option_and_then as_u64 (as_number d)
-
--- a number that is at most the limit
-abbrev pub at_most : ℕ → ℕ → Option ℕ
-at_most limit n = if nat_le n limit then Some n else None
 
 -- the items of an array, as a list
 abbrev pub list_of : Items → List Data

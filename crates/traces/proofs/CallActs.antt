@@ -18,7 +18,7 @@ use Rattle.seqpool.specs.declared.act.Act.TheVariants as acts
 use Rattle.steplaws.specs.Calls.{Call, Publishing, Getting, Releasing, Clearing, Creating, Caller, Aim, aim, is_hit, owes_claim, is_claimed, end_next, mark_next, follow_next, next_lane, first_lane, take_next, next_step, AreSteps, key_in, place_in, KindMakes}
 use Rattle.traces.specs.Books.{act_list}
 use Rattle.traces.specs.Making.{IsMade, AreMade}
-use Rattle.traces.proofs.Sound.{IsFound, AreFound}
+use Rattle.traces.specs.Keeping.{IsFound, AreFound}
 
 -- ---- tests
 
@@ -77,7 +77,7 @@ module _ (generation last shard lane : ℕ) (claimed : Bool) where
 -- ---- one step
 
 -- what a step of this kind made
-made_by : (c : Caller) (call : Call) (step : Step) (act : Option Act) (kind : Kind) → step.kind ≡ kind → (m : IsMade c call step act)
+pub made_by : (c : Caller) (call : Call) (step : Step) (act : Option Act) (kind : Kind) → step.kind ≡ kind → (m : IsMade c call step act)
     → KindMakes kind c call m.links step.word step.before act
 made_by c call step act kind e m = subst (λ (k : Kind). KindMakes k c call m.links step.word step.before act) e m.makes
 
@@ -280,11 +280,11 @@ get_steps c key enter miss made (step ∷ more) a =
     (sym (ap (λ (b : Bool). cond b None (end_next c (place_of key) made)) miss) ∙ a.0, get_steps c key enter miss (made ++ step ∷ []) more a.1)
 
 -- what a get's act shows
-shown_as : (reply : Option (List ℕ)) → is_some reply ≡ true → (content : List ℕ) × (reply ≡ Some content)
+pub shown_as : (reply : Option (List ℕ)) → is_some reply ≡ true → (content : List ℕ) × (reply ≡ Some content)
 shown_as (Some content) e = (content, refl)
 shown_as None e = absurd (cc e)
 
-hidden_as : (reply : Option (List ℕ)) → is_some reply ≡ false → reply ≡ None
+pub hidden_as : (reply : Option (List ℕ)) → is_some reply ≡ false → reply ≡ None
 hidden_as (Some content) e = absurd (cc e)
 hidden_as None e = refl
 
@@ -386,11 +386,11 @@ clear_acts c key (enter ∷ more) made a m = by_test (is_hit key enter.before) r
         )
 
 -- the steps made so far of the TAKEs from this lane on, each the next one
-abbrev TakeSteps : Caller → ℕ → List Step → List Step → Type 0
+abbrev pub TakeSteps : Caller → ℕ → List Step → List Step → Type 0
 TakeSteps c lane made [] = Unit {0}
 TakeSteps c lane made (step ∷ more) = (take_next c lane made ≡ Some (aim step.kind step.word)) × TakeSteps c lane (made ++ step ∷ []) more
 
-create_steps : (c : Caller) (opened : ℕ) → eqb opened 0 ≡ false → (made more : List Step) → AreSteps c (Creating [] [] opened) made more
+pub create_steps : (c : Caller) (opened : ℕ) → eqb opened 0 ≡ false → (made more : List Step) → AreSteps c (Creating [] [] opened) made more
     → TakeSteps c (first_lane c.lane) made more
 create_steps c opened some_page made [] a = tt
 create_steps c opened some_page made (step ∷ more) a = (
@@ -399,7 +399,7 @@ create_steps c opened some_page made (step ∷ more) a = (
   create_steps c opened some_page (made ++ step ∷ []) more a.1,
 )
 
-empty_steps : (c : Caller) (lane : ℕ) (take : Step) → take.before ≡ 0 → (made more : List Step) → TakeSteps c lane (take ∷ made) more
+pub empty_steps : (c : Caller) (lane : ℕ) (take : Step) → take.before ≡ 0 → (made more : List Step) → TakeSteps c lane (take ∷ made) more
     → TakeSteps c (next_lane c.lane lane) made more
 empty_steps c lane take none made [] a = tt
 empty_steps c lane take none made (step ∷ more) a = (

@@ -378,12 +378,12 @@ others c call other made (step ∷ more) are pushed =
     ∙ others c call other (made ++ step ∷ []) more are.1 pushed
 
 -- the steps of an END so far, by what comes next alone
-abbrev AreEnd : Caller → ℕ → List Step → List Step → Type 0
+abbrev pub AreEnd : Caller → ℕ → List Step → List Step → Type 0
 AreEnd c place made [] = Unit {0}
 AreEnd c place made (step ∷ more) = (end_next c place made ≡ Some (aim step.kind step.word)) × AreEnd c place (made ++ step ∷ []) more
 
 -- they are the steps of a call behind those that it makes first
-end_of : (c : Caller) (call : Call) (place : ℕ) (front : List Step → List Step)
+pub end_of : (c : Caller) (call : Call) (place : ℕ) (front : List Step → List Step)
     → ((made : List Step) (step : Step) → front made ++ step ∷ [] ≡ front (made ++ step ∷ []))
     → ((made : List Step) (to : Aim) → next_step c call (front made) ≡ Some to → end_next c place made ≡ Some to)
     → (made steps : List Step) → AreSteps c call (front made) steps → AreEnd c place made steps

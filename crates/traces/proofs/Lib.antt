@@ -7,7 +7,6 @@ pub mod StepRules
 pub mod NextSteps
 pub mod Moves
 pub mod Owns
-pub mod Sound
 pub mod CallActs
 pub mod CreateHands
 pub mod HoldingLemmas

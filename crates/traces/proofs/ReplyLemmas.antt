@@ -31,7 +31,7 @@ use Rattle.traces.specs.Following.{HasContent, CreateReply, get_reply, WhereEmpt
 use Rattle.traces.specs.Parts.{count_if}
 use Rattle.traces.specs.Making.{HasMade}
 use Rattle.traces.specs.Owning.{is_with, publishes, collected, gains, releases, IsHolding, AreHolding, IsOwned}
-use Rattle.traces.proofs.Sound.{AreKeyed, IsSound}
+use Rattle.traces.specs.Keeping.{AreKeyed, IsSound}
 use Rattle.traces.proofs.CallActs.{Tail, unclaimed, reclaims, returns, IsOver, publish_acts, release_acts, GetActs, unasked, shows, misses, get_acts, clear_acts, create_acts}
 use Rattle.traces.proofs.CreateHands.{Hands, Handing, hands, has_none, handing}
 use Rattle.traces.proofs.HoldingLemmas.{fillings-set, held_references-set, holding-set, holding-at, holding-idle, holding-published, fills-written, refers-written, holding-written}

@@ -32,7 +32,7 @@ use Rattle.traces.specs.Owning.{is_with, publishes, collected, Holds}
 use Rattle.traces.proofs.Ends.{still_pushed}
 use Rattle.traces.proofs.Moves.{publishes-append, IsBy, moves, leaves, reclaims_key}
 use Rattle.traces.proofs.Owns.{is_by}
-use Rattle.traces.proofs.Sound.{AreKeyed, IsFound, AreFound, IsSound}
+use Rattle.traces.specs.Keeping.{AreKeyed, IsFound, AreFound, IsSound}
 use Rattle.traces.proofs.ReplyLemmas.{unpublished}
 use Rattle.traces.proofs.Idles.{same_kind, chosen_some}
 
@@ -250,7 +250,7 @@ uncounted : (t : Bool) → count_if t ≡ 0 → t ≡ false
 uncounted true e = absurd (omega arith)
 uncounted false e = refl
 
-count_le : (t : Bool) → count_if t ≤ 1
+pub count_le : (t : Bool) → count_if t ≤ 1
 count_le true = omega arith
 count_le false = omega arith
 

@@ -22,14 +22,11 @@ use Rattle.traces.specs.Books.{Book, caller, call_of_first, call_under_way, next
 use Rattle.traces.specs.Lawful.{World, at_end, is_finished, IsAtRest}
 use Rattle.traces.specs.Parts.{count_if, unopened, listed, clearing, is_retired, parts, under_first, under_way, chain_of, moment_of, Stands}
 use Rattle.traces.specs.Making.{AreMade, HasMade}
+use Rattle.traces.specs.Keeping.{IsResting}
 use Rattle.traces.specs.Owning.{is_with, publishes, collected, unopened_of, IsOwned, Holds}
 use Rattle.traces.proofs.Ends.{still_pushed}
 use Rattle.traces.proofs.SoundLemmas.{made_keyed}
 use Rattle.traces.proofs.ReplyLemmas.{returned_le, one_collect, unpublished}
-
--- the lane's next command has made no step yet, or the next is a step
-abbrev pub IsResting : Shape → ℕ → Book → Type 0
-IsResting z lane b = (b.steps ≡ []) ⊎ (is_some (next_aim z lane b) ≡ true)
 
 -- a call that has made no step has made no act
 pub no_acts : (c : Caller) (o : Option Call) (steps : List Step) (made : List Act) → HasMade c o steps made → steps ≡ [] → made ≡ []

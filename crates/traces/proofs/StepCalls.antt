@@ -118,7 +118,7 @@ held-le : (key : ℕ) (xs : List RegisterState) → held_references key xs ≤ l
 held-le key [] = omega arith
 held-le key (x ∷ xs) = let one = refers-one key x.holding in let r = held-le key xs in omega arith
 
-holding_of : (z : Shape) (pool : Pool) (made : List Act) (xs : List RegisterState) (i : ℕ) → AreHolding z pool made xs
+pub holding_of : (z : Shape) (pool : Pool) (made : List Act) (xs : List RegisterState) (i : ℕ) → AreHolding z pool made xs
     → IsHolding z pool made (register_at xs i).holding
 holding_of z pool made [] i all = tt
 holding_of z pool made (x ∷ xs) zero all = all.0

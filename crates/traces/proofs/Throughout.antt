@@ -28,6 +28,7 @@ use Rattle.traces.specs.Lawful.{World, first_words, script_or_none, first_world,
 use Rattle.traces.specs.Parts.{count_if, StandsThroughout}
 use Rattle.traces.specs.Making.{HasMade}
 use Rattle.traces.specs.Owning.{unopened_of, AreHolding, IsOwned, lanes_now, Holds}
+use Rattle.traces.specs.Keeping.{IsSound, IsKept, IsResting, AreResting}
 use Rattle.traces.specs.TraceLaws.{StandsLaw, HoldsLaw}
 use Rattle.traces.proofs.Idles.{under_start}
 use Rattle.traces.proofs.Worlds.{after_step, after_reply}
@@ -35,9 +36,8 @@ use Rattle.traces.proofs.ReplyRules.{rule_reply}
 use Rattle.traces.proofs.StepRules.{rule_step}
 use Rattle.traces.proofs.Owns.{AreReturns, owned_step, owned_else}
 use Rattle.traces.proofs.ReplyLemmas.{owned_reply, returned_le}
-use Rattle.traces.proofs.Sound.{IsSound}
 use Rattle.traces.proofs.SoundLemmas.{made_keyed, sound_start, sound_reply, sound_step, sound_else}
-use Rattle.traces.proofs.Standing.{IsResting, resting, stands}
+use Rattle.traces.proofs.Standing.{resting, stands}
 
 -- ---- the first world
 
@@ -102,11 +102,11 @@ holds_first z scripts shape wide = record {
 -- ---- one lane's book changes
 
 -- the world with this history, these words and these books
-abbrev world_with : List Act → Words → (ℕ → Book) → World
+abbrev pub world_with : List Act → Words → (ℕ → Book) → World
 world_with history words books = record { history = history; words = words; books = books }
 
 -- the world, but this is the lane's book
-abbrev with_lane : World → ℕ → Book → World
+abbrev pub with_lane : World → ℕ → Book → World
 with_lane w lane b = world_with w.history w.words (with_book w.books lane b)
 
 same_book : (books : ℕ → Book) (lane other : ℕ) (t : Bool) → eqb other lane ≡ t → cond t (books lane) (books other) ≡ books other
@@ -118,34 +118,29 @@ twice true b c x = refl
 twice false b c x = refl
 
 module _ (books : ℕ → Book) (lane : ℕ) where
-  book_here : (b : Book) → with_book books lane b lane ≡ b
+  pub book_here : (b : Book) → with_book books lane b lane ≡ b
   book_here b = at-here books lane b lane refl
 
   -- its own book again
-  own_book : with_book books lane (books lane) ≡ books
+  pub own_book : with_book books lane (books lane) ≡ books
   own_book = fun_ext (λ other. same_book books lane other (eqb other lane) refl)
 
   -- a book made from the one that was put there
-  rebooked : (b : Book) (f : Book → Book) → with_book (with_book books lane b) lane (f (with_book books lane b lane)) ≡ with_book books lane (f b)
+  pub rebooked : (b : Book) (f : Book → Book) → with_book (with_book books lane b) lane (f (with_book books lane b lane)) ≡ with_book books lane (f b)
   rebooked b f = ap (λ (x : Book). with_book (with_book books lane b) lane (f x)) (book_here b)
       ∙ fun_ext (λ other. twice (eqb other lane) b (f b) (books other))
 
 -- the generation of a place is of the shape
-generation_within : (z : Shape) (w : World) → Holds z w → (place : ℕ) → is_place z place ≡ true
+pub generation_within : (z : Shape) (w : World) → Holds z w → (place : ℕ) → is_place z place ≡ true
     → (1 ≤ (pool_after z w.history place).generation) × ((pool_after z w.history place).generation ≤ z.last_generation)
 generation_within z w h place is =
     let k = key_now z h.rule.limits h.rule.wide w.history place is in
     let parts = key_parts z (key_number z.tag place (pool_after z w.history place).generation) k.0 in
     (subst (λ (n : ℕ). 1 ≤ n) k.2 parts.first, subst (λ (n : ℕ). n ≤ z.last_generation) k.2 parts.last)
 
--- what holds before each step and each reply, and what the calls under way tell beside it
-record Keeps (z : Shape) (w : World) : Type 0 where
-  holds : Holds z w
-  sound : (lane : ℕ) → lane < z.lanes → IsSound z (pool_after z w.history) lane (w.books lane)
-
-keep_reply : (z : Shape) (w : World) (lane : ℕ) (reply : Reply) → Keeps z w → lane < z.lanes
+pub keep_reply : (z : Shape) (w : World) (lane : ℕ) (reply : Reply) → IsKept z w → lane < z.lanes
     → IsReply z (pool_after z w.history) lane (w.books lane) reply
-    → Keeps z (after_reply z w lane reply)
+    → IsKept z (after_reply z w lane reply)
 keep_reply z w lane reply k below is =
     let h = k.holds in
     let P = pool_after z w.history in
@@ -165,9 +160,9 @@ keep_reply z w lane reply k below is =
 returns_within : (z : Shape) (P : Pool) (lane : ℕ) (b : Book) → IsOwned z P lane b → AreReturns z.last_generation b.acts
 returns_within z P lane b o = returned_le z lane b o.call (made_keyed (caller z lane b) (call_under_way b) b.steps b.acts o.call)
 
-keep_step : (z : Shape) (w : World) (lane : ℕ) (step : Step) (act : Option Act) → Keeps z w → lane < z.lanes
+pub keep_step : (z : Shape) (w : World) (lane : ℕ) (step : Step) (act : Option Act) → IsKept z w → lane < z.lanes
     → IsStep z lane w.words (w.books lane) step act
-    → IsLegal z (w.history ++ act_list act) → Keeps z (after_step z w lane step act)
+    → IsLegal z (w.history ++ act_list act) → IsKept z (after_step z w lane step act)
 keep_step z w lane step act k below is legal =
     let h = k.holds in
     let shape = h.rule.limits in
@@ -188,13 +183,13 @@ keep_step z w lane step act k below is legal =
     }
 
 -- the same world by other books
-rekeep : (z : Shape) (w : World) (books : ℕ → Book) → w.books ≡ books → Keeps z w
-    → Keeps z (world_with w.history w.words books)
-rekeep z w books e h = subst (λ (bs : ℕ → Book). Keeps z (world_with w.history w.words bs)) e h
+pub rekeep : (z : Shape) (w : World) (books : ℕ → Book) → w.books ≡ books → IsKept z w
+    → IsKept z (world_with w.history w.words books)
+rekeep z w books e h = subst (λ (bs : ℕ → Book). IsKept z (world_with w.history w.words bs)) e h
 
-keep_replies : (z : Shape) (lane : ℕ) (below : lane < z.lanes) (rs : List Reply) (w : World) → Keeps z w
+pub keep_replies : (z : Shape) (lane : ℕ) (below : lane < z.lanes) (rs : List Reply) (w : World) → IsKept z w
     → AreReplies z (pool_after z w.history) lane (w.books lane) rs
-    → Keeps z (with_lane w lane (all_answered z lane (w.books lane) rs))
+    → IsKept z (with_lane w lane (all_answered z lane (w.books lane) rs))
 keep_replies z lane below [] w h are = rekeep z w (with_book w.books lane (w.books lane)) (sym (own_book w.books lane)) h
 keep_replies z lane below (r ∷ rs) w h are =
     let b = answered z lane (w.books lane) r in
@@ -206,18 +201,18 @@ keep_replies z lane below (r ∷ rs) w h are =
 
 -- ---- a turn
 
-module _ (z : Shape) (w : World) (lane : ℕ) (below : lane < z.lanes) (b : Book) (h : Keeps z (with_lane w lane b)) where
+module _ (z : Shape) (w : World) (lane : ℕ) (below : lane < z.lanes) (b : Book) (h : IsKept z (with_lane w lane b)) where
   -- a step, and the replies behind it
-  keep_both : (step : Step) (act : Option Act) (rs : List Reply) → IsStep z lane w.words b step act → IsLegal z (w.history ++ act_list act)
+  pub keep_both : (step : Step) (act : Option Act) (rs : List Reply) → IsStep z lane w.words b step act → IsLegal z (w.history ++ act_list act)
       → AreReplies z (pool_after z (w.history ++ act_list act)) lane (stepped b step act) rs
-      → Keeps z (world_with (w.history ++ act_list act) (with_value w.words step.word step.after)
+      → IsKept z (world_with (w.history ++ act_list act) (with_value w.words step.word step.after)
       (with_book w.books lane (all_answered z lane (stepped b step act) rs)))
   keep_both step act rs is legal are =
       let next = stepped b step act in
       let made = keep_step z (with_lane w lane b) lane step act h below
       (subst (λ (x : Book). IsStep z lane w.words x step act) (sym (book_here w.books lane b)) is) legal in
       let w2 : World = world_with (w.history ++ act_list act) (with_value w.words step.word step.after) (with_book w.books lane next) in
-      let h2 : Keeps z w2 = rekeep z (record {
+      let h2 : IsKept z w2 = rekeep z (record {
         history = w.history ++ act_list act;
         words = with_value w.words step.word step.after;
         books = with_book (with_book w.books lane b) lane (stepped (with_book w.books lane b lane) step act);
@@ -228,34 +223,30 @@ module _ (z : Shape) (w : World) (lane : ℕ) (below : lane < z.lanes) (b : Book
       rekeep z (with_lane w2 lane (all_answered z lane (with_book w.books lane next lane) rs)) (with_book w.books lane (all_answered z lane next rs))
       (rebooked w.books lane next (λ x. all_answered z lane x rs)) last
 
-  keep_rest : (step : Option Step) (act : Option Act) (rs : List Reply) → StepAndReplies z w lane b step act rs → IsLegal z (w.history ++ act_list act)
-      → Keeps z (world_with (w.history ++ act_list act) (words_after w.words step)
+  pub keep_rest : (step : Option Step) (act : Option Act) (rs : List Reply) → StepAndReplies z w lane b step act rs → IsLegal z (w.history ++ act_list act)
+      → IsKept z (world_with (w.history ++ act_list act) (words_after w.words step)
       (with_book w.books lane (all_answered z lane (book_after_step b step act) rs)))
   keep_rest None act rs is legal =
-      subst (λ (x : Option Act × List Reply). Keeps z (world_with (w.history ++ act_list x.0) w.words
+      subst (λ (x : Option Act × List Reply). IsKept z (world_with (w.history ++ act_list x.0) w.words
       (with_book w.books lane (all_answered z lane b x.1))))
       (λ i. (sym is.1 i, sym is.2 i))
-      (subst (λ (acts : List Act). Keeps z (world_with acts w.words (with_book w.books lane b))) (sym (append-nil w.history)) h)
+      (subst (λ (acts : List Act). IsKept z (world_with acts w.words (with_book w.books lane b))) (sym (append-nil w.history)) h)
   keep_rest (Some step) act rs is legal = keep_both step act rs is.0 legal is.1
 
 -- a turn is of a lane of the shape
-turn_below : (z : Shape) (w : World) (lane : ℕ) → is_finished z w lane ≡ false → lane < z.lanes
+pub turn_below : (z : Shape) (w : World) (lane : ℕ) → is_finished z w lane ≡ false → lane < z.lanes
 turn_below z w lane e = by_test (ltb lane z.lanes) refl
   where
     by_test : (t : Bool) → ltb lane z.lanes ≡ t → lane < z.lanes
     by_test true less = ltb-true lane z.lanes less
     by_test false more = let bad : true ≡ false = sym (ap (λ (t : Bool). cond t (at_end (w.books lane).left) true) more) ∙ e in absurd (cc bad)
 
-keep_turn : (z : Shape) (w : World) (t : Turn) → Keeps z w → IsNextTurn z w t → IsLegal z (world_after z w t).history → Keeps z (world_after z w t)
+pub keep_turn : (z : Shape) (w : World) (t : Turn) → IsKept z w → IsNextTurn z w t → IsLegal z (world_after z w t).history → IsKept z (world_after z w t)
 keep_turn z w t h is legal =
     let below = turn_below z w t.lane is.unfinished in
     keep_rest z w t.lane below (book_before z w t) (keep_replies z t.lane below t.before w h is.replies) t.step t.act t.after is.step legal
 
--- each lane stands at a step or between two commands
-abbrev AreResting : Shape → World → Type 0
-AreResting z w = (lane : ℕ) → lane < z.lanes → IsResting z lane (w.books lane)
-
-rest_turn : (z : Shape) (w : World) (t : Turn) → AreResting z w → IsNextTurn z w t → Keeps z (world_after z w t) → AreResting z (world_after z w t)
+pub rest_turn : (z : Shape) (w : World) (t : Turn) → AreResting z w → IsNextTurn z w t → IsKept z (world_after z w t) → AreResting z (world_after z w t)
 rest_turn z w t rest is h lane below = at-lane w.books t.lane (book_after z w t) (λ n b. IsResting z n b) lane
     (let inside = turn_below z w t.lane is.unfinished in
     let o = subst (λ (x : Book). IsOwned z (pool_after z (world_after z w t).history) t.lane x)
@@ -270,9 +261,9 @@ legal_now : (z : Shape) (w : World) (ts : List Turn) → IsLegal z (world_from z
 legal_now z w [] legal = legal
 legal_now z w (t ∷ more) legal = legal-front z fresh w.history (act_list t.act) (legal_now z (world_after z w t) more legal)
 
-all_turns : (z : Shape) (schedule : List ℕ) (ts : List Turn) (w : World) → Keeps z w → AreResting z w → AreTurns z w schedule ts
+all_turns : (z : Shape) (schedule : List ℕ) (ts : List Turn) (w : World) → IsKept z w → AreResting z w → AreTurns z w schedule ts
     → IsLegal z (world_from z w ts).history
-    → StandsThroughout z w ts × Keeps z (world_from z w ts)
+    → StandsThroughout z w ts × IsKept z (world_from z w ts)
 all_turns z [] [] w h rest are legal = (stands z w h.holds rest, h)
 all_turns z [] (t ∷ more) w h rest are legal = absurd are
 all_turns z (lane ∷ schedule) [] w h rest are legal = all_turns z schedule [] w h rest are.1 legal
@@ -282,13 +273,13 @@ all_turns z (lane ∷ schedule) (t ∷ more) w h rest (inr are) legal =
     let later = all_turns z schedule more (world_after z w t) next (rest_turn z w t rest are.1 next) are.2 legal in
     ((stands z w h.holds rest, later.0), later.1)
 
-keeps_first : (z : Shape) (scripts : List (List Command)) → IsShape z → z.last_generation < 2 ^ 32 → Keeps z (first_world scripts)
+pub keeps_first : (z : Shape) (scripts : List (List Command)) → IsShape z → z.last_generation < 2 ^ 32 → IsKept z (first_world scripts)
 keeps_first z scripts shape wide = record {
   holds = holds_first z scripts shape wide;
   sound = λ lane below. sound_start z fresh lane (first_book (script_or_none (slice_get scripts lane))) refl refl;
 }
 
-first_rest : (z : Shape) (scripts : List (List Command)) → AreResting z (first_world scripts)
+pub first_rest : (z : Shape) (scripts : List (List Command)) → AreResting z (first_world scripts)
 first_rest z scripts lane below = inl refl
 
 -- ---- the laws

@@ -10,19 +10,19 @@ use Rattle.seqpool.proofs.Growth.{after-here, after-else, legal-front}
 use Rattle.seqpool.proofs.Ranks.{same-key, current-key}
 use Rattle.traces.specs.Following.{row_content, HasContent}
 
-gained_row : (lane : ℕ) (f : Phase) → row_content (gained lane f) ≡ row_content f
+pub gained_row : (lane : ℕ) (f : Phase) → row_content (gained lane f) ≡ row_content f
 gained_row lane (with k) = refl
 gained_row lane (published content references mark) = refl
 gained_row lane home = refl
 gained_row lane retired = refl
 
-lost_row : (lane : ℕ) (f : Phase) → row_content (lost lane f) ≡ row_content f
+pub lost_row : (lane : ℕ) (f : Phase) → row_content (lost lane f) ≡ row_content f
 lost_row lane (with k) = refl
 lost_row lane (published content references mark) = refl
 lost_row lane home = refl
 lost_row lane retired = refl
 
-marked_row : (f : Phase) → row_content (marked f) ≡ row_content f
+pub marked_row : (f : Phase) → row_content (marked f) ≡ row_content f
 marked_row (with k) = refl
 marked_row (published content references mark) = refl
 marked_row home = refl

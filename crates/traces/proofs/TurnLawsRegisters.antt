@@ -22,12 +22,12 @@ use Rattle.traces.specs.Following.{CreateReply, WhereEmpty, WhereFilling, WhereR
 use Rattle.traces.specs.TurnLaws.{DoneCommand, key_got, given_by, given, GiveNone, HasLast, bytes_to, all_bytes_to, Creates, IsWritten, Names, Usage, unused, has_filling, has_reference, usage_by, usage_after, usage_of}
 
 -- one register is set
-register_at-same : (xs : List RegisterState) (i : ℕ) (y : RegisterState) → i < length xs → register_at (set xs i y) i ≡ y
+pub register_at-same : (xs : List RegisterState) (i : ℕ) (y : RegisterState) → i < length xs → register_at (set xs i y) i ≡ y
 register_at-same [] i y inside = absurd (omega arith)
 register_at-same (x ∷ xs) zero y inside = refl
 register_at-same (x ∷ xs) (suc i) y inside = register_at-same xs i y (omega arith)
 
-register_at-other : (xs : List RegisterState) (i j : ℕ) (y : RegisterState) → j ≢ i → register_at (set xs i y) j ≡ register_at xs j
+pub register_at-other : (xs : List RegisterState) (i j : ℕ) (y : RegisterState) → j ≢ i → register_at (set xs i y) j ≡ register_at xs j
 register_at-other [] zero j y other = refl
 register_at-other [] (suc i) j y other = refl
 register_at-other (x ∷ xs) zero zero y other = absurd (other refl)

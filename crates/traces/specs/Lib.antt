@@ -6,5 +6,6 @@ pub mod Parts
 pub mod Text
 pub mod Making
 pub mod Owning
+pub mod Keeping
 pub mod TraceLaws
 pub mod TurnLaws

@@ -11,7 +11,7 @@ mod trace;
 mod turn_laws;
 
 pub use laws::{holds_law, stands_law};
-pub use registers::{Holding, RegisterState, Registers};
+pub use registers::{Holding, RegisterState};
 pub use reply::{Replies, Reply};
 pub use script::{Command, Operand, Register, Script};
 pub use text::write_trace;

@@ -63,15 +63,6 @@ impl Replies {
         Ok(())
     }
 
-    /// Adds a reply before the others; where memory is refused, the replies stay as they were.
-    pub fn push_front(&mut self, reply: Reply) -> Result<(), AllocError>
-        ensures ok { OnOk result (self.new ≡ reply ∷ self.old) }
-        ensures err { OnErr result (self.new ≡ self.old) }
-    {
-        self.replies.insert(0, reply)?;
-        Ok(())
-    }
-
     /// The replies as a slice.
     pub fn as_slice(&self) -> &[Reply]
         ensures { result.now ≡ self.now }

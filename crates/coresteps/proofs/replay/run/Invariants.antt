@@ -5,4 +5,4 @@ use Rattle.coresteps.proofs.replay.run.Given as goal
 
 abbrev pub invariant-loop-lane : goal.invariant-loop-lane
 invariant-loop-lane l =
-    IsRun l.fn.shape (first_world l.fn.scripts.items) (take l.lane-index l.schedule) l.trace l.core × (l.core.shape ≡ l.fn.shape)
+    IsRun l.fn.shape (first_world l.fn.scripts.items) (take l.lane-index l.schedule) l.trace l.core × (l.core.shared.shape ≡ l.fn.shape)

@@ -1,0 +1,217 @@
+-- The turn is the next of its lane, and what all lanes share and the lane itself tell of the world after it.
+use Rattle.std.proofs.Common.{◌≡◌, ◌++◌, ◌+◌, ◌∙◌, List, length, Option, sym, subst, refl, None, Some, []}
+use Rattle.steplaws.specs.Calls.{aim}
+use Rattle.seqpool.specs.declared.act.Act.{Act}
+use Rattle.traces.specs.declared.reply.Reply.{Reply}
+use Rattle.traces.specs.Books.{act_list}
+use Rattle.traces.specs.Lawful.{World, world_after, book_before, book_after, IsStep, IsNextTurn}
+use Rattle.coresteps.specs.Lanes.{counted}
+use Rattle.coresteps.specs.Kept.{IsDraft, IsLaneAt}
+use Rattle.coresteps.proofs.CoreLemmas.{before_step, turn_of, after_made, history_length, replied_at, commanded_at, in_script, end_turn, made_draft, made_at, step_next, step_world, step_at, step_most, on_err}
+use Rattle.coresteps.proofs.StepLemmas.{word_inside, published_inside}
+use Rattle.coresteps.proofs.replay.advance.Goals as goal
+
+pub returns-in_default-clause-ok : goal.returns-in_default-clause-ok
+returns-in_default-clause-ok c = λ w draft at unfinished.
+    let shared = c.args.shared.now in
+    let z = shared.shape in
+    let n = c.args.lane in
+    let of = c.args.of.now in
+    let p0 = c.args.progress.now in
+    let p1 = c.work.new.progress in
+    let before = c.in_ok-before.before in
+    let worked = c.in_ok-before.ensures w draft at in
+    let w1 = before_step z w n before in
+    let at_step = replied_at shared w n of p0 p1 before worked in
+    let turn = end_turn shared w n of p0 p1 before worked unfinished (c.in_default.ensures w1 worked.draft at_step) in
+    subst (λ (after : List Reply). (n ≡ n) × IsNextTurn z w (turn_of n before None None after) × IsDraft shared (world_after z w (turn_of n before None None after)) None
+    × IsLaneAt z (w.history ++ []) n of p1 (book_after z w (turn_of n before None None after)) × (p1.most ≡ p0.most))
+    (sym c.empty.ensures) (refl, turn.0, turn.1, turn.2, worked.most)
+
+pub make-requires-clause-draft : goal.make-requires-clause-draft
+make-requires-clause-draft c =
+    let w = c.requires.draft.0 in
+    let draft = c.requires.draft.1 in
+    let at = c.requires.draft.2 in
+    let shared = c.args.shared.now in
+    let z = shared.shape in
+    let n = c.args.lane in
+    let of = c.args.of.now in
+    let p0 = c.args.progress.now in
+    let p1 = c.work.new.progress in
+    let before = c.in_ok-before.before in
+    let worked = c.in_ok-before.ensures w draft at in
+    let w1 = before_step z w n before in
+    let at_step = replied_at shared w n of p0 p1 before worked in
+    (w1, worked.draft, at_step, c.in-Some.ensures w1 worked.draft at_step)
+
+pub bounds-as_slice-progress : goal.bounds-as_slice-progress
+bounds-as_slice-progress c =
+    let w = c.requires.draft.0 in
+    let draft = c.requires.draft.1 in
+    let at = c.requires.draft.2 in
+    let shared = c.args.shared.now in
+    let z = shared.shape in
+    let n = c.args.lane in
+    let of = c.args.of.now in
+    let p0 = c.args.progress.now in
+    let p1 = c.work.new.progress in
+    let before = c.in_ok-before.before in
+    let worked = c.in_ok-before.ensures w draft at in
+    let w1 = before_step z w n before in
+    let at_step = replied_at shared w n of p0 p1 before worked in
+    in_script shared w n of p0 p1 before worked _ c.as_slice.result.now (c.in-Some.ensures w1 worked.draft at_step) c.as_slice.ensures
+
+pub note-requires-clause-draft : goal.note-requires-clause-draft
+note-requires-clause-draft c =
+    let w = c.requires.draft.0 in
+    let draft = c.requires.draft.1 in
+    let at = c.requires.draft.2 in
+    let shared = c.args.shared.now in
+    let z = shared.shape in
+    let n = c.args.lane in
+    let of = c.args.of.now in
+    let p0 = c.args.progress.now in
+    let p1 = c.work.new.progress in
+    let before = c.in_ok-before.before in
+    let worked = c.in_ok-before.ensures w draft at in
+    let w1 = before_step z w n before in
+    let at_step = replied_at shared w n of p0 p1 before worked in
+    let next = c.in-Some.ensures w1 worked.draft at_step in
+    let is = c.in_ok-made.ensures w1 worked.draft at_step next in
+    (shared, w1, of, refl, worked.draft, at_step, is.0)
+
+pub work-requires-2-clause-draft : goal.work-requires-2-clause-draft
+work-requires-2-clause-draft c =
+    let w = c.requires.draft.0 in
+    let draft = c.requires.draft.1 in
+    let at = c.requires.draft.2 in
+    let shared = c.args.shared.now in
+    let z = shared.shape in
+    let n = c.args.lane in
+    let of = c.args.of.now in
+    let p0 = c.args.progress.now in
+    let p1 = c.work.new.progress in
+    let before = c.in_ok-before.before in
+    let worked = c.in_ok-before.ensures w draft at in
+    let w1 = before_step z w n before in
+    let at_step = replied_at shared w n of p0 p1 before worked in
+    let next = c.in-Some.ensures w1 worked.draft at_step in
+    let made = c.in_ok-made.made in
+    let is = c.in_ok-made.ensures w1 worked.draft at_step next in
+    let left = commanded_at shared w n of p0 p1 before worked _ c.as_slice.result.now c.index-as_slice-progress.result next c.as_slice.ensures c.index-as_slice-progress.is in
+    let index : c.len-index.result ≡ length w1.history = c.len-index.ensures ∙ (shared.acts.ok.0 ∙ history_length shared w1 worked.draft) in
+    let noted = c.note.ensures.lane shared w1 of left.0 refl worked.draft at_step is.0 is.1 index left.1 (worked.settled c.requires.added) in
+    let w2 = after_made z w n before made in
+    let draft_made = made_draft shared w n of p0 p1 before worked made is.0 c.requires.lane is.1 in
+    let at_made = made_at shared w n of p0 p1 before worked made is.0 c.note.new.self noted.0 in
+    (w2, draft_made, at_made)
+
+pub keep-requires-clause-draft : goal.keep-requires-clause-draft
+keep-requires-clause-draft c =
+    let w = c.requires.draft.0 in
+    let draft = c.requires.draft.1 in
+    let at = c.requires.draft.2 in
+    let shared = c.args.shared.now in
+    let z = shared.shape in
+    let n = c.args.lane in
+    let of = c.args.of.now in
+    let p0 = c.args.progress.now in
+    let p1 = c.work.new.progress in
+    let before = c.in_ok-before.before in
+    let worked = c.in_ok-before.ensures w draft at in
+    let w1 = before_step z w n before in
+    let at_step = replied_at shared w n of p0 p1 before worked in
+    let next = c.in-Some.ensures w1 worked.draft at_step in
+    let made = c.in_ok-made.made in
+    let is = c.in_ok-made.ensures w1 worked.draft at_step next in
+    let left = commanded_at shared w n of p0 p1 before worked _ c.as_slice.result.now c.index-as_slice-progress.result next c.as_slice.ensures c.index-as_slice-progress.is in
+    let index : c.len-index.result ≡ length w1.history = c.len-index.ensures ∙ (shared.acts.ok.0 ∙ history_length shared w1 worked.draft) in
+    let noted = c.note.ensures.lane shared w1 of left.0 refl worked.draft at_step is.0 is.1 index left.1 (worked.settled c.requires.added) in
+    let w2 = after_made z w n before made in
+    let draft_made = made_draft shared w n of p0 p1 before worked made is.0 c.requires.lane is.1 in
+    let at_made = made_at shared w n of p0 p1 before worked made is.0 c.note.new.self noted.0 in
+    let worked_after = c.in_ok-after.ensures w2 draft_made at_made in
+    (_, worked_after.draft)
+
+pub keep-requires-clause-word : goal.keep-requires-clause-word
+keep-requires-clause-word c =
+    let w = c.requires.draft.0 in
+    let draft = c.requires.draft.1 in
+    let at = c.requires.draft.2 in
+    let shared = c.args.shared.now in
+    let z = shared.shape in
+    let n = c.args.lane in
+    let of = c.args.of.now in
+    let p0 = c.args.progress.now in
+    let p1 = c.work.new.progress in
+    let before = c.in_ok-before.before in
+    let worked = c.in_ok-before.ensures w draft at in
+    let w1 = before_step z w n before in
+    let at_step = replied_at shared w n of p0 p1 before worked in
+    let next = c.in-Some.ensures w1 worked.draft at_step in
+    let made = c.in_ok-made.made in
+    let is = c.in_ok-made.ensures w1 worked.draft at_step next in
+    word_inside z w1 n (aim made.step.kind made.step.word) worked.draft.kept c.requires.lane is.0.next
+
+pub keep-requires-clause-place : goal.keep-requires-clause-place
+keep-requires-clause-place c = λ lane key content with_ref publish.
+    let w = c.requires.draft.0 in
+    let draft = c.requires.draft.1 in
+    let at = c.requires.draft.2 in
+    let shared = c.args.shared.now in
+    let z = shared.shape in
+    let n = c.args.lane in
+    let of = c.args.of.now in
+    let p0 = c.args.progress.now in
+    let p1 = c.work.new.progress in
+    let before = c.in_ok-before.before in
+    let worked = c.in_ok-before.ensures w draft at in
+    let w1 = before_step z w n before in
+    let at_step = replied_at shared w n of p0 p1 before worked in
+    let next = c.in-Some.ensures w1 worked.draft at_step in
+    let made = c.in_ok-made.made in
+    let is = c.in_ok-made.ensures w1 worked.draft at_step next in
+    published_inside z w1 n made.step lane key content with_ref worked.draft.kept c.requires.lane
+    (subst (λ (act : Option Act). IsStep z n w1.words (w1.books n) made.step act) publish is.0)
+
+pub returns-in_err-keep-clause-err : goal.returns-in_err-keep-clause-err
+returns-in_err-keep-clause-err c =
+    let e = c.in_err-keep.ensures in
+    on_err c.from_residual-in_err-keep.result _ e.err
+
+pub returns-clause-ok : goal.returns-clause-ok
+returns-clause-ok c = λ w draft at unfinished.
+    let shared = c.args.shared.now in
+    let z = shared.shape in
+    let n = c.args.lane in
+    let of = c.args.of.now in
+    let p0 = c.args.progress.now in
+    let p1 = c.work.new.progress in
+    let before = c.in_ok-before.before in
+    let worked = c.in_ok-before.ensures w draft at in
+    let w1 = before_step z w n before in
+    let at_step = replied_at shared w n of p0 p1 before worked in
+    let next = c.in-Some.ensures w1 worked.draft at_step in
+    let made = c.in_ok-made.made in
+    let is = c.in_ok-made.ensures w1 worked.draft at_step next in
+    let left = commanded_at shared w n of p0 p1 before worked _ c.as_slice.result.now c.index-as_slice-progress.result next c.as_slice.ensures c.index-as_slice-progress.is in
+    let index : c.len-index.result ≡ length w1.history = c.len-index.ensures ∙ (shared.acts.ok.0 ∙ history_length shared w1 worked.draft) in
+    let noted = c.note.ensures.lane shared w1 of left.0 refl worked.draft at_step is.0 is.1 index left.1 (worked.settled c.requires.added) in
+    let w2 = after_made z w n before made in
+    let draft_made = made_draft shared w n of p0 p1 before worked made is.0 c.requires.lane is.1 in
+    let at_made = made_at shared w n of p0 p1 before worked made is.0 c.note.new.self noted.0 in
+    let after = c.in_ok-after.after in
+    let worked_after = c.in_ok-after.ensures w2 draft_made at_made in
+    let p2 = c.note.new.self in
+    let p3 = c.work-2.new.progress in
+    let new = c.keep.new.self in
+    let turn = step_next shared w n of p0 p1 before worked made is.0 p2 p3 after worked_after unfinished in
+    let world = step_world shared w n of p0 p1 before worked made is.0 p2 p3 after worked_after in
+    let draft_new = subst (λ (v : World). IsDraft new v None) world (c.in_ok-keep.ensures.ok _ worked_after.draft) in
+    let at_new = step_at shared w n of p0 p1 before worked made is.0 p2 p3 after worked_after in
+    let most = step_most shared w n of p0 p1 before worked made is.0 p2 p3 after worked_after _ left.1 noted.1 in
+    subst (λ (act : Option Act). (n ≡ n) × IsNextTurn z w (turn_of n before (Some made.step) act after) × IsDraft new (world_after z w (turn_of n before (Some made.step) act after)) None
+    × IsLaneAt z (w.history ++ act_list act) n of p3 (book_after z w (turn_of n before (Some made.step) act after))
+    × (p3.most ≡ counted (book_before z w (turn_of n before (Some made.step) act after)).left (length (book_before z w (turn_of n before (Some made.step) act after)).steps + 1) p0.most))
+    (sym c.in_ok-act.ensures) (refl, turn, draft_new, at_new, most)

@@ -1,0 +1,106 @@
+-- The lane's next turn is made, and the core keeps the world after it.
+use Rattle.std.proofs.Common.{◌≡◌, ◌<◌, ◌∙◌, length, slice_get, Some, subst, refl, arith}
+use Rattle.std.proofs.lemmas.Option.{slice_get_read}
+use Rattle.keybits.specs.declared.shape.Shape.{Shape}
+use Rattle.traces.specs.Lawful.{world_after, book_after}
+use Rattle.traces.specs.Keeping.{IsKept}
+use Rattle.traces.proofs.Throughout.{turn_below}
+use Rattle.coresteps.specs.declared.lane.Lane.{Lane}
+use Rattle.coresteps.specs.Kept.{IsLaneAt}
+use Rattle.coresteps.proofs.CoreLemmas.{on_err, same_core, read_twice, at_world, turn_made}
+use Rattle.coresteps.proofs.OwnLemmas.{room_for_added}
+use Rattle.coresteps.proofs.replay.next_turn.Goals as goal
+
+pub advance-requires-clause-lane : goal.advance-requires-clause-lane
+advance-requires-clause-lane c = turn_below c.args.shared.now.shape c.requires.0 c.args.lane c.requires.3
+
+pub advance-requires-clause-draft : goal.advance-requires-clause-draft
+advance-requires-clause-draft c =
+    let w = c.requires.0 in
+    let k = c.requires.2 in
+    let unfinished = c.requires.3 in
+    let old = c.args.shared.now in
+    let lanes = c.args.lanes.now.items in
+    let n = c.args.lane in
+    let of = c.index-of.result.now in
+    let below : n < old.shape.lanes = turn_below old.shape w n unfinished in
+    let count = k.count in
+    let got : slice_get lanes n ≡ Some of = slice_get_read lanes (length lanes) n of refl (omega arith) c.index-of.ensures in
+    (w, k.draft, k.lane n of got)
+
+pub advance-requires-clause-added : goal.advance-requires-clause-added
+advance-requires-clause-added c =
+    let w = c.requires.0 in
+    let k = c.requires.2 in
+    let unfinished = c.requires.3 in
+    let old = c.args.shared.now in
+    let lanes = c.args.lanes.now.items in
+    let n = c.args.lane in
+    let of = c.index-of.result.now in
+    let below : n < old.shape.lanes = turn_below old.shape w n unfinished in
+    let count = k.count in
+    let got : slice_get lanes n ≡ Some of = slice_get_read lanes (length lanes) n of refl (omega arith) c.index-of.ensures in
+    k.settled n of got
+
+pub returns-in_err-turn-clause-err : goal.returns-in_err-turn-clause-err
+returns-in_err-turn-clause-err c = on_err c.from_residual.result _
+    (λ w most k. same_core c.args.shared.now c.advance.new.shared w most c.args.lanes.now.items k c.in_err-turn.ensures.shape (c.in_err-turn.ensures.err w k.draft))
+
+pub settle-requires-clause-length : goal.settle-requires-clause-length
+settle-requires-clause-length c = λ place added.
+    let w = c.requires.0 in
+    let k = c.requires.2 in
+    let unfinished = c.requires.3 in
+    let old = c.args.shared.now in
+    let lanes = c.args.lanes.now.items in
+    let n = c.args.lane in
+    let of = c.index-of.result.now in
+    let below : n < old.shape.lanes = turn_below old.shape w n unfinished in
+    let count = k.count in
+    let got : slice_get lanes n ≡ Some of = slice_get_read lanes (length lanes) n of refl (omega arith) c.index-of.ensures in
+    let new = c.advance.new.shared in
+    let p = c.advance.new.progress in
+    let t = c.in_ok-turn.turn in
+    let turn = c.in_ok-turn.ensures.ok w k.draft (k.lane n of got) unfinished in
+    let same : of ≡ c.index_mut.result.now = read_twice lanes n of c.index_mut.result.now c.index-of.ensures c.index_mut.ensures.value (omega arith) in
+    let kept = subst (λ (z : Shape). IsKept z (world_after old.shape w t)) c.in_ok-turn.ensures.shape turn.2.kept in
+    subst (λ (l : Lane). p.own.length < length l.ring.items) same
+    (room_for_added old.shape (world_after old.shape w t) n of p kept below (at_world old.shape w t n of p turn.0 turn.3) place added)
+
+pub settle-requires-clause-first : goal.settle-requires-clause-first
+settle-requires-clause-first c =
+    let w = c.requires.0 in
+    let k = c.requires.2 in
+    let unfinished = c.requires.3 in
+    let old = c.args.shared.now in
+    let lanes = c.args.lanes.now.items in
+    let n = c.args.lane in
+    let of = c.index-of.result.now in
+    let below : n < old.shape.lanes = turn_below old.shape w n unfinished in
+    let count = k.count in
+    let got : slice_get lanes n ≡ Some of = slice_get_read lanes (length lanes) n of refl (omega arith) c.index-of.ensures in
+    let new = c.advance.new.shared in
+    let p = c.advance.new.progress in
+    let t = c.in_ok-turn.turn in
+    let turn = c.in_ok-turn.ensures.ok w k.draft (k.lane n of got) unfinished in
+    let same : of ≡ c.index_mut.result.now = read_twice lanes n of c.index_mut.result.now c.index-of.ensures c.index_mut.ensures.value (omega arith) in
+    subst (λ (l : Lane). p.own.first < length l.ring.items) same turn.3.list.start
+
+pub returns-clause-ok : goal.returns-clause-ok
+returns-clause-ok c = λ w most k unfinished.
+    let old = c.args.shared.now in
+    let lanes = c.args.lanes.now.items in
+    let n = c.args.lane in
+    let of = c.index-of.result.now in
+    let below : n < old.shape.lanes = turn_below old.shape w n unfinished in
+    let count = k.count in
+    let got : slice_get lanes n ≡ Some of = slice_get_read lanes (length lanes) n of refl (omega arith) c.index-of.ensures in
+    let new = c.advance.new.shared in
+    let p = c.advance.new.progress in
+    let t = c.in_ok-turn.turn in
+    let turn = c.in_ok-turn.ensures.ok w k.draft (k.lane n of got) unfinished in
+    let same : of ≡ c.index_mut.result.now = read_twice lanes n of c.index_mut.result.now c.index-of.ensures c.index_mut.ensures.value (omega arith) in
+    let settled = c.settle.new.of in
+    let at = c.settle.ensures.lane old.shape (world_after old.shape w t).history n (book_after old.shape w t)
+    (subst (λ (l : Lane). IsLaneAt old.shape (world_after old.shape w t).history n l p (book_after old.shape w t)) same turn.3) in
+    turn_made old new w most lanes of settled t n k c.in_ok-turn.ensures.shape turn.0 turn.1 turn.2 got at c.settle.ensures.added (c.settle.ensures.most ∙ turn.4)
