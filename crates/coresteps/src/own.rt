@@ -115,7 +115,7 @@ impl OwnList {
         Some(place_number(lane, page, 0))
     }
 
-    /// Adds a place at the end; none was added since the list was settled.
+    /// Adds a place at the end, where none was added since the list was settled.
     pub(crate) fn add(&mut self, place: u32)
         ensures { self.new ≡ record self.old { added = Some place } }
     {

@@ -53,7 +53,7 @@ impl Core {
         ensures shape { IfOk result (λ core. core.shared.shape ≡ shape) }
     {
         let words = Table::new(alloc, &shape)?;
-        let published = zeros(alloc, shape.all_places())?;
+        let published = vec![in alloc; 0; shape.all_places()]?;
         let lanes = new_lanes(alloc, &shape, scripts)?;
         let shared = Shared {
             alloc,
@@ -247,17 +247,6 @@ fn told(alloc: Global, act: &Option<Act>) -> Result<Option<Act>, CoreFault>
     }
 }
 
-/// So many zeros.
-fn zeros(alloc: Global, length: usize) -> Result<Vec<usize>, CoreFault>
-    ensures { IfOk result (λ numbers. numbers.items ≡ replicate length 0) }
-{
-    let mut numbers = Vec::with_capacity(alloc, length)?;
-    for _ in 0..length {
-        numbers.push(0)?;
-    }
-    Ok(numbers)
-}
-
 /// The lanes of these scripts before their first turns, each with room for the places of its shard.
 fn new_lanes(alloc: Global, shape: &Shape, scripts: Vec<Script>) -> Result<Vec<Lane>, CoreFault>
     requires { IsShape shape.now }
@@ -277,11 +266,7 @@ fn new_lane(alloc: Global, shape: &Shape, script: Script) -> Result<Lane, CoreFa
     requires { IsShape shape.now }
     ensures { IfOk result (λ lane. (lane.script ≡ script) × (lane.ring.items ≡ replicate (shard_places shape.now) 0) × (lane.progress ≡ first_progress)) }
 {
-    let places = shape.shard_places();
-    let mut ring = Vec::with_capacity(alloc, places as usize)?;
-    for _ in 0..places {
-        ring.push(0)?;
-    }
+    let ring = vec![in alloc; 0; shape.shard_places() as usize]?;
     Ok(Lane {
         script: Commands::new(alloc, script)?,
         ring,

@@ -1,4 +1,4 @@
-ghost use Rattle.std.specs.Prelude.{◌*◌, ◌+◌, replicate, ◌≡◌, ◌<◌, ℕ, IfOk};
+ghost use Rattle.std.specs.Prelude.{◌*◌, ◌+◌, ◌≡◌, ◌<◌, ℕ, IfOk};
 ghost use Rattle.keybits.specs.Shapes.{IsShape};
 ghost use Rattle.keybits.specs.declared.step.Word.TheVariants.{Stack};
 ghost use Rattle.keybits.specs.Words.{fresh_word};
@@ -31,10 +31,10 @@ impl Table {
             state: State::Idle,
         };
         let places = shape.all_places();
-        let life = row(alloc, places, fresh.word())?;
-        let links = row(alloc, places, 0)?;
+        let life = vec![in alloc; fresh.word(); places]?;
+        let links = vec![in alloc; 0; places]?;
         let lanes = shape.lanes as usize;
-        let stacks = row(alloc, lanes * lanes, 0)?;
+        let stacks = vec![in alloc; 0; lanes * lanes]?;
         Ok(Table {
             life,
             links,
@@ -78,15 +78,4 @@ fn stack_position(shape: &Shape, shard: u32, lane: u32) -> usize
     ensures { result ≡ shard * shape.now.lanes + lane }
 {
     (shard * shape.lanes + lane) as usize
-}
-
-/// So many words of one value.
-fn row(alloc: Global, length: usize, value: u64) -> Result<Vec<u64>, CoreFault>
-    ensures { IfOk result (λ words. words.items ≡ replicate length value) }
-{
-    let mut words = Vec::with_capacity(alloc, length)?;
-    for _ in 0..length {
-        words.push(value)?;
-    }
-    Ok(words)
 }
