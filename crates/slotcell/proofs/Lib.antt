@@ -1,5 +1,6 @@
 mod Merging
 mod PortionFields
+mod PortionSent
 mod PortionSteps
 pub mod ShareLemmas
 mod Steps

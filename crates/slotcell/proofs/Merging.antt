@@ -8,7 +8,8 @@ use Rattle.std.proofs.lemmas.List.Sums.{sum_by_push}
 use Rattle.std.proofs.lemmas.List.Elements.{All-nil, All-cons, All-head, All-tail, All-push, All-pop}
 use Rattle.slotcell.specs.declared.portion.Portion.{Portion}
 use Rattle.slotcell.specs.Share.{Share, labels_below, label, AreAllShares, AllShow}
-use Rattle.slotcell.specs.Parts.{parts_of, IsOneShare, shown_by}
+use Rattle.slotcell.specs.Parts.{IsOneShare, shown_by}
+use Rattle.slotcell.specs.Portion.{parts_of}
 use Rattle.slotcell.proofs.ShareLemmas.{labels_below-length}
 
 -- ---- by labels

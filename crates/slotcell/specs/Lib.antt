@@ -1,5 +1,6 @@
 pub mod ByteBuf
 pub mod Parts
 pub mod Portion
+pub mod Rest
 pub mod Share
 pub mod Whole

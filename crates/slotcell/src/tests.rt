@@ -1,13 +1,13 @@
 ghost use Rattle.std.specs.Prelude.{◌≡◌, ◌<◌, ◌≤◌, [], ◌++◌, IsTrue};
 
 use crate::whole::take_last;
-use crate::{ByteBuf, Clear, Memory, Record, Share, Whole, join};
+use crate::{ByteBuf, Clear, Memory, Record, Rest, Share, Slot, Whole, join};
 use std::alloc::Global;
 use std::cell::Cell;
 use std::process::Abort;
 use std::snapshot::Snapshot;
-use std::thread;
 use std::thread::{Promise, PromisedHandle, Threads};
+use std::{mem, thread};
 
 fn round_trip<T: Drop>(alloc: Global, whole: Whole<T>, n: usize) -> Whole<T>
     requires { (0 < n) × (n ≤ 16) }
@@ -65,6 +65,35 @@ fn whole_crosses<T: Send + Sync + Drop>(whole: Whole<T>) -> Whole<T>
 {
     let _ = seen(&whole);
     sent(whole)
+}
+
+fn slot_crosses<T: Send + Sync + Drop>(slot: Slot<T>) -> Slot<T>
+    ensures { result ≡ slot }
+{
+    let _ = seen(&slot);
+    sent(slot)
+}
+
+// Puts the share into an empty slot, and takes it out.
+fn kept_in_a_slot<T: Send + Sync + Drop>(share: Share<T>) -> Share<T>
+    ensures { result ≡ share }
+{
+    let mut slot = Slot::empty();
+    drop(mem::replace(&mut slot, Slot::filled(share)));
+    slot_crosses(slot).into_share()
+}
+
+// Lends the cell in three shares, cuts two off, and merges them in again.
+fn lent_in_three<T: Send + Sync + Drop>(alloc: Global, whole: Whole<T>) -> Whole<T>
+    ensures { result ≡ whole }
+{
+    let mut rest = whole.lend(3);
+    let first = rest.cut();
+    let second = kept_in_a_slot(rest.cut());
+    let mut rest = Rest::of_last(rest.into_share());
+    rest.merge(second);
+    rest.merge(first);
+    rest.into_whole(alloc)
 }
 
 // Where memory is refused the buffer is as it was, and the call may be made again.
@@ -157,6 +186,26 @@ fn each_share_of_a_record_shows_its_numbers(rt: HostRuntime) {
         let whole = read_apart(&rt, rt.alloc(), whole, n, &[7, 8]);
         assert_eq!(rt; whole.into_inner().as_slice(), [7, 8].as_slice());
     }
+}
+
+#[test]
+fn a_cell_that_was_lent_is_whole_again(rt: HostRuntime) {
+    let mut whole = cell_of(&rt, rt.alloc(), Record::fresh(rt.alloc()));
+    assert!(rt; whole.get_mut().push(7));
+    let mut whole = lent_in_three(rt.alloc(), whole);
+    assert!(rt; whole.get_mut().push(8));
+    assert_eq!(rt; whole.into_inner().as_slice(), [7, 8].as_slice());
+}
+
+#[test]
+fn a_slot_gives_back_its_share(rt: HostRuntime) {
+    let whole = cell_of(&rt, rt.alloc(), Record::fresh(rt.alloc()));
+    let share = kept_in_a_slot(whole.lend(1).into_share());
+    assert_eq!(rt; share.read().as_slice(), [].as_slice());
+    let mut whole = Rest::of_last(share).into_whole(rt.alloc());
+    assert!(rt; whole.get_mut().push(9));
+    assert_eq!(rt; whole.get().as_slice(), [9].as_slice());
+    assert_eq!(rt; mem::size_of::<Slot<Record>>(), mem::size_of::<usize>());
 }
 
 // Who reads a share hands on the very share.

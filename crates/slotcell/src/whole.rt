@@ -1,9 +1,10 @@
 //! The owner of a cell, which splits it into shares and joins them again.
-ghost use Rattle.std.specs.Prelude.{◌≡◌, ℕ, ◌+◌, ◌<◌, ◌≤◌, MatchResult, [], ◌∷◌, ◌++◌, length, All, Some, IsSome};
+ghost use Rattle.std.specs.Prelude.{◌≡◌, ℕ, ◌+◌, ◌^◌, ◌<◌, ◌≤◌, true, MatchResult, [], ◌∷◌, ◌++◌, length, All, Some, IsSome};
 ghost use Rattle.std.specs.Borrow.{sem};
 ghost use Rattle.slotcell.specs.Share.{shares_below, AreAllShares, AllShow};
 
 use crate::portion::Portion;
+use crate::rest::Rest;
 use crate::share::Share;
 use crate::unboxed::Unboxed;
 use arrayvec::ArrayVec;
@@ -75,13 +76,31 @@ impl<T: Drop> Whole<T> {
         requires { (0 < n) × (n ≤ 16) }
         ensures { (cell : ℕ) × (result.items ≡ shares_below cell n self n) }
     {
-        let mut rest = Portion::lend(Unboxed::from_box(self.boxed), n);
+        let mut rest = self.lend(n);
         let mut shares = ArrayVec::new();
         for _ in 0..n - 1 {
-            shares.push(Some(Share::from_portion(rest.cut())));
+            shares.push(Some(rest.cut()));
         }
-        shares.push(Some(Share::from_portion(rest)));
+        shares.push(Some(rest.into_share()));
         shares
+    }
+
+    /// Lends the cell in `n` shares, from 1 to 16, all in one hand. Each shows the object. It takes no memory.
+    pub fn lend(self, n: usize) -> Rest<T>
+        requires { (0 < n) × (n ≤ 16) }
+        ensures { (result.number ≡ 0) × (result.of ≡ n) × (result.object ≡ self) }
+    {
+        Rest::from_portion(Portion::lend(Unboxed::from_box(self.boxed), n))
+    }
+
+    // Ends the loan of which these are all parts.
+    pub(crate) fn from_portion(alloc: Global, all: Portion<T>) -> Whole<T>
+        requires { (all.parts ≡ 2 ^ 63) × (all.owner ≡ true) }
+        ensures { result ≡ all.object }
+    {
+        Whole {
+            boxed: all.recover(alloc).into_box(),
+        }
     }
 }
 
@@ -97,9 +116,7 @@ pub fn join<T: Drop>(alloc: Global, shares: ArrayVec<Option<Share<T>>, 16>) -> W
     for _ in 1..count {
         all.merge(take_last(&mut shares).into_portion());
     }
-    Whole {
-        boxed: all.recover(alloc).into_box(),
-    }
+    Whole::from_portion(alloc, all)
 }
 
 pub(crate) fn take_last<T: Drop>(shares: &mut ArrayVec<Option<Share<T>>, 16>) -> Share<T>

@@ -27,10 +27,10 @@ loop-preserved g c = let xs = c.args.shares.items in let left = c.loop.shares.it
     let long = ap length is ∙ length-append front _ in let turns = h.0 in
     (omega arith, merges_next xs left front c.loop.all q h.1 is e.parts c.merge.new.self c.merge.ensures.0 c.merge.ensures.1)
 
-pub recover-requires : goal.recover-requires
-recover-requires g c = let h = c.loop.invariant in let turns = h.0 in let done = c.loop-test.false in
+pub from_portion-requires : goal.from_portion-requires
+from_portion-requires g c = let h = c.loop.invariant in let turns = h.0 in let done = c.loop-test.false in
     let all = merged_all c.args.shares.items c.loop.shares.items c.loop.all h.1 (omega arith) in (all.0, all.1)
 
 pub returns : goal.returns
 returns g c = let xs = c.args.shares.items in let h = c.loop.invariant in let turns = h.0 in let done = c.loop-test.false in
-    let all = merged_all xs c.loop.shares.items c.loop.all h.1 (omega arith) in all_show xs (c.into_box.ensures ∙ c.recover.ensures) all.2
+    let all = merged_all xs c.loop.shares.items c.loop.all h.1 (omega arith) in all_show xs c.from_portion.ensures all.2

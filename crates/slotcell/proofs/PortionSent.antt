@@ -1,0 +1,26 @@
+-- What a portion owns says the same to every thread, and so does what may be one.
+use mathlib.Core.Bool.{Bool, true, false}
+use mathlib.Core.List.{[], ◌∷◌}
+use mir.Raw.{raw}
+use base.Shift.{Keyless}
+use denote.RattleType.{RattleType}
+use denote.Memory.{lone}
+use denote.Param.Send.{IsSend, IsSync}
+use denote.RawPtr.{Ptr}
+use Rattle.std.specs.Prelude.{ℕ, Option, Some, None}
+use Rattle.std.proofs.Crossing.{frees}
+use Rattle.std_alloc.proofs.SendSync.{lies, seen}
+use Rattle.slotcell.specs.Portion.{heap_handle, returns_if, portion_owns, maybe_portion_owns}
+use Rattle.slotcell.specs.Share.{Share}
+
+module _ (T : RattleType) (s : IsSend T) where
+  returns_keyless : (p : Ptr) (x : T.Denot) (a : ℕ) (y : Bool) → Keyless (returns_if T p x a y)
+  returns_keyless p x a true = (lies T s p x, frees.frees heap_handle (raw (lone T.mir)) p)
+  returns_keyless p x a false = tt
+
+  pub portion_keyless : IsSync T → (p : Ptr) (x : T.Denot) (a name k : ℕ) (y : Bool) → Keyless (portion_owns T p x a name k y)
+  portion_keyless shared p x a name k y = (((λ q c. tt), seen T shared p x (a ∷ [])), (tt, returns_keyless p x a y))
+
+  pub maybe_portion_keyless : IsSync T → (p : Ptr) (a : ℕ) (held : Option (Share T.Denot)) → Keyless (maybe_portion_owns T p a held)
+  maybe_portion_keyless shared p a None = tt
+  maybe_portion_keyless shared p a (Some h) = portion_keyless shared p h.object a h.cell _ _
