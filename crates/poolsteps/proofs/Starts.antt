@@ -1,0 +1,71 @@
+-- What holds of the table at its start.
+use Rattle.std.proofs.Common.{◌≡◌, ⊎_elim, ℕ, zero, suc, ◌+◌, ◌^◌, ◌<◌, ◌≤◌, Bool, cond, List, [], ◌∷◌, length, refl, ap, sym, subst, arith, eq-eqb, ne_eqb}
+use Rattle.std.proofs.lemmas.List.Elements.{All-nil}
+use mathlib.Core.Logic.{dite}
+use mathlib.Core.Option.{some, some-injective, some-ne-none}
+use mathlib.Core.List.{IsPrefix}
+use native.Mathlib.Decide.{ℕ_discrete}
+use lib.ListN.{get_elem?}
+use Rattle.atomic_table.specs.Table.{opening}
+use Rattle.keybits.specs.declared.shape.Shape.{Shape}
+use Rattle.keybits.specs.Shapes.{IsShape}
+use Rattle.steplaws.specs.MomentLaws.{AreFirst, first_lanes}
+use Rattle.steplaws.proofs.Starts.{start-law}
+use Rattle.poolsteps.specs.declared.view.LaneRecord.{LaneRecord}
+use Rattle.poolsteps.specs.declared.view.View.{View}
+use Rattle.poolsteps.specs.Layout.{word_count, words_in}
+use Rattle.poolsteps.specs.Views.{first_record, In, times_in}
+use Rattle.poolsteps.specs.Rule.{IsRecord, AreSeats, Kept, first_records, first_view}
+use Rattle.poolsteps.proofs.Joints.{IsSound, all-sound}
+
+-- ---- the first records
+
+-- each is that of one of these lanes
+in-first-records : (r : LaneRecord) (from count : ℕ) → In r (first_records from count)
+    → (lane : ℕ) × (from ≤ lane) × (lane < from + count) × (r ≡ first_record lane)
+in-first-records r from zero among = absurd among
+in-first-records r from (suc count) among = ⊎_elim (λ (same : r ≡ first_record from). (from, omega arith, omega arith, same))
+    (λ (further : In r (first_records (from + 1) count)). let found = in-first-records r (from + 1) count further in (found.0, omega arith, omega arith, found.3)) among
+
+abbrev counted : Bool → ℕ
+counted is = cond is 1 0
+
+no-earlier : (lane from count : ℕ) → lane < from → times_in lane (first_records from count) ≡ 0
+no-earlier lane from zero less = refl
+no-earlier lane from (suc count) less =
+    let apart = ap counted (ne_eqb from lane (λ same. absurd (omega arith))) in
+    let rest = no-earlier lane (from + 1) count (omega arith) in omega arith
+
+each-once : (lane from count : ℕ) → times_in lane (first_records from count) ≤ 1
+each-once lane from zero = omega arith
+each-once lane from (suc count) = dite (ℕ_discrete from lane)
+    (λ same. let here = ap counted (eq-eqb from lane same) in let rest = no-earlier lane (from + 1) count (omega arith) in omega arith)
+    (λ other. let apart = ap counted (ne_eqb from lane other) in let rest = each-once lane (from + 1) count in omega arith)
+
+first-is-record : (z : Shape) (lane : ℕ) → lane < z.lanes → IsRecord z [] first_lanes (first_record lane)
+first-is-record z lane inside = record { inside = inside; mine = refl; under = refl; pushed = λ shard. refl; chain = refl }
+
+-- ---- the first seat
+
+-- there is one view alone
+alone : (v u : View) (seat : ℕ) → get_elem? (v ∷ []) seat ≡ some u → v ≡ u
+alone v u zero is = some-injective v u is
+alone v u (suc seat) is = absurd (some-ne-none u (sym is))
+
+-- its lanes did nothing
+first-sound : (z : Shape) → IsSound z [] first_lanes (first_view z)
+first-sound z = record {
+  records = λ r among. let found = in-first-records r 0 z.lanes among in
+      subst (IsRecord z [] first_lanes) (sym found.3) (first-is-record z found.0 (omega arith));
+  seen = ([], refl);
+  told = All-nil (λ heard. IsPrefix heard []);
+  own = λ r among. ap (λ (x : LaneRecord). x.mine) (in-first-records r 0 z.lanes among).3;
+}
+
+first-seats : (z : Shape) → AreSeats z [] first_lanes (first_view z ∷ [])
+first-seats z = all-sound z [] first_lanes (first_view z ∷ [])
+    (λ seat v is. subst (IsSound z [] first_lanes) (alone (first_view z) v seat is) (first-sound z)) (λ lane. omega (arith, each-once lane 0 z.lanes))
+
+pub starts : (S : Type 0) (z : Shape) (words : List ℕ) → IsShape z → z.last_generation < 2 ^ 32 → length words ≡ word_count z → AreFirst z (words_in z words)
+    → Kept {S = S} z (opening words [] (first_view z))
+starts S z words limits wide count first = ([], first_lanes, record { count = count; rule = start-law z (words_in z words) limits wide first; seats = first-seats z })

@@ -1,0 +1,10 @@
+-- The rule goes on where a lane is dealt out.
+use Rattle.std.proofs.Common.{◌<◌, ℕ, sym, subst}
+use Rattle.poolsteps.proofs.LookWords.{words-some}
+use Rattle.poolsteps.proofs.Dealing.{dealt}
+use Rattle.poolsteps.proofs.grid.Grid.deal.Goals as goal
+
+pub split_seat-requires : goal.split_seat-requires
+split_seat-requires c =
+    let grid = c.args.self.now in let seat = c.args.seat.now in
+    (c.requires, subst (λ (count : ℕ). 0 < count) (sym grid.sized) (words-some grid.shape), dealt grid.table.shared.key seat.id seat.me.0)

@@ -1,0 +1,7 @@
+use Rattle.std.proofs.Common.{[], false}
+use Rattle.poolsteps.specs.declared.plays.Purpose.TheVariants.{ToGet}
+use Rattle.poolsteps.proofs.grid.Grid.follow.Given as goal
+
+-- the step is of the grid's shape
+abbrev pub ghosts-follow_as : goal.ghosts-follow_as
+ghosts-follow_as a = record { shape = a.self.now.shape; purpose = ToGet; key = 0; content = []; with_ref = false }

@@ -1,0 +1,7 @@
+use Rattle.std.proofs.Common.{[], false}
+use Rattle.poolsteps.specs.declared.plays.Purpose.TheVariants.{ToGet}
+use Rattle.poolsteps.proofs.grid.Grid.heard.Given as goal
+
+-- the look is at a grid of this shape
+abbrev pub ghosts-see_told : goal.ghosts-see_told
+ghosts-see_told a = record { shape = a.self.now.shape; purpose = ToGet; key = 0; content = []; with_ref = false }

@@ -1,0 +1,7 @@
+use Rattle.std.proofs.Common.{[], false}
+use Rattle.poolsteps.specs.declared.plays.Purpose.TheVariants.{ToGet}
+use Rattle.poolsteps.proofs.grid.Grid.leave.Given as goal
+
+-- what the caller asks for, at this table
+abbrev pub ghosts-leave_as : goal.ghosts-leave_as
+ghosts-leave_as a = record { shape = a.self.now.shape; purpose = ToGet; key = a.key; content = []; with_ref = false }

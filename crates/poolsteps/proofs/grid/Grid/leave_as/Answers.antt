@@ -1,0 +1,24 @@
+use Rattle.std.proofs.Common.{ℕ, ◌+◌, ◌-◌, ◌%◌, ◌^◌}
+use Rattle.keybits.specs.declared.shape.Shape.{Shape}
+use Rattle.keybits.specs.declared.step.Word.TheVariants.{Life}
+use Rattle.keybits.specs.Keys.{place_of}
+use Rattle.poolsteps.specs.Told.{Leaves}
+use Rattle.poolsteps.proofs.LayoutLemmas.{index-below}
+use Rattle.poolsteps.proofs.Making.{life-allows}
+use Rattle.poolsteps.proofs.Leaving.{leave-makes}
+use Rattle.poolsteps.proofs.grid.Grid.leave_as.Goals as goal
+
+pub fetch_sub-requires : goal.fetch_sub-requires
+fetch_sub-requires g c =
+    let grid = c.args.self.now in
+    let z : Shape = grid.shape in
+    let hand = c.args.hand.now in
+    let key : ℕ = c.args.key in
+    let asked = c.requires in (
+      asked.hand.0,
+      rw (asked.spot.life, grid.sized) (index-below z grid.checked (Life (place_of key)) asked.spot.inside),
+      rw (asked.aim.0, asked.aim.1, asked.spot.life, grid.shape_is)
+          (life-allows z grid.table.shared.table_id.slots hand.id hand.me asked.hand.1 (place_of key) asked.spot.inside
+          (λ word. (word + (2 ^ 64 - 4)) % 2 ^ 64) (Leaves z key hand.me)
+          (λ m rule at below. leave-makes z m hand.me key rule at asked.spot.inside asked.may below)),
+    )

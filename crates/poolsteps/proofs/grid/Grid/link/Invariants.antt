@@ -1,0 +1,7 @@
+use Rattle.std.proofs.Common.{[], false}
+use Rattle.poolsteps.specs.declared.plays.Purpose.TheVariants.{ToGet}
+use Rattle.poolsteps.proofs.grid.Grid.link.Given as goal
+
+-- the link is of the grid's shape; the place to return is in the view
+abbrev pub ghosts-link_as : goal.ghosts-link_as
+ghosts-link_as a = record { shape = a.self.now.shape; purpose = ToGet; key = 0; content = []; with_ref = false }

@@ -1,0 +1,25 @@
+use Rattle.std.proofs.Common.{ℕ, bit_or}
+use Rattle.keybits.specs.declared.shape.Shape.{Shape}
+use Rattle.keybits.specs.declared.step.Word.TheVariants.{Life}
+use Rattle.keybits.specs.Keys.{place_of}
+use Rattle.poolsteps.specs.Told.{Marks}
+use Rattle.poolsteps.proofs.LayoutLemmas.{index-below}
+use Rattle.poolsteps.proofs.Making.{life-allows}
+use Rattle.poolsteps.proofs.Marking.{mark-makes}
+use Rattle.poolsteps.proofs.grid.Grid.mark_as.Goals as goal
+
+pub fetch_or-requires : goal.fetch_or-requires
+fetch_or-requires g c =
+    let grid = c.args.self.now in
+    let z : Shape = grid.shape in
+    let me = c.args.hand.now.me in
+    let key : ℕ = c.args.key in
+    let spot = c.requires.spot in
+    let aim = c.requires.aim in (
+      c.requires.hand.0,
+      rw (spot.life, grid.sized) (index-below z grid.checked (Life (place_of key)) spot.inside),
+      rw (aim.0, aim.1, spot.life, grid.shape_is)
+          (life-allows z grid.table.shared.table_id.slots c.args.hand.now.id me c.requires.hand.1 (place_of key) spot.inside
+          (λ word. bit_or word 2) (Marks z key me)
+          (λ m s at small. mark-makes z m me key s at c.requires.under small)),
+    )

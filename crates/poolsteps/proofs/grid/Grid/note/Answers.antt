@@ -1,0 +1,10 @@
+-- The rule goes on where a note is cut from a seat.
+use Rattle.std.proofs.Common.{◌<◌, ℕ, sym, subst}
+use Rattle.poolsteps.proofs.LookWords.{words-some}
+use Rattle.poolsteps.proofs.Telling.{noted}
+use Rattle.poolsteps.proofs.grid.Grid.note.Goals as goal
+
+pub split_seat-requires : goal.split_seat-requires
+split_seat-requires c =
+    let grid = c.args.self.now in let hand = c.args.hand.now in
+    (c.requires, subst (λ (count : ℕ). 0 < count) (sym grid.sized) (words-some grid.shape), noted grid.table.shared.key hand.id hand.me.0)

@@ -1,0 +1,7 @@
+use Rattle.std.proofs.Common.{[], false}
+use Rattle.poolsteps.specs.declared.plays.Purpose.TheVariants.{ToGet}
+use Rattle.poolsteps.proofs.grid.Grid.push.Given as goal
+
+-- the push is of the grid's shape; the place to return is in the view
+abbrev pub ghosts-push_as : goal.ghosts-push_as
+ghosts-push_as a = record { shape = a.self.now.shape; purpose = ToGet; key = 0; content = []; with_ref = false }

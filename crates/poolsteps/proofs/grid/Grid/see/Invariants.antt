@@ -1,0 +1,7 @@
+use Rattle.std.proofs.Common.{[], false}
+use Rattle.poolsteps.specs.declared.plays.Purpose.TheVariants.{ToGet}
+use Rattle.poolsteps.proofs.grid.Grid.see.Given as goal
+
+-- the look is at a grid of this shape
+abbrev pub ghosts-see_as : goal.ghosts-see_as
+ghosts-see_as a = record { shape = a.self.now.shape; purpose = ToGet; key = 0; content = []; with_ref = false }

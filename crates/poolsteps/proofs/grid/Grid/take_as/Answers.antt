@@ -1,0 +1,30 @@
+use Rattle.std.proofs.Common.{◌≡◌, ◌≢◌, ℕ, true, ap, sym, ◌∙◌}
+use Rattle.std.specs.Cmp.Derive.{both_true}
+use Rattle.std.proofs.lemmas.Bool.{lt-ltb}
+use Rattle.keybits.specs.declared.shape.Shape.{Shape}
+use Rattle.keybits.specs.declared.step.Word.TheVariants.{Stack}
+use Rattle.poolsteps.specs.Layout.{has_word, index_in}
+use Rattle.poolsteps.specs.Views.{the_lane}
+use Rattle.poolsteps.specs.Returned.{Takes}
+use Rattle.poolsteps.proofs.Making.{word-allows}
+use Rattle.poolsteps.proofs.Taking.{take-makes}
+use Rattle.poolsteps.proofs.grid.Grid.take_as.Goals as goal
+
+pub swap-requires : goal.swap-requires
+swap-requires g c =
+    let grid = c.args.self.now in
+    let z : Shape = grid.shape in
+    let hand = c.args.hand.now in
+    let from : ℕ = c.args.from in
+    let asked = c.requires in
+    let lane : ℕ = (the_lane hand.me.0).lane in
+    let own : c.args.lane ≡ lane = asked.lane.0 in
+    let word : c.stack_word-word.result ≡ index_in z (Stack lane from) = c.stack_word-word.ensures.word ∙ ap (λ (l : ℕ). index_in z (Stack l from)) own in
+    let inside : has_word z (Stack lane from) ≡ true = both_true (rw (sym own) (lt-ltb c.args.lane z.lanes asked.lane.1)) (lt-ltb from z.lanes asked.from.0) in
+    let apart : from ≢ lane = λ same. asked.from.1 (same ∙ sym own) in (
+      asked.hand.0,
+      rw (grid.sized) c.stack_word-word.ensures.inside,
+      rw (asked.aim.0, asked.aim.1, word, grid.shape_is)
+          (word-allows z grid.table.shared.table_id.slots hand.id hand.me asked.hand.1 (Stack lane from) inside (λ n. 0) (Takes z from hand.me)
+          (λ m rule at below. take-makes z m hand.me from rule at asked.from.0 apart)),
+    )

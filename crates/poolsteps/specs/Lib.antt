@@ -1,0 +1,9 @@
+pub mod Layout
+pub mod Views
+pub mod Rule
+pub mod Told
+pub mod Seats
+pub mod Grids
+pub mod Returned
+pub mod ViewLaws
+pub mod Hands

@@ -1,0 +1,109 @@
+-- What the steps of returns and of takes, and looks, tell of the seat that made them.
+use mathlib.Core.List.{IsPrefix}
+use Rattle.std.specs.List.{All}
+use Rattle.std.specs.Prelude.{◌≡◌, ◌≢◌, ◌⊎◌, ℕ, ◌<◌, ◌≤◌, Bool, true, false, List, [], ◌∷◌, ◌++◌, length, Option, Some, None}
+use Rattle.atomic_table.specs.Table.{Me}
+use Rattle.keybits.specs.declared.shape.Shape.{Shape}
+use Rattle.keybits.specs.declared.step.Kind.TheVariants as kinds
+use Rattle.keybits.specs.Places.{shard_of}
+use Rattle.keybits.specs.Shapes.{is_place}
+use Rattle.keybits.specs.Links.{link_to, linked_place}
+use Rattle.seqpool.specs.declared.act.Act.{Act}
+use Rattle.seqpool.specs.declared.act.Act.TheVariants as acts
+use Rattle.steplaws.specs.declared.pending.Pending.{Pending}
+use Rattle.steplaws.specs.declared.pending.Pending.TheVariants.{Nothing, Undo, Owes, Returns}
+use Rattle.steplaws.specs.Facts.{home_in, returner}
+use Rattle.poolsteps.specs.declared.view.LaneRecord.{LaneRecord}
+use Rattle.poolsteps.specs.declared.view.View.{View}
+use Rattle.poolsteps.specs.Views.{the_lane, pushed_in}
+use Rattle.poolsteps.specs.Told.{Steps, Sees}
+
+-- ---- the record after each step
+
+-- the place is still to be returned: what was linked, and whether a PUSH of it failed
+abbrev pub with_return : LaneRecord → ℕ → Option ℕ → Bool → LaneRecord
+with_return r place linked failed = record r { under = Returns place linked failed }
+
+-- after a PUSH of this place that succeeded
+abbrev pub pushed_record : LaneRecord → ℕ → LaneRecord
+pushed_record r place = record r {
+  mine = r.mine ++ acts.Home r.lane place ∷ [];
+  under = Nothing;
+  pushed = (shard_of place, link_to place) ∷ r.pushed;
+}
+
+-- after a TAKE of these places
+abbrev pub taken_record : LaneRecord → List ℕ → LaneRecord
+taken_record r places = record r { mine = r.mine ++ acts.Collect r.lane places ∷ []; chain = places }
+
+-- the places but the first
+abbrev pub rest_of : List ℕ → List ℕ
+rest_of [] = []
+rest_of (place ∷ more) = more
+
+-- after a FOLLOW
+abbrev pub followed_record : LaneRecord → LaneRecord
+followed_record r = record r { chain = rest_of r.chain }
+
+-- ---- what the steps ask
+
+-- the place that is to be returned, what was linked, and whether a PUSH of it failed
+abbrev pub place_under : Pending → ℕ
+place_under Nothing = 0
+place_under (Undo key hit) = 0
+place_under (Owes place generation) = 0
+place_under (Returns place linked failed) = place
+
+abbrev pub failed_under : Pending → Bool
+failed_under Nothing = false
+failed_under (Undo key hit) = false
+failed_under (Owes place generation) = false
+failed_under (Returns place linked failed) = failed
+
+-- the seat's lane has this place still to return
+abbrev pub IsToReturn : View → ℕ → Option ℕ → Type 0
+IsToReturn v place linked = (the_lane v).under ≡ Returns place linked (failed_under (the_lane v).under)
+
+-- the top that a PUSH of the lane expects: the word that it last pushed there, and 0 after a PUSH that failed
+abbrev pub AimsAt : LaneRecord → ℕ → ℕ → Type 0
+AimsAt r place top = ((failed_under r.under ≡ false) × (top ≡ pushed_in r.pushed (shard_of place))) ⊎ ((failed_under r.under ≡ true) × (top ≡ 0))
+
+-- a word that leads to these places of a shard, or to the end where there are none
+abbrev pub LeadsTo : Shape → ℕ → ℕ → List ℕ → Type 0
+LeadsTo z shard word [] = word ≡ 0
+LeadsTo z shard word (place ∷ more) = (0 < word) × (word ≤ 65536) × (place ≡ linked_place shard word) × (is_place z place ≡ true)
+
+-- every home place of the shard was returned by another lane of the pool than this one
+abbrev pub NoneFrom : Shape → List Act → ℕ → ℕ → Type 0
+NoneFrom z seen shard lane = (place : ℕ) → home_in z seen shard place ≡ true
+    → (returner seen place < z.lanes) × (returner seen place ≢ shard) × (returner seen place ≢ lane)
+
+-- ---- what the steps tell
+
+module _ {S : Type 0} (z : Shape) where
+  -- LINK: the link word of the place to return becomes the expected top
+  abbrev pub Links : ℕ → Me S View → Me S View → Type 0
+  Links top before after = let r : LaneRecord = the_lane before.0 in
+      (found : ℕ) × Steps z (kinds.Link top) found top before after None (with_return r (place_under r.under) (Some top) (failed_under r.under))
+
+  -- PUSH: from the expected top the place is home; any other word is 0, after the first PUSH alone
+  abbrev pub Pushes : ℕ → Me S View → ℕ → Me S View → Type 0
+  Pushes top before found after = let r : LaneRecord = the_lane before.0 in let place : ℕ = place_under r.under in let link : ℕ = link_to place in
+      (found ≡ top → Steps z (kinds.Push top link) found link before after (Some (acts.Home r.lane place)) (pushed_record r place))
+      × (found ≢ top → (found ≡ 0) × (failed_under r.under ≡ false) × Steps z (kinds.Push top link) found found before after None (with_return r place None true))
+
+  -- TAKE of the stack of another lane: what it pushed there becomes the taken chain; where it is empty, none of its returns is home
+  abbrev pub Takes : ℕ → Me S View → ℕ → Me S View → Type 0
+  Takes from before found after = let r : LaneRecord = the_lane before.0 in
+      (found ≡ 0 → NoneFrom z after.0.seen r.lane from × Steps z kinds.Take found 0 before after None r)
+      × (found ≢ 0 → (places : List ℕ) × (0 < length places) × LeadsTo z r.lane found places
+      × Steps z kinds.Take found 0 before after (Some (acts.Collect r.lane places)) (taken_record r places))
+
+  -- FOLLOW: the link word of the chain's first place leads to its rest
+  abbrev pub Follows : Me S View → ℕ → Me S View → Type 0
+  Follows before found after = let r : LaneRecord = the_lane before.0 in
+      LeadsTo z r.lane found (rest_of r.chain) × Steps z kinds.Follow found found before after None (followed_record r)
+
+  -- a look, after which the seat saw all that it was told
+  abbrev pub SeesTold : Me S View → Me S View → Type 0
+  SeesTold before after = Sees z before after × All (λ heard. IsPrefix heard after.0.seen) before.0.told

@@ -1,0 +1,146 @@
+//! The steps by which a place of another shard is returned and returned places are taken, and the look. Each is one call of
+//! the table.
+ghost use Rattle.std.specs.Prelude.{◌≡◌, ◌≢◌, ◌<◌, ◌∷◌, Some};
+ghost use Rattle.steplaws.specs.declared.pending.Pending.{Pending};
+ghost use Rattle.std.specs.Prelude.{Option, ℕ};
+ghost use Rattle.poolsteps.specs.Views.{the_lane, IsOne};
+ghost use Rattle.poolsteps.specs.Grids.{IsSpot, IsOf, SameSeat};
+ghost use Rattle.poolsteps.specs.Told.{Sees};
+ghost use Rattle.poolsteps.specs.Returned.{Links, Pushes, Takes, Follows, IsToReturn, AimsAt, rest_of};
+
+use crate::grid::{Grid, Hand, Spot};
+use crate::layout::{look_word, stack_word};
+use crate::plays::{Aim, Follow, Link, Push, See, Take};
+use keybits::{link_to, shard_of};
+use std::marker::Brand;
+
+impl Grid {
+    /// LINK: the link word of a place to return becomes the expected top.
+    #[inline]
+    pub fn link(&self, hand: &mut Hand, spot: Spot, top: u64)
+        requires hand { IsOf self.now hand.old × IsOne hand.old.me.0 }
+        requires spot { IsSpot self.now.shape spot spot.place }
+        requires returns { (linked : Option ℕ) × IsToReturn hand.old.me.0 spot.place linked }
+        ensures hand { SameSeat hand.old hand.new }
+        ensures links { Links self.now.shape top hand.old.me hand.new.me }
+    {
+        self.link_as::<Brand>(hand, spot, top)
+    }
+
+    #[inline]
+    fn link_as<J: Aim>(&self, hand: &mut Hand, spot: Spot, top: u64)
+        requires aim { J.shape ≡ self.now.shape }
+        requires hand { IsOf self.now hand.old × IsOne hand.old.me.0 }
+        requires spot { IsSpot self.now.shape spot spot.place }
+        requires returns { (linked : Option ℕ) × IsToReturn hand.old.me.0 spot.place linked }
+        ensures hand { SameSeat hand.old hand.new }
+        ensures links { Links self.now.shape top hand.old.me hand.new.me }
+    {
+        self.table.shared.store::<Link<J>>(hand, spot.link, top)
+    }
+
+    /// PUSH of a place to return on its lane's stack at the place's shard, from the top that was linked: the place is home
+    /// where that was found. Else 0 was found, and LINK and PUSH follow once more, from the top 0. Answers the word that was
+    /// found.
+    #[inline]
+    pub fn push(&self, hand: &mut Hand, spot: Spot, lane: u32, top: u64) -> u64
+        requires hand { IsOf self.now hand.old × IsOne hand.old.me.0 }
+        requires spot { IsSpot self.now.shape spot spot.place }
+        requires lane { (lane ≡ (the_lane hand.old.me.0).lane) × (lane < self.now.shape.lanes) }
+        requires returns { IsToReturn hand.old.me.0 spot.place (Some top) }
+        requires aims { AimsAt (the_lane hand.old.me.0) spot.place top }
+        ensures hand { SameSeat hand.old hand.new }
+        ensures pushes { Pushes self.now.shape top hand.old.me result hand.new.me }
+    {
+        self.push_as::<Brand>(hand, spot, lane, top)
+    }
+
+    #[inline]
+    fn push_as<J: Aim>(&self, hand: &mut Hand, spot: Spot, lane: u32, top: u64) -> u64
+        requires aim { J.shape ≡ self.now.shape }
+        requires hand { IsOf self.now hand.old × IsOne hand.old.me.0 }
+        requires spot { IsSpot self.now.shape spot spot.place }
+        requires lane { (lane ≡ (the_lane hand.old.me.0).lane) × (lane < self.now.shape.lanes) }
+        requires returns { IsToReturn hand.old.me.0 spot.place (Some top) }
+        requires aims { AimsAt (the_lane hand.old.me.0) spot.place top }
+        ensures hand { SameSeat hand.old hand.new }
+        ensures pushes { Pushes self.now.shape top hand.old.me result hand.new.me }
+    {
+        let word = stack_word(&self.shape, shard_of(spot.place), lane);
+        self.table
+            .shared
+            .compare_exchange::<Push<J>>(hand, word, top, link_to(spot.place))
+    }
+
+    /// TAKE of all places that another lane has returned to the shard of this one: they are its taken chain. Answers the
+    /// word that was found, which leads to the first of them; 0 where there is none.
+    #[inline]
+    pub fn take(&self, hand: &mut Hand, lane: u32, from: u32) -> u64
+        requires hand { IsOf self.now hand.old × IsOne hand.old.me.0 }
+        requires lane { (lane ≡ (the_lane hand.old.me.0).lane) × (lane < self.now.shape.lanes) }
+        requires from { (from < self.now.shape.lanes) × (from ≢ lane) }
+        ensures hand { SameSeat hand.old hand.new }
+        ensures takes { Takes self.now.shape from hand.old.me result hand.new.me }
+    {
+        self.take_as::<Brand>(hand, lane, from)
+    }
+
+    #[inline]
+    fn take_as<J: Aim>(&self, hand: &mut Hand, lane: u32, from: u32) -> u64
+        requires aim { (J.shape ≡ self.now.shape) × (J.key ≡ from) }
+        requires hand { IsOf self.now hand.old × IsOne hand.old.me.0 }
+        requires lane { (lane ≡ (the_lane hand.old.me.0).lane) × (lane < self.now.shape.lanes) }
+        requires from { (from < self.now.shape.lanes) × (from ≢ lane) }
+        ensures hand { SameSeat hand.old hand.new }
+        ensures takes { Takes self.now.shape from hand.old.me result hand.new.me }
+    {
+        let word = stack_word(&self.shape, lane, from);
+        self.table.shared.swap::<Take<J>>(hand, word, 0)
+    }
+
+    /// FOLLOW: takes the first place off the taken chain. Answers its link word, which leads to the next; 0 at the end.
+    #[inline]
+    pub fn follow(&self, hand: &mut Hand, spot: Spot) -> u64
+        requires hand { IsOf self.now hand.old × IsOne hand.old.me.0 }
+        requires spot { IsSpot self.now.shape spot spot.place }
+        requires chain { (the_lane hand.old.me.0).chain ≡ spot.place ∷ rest_of (the_lane hand.old.me.0).chain }
+        ensures hand { SameSeat hand.old hand.new }
+        ensures follows { Follows self.now.shape hand.old.me result hand.new.me }
+    {
+        self.follow_as::<Brand>(hand, spot)
+    }
+
+    #[inline]
+    fn follow_as<J: Aim>(&self, hand: &mut Hand, spot: Spot) -> u64
+        requires aim { J.shape ≡ self.now.shape }
+        requires hand { IsOf self.now hand.old × IsOne hand.old.me.0 }
+        requires spot { IsSpot self.now.shape spot spot.place }
+        requires chain { (the_lane hand.old.me.0).chain ≡ spot.place ∷ rest_of (the_lane hand.old.me.0).chain }
+        ensures hand { SameSeat hand.old hand.new }
+        ensures follows { Follows self.now.shape hand.old.me result hand.new.me }
+    {
+        self.table.shared.load::<Follow<J>>(hand, spot.link)
+    }
+
+    /// SEE: a look at a word of the lane's own, at which the lane sees what was done so far.
+    #[inline]
+    pub fn see(&self, hand: &mut Hand, lane: u32)
+        requires hand { IsOf self.now hand.old × IsOne hand.old.me.0 }
+        requires lane { lane < self.now.shape.lanes }
+        ensures hand { SameSeat hand.old hand.new }
+        ensures sees { Sees self.now.shape hand.old.me hand.new.me }
+    {
+        self.see_as::<Brand>(hand, lane)
+    }
+
+    #[inline]
+    fn see_as<J: Aim>(&self, hand: &mut Hand, lane: u32)
+        requires aim { J.shape ≡ self.now.shape }
+        requires hand { IsOf self.now hand.old × IsOne hand.old.me.0 }
+        requires lane { lane < self.now.shape.lanes }
+        ensures hand { SameSeat hand.old hand.new }
+        ensures sees { Sees self.now.shape hand.old.me hand.new.me }
+    {
+        self.table.shared.load::<See<J>>(hand, look_word(lane));
+    }
+}

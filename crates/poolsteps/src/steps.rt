@@ -1,0 +1,179 @@
+//! The steps of lifecycle words. Each is one call of the table, and answers the word that it found.
+ghost use Rattle.std.specs.Prelude.{◌≡◌, ◌<◌, true};
+ghost use Rattle.keybits.specs.Keys.{place_of, is_key};
+ghost use Rattle.steplaws.specs.declared.pending.Pending.TheVariants.{Undo, Owes};
+ghost use Rattle.steplaws.specs.Facts.{most_references};
+ghost use Rattle.poolsteps.specs.declared.plays.Purpose.TheVariants.{ToGet};
+ghost use Rattle.poolsteps.specs.Views.{the_lane, IsOne};
+ghost use Rattle.poolsteps.specs.Grids.{IsSpot, IsOf, SameSeat};
+ghost use Rattle.poolsteps.specs.Told.{Enters, Leaves, Publishes, Marks, Claims, IsIdle, references_seen, MayLeave, MayPublish};
+
+use crate::grid::{Grid, Hand, Spot};
+use crate::plays::{Aim, Claim, Enter, Leave, Mark, Publish, Purpose};
+use keybits::{Life, State, claimed};
+use slotcell::Clear;
+use std::marker::Brand;
+
+impl Grid {
+    /// ENTER of a get or of a clear of a key: one is added to the count of its place. Answers the word that was found; the
+    /// call hits where that is of the key's generation and PRESENT. A get is of a key to which the lane has fewer references
+    /// than the most.
+    #[inline]
+    pub fn enter(&self, hand: &mut Hand, spot: Spot, key: u64, purpose: Purpose) -> u64
+        requires hand { IsOf self.now hand.old × IsOne hand.old.me.0 }
+        requires spot { IsSpot self.now.shape spot (place_of key) }
+        requires key { is_key self.now.shape key ≡ true }
+        requires idle { IsIdle hand.old.me.0 }
+        requires room { purpose ≡ ToGet → references_seen self.now.shape hand.old.me.0 key < most_references }
+        ensures hand { SameSeat hand.old hand.new }
+        ensures enters { Enters self.now.shape purpose key hand.old.me result hand.new.me }
+    {
+        self.enter_as::<Brand>(hand, spot, key, purpose)
+    }
+
+    #[inline]
+    fn enter_as<J: Aim>(&self, hand: &mut Hand, spot: Spot, key: u64, purpose: Purpose) -> u64
+        requires aim { (J.shape ≡ self.now.shape) × (J.key ≡ key) × (J.purpose ≡ purpose) }
+        requires hand { IsOf self.now hand.old × IsOne hand.old.me.0 }
+        requires spot { IsSpot self.now.shape spot (place_of key) }
+        requires key { is_key self.now.shape key ≡ true }
+        requires idle { IsIdle hand.old.me.0 }
+        requires room { purpose ≡ ToGet → references_seen self.now.shape hand.old.me.0 key < most_references }
+        ensures hand { SameSeat hand.old hand.new }
+        ensures enters { Enters self.now.shape purpose key hand.old.me result hand.new.me }
+    {
+        let _ = key;
+        let _ = purpose;
+        self.table.shared.fetch_add::<Enter<J>>(hand, spot.life, 4)
+    }
+
+    /// LEAVE: one is taken from the count of a key's place. It gives back a reference where nothing is under way, and else
+    /// undoes the ENTER that is. Answers the word that was found.
+    #[inline]
+    pub fn leave(&self, hand: &mut Hand, spot: Spot, key: u64) -> u64
+        requires hand { IsOf self.now hand.old × IsOne hand.old.me.0 }
+        requires spot { IsSpot self.now.shape spot (place_of key) }
+        requires may { MayLeave self.now.shape hand.old.me.0 key }
+        ensures hand { SameSeat hand.old hand.new }
+        ensures leaves { Leaves self.now.shape key hand.old.me result hand.new.me }
+    {
+        self.leave_as::<Brand>(hand, spot, key)
+    }
+
+    #[inline]
+    fn leave_as<J: Aim>(&self, hand: &mut Hand, spot: Spot, key: u64) -> u64
+        requires aim { (J.shape ≡ self.now.shape) × (J.key ≡ key) }
+        requires hand { IsOf self.now hand.old × IsOne hand.old.me.0 }
+        requires spot { IsSpot self.now.shape spot (place_of key) }
+        requires may { MayLeave self.now.shape hand.old.me.0 key }
+        ensures hand { SameSeat hand.old hand.new }
+        ensures leaves { Leaves self.now.shape key hand.old.me result hand.new.me }
+    {
+        let _ = key;
+        self.table.shared.fetch_sub::<Leave<J>>(hand, spot.life, 4)
+    }
+
+    /// PUBLISH of the content of an object under a key whose place is with the lane, with a reference or without one.
+    /// Answers the word that was found.
+    #[inline]
+    pub fn publish<T: Clear>(
+        &self,
+        hand: &mut Hand,
+        spot: Spot,
+        key: u64,
+        object: &T,
+        with_ref: bool,
+    ) -> u64
+        requires hand { IsOf self.now hand.old × IsOne hand.old.me.0 }
+        requires spot { IsSpot self.now.shape spot (place_of key) }
+        requires may { MayPublish self.now.shape hand.old.me.0 key }
+        ensures hand { SameSeat hand.old hand.new }
+        ensures publishes { Publishes self.now.shape key (T.content object.now) with_ref hand.old.me result hand.new.me }
+    {
+        self.publish_as::<T, Brand>(hand, spot, key, object, with_ref)
+    }
+
+    #[inline]
+    fn publish_as<T: Clear, J: Aim>(
+        &self,
+        hand: &mut Hand,
+        spot: Spot,
+        key: u64,
+        object: &T,
+        with_ref: bool,
+    ) -> u64
+        requires aim { (J.shape ≡ self.now.shape) × (J.key ≡ key) × (J.content ≡ T.content object.now) × (J.with_ref ≡ with_ref) }
+        requires hand { IsOf self.now hand.old × IsOne hand.old.me.0 }
+        requires spot { IsSpot self.now.shape spot (place_of key) }
+        requires may { MayPublish self.now.shape hand.old.me.0 key }
+        ensures hand { SameSeat hand.old hand.new }
+        ensures publishes { Publishes self.now.shape key (T.content object.now) with_ref hand.old.me result hand.new.me }
+    {
+        let _ = key;
+        let _ = object;
+        let added = if with_ref { 5 } else { 1 };
+        self.table
+            .shared
+            .fetch_add::<Publish<J>>(hand, spot.life, added)
+    }
+
+    /// MARK, after the ENTER of a clear that hit. Answers the word that was found; the clear is the one that marked the key
+    /// where that was PRESENT.
+    #[inline]
+    pub fn mark(&self, hand: &mut Hand, spot: Spot, key: u64) -> u64
+        requires hand { IsOf self.now hand.old × IsOne hand.old.me.0 }
+        requires spot { IsSpot self.now.shape spot (place_of key) }
+        requires under { (the_lane hand.old.me.0).under ≡ Undo key true }
+        ensures hand { SameSeat hand.old hand.new }
+        ensures marks { Marks self.now.shape key hand.old.me result hand.new.me }
+    {
+        self.mark_as::<Brand>(hand, spot, key)
+    }
+
+    #[inline]
+    fn mark_as<J: Aim>(&self, hand: &mut Hand, spot: Spot, key: u64) -> u64
+        requires aim { (J.shape ≡ self.now.shape) × (J.key ≡ key) }
+        requires hand { IsOf self.now hand.old × IsOne hand.old.me.0 }
+        requires spot { IsSpot self.now.shape spot (place_of key) }
+        requires under { (the_lane hand.old.me.0).under ≡ Undo key true }
+        ensures hand { SameSeat hand.old hand.new }
+        ensures marks { Marks self.now.shape key hand.old.me result hand.new.me }
+    {
+        let _ = key;
+        self.table.shared.fetch_or::<Mark<J>>(hand, spot.life, 2)
+    }
+
+    /// CLAIM of the place and generation that the lane owes: it succeeds where the word found is (generation, MARKED, count
+    /// 0). Answers the word that was found.
+    #[inline]
+    pub fn claim(&self, hand: &mut Hand, spot: Spot, generation: u32) -> u64
+        requires hand { IsOf self.now hand.old × IsOne hand.old.me.0 }
+        requires spot { IsSpot self.now.shape spot spot.place }
+        requires owes { (the_lane hand.old.me.0).under ≡ Owes spot.place generation }
+        ensures hand { SameSeat hand.old hand.new }
+        ensures claims { Claims self.now.shape spot.place generation hand.old.me result hand.new.me }
+    {
+        self.claim_as::<Brand>(hand, spot, generation)
+    }
+
+    #[inline]
+    fn claim_as<J: Aim>(&self, hand: &mut Hand, spot: Spot, generation: u32) -> u64
+        requires aim { J.shape ≡ self.now.shape }
+        requires hand { IsOf self.now hand.old × IsOne hand.old.me.0 }
+        requires spot { IsSpot self.now.shape spot spot.place }
+        requires owes { (the_lane hand.old.me.0).under ≡ Owes spot.place generation }
+        ensures hand { SameSeat hand.old hand.new }
+        ensures claims { Claims self.now.shape spot.place generation hand.old.me result hand.new.me }
+    {
+        let owed = Life {
+            generation,
+            count: 0,
+            state: State::Marked,
+        };
+        let old = owed.word();
+        let new = claimed(old, self.shape.last_generation);
+        self.table
+            .shared
+            .compare_exchange::<Claim<J>>(hand, spot.life, old, new)
+    }
+}

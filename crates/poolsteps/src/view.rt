@@ -1,0 +1,32 @@
+//! What a seat of the table knows. No value of these types is made: contracts alone speak of them.
+use seqpool::Act;
+use std::collections::LinkedList;
+use steplaws::Pending;
+
+/// The record of a lane, but for its list and its fillings, which change between calls of the table too.
+pub struct LaneRecord {
+    /// The lane's number.
+    pub lane: u32,
+    /// Its acts.
+    pub mine: LinkedList<Act>,
+    /// What it has under way.
+    pub under: Pending,
+    /// The words that it pushed, each with its shard, the last one first.
+    pub pushed: LinkedList<(u32, u64)>,
+    /// The places of its taken chain that are still to be followed.
+    pub chain: LinkedList<u32>,
+}
+
+/// The view of a seat: that of a hand has the record of one lane.
+pub struct View {
+    /// The records of the seat's lanes.
+    pub lanes: LinkedList<LaneRecord>,
+    /// The history that was seen.
+    pub seen: LinkedList<Act>,
+    /// Histories of which the seat was told, and which it didn't take in yet.
+    pub told: LinkedList<LinkedList<Act>>,
+    /// The number of steps that were made by the seat.
+    pub steps: u64,
+    /// The number of looks that were made by the seat.
+    pub looks: u64,
+}
