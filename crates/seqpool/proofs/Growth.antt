@@ -1,5 +1,5 @@
 -- Histories that grow by an act or by a history, and what an act leaves as it was.
-use Rattle.std.proofs.Common.{◌≡◌, ◌≢◌, ℕ, zero, suc, ◌<◌, Bool, true, false, cond, eqb, List, [], ◌∷◌, ◌++◌, take, refl, ap, ◌∙◌, subst, eq-eqb, ne_eqb, append-nil}
+use Rattle.std.proofs.Common.{◌≡◌, ◌≢◌, ℕ, zero, suc, ◌<◌, Bool, true, false, cond, eqb, List, [], ◌∷◌, ◌++◌, take, refl, sym, ap, ◌∙◌, subst, eq-eqb, ne_eqb, append-nil}
 use Rattle.keybits.specs.declared.shape.Shape.{Shape}
 use Rattle.seqpool.specs.declared.act.Act.{Act}
 use Rattle.seqpool.specs.Pool.{Pool, lane_of, Allowed, touches, changed, after, pool_from, LegalFrom}
@@ -71,3 +71,11 @@ acts-mine lane history act is =
 pub acts-others : (lane : ℕ) (history : List Act) (act : Act) → lane_of act ≢ lane → acts_of lane (history ++ act ∷ []) ≡ acts_of lane history
 acts-others lane history act isnt =
     acts-append lane history (act ∷ []) ∙ (ap (λ b. acts_of lane history ++ cond b (act ∷ []) []) (ne_eqb (lane_of act) lane isnt) ∙ append-nil (acts_of lane history))
+
+-- where a lane has none of these acts, the first is another's
+pub others-first : (lane : ℕ) (act : Act) (more : List Act) → acts_of lane (act ∷ more) ≡ [] → (lane_of act ≢ lane) × (acts_of lane more ≡ [])
+others-first lane act more none =
+    let here : (b : Bool) → eqb (lane_of act) lane ≡ b → cond b (act ∷ acts_of lane more) (acts_of lane more) ≡ [] =
+    λ b is. sym (ap (λ (c : Bool). cond c (act ∷ acts_of lane more) (acts_of lane more)) is) ∙ none in
+    let other : lane_of act ≢ lane = λ same. cc (here true (eq-eqb (lane_of act) lane same)) in
+    (other, here false (ne_eqb (lane_of act) lane other))

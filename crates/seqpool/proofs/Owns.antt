@@ -1,4 +1,4 @@
--- Acts of other lanes leave what is a lane's own.
+-- Acts of other lanes leave what is a lane's own, and no act changes the generation of a place that is with a lane.
 use Rattle.std.proofs.Common.{◌≡◌, ◌≢◌, ◌↔◌, ℕ, zero, suc, ◌+◌, Bool, true, false, cond, eqb, ◌==◌, List, [], ◌∷◌, take, Some, None, refl, sym, ap, ◌∙◌, subst, eq-eqb, ne_eqb, add-one, inl, inr}
 use Rattle.std.proofs.lemmas.Bool.{cases_Bool}
 use mathlib.Core.Logic.{dite}
@@ -46,6 +46,11 @@ reclaimed-not : (b : Bool) (s : Spot) (l lane : ℕ) → l ≢ lane → (cond b 
 reclaimed-not true s l lane other is = cc is
 reclaimed-not false s l lane other is = other-with l lane other is
 
+-- of two spots of the same generation, either has it
+either-generation : (b : Bool) (s t : Spot) → s.generation ≡ t.generation → (cond b s t).generation ≡ t.generation
+either-generation true s t same = same
+either-generation false s t same = refl
+
 module _ (z : Shape) (lane : ℕ) where
   at-one : (P : Pool) (act : Act) (place one : ℕ) → ((x : ℕ) → touches act x ≡ (x == one))
       → Alike lane (P one).phase (changed z.last_generation act (P one)).phase → Alike lane (P place).phase (after z act P place).phase
@@ -77,6 +82,27 @@ module _ (z : Shape) (lane : ℕ) where
     | inr not_in ↦ alike-same lane (P place).phase (after z (Collect l places) P place).phase
         (ap (λ (s : Spot). s.phase) (after-else z P (Collect l places) place not_in))
   ]
+
+  -- a place keeps its generation where what the act makes of it has the same
+  generation-same : (P : Pool) (act : Act) (place : ℕ) → (changed z.last_generation act (P place)).generation ≡ (P place).generation
+      → (after z act P place).generation ≡ (P place).generation
+  generation-same P act place same = either-generation (touches act place) (changed z.last_generation act (P place)) (P place) same
+
+  -- an act leaves the generation of a place that is with a lane: only that of a marked place changes
+  pub generation-stays : (P : Pool) (act : Act) (place : ℕ) → Allowed z P act → (P place).phase ≡ with lane
+      → (after z act P place).generation ≡ (P place).generation
+  generation-stays P (Publish l key content with_ref) place ok is = generation-same P (Publish l key content with_ref) place refl
+  generation-stays P (Get l key None) place ok is = generation-same P (Get l key None) place refl
+  generation-stays P (Get l key (Some content)) place ok is = generation-same P (Get l key (Some content)) place refl
+  generation-stays P (Release l key) place ok is = generation-same P (Release l key) place refl
+  generation-stays P (Clear l key true) place ok is = generation-same P (Clear l key true) place refl
+  generation-stays P (Clear l key false) place ok is = generation-same P (Clear l key false) place refl
+  generation-stays P (Reclaim l key) place ok is =
+      let other : place ≢ place_of key = λ here.
+      let bad : true ≡ false = sym ok.1 ∙ (ap (λ (p : ℕ). is_marked (P p).phase) (sym here) ∙ ap is_marked is) in cc bad in
+      ap (λ (s : Spot). s.generation) (after-else z P (Reclaim l key) place (ne_eqb place (place_of key) other))
+  generation-stays P (Home l at) place ok is = generation-same P (Home l at) place refl
+  generation-stays P (Collect l places) place ok is = generation-same P (Collect l places) place refl
 
   -- one act more
   pub pool-take-more : (P : Pool) (history : List Act) (i : ℕ) (act : Act) → At history i act

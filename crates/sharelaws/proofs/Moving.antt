@@ -207,5 +207,5 @@ module _ {T : Type 0} (content : T → List ℕ) (room : T → ℕ) (z : Shape) 
         }
 
 pub move-law : {T : Type 0} (content : T → List ℕ) (room : T → ℕ) → MoveLaw content room
-move-law content room z history kept slots q lane place number status c value s less inside below may cell leaves =
+move-law content room z history kept slots q lane place number status c value s less below may cell leaves =
     move_keeps content room z history kept slots q lane place number status c value s less below may cell leaves

@@ -1,5 +1,5 @@
 -- A lane returns a place at rest, and collects places that are: every share is still where it is to be.
-use Rattle.std.proofs.Common.{◌≡◌, ◌≢◌, ⊎_elim, ℕ, ◌<◌, Bool, true, false, cond, eqb, ◌&&◌, List, [], ◌∷◌, ◌++◌, length, refl, ap, sym, ◌∙◌, arith, eq-eqb, ne_eqb}
+use Rattle.std.proofs.Common.{◌≡◌, ◌≢◌, ⊎_elim, ℕ, ◌<◌, Bool, true, false, cond, eqb, ◌&&◌, List, [], ◌∷◌, ◌++◌, length, refl, ap, sym, ◌∙◌, eq-eqb, ne_eqb}
 use Rattle.std.proofs.lemmas.Bool.{cases_Bool, eqb-true, and_from, and_parts, and_left, and_right}
 use mathlib.Core.Logic.{dite}
 use native.Mathlib.Decide.{ℕ_discrete}
@@ -14,27 +14,11 @@ use Rattle.seqpool.proofs.Ranks.{all-home}
 use Rattle.steplaws.specs.Facts.{is_home}
 use Rattle.sharelaws.specs.declared.stored.Stored.{Stored}
 use Rattle.sharelaws.specs.declared.stored.Status.{Status}
-use Rattle.sharelaws.specs.declared.stored.Status.TheVariants.{Untouched, Emptied, InHand, Whole}
-use Rattle.sharelaws.specs.Shares.{reclaimer_after, reclaimers_after, reclaimer, room_after, rooms_after, room_of, MayHave, HasAll, IsKept, Slots, Stock, HasShare, IsEmpty, RestsAs, Shared, at_rest, after_home, after_collect}
+use Rattle.sharelaws.specs.declared.stored.Status.TheVariants.{Untouched, Emptied, Whole}
+use Rattle.sharelaws.specs.Shares.{reclaimer_after, reclaimer, room_after, room_of, MayHave, HasAll, IsKept, Slots, Stock, HasShare, IsEmpty, RestsAs, Shared, at_rest, after_home, after_collect}
 use Rattle.sharelaws.specs.ShareLaws.{HomeShareLaw, CollectShareLaw}
-use Rattle.sharelaws.proofs.Cases.{each-number}
-
--- ---- who reclaimed a place, and its room
-
--- an act that reclaims no place leaves who reclaimed each
-pub reclaimers-stay : (reclaimers : ℕ → ℕ) (history : List Act) (act : Act) → ((f : ℕ → ℕ) → reclaimer_after act f ≡ f)
-    → reclaimers_after reclaimers (history ++ act ∷ []) ≡ reclaimers_after reclaimers history
-reclaimers-stay reclaimers [] act stay = stay reclaimers
-reclaimers-stay reclaimers (first ∷ history) act stay = reclaimers-stay (reclaimer_after first reclaimers) history act stay
-
--- an act that publishes no key leaves the rooms of the places
-pub rooms-stay : (rooms : ℕ → ℕ) (history : List Act) (kept : List ℕ) (act : Act) (room : ℕ)
-    → length kept ≡ length history → ((f : ℕ → ℕ) → room_after act room f ≡ f)
-    → rooms_after rooms (history ++ act ∷ []) (kept ++ room ∷ []) ≡ rooms_after rooms history kept
-rooms-stay rooms [] [] act room same stay = stay rooms
-rooms-stay rooms [] (one ∷ kept) act room same stay = absurd (omega arith)
-rooms-stay rooms (first ∷ history) [] act room same stay = absurd (omega arith)
-rooms-stay rooms (first ∷ history) (one ∷ kept) act room same stay = rooms-stay (room_after first one rooms) history kept act room (omega arith) stay
+use Rattle.sharelaws.proofs.Cases.{each-number, untouched-is}
+use Rattle.sharelaws.proofs.Rooms.{reclaimers-behind, rooms-behind}
 
 -- over an act, of a place that it isn't of, all stays: who may have a share, who has all, what is known of the cell, and whether it is home
 pub record Stays (z : Shape) (history : List Act) (kept : List ℕ) (act : Act) (p : ℕ) : Type 0 where
@@ -59,10 +43,10 @@ module _ (z : Shape) (history : List Act) (kept : List ℕ) (act : Act) (same : 
   phase-else p none = ap (λ (P : Pool). (P p).phase) (pool-snoc z fresh history act) ∙ ap (λ (x : Spot). x.phase) (after-else z (pool_after z history) act p none)
 
   last-stays : (p : ℕ) → reclaimer grown p ≡ reclaimer history p
-  last-stays p = ap (λ (f : ℕ → ℕ). f p) (reclaimers-stay (λ _. 0) history act reclaims)
+  last-stays p = ap (λ (f : ℕ → ℕ). f p) (reclaimers-behind (λ _. 0) history act ∙ reclaims (reclaimer history))
 
   room-stays : (p : ℕ) → room_of grown (kept ++ 0 ∷ []) p ≡ room_of history kept p
-  room-stays p = ap (λ (f : ℕ → ℕ). f p) (rooms-stay (λ _. 0) history kept act 0 same publishes)
+  room-stays p = ap (λ (f : ℕ → ℕ). f p) (rooms-behind (λ _. 0) history kept act 0 same ∙ publishes (room_of history kept))
 
   stays-else : (p : ℕ) → touches act p ≡ false → Stays z history kept act p
   stays-else p none = record {
@@ -73,13 +57,6 @@ module _ (z : Shape) (history : List Act) (kept : List ℕ) (act : Act) (same : 
   }
 
 -- ---- a place at rest, by how a lane left its slots
-
--- a status that is none of the others
-untouched-is : (x : Status) → (x ≢ Untouched → ⊥) → x ≡ Untouched
-untouched-is Untouched never = refl
-untouched-is Emptied never = absurd (never (λ e. cc e))
-untouched-is InHand never = absurd (never (λ e. cc e))
-untouched-is Whole never = absurd (never (λ e. cc e))
 
 -- a slot that isn't left alone was left so before
 as-before : (b : Bool) (x left : Status) → left ≢ Untouched → cond b Untouched x ≡ left → x ≡ left
@@ -170,7 +147,7 @@ module _ {T : Type 0} (content : T → List ℕ) (room : T → ℕ) (z : Shape) 
     }
 
 pub home-share-law : {T : Type 0} (content : T → List ℕ) (room : T → ℕ) → HomeShareLaw content room
-home-share-law content room z history kept slots q lane place same legal s less ok rests empty roomy =
+home-share-law content room z history kept slots q lane place same s less ok rests empty roomy =
     home_keeps content room z history kept slots q lane place same s less ok.1 rests (empty, roomy)
 
 -- ---- places are collected
@@ -259,6 +236,6 @@ module _ {T : Type 0} (content : T → List ℕ) (room : T → ℕ) (z : Shape) 
     }
 
 pub collect-share-law : {T : Type 0} (content : T → List ℕ) (room : T → ℕ) → CollectShareLaw content room
-collect-share-law content room z history kept slots q lane places same legal s less ok =
+collect-share-law content room z history kept slots q lane places same s less ok =
     let homes : (p : ℕ) → has places p ≡ true → (pool_after z history p).phase ≡ home = λ p of. all-home z (pool_after z history) lane places p ok.2 of in
     (λ p of. rw (homes p of) at (s.contents p), collect_keeps content room z history kept slots q lane places same s less homes)

@@ -12,7 +12,7 @@ use Rattle.slotcell.specs.Share.{Share}
 use Rattle.sharelaws.specs.declared.stored.Stored.{Stored}
 use Rattle.sharelaws.specs.declared.stored.Status.{Status}
 use Rattle.sharelaws.specs.declared.stored.Status.TheVariants.{Untouched, Emptied, InHand, Whole}
-use Rattle.sharelaws.specs.Shares.{Slots, IsShareOf, at_home, IsEmpty, Stock, Shared, first_stock, reclaimer, room_of, MayHave, HasAll, moved, restocked, at_rest, after_home, after_collect, with_slot}
+use Rattle.sharelaws.specs.Shares.{Slots, IsShareOf, at_home, IsEmpty, Stock, Shared, first_stock, reclaimer, room_of, MayHave, HasAll, IsKept, moved, restocked, at_rest, after_home, after_collect, with_slot}
 
 -- at the start every slot of the pool is empty
 abbrev pub FirstShareLaw : {T : Type 0} → (T → List ℕ) → (T → ℕ) → Type 0
@@ -60,7 +60,7 @@ ReclaimShareLaw {T} content room = (z : Shape) (history : List Act) (kept : List
 -- a place is returned at rest, its cell empty and with at least the place's room
 abbrev pub HomeShareLaw : {T : Type 0} → (T → List ℕ) → (T → ℕ) → Type 0
 HomeShareLaw {T} content room = (z : Shape) (history : List Act) (kept : List ℕ) (slots : Slots T) (q : Stock) (lane place : ℕ)
-    → length kept ≡ length history → IsLegal z history → Shared content room z history kept slots q → lane < z.lanes → Allowed z (pool_after z history) (acts.Home lane place)
+    → length kept ≡ length history → Shared content room z history kept slots q → lane < z.lanes → Allowed z (pool_after z history) (acts.Home lane place)
     → ((number : ℕ) → number < z.lanes → q.status lane place number ≡ at_rest place number)
     → ((q.stored place).content ≡ []) → (room_of history kept place ≤ (q.stored place).room)
     → Shared content room z (history ++ acts.Home lane place ∷ []) (kept ++ 0 ∷ []) slots (after_home q lane place)
@@ -68,7 +68,7 @@ HomeShareLaw {T} content room = (z : Shape) (history : List Act) (kept : List �
 -- places are collected at rest, their cells empty and with at least the places' rooms
 abbrev pub CollectShareLaw : {T : Type 0} → (T → List ℕ) → (T → ℕ) → Type 0
 CollectShareLaw {T} content room = (z : Shape) (history : List Act) (kept : List ℕ) (slots : Slots T) (q : Stock) (lane : ℕ) (places : List ℕ)
-    → length kept ≡ length history → IsLegal z history → Shared content room z history kept slots q → lane < z.lanes → Allowed z (pool_after z history) (acts.Collect lane places)
+    → length kept ≡ length history → Shared content room z history kept slots q → lane < z.lanes → Allowed z (pool_after z history) (acts.Collect lane places)
     → ((place : ℕ) → has places place ≡ true → ((q.stored place).content ≡ []) × (room_of history kept place ≤ (q.stored place).room))
     × Shared content room z (history ++ acts.Collect lane places ∷ []) (kept ++ 0 ∷ []) slots (after_collect q lane places)
 
@@ -89,12 +89,12 @@ MayMove z history q lane place number c = (c ≡ q.stored place)
 abbrev pub MoveLaw : {T : Type 0} → (T → List ℕ) → (T → ℕ) → Type 0
 MoveLaw {T} content room = (z : Shape) (history : List Act) (kept : List ℕ) (slots : Slots T) (q : Stock) (lane place number : ℕ) (status : Status) (c : Stored)
     (value : maybe.Option (maybe.Option (Option (Share T))))
-    → Shared content room z history kept slots q → lane < z.lanes → is_place z place ≡ true → number < z.lanes
+    → Shared content room z history kept slots q → lane < z.lanes → number < z.lanes
     → MayHave (reclaimer history place) lane number (pool_after z history place).phase
     → MayMove z history q lane place number c → Leaves content room z number c status value
     → Shared content room z history kept (with_slot slots place number value) (moved q lane place number status c)
 
--- what a lane may have stays while others act, with whether the place is published, and its room
+-- what a lane may have stays while others act, with whether the place is published, its room, and what is known of its cell
 abbrev pub RightsLaw : Type 0
 RightsLaw = (z : Shape) (history more : List Act) (kept kept_more : List ℕ) (lane place number : ℕ) → length kept ≡ length history → length kept_more ≡ length more
     → IsLegal z (history ++ more) → acts_of lane more ≡ [] → MayHave (reclaimer history place) lane number (pool_after z history place).phase
@@ -102,3 +102,5 @@ RightsLaw = (z : Shape) (history more : List Act) (kept kept_more : List ℕ) (l
     × (HasAll (reclaimer history place) lane (pool_after z history place).phase → HasAll (reclaimer (history ++ more) place) lane (pool_after z (history ++ more) place).phase)
     × (is_published (pool_after z (history ++ more) place).phase ≡ is_published (pool_after z history place).phase)
     × (room_of (history ++ more) (kept ++ kept_more) place ≡ room_of history kept place)
+    × ((c : Stored) → IsKept c (room_of history kept place) (pool_after z history place).phase
+    → IsKept c (room_of (history ++ more) (kept ++ kept_more) place) (pool_after z (history ++ more) place).phase)

@@ -40,7 +40,7 @@ pub fn move_law<T: Clear>()
     ensures { MoveLaw T.content T.room }
 {}
 
-/// What a lane may have stays while others act, with whether the place is published, and its room.
+/// What a lane may have stays while others act, with whether the place is published, its room, and what is known of its cell.
 pub fn rights_law()
     ensures { RightsLaw }
 {}

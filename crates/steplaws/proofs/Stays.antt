@@ -1,5 +1,5 @@
 -- A home place, and who returned it, stay while the lane of its shard makes no act.
-use Rattle.std.proofs.Common.{◌≡◌, ◌≢◌, ⊎_elim, ℕ, Bool, true, false, cond, List, [], ◌∷◌, ◌++◌, refl, ap, sym, ◌∙◌, subst, eq-eqb, ne_eqb}
+use Rattle.std.proofs.Common.{◌≡◌, ◌≢◌, ⊎_elim, ℕ, Bool, true, false, cond, List, [], ◌∷◌, ◌++◌, refl, ap, sym, ◌∙◌, subst, ne_eqb}
 use Rattle.std.proofs.lemmas.Bool.{cases_Bool}
 use mathlib.Core.Logic.{dite}
 use native.Mathlib.Decide.{ℕ_discrete}
@@ -8,7 +8,7 @@ use Rattle.keybits.specs.Places.{shard_of}
 use Rattle.seqpool.specs.declared.act.Act.{Act}
 use Rattle.seqpool.specs.declared.act.Act.TheVariants as acts
 use Rattle.seqpool.specs.Pool.{with, home, Spot, Pool, has, AllHome, references, lane_of, Allowed, after, fresh, pool_from, LegalFrom, pool_after, IsLegal}
-use Rattle.seqpool.proofs.Growth.{pool-append, legal-rest, after-else}
+use Rattle.seqpool.proofs.Growth.{pool-append, legal-rest, after-else, others-first}
 use Rattle.seqpool.proofs.Tallies.{references-stay}
 use Rattle.steplaws.specs.Facts.{is_home, home_in, returner_after, returners_after, returner}
 use Rattle.steplaws.proofs.Updates.{at-else}
@@ -24,12 +24,6 @@ all-own z P l [] p all in_it = absurd (cc in_it)
 all-own z P l (x ∷ xs) p all in_it = dite (ℕ_discrete p x)
     (λ e. ap shard_of e ∙ all.1)
     (λ n. all-own z P l xs p all.3 (sym (ap (λ (b : Bool). cond b true (has xs p)) (ne_eqb p x n)) ∙ in_it))
-
--- where a lane has none of these acts, the first is another's
-others-first : (lane : ℕ) (a : Act) (more : List Act) → acts_of lane (a ∷ more) ≡ [] → (lane_of a ≢ lane) × (acts_of lane more ≡ [])
-others-first lane a more none =
-    let n : lane_of a ≢ lane = λ e. let bad : a ∷ acts_of lane more ≡ [] = sym (ap (λ (b : Bool). cond b (a ∷ acts_of lane more) (acts_of lane more)) (eq-eqb (lane_of a) lane e)) ∙ none in cc bad in
-    (n, sym (ap (λ (b : Bool). cond b (a ∷ acts_of lane more) (acts_of lane more)) (ne_eqb (lane_of a) lane n)) ∙ none)
 
 module _ (z : Shape) (lane p : ℕ) (own : shard_of p ≡ lane) where
   abbrev Stays : Pool → (ℕ → ℕ) → Act → Type 0

@@ -17,7 +17,7 @@ use Rattle.seqpool.specs.Histories.{made_by, released_by}
 use Rattle.seqpool.proofs.Growth.{after-here, after-else}
 use Rattle.seqpool.proofs.Ranks.{current-key, all-home}
 use Rattle.seqpool.proofs.Tallies.{tally, references-stay}
-use Rattle.seqpool.proofs.Owns.{Alike, with-stays}
+use Rattle.seqpool.proofs.Owns.{Alike, with-stays, generation-stays}
 use Rattle.traces.specs.Books.{reclaimed, returned, act_list}
 use Rattle.traces.specs.Parts.{count_if}
 use Rattle.traces.specs.Owning.{is_with, publishes, collected, gains, releases}
@@ -247,35 +247,6 @@ module _ (z : Shape) (P : Pool) where
       (λ other. let none = reclaim-else (eqb (generation_of key) z.last_generation) place (place_of key) other in absurd (omega arith))
   brings (acts.Collect l places) place ok some = let joined = times-append place places [] in all-placed l places place ok.2 (omega arith)
 
-  -- a place that is with a lane keeps its generation
-  abbrev Same : ℕ → Spot → Type 0
-  Same place s = s.generation ≡ (P place).generation
-
-  pub generation_stays : (act : Act) (place m : ℕ) → Allowed z P act → (P place).phase ≡ with m
-      → (after z act P place).generation ≡ (P place).generation
-  generation_stays (acts.Publish l key content with_ref) place m ok is =
-      at-one (acts.Publish l key content with_ref) (place_of key) place (Same place) (λ x. refl) (λ here. refl) (λ other. refl)
-  generation_stays (acts.Get l key None) place m ok is =
-      at-one (acts.Get l key None) (place_of key) place (Same place) (λ x. refl) (λ here. refl) (λ other. refl)
-  generation_stays (acts.Get l key (Some content)) place m ok is =
-      at-one (acts.Get l key (Some content)) (place_of key) place (Same place) (λ x. refl) (λ here. refl) (λ other. refl)
-  generation_stays (acts.Release l key) place m ok is =
-      at-one (acts.Release l key) (place_of key) place (Same place) (λ x. refl) (λ here. refl) (λ other. refl)
-  generation_stays (acts.Clear l key true) place m ok is =
-      at-one (acts.Clear l key true) (place_of key) place (Same place) (λ x. refl) (λ here. refl) (λ other. refl)
-  generation_stays (acts.Clear l key false) place m ok is =
-      at-one (acts.Clear l key false) (place_of key) place (Same place) (λ x. refl) (λ here. refl) (λ other. refl)
-  generation_stays (acts.Reclaim l key) place m ok is =
-      at-one (acts.Reclaim l key) (place_of key) place (Same place) (λ x. refl)
-      (λ here. let bad : false ≡ true
-      = sym (ap is_marked is) ∙ (ap (λ (p : ℕ). is_marked (P p).phase) here ∙ ok.1) in absurd (cc bad)) (λ other. refl)
-  generation_stays (acts.Home l at) place m ok is =
-      at-one (acts.Home l at) at place (Same place) (λ x. refl) (λ here. refl) (λ other. refl)
-  generation_stays (acts.Collect l places) place m ok is = elim (cases_Bool (has places place)) [
-    | inl in_it ↦ ap (λ (s : Spot). s.generation) (after-here z P (acts.Collect l places) place in_it)
-    | inr not_in ↦ ap (λ (s : Spot). s.generation) (after-else z P (acts.Collect l places) place not_in)
-  ]
-
   -- places of another lane
   pub with_else : (act : Act) (other place : ℕ) → Allowed z P act → lane_of act ≢ other
       → count_if (is_with other (after z act P place).phase) ≡ count_if (is_with other (P place).phase)
@@ -342,7 +313,7 @@ moves z P lane (Some act) mine legal = record {
       let released_one = releases-one act lane key mine in
       omega arith;
   inside = λ place some. brings z P act place legal.1 some;
-  generation = λ place m is. generation_stays z P act place m legal.1 is;
+  generation = λ place m is. generation-stays z m P act place legal.1 is;
 }
 
 -- what a step reclaims is a key of the shape
@@ -364,5 +335,5 @@ leaves z P lane other None by_lane apart legal = record { places = λ place. ref
 leaves z P lane other (Some act) by_lane apart legal = record {
   places = λ place. with_else z P act other place legal.1 (λ same. apart (sym same ∙ by_lane));
   references = λ key. references-stay z key other P act legal.1 (λ same. apart (sym same ∙ by_lane));
-  generation = λ place m is. generation_stays z P act place m legal.1 is;
+  generation = λ place m is. generation-stays z m P act place legal.1 is;
 }
