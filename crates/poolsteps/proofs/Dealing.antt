@@ -1,10 +1,11 @@
 -- A seat's first lane is dealt out, and the rule goes on; so each lane gets a hand.
-use Rattle.std.proofs.Common.{◌≡◌, inl, inr, ⊎_elim, ℕ, zero, suc, ◌+◌, ◌<◌, List, [], ◌∷◌, ◌++◌, length, slice_get, Some, None}
+use Rattle.std.proofs.Common.{◌≡◌, inl, inr, ⊎_elim, ℕ, zero, suc, ◌+◌, ◌<◌, List, [], ◌∷◌, ◌++◌, length, slice_get, Option, Some, None}
 use Rattle.std.proofs.Common.{refl, ap, sym, ◌∙◌, subst, arith}
 use Rattle.std.proofs.lemmas.List.{length_push}
 use Rattle.atomic_table.specs.declared.shared.Seat.{Seat}
 use Rattle.atomic_table.specs.Table.{Me, Splits}
 use Rattle.keybits.specs.declared.shape.Shape.{Shape}
+use Rattle.slotcell.specs.Share.{Share}
 use Rattle.poolsteps.specs.declared.grid.Grid.{Grid}
 use Rattle.poolsteps.specs.declared.view.View.{View}
 use Rattle.poolsteps.specs.Rule.{Kept, first_records, first_view}
@@ -14,41 +15,46 @@ use Rattle.poolsteps.proofs.ViewLemmas.{times-split, in-first, in-others, entry-
 use Rattle.poolsteps.proofs.Joints.{cut}
 
 -- the first lane of a seat
-pub dealt : {S : Type 0} (z : Shape) (id : ℕ) (v : View) → Splits {S = S} (Kept z) id v (without_first v) (first_alone v)
-dealt z id v = cut z id v (without_first v) (first_alone v)
-    record { inside = λ r among. in-others r v.lanes among; seen = refl; told = inl refl }
-    record { inside = λ r among. in-first r v.lanes among; seen = refl; told = inr refl }
+pub dealt : {T : Type 0} (content : T → List ℕ) (room : T → ℕ) (z : Shape) (id : ℕ) (v : View)
+    → Splits (Kept content room z) id v (without_first v) (first_alone v)
+dealt content room z id v = cut content room z id v (without_first v) (first_alone v)
+    record { inside = λ r among. in-others r v.lanes among; seen = refl; rooms = refl; told = inl refl }
+    record { inside = λ r among. in-first r v.lanes among; seen = refl; rooms = refl; told = inr refl }
     (λ lane. times-split lane v.lanes)
 
 -- ---- all lanes are dealt out
 
 -- the view of a seat that has so many lanes from this one on, before their first steps
 abbrev first_lanes_view : ℕ → ℕ → View
-first_lanes_view from count = record { lanes = first_records from count; seen = []; told = []; steps = 0; looks = 0 }
+first_lanes_view from count = record { lanes = first_records from count; seen = []; rooms = []; told = []; steps = 0; looks = 0 }
 
-module _ {S : Type 0} (grid : Grid) where
+-- a seat of a table of slots for shares
+abbrev Hand : Type 0 → Type 0
+Hand T = Seat (Option (Share T)) View
+
+module _ {T : Type 0} (grid : Grid T) where
   -- these are the hands of the first lanes of the grid, so many, and the seat has the other lanes
-  pub record AreDealt (dealt : ℕ) (seat : Seat S View) (hands : List (Seat S View)) : Type 0 where
+  pub record AreDealt (dealt : ℕ) (seat : Hand T) (hands : List (Hand T)) : Type 0 where
     pub seat_of : IsOf grid seat
     pub more : ℕ
     pub all : dealt + more ≡ grid.shape.lanes
     pub rest : seat.me ≡ (first_lanes_view dealt more, [])
     pub count : length hands ≡ dealt
-    pub each : (lane : ℕ) (hand : Seat S View) → slice_get hands lane ≡ Some hand → IsFirstHand grid lane hand
+    pub each : (lane : ℕ) (hand : Hand T) → slice_get hands lane ≡ Some hand → IsFirstHand grid lane hand
 
   -- the seat has all lanes
-  pub none-dealt : (seat : Seat S View) (hands : List (Seat S View)) → IsOf grid seat → seat.me ≡ (first_view grid.shape, []) → hands ≡ [] → AreDealt 0 seat hands
+  pub none-dealt : (seat : Hand T) (hands : List (Hand T)) → IsOf grid seat → seat.me ≡ (first_view grid.shape, []) → hands ≡ [] → AreDealt 0 seat hands
   none-dealt seat hands of me empty = record {
     seat_of = of;
     more = grid.shape.lanes;
     all = omega arith;
     rest = me;
     count = ap length empty;
-    each = λ lane hand is. let nowhere : None ≡ Some hand = ap (λ (list : List (Seat S View)). slice_get list lane) (sym empty) ∙ is in absurd (cc nowhere);
+    each = λ lane hand is. let nowhere : None ≡ Some hand = ap (λ (list : List (Hand T)). slice_get list lane) (sym empty) ∙ is in absurd (cc nowhere);
   }
 
   -- one lane more is dealt out of the seat
-  pub one-dealt : (dealt : ℕ) (before after hand : Seat S View) (hands more : List (Seat S View)) → AreDealt dealt before hands → dealt < grid.shape.lanes
+  pub one-dealt : (dealt : ℕ) (before after hand : Hand T) (hands more : List (Hand T)) → AreDealt dealt before hands → dealt < grid.shape.lanes
       → IsOf grid hand → hand.me ≡ (first_alone before.me.0, []) → SameSeat before after → after.me ≡ (without_first before.me.0, before.me.1)
       → more ≡ hands ++ hand ∷ [] → AreDealt (dealt + 1) after more
   one-dealt dealt before after hand hands more are less of me same left longer = next are.more are.all are.rest
@@ -59,16 +65,16 @@ module _ {S : Type 0} (grid : Grid) where
         seat_of = same.0 ∙ are.seat_of;
         more = rest;
         all = omega arith;
-        rest = left ∙ ap (λ (m : Me S View). (without_first m.0, m.1)) had;
+        rest = left ∙ ap (λ (m : Me (Option (Share T)) View). (without_first m.0, m.1)) had;
         count = ap length longer ∙ (length_push hands hand ∙ ap (λ (n : ℕ). n + 1) are.count);
         each = λ lane entry is. ⊎_elim
             (λ (old : slice_get hands lane ≡ Some entry). are.each lane entry old)
             (λ (new : (lane ≡ length hands) × (hand ≡ entry)).
-            subst (λ (at : ℕ × Seat S View). IsFirstHand grid at.0 at.1) (λ i. (sym (new.0 ∙ are.count) i, new.1 i))
-            (of, me ∙ ap (λ (m : Me S View). (first_alone m.0, [])) had))
-            (entry-of hands hand entry lane (ap (λ (list : List (Seat S View)). slice_get list lane) (sym longer) ∙ is));
+            subst (λ (at : ℕ × Hand T). IsFirstHand grid at.0 at.1) (λ i. (sym (new.0 ∙ are.count) i, new.1 i))
+            (of, me ∙ ap (λ (m : Me (Option (Share T)) View). (first_alone m.0, [])) had))
+            (entry-of hands hand entry lane (ap (λ (list : List (Hand T)). slice_get list lane) (sym longer) ∙ is));
       }
 
   -- all lanes are
-  pub all-dealt : (dealt : ℕ) (seat : Seat S View) (hands : List (Seat S View)) → AreDealt dealt seat hands → dealt ≡ grid.shape.lanes → AreFirstHands grid hands
+  pub all-dealt : (dealt : ℕ) (seat : Hand T) (hands : List (Hand T)) → AreDealt dealt seat hands → dealt ≡ grid.shape.lanes → AreFirstHands grid hands
   all-dealt dealt seat hands are all = record { count = are.count ∙ all; each = are.each }

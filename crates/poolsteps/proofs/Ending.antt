@@ -1,22 +1,20 @@
 -- One hand takes in all others, and at the end it knows what each of them knew.
-use Rattle.std.proofs.Common.{◌≡◌, ◌⊎◌, inl, inr, ⊎_elim, ℕ, zero, suc, List, [], ◌∷◌, ◌++◌, length, slice_get, Some, refl, ap, sym, ◌∙◌, subst}
+use Rattle.std.proofs.Common.{◌≡◌, ◌⊎◌, inl, inr, ⊎_elim, ℕ, zero, suc, List, [], ◌∷◌, ◌++◌, length, slice_get, Option, Some, refl, ap, sym, ◌∙◌, subst}
 use Rattle.std.specs.List.{All}
 use Rattle.std.proofs.lemmas.List.Elements.{All-head, All-tail}
 use mathlib.Core.List.{IsPrefix}
 use Rattle.atomic_table.specs.declared.shared.Seat.{Seat}
 use Rattle.atomic_table.specs.Table.{Me, Final, Seen}
 use Rattle.seqpool.specs.declared.act.Act.{Act}
-use Rattle.steplaws.specs.Facts.{Lanes, moment, Rule}
+use Rattle.slotcell.specs.Share.{Share}
 use Rattle.poolsteps.specs.declared.grid.Grid.{Grid}
 use Rattle.poolsteps.specs.declared.view.LaneRecord.{LaneRecord}
 use Rattle.poolsteps.specs.declared.view.View.{View}
-use Rattle.poolsteps.specs.Layout.{words_in}
 use Rattle.poolsteps.specs.Views.{the_lane, IsOne, In}
-use Rattle.poolsteps.specs.Rule.{Kept}
+use Rattle.poolsteps.specs.Rule.{World, Stands, Kept}
 use Rattle.poolsteps.specs.Seats.{both_of}
 use Rattle.poolsteps.specs.Grids.{IsOf, SameSeat, AreHands, EndsWith}
 use Rattle.poolsteps.proofs.ViewLemmas.{in-front, in-behind, entry-of, entry-before, entry-last, all-split}
-use Rattle.poolsteps.proofs.Joints.{each-sound}
 
 -- ---- what seats know
 
@@ -54,7 +52,11 @@ knows-both v w = (
 
 -- ---- the hands
 
-module _ {S : Type 0} (grid : Grid) (hands : List (Seat S View)) where
+module _ {T : Type 0} (grid : Grid T) (hands : List (Seat (Option (Share T)) View)) where
+  -- what a slot has
+  abbrev S : Type 0
+  S = Option (Share T)
+
   -- the seat knows what each of the hands knows, but for those that are left
   pub record AreGathered (seat : Seat S View) (left : List (Seat S View)) : Type 0 where
     pub seat_of : IsOf grid seat
@@ -111,21 +113,23 @@ module _ {S : Type 0} (grid : Grid) (hands : List (Seat S View)) where
         was-left other (suc index) at = inr (index, at)
 
     -- a seat that knows them all is at the end of the table
-    pub ends : (seat : Seat S View) (left : List (Seat S View)) (words : List ℕ) (slots : List S) → AreGathered seat left → left ≡ []
-        → Final (Seen (Kept grid.shape) seat.id seat.me.0) words slots → (history : List Act) × (lanes : Lanes) × EndsWith grid hands words history lanes
-    ends seat left words slots gathered none final =
-        let kept = final.1.0 in
-        let history : List Act = kept.0 in
-        let lanes : Lanes = kept.1 in
-        let stands = kept.2 in
-        let sound = each-sound grid.shape history lanes final.0.views stands.seats seat.id seat.me.0 final.1.1 in (
-          history,
-          lanes,
+    pub ends : (content : T → List ℕ) (room : T → ℕ) (seat : Seat S View) (left : List (Seat S View)) (words : List ℕ) (slots : List S) → AreGathered seat left
+        → left ≡ [] → Final (Seen (Kept content room grid.shape) seat.id seat.me.0) words slots → (w : World) × EndsWith content room grid hands words slots w
+    ends content room seat left words slots gathered none final =
+        let s = final.0 in
+        let w : World = final.1.0.0 in
+        let stands = final.1.0.1 in
+        let at_end = final.1.1 in (
+          w,
           record {
-            rule = subst (λ (ws : List ℕ). Rule grid.shape (moment (words_in grid.shape ws) history lanes)) final.2 stands.rule;
-            seen = λ index hand at. ((known index hand at).begins history (sound.seen, sound.told)).0;
-            records = λ index hand at. sound.records (the_lane hand.me.0)
-                ((known index hand at).lanes (the_lane hand.me.0) (own-lane hand (are.each index hand at).1));
+            homes = s.homes;
+            at_home = final.4;
+            views = s.views;
+            stands = subst (λ (ws : List ℕ). Stands content room grid.shape w s.homes ws s.views) final.2 stands;
+            seen = λ index hand at. ((known index hand at).begins w.history
+                ((stands.seats.seen seat.id seat.me.0 at_end).acts, stands.seats.told seat.id seat.me.0 at_end)).0;
+            records = λ index hand at. stands.seats.records (the_lane hand.me.0)
+                (seat.id, seat.me.0, at_end, (known index hand at).lanes (the_lane hand.me.0) (own-lane hand (are.each index hand at).1));
           },
         )
       where

@@ -1,42 +1,59 @@
 -- The lanes of two seats come to one.
-use Rattle.std.proofs.Common.{◌≡◌, ⊎_elim, ℕ, List, ◌∷◌, ◌++◌, sym, ◌∙◌, arith}
+use Rattle.std.proofs.Common.{◌≡◌, ⊎_elim, ℕ, Bool, true, false, cond, ltb, List, ◌∷◌, ◌++◌, length, sym, ◌∙◌, subst, arith}
 use Rattle.std.proofs.lemmas.List.Elements.{All-cons, All-append}
 use mathlib.Core.List.{IsPrefix}
 use Rattle.atomic_table.specs.Table.{Joins}
 use Rattle.keybits.specs.declared.shape.Shape.{Shape}
 use Rattle.seqpool.specs.declared.act.Act.{Act}
 use Rattle.seqpool.specs.Histories.{acts_of}
-use Rattle.steplaws.specs.Facts.{Lanes}
 use Rattle.poolsteps.specs.declared.view.LaneRecord.{LaneRecord}
 use Rattle.poolsteps.specs.declared.view.View.{View}
 use Rattle.poolsteps.specs.Views.{In}
-use Rattle.poolsteps.specs.Rule.{Kept}
+use Rattle.poolsteps.specs.Rule.{World, HasSeen, Kept}
 use Rattle.poolsteps.specs.Seats.{both_of, longer, spent}
 use Rattle.poolsteps.proofs.ViewLemmas.{in-either, times-joined, acts-between, longer-begins}
 use Rattle.poolsteps.proofs.Joints.{IsSound, join}
 
+-- of lists as long as two others the longer is as long as the longer of the others
+chosen-length : {A B : Type 0} (less : Bool) (xs ys : List A) (ms ns : List B) → length xs ≡ length ms → length ys ≡ length ns
+    → length (cond less ys xs) ≡ length (cond less ns ms)
+chosen-length true xs ys ms ns x y = y
+chosen-length false xs ys ms ns x y = x
+
+longer-length : {A B : Type 0} (xs ys : List A) (ms ns : List B) → length xs ≡ length ms → length ys ≡ length ns → length (longer xs ys) ≡ length (longer ms ns)
+longer-length xs ys ms ns x y = subst (λ (less : Bool). length (longer xs ys) ≡ length (cond less ns ms)) (λ i. ltb (x i) (y i))
+    (chosen-length (ltb (length xs) (length ys)) xs ys ms ns x y)
+
+both-seen : (v u : View) (w : World) → HasSeen w v → HasSeen w u → HasSeen w (both_of v u)
+both-seen v u w one two = record {
+  acts = (longer-begins v.seen u.seen w.history one.acts two.acts).0;
+  rooms = (longer-begins v.rooms u.rooms w.kept one.rooms two.rooms).0;
+  paired = longer-length v.rooms u.rooms v.seen u.seen one.paired two.paired;
+}
+
 -- of the acts of the lanes of each seat there are no more behind what it saw, so none behind the longer of what both saw
-both-sound : (z : Shape) (v w : View) (history : List Act) (lanes : Lanes) → IsSound z history lanes v → IsSound z history lanes w
-    → IsSound z history lanes (both_of v w)
-both-sound z v w history lanes one two =
-    let most : List Act = longer v.seen w.seen in
-    let begins = longer-begins v.seen w.seen history one.seen two.seen in record {
-      records = λ r among. ⊎_elim (λ (here : In r v.lanes). one.records r here) (λ (there : In r w.lanes). two.records r there) (in-either r v.lanes w.lanes among);
-      seen = begins.0;
-      told = All-cons (λ heard. IsPrefix heard history) v.seen (w.seen ∷ v.told ++ w.told) one.seen
-          (All-cons (λ heard. IsPrefix heard history) w.seen (v.told ++ w.told) two.seen
-          (All-append (λ heard. IsPrefix heard history) v.told w.told one.told two.told));
+both-sound : (z : Shape) (v u : View) (w : World) → IsSound z w v → IsSound z w u → IsSound z w (both_of v u)
+both-sound z v u w one two =
+    let most : List Act = longer v.seen u.seen in
+    let begins = longer-begins v.seen u.seen w.history one.seen.acts two.seen.acts in record {
+      records = λ r among. ⊎_elim (λ (here : In r v.lanes). one.records r here) (λ (there : In r u.lanes). two.records r there) (in-either r v.lanes u.lanes among);
+      seen = both-seen v u w one.seen two.seen;
+      told = All-cons (λ heard. IsPrefix heard w.history) v.seen (u.seen ∷ v.told ++ u.told) one.seen.acts
+          (All-cons (λ heard. IsPrefix heard w.history) u.seen (v.told ++ u.told) two.seen.acts
+          (All-append (λ heard. IsPrefix heard w.history) v.told u.told one.told two.told));
       own = λ r among. ⊎_elim
           (λ (here : In r v.lanes). own-of v one most begins.1 begins.0 r here)
-          (λ (there : In r w.lanes). own-of w two most begins.2 begins.0 r there)
-          (in-either r v.lanes w.lanes among);
+          (λ (there : In r u.lanes). own-of u two most begins.2 begins.0 r there)
+          (in-either r v.lanes u.lanes among);
     }
   where
-    own-of : (u : View) → IsSound z history lanes u → (most : List Act) → IsPrefix u.seen most → IsPrefix most history → (r : LaneRecord) → In r u.lanes
+    own-of : (y : View) → IsSound z w y → (most : List Act) → IsPrefix y.seen most → IsPrefix most w.history → (r : LaneRecord) → In r y.lanes
         → r.mine ≡ acts_of r.lane most
-    own-of u sound most p q r among =
-        let own = sound.own r among in own ∙ acts-between r.lane u.seen most history p q (sym own ∙ (sound.records r among).mine)
+    own-of y sound most p q r among =
+        let own = sound.own r among in own ∙ acts-between r.lane y.seen most w.history p q (sym own ∙ (sound.records r among).mine)
 
 -- which is told what both saw
-pub gathers : {S : Type 0} (z : Shape) (id other : ℕ) (v w : View) → Joins {S = S} (Kept z) id v other w (both_of v w) spent
-gathers z id other v w = join z id other v w (both_of v w) (both-sound z v w) (λ lane. omega (arith, times-joined lane v.lanes w.lanes))
+pub gathers : {T : Type 0} (content : T → List ℕ) (room : T → ℕ) (z : Shape) (id other : ℕ) (v u : View)
+    → Joins (Kept content room z) id v other u (both_of v u) spent
+gathers content room z id other v u = join content room z id other v u (both_of v u) (both-sound z v u)
+    (λ lane. omega (arith, times-joined lane v.lanes u.lanes))

@@ -1,5 +1,5 @@
 -- A lane's references, by its view: what its own acts make of them.
-use Rattle.std.proofs.Common.{◌≡◌, ◌≢◌, ℕ, ◌+◌, ◌-◌, ◌<◌, ◌≤◌, Bool, true, false, cond, ◌==◌, List, [], ◌∷◌, ◌++◌, length, Some, None, refl, sym, ap, ◌∙◌, subst, arith, eq-eqb, ne_eqb, inl, inr}
+use Rattle.std.proofs.Common.{◌≡◌, ◌≢◌, ℕ, ◌+◌, ◌-◌, ◌<◌, Bool, true, false, cond, ◌==◌, List, [], ◌∷◌, ◌++◌, Some, None, refl, sym, ap, ◌∙◌, subst, arith, eq-eqb, ne_eqb, inl, inr, append_assoc}
 use Rattle.std.proofs.lemmas.Bool.{cases_Bool}
 use Rattle.std.proofs.lemmas.List.Sums.{sum_by-cons}
 use mathlib.Core.Logic.{dite}
@@ -10,34 +10,11 @@ use Rattle.seqpool.specs.declared.act.Act.{Act}
 use Rattle.seqpool.specs.declared.act.Act.TheVariants.{Publish, Get, Release, Clear, Reclaim, Home, Collect}
 use Rattle.seqpool.specs.Pool.{Phase, with, Pool, references_in, is_current, references, lane_of, Allowed, after, fresh, pool_from, LegalFrom, pool_after, IsLegal}
 use Rattle.seqpool.specs.Histories.{acts_of, made_by, released_by}
-use Rattle.seqpool.proofs.Growth.{pool-append, legal-front, legal-rest}
+use Rattle.seqpool.proofs.Growth.{pool-append, legal-rest, acts-append}
 use Rattle.seqpool.proofs.Tallies.{one_if, tally}
-use Rattle.steplaws.proofs.Stays.{own-law}
 use Rattle.poolsteps.specs.declared.view.LaneRecord.{LaneRecord}
-use Rattle.poolsteps.specs.Views.{head_record}
-use Rattle.poolsteps.specs.ViewLaws.{references_with, references_made, ReferencesLaw}
-
--- an act more is one more of the lane's acts at most
-one-more : (b : Bool) (act : Act) (some all : List Act) → length some ≤ length all → length (cond b (act ∷ some) some) ≤ length (act ∷ all)
-one-more true act some all few = omega arith
-one-more false act some all few = omega arith
-
--- a lane's acts are no more than all
-acts-fewer : (lane : ℕ) (acts : List Act) → length (acts_of lane acts) ≤ length acts
-acts-fewer lane [] = omega arith
-acts-fewer lane (act ∷ more) = one-more (lane_of act == lane) act (acts_of lane more) more (acts-fewer lane more)
-
--- where all acts are the lane's, the first is, and all of the rest are
-mine-first : (lane : ℕ) (act : Act) (more : List Act) → acts_of lane (act ∷ more) ≡ act ∷ more → (lane_of act ≡ lane) × (acts_of lane more ≡ more)
-mine-first lane act more all = dite (ℕ_discrete (lane_of act) lane)
-    (λ mine.
-    let whole : act ∷ acts_of lane more ≡ act ∷ more = sym (ap (λ b. cond b (act ∷ acts_of lane more) (acts_of lane more)) (eq-eqb _ _ mine)) ∙ all in
-    (mine, cc whole))
-    (λ other.
-    let whole : acts_of lane more ≡ act ∷ more = sym (ap (λ b. cond b (act ∷ acts_of lane more) (acts_of lane more)) (ne_eqb _ _ other)) ∙ all in
-    let same = ap length whole in
-    let few = acts-fewer lane more in
-    absurd (omega arith))
+use Rattle.poolsteps.specs.Views.{head_record, the_lane}
+use Rattle.poolsteps.specs.ViewLaws.{references_with, references_made, ReferencesLaw, ActsLaw}
 
 module _ (z : Shape) (key lane : ℕ) where
   -- nobody has a reference to the key of a place that is with a lane
@@ -100,21 +77,59 @@ module _ (z : Shape) (key lane : ℕ) where
   by-act P (Home l place) inside ok mine = let total = one-act P (Home l place) inside ok in omega arith
   by-act P (Collect l places) inside ok mine = let total = one-act P (Collect l places) inside ok in omega arith
 
-  -- acts of the lane, one after another
-  by-acts : (P : Pool) (made : List Act) → LegalFrom z P made → acts_of lane made ≡ made
-      → references z (pool_from z P made) lane key ≡ references_made made key (references z P lane key)
-  by-acts P [] legal all = refl
-  by-acts P (act ∷ more) legal all =
-      let mine = mine-first lane act more all in
-      by-acts (after z act P) more legal.2 mine.1 ∙ ap (λ (n : ℕ). references_made more key n) (by-act P act legal.0 legal.1 mine.0)
+  -- no act of another lane gives the lane a reference, or takes one
+  none-made : (act : Act) → lane_of act ≢ lane → (made_by lane key act ≡ 0) × (released_by lane key act ≡ 0)
+  none-made (Publish l k content true) other = (ap (λ b. one_if b (k == key)) (ne_eqb l lane other), refl)
+  none-made (Publish l k content false) other = (refl, refl)
+  none-made (Get l k None) other = (refl, refl)
+  none-made (Get l k (Some content)) other = (ap (λ b. one_if b (k == key)) (ne_eqb l lane other), refl)
+  none-made (Release l k) other = (refl, ap (λ b. one_if b (k == key)) (ne_eqb l lane other))
+  none-made (Clear l k reply) other = (refl, refl)
+  none-made (Reclaim l k) other = (refl, refl)
+  none-made (Home l place) other = (refl, refl)
+  none-made (Collect l places) other = (refl, refl)
 
+  -- acts of any lanes, one after another
+  by-acts : (P : Pool) (more : List Act) → LegalFrom z P more
+      → references z (pool_from z P more) lane key ≡ references_made (acts_of lane more) key (references z P lane key)
+  by-acts P [] legal = refl
+  by-acts P (act ∷ more) legal =
+      let rest = by-acts (after z act P) more legal.2 in dite (ℕ_discrete (lane_of act) lane)
+      (λ mine.
+      rest ∙ (ap (λ (n : ℕ). references_made (acts_of lane more) key n) (by-act P act legal.0 legal.1 mine)
+      ∙ ap (λ (b : Bool). references_made (cond b (act ∷ acts_of lane more) (acts_of lane more)) key (references z P lane key)) (sym (eq-eqb (lane_of act) lane mine))))
+      (λ other.
+      let one = one-act P act legal.0 legal.1 in
+      let none = none-made act other in
+      let same : references z (after z act P) lane key ≡ references z P lane key = omega (arith, one, none.0, none.1) in
+      rest ∙ (ap (λ (n : ℕ). references_made (acts_of lane more) key n) same
+      ∙ ap (λ (b : Bool). references_made (cond b (act ∷ acts_of lane more) (acts_of lane more)) key (references z P lane key)) (sym (ne_eqb (lane_of act) lane other))))
+
+-- what stands behind equal beginnings is equal
+same-behind : (xs ys zs : List Act) → xs ++ ys ≡ xs ++ zs → ys ≡ zs
+same-behind [] ys zs e = e
+same-behind (x ∷ xs) ys zs e = same-behind xs ys zs (cc e)
+
+pub acts-law : ActsLaw
+acts-law z before after made further legal same acts key =
+    let lane : ℕ = (the_lane before).lane in
+    let more : List Act = further.0 in
+    let mine : acts_of lane more ≡ made = same-behind (acts_of lane before.seen) (acts_of lane more) made
+    (sym (acts-append lane before.seen more) ∙ (ap (acts_of lane) further.1 ∙ acts)) in
+    ap (λ (l : ℕ). references z (pool_after z after.seen) l key) same
+    ∙ (ap (λ (history : List Act). references z (pool_after z history) lane key) (sym further.1)
+    ∙ (ap (λ (P : Pool). references z P lane key) (pool-append z fresh before.seen more)
+    ∙ (by-acts z key lane (pool_after z before.seen) more (legal-rest z fresh before.seen more (subst (IsLegal z) (sym further.1) legal))
+    ∙ ap (λ (list : List Act). references_made list key (references z (pool_after z before.seen) lane key)) mine)))
+
+-- a step's acts are such acts
 pub references-law : ReferencesLaw
-references-law z before after made r goes same all key =
-    let old : List Act = before.seen ++ goes.between in
-    let legal = subst (IsLegal z) goes.seen goes.legal in
-    let stay = own-law z before.seen goes.between r.lane (legal-front z fresh old made legal) goes.others in
-    ap (λ (history : List Act). references z (pool_after z history) (head_record after.lanes).lane key) goes.seen
-    ∙ (ap (λ (lanes : List LaneRecord). references z (pool_after z (old ++ made)) (head_record lanes).lane key) goes.lanes
-    ∙ (ap (λ (P : Pool). references z P r.lane key) (pool-append z fresh old made)
-    ∙ (by-acts z key r.lane (pool_after z old) made (legal-rest z fresh old made legal) all
-    ∙ ap (λ (n : ℕ). references_made made key n) (stay.1 key ∙ ap (λ (lane : ℕ). references z (pool_after z before.seen) lane key) same))))
+references-law z before after made rooms r goes same all key =
+    let lane : ℕ = (the_lane before).lane in
+    let seen : after.seen ≡ before.seen ++ (goes.between ++ made) = goes.seen ∙ append_assoc before.seen goes.between made in
+    let none : acts_of lane goes.between ≡ [] = ap (λ (l : ℕ). acts_of l goes.between) (sym same) ∙ goes.others in
+    let own : acts_of lane made ≡ made = ap (λ (l : ℕ). acts_of l made) (sym same) ∙ all in
+    acts-law z before after made (goes.between ++ made, sym seen) goes.legal (ap (λ (lanes : List LaneRecord). (head_record lanes).lane) goes.lanes ∙ same)
+    (ap (acts_of lane) seen ∙ (acts-append lane before.seen (goes.between ++ made)
+    ∙ ap (λ (list : List Act). acts_of lane before.seen ++ list)
+    (acts-append lane goes.between made ∙ (ap (λ (list : List Act). list ++ acts_of lane made) none ∙ own)))) key

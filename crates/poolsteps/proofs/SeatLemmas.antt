@@ -1,6 +1,9 @@
 -- One lane's seat steps: the table's rule goes on, and what the seat is told.
-use Rattle.std.proofs.Common.{◌≡◌, ◌≢◌, inl, ⊎_elim, ℕ, zero, suc, ◌+◌, ◌<◌, true, cond, eqb, List, [], ◌∷◌, ◌++◌, length-set, Option, Some, None, slice_index, slice_set, refl, ap, sym, ◌∙◌, subst, arith, append-nil}
+use Rattle.std.proofs.Common.{◌≡◌, ◌≢◌, inl, ⊎_elim, ℕ, zero, suc, ◌+◌, ◌<◌, true, cond, eqb, List, [], ◌∷◌, ◌++◌, length, length-append, length-set, take, drop, take-append-drop, Option, Some, None, slice_index, slice_set, refl, ap, sym, ◌∙◌, subst, arith, append-nil}
 use Rattle.std.specs.List.{All}
+use Rattle.std.proofs.lemmas.List.{length-take-le}
+use Rattle.std.proofs.lemmas.List.Elements.{All-nil, All-same}
+use mathlib.Core.Option as maybe
 use mathlib.Core.Option.{some}
 use mathlib.Core.List.{IsPrefix}
 use lib.ListN.{get_elem?}
@@ -11,49 +14,89 @@ use Rattle.keybits.specs.declared.step.Kind.{Kind}
 use Rattle.keybits.specs.declared.step.Word.{Word}
 use Rattle.keybits.specs.Steps.{Changes}
 use Rattle.seqpool.specs.declared.act.Act.{Act}
-use Rattle.seqpool.specs.Pool.{lane_of, IsLegal}
+use Rattle.seqpool.specs.Pool.{lane_of, fresh, IsLegal}
 use Rattle.seqpool.specs.Histories.{acts_of}
-use Rattle.seqpool.proofs.Growth.{acts-mine, acts-others}
-use Rattle.steplaws.specs.Facts.{Words, Lanes, Moment, moment, Rule}
+use Rattle.seqpool.proofs.Growth.{legal-front, acts-mine, acts-others}
+use Rattle.slotcell.specs.Share.{Share}
+use Rattle.sharelaws.specs.Shares.{Slots, Stock, Shared}
+use Rattle.steplaws.specs.Facts.{Words, Lanes, moment, Rule}
 use Rattle.steplaws.specs.StepLaws.{with_act, Keeps}
 use Rattle.poolsteps.specs.declared.view.LaneRecord.{LaneRecord}
 use Rattle.poolsteps.specs.declared.view.View.{View}
-use Rattle.poolsteps.specs.Layout.{has_word, index_in, words_in}
-use Rattle.poolsteps.specs.Views.{the_lane, IsOne, pushed_in, In, times_in, acts_in}
-use Rattle.poolsteps.specs.Rule.{IsRecord, AreSeats, Stands}
-use Rattle.poolsteps.specs.Told.{GoesOn, Steps, Sees}
+use Rattle.poolsteps.specs.Layout.{has_word, index_in, words_in, slot_count, slots_in}
+use Rattle.poolsteps.specs.Views.{the_lane, IsOne, pushed_in, status_of, known_of, In, times_in, acts_in, rooms_in}
+use Rattle.poolsteps.specs.Rule.{World, IsRecord, HasSeen, AreSeats, Stands}
+use Rattle.poolsteps.specs.Told.{GoesOn, Steps}
 use Rattle.poolsteps.proofs.LayoutLemmas.{value-is, set-word}
-use Rattle.poolsteps.proofs.ViewLemmas.{times-some, in-one, among-set, among-two, prefix-self, prefix-trans, prefixes-grow, act-behind, none-behind}
+use Rattle.poolsteps.proofs.ViewLemmas.{times-some, in-one, among-set, among-two, prefix-self, prefix-trans, prefixes-grow, act-behind, none-behind, acts-between, shorter-begins}
 
--- the seat's view after a step
-abbrev pub step_view : View → LaneRecord → List Act → View
-step_view v r seen = record { lanes = r ∷ []; seen = seen; told = []; steps = v.steps + 1; looks = v.looks }
+-- the view of a seat with this lane, which saw all of a world
+abbrev pub view_of : LaneRecord → World → ℕ → ℕ → View
+view_of r w steps looks = record { lanes = r ∷ []; seen = w.history; rooms = w.kept; told = []; steps = steps; looks = looks }
 
--- the seat's view after a look
-abbrev pub look_view : View → List Act → View
-look_view v seen = record { lanes = the_lane v ∷ []; seen = seen; told = []; steps = v.steps; looks = v.looks + 1 }
+-- the seat's view after a step, and after a look
+abbrev pub step_view : View → LaneRecord → World → View
+step_view v r w = view_of r w (v.steps + 1) v.looks
+
+abbrev pub look_view : View → LaneRecord → World → View
+look_view v r w = view_of r w v.steps (v.looks + 1)
+
+-- the seat's view after a look that sees no further than this
+abbrev pub short_view : View → World → List Act → View
+short_view v w seen =
+    record { lanes = the_lane v ∷ []; seen = seen; rooms = take (length seen) w.kept; told = []; steps = v.steps; looks = v.looks + 1 }
+
+-- the world after a step of a lane that then has this record, where the lanes and the shares are then these
+abbrev pub world_after : World → Option Act → Lanes → Stock → LaneRecord → World
+world_after w act lanes stock r = record { history = with_act w.history act; kept = w.kept ++ rooms_in r act; lanes = lanes; stock = stock }
+
+-- the world after a look, where the shares are then these
+abbrev pub restocked_world : World → Stock → World
+restocked_world w stock = record { history = w.history; kept = w.kept; lanes = w.lanes; stock = stock }
 
 -- the act, if there is one, is by the lane
 abbrev pub IsBy : ℕ → Option Act → Type 0
 IsBy lane None = Unit {0}
 IsBy lane (Some act) = lane_of act ≡ lane
 
--- a seat's lane is in the moment as its record says, and its seat saw all of the lane's acts
-pub record IsAt (z : Shape) (m : Moment) (v : View) : Type 0 where
-  pub record_is : IsRecord z m.history m.lanes (the_lane v)
+-- a seat's lane is in the world as its record says, and its seat saw all of the lane's acts
+pub record IsAt (z : Shape) (w : World) (v : View) : Type 0 where
+  pub record_is : IsRecord z w (the_lane v)
   pub between : List Act
-  pub seen : m.history ≡ v.seen ++ between
+  pub seen : w.history ≡ v.seen ++ between
   pub others : acts_of (the_lane v).lane between ≡ []
+  pub rooms_between : List ℕ
+  pub rooms : w.kept ≡ v.rooms ++ rooms_between
+  pub paired : (length v.rooms ≡ length v.seen) × (length rooms_between ≡ length between)
+
+-- a lane is in one world as in another
+pub record Stays (lane : ℕ) (old new : Lanes) (old_stock new_stock : Stock) : Type 0 where
+  pub under : new.under lane ≡ old.under lane
+  pub pushed : (shard : ℕ) → new.pushed shard lane ≡ old.pushed shard lane
+  pub chain : new.chain lane ≡ old.chain lane
+  pub status : (place number : ℕ) → new_stock.status lane place number ≡ old_stock.status lane place number
+  pub knows : (place : ℕ) → new_stock.knows lane place ≡ old_stock.knows lane place
+
+pub stays-same : (lane : ℕ) (lanes : Lanes) (stock : Stock) → Stays lane lanes lanes stock stock
+stays-same lane lanes stock = record { under = refl; pushed = λ shard. refl; chain = refl; status = λ place number. refl; knows = λ place. refl }
 
 -- the lanes but this one are as they were
-abbrev pub OthersStay : ℕ → Lanes → Lanes → Type 0
-OthersStay lane old new = (l : ℕ) → l ≢ lane → (new.under l ≡ old.under l) × ((shard : ℕ) → new.pushed shard l ≡ old.pushed shard l) × (new.chain l ≡ old.chain l)
+abbrev pub OthersStay : ℕ → Lanes → Lanes → Stock → Stock → Type 0
+OthersStay lane old new old_stock new_stock = (l : ℕ) → l ≢ lane → Stays l old new old_stock new_stock
 
--- the record says what these lanes are at its lane
-pub record Agrees (r : LaneRecord) (lanes : Lanes) : Type 0 where
+-- the record says what these lanes and shares are at its lane
+pub record Agrees (r : LaneRecord) (lanes : Lanes) (stock : Stock) : Type 0 where
   pub under : r.under ≡ lanes.under r.lane
   pub pushed : (shard : ℕ) → pushed_in r.pushed shard ≡ lanes.pushed shard r.lane
   pub chain : r.chain ≡ lanes.chain r.lane
+  pub deeds : (place number : ℕ) → status_of r place number ≡ stock.status r.lane place number
+  pub cells : (place : ℕ) → known_of r place ≡ stock.knows r.lane place
+
+-- what a step or a look is made from: the rule and Share hold of these words and slots
+pub record IsPoint {T : Type 0} (content : T → List ℕ) (room : T → ℕ) (z : Shape) (words : Words) (w : World) (slots : Slots T) : Type 0 where
+  pub rule : Rule z (moment words w.history w.lanes)
+  pub paired : length w.kept ≡ length w.history
+  pub shared : Shared content room z w.history w.kept slots w.stock
 
 -- after a step of a lane, its acts and those of another lane
 acts-own : (lane : ℕ) (history : List Act) (act : Option Act) → IsBy lane act → acts_of lane (with_act history act) ≡ acts_of lane history ++ acts_in act
@@ -64,23 +107,27 @@ acts-stay : (lane : ℕ) (history : List Act) (act : Option Act) → IsBy lane a
 acts-stay lane history None by l other = refl
 acts-stay lane history (Some act) by l other = acts-others l history act (λ is. other (sym is ∙ by))
 
+-- the rooms stay as many as the acts
+still-paired : (kept : List ℕ) (history : List Act) (act : Option Act) (r : LaneRecord) → length kept ≡ length history
+    → length (kept ++ rooms_in r act) ≡ length (with_act history act)
+still-paired kept history None r same = ap length (append-nil kept) ∙ same
+still-paired kept history (Some act) r same =
+    let one = length-append kept (rooms_in r (Some act)) in
+    let other = length-append history (act ∷ []) in omega arith
+
 -- a list in which a word becomes what it was
 still : (words : List ℕ) (index : ℕ) → slice_set words index (slice_index words index) ≡ words
 still [] index = refl
 still (x ∷ more) zero = refl
 still (x ∷ more) (suc index) = ap (λ (rest : List ℕ). x ∷ rest) (still more index)
 
--- the view of a seat with this lane
-abbrev view_of : LaneRecord → List Act → ℕ → ℕ → View
-view_of r seen steps looks = record { lanes = r ∷ []; seen = seen; told = []; steps = steps; looks = looks }
-
 -- a seat of one lane
-module _ (z : Shape) (history : List Act) (lanes : Lanes) (views : List View) (seats : AreSeats z history lanes views) (id : ℕ) (v : View)
+module _ (z : Shape) (w : World) (views : List View) (seats : AreSeats z w views) (id : ℕ) (v : View)
     (at : get_elem? views id ≡ some v) (one : IsOne v) where
   own-in : In (the_lane v) v.lanes
   own-in = subst (In (the_lane v)) (sym one) (inl refl)
 
-  own-record : IsRecord z history lanes (the_lane v)
+  own-record : IsRecord z w (the_lane v)
   own-record = seats.records (the_lane v) (id, v, at, own-in)
 
   -- the record of another seat is of another lane
@@ -92,128 +139,230 @@ module _ (z : Shape) (history : List Act) (lanes : Lanes) (views : List View) (s
       let once = seats.once (the_lane v).lane in omega arith
 
   -- behind what the seat saw no act is of its lane
-  none-since : (between : List Act) → v.seen ++ between ≡ history → acts_of (the_lane v).lane between ≡ []
-  none-since between is = none-behind (the_lane v).lane v.seen between history is (sym (seats.own id v (the_lane v) at own-in) ∙ own-record.mine)
+  none-since : (between : List Act) → v.seen ++ between ≡ w.history → acts_of (the_lane v).lane between ≡ []
+  none-since between is = none-behind (the_lane v).lane v.seen between w.history is (sym (seats.own id v (the_lane v) at own-in) ∙ own-record.mine)
 
-  -- the history is then this one, which has these acts more, and the seat's lane has this record
-  module _ (made seen : List Act) (grows : seen ≡ history ++ made) (after : Lanes) (r : LaneRecord) (is : IsRecord z seen after r)
-      (same : r.lane ≡ (the_lane v).lane) (steps looks : ℕ) where
-    abbrev w : View
-    w = view_of r seen steps looks
+  seat-at : length w.kept ≡ length w.history → IsAt z w v
+  seat-at paired =
+      let begins = seats.seen id v at in
+      let acts = ap length begins.acts.1 in
+      let rooms = ap length begins.rooms.1 in
+      let split = length-append v.seen begins.acts.0 in
+      let rooms_split = length-append v.rooms begins.rooms.0 in record {
+        record_is = own-record;
+        between = begins.acts.0;
+        seen = sym begins.acts.1;
+        others = none-since begins.acts.0 begins.acts.1;
+        rooms_between = begins.rooms.0;
+        rooms = sym begins.rooms.1;
+        paired = (begins.paired, omega (arith, begins.paired));
+      }
+
+  -- the world is then this one, which has these acts more and the rooms beside them, and the seat's lane has this record
+  module _ (n : World) (made : List Act) (rooms_made : List ℕ) (grows : n.history ≡ w.history ++ made) (more : n.kept ≡ w.kept ++ rooms_made)
+      (r : LaneRecord) (is : IsRecord z n r) (same : r.lane ≡ (the_lane v).lane) (steps looks : ℕ) where
+    abbrev u : View
+    u = view_of r n steps looks
 
     -- what the seat is told of its acts
-    goes-on : IsLegal z seen → GoesOn z v w made r
-    goes-on legal = let p = seats.seen id v at in record {
+    goes-on : length w.kept ≡ length w.history → IsLegal z n.history → GoesOn z v u made rooms_made r
+    goes-on paired legal = let here = seat-at paired in record {
       lanes = refl;
-      between = p.0;
-      seen = grows ∙ ap (λ (acts : List Act). acts ++ made) (sym p.1);
-      others = ap (λ (lane : ℕ). acts_of lane p.0) same ∙ none-since p.0 p.1;
+      between = here.between;
+      seen = grows ∙ ap (λ (acts : List Act). acts ++ made) here.seen;
+      rooms_between = here.rooms_between;
+      rooms = more ∙ ap (λ (rooms : List ℕ). rooms ++ rooms_made) here.rooms;
+      paired = here.paired;
+      others = ap (λ (lane : ℕ). acts_of lane here.between) same ∙ here.others;
       legal = legal;
       mine = is.mine;
     }
 
-    -- where the other lanes did nothing, and are as they were
-    seats-after : ((l : ℕ) → l ≢ (the_lane v).lane → acts_of l seen ≡ acts_of l history) → OthersStay (the_lane v).lane lanes after
-        → AreSeats z seen after (slice_set views id w)
-    seats-after acts_stay lanes_stay = record {
+    -- a seat that saw a beginning of the world before
+    seen-still : (y : View) → HasSeen w y → HasSeen n y
+    seen-still y begins = record {
+      acts = prefix-trans y.seen w.history n.history begins.acts (made, sym grows);
+      rooms = prefix-trans y.rooms w.kept n.kept begins.rooms (rooms_made, sym more);
+      paired = begins.paired;
+    }
+
+    -- where the other lanes did nothing, and are as they were, and the seat then has a view that saw all acts of its lane
+    seats-with : (u : View) → u.lanes ≡ r ∷ [] → HasSeen n u → u.told ≡ [] → r.mine ≡ acts_of r.lane u.seen
+        → ((l : ℕ) → l ≢ (the_lane v).lane → acts_of l n.history ≡ acts_of l w.history)
+        → OthersStay (the_lane v).lane w.lanes n.lanes w.stock n.stock → AreSeats z n (slice_set views id u)
+    seats-with u lone_lane sees untold own acts_stay lanes_stay = record {
       records = λ y has. ⊎_elim
-          (λ (here : (has.0 ≡ id) × (w ≡ has.1)).
-          let lone : y ≡ r = in-one y r has.1.lanes (ap (λ (u : View). u.lanes) (sym here.1)) has.3 in subst (IsRecord z seen after) (sym lone) is)
+          (λ (here : (has.0 ≡ id) × (u ≡ has.1)).
+          let lone : y ≡ r = in-one y r has.1.lanes (ap (λ (x : View). x.lanes) (sym here.1) ∙ lone_lane) has.3 in subst (IsRecord z n) (sym lone) is)
           (λ (there : (has.0 ≢ id) × (get_elem? views has.0 ≡ some has.1)).
           let old = seats.records y (has.0, has.1, there.1, has.3) in
           let other = other-lane has.0 has.1 y there.0 there.1 has.3 in
           let stay = lanes_stay y.lane other in record {
             inside = old.inside;
             mine = old.mine ∙ sym (acts_stay y.lane other);
-            under = old.under ∙ sym stay.0;
-            pushed = λ shard. old.pushed shard ∙ sym (stay.1 shard);
-            chain = old.chain ∙ sym stay.2;
+            under = old.under ∙ sym stay.under;
+            pushed = λ shard. old.pushed shard ∙ sym (stay.pushed shard);
+            chain = old.chain ∙ sym stay.chain;
+            deeds = λ place number. old.deeds place number ∙ sym (stay.status place number);
+            cells = λ place. old.cells place ∙ sym (stay.knows place);
           })
-          (at_set views id has.0 w has.1 has.2);
-      seen = λ seat u e. ⊎_elim
-          (λ (here : (seat ≡ id) × (w ≡ u)). subst (λ (y : View). IsPrefix y.seen seen) here.1 (prefix-self seen))
-          (λ (there : (seat ≢ id) × (get_elem? views seat ≡ some u)).
-          prefix-trans u.seen history seen (seats.seen seat u there.1) (made, sym grows))
-          (at_set views id seat w u e);
-      told = λ seat u e. ⊎_elim
-          (λ (here : (seat ≡ id) × (w ≡ u)). subst (λ (y : View). All (λ heard. IsPrefix heard seen) y.told) here.1 (λ k heard below. absurd (omega arith)))
-          (λ (there : (seat ≢ id) × (get_elem? views seat ≡ some u)).
-          prefixes-grow u.told history seen (made, sym grows) (seats.told seat u there.1))
-          (at_set views id seat w u e);
-      own = λ seat u y e among. ⊎_elim
-          (λ (here : (seat ≡ id) × (w ≡ u)).
-          let lone : y ≡ r = in-one y r u.lanes (ap (λ (x : View). x.lanes) (sym here.1)) among in
-          subst (λ (x : LaneRecord). x.mine ≡ acts_of x.lane u.seen) (sym lone) (is.mine ∙ ap (λ (x : View). acts_of r.lane x.seen) here.1))
-          (λ (there : (seat ≢ id) × (get_elem? views seat ≡ some u)). seats.own seat u y there.1 among)
-          (at_set views id seat w u e);
+          (at_set views id has.0 u has.1 has.2);
+      seen = λ seat y e. ⊎_elim
+          (λ (here : (seat ≡ id) × (u ≡ y)). subst (HasSeen n) here.1 sees)
+          (λ (there : (seat ≢ id) × (get_elem? views seat ≡ some y)). seen-still y (seats.seen seat y there.1))
+          (at_set views id seat u y e);
+      told = λ seat y e. ⊎_elim
+          (λ (here : (seat ≡ id) × (u ≡ y)). subst (λ (x : View). All (λ heard. IsPrefix heard n.history) x.told) here.1
+          (All-same (λ heard. IsPrefix heard n.history) u.told [] untold (All-nil (λ heard. IsPrefix heard n.history))))
+          (λ (there : (seat ≢ id) × (get_elem? views seat ≡ some y)).
+          prefixes-grow y.told w.history n.history (made, sym grows) (seats.told seat y there.1))
+          (at_set views id seat u y e);
+      own = λ seat y x e among. ⊎_elim
+          (λ (here : (seat ≡ id) × (u ≡ y)).
+          let lone : x ≡ r = in-one x r y.lanes (ap (λ (a : View). a.lanes) (sym here.1) ∙ lone_lane) among in
+          subst (λ (a : LaneRecord). a.mine ≡ acts_of a.lane y.seen) (sym lone) (own ∙ ap (λ (a : View). acts_of r.lane a.seen) here.1))
+          (λ (there : (seat ≢ id) × (get_elem? views seat ≡ some y)). seats.own seat y x there.1 among)
+          (at_set views id seat u y e);
       once = λ lane.
-          let set = among-set lane views id v w at in
+          let set = among-set lane views id v u at in
           let most = seats.once lane in
           let before = ap (times_in lane) one in
+          let now = ap (times_in lane) lone_lane in
           let like = ap (λ (l : ℕ). let n : ℕ = cond (eqb l lane) 1 0 in n) same in omega arith;
     }
 
-module _ {S : Type 0} (z : Shape) (id : ℕ) (me : Me S View) (one : IsOne me.0) (history : List Act) (lanes : Lanes) (words : List ℕ) (views : List View) (st : Stands z history lanes words views)
+    -- a view that saw all of it
+    seats-after : length n.kept ≡ length n.history → ((l : ℕ) → l ≢ (the_lane v).lane → acts_of l n.history ≡ acts_of l w.history)
+        → OthersStay (the_lane v).lane w.lanes n.lanes w.stock n.stock → AreSeats z n (slice_set views id u)
+    seats-after paired = seats-with u refl record { acts = prefix-self n.history; rooms = prefix-self n.kept; paired = paired } refl is.mine
+
+module _ {T : Type 0} (content : T → List ℕ) (room : T → ℕ) (z : Shape) (id : ℕ) (me : Me (Option (Share T)) View) (one : IsOne me.0) (w : World)
+    (homes : List (maybe.Option (Option (Share T)))) (words : List ℕ) (views : List View) (st : Stands content room z w homes words views)
     (at : get_elem? views id ≡ some me.0) where
-  pub is-at : IsAt z (moment (words_in z words) history lanes) me.0
-  is-at = let p = st.seats.seen id me.0 at in record {
-    record_is = own-record z history lanes views st.seats id me.0 at one;
-    between = p.0;
-    seen = sym p.1;
-    others = none-since z history lanes views st.seats id me.0 at one p.0 p.1;
-  }
+  pub is-point : IsPoint content room z (words_in z words) w (slots_in z homes)
+  is-point = record { rule = st.rule; paired = st.paired; shared = st.shared }
+
+  pub is-at : IsAt z w me.0
+  is-at = seat-at z w views st.seats id me.0 at one st.paired
 
   -- a step on a word of the pool that keeps the rule, after which the seat's lane has this record
-  pub step-stands : (kind : Kind) (word : Word) (value : ℕ) (act : Option Act) (after : Lanes) (r : LaneRecord) → has_word z word ≡ true
-      → Keeps z (moment (words_in z words) history lanes) kind word value act after → IsBy (the_lane me.0).lane act
-      → r.lane ≡ (the_lane me.0).lane → r.mine ≡ (the_lane me.0).mine ++ acts_in act → Agrees r after → OthersStay (the_lane me.0).lane lanes after
-      → Stands z (with_act history act) after (slice_set words (index_in z word) value) (slice_set views id (step_view me.0 r (with_act history act)))
-      × Steps z kind (slice_index words (index_in z word)) value me (step_view me.0 r (with_act history act), me.1) act r
-  step-stands kind word value act after r inside keeps by same mine agrees stay =
+  pub step-stands : (kind : Kind) (word : Word) (value : ℕ) (act : Option Act) (after : Lanes) (stock : Stock) (r : LaneRecord) → has_word z word ≡ true
+      → Keeps z (moment (words_in z words) w.history w.lanes) kind word value act after
+      → Shared content room z (with_act w.history act) (w.kept ++ rooms_in r act) (slots_in z homes) stock → IsBy (the_lane me.0).lane act
+      → r.lane ≡ (the_lane me.0).lane → r.mine ≡ (the_lane me.0).mine ++ acts_in act → Agrees r after stock
+      → OthersStay (the_lane me.0).lane w.lanes after w.stock stock
+      → Stands content room z (world_after w act after stock r) homes (slice_set words (index_in z word) value)
+      (slice_set views id (step_view me.0 r (world_after w act after stock r)))
+      × Steps z kind (slice_index words (index_in z word)) value me (step_view me.0 r (world_after w act after stock r), me.1) act r
+  step-stands kind word value act after stock r inside keeps shared by same mine agrees stay =
       let lane : ℕ = (the_lane me.0).lane in
-      let seen : List Act = with_act history act in
-      let own = own-record z history lanes views st.seats id me.0 at one in
-      let is : IsRecord z seen after r = record {
+      let n : World = world_after w act after stock r in
+      let own = own-record z w views st.seats id me.0 at one in
+      let is : IsRecord z n r = record {
         inside = subst (λ (l : ℕ). l < z.lanes) (sym same) own.inside;
         mine = mine ∙ (ap (λ (acts : List Act). acts ++ acts_in act) own.mine
-            ∙ (sym (acts-own lane history act by) ∙ ap (λ (l : ℕ). acts_of l seen) (sym same)));
+            ∙ (sym (acts-own lane w.history act by) ∙ ap (λ (l : ℕ). acts_of l n.history) (sym same)));
         under = agrees.under;
         pushed = agrees.pushed;
         chain = agrees.chain;
+        deeds = agrees.deeds;
+        cells = agrees.cells;
       } in
-      let grows = act-behind history act in (
+      let grows = act-behind w.history act in
+      let paired = still-paired w.kept w.history act r st.paired in (
         record {
           count = length-set words (index_in z word) value ∙ st.count;
-          rule = subst (λ (w : Words). Rule z (moment w seen after)) (sym (set-word z st.rule.limits words st.count word inside value)) keeps.rule;
-          seats = seats-after z history lanes views st.seats id me.0 at one (acts_in act) seen grows after r is same (me.0.steps + 1) me.0.looks
-              (acts-stay lane history act by) stay;
+          deep = st.deep;
+          paired = paired;
+          rule = subst (λ (ws : Words). Rule z (moment ws n.history after)) (sym (set-word z st.rule.limits words st.count word inside value)) keeps.rule;
+          shared = shared;
+          seats = seats-after z w views st.seats id me.0 at one n (acts_in act) (rooms_in r act) grows refl r is same (me.0.steps + 1) me.0.looks
+              paired (acts-stay lane w.history act by) stay;
         },
         record {
           changes = subst (λ (found : ℕ). Changes z.last_generation kind found value) (value-is z words word inside) keeps.changes;
-          goes = goes-on z history lanes views st.seats id me.0 at one (acts_in act) seen grows after r is same (me.0.steps + 1) me.0.looks
-              keeps.rule.legal;
+          goes = goes-on z w views st.seats id me.0 at one n (acts_in act) (rooms_in r act) grows refl r is same (me.0.steps + 1) me.0.looks
+              st.paired keeps.rule.legal;
           held = refl;
           steps = refl;
           looks = refl;
         },
       )
 
-  -- a look at any word
-  pub look-stands : (index : ℕ) → Stands z history lanes (slice_set words index (slice_index words index)) (slice_set views id (look_view me.0 history)) × Sees z me (look_view me.0 history, me.1)
-  look-stands index =
-      let own = own-record z history lanes views st.seats id me.0 at one in
-      let grows : history ≡ history ++ [] = sym (append-nil history) in (
+  -- a look at any word, after which the slots and the shares are these, and the seat's lane has this record
+  pub look-stands : (index : ℕ) (homes_now : List (maybe.Option (Option (Share T)))) (stock : Stock) (r : LaneRecord) → length homes_now ≡ slot_count z
+      → Shared content room z w.history w.kept (slots_in z homes_now) stock
+      → r.lane ≡ (the_lane me.0).lane → r.mine ≡ (the_lane me.0).mine → Agrees r w.lanes stock
+      → OthersStay (the_lane me.0).lane w.lanes w.lanes w.stock stock
+      → Stands content room z (restocked_world w stock) homes_now (slice_set words index (slice_index words index))
+      (slice_set views id (look_view me.0 r (restocked_world w stock)))
+      × GoesOn z me.0 (look_view me.0 r (restocked_world w stock)) [] [] r
+  look-stands index homes_now stock r deep shared same mine agrees stay =
+      let n : World = restocked_world w stock in
+      let own = own-record z w views st.seats id me.0 at one in
+      let is : IsRecord z n r = record {
+        inside = subst (λ (l : ℕ). l < z.lanes) (sym same) own.inside;
+        mine = mine ∙ (own.mine ∙ ap (λ (l : ℕ). acts_of l w.history) (sym same));
+        under = agrees.under;
+        pushed = agrees.pushed;
+        chain = agrees.chain;
+        deeds = agrees.deeds;
+        cells = agrees.cells;
+      } in
+      let grows : w.history ≡ w.history ++ [] = sym (append-nil w.history) in
+      let more : w.kept ≡ w.kept ++ [] = sym (append-nil w.kept) in (
         record {
           count = length-set words index (slice_index words index) ∙ st.count;
-          rule = subst (λ (ws : List ℕ). Rule z (moment (words_in z ws) history lanes)) (sym (still words index)) st.rule;
-          seats = seats-after z history lanes views st.seats id me.0 at one [] history grows lanes (the_lane me.0) own refl me.0.steps (me.0.looks + 1)
-              (λ l other. refl) (λ l other. (refl, λ shard. refl, refl));
+          deep = deep;
+          paired = st.paired;
+          rule = subst (λ (ws : List ℕ). Rule z (moment (words_in z ws) w.history w.lanes)) (sym (still words index)) st.rule;
+          shared = shared;
+          seats = seats-after z w views st.seats id me.0 at one n [] [] grows more r is same me.0.steps (me.0.looks + 1)
+              st.paired (λ l other. refl) stay;
+        },
+        goes-on z w views st.seats id me.0 at one n [] [] grows more r is same me.0.steps (me.0.looks + 1) st.paired st.rule.legal,
+      )
+
+  -- a look at any word that moves nothing, after which the seat saw this beginning of the history, which begins with what it saw before
+  pub short-stands : (index : ℕ) (seen : List Act) → IsPrefix me.0.seen seen → IsPrefix seen w.history
+      → Stands content room z w homes (slice_set words index (slice_index words index)) (slice_set views id (short_view me.0 w seen))
+      × GoesOn z me.0 (short_view me.0 w seen) [] [] (the_lane me.0)
+  short-stands index seen further begins =
+      let v : View = me.0 in
+      let r : LaneRecord = the_lane v in
+      let u : View = short_view v w seen in
+      let own = own-record z w views st.seats id v at one in
+      let old = st.seats.seen id v at in
+      let mine = st.seats.own id v r at (own-in z w views st.seats id v at one) in
+      let all_seen : acts_of r.lane v.seen ≡ acts_of r.lane seen = acts-between r.lane v.seen seen w.history further begins (sym mine ∙ own.mine) in
+      let none = none-behind r.lane v.seen further.0 seen further.1 all_seen in
+      let length_begins = ap length begins.1 in
+      let begins_split = length-append seen begins.0 in
+      let length_further = ap length further.1 in
+      let further_split = length-append v.seen further.0 in
+      let many : length u.rooms ≡ length seen = length-take-le (length seen) w.kept (omega (arith, st.paired)) in
+      let rooms_begin : IsPrefix u.rooms w.kept = (drop (length seen) w.kept, take-append-drop (length seen) w.kept) in
+      let rooms_further = shorter-begins v.rooms u.rooms w.kept old.rooms rooms_begin (omega (arith, old.paired)) in
+      let rooms_split = length-append v.rooms rooms_further.0 in
+      let rooms_length = ap length rooms_further.1 in (
+        record {
+          count = length-set words index (slice_index words index) ∙ st.count;
+          deep = st.deep;
+          paired = st.paired;
+          rule = subst (λ (ws : List ℕ). Rule z (moment (words_in z ws) w.history w.lanes)) (sym (still words index)) st.rule;
+          shared = st.shared;
+          seats = seats-with z w views st.seats id v at one w [] [] (sym (append-nil w.history)) (sym (append-nil w.kept)) r own refl v.steps (v.looks + 1)
+              u refl record { acts = begins; rooms = rooms_begin; paired = many } refl (mine ∙ all_seen) (λ l other. refl) (λ l other. stays-same l w.lanes w.stock);
         },
         record {
-          goes = goes-on z history lanes views st.seats id me.0 at one [] history grows lanes (the_lane me.0) own refl me.0.steps (me.0.looks + 1)
-              st.rule.legal;
-          held = refl;
-          steps = refl;
-          looks = refl;
+          lanes = refl;
+          between = further.0;
+          seen = sym further.1 ∙ sym (append-nil (v.seen ++ further.0));
+          rooms_between = rooms_further.0;
+          rooms = sym rooms_further.1 ∙ sym (append-nil (v.rooms ++ rooms_further.0));
+          paired = (old.paired, omega (arith, old.paired));
+          others = none;
+          legal = legal-front z fresh seen begins.0 (subst (IsLegal z) (sym begins.1) st.rule.legal);
+          mine = mine ∙ all_seen;
         },
       )

@@ -1,17 +1,69 @@
 -- SEE, through the table.
-use Rattle.std.proofs.Common.{ℕ}
+use Rattle.std.proofs.Common.{◌≡◌, true, [], ◌∷◌, ap, sym, ◌∙◌, ℕ, List, Option, refl}
 use Rattle.atomic_table.specs.Table as table
 use Rattle.atomic_table.specs.Table.{Me, Allows}
 use Rattle.keybits.specs.declared.shape.Shape.{Shape}
+use Rattle.slotcell.specs.Share.{Share}
+use Rattle.poolsteps.specs.declared.view.LaneRecord.{LaneRecord}
 use Rattle.poolsteps.specs.declared.view.View.{View}
-use Rattle.poolsteps.specs.Views.{IsOne}
-use Rattle.poolsteps.specs.Rule.{Kept}
-use Rattle.poolsteps.specs.Told.{Sees}
-use Rattle.poolsteps.proofs.SeatLemmas.{look_view, look-stands}
+use Rattle.poolsteps.specs.Views.{the_lane, IsOne}
+use Rattle.poolsteps.specs.Rule.{World, IsRecord, Kept}
+use Rattle.poolsteps.specs.Told.{Sees, SeesLife}
+use Rattle.std.specs.List.{All}
+use Rattle.std.proofs.lemmas.List.Elements.{All-head}
+use mathlib.Core.List.{IsPrefix}
+use Rattle.keybits.specs.declared.step.Word.TheVariants.{Life}
+use Rattle.keybits.specs.Shapes.{is_place}
+use Rattle.keybits.specs.Words.{generation_in}
+use Rattle.seqpool.specs.declared.act.Act.{Act}
+use Rattle.poolsteps.specs.Layout.{index_in}
+use Rattle.poolsteps.specs.Seats.{longer}
+use Rattle.poolsteps.specs.Returned.{SeesNoFurther}
+use Rattle.poolsteps.proofs.LayoutLemmas.{value-is}
+use Rattle.poolsteps.proofs.ViewLemmas.{prefix-self, longer-begins}
+use Rattle.poolsteps.proofs.SeatLemmas.{short_view, stays-same, short-stands, look_view, Agrees, is-at, look-stands}
 
--- a look at any word is one that the table allows
-pub see-allows : {S : Type 0} (z : Shape) (slots id : ℕ) (me : Me S View) → IsOne me.0 → (index : ℕ)
-    → Allows (Kept z) slots id me index (λ n. n) (λ found after. Sees z me after)
-see-allows z slots id me one index s kept homes at small =
-    let looks = look-stands z id me one kept.0 kept.1 s.words s.views kept.2 at index in
-    (look_view me.0 kept.0, table.keeps, tt, (kept.0, kept.1, looks.0), looks.1)
+-- what is seen then: the longer of what was seen and what was told last, if anything was
+furthest : (told : List (List Act)) (seen history : List Act) → IsPrefix seen history → All (λ heard. IsPrefix heard history) told
+    → (far : List Act) × IsPrefix seen far × IsPrefix far history
+    × ((heard : List Act) (more : List (List Act)) → told ≡ heard ∷ more → far ≡ longer seen heard)
+furthest [] seen history begins all = (seen, prefix-self seen, begins, λ heard more is. absurd (cc is))
+furthest (heard ∷ more) seen history begins all =
+    let most = longer-begins seen heard history begins (All-head (λ h. IsPrefix h history) heard more all) in
+    (longer seen heard, most.1, most.0, λ other rest is. let same : heard ≡ other = cc is in ap (longer seen) same)
+
+-- a record that is so agrees with its world
+pub agrees-now : (z : Shape) (w : World) (r : LaneRecord) → IsRecord z w r → Agrees r w.lanes w.stock
+agrees-now z w r is = record { under = is.under; pushed = is.pushed; chain = is.chain; deeds = is.deeds; cells = is.cells }
+
+-- a look at any word that moves nothing is one that the table allows
+pub see-allows : {T : Type 0} (content : T → List ℕ) (room : T → ℕ) (z : Shape) (slots id : ℕ) (me : Me (Option (Share T)) View) → IsOne me.0 → (index : ℕ)
+    → Allows (Kept content room z) slots id me index (λ n. n) (λ found after. Sees z me after)
+see-allows content room z slots id me one index s kept homes at small =
+    let w : World = kept.0 in
+    let st = kept.1 in
+    let here = is-at content room z id me one w s.homes s.words s.views st at in
+    let looks = look-stands content room z id me one w s.homes s.words s.views st at index s.homes w.stock (the_lane me.0) st.deep st.shared refl refl
+    (agrees-now z w (the_lane me.0) here.record_is) (λ l other. stays-same l w.lanes w.stock) in
+    (look_view me.0 (the_lane me.0) w, table.keeps, tt, (w, looks.0), record { goes = looks.1; held = refl; steps = refl; looks = refl })
+
+-- a look at the lifecycle word of a place
+pub see-life-allows : {T : Type 0} (content : T → List ℕ) (room : T → ℕ) (z : Shape) (slots id : ℕ) (me : Me (Option (Share T)) View) → IsOne me.0 → (place : ℕ)
+    → is_place z place ≡ true → Allows (Kept content room z) slots id me (index_in z (Life place)) (λ n. n) (SeesLife z place me)
+unfolding see-allows
+see-life-allows content room z slots id me one place inside s kept homes at small =
+    let sees = see-allows content room z slots id me one (index_in z (Life place)) s kept homes at small in
+    let w : World = kept.0 in
+    let told = ap generation_in (sym (value-is z s.words (Life place) inside)) ∙ (kept.1.rule.state place inside).1 in
+    (sees.0, sees.1, sees.2, sees.3, (sees.4, told))
+
+-- a look at any word that sees no further than what was told last
+pub see-no-further-allows : {T : Type 0} (content : T → List ℕ) (room : T → ℕ) (z : Shape) (slots id : ℕ) (me : Me (Option (Share T)) View) → IsOne me.0 → (index : ℕ)
+    → Allows (Kept content room z) slots id me index (λ n. n) (λ found after. SeesNoFurther z me after)
+see-no-further-allows content room z slots id me one index s kept homes at small =
+    let w : World = kept.0 in
+    let st = kept.1 in
+    let old = (st.seats.seen id me.0 at).acts in
+    let far = furthest me.0.told me.0.seen w.history old (st.seats.told id me.0 at) in
+    let looks = short-stands content room z id me one w s.homes s.words s.views st at index far.0 far.1 far.2 in
+    (short_view me.0 w far.0, table.keeps, tt, (w, looks.0), (record { goes = looks.1; held = refl; steps = refl; looks = refl }, far.3))

@@ -100,11 +100,11 @@ among-two lane (x ∷ more) (suc seat) (suc other) v w apart at there = let rest
 
 -- ---- histories
 
-pub prefix-self : (history : List Act) → IsPrefix history history
+pub prefix-self : {A : Type 0} (history : List A) → IsPrefix history history
 prefix-self history = ([], append-nil history)
 
-pub prefix-trans : (first second third : List Act) → IsPrefix first second → IsPrefix second third → IsPrefix first third
-prefix-trans first second third p q = (p.0 ++ q.0, sym (append_assoc first p.0 q.0) ∙ (ap (λ (acts : List Act). acts ++ q.0) p.1 ∙ q.1))
+pub prefix-trans : {A : Type 0} (first second third : List A) → IsPrefix first second → IsPrefix second third → IsPrefix first third
+prefix-trans {A} first second third p q = (p.0 ++ q.0, sym (append_assoc first p.0 q.0) ∙ (ap (λ (entries : List A). entries ++ q.0) p.1 ∙ q.1))
 
 -- the act of a step stands behind the history
 pub act-behind : (history : List Act) (act : Option Act) → with_act history act ≡ history ++ acts_in act
@@ -137,7 +137,7 @@ acts-between lane seen middle history p q same =
     ∙ (sym (acts-append lane seen p.0) ∙ ap (acts_of lane) p.1))
 
 -- of two beginnings of a history the shorter begins the longer
-shorter-begins : (xs ys history : List Act) → IsPrefix xs history → IsPrefix ys history → length xs ≤ length ys → IsPrefix xs ys
+pub shorter-begins : {A : Type 0} (xs ys history : List A) → IsPrefix xs history → IsPrefix ys history → length xs ≤ length ys → IsPrefix xs ys
 shorter-begins [] ys history p q less = (ys, refl)
 shorter-begins (x ∷ xs) [] history p q less = absurd (omega arith)
 shorter-begins (x ∷ xs) (y ∷ ys) [] p q less = absurd (cc p.1)
@@ -146,17 +146,17 @@ shorter-begins (x ∷ xs) (y ∷ ys) (act ∷ history) p q less =
     let rest = shorter-begins xs ys history (p.0, cc p.1) (q.0, cc q.1) (omega arith) in (rest.0, cc (heads, rest.1))
 
 -- this is a beginning of the history, and begins with each of these
-abbrev pub BeginsWith : List Act → List Act → List Act → List Act → Type 0
+abbrev pub BeginsWith : {A : Type 0} → List A → List A → List A → List A → Type 0
 BeginsWith history xs ys most = IsPrefix most history × IsPrefix xs most × IsPrefix ys most
 
-longer-of : (less : Bool) (xs ys history : List Act) → ltb (length xs) (length ys) ≡ less → IsPrefix xs history → IsPrefix ys history
+longer-of : {A : Type 0} (less : Bool) (xs ys history : List A) → ltb (length xs) (length ys) ≡ less → IsPrefix xs history → IsPrefix ys history
     → BeginsWith history xs ys (cond less ys xs)
 longer-of true xs ys history is p q =
     let below = ltb-true (length xs) (length ys) is in (q, shorter-begins xs ys history p q (omega arith), prefix-self ys)
 longer-of false xs ys history is p q = (p, prefix-self xs, shorter-begins ys xs history q p (ltb-false (length xs) (length ys) is))
 
 -- the longer of two beginnings of a history does
-pub longer-begins : (xs ys history : List Act) → IsPrefix xs history → IsPrefix ys history → BeginsWith history xs ys (longer xs ys)
+pub longer-begins : {A : Type 0} (xs ys history : List A) → IsPrefix xs history → IsPrefix ys history → BeginsWith history xs ys (longer xs ys)
 longer-begins xs ys history p q = longer-of (ltb (length xs) (length ys)) xs ys history refl p q
 
 -- what begins a history begins a longer one

@@ -1,28 +1,30 @@
 -- What grids, hands and spots are to each other.
 use mathlib.Core.List.{IsPrefix}
-use Rattle.seqpool.specs.declared.act.Act.{Act}
-use Rattle.steplaws.specs.Facts.{Lanes, moment, Rule}
-use Rattle.poolsteps.specs.Rule.{IsRecord}
-use Rattle.std.specs.Prelude.{◌≡◌, ◌<◌, ℕ, true, List, [], ◌∷◌, length, slice_get, Some}
+use mathlib.Core.Option as maybe
+use lib.ListN.{get_elem?}
+use Rattle.slotcell.specs.Share.{Share}
+use Rattle.poolsteps.specs.Rule.{World, IsRecord, Stands}
+use Rattle.std.specs.Prelude.{◌≡◌, ◌<◌, ℕ, true, List, [], ◌∷◌, length, slice_get, Option, Some}
 use Rattle.atomic_table.specs.declared.shared.Seat.{Seat}
 use Rattle.keybits.specs.declared.shape.Shape.{Shape}
 use Rattle.keybits.specs.declared.step.Word.TheVariants.{Life, Link}
-use Rattle.keybits.specs.Shapes.{is_place}
+use Rattle.keybits.specs.Shapes.{position_of, is_place}
 use Rattle.poolsteps.specs.declared.grid.Spot.{Spot}
 use Rattle.poolsteps.specs.declared.grid.Grid.{Grid}
 use Rattle.poolsteps.specs.declared.view.View.{View}
-use Rattle.poolsteps.specs.Layout.{index_in, words_in}
+use Rattle.poolsteps.specs.Layout.{index_in}
 use Rattle.poolsteps.specs.Views.{first_record, the_lane, IsOne}
 
 -- the spot is that of this place of the shape
 pub record IsSpot (z : Shape) (spot : Spot) (place : ℕ) : Type 0 where
   pub place_is : spot.place ≡ place
   pub inside : is_place z place ≡ true
+  pub position : spot.position ≡ position_of z place
   pub life : spot.life ≡ index_in z (Life place)
   pub link : spot.link ≡ index_in z (Link place)
 
 -- the hand is one of the grid
-abbrev pub IsOf : {S : Type 0} → Grid → Seat S View → Type 0
+abbrev pub IsOf : {T : Type 0} → Grid T → Seat (Option (Share T)) View → Type 0
 IsOf grid hand = hand.table_id ≡ grid.table.shared.table_id
 
 -- it is the same seat of the same table
@@ -30,21 +32,26 @@ abbrev pub SameSeat : {S : Type 0} → Seat S View → Seat S View → Type 0
 SameSeat old new = (new.table_id ≡ old.table_id) × (new.id ≡ old.id)
 
 -- the hand of this lane of the grid, before its first step
-abbrev pub IsFirstHand : {S : Type 0} → Grid → ℕ → Seat S View → Type 0
-IsFirstHand grid lane hand = IsOf grid hand × (hand.me ≡ (record { lanes = first_record lane ∷ []; seen = []; told = []; steps = 0; looks = 0 }, []))
+abbrev pub IsFirstHand : {T : Type 0} → Grid T → ℕ → Seat (Option (Share T)) View → Type 0
+IsFirstHand grid lane hand = IsOf grid hand × (hand.me ≡ (record { lanes = first_record lane ∷ []; seen = []; rooms = []; told = []; steps = 0; looks = 0 }, []))
 
 -- these are the hands of all lanes of the grid, by rising number, before their first steps
-pub record AreFirstHands {S : Type 0} (grid : Grid) (hands : List (Seat S View)) : Type 0 where
+pub record AreFirstHands {T : Type 0} (grid : Grid T) (hands : List (Seat (Option (Share T)) View)) : Type 0 where
   pub count : length hands ≡ grid.shape.lanes
-  pub each : (lane : ℕ) (hand : Seat S View) → slice_get hands lane ≡ Some hand → IsFirstHand grid lane hand
+  pub each : (lane : ℕ) (hand : Seat (Option (Share T)) View) → slice_get hands lane ≡ Some hand → IsFirstHand grid lane hand
 
 -- these are hands of the grid, at least one
-pub record AreHands {S : Type 0} (grid : Grid) (hands : List (Seat S View)) : Type 0 where
+pub record AreHands {T : Type 0} (grid : Grid T) (hands : List (Seat (Option (Share T)) View)) : Type 0 where
   pub some_hand : 0 < length hands
-  pub each : (index : ℕ) (hand : Seat S View) → slice_get hands index ≡ Some hand → IsOf grid hand × IsOne hand.me.0 × (hand.me.1 ≡ [])
+  pub each : (index : ℕ) (hand : Seat (Option (Share T)) View) → slice_get hands index ≡ Some hand → IsOf grid hand × IsOne hand.me.0 × (hand.me.1 ≡ [])
 
--- the rule holds of these last words with this history, which begins with what each hand saw and has just the acts of its lane
-pub record EndsWith {S : Type 0} (grid : Grid) (hands : List (Seat S View)) (words : List ℕ) (history : List Act) (lanes : Lanes) : Type 0 where
-  pub rule : Rule grid.shape (moment (words_in grid.shape words) history lanes)
-  pub seen : (index : ℕ) (hand : Seat S View) → slice_get hands index ≡ Some hand → IsPrefix hand.me.0.seen history
-  pub records : (index : ℕ) (hand : Seat S View) → slice_get hands index ≡ Some hand → IsRecord grid.shape history lanes (the_lane hand.me.0)
+-- the rule holds of these last words and slots with this world, whose history begins with what each hand saw and has just the acts of its lane
+pub record EndsWith {T : Type 0} (content : T → List ℕ) (room : T → ℕ) (grid : Grid T) (hands : List (Seat (Option (Share T)) View))
+    (words : List ℕ) (slots : List (Option (Share T))) (w : World) : Type 0 where
+  -- the slots that no hand has
+  pub homes : List (maybe.Option (Option (Share T)))
+  pub at_home : (index : ℕ) (value : Option (Share T)) → get_elem? homes index ≡ maybe.some (maybe.some value) → get_elem? slots index ≡ maybe.some value
+  pub views : List View
+  pub stands : Stands content room grid.shape w homes words views
+  pub seen : (index : ℕ) (hand : Seat (Option (Share T)) View) → slice_get hands index ≡ Some hand → IsPrefix hand.me.0.seen w.history
+  pub records : (index : ℕ) (hand : Seat (Option (Share T)) View) → slice_get hands index ≡ Some hand → IsRecord grid.shape w (the_lane hand.me.0)

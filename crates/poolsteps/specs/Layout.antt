@@ -1,12 +1,17 @@
--- Where each word of a pool stands among the words of a table.
-use Rattle.std.specs.Prelude.{◌&&◌, ℕ, ◌+◌, ◌*◌, Bool, nat_lt, List, slice_index, if◌then◌else◌}
+-- Where each word of a pool stands among the words of a table, and each slot among its slots.
+use Rattle.std.specs.Prelude.{◌&&◌, ℕ, zero, suc, ◌+◌, ◌*◌, ◌%◌, Bool, nat_lt, List, [], ◌∷◌, ◌++◌, Option, slice_index, if◌then◌else◌}
+use mathlib.Core.Option as maybe
+use lib.ListN.{get_elem?}
 use Rattle.keybits.specs.declared.shape.Shape.{Shape}
 use Rattle.keybits.specs.declared.step.Word.{Word}
 use Rattle.keybits.specs.declared.step.Word.TheVariants.{Life, Link, Stack}
 use Rattle.keybits.specs.Places.{shard_of}
-use Rattle.keybits.specs.Shapes.{shard_places, index_of, is_place}
+use Rattle.keybits.specs.Shapes.{page_size, shard_places, all_places, index_of, position_of, is_place}
+use Rattle.slotcell.specs.Share.{Share}
+use Rattle.sharelaws.specs.Shares.{Slots}
 use Rattle.steplaws.specs.Facts.{Words}
-use Rattle.poolsteps.specs.declared.layout.TheConstants.{WORDS_APART}
+use Rattle.poolsteps.specs.declared.layout.PageRow.{PageRow}
+use Rattle.poolsteps.specs.declared.layout.TheConstants.{WORDS_APART, ROWS_APART}
 
 -- a word of the lane's own, which no step changes
 abbrev pub look_word : ℕ → ℕ
@@ -47,3 +52,30 @@ words_in z words = record {
   link = λ place. value_in z words (Link place);
   stack = λ shard lane. value_in z words (Stack shard lane);
 }
+
+-- where the places of a page stand, of those counted over all shards, 16 to each: those of its first place, and none where the shape has no such page
+abbrev pub page_row : Shape → ℕ → PageRow
+page_row z page = if nat_lt (page % 16) z.pages
+    then record { places = page_size z (page % 16); position = position_of z (4096 * page); life = index_in z (Life (4096 * page)); link = index_in z (Link (4096 * page)) }
+    else record { places = 0; position = 0; life = 0; link = 0 }
+
+-- the rows of so many pages
+abbrev pub page_rows : Shape → ℕ → List PageRow
+page_rows z zero = []
+page_rows z (suc pages) = page_rows z pages ++ page_row z pages ∷ []
+
+-- how many slots stand between those of a place for two lanes that follow each other
+abbrev pub slot_row : Shape → ℕ
+slot_row z = all_places z + ROWS_APART
+
+-- how many slots there are
+abbrev pub slot_count : Shape → ℕ
+slot_count z = z.lanes * slot_row z
+
+-- where the slot of a place and a lane stands
+abbrev pub slot_index : Shape → ℕ → ℕ → ℕ
+slot_index z place lane = lane * slot_row z + position_of z place
+
+-- the slots of the pool, in this row of slots
+abbrev pub slots_in : {T : Type 0} → Shape → List (maybe.Option (Option (Share T))) → Slots T
+slots_in z homes place lane = if is_place z place && nat_lt lane z.lanes then get_elem? homes (slot_index z place lane) else maybe.none

@@ -3,7 +3,7 @@ pub mod Views
 pub mod Rule
 pub mod Told
 pub mod Seats
+pub mod Moved
 pub mod Grids
 pub mod Returned
 pub mod ViewLaws
-pub mod Hands

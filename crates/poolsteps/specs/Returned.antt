@@ -10,13 +10,18 @@ use Rattle.keybits.specs.Shapes.{is_place}
 use Rattle.keybits.specs.Links.{link_to, linked_place}
 use Rattle.seqpool.specs.declared.act.Act.{Act}
 use Rattle.seqpool.specs.declared.act.Act.TheVariants as acts
+use Rattle.seqpool.specs.Pool.{has}
+use Rattle.sharelaws.specs.declared.stored.Stored.{Stored}
+use Rattle.sharelaws.specs.Shares.{room_of, at_rest}
 use Rattle.steplaws.specs.declared.pending.Pending.{Pending}
 use Rattle.steplaws.specs.declared.pending.Pending.TheVariants.{Nothing, Undo, Owes, Returns}
 use Rattle.steplaws.specs.Facts.{home_in, returner}
+use Rattle.poolsteps.specs.declared.view.Deed.TheVariants.{Returned, Collected}
 use Rattle.poolsteps.specs.declared.view.LaneRecord.{LaneRecord}
 use Rattle.poolsteps.specs.declared.view.View.{View}
-use Rattle.poolsteps.specs.Views.{the_lane, pushed_in}
-use Rattle.poolsteps.specs.Told.{Steps, Sees}
+use Rattle.poolsteps.specs.Views.{the_lane, pushed_in, status_of, known_of}
+use Rattle.poolsteps.specs.Seats.{longer}
+use Rattle.poolsteps.specs.Told.{Steps, Sees, HasPlace}
 
 -- ---- the record after each step
 
@@ -30,11 +35,22 @@ pushed_record r place = record r {
   mine = r.mine ++ acts.Home r.lane place ∷ [];
   under = Nothing;
   pushed = (shard_of place, link_to place) ∷ r.pushed;
+  deeds = Returned place ∷ r.deeds;
 }
 
--- after a TAKE of these places
-abbrev pub taken_record : LaneRecord → List ℕ → LaneRecord
-taken_record r places = record r { mine = r.mine ++ acts.Collect r.lane places ∷ []; chain = places }
+-- these cells of places are known, and the others as before
+abbrev pub with_cells : (ℕ → Stored) → List ℕ → List (ℕ × Stored) → List (ℕ × Stored)
+with_cells stored [] cells = cells
+with_cells stored (place ∷ more) cells = (place, stored place) ∷ with_cells stored more cells
+
+-- after a TAKE of these places, with these cells
+abbrev pub taken_record : LaneRecord → List ℕ → (ℕ → Stored) → LaneRecord
+taken_record r places stored = record r {
+  mine = r.mine ++ acts.Collect r.lane places ∷ [];
+  chain = places;
+  deeds = Collected places ∷ r.deeds;
+  cells = with_cells stored places r.cells;
+}
 
 -- the places but the first
 abbrev pub rest_of : List ℕ → List ℕ
@@ -47,13 +63,14 @@ followed_record r = record r { chain = rest_of r.chain }
 
 -- ---- what the steps ask
 
--- the place that is to be returned, what was linked, and whether a PUSH of it failed
+-- the place that is to be returned
 abbrev pub place_under : Pending → ℕ
 place_under Nothing = 0
 place_under (Undo key hit) = 0
 place_under (Owes place generation) = 0
 place_under (Returns place linked failed) = place
 
+-- whether a PUSH of it failed
 abbrev pub failed_under : Pending → Bool
 failed_under Nothing = false
 failed_under (Undo key hit) = false
@@ -67,6 +84,12 @@ IsToReturn v place linked = (the_lane v).under ≡ Returns place linked (failed_
 -- the top that a PUSH of the lane expects: the word that it last pushed there, and 0 after a PUSH that failed
 abbrev pub AimsAt : LaneRecord → ℕ → ℕ → Type 0
 AimsAt r place top = ((failed_under r.under ≡ false) × (top ≡ pushed_in r.pushed (shard_of place))) ⊎ ((failed_under r.under ≡ true) × (top ≡ 0))
+
+-- by what the seat saw and knows, the place is at rest: whole, with empty content and at least its room
+pub record IsAtRest (z : Shape) (v : View) (place : ℕ) : Type 0 where
+  pub slots : (number : ℕ) → number < z.lanes → status_of (the_lane v) place number ≡ at_rest place number
+  pub empty : (known_of (the_lane v) place).content ≡ []
+  pub room : room_of v.seen v.rooms place ≤ (known_of (the_lane v) place).room
 
 -- a word that leads to these places of a shard, or to the end where there are none
 abbrev pub LeadsTo : Shape → ℕ → ℕ → List ℕ → Type 0
@@ -92,12 +115,13 @@ module _ {S : Type 0} (z : Shape) where
       (found ≡ top → Steps z (kinds.Push top link) found link before after (Some (acts.Home r.lane place)) (pushed_record r place))
       × (found ≢ top → (found ≡ 0) × (failed_under r.under ≡ false) × Steps z (kinds.Push top link) found found before after None (with_return r place None true))
 
-  -- TAKE of the stack of another lane: what it pushed there becomes the taken chain; where it is empty, none of its returns is home
+  -- TAKE of the stack of another lane: what it pushed there becomes the taken chain, with all shares of its places, at rest, whose cells are then known; where it is empty, none of its returns is home
   abbrev pub Takes : ℕ → Me S View → ℕ → Me S View → Type 0
   Takes from before found after = let r : LaneRecord = the_lane before.0 in
       (found ≡ 0 → NoneFrom z after.0.seen r.lane from × Steps z kinds.Take found 0 before after None r)
-      × (found ≢ 0 → (places : List ℕ) × (0 < length places) × LeadsTo z r.lane found places
-      × Steps z kinds.Take found 0 before after (Some (acts.Collect r.lane places)) (taken_record r places))
+      × (found ≢ 0 → (places : List ℕ) × (stored : ℕ → Stored) × (0 < length places) × LeadsTo z r.lane found places
+      × ((place : ℕ) → has places place ≡ true → HasPlace z after.0 place × ((stored place).content ≡ []) × (room_of after.0.seen after.0.rooms place ≤ (stored place).room))
+      × Steps z kinds.Take found 0 before after (Some (acts.Collect r.lane places)) (taken_record r places stored))
 
   -- FOLLOW: the link word of the chain's first place leads to its rest
   abbrev pub Follows : Me S View → ℕ → Me S View → Type 0
@@ -107,3 +131,8 @@ module _ {S : Type 0} (z : Shape) where
   -- a look, after which the seat saw all that it was told
   abbrev pub SeesTold : Me S View → Me S View → Type 0
   SeesTold before after = Sees z before after × All (λ heard. IsPrefix heard after.0.seen) before.0.told
+
+  -- a look after which the seat saw no further than it had, or than it was told last
+  abbrev pub SeesNoFurther : Me S View → Me S View → Type 0
+  SeesNoFurther before after = Sees z before after
+      × ((heard : List Act) (more : List (List Act)) → before.0.told ≡ heard ∷ more → after.0.seen ≡ longer before.0.seen heard)

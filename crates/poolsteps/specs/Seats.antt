@@ -1,6 +1,5 @@
 -- How seats are cut and joined.
 use Rattle.std.specs.Prelude.{List, [], ◌∷◌, ◌++◌, length, nat_lt, if◌then◌else◌}
-use Rattle.seqpool.specs.declared.act.Act.{Act}
 use Rattle.poolsteps.specs.declared.view.LaneRecord.{LaneRecord}
 use Rattle.poolsteps.specs.declared.view.View.{View}
 
@@ -20,24 +19,24 @@ without_first v = record v { lanes = others_of v.lanes }
 
 -- the first lane of a seat
 abbrev pub first_alone : View → View
-first_alone v = record { lanes = first_of v.lanes; seen = v.seen; told = []; steps = 0; looks = 0 }
+first_alone v = record { lanes = first_of v.lanes; seen = v.seen; rooms = v.rooms; told = []; steps = 0; looks = 0 }
 
 -- a note: what was seen, and no lane
 abbrev pub note_of : View → View
-note_of v = record { lanes = []; seen = v.seen; told = []; steps = 0; looks = 0 }
+note_of v = record { lanes = []; seen = v.seen; rooms = v.rooms; told = []; steps = 0; looks = 0 }
 
 -- a seat that is told what another saw
 abbrev pub told_by : View → View → View
 told_by v w = record v { told = w.seen ∷ v.told }
 
--- the longer of two histories
-abbrev pub longer : List Act → List Act → List Act
+-- the longer of two lists
+abbrev pub longer : {A : Type 0} → List A → List A → List A
 longer xs ys = if nat_lt (length xs) (length ys) then ys else xs
 
 -- the lanes of two seats at one; it is told what both saw
 abbrev pub both_of : View → View → View
-both_of v w = record v { lanes = v.lanes ++ w.lanes; seen = longer v.seen w.seen; told = v.seen ∷ w.seen ∷ v.told ++ w.told }
+both_of v w = record v { lanes = v.lanes ++ w.lanes; seen = longer v.seen w.seen; rooms = longer v.rooms w.rooms; told = v.seen ∷ w.seen ∷ v.told ++ w.told }
 
 -- a seat that was joined to another
 abbrev pub spent : View
-spent = record { lanes = []; seen = []; told = []; steps = 0; looks = 0 }
+spent = record { lanes = []; seen = []; rooms = []; told = []; steps = 0; looks = 0 }

@@ -1,35 +1,45 @@
 //! The table of a pool, the hands of its lanes, and where the words of a place stand.
-ghost use Rattle.std.specs.Prelude.{◌≡◌};
+ghost use Rattle.std.specs.Prelude.{◌≡◌, ◌*◌};
 ghost use Rattle.keybits.specs.Shapes.{IsShape};
 ghost use Rattle.keybits.specs.SameShapes.{IsShape-prop};
-ghost use Rattle.poolsteps.specs.Layout.{word_count};
+ghost use Rattle.poolsteps.specs.Layout.{word_count, page_rows, slot_count, slot_row};
 
+use crate::layout::PageRow;
 use crate::plays::PoolRule;
 use crate::view::View;
 use atomic_table::{Seat, Table};
 use keybits::Shape;
+use slotcell::{Clear, Slot};
 use std::alloc::Global;
 
 /// A lane's seat at the table of its pool.
-pub type Hand = Seat<(), View>;
+pub type Hand<T> = Seat<Slot<T>, View>;
 
-/// A place of a pool, and where its words stand.
+/// A place of a pool, and where its words and its slots stand.
 #[derive(Clone, Copy, Debug, PartialEq, Eq)]
 pub struct Spot {
     /// The place's number.
     pub place: u32,
+    pub(crate) position: usize,
     pub(crate) life: usize,
     pub(crate) link: usize,
 }
 
-/// The words of a pool in one table.
+/// The words of a pool in one table, and a slot for each place and lane.
 #[derive(Drop)]
-pub struct Grid {
+pub struct Grid<T: Clear> {
     /// The table.
-    pub table: Table<(), View, Shape, PoolRule, Global>,
-    pub(crate) shape: Shape,
+    pub table: Table<Slot<T>, View, Shape, PoolRule, Global>,
+    /// The pool's shape.
+    pub shape: Shape,
+    /// How many slots stand between those of a place for two lanes that follow each other.
+    pub row: usize,
+    /// Where the places of each page stand.
+    pub pages: Vec<PageRow>,
     ghost shape_is: { table.shared.key ≡ shape },
     ghost checked: { IsShape shape } by { IsShape-prop shape },
     ghost sized: { table.shared.table_id.words ≡ word_count shape },
-    ghost slotless: { table.shared.table_id.slots ≡ 0 },
+    ghost deep: { table.shared.table_id.slots ≡ slot_count shape },
+    ghost pages_are: { pages.items ≡ page_rows shape (16 * shape.lanes) },
+    ghost row_is: { row ≡ slot_row shape },
 }

@@ -1,18 +1,23 @@
-//! Where each word of a pool stands among the words of its table: words that different lanes change by themselves stand 64
-//! bytes apart. No step changes the first words: the very first is read where seats are cut and joined, and behind it
+//! Where each word of a pool stands among the words of its table, and each slot among its slots: words that different lanes
+//! change by themselves stand 64 bytes apart. No step changes the first words: the very first is read where seats are cut and joined, and behind it
 //! each lane has one that it looks at.
-ghost use Rattle.std.specs.Prelude.{◌≡◌, ◌<◌, true, length, IfSome};
-ghost use Rattle.keybits.specs.Shapes.{IsShape, is_place};
+ghost use Rattle.std.specs.Prelude.{◌≡◌, ◌<◌, ◌*◌, ℕ, true, None, List, Option, length, slice_get, Some, IfSome};
+ghost use Rattle.keybits.specs.Shapes.{IsShape, position_of, is_place};
 ghost use Rattle.keybits.specs.Places.{shard_of};
 ghost use Rattle.keybits.specs.declared.step.Word.TheVariants as words;
-ghost use Rattle.poolsteps.specs.Layout.{index_in, look_word, lives_start, shard_words, word_count, words_in};
+ghost use Rattle.slotcell.specs.Share.{Share};
+ghost use Rattle.poolsteps.specs.Layout.{index_in, look_word, lives_start, shard_words, word_count, words_in, page_row, page_rows, slot_row, slot_count, slot_index};
 ghost use Rattle.steplaws.specs.MomentLaws.{AreFirst};
 
 use keybits::{Life, Shape, State, shard_of};
+use slotcell::Slot;
 use std::alloc::Global;
 
 /// How many words stand between two that different lanes change by themselves.
 pub const WORDS_APART: usize = 8;
+
+/// How many slots stand unused behind those of each lane, so that the rows of lanes don't meet in a processor's cache.
+pub const ROWS_APART: usize = 4;
 
 /// Where the lifecycle word of the first place stands.
 pub(crate) fn lives_start(shape: &Shape) -> usize
@@ -39,27 +44,16 @@ pub(crate) fn word_count(shape: &Shape) -> usize
     lives_start(shape) + shape.lanes as usize * shard_words(shape)
 }
 
-/// Where the lifecycle word of a place stands.
-pub(crate) fn life_word(shape: &Shape, place: u32) -> usize
+/// Where the lifecycle word of a place stands, which has this position among the places of the pool.
+pub(crate) fn life_word(shape: &Shape, place: u32, position: usize) -> usize
     requires shape { IsShape shape.now }
     requires place { is_place shape.now place ≡ true }
+    requires position { position ≡ position_of shape.now place }
     ensures word { result ≡ index_in shape.now (words.Life place) }
     ensures inside { result < word_count shape.now }
 {
-    lives_start(shape) + shard_of(place) as usize * shard_words(shape) + shape.index(place)
-}
-
-/// Where the link word of a place stands.
-pub(crate) fn link_word(shape: &Shape, place: u32) -> usize
-    requires shape { IsShape shape.now }
-    requires place { is_place shape.now place ≡ true }
-    ensures word { result ≡ index_in shape.now (words.Link place) }
-    ensures inside { result < word_count shape.now }
-{
-    lives_start(shape)
-        + shard_of(place) as usize * shard_words(shape)
-        + shape.shard_places() as usize
-        + shape.index(place)
+    let apart = shape.shard_places() as usize + WORDS_APART;
+    lives_start(shape) + position + shard_of(place) as usize * apart
 }
 
 /// Where the stack word of a shard and another lane stands.
@@ -81,6 +75,65 @@ pub(crate) fn look_word(lane: u32) -> usize
     WORDS_APART * (1 + lane as usize)
 }
 
+/// How many slots stand between those of a place for two lanes that follow each other.
+pub(crate) fn slot_row(shape: &Shape) -> usize
+    requires { IsShape shape.now }
+    ensures { result ≡ slot_row shape.now }
+{
+    shape.all_places() as usize + ROWS_APART
+}
+
+/// Where the places of a page stand: those of its first place.
+#[derive(Clone, Copy, Debug, PartialEq, Eq)]
+pub struct PageRow {
+    /// How many places the page has; 0 where the shape has no such page.
+    pub places: u32,
+    /// The position of its first place among all places.
+    pub position: usize,
+    /// Where the lifecycle word of its first place stands.
+    pub life: usize,
+    /// Where the link word of its first place stands.
+    pub link: usize,
+}
+
+/// The rows of all pages, 16 to a shard. None where memory was refused.
+pub(crate) fn page_rows(alloc: Global, shape: &Shape) -> Option<Vec<PageRow>>
+    requires { IsShape shape.now }
+    ensures { IfSome result (λ rows. rows.items ≡ page_rows shape.now (16 * shape.now.lanes)) }
+{
+    let count = 16 * shape.lanes;
+    let mut rows = Vec::with_capacity(alloc, count as usize).ok()?;
+    for page in 0..count {
+        rows.push_reserved(page_row(shape, page));
+    }
+    Some(rows)
+}
+
+/// The row of a page, counted over all shards, 16 to each.
+fn page_row(shape: &Shape, page: u32) -> PageRow
+    requires shape { IsShape shape.now }
+    requires page { page < 16 * shape.now.lanes }
+    ensures { result ≡ page_row shape.now page }
+{
+    if page % 16 >= shape.pages {
+        return PageRow {
+            places: 0,
+            position: 0,
+            life: 0,
+            link: 0,
+        };
+    }
+    let first = page << 12;
+    let position = shape.position(first);
+    let life = life_word(shape, first, position);
+    PageRow {
+        places: shape.page_size(page % 16),
+        position,
+        life,
+        link: life + shape.shard_places() as usize,
+    }
+}
+
 /// The words before the first step: each lifecycle word is that of generation 1, idle, with count 0, and every other is 0.
 pub(crate) fn first_words(alloc: Global, shape: &Shape) -> Option<Vec<u64>>
     requires { IsShape shape.now }
@@ -94,7 +147,21 @@ pub(crate) fn first_words(alloc: Global, shape: &Shape) -> Option<Vec<u64>>
     };
     let mut words = vec![in alloc; 0; word_count(shape)].ok()?;
     for position in 0..shape.all_places() {
-        words[life_word(shape, shape.place_at(position))] = fresh.word();
+        words[life_word(shape, shape.place_at(position), position)] = fresh.word();
     }
     Some(words)
+}
+
+/// The slots before the first step: none has a share.
+pub(crate) fn first_slots<T>(alloc: Global, shape: &Shape) -> Option<Vec<Slot<T>>>
+    requires { IsShape shape.now }
+    ensures count { IfSome result (λ slots. length slots.items ≡ slot_count shape.now) }
+    ensures empty { IfSome result (λ slots. (index : ℕ) (slot : Option (Share T)) → slice_get slots.items index ≡ Some slot → slot ≡ None) }
+{
+    let count = shape.lanes as usize * slot_row(shape);
+    let mut slots = Vec::with_capacity(alloc, count).ok()?;
+    for _ in 0..count {
+        slots.push_reserved(Slot::empty());
+    }
+    Some(slots)
 }

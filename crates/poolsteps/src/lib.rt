@@ -1,10 +1,11 @@
-//! The atomic steps of a sharded object pool, over the words of one table: each is one call that keeps what holds between
-//! any two steps.
+//! The atomic steps of a sharded object pool, and the moves of its shares, over the words and the slots of one table: each is
+//! one call that keeps what holds between any two steps.
 #![tactic(auto)]
 
 mod grid;
 mod laws;
 mod layout;
+mod moves;
 mod notes;
 mod opening;
 mod plays;
@@ -13,10 +14,10 @@ mod steps;
 mod view;
 
 pub use grid::{Grid, Hand, Spot};
-pub use laws::references_law;
-pub use layout::WORDS_APART;
+pub use laws::{acts_law, references_law, shares_law};
+pub use layout::{PageRow, ROWS_APART, WORDS_APART};
 pub use plays::{PoolRule, Purpose};
-pub use view::{LaneRecord, View};
+pub use view::{Deed, LaneRecord, View};
 
 #[cfg(test)]
 mod tests;

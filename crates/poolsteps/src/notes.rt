@@ -1,26 +1,26 @@
 //! What lanes tell each other, and the end of a pool's table.
-ghost use Rattle.std.specs.Prelude.{◌≡◌, ◌<◌, [], List};
+ghost use Rattle.std.specs.Prelude.{◌≡◌, ◌<◌, []};
 ghost use mathlib.Core.List.{IsPrefix};
 ghost use Rattle.std.specs.Mem.Slots.{slots_items, slots_len, IsFull};
-ghost use Rattle.seqpool.specs.declared.act.Act.{Act};
-ghost use Rattle.steplaws.specs.Facts.{Lanes};
-ghost use Rattle.poolsteps.specs.Layout.{word_count};
+ghost use Rattle.poolsteps.specs.Layout.{word_count, slot_count};
+ghost use Rattle.poolsteps.specs.Rule.{World};
 ghost use Rattle.poolsteps.specs.Views.{IsOne};
-ghost use Rattle.poolsteps.specs.Seats.{note_of, told_by, both_of};
+ghost use Rattle.poolsteps.specs.Seats.{note_of, longer, told_by, both_of};
 ghost use Rattle.poolsteps.specs.Grids.{IsOf, SameSeat, AreHands, EndsWith};
 ghost use Rattle.poolsteps.specs.Told.{Sees};
-ghost use Rattle.poolsteps.specs.Returned.{SeesTold};
+ghost use Rattle.poolsteps.specs.Returned.{SeesTold, SeesNoFurther};
 
 use crate::grid::{Grid, Hand};
 use crate::layout::look_word;
-use crate::plays::{Aim, Gather, Hear, SeeTold, Tell};
+use crate::plays::{Aim, Gather, Hear, SeeNoFurther, SeeTold, Tell};
 use atomic_table::Closed;
+use slotcell::{Clear, Slot};
 use std::alloc::Global;
 use std::marker::Brand;
 
-impl Grid {
+impl<T: Clear> Grid<T> {
     /// A note of all that a lane saw. It costs a load.
-    pub fn note(&self, hand: &mut Hand) -> Hand
+    pub fn note(&self, hand: &mut Hand<T>) -> Hand<T>
         requires { IsOf self.now hand.old }
         ensures note { IsOf self.now result × (result.me ≡ (note_of hand.old.me.0, [])) }
         ensures hand { SameSeat hand.old hand.new × (hand.new.me ≡ hand.old.me) }
@@ -30,7 +30,7 @@ impl Grid {
 
     /// Takes in a note: what the lane has then seen begins with what it saw, and with what the note has. It is one look,
     /// and a load before it.
-    pub fn heard(&self, hand: &mut Hand, lane: u32, note: Hand)
+    pub fn heard(&self, hand: &mut Hand<T>, lane: u32, note: Hand<T>)
         requires hand { IsOf self.now hand.old × IsOne hand.old.me.0 }
         requires lane { lane < self.now.shape.lanes }
         requires note { IsOf self.now note × (note.me.1 ≡ []) }
@@ -42,8 +42,34 @@ impl Grid {
         self.see_told::<Brand>(hand, lane);
     }
 
+    /// Takes in a note as `heard` does, and sees no further: what the lane has then seen is the longer of what it saw and what
+    /// the note has. So two lanes that take in a note of each other, one after the other, have seen one history.
+    pub fn met(&self, hand: &mut Hand<T>, lane: u32, note: Hand<T>)
+        requires hand { IsOf self.now hand.old × IsOne hand.old.me.0 }
+        requires lane { lane < self.now.shape.lanes }
+        requires note { IsOf self.now note × (note.me.1 ≡ []) }
+        ensures hand { SameSeat hand.old hand.new }
+        ensures sees { Sees self.now.shape hand.old.me hand.new.me }
+        ensures met { hand.new.me.0.seen ≡ longer hand.old.me.0.seen note.me.0.seen }
+    {
+        self.told(hand, note);
+        self.see_no_further::<Brand>(hand, lane);
+    }
+
+    fn see_no_further<J: Aim>(&self, hand: &mut Hand<T>, lane: u32)
+        requires aim { J.shape ≡ self.now.shape }
+        requires hand { IsOf self.now hand.old × IsOne hand.old.me.0 }
+        requires lane { lane < self.now.shape.lanes }
+        ensures hand { SameSeat hand.old hand.new }
+        ensures sees { SeesNoFurther self.now.shape hand.old.me hand.new.me }
+    {
+        self.table
+            .shared
+            .load::<SeeNoFurther<J>>(hand, look_word(lane));
+    }
+
     /// The seat is told what a note has.
-    fn told(&self, hand: &mut Hand, note: Hand)
+    fn told(&self, hand: &mut Hand<T>, note: Hand<T>)
         requires hand { IsOf self.now hand.old }
         requires note { IsOf self.now note × (note.me.1 ≡ []) }
         ensures { SameSeat hand.old hand.new × (hand.new.me ≡ (told_by hand.old.me.0 note.me.0, hand.old.me.1)) }
@@ -51,7 +77,7 @@ impl Grid {
         self.table.shared.join_seat::<Hear>(hand, note);
     }
 
-    fn see_told<J: Aim>(&self, hand: &mut Hand, lane: u32)
+    fn see_told<J: Aim>(&self, hand: &mut Hand<T>, lane: u32)
         requires aim { J.shape ≡ self.now.shape }
         requires hand { IsOf self.now hand.old × IsOne hand.old.me.0 }
         requires lane { lane < self.now.shape.lanes }
@@ -61,13 +87,13 @@ impl Grid {
         self.table.shared.load::<SeeTold<J>>(hand, look_word(lane));
     }
 
-    /// Ends the pool's table, with the hands of its lanes: its last words, of which one history tells that begins with what
-    /// each lane saw and has just its acts.
-    pub fn end(self, hands: Vec<Hand>) -> Closed<(), Global>
+    /// Ends the pool's table, with the hands of its lanes: its last words and slots, of which one history tells that begins
+    /// with what each lane saw and has just its acts.
+    pub fn end(self, hands: Vec<Hand<T>>) -> Closed<Slot<T>, Global>
         requires { AreHands self hands.items }
-        ensures history { (history : List Act) × (lanes : Lanes) × EndsWith self hands.items (slots_items result.words) history lanes }
+        ensures world { (w : World) × EndsWith T.content T.room self hands.items (slots_items result.words) (slots_items result.slots) w }
         ensures words { IsFull result.words × (slots_len result.words ≡ word_count self.shape) }
-        ensures slots { slots_len result.slots ≡ 0 }
+        ensures slots { IsFull result.slots × (slots_len result.slots ≡ slot_count self.shape) }
     {
         let mut hands = hands;
         let Some(mut all) = hands.pop() else {
@@ -76,12 +102,17 @@ impl Grid {
         for hand in hands {
             self.gather(&mut all, hand);
         }
-        let Grid { table, shape: _ } = self;
+        let Grid {
+            table,
+            shape: _,
+            row: _,
+            pages: _,
+        } = self;
         table.close_with(all)
     }
 
     /// The lanes of two seats come to one.
-    fn gather(&self, seat: &mut Hand, other: Hand)
+    fn gather(&self, seat: &mut Hand<T>, other: Hand<T>)
         requires seats { IsOf self.now seat.old × IsOf self.now other }
         requires empty { other.me.1 ≡ [] }
         ensures { SameSeat seat.old seat.new × (seat.new.me ≡ (both_of seat.old.me.0 other.me.0, seat.old.me.1)) }

@@ -1,20 +1,22 @@
 //! How a pool's table is made, and its places are found.
-ghost use Rattle.std.specs.Prelude.{◌≡◌, [], true, IfSome};
+ghost use Rattle.std.specs.Prelude.{◌≡◌, ◌/◌, ◌↔◌, [], true, IfSome, IsSome};
+ghost use Rattle.poolsteps.specs.Layout.{page_row};
 ghost use Rattle.keybits.specs.Shapes.{IsShape, is_place};
 ghost use Rattle.poolsteps.specs.Rule.{first_view};
 ghost use Rattle.poolsteps.specs.Seats.{without_first, first_alone};
 ghost use Rattle.poolsteps.specs.Grids.{IsSpot, IsOf, SameSeat, AreFirstHands};
 
 use crate::grid::{Grid, Hand, Spot};
-use crate::layout::{first_words, life_word, link_word};
+use crate::layout::{PageRow, first_slots, first_words, page_rows, slot_row};
 use crate::plays::Deal;
 use atomic_table::Table;
 use keybits::Shape;
+use slotcell::Clear;
 use std::alloc::Global;
 
-impl Grid {
+impl<T: Clear> Grid<T> {
     /// The table of a pool of this shape, and the hand of each lane, by rising number. None where memory was refused.
-    pub fn new(alloc: Global, shape: &Shape) -> Option<(Grid, Vec<Hand>)>
+    pub fn new(alloc: Global, shape: &Shape) -> Option<(Grid<T>, Vec<Hand<T>>)>
         requires { IsShape shape.now }
         ensures shape { IfSome result (λ made. made.0.shape ≡ shape.now) }
         ensures hands { IfSome result (λ made. AreFirstHands made.0 made.1.items) }
@@ -28,18 +30,26 @@ impl Grid {
     }
 
     /// The table of a pool of this shape, and the seat of all its lanes. None where memory was refused.
-    fn undealt(alloc: Global, shape: Shape) -> Option<(Grid, Hand)>
+    fn undealt(alloc: Global, shape: Shape) -> Option<(Grid<T>, Hand<T>)>
         requires { IsShape shape }
         ensures shape { IfSome result (λ made. made.0.shape ≡ shape) }
         ensures seat { IfSome result (λ made. IsOf made.0 made.1 × (made.1.me ≡ (first_view shape, []))) }
     {
+        let pages = page_rows(alloc, &shape)?;
         let words = first_words(alloc, &shape)?;
-        let (table, seat) = Table::of_words(alloc, words.as_slice(), &shape).ok()?;
-        Some((Grid { table, shape }, seat))
+        let slots = first_slots(alloc, &shape)?;
+        let (table, seat) = Table::new(alloc, words.as_slice(), slots, &shape).ok()?;
+        let grid = Grid {
+            table,
+            row: slot_row(&shape),
+            pages,
+            shape,
+        };
+        Some((grid, seat))
     }
 
     /// The seat of the first lane of a seat of several.
-    fn deal(&self, seat: &mut Hand) -> Hand
+    fn deal(&self, seat: &mut Hand<T>) -> Hand<T>
         requires { IsOf self.now seat.old }
         ensures lane { IsOf self.now result × (result.me ≡ (first_alone seat.old.me.0, [])) }
         ensures rest { SameSeat seat.old seat.new × (seat.new.me ≡ (without_first seat.old.me.0, seat.old.me.1)) }
@@ -47,16 +57,42 @@ impl Grid {
         self.table.shared.split_seat::<Deal>(seat)
     }
 
-    /// Where the words of a place of the pool stand.
+    /// Where the words and the slots of a place stand. None where the pool has no place of this number.
+    #[inline]
+    pub fn find(&self, place: u32) -> Option<Spot>
+        ensures some { IfSome result (λ spot. IsSpot self.now.shape spot place) }
+        ensures none { IsSome result ↔ is_place self.now.shape place ≡ true }
+    {
+        let page = self.pages.get((place >> 12) as usize)?;
+        if place % 4096 < page.places {
+            Some(self.spot_in(page, place))
+        } else {
+            None
+        }
+    }
+
+    /// Where the words and the slots of a place of the pool stand.
     #[inline]
     pub fn spot(&self, place: u32) -> Spot
         requires { is_place self.now.shape place ≡ true }
         ensures { IsSpot self.now.shape result place }
     {
+        self.spot_in(&self.pages[(place >> 12) as usize], place)
+    }
+
+    /// Where the words and the slots of a place stand, by the row of its page.
+    #[inline]
+    fn spot_in(&self, page: &PageRow, place: u32) -> Spot
+        requires place { is_place self.now.shape place ≡ true }
+        requires page { page.now ≡ page_row self.now.shape (place / 4096) }
+        ensures { IsSpot self.now.shape result place }
+    {
+        let slot = (place % 4096) as usize;
         Spot {
             place,
-            life: life_word(&self.shape, place),
-            link: link_word(&self.shape, place),
+            position: page.position + slot,
+            life: page.life + slot,
+            link: page.link + slot,
         }
     }
 }

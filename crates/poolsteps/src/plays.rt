@@ -2,6 +2,7 @@
 use crate::view::View;
 use atomic_table::{Join, Play, Split, TableRule};
 use keybits::Shape;
+use slotcell::{Clear, Slot};
 use std::marker::{Brand, PhantomData};
 
 /// What an ENTER is for.
@@ -16,18 +17,19 @@ pub enum Purpose {
 /// The rule of a pool's table.
 pub struct PoolRule;
 
-impl<S> TableRule<S, View, Shape> for PoolRule {
+impl<T: Clear> TableRule<Slot<T>, View, Shape> for PoolRule {
     ghost use Rattle.poolsteps.specs.Rule.{Kept, first_view};
 
-    ghost holds = { Kept };
+    ghost holds = { Kept T.content T.room };
 
     ghost first = { first_view };
 }
 
 /// What a step is told by the call that makes it.
 pub(crate) trait Aim {
-    ghost use Rattle.std.specs.Prelude.{ℕ, List, Bool};
+    ghost use Rattle.std.specs.Prelude.{ℕ, Bool};
     ghost use Rattle.keybits.specs.declared.shape.Shape.{Shape};
+    ghost use Rattle.sharelaws.specs.declared.stored.Stored.{Stored};
     ghost use Rattle.poolsteps.specs.declared.plays.Purpose.{Purpose};
 
     ghost shape: { Shape };
@@ -36,13 +38,14 @@ pub(crate) trait Aim {
 
     ghost key: { ℕ };
 
-    ghost content: { List ℕ };
+    ghost stored: { Stored };
 
     ghost with_ref: { Bool };
 }
 
 impl Aim for Brand {
-    ghost use Rattle.std.specs.Prelude.{[], false};
+    ghost use Rattle.std.specs.Prelude.{false};
+    ghost use Rattle.sharelaws.specs.Shares.{nothing_stored};
     ghost use Rattle.poolsteps.specs.declared.plays.Purpose.TheVariants.{ToGet};
 
     ghost shape = { record { lanes = 1; first_page = 1; pages = 1; last_generation = 1; tag = 0 } };
@@ -51,9 +54,42 @@ impl Aim for Brand {
 
     ghost key = { 0 };
 
-    ghost content = { [] };
+    ghost stored = { nothing_stored };
 
     ghost with_ref = { false };
+}
+
+/// Which slot a look moves, how its lane leaves it, and with which cell.
+pub(crate) trait Move {
+    ghost use Rattle.std.specs.Prelude.{ℕ};
+    ghost use Rattle.keybits.specs.declared.shape.Shape.{Shape};
+    ghost use Rattle.sharelaws.specs.declared.stored.Status.{Status};
+    ghost use Rattle.sharelaws.specs.declared.stored.Stored.{Stored};
+
+    ghost shape: { Shape };
+
+    ghost place: { ℕ };
+
+    ghost number: { ℕ };
+
+    ghost status: { Status };
+
+    ghost stored: { Stored };
+}
+
+impl Move for Brand {
+    ghost use Rattle.sharelaws.specs.declared.stored.Status.TheVariants.{Untouched};
+    ghost use Rattle.sharelaws.specs.Shares.{nothing_stored};
+
+    ghost shape = { record { lanes = 1; first_page = 1; pages = 1; last_generation = 1; tag = 0 } };
+
+    ghost place = { 0 };
+
+    ghost number = { 0 };
+
+    ghost status = { Untouched };
+
+    ghost stored = { nothing_stored };
 }
 
 /// ENTER.
@@ -86,7 +122,7 @@ pub(crate) struct Publish<J: Aim> {
 impl<S, J: Aim> Play<S, View> for Publish<J> {
     ghost use Rattle.poolsteps.specs.Told.{Publishes};
 
-    ghost then = { λ step before found after. Publishes J.shape J.key J.content J.with_ref before found after };
+    ghost then = { λ step before found after. Publishes J.shape J.key J.stored J.with_ref before found after };
 }
 
 /// MARK.
@@ -175,6 +211,50 @@ impl<S, J: Aim> Play<S, View> for SeeTold<J> {
     ghost use Rattle.poolsteps.specs.Returned.{SeesTold};
 
     ghost then = { λ step before found after. SeesTold J.shape before after };
+}
+
+/// SEE of the lifecycle word of the place that is the aim's key.
+pub(crate) struct SeeLife<J: Aim> {
+    of: PhantomData<J>,
+}
+
+impl<S, J: Aim> Play<S, View> for SeeLife<J> {
+    ghost use Rattle.poolsteps.specs.Told.{SeesLife};
+
+    ghost then = { λ step before found after. SeesLife J.shape J.key before found after };
+}
+
+/// SEE, after the seat was told of a history, no further than that.
+pub(crate) struct SeeNoFurther<J: Aim> {
+    of: PhantomData<J>,
+}
+
+impl<S, J: Aim> Play<S, View> for SeeNoFurther<J> {
+    ghost use Rattle.poolsteps.specs.Returned.{SeesNoFurther};
+
+    ghost then = { λ step before found after. SeesNoFurther J.shape before after };
+}
+
+/// A look that takes what stands in a slot.
+pub(crate) struct Lift<T, J: Move> {
+    of: PhantomData<(T, J)>,
+}
+
+impl<T: Clear, J: Move> Play<Slot<T>, View> for Lift<T, J> {
+    ghost use Rattle.poolsteps.specs.Moved.{Lifts};
+
+    ghost then = { λ step before found after. Lifts T.content T.room J.shape J.place J.number J.status before after };
+}
+
+/// A look that gives a slot back.
+pub(crate) struct Lay<T, J: Move> {
+    of: PhantomData<(T, J)>,
+}
+
+impl<T: Clear, J: Move> Play<Slot<T>, View> for Lay<T, J> {
+    ghost use Rattle.poolsteps.specs.Moved.{Lays};
+
+    ghost then = { λ step before found after. Lays T.content T.room J.shape J.place J.number J.status J.stored before after };
 }
 
 /// A lane's seat is cut from that of all lanes.

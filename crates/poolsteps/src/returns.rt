@@ -5,19 +5,21 @@ ghost use Rattle.steplaws.specs.declared.pending.Pending.{Pending};
 ghost use Rattle.std.specs.Prelude.{Option, ℕ};
 ghost use Rattle.poolsteps.specs.Views.{the_lane, IsOne};
 ghost use Rattle.poolsteps.specs.Grids.{IsSpot, IsOf, SameSeat};
-ghost use Rattle.poolsteps.specs.Told.{Sees};
-ghost use Rattle.poolsteps.specs.Returned.{Links, Pushes, Takes, Follows, IsToReturn, AimsAt, rest_of};
+ghost use Rattle.poolsteps.specs.Told.{Sees, SeesLife};
+ghost use Rattle.seqpool.specs.Pool.{pool_after};
+ghost use Rattle.poolsteps.specs.Returned.{Links, Pushes, Takes, Follows, IsToReturn, AimsAt, IsAtRest, rest_of};
 
 use crate::grid::{Grid, Hand, Spot};
 use crate::layout::{look_word, stack_word};
-use crate::plays::{Aim, Follow, Link, Push, See, Take};
-use keybits::{link_to, shard_of};
+use crate::plays::{Aim, Follow, Link, Push, See, SeeLife, Take};
+use keybits::{Life, link_to, shard_of};
+use slotcell::Clear;
 use std::marker::Brand;
 
-impl Grid {
+impl<T: Clear> Grid<T> {
     /// LINK: the link word of a place to return becomes the expected top.
     #[inline]
-    pub fn link(&self, hand: &mut Hand, spot: Spot, top: u64)
+    pub fn link(&self, hand: &mut Hand<T>, spot: Spot, top: u64)
         requires hand { IsOf self.now hand.old × IsOne hand.old.me.0 }
         requires spot { IsSpot self.now.shape spot spot.place }
         requires returns { (linked : Option ℕ) × IsToReturn hand.old.me.0 spot.place linked }
@@ -28,7 +30,7 @@ impl Grid {
     }
 
     #[inline]
-    fn link_as<J: Aim>(&self, hand: &mut Hand, spot: Spot, top: u64)
+    fn link_as<J: Aim>(&self, hand: &mut Hand<T>, spot: Spot, top: u64)
         requires aim { J.shape ≡ self.now.shape }
         requires hand { IsOf self.now hand.old × IsOne hand.old.me.0 }
         requires spot { IsSpot self.now.shape spot spot.place }
@@ -39,16 +41,17 @@ impl Grid {
         self.table.shared.store::<Link<J>>(hand, spot.link, top)
     }
 
-    /// PUSH of a place to return on its lane's stack at the place's shard, from the top that was linked: the place is home
-    /// where that was found. Else 0 was found, and LINK and PUSH follow once more, from the top 0. Answers the word that was
+    /// PUSH of a place to return, which is at rest, on its lane's stack at the place's shard, from the top that was linked:
+    /// the place is home where that was found. Else 0 was found, and LINK and PUSH follow once more, from the top 0. Answers the word that was
     /// found.
     #[inline]
-    pub fn push(&self, hand: &mut Hand, spot: Spot, lane: u32, top: u64) -> u64
+    pub fn push(&self, hand: &mut Hand<T>, spot: Spot, lane: u32, top: u64) -> u64
         requires hand { IsOf self.now hand.old × IsOne hand.old.me.0 }
         requires spot { IsSpot self.now.shape spot spot.place }
         requires lane { (lane ≡ (the_lane hand.old.me.0).lane) × (lane < self.now.shape.lanes) }
         requires returns { IsToReturn hand.old.me.0 spot.place (Some top) }
         requires aims { AimsAt (the_lane hand.old.me.0) spot.place top }
+        requires rests { IsAtRest self.now.shape hand.old.me.0 spot.place }
         ensures hand { SameSeat hand.old hand.new }
         ensures pushes { Pushes self.now.shape top hand.old.me result hand.new.me }
     {
@@ -56,13 +59,14 @@ impl Grid {
     }
 
     #[inline]
-    fn push_as<J: Aim>(&self, hand: &mut Hand, spot: Spot, lane: u32, top: u64) -> u64
+    fn push_as<J: Aim>(&self, hand: &mut Hand<T>, spot: Spot, lane: u32, top: u64) -> u64
         requires aim { J.shape ≡ self.now.shape }
         requires hand { IsOf self.now hand.old × IsOne hand.old.me.0 }
         requires spot { IsSpot self.now.shape spot spot.place }
         requires lane { (lane ≡ (the_lane hand.old.me.0).lane) × (lane < self.now.shape.lanes) }
         requires returns { IsToReturn hand.old.me.0 spot.place (Some top) }
         requires aims { AimsAt (the_lane hand.old.me.0) spot.place top }
+        requires rests { IsAtRest self.now.shape hand.old.me.0 spot.place }
         ensures hand { SameSeat hand.old hand.new }
         ensures pushes { Pushes self.now.shape top hand.old.me result hand.new.me }
     {
@@ -75,7 +79,7 @@ impl Grid {
     /// TAKE of all places that another lane has returned to the shard of this one: they are its taken chain. Answers the
     /// word that was found, which leads to the first of them; 0 where there is none.
     #[inline]
-    pub fn take(&self, hand: &mut Hand, lane: u32, from: u32) -> u64
+    pub fn take(&self, hand: &mut Hand<T>, lane: u32, from: u32) -> u64
         requires hand { IsOf self.now hand.old × IsOne hand.old.me.0 }
         requires lane { (lane ≡ (the_lane hand.old.me.0).lane) × (lane < self.now.shape.lanes) }
         requires from { (from < self.now.shape.lanes) × (from ≢ lane) }
@@ -86,7 +90,7 @@ impl Grid {
     }
 
     #[inline]
-    fn take_as<J: Aim>(&self, hand: &mut Hand, lane: u32, from: u32) -> u64
+    fn take_as<J: Aim>(&self, hand: &mut Hand<T>, lane: u32, from: u32) -> u64
         requires aim { (J.shape ≡ self.now.shape) × (J.key ≡ from) }
         requires hand { IsOf self.now hand.old × IsOne hand.old.me.0 }
         requires lane { (lane ≡ (the_lane hand.old.me.0).lane) × (lane < self.now.shape.lanes) }
@@ -100,7 +104,7 @@ impl Grid {
 
     /// FOLLOW: takes the first place off the taken chain. Answers its link word, which leads to the next; 0 at the end.
     #[inline]
-    pub fn follow(&self, hand: &mut Hand, spot: Spot) -> u64
+    pub fn follow(&self, hand: &mut Hand<T>, spot: Spot) -> u64
         requires hand { IsOf self.now hand.old × IsOne hand.old.me.0 }
         requires spot { IsSpot self.now.shape spot spot.place }
         requires chain { (the_lane hand.old.me.0).chain ≡ spot.place ∷ rest_of (the_lane hand.old.me.0).chain }
@@ -111,7 +115,7 @@ impl Grid {
     }
 
     #[inline]
-    fn follow_as<J: Aim>(&self, hand: &mut Hand, spot: Spot) -> u64
+    fn follow_as<J: Aim>(&self, hand: &mut Hand<T>, spot: Spot) -> u64
         requires aim { J.shape ≡ self.now.shape }
         requires hand { IsOf self.now hand.old × IsOne hand.old.me.0 }
         requires spot { IsSpot self.now.shape spot spot.place }
@@ -122,9 +126,33 @@ impl Grid {
         self.table.shared.load::<Follow<J>>(hand, spot.link)
     }
 
+    /// SEE of a place's lifecycle word: answers the place's generation, as what the lane has then seen has it. Of a place that
+    /// is with the lane it is that of its next publish.
+    #[inline]
+    pub fn generation(&self, hand: &mut Hand<T>, spot: Spot) -> u32
+        requires hand { IsOf self.now hand.old × IsOne hand.old.me.0 }
+        requires spot { IsSpot self.now.shape spot spot.place }
+        ensures hand { SameSeat hand.old hand.new }
+        ensures sees { Sees self.now.shape hand.old.me hand.new.me }
+        ensures generation { result ≡ (pool_after self.now.shape hand.new.me.0.seen spot.place).generation }
+    {
+        Life::of_word(self.see_life::<Brand>(hand, spot)).generation
+    }
+
+    #[inline]
+    fn see_life<J: Aim>(&self, hand: &mut Hand<T>, spot: Spot) -> u64
+        requires aim { (J.shape ≡ self.now.shape) × (J.key ≡ spot.place) }
+        requires hand { IsOf self.now hand.old × IsOne hand.old.me.0 }
+        requires spot { IsSpot self.now.shape spot spot.place }
+        ensures hand { SameSeat hand.old hand.new }
+        ensures sees { SeesLife self.now.shape spot.place hand.old.me result hand.new.me }
+    {
+        self.table.shared.load::<SeeLife<J>>(hand, spot.life)
+    }
+
     /// SEE: a look at a word of the lane's own, at which the lane sees what was done so far.
     #[inline]
-    pub fn see(&self, hand: &mut Hand, lane: u32)
+    pub fn see(&self, hand: &mut Hand<T>, lane: u32)
         requires hand { IsOf self.now hand.old × IsOne hand.old.me.0 }
         requires lane { lane < self.now.shape.lanes }
         ensures hand { SameSeat hand.old hand.new }
@@ -134,7 +162,7 @@ impl Grid {
     }
 
     #[inline]
-    fn see_as<J: Aim>(&self, hand: &mut Hand, lane: u32)
+    fn see_as<J: Aim>(&self, hand: &mut Hand<T>, lane: u32)
         requires aim { J.shape ≡ self.now.shape }
         requires hand { IsOf self.now hand.old × IsOne hand.old.me.0 }
         requires lane { lane < self.now.shape.lanes }

@@ -1,25 +1,26 @@
 //! The steps of lifecycle words. Each is one call of the table, and answers the word that it found.
-ghost use Rattle.std.specs.Prelude.{◌≡◌, ◌<◌, true};
+ghost use Rattle.std.specs.Prelude.{◌≡◌, ◌<◌, true, false};
 ghost use Rattle.keybits.specs.Keys.{place_of, is_key};
 ghost use Rattle.steplaws.specs.declared.pending.Pending.TheVariants.{Undo, Owes};
 ghost use Rattle.steplaws.specs.Facts.{most_references};
 ghost use Rattle.poolsteps.specs.declared.plays.Purpose.TheVariants.{ToGet};
-ghost use Rattle.poolsteps.specs.Views.{the_lane, IsOne};
+ghost use Rattle.poolsteps.specs.Views.{the_lane, known_of, IsOne};
 ghost use Rattle.poolsteps.specs.Grids.{IsSpot, IsOf, SameSeat};
-ghost use Rattle.poolsteps.specs.Told.{Enters, Leaves, Publishes, Marks, Claims, IsIdle, references_seen, MayLeave, MayPublish};
+ghost use Rattle.poolsteps.specs.Told.{Enters, Leaves, Publishes, Marks, Claims, IsIdle, references_seen, MayLeave, MayPublish, IsShared, MayRenew};
+ghost use Rattle.poolsteps.specs.Moved.{stored_of};
 
 use crate::grid::{Grid, Hand, Spot};
 use crate::plays::{Aim, Claim, Enter, Leave, Mark, Publish, Purpose};
 use keybits::{Life, State, claimed};
-use slotcell::Clear;
+use slotcell::{Clear, Share};
 use std::marker::Brand;
 
-impl Grid {
+impl<T: Clear> Grid<T> {
     /// ENTER of a get or of a clear of a key: one is added to the count of its place. Answers the word that was found; the
     /// call hits where that is of the key's generation and PRESENT. A get is of a key to which the lane has fewer references
     /// than the most.
     #[inline]
-    pub fn enter(&self, hand: &mut Hand, spot: Spot, key: u64, purpose: Purpose) -> u64
+    pub fn enter(&self, hand: &mut Hand<T>, spot: Spot, key: u64, purpose: Purpose) -> u64
         requires hand { IsOf self.now hand.old × IsOne hand.old.me.0 }
         requires spot { IsSpot self.now.shape spot (place_of key) }
         requires key { is_key self.now.shape key ≡ true }
@@ -32,7 +33,7 @@ impl Grid {
     }
 
     #[inline]
-    fn enter_as<J: Aim>(&self, hand: &mut Hand, spot: Spot, key: u64, purpose: Purpose) -> u64
+    fn enter_as<J: Aim>(&self, hand: &mut Hand<T>, spot: Spot, key: u64, purpose: Purpose) -> u64
         requires aim { (J.shape ≡ self.now.shape) × (J.key ≡ key) × (J.purpose ≡ purpose) }
         requires hand { IsOf self.now hand.old × IsOne hand.old.me.0 }
         requires spot { IsSpot self.now.shape spot (place_of key) }
@@ -48,9 +49,9 @@ impl Grid {
     }
 
     /// LEAVE: one is taken from the count of a key's place. It gives back a reference where nothing is under way, and else
-    /// undoes the ENTER that is. Answers the word that was found.
+    /// undoes the ENTER that is. Before the last reference is given back its share is. Answers the word that was found.
     #[inline]
-    pub fn leave(&self, hand: &mut Hand, spot: Spot, key: u64) -> u64
+    pub fn leave(&self, hand: &mut Hand<T>, spot: Spot, key: u64) -> u64
         requires hand { IsOf self.now hand.old × IsOne hand.old.me.0 }
         requires spot { IsSpot self.now.shape spot (place_of key) }
         requires may { MayLeave self.now.shape hand.old.me.0 key }
@@ -61,7 +62,7 @@ impl Grid {
     }
 
     #[inline]
-    fn leave_as<J: Aim>(&self, hand: &mut Hand, spot: Spot, key: u64) -> u64
+    fn leave_as<J: Aim>(&self, hand: &mut Hand<T>, spot: Spot, key: u64) -> u64
         requires aim { (J.shape ≡ self.now.shape) × (J.key ≡ key) }
         requires hand { IsOf self.now hand.old × IsOne hand.old.me.0 }
         requires spot { IsSpot self.now.shape spot (place_of key) }
@@ -73,44 +74,68 @@ impl Grid {
         self.table.shared.fetch_sub::<Leave<J>>(hand, spot.life, 4)
     }
 
-    /// PUBLISH of the content of an object under a key whose place is with the lane, with a reference or without one.
-    /// Answers the word that was found.
+    /// PUBLISH, without a reference, of the content of the cell at the place of a key: the place is with the lane, and each
+    /// share of the cell is in its slot. Answers the word that was found.
     #[inline]
-    pub fn publish<T: Clear>(
-        &self,
-        hand: &mut Hand,
-        spot: Spot,
-        key: u64,
-        object: &T,
-        with_ref: bool,
-    ) -> u64
+    pub fn publish(&self, hand: &mut Hand<T>, spot: Spot, key: u64) -> u64
         requires hand { IsOf self.now hand.old × IsOne hand.old.me.0 }
         requires spot { IsSpot self.now.shape spot (place_of key) }
         requires may { MayPublish self.now.shape hand.old.me.0 key }
+        requires shares { IsShared self.now.shape hand.old.me.0 (place_of key) false }
         ensures hand { SameSeat hand.old hand.new }
-        ensures publishes { Publishes self.now.shape key (T.content object.now) with_ref hand.old.me result hand.new.me }
+        ensures publishes { Publishes self.now.shape key (known_of (the_lane hand.old.me.0) (place_of key)) false hand.old.me result hand.new.me }
     {
-        self.publish_as::<T, Brand>(hand, spot, key, object, with_ref)
+        self.publish_as::<Brand>(hand, spot, key, false)
+    }
+
+    /// PUBLISH, with a reference, of the content of the cell that a share in the lane's hands shows: the place of the key is
+    /// with the lane, and each other share of the cell is in its slot. Answers the word that was found.
+    #[inline]
+    pub fn publish_held(&self, hand: &mut Hand<T>, spot: Spot, key: u64, share: &Share<T>) -> u64
+        requires hand { IsOf self.now hand.old × IsOne hand.old.me.0 }
+        requires spot { IsSpot self.now.shape spot (place_of key) }
+        requires may { MayPublish self.now.shape hand.old.me.0 key }
+        requires shares { IsShared self.now.shape hand.old.me.0 (place_of key) true }
+        requires cell { MayRenew self.now.shape hand.old.me.0 (place_of key) (stored_of T.content T.room share.now) }
+        ensures hand { SameSeat hand.old hand.new }
+        ensures publishes { Publishes self.now.shape key (stored_of T.content T.room share.now) true hand.old.me result hand.new.me }
+    {
+        self.publish_shown::<Brand>(hand, spot, key, share)
     }
 
     #[inline]
-    fn publish_as<T: Clear, J: Aim>(
+    fn publish_shown<J: Aim>(
         &self,
-        hand: &mut Hand,
+        hand: &mut Hand<T>,
         spot: Spot,
         key: u64,
-        object: &T,
-        with_ref: bool,
+        share: &Share<T>,
     ) -> u64
-        requires aim { (J.shape ≡ self.now.shape) × (J.key ≡ key) × (J.content ≡ T.content object.now) × (J.with_ref ≡ with_ref) }
+        requires aim { (J.shape ≡ self.now.shape) × (J.key ≡ key) × (J.with_ref ≡ true) × (J.stored ≡ stored_of T.content T.room share.now) }
         requires hand { IsOf self.now hand.old × IsOne hand.old.me.0 }
         requires spot { IsSpot self.now.shape spot (place_of key) }
         requires may { MayPublish self.now.shape hand.old.me.0 key }
+        requires shares { IsShared self.now.shape hand.old.me.0 (place_of key) true }
+        requires cell { MayRenew self.now.shape hand.old.me.0 (place_of key) J.stored }
         ensures hand { SameSeat hand.old hand.new }
-        ensures publishes { Publishes self.now.shape key (T.content object.now) with_ref hand.old.me result hand.new.me }
+        ensures publishes { Publishes self.now.shape key J.stored true hand.old.me result hand.new.me }
+    {
+        let _ = share;
+        self.publish_as::<J>(hand, spot, key, true)
+    }
+
+    #[inline]
+    fn publish_as<J: Aim>(&self, hand: &mut Hand<T>, spot: Spot, key: u64, with_ref: bool) -> u64
+        requires aim { (J.shape ≡ self.now.shape) × (J.key ≡ key) × (J.with_ref ≡ with_ref) }
+        requires hand { IsOf self.now hand.old × IsOne hand.old.me.0 }
+        requires spot { IsSpot self.now.shape spot (place_of key) }
+        requires may { MayPublish self.now.shape hand.old.me.0 key }
+        requires shares { IsShared self.now.shape hand.old.me.0 (place_of key) with_ref }
+        requires cell { MayRenew self.now.shape hand.old.me.0 (place_of key) J.stored }
+        ensures hand { SameSeat hand.old hand.new }
+        ensures publishes { Publishes self.now.shape key J.stored with_ref hand.old.me result hand.new.me }
     {
         let _ = key;
-        let _ = object;
         let added = if with_ref { 5 } else { 1 };
         self.table
             .shared
@@ -120,7 +145,7 @@ impl Grid {
     /// MARK, after the ENTER of a clear that hit. Answers the word that was found; the clear is the one that marked the key
     /// where that was PRESENT.
     #[inline]
-    pub fn mark(&self, hand: &mut Hand, spot: Spot, key: u64) -> u64
+    pub fn mark(&self, hand: &mut Hand<T>, spot: Spot, key: u64) -> u64
         requires hand { IsOf self.now hand.old × IsOne hand.old.me.0 }
         requires spot { IsSpot self.now.shape spot (place_of key) }
         requires under { (the_lane hand.old.me.0).under ≡ Undo key true }
@@ -131,7 +156,7 @@ impl Grid {
     }
 
     #[inline]
-    fn mark_as<J: Aim>(&self, hand: &mut Hand, spot: Spot, key: u64) -> u64
+    fn mark_as<J: Aim>(&self, hand: &mut Hand<T>, spot: Spot, key: u64) -> u64
         requires aim { (J.shape ≡ self.now.shape) × (J.key ≡ key) }
         requires hand { IsOf self.now hand.old × IsOne hand.old.me.0 }
         requires spot { IsSpot self.now.shape spot (place_of key) }
@@ -146,7 +171,7 @@ impl Grid {
     /// CLAIM of the place and generation that the lane owes: it succeeds where the word found is (generation, MARKED, count
     /// 0). Answers the word that was found.
     #[inline]
-    pub fn claim(&self, hand: &mut Hand, spot: Spot, generation: u32) -> u64
+    pub fn claim(&self, hand: &mut Hand<T>, spot: Spot, generation: u32) -> u64
         requires hand { IsOf self.now hand.old × IsOne hand.old.me.0 }
         requires spot { IsSpot self.now.shape spot spot.place }
         requires owes { (the_lane hand.old.me.0).under ≡ Owes spot.place generation }
@@ -157,7 +182,7 @@ impl Grid {
     }
 
     #[inline]
-    fn claim_as<J: Aim>(&self, hand: &mut Hand, spot: Spot, generation: u32) -> u64
+    fn claim_as<J: Aim>(&self, hand: &mut Hand<T>, spot: Spot, generation: u32) -> u64
         requires aim { J.shape ≡ self.now.shape }
         requires hand { IsOf self.now hand.old × IsOne hand.old.me.0 }
         requires spot { IsSpot self.now.shape spot spot.place }

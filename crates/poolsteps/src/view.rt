@@ -1,7 +1,25 @@
 //! What a seat of the table knows. No value of these types is made: contracts alone speak of them.
 use seqpool::Act;
+use sharelaws::{Status, Stored};
 use std::collections::LinkedList;
 use steplaws::Pending;
+
+/// What a lane did that tells how it left slots.
+pub enum Deed {
+    /// It left one slot so.
+    Left {
+        /// The slot's place.
+        place: u32,
+        /// The number of the slot's lane.
+        number: u32,
+        /// How it left the slot.
+        status: Status,
+    },
+    /// It returned this place.
+    Returned(u32),
+    /// It collected these places.
+    Collected(LinkedList<u32>),
+}
 
 /// The record of a lane, but for its list and its fillings, which change between calls of the table too.
 pub struct LaneRecord {
@@ -15,6 +33,10 @@ pub struct LaneRecord {
     pub pushed: LinkedList<(u32, u64)>,
     /// The places of its taken chain that are still to be followed.
     pub chain: LinkedList<u32>,
+    /// What it did with slots, the last deed first.
+    pub deeds: LinkedList<Deed>,
+    /// The cells of places, as it knows them, what it learned last first.
+    pub cells: LinkedList<(u32, Stored)>,
 }
 
 /// The view of a seat: that of a hand has the record of one lane.
@@ -23,6 +45,8 @@ pub struct View {
     pub lanes: LinkedList<LaneRecord>,
     /// The history that was seen.
     pub seen: LinkedList<Act>,
+    /// A number beside each act of it: beside a publish the room of its object, and 0 beside any other.
+    pub rooms: LinkedList<u64>,
     /// Histories of which the seat was told, and which it didn't take in yet.
     pub told: LinkedList<LinkedList<Act>>,
     /// The number of steps that were made by the seat.

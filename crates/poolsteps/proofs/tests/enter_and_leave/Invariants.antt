@@ -1,6 +1,7 @@
-use Rattle.poolsteps.specs.Hands.{MayEnter}
-use Rattle.poolsteps.specs.declared.tests.TheConstants.{KEY}
+use Rattle.poolsteps.specs.Views.{IsOne}
+use Rattle.poolsteps.specs.Grids.{IsOf}
+use Rattle.poolsteps.specs.Told.{IsIdle}
 use Rattle.poolsteps.proofs.tests.enter_and_leave.Given as goal
 
 abbrev pub invariant-loop : goal.invariant-loop
-invariant-loop l = MayEnter l.grid KEY l.hand
+invariant-loop g l = IsOf l.grid l.hand × IsOne l.hand.me.0 × IsIdle l.hand.me.0

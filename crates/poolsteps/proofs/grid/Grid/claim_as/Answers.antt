@@ -11,19 +11,21 @@ use Rattle.poolsteps.proofs.grid.Grid.claim_as.Goals as goal
 
 pub compare_exchange-requires : goal.compare_exchange-requires
 compare_exchange-requires g c =
+    let content = g.T.Clear.content in
+    let room = g.T.Clear.room in
     let grid = c.args.self.now in
     let z : Shape = grid.shape in
-    let me = c.args.hand.now.me in
+    let hand = c.args.hand.now in
     let place : ℕ = c.args.spot.place in
     let generation : ℕ = c.args.generation in
     let new : ℕ = c.claimed-new.result in
-    let spot = c.requires.spot in
+    let asked = c.requires in
     let old : c.word-old.result ≡ claimable generation = c.word-old.ensures in (
-      c.requires.hand.0,
-      rw (spot.life, grid.sized) (index-below z grid.checked (Life place) spot.inside),
-      rw (c.requires.aim, spot.life, old, c.requires.owes, grid.shape_is)
-          (life-allows z grid.table.shared.table_id.slots c.args.hand.now.id me c.requires.hand.1 place spot.inside
-          (λ word. either (word == claimable generation) new word) (Claims z place generation me)
-          (λ m s at small. claim-makes z m me place generation new s at spot.inside c.requires.owes
+      asked.hand.0,
+      rw (asked.spot.life, grid.sized) (index-below z grid.checked (Life place) asked.spot.inside),
+      rw (asked.aim, asked.spot.life, old, asked.owes, grid.shape_is)
+          (life-allows content room z grid.table.shared.table_id.slots hand.id hand.me asked.hand.1 place asked.spot.inside
+          (λ word. either (word == claimable generation) new word) (Claims z place generation hand.me)
+          (λ words w slots point at small. claim-makes content room z words w slots point hand.me place generation new at asked.spot.inside asked.owes
           (claim-given z.last_generation generation c.word-old.result new old c.claimed-new.ensures.step))),
     )

@@ -5,6 +5,6 @@ use Rattle.poolsteps.proofs.Dealing.{dealt}
 use Rattle.poolsteps.proofs.grid.Grid.deal.Goals as goal
 
 pub split_seat-requires : goal.split_seat-requires
-split_seat-requires c =
+split_seat-requires g c =
     let grid = c.args.self.now in let seat = c.args.seat.now in
-    (c.requires, subst (λ (count : ℕ). 0 < count) (sym grid.sized) (words-some grid.shape), dealt grid.table.shared.key seat.id seat.me.0)
+    (c.requires, subst (λ (count : ℕ). 0 < count) (sym grid.sized) (words-some grid.shape), dealt g.T.Clear.content g.T.Clear.room grid.table.shared.key seat.id seat.me.0)

@@ -5,5 +5,5 @@ use Rattle.poolsteps.proofs.Ending.{AreGathered}
 use Rattle.poolsteps.proofs.grid.Grid.end.Given as goal
 
 abbrev pub invariant-loop-hand : goal.invariant-loop-hand
-invariant-loop-hand l = AreGathered l.self l.fn.hands.items l.all (into_iter_items l.hand-iterator)
+invariant-loop-hand g l = AreGathered l.self l.fn.hands.items l.all (into_iter_items l.hand-iterator)
     × (into_iter_len l.hand-iterator ≡ length (into_iter_items l.hand-iterator))

@@ -1,6 +1,7 @@
-use Rattle.std.proofs.Common.{[], false}
+use Rattle.std.proofs.Common.{false}
+use Rattle.sharelaws.specs.Shares.{nothing_stored}
 use Rattle.poolsteps.proofs.grid.Grid.enter.Given as goal
 
 -- what the caller asks for, at this table
 abbrev pub ghosts-enter_as : goal.ghosts-enter_as
-ghosts-enter_as a = record { shape = a.self.now.shape; purpose = a.purpose; key = a.key; content = []; with_ref = false }
+ghosts-enter_as g a = record { shape = a.self.now.shape; purpose = a.purpose; key = a.key; stored = nothing_stored; with_ref = false }

@@ -1,7 +1,8 @@
-use Rattle.std.proofs.Common.{[], false}
+use Rattle.std.proofs.Common.{false}
+use Rattle.sharelaws.specs.Shares.{nothing_stored}
 use Rattle.poolsteps.specs.declared.plays.Purpose.TheVariants.{ToGet}
 use Rattle.poolsteps.proofs.grid.Grid.follow.Given as goal
 
 -- the step is of the grid's shape
 abbrev pub ghosts-follow_as : goal.ghosts-follow_as
-ghosts-follow_as a = record { shape = a.self.now.shape; purpose = ToGet; key = 0; content = []; with_ref = false }
+ghosts-follow_as g a = record { shape = a.self.now.shape; purpose = ToGet; key = 0; stored = nothing_stored; with_ref = false }

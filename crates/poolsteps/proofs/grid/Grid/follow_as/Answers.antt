@@ -9,6 +9,8 @@ use Rattle.poolsteps.proofs.grid.Grid.follow_as.Goals as goal
 
 pub load-requires : goal.load-requires
 load-requires g c =
+    let content = g.T.Clear.content in
+    let room = g.T.Clear.room in
     let grid = c.args.self.now in
     let z : Shape = grid.shape in
     let hand = c.args.hand.now in
@@ -18,6 +20,6 @@ load-requires g c =
       asked.hand.0,
       rw (spot.link, grid.sized) (index-below z grid.checked (Link place) spot.inside),
       rw (asked.aim, spot.link, grid.shape_is)
-          (word-allows z grid.table.shared.table_id.slots hand.id hand.me asked.hand.1 (Link place) spot.inside (λ n. n) (Follows z hand.me)
-          (λ m rule at below. follow-makes z m hand.me place rule at asked.chain)),
+          (word-allows content room z grid.table.shared.table_id.slots hand.id hand.me asked.hand.1 (Link place) spot.inside (λ n. n) (Follows z hand.me)
+          (λ words w slots point at below. follow-makes content room z words w slots point hand.me place at asked.chain)),
     )

@@ -5,7 +5,7 @@ use Rattle.poolsteps.proofs.Gathering.{gathers}
 use Rattle.poolsteps.proofs.grid.Grid.gather.Goals as goal
 
 pub join_seat-requires : goal.join_seat-requires
-join_seat-requires c =
+join_seat-requires g c =
     let grid = c.args.self.now in
     let seat = c.args.seat.now in
     let other = c.args.other in (
@@ -13,5 +13,5 @@ join_seat-requires c =
       c.requires.seats.1,
       c.requires.empty,
       subst (λ (count : ℕ). 0 < count) (sym grid.sized) (words-some grid.shape),
-      gathers grid.table.shared.key seat.id other.id seat.me.0 other.me.0,
+      gathers g.T.Clear.content g.T.Clear.room grid.table.shared.key seat.id other.id seat.me.0 other.me.0,
     )

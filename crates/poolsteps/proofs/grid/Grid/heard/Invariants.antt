@@ -1,7 +1,8 @@
-use Rattle.std.proofs.Common.{[], false}
+use Rattle.std.proofs.Common.{false}
+use Rattle.sharelaws.specs.Shares.{nothing_stored}
 use Rattle.poolsteps.specs.declared.plays.Purpose.TheVariants.{ToGet}
 use Rattle.poolsteps.proofs.grid.Grid.heard.Given as goal
 
 -- the look is at a grid of this shape
 abbrev pub ghosts-see_told : goal.ghosts-see_told
-ghosts-see_told a = record { shape = a.self.now.shape; purpose = ToGet; key = 0; content = []; with_ref = false }
+ghosts-see_told g a = record { shape = a.self.now.shape; purpose = ToGet; key = 0; stored = nothing_stored; with_ref = false }

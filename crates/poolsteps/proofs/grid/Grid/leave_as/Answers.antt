@@ -10,6 +10,8 @@ use Rattle.poolsteps.proofs.grid.Grid.leave_as.Goals as goal
 
 pub fetch_sub-requires : goal.fetch_sub-requires
 fetch_sub-requires g c =
+    let content = g.T.Clear.content in
+    let room = g.T.Clear.room in
     let grid = c.args.self.now in
     let z : Shape = grid.shape in
     let hand = c.args.hand.now in
@@ -18,7 +20,7 @@ fetch_sub-requires g c =
       asked.hand.0,
       rw (asked.spot.life, grid.sized) (index-below z grid.checked (Life (place_of key)) asked.spot.inside),
       rw (asked.aim.0, asked.aim.1, asked.spot.life, grid.shape_is)
-          (life-allows z grid.table.shared.table_id.slots hand.id hand.me asked.hand.1 (place_of key) asked.spot.inside
+          (life-allows content room z grid.table.shared.table_id.slots hand.id hand.me asked.hand.1 (place_of key) asked.spot.inside
           (λ word. (word + (2 ^ 64 - 4)) % 2 ^ 64) (Leaves z key hand.me)
-          (λ m rule at below. leave-makes z m hand.me key rule at asked.spot.inside asked.may below)),
+          (λ words w slots point at below. leave-makes content room z words w slots point hand.me key at below asked.spot.inside asked.may)),
     )

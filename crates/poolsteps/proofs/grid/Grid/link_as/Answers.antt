@@ -9,6 +9,8 @@ use Rattle.poolsteps.proofs.grid.Grid.link_as.Goals as goal
 
 pub store-requires : goal.store-requires
 store-requires g c =
+    let content = g.T.Clear.content in
+    let room = g.T.Clear.room in
     let grid = c.args.self.now in
     let z : Shape = grid.shape in
     let me = c.args.hand.now.me in
@@ -18,6 +20,6 @@ store-requires g c =
       asked.hand.0,
       rw (asked.spot.link, grid.sized) (index-below z grid.checked (Link place) asked.spot.inside),
       rw (asked.aim, asked.spot.link, grid.shape_is)
-          (word-allows z grid.table.shared.table_id.slots c.args.hand.now.id me asked.hand.1 (Link place) asked.spot.inside (λ _. top) (λ _. Links z top me)
-          (λ m s at small. link-makes z m me place top asked.returns.0 s at asked.returns.1)),
+          (word-allows content room z grid.table.shared.table_id.slots c.args.hand.now.id me asked.hand.1 (Link place) asked.spot.inside (λ _. top) (λ _. Links z top me)
+          (λ words w slots point at small. link-makes content room z words w slots point me at place top asked.returns.0 asked.returns.1)),
     )

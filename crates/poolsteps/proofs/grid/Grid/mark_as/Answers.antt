@@ -10,6 +10,8 @@ use Rattle.poolsteps.proofs.grid.Grid.mark_as.Goals as goal
 
 pub fetch_or-requires : goal.fetch_or-requires
 fetch_or-requires g c =
+    let content = g.T.Clear.content in
+    let room = g.T.Clear.room in
     let grid = c.args.self.now in
     let z : Shape = grid.shape in
     let me = c.args.hand.now.me in
@@ -19,7 +21,7 @@ fetch_or-requires g c =
       c.requires.hand.0,
       rw (spot.life, grid.sized) (index-below z grid.checked (Life (place_of key)) spot.inside),
       rw (aim.0, aim.1, spot.life, grid.shape_is)
-          (life-allows z grid.table.shared.table_id.slots c.args.hand.now.id me c.requires.hand.1 (place_of key) spot.inside
+          (life-allows content room z grid.table.shared.table_id.slots c.args.hand.now.id me c.requires.hand.1 (place_of key) spot.inside
           (λ word. bit_or word 2) (Marks z key me)
-          (λ m s at small. mark-makes z m me key s at c.requires.under small)),
+          (λ words w slots point at small. mark-makes content room z words w slots point me key at c.requires.under)),
     )

@@ -5,4 +5,4 @@ use Rattle.poolsteps.proofs.Dealing.{AreDealt}
 use Rattle.poolsteps.proofs.grid.Grid.new.Given as goal
 
 abbrev pub invariant-loop : goal.invariant-loop
-invariant-loop l = AreDealt l.grid l.counter l.seat l.hands.items × (vec_capacity l.hands ≡ vec_capacity l.initial.hands)
+invariant-loop g l = AreDealt l.grid l.counter l.seat l.hands.items × (vec_capacity l.hands ≡ vec_capacity l.initial.hands)

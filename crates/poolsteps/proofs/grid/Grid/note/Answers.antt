@@ -5,6 +5,6 @@ use Rattle.poolsteps.proofs.Telling.{noted}
 use Rattle.poolsteps.proofs.grid.Grid.note.Goals as goal
 
 pub split_seat-requires : goal.split_seat-requires
-split_seat-requires c =
+split_seat-requires g c =
     let grid = c.args.self.now in let hand = c.args.hand.now in
-    (c.requires, subst (λ (count : ℕ). 0 < count) (sym grid.sized) (words-some grid.shape), noted grid.table.shared.key hand.id hand.me.0)
+    (c.requires, subst (λ (count : ℕ). 0 < count) (sym grid.sized) (words-some grid.shape), noted g.T.Clear.content g.T.Clear.room grid.table.shared.key hand.id hand.me.0)

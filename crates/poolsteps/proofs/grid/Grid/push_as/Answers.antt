@@ -15,6 +15,8 @@ use Rattle.poolsteps.proofs.grid.Grid.push_as.Goals as goal
 
 pub compare_exchange-requires : goal.compare_exchange-requires
 compare_exchange-requires g c =
+    let content = g.T.Clear.content in
+    let room = g.T.Clear.room in
     let grid = c.args.self.now in
     let z : Shape = grid.shape in
     let me = c.args.hand.now.me in
@@ -29,7 +31,7 @@ compare_exchange-requires g c =
       asked.hand.0,
       rw (index, grid.sized) (index-below z grid.checked stack inside),
       rw (asked.aim, index, c.link_to.ensures.word, grid.shape_is)
-          (word-allows z grid.table.shared.table_id.slots c.args.hand.now.id me asked.hand.1 stack inside
+          (word-allows content room z grid.table.shared.table_id.slots c.args.hand.now.id me asked.hand.1 stack inside
           (λ word. either (word == top) (link_to place) word) (Pushes z top me)
-          (λ m s at small. push-makes z m me place top s at asked.returns asked.aims)),
+          (λ words w slots point at small. push-makes content room z words w slots point me at top place asked.returns asked.aims asked.rests)),
     )

@@ -1,7 +1,8 @@
-use Rattle.std.proofs.Common.{[], false}
+use Rattle.std.proofs.Common.{false}
+use Rattle.sharelaws.specs.Shares.{nothing_stored}
 use Rattle.poolsteps.specs.declared.plays.Purpose.TheVariants.{ToGet}
 use Rattle.poolsteps.proofs.grid.Grid.see.Given as goal
 
 -- the look is at a grid of this shape
 abbrev pub ghosts-see_as : goal.ghosts-see_as
-ghosts-see_as a = record { shape = a.self.now.shape; purpose = ToGet; key = 0; content = []; with_ref = false }
+ghosts-see_as g a = record { shape = a.self.now.shape; purpose = ToGet; key = 0; stored = nothing_stored; with_ref = false }

@@ -12,6 +12,8 @@ use Rattle.poolsteps.proofs.grid.Grid.take_as.Goals as goal
 
 pub swap-requires : goal.swap-requires
 swap-requires g c =
+    let content = g.T.Clear.content in
+    let room = g.T.Clear.room in
     let grid = c.args.self.now in
     let z : Shape = grid.shape in
     let hand = c.args.hand.now in
@@ -25,6 +27,6 @@ swap-requires g c =
       asked.hand.0,
       rw (grid.sized) c.stack_word-word.ensures.inside,
       rw (asked.aim.0, asked.aim.1, word, grid.shape_is)
-          (word-allows z grid.table.shared.table_id.slots hand.id hand.me asked.hand.1 (Stack lane from) inside (λ n. 0) (Takes z from hand.me)
-          (λ m rule at below. take-makes z m hand.me from rule at asked.from.0 apart)),
+          (word-allows content room z grid.table.shared.table_id.slots hand.id hand.me asked.hand.1 (Stack lane from) inside (λ n. 0) (Takes z from hand.me)
+          (λ words w slots point at below. take-makes content room z words w slots point hand.me from at asked.from.0 apart)),
     )

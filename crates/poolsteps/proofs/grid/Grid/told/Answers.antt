@@ -5,7 +5,7 @@ use Rattle.poolsteps.proofs.Telling.{hears}
 use Rattle.poolsteps.proofs.grid.Grid.told.Goals as goal
 
 pub join_seat-requires : goal.join_seat-requires
-join_seat-requires c =
+join_seat-requires g c =
     let grid = c.args.self.now in
     let hand = c.args.hand.now in
     let note = c.args.note in (
@@ -13,5 +13,5 @@ join_seat-requires c =
       c.requires.note.0,
       c.requires.note.1,
       subst (λ (count : ℕ). 0 < count) (sym grid.sized) (words-some grid.shape),
-      hears grid.table.shared.key hand.id note.id hand.me.0 note.me.0,
+      hears g.T.Clear.content g.T.Clear.room grid.table.shared.key hand.id note.id hand.me.0 note.me.0,
     )

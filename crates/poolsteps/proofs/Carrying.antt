@@ -1,0 +1,140 @@
+-- OUT and BACK: a look that takes a slot, an exchange of what it has, and a look that gives it back.
+use Rattle.std.proofs.Common.{◌≡◌, ◌≢◌, inl, inr, ⊎_elim, ℕ, ◌+◌, Bool, cond, eqb, List, [], ◌∷◌, Option, Some, None, refl, ap, sym, ◌∙◌, subst, arith, eq-eqb, ne_eqb}
+use Rattle.std.proofs.lemmas.Bool.{and_right}
+use Rattle.atomic_table.specs.Table.{Me, rest}
+use Rattle.keybits.specs.declared.shape.Shape.{Shape}
+use Rattle.seqpool.specs.Pool.{pool_after}
+use Rattle.slotcell.specs.Share.{Share}
+use Rattle.sharelaws.specs.declared.stored.Stored.{Stored}
+use Rattle.sharelaws.specs.declared.stored.Status.{Status}
+use Rattle.sharelaws.specs.declared.stored.Status.TheVariants.{Untouched, Emptied, InHand, Whole}
+use Rattle.sharelaws.specs.Shares.{room_of, IsKept, IsShareOf, at_home, nothing_stored}
+use Rattle.sharelaws.specs.ShareLaws.{Leaves}
+use Rattle.poolsteps.specs.declared.view.LaneRecord.{LaneRecord}
+use Rattle.poolsteps.specs.declared.view.View.{View}
+use Rattle.poolsteps.specs.Layout.{slot_index}
+use Rattle.poolsteps.specs.Views.{head_record, the_lane, status_of, known_of}
+use Rattle.poolsteps.specs.Told.{GoesOn, MayTouch}
+use Rattle.poolsteps.specs.Moved.{moved_record, MayStore, stored_of, IsLeft, Lifts, Lays, Outs, Backs}
+use Rattle.poolsteps.proofs.Keeping.{shares-law, goes-has, goes-two}
+
+-- what the slot that was taken last has; none where none was taken
+abbrev pub first_value : {T : Type 0} → List (ℕ × Option (Share T)) → Option (Share T)
+first_value [] = None
+first_value (x ∷ more) = x.1
+
+-- after a move the lane left each other slot of the place as before, and it knows the cell
+module _ (r : LaneRecord) (place number : ℕ) (status : Status) (c : Stored) where
+  status-beside : (k : ℕ) → k ≢ number → status_of (moved_record r place number status c) place k ≡ status_of r place k
+  status-beside k other = ap (λ (b : Bool). cond b status (status_of r place k)) (and_right (eqb place place) (eqb k number) (ne_eqb k number other))
+
+  known-moved : known_of (moved_record r place number status c) place ≡ c
+  known-moved = ap (λ (b : Bool). cond b c (known_of r place)) (eq-eqb place place refl)
+
+module _ {T : Type 0} (content : T → List ℕ) (room : T → ℕ) where
+  -- the cell of a share that is held; nothing where none is
+  abbrev pub stored_held : Option (Share T) → Stored
+  stored_held None = nothing_stored
+  stored_held (Some share) = stored_of content room share
+
+  -- a share's cell is the one that it is of
+  stored-is : (c : Stored) (number of : ℕ) (share : Share T) → IsShareOf content room c number of share → c ≡ stored_of content room share
+  stored-is c number of share is = λ k. record { cell = sym is.cell k; content = sym is.content_is k; room = sym is.room_is k }
+
+  module _ (z : Shape) (number : ℕ) where
+    -- a slot that was left with a share has one
+    full-is : (c : Stored) (value : Option (Share T)) (status : Status) → status ≢ InHand → status ≢ Emptied → Leaves content room z number c status (at_home value)
+        → (share : Share T) × (value ≡ Some share) × (c ≡ stored_of content room share) × IsLeft content room z number c status share
+    full-is c value Untouched aside full leaves =
+        let is : value ≡ Some leaves.0 = cc leaves.1 in (leaves.0, is, stored-is c number z.lanes leaves.0 leaves.2, leaves.2)
+    full-is c value Emptied aside full leaves = absurd (full refl)
+    full-is c value InHand aside full leaves = absurd (aside refl)
+    full-is c value Whole aside full leaves =
+        let is : value ≡ Some leaves.0 = cc leaves.1 in (leaves.0, is, stored-is c 0 1 leaves.0 leaves.2, leaves.2)
+
+    -- a share that may be left so is left so
+    pub leaves-share : (c : Stored) (status : Status) (share : Share T) → IsLeft content room z number c status share → Leaves content room z number c status (at_home (Some share))
+    leaves-share c Untouched share is = (share, refl, is)
+    leaves-share c Emptied share is = absurd is
+    leaves-share c InHand share is = absurd is
+    leaves-share c Whole share is = (share, refl, is)
+
+  -- after the first look
+  module _ (z : Shape) (place number : ℕ) (status : Status) (m n : Me (Option (Share T)) View) (lifts : Lifts content room z place number status m n) where
+    abbrev r : LaneRecord
+    r = the_lane m.0
+
+    -- the lane's record then
+    abbrev lifted : LaneRecord
+    lifted = moved_record r place number InHand lifts.c
+
+    lane-lifted : the_lane n.0 ≡ lifted
+    lane-lifted = ap head_record lifts.goes.lanes
+
+    known-lifted : known_of (the_lane n.0) place ≡ lifts.c
+    known-lifted = rw lane-lifted (known-moved r place number InHand lifts.c)
+
+    pub may-lifted : MayTouch z m.0 place number → MayTouch z n.0 place number
+    may-lifted may = (shares-law z m.0 n.0 lifted lifts.goes refl place number may).0
+
+    -- the lane may then store what it could, where it had emptied the slot
+    pub store-lifted : status ≡ Emptied → MayTouch z m.0 place number → (c : Stored) → MayStore z m.0 place number c → MayStore z n.0 place number c
+    store-lifted empty may c store = ⊎_elim
+        (λ (same : c ≡ known_of r place). inl (same ∙ (sym (lifts.known (inr (λ bad. let no : Emptied ≡ Untouched = sym empty ∙ bad in cc no))) ∙ sym known-lifted)))
+        (λ new. inr (
+          (shares-law z m.0 n.0 lifted lifts.goes refl place number may).1 new.0,
+          λ k below other. rw (lane-lifted, status-beside r place number InHand lifts.c k other) (new.1 k below other),
+        ))
+        store
+
+    -- and after the second
+    module _ (value : Option (Share T)) (left : Status) (c : Stored) (l : Me (Option (Share T)) View)
+        (lays : Lays content room z place number left c (n.0, (slot_index z place number, value) ∷ rest n.1) l) where
+      goes-both : GoesOn z m.0 l.0 [] [] (moved_record lifted place number left c)
+      goes-both = goes-two z m.0 n.0 l.0 lifted (moved_record lifted place number left c) refl lifts.goes
+          (subst (λ (x : LaneRecord). GoesOn z n.0 l.0 [] [] (moved_record x place number left c)) lane-lifted lays.goes)
+
+      held-both : l.1 ≡ m.1
+      held-both = lays.held ∙ ap rest lifts.held
+
+      looks-both : l.0.looks ≡ m.0.looks + 2
+      looks-both = let first = lifts.looks in let second = lays.looks in omega arith
+
+      kept-both : MayTouch z m.0 place number → IsKept lifts.c (room_of l.0.seen l.0.rooms place) (pool_after z l.0.seen place).phase
+      kept-both may =
+          (goes-has z n.0 l.0 (moved_record (the_lane n.0) place number left c) lays.goes refl place number (may-lifted may)).known lifts.c lifts.kept
+
+    -- OUT
+    pub outs : status ≢ InHand → status ≢ Emptied → MayTouch z m.0 place number → (share : Share T) → first_value n.1 ≡ Some share → (l : Me (Option (Share T)) View)
+        → Lays content room z place number Emptied (known_of (the_lane n.0) place) (n.0, (slot_index z place number, None) ∷ rest n.1) l
+        → Outs content room z place number status m share l
+    outs aside full may share is l gives =
+        let has = full-is z number lifts.c lifts.value status aside full lifts.leaves in
+        let one : Some has.0 ≡ Some share = sym has.1 ∙ (sym (ap first_value lifts.held) ∙ is) in
+        let one_is : has.0 ≡ share = cc one in
+        let c_is : lifts.c ≡ stored_of content room share = has.2 ∙ ap (stored_of content room) one_is in
+        let lays = subst (λ (c : Stored). Lays content room z place number Emptied c (n.0, (slot_index z place number, None) ∷ rest n.1) l) known-lifted gives in
+        record {
+          is_left = rw (sym c_is, sym one_is) has.3;
+          goes = rw (sym c_is) (goes-both None Emptied lifts.c l lays);
+          held = held-both None Emptied lifts.c l lays;
+          kept = rw (sym c_is) (kept-both None Emptied lifts.c l lays may);
+          known = λ some. sym c_is ∙ lifts.known some;
+          steps = lays.steps ∙ lifts.steps;
+          looks = looks-both None Emptied lifts.c l lays;
+        }
+
+    -- BACK
+    pub backs : status ≡ Emptied → (share : Share T) (left : Status) (l : Me (Option (Share T)) View)
+        → Lays content room z place number left (stored_of content room share) (n.0, (slot_index z place number, Some share) ∷ rest n.1) l
+        → Backs content room z place number left m share l
+    backs empty share left l lays =
+        let c : Stored = stored_of content room share in
+        let c_is : lifts.c ≡ known_of r place = lifts.known (inr (λ bad. let no : Emptied ≡ Untouched = sym empty ∙ bad in cc no)) in
+        record {
+          goes = subst (λ (known : Stored). GoesOn z m.0 l.0 [] [] (moved_record (moved_record r place number InHand known) place number left c)) c_is
+              (goes-both (Some share) left c l lays);
+          held = held-both (Some share) left c l lays;
+          steps = lays.steps ∙ lifts.steps;
+          looks = looks-both (Some share) left c l lays;
+        }

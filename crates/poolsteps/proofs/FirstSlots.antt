@@ -1,0 +1,46 @@
+-- The slots of a table before the first step: none has a share.
+use Rattle.std.proofs.Common.{◌≡◌, ⊎_elim, ℕ, zero, suc, ◌<◌, Bool, true, cond, List, [], ◌∷◌, ◌++◌, map, length, slice_get, nat_lt, Option, Some, None, ap, sym, ◌∙◌, refl, arith}
+use Rattle.std.proofs.lemmas.Bool.{and_from, lt-ltb}
+use Rattle.std.proofs.lemmas.Nat.{mul-add-lt}
+use mathlib.Core.Option as maybe
+use mathlib.Core.Option.{some}
+use lib.ListN.{get_elem?}
+use Rattle.keybits.specs.declared.shape.Shape.{Shape}
+use Rattle.keybits.specs.Shapes.{is_place, position_of}
+use Rattle.keybits.proofs.ShapeLemmas.{position_of-lt}
+use Rattle.slotcell.specs.Share.{Share}
+use Rattle.sharelaws.specs.Shares.{IsEmpty}
+use Rattle.poolsteps.specs.Layout.{slot_row, slot_count, slot_index, slots_in}
+use Rattle.poolsteps.proofs.ViewLemmas.{entry-of}
+
+-- each slot has none
+abbrev pub AreNone : {A : Type 0} → List (Option A) → Type 0
+AreNone {A} slots = (index : ℕ) (slot : Option A) → slice_get slots index ≡ Some slot → slot ≡ None
+
+pub none-first : {A : Type 0} (slots : List (Option A)) → slots ≡ [] → AreNone slots
+none-first {A} slots empty index slot is = let nowhere : None ≡ Some slot = ap (λ (list : List (Option A)). slice_get list index) (sym empty) ∙ is in absurd (cc nowhere)
+
+pub none-more : {A : Type 0} (slots : List (Option A)) → AreNone slots → AreNone (slots ++ None ∷ [])
+none-more {A} slots none index slot is = ⊎_elim (λ (there : slice_get slots index ≡ Some slot). none index slot there)
+    (λ (new : (index ≡ length slots) × (None ≡ slot)). sym new.1) (entry-of slots None slot index is)
+
+-- the slot of a place and a lane of the pool stands inside the table
+slot-within : (z : Shape) (place lane : ℕ) → is_place z place ≡ true → lane < z.lanes → slot_index z place lane < slot_count z
+slot-within z place lane inside below =
+    let low = position_of-lt z place inside in
+    omega (arith, mul-add-lt lane (slot_row z) (position_of z place) z.lanes below (omega arith))
+
+-- a slot of the table is at home, with none
+none-at : {A : Type 0} (slots : List (Option A)) → AreNone slots → (index : ℕ) → index < length slots → get_elem? (map some slots) index ≡ some (some None)
+none-at {A} [] none index below = absurd (omega arith)
+none-at {A} (slot ∷ more) none zero below = ap (λ (value : Option A). some (some value)) (none 0 slot refl)
+none-at {A} (slot ∷ more) none (suc index) below = none-at more (λ k other is. none (suc k) other is) index (omega arith)
+
+-- so is each slot of the pool
+pub slots-empty : {T : Type 0} (content : T → List ℕ) (room : T → ℕ) (z : Shape) (slots : List (Option (Share T))) → length slots ≡ slot_count z → AreNone slots
+    → (place lane : ℕ) → is_place z place ≡ true → lane < z.lanes → IsEmpty content room (slots_in z (map some slots)) place lane
+slots-empty {T} content room z slots count none place lane inside below =
+    let has = and_from (is_place z place) (nat_lt lane z.lanes) inside (lt-ltb lane z.lanes below) in
+    let deep = slot-within z place lane inside below in
+    let i : ℕ = slot_index z place lane in
+    ap (λ (b : Bool). cond b (get_elem? (map some slots) i) maybe.none) has ∙ none-at slots none i (omega arith)

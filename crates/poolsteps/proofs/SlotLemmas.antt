@@ -1,0 +1,76 @@
+-- Each slot of the pool has its own place among the slots of a table.
+use Rattle.std.proofs.Common.{◌≡◌, ◌≢◌, ⊎_elim, ℕ, ◌<◌, Bool, true, false, cond, nat_lt, ◌&&◌, eqb, List, length, slice_set, Option, refl, ap, sym, ◌∙◌, arith, eq-eqb, ne_eqb, lt-ltb}
+use Rattle.std.proofs.lemmas.Bool.{and_from, and_left, and_right, cases_Bool}
+use Rattle.std.proofs.lemmas.Nat.{same_from_place, mul-add-lt}
+use mathlib.Core.Option as maybe
+use lib.ListN.{get_elem?}
+use Rattle.atomic_table.proofs.Lists.{set_here, set_else}
+use Rattle.keybits.specs.declared.shape.Shape.{Shape}
+use Rattle.keybits.specs.Shapes.{IsShape, is_place, position_of}
+use Rattle.keybits.proofs.ShapeLemmas.{position_of-lt, position_of-injective}
+use Rattle.slotcell.specs.Share.{Share}
+use Rattle.sharelaws.specs.Shares.{with_slot}
+use Rattle.sharelaws.proofs.Cases.{each-slot}
+use Rattle.poolsteps.specs.Layout.{slot_row, slot_count, slot_index, slots_in}
+
+-- the position of a place is inside a row
+in-row : (z : Shape) (place : ℕ) → is_place z place ≡ true → position_of z place < slot_row z
+in-row z place inside = let low = position_of-lt z place inside in omega arith
+
+pub slot-below : (z : Shape) (place number : ℕ) → is_place z place ≡ true → number < z.lanes → slot_index z place number < slot_count z
+slot-below z place number inside below =
+    let deep = mul-add-lt number (slot_row z) (position_of z place) z.lanes below (in-row z place inside) in omega arith
+
+-- two slots of the pool at one index are of one place and of one lane
+pub slot-apart : (z : Shape) → IsShape z → (p k q m : ℕ) → is_place z p ≡ true → is_place z q ≡ true → slot_index z p k ≡ slot_index z q m → (p ≡ q) × (k ≡ m)
+slot-apart z ok p k q m p_inside q_inside same =
+    let both = same_from_place k (position_of z p) m (position_of z q) (slot_row z) (in-row z p p_inside) (in-row z q q_inside) same in
+    (position_of-injective z ok p q p_inside q_inside both.1, both.0)
+
+-- what a slot of the pool has
+pub slot-is : {T : Type 0} (z : Shape) (homes : List (maybe.Option (Option (Share T)))) (place number : ℕ) → is_place z place ≡ true → number < z.lanes
+    → slots_in z homes place number ≡ get_elem? homes (slot_index z place number)
+slot-is {T} z homes place number inside below =
+    ap (λ (b : Bool). let slot : maybe.Option (maybe.Option (Option (Share T))) = cond b (get_elem? homes (slot_index z place number)) maybe.none in slot)
+    (and_from (is_place z place) (nat_lt number z.lanes) inside (lt-ltb number z.lanes below))
+
+module _ {T : Type 0} (z : Shape) (ok : IsShape z) (homes : List (maybe.Option (Option (Share T)))) (deep : length homes ≡ slot_count z)
+    (place number : ℕ) (inside : is_place z place ≡ true) (below : number < z.lanes) (value : maybe.Option (Option (Share T))) where
+  abbrev At : Type 0
+  At = maybe.Option (maybe.Option (Option (Share T)))
+
+  -- the slots of the table after the one was set
+  abbrev after : List (maybe.Option (Option (Share T)))
+  after = slice_set homes (slot_index z place number) value
+
+  set-here : slots_in z after place number ≡ maybe.some value
+  set-here =
+      let low = slot-below z place number inside below in
+      slot-is z after place number inside below ∙ set_here homes (slot_index z place number) value (omega arith)
+
+  set-other : (p k : ℕ) → slot_index z p k ≢ slot_index z place number → slots_in z after p k ≡ slots_in z homes p k
+  set-other p k apart =
+      ap (λ (slot : At). let x : At = cond (is_place z p && nat_lt k z.lanes) slot maybe.none in x) (set_else homes (slot_index z place number) (slot_index z p k) value apart)
+
+  -- a slot that isn't the one keeps what it had
+  set-else : (p k : ℕ) → ((p ≡ place) × (k ≡ number) → ⊥) → slots_in z after p k ≡ slots_in z homes p k
+  set-else p k other = ⊎_elim
+      (λ (is : is_place z p ≡ true). set-other p k (λ same. other (slot-apart z ok p k place number is inside same)))
+      (λ (isnt : is_place z p ≡ false).
+      let none : (is_place z p && nat_lt k z.lanes) ≡ false = and_left (is_place z p) (nat_lt k z.lanes) isnt in
+      ap (λ (b : Bool). let x : At = cond b (get_elem? after (slot_index z p k)) maybe.none in x) none
+      ∙ sym (ap (λ (b : Bool). let x : At = cond b (get_elem? homes (slot_index z p k)) maybe.none in x) none))
+      (cases_Bool (is_place z p))
+
+  -- one slot of the table is set, and that slot of the pool alone
+  pub slots-set : slots_in z after ≡ with_slot (slots_in z homes) place number (maybe.some value)
+  slots-set =
+      let old : ℕ → ℕ → At = slots_in z homes in
+      let one : At = maybe.some value in
+      let each : (p k : ℕ) → slots_in z after p k ≡ with_slot old place number one p k = each-slot place number
+      (set-here ∙ sym (ap (λ (b : Bool). cond b one (old place number)) (and_from (eqb place place) (eqb number number) (eq-eqb place place refl) (eq-eqb number number refl))))
+      (λ k other. set-else place k (λ same. other same.1)
+      ∙ sym (ap (λ (b : Bool). cond b one (old place k)) (and_right (eqb place place) (eqb k number) (ne_eqb k number other))))
+      (λ p k other. set-else p k (λ same. other same.0)
+      ∙ sym (ap (λ (b : Bool). cond b one (old p k)) (and_left (eqb p place) (eqb k number) (ne_eqb p place other)))) in
+      λ i p k. each p k i

@@ -1,0 +1,7 @@
+use Rattle.sharelaws.specs.declared.stored.Status.TheVariants.{Whole}
+use Rattle.sharelaws.specs.Shares.{nothing_stored}
+use Rattle.poolsteps.proofs.grid.Grid.back_whole.Given as goal
+
+-- how the lane leaves the slot
+abbrev pub ghosts-back_as : goal.ghosts-back_as
+ghosts-back_as g a = record { shape = a.self.now.shape; place = a.spot.place; number = a.number; status = Whole; stored = nothing_stored }

@@ -1,0 +1,12 @@
+use Rattle.sharelaws.specs.declared.stored.Status.TheVariants.{Emptied}
+use Rattle.sharelaws.specs.Shares.{nothing_stored}
+use Rattle.poolsteps.specs.Views.{the_lane, known_of}
+use Rattle.poolsteps.proofs.grid.Grid.out_as.Given as goal
+
+-- the slot is taken as its lane left it
+abbrev pub ghosts-lift : goal.ghosts-lift
+ghosts-lift g a = record { shape = a.self.now.shape; place = a.spot.place; number = a.number; status = g.J.Move.status; stored = nothing_stored }
+
+-- and given back empty, with the cell that the lane then knows
+abbrev pub ghosts-lay : goal.ghosts-lay
+ghosts-lay g a = record { shape = a.self.now.shape; place = a.spot.place; number = a.number; status = Emptied; stored = known_of (the_lane a.hand.now.me.0) a.spot.place }

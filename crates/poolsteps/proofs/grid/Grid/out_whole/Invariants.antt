@@ -1,0 +1,7 @@
+use Rattle.sharelaws.specs.declared.stored.Status.TheVariants.{Whole}
+use Rattle.sharelaws.specs.Shares.{nothing_stored}
+use Rattle.poolsteps.proofs.grid.Grid.out_whole.Given as goal
+
+-- how the lane left the slot
+abbrev pub ghosts-out_as : goal.ghosts-out_as
+ghosts-out_as g a = record { shape = a.self.now.shape; place = a.spot.place; number = a.number; status = Whole; stored = nothing_stored }
