@@ -1,0 +1,26 @@
+use Rattle.std.proofs.Common.{refl, sym, ◌∙◌}
+use Rattle.seqpool.specs.declared.act.Act.TheVariants as acts
+use Rattle.steplaws.specs.Calls.Call.{Clearing}
+use Rattle.poolcalls.proofs.Calling.{Opened, called-after, acts-behind, clear-misses, clear-marks}
+use Rattle.poolcalls.proofs.calls.clear.Given.{Over}
+use Rattle.poolcalls.proofs.calls.clear.Goals as goal
+use Rattle.poolcalls.proofs.calls.clear.Goals.{then-hits, else-hits}
+
+-- the call up to its LEAVE
+opened : (g : Over) (c : goal.After-settle g)
+    → Opened c.args.grid.now.shape (Clearing c.args.key) (acts.Clear c.args.lane c.args.key c.if-hits.marked) c.args.hand.now.me c.if-hits.hand.me
+opened g c = elim c.if-hits.branch [
+  | then-hits w ↦
+      rw (c.requires.lane.0, w.hand-is, w.marked-is, w.is_present-marked.ensures)
+      (clear-marks c.requires.key c.enter-found.ensures.enters (sym c.hits.ensures ∙ w.if-hits.true) w.mark.ensures.marks)
+  | else-hits w ↦
+      rw (c.requires.lane.0, w.hand-is, w.marked-is, w.if-hits.false)
+      (clear-misses c.requires.key c.enter-found.ensures.enters (sym c.hits.ensures ∙ w.if-hits.false))
+]
+
+pub returns-clause-called : goal.returns-clause-called
+returns-clause-called g c = called-after (opened g c) refl c.leave-left.ensures.leaves c.requires.spot.place_is c.settle.ensures.ends
+
+pub returns-clause-acts : goal.returns-clause-acts
+returns-clause-acts g c = rw (sym c.requires.spot.place_is)
+    (acts-behind (opened g c) refl c.leave-left.ensures.leaves c.requires.spot.place_is c.settle.ensures.ends c.settle.result c.settle.ensures.acts)

@@ -1,0 +1,26 @@
+use Rattle.std.proofs.Common.{refl, sym, ◌∙◌}
+use Rattle.seqpool.specs.declared.act.Act.TheVariants as acts
+use Rattle.std.specs.Prelude.{None}
+use Rattle.steplaws.specs.Calls.Call.{Getting}
+use Rattle.poolsteps.specs.Views.{the_lane}
+use Rattle.poolcalls.proofs.Calling.{Opened, called-after, acts-behind, get-hits, get-misses}
+use Rattle.poolcalls.proofs.calls.get.Given.{Over}
+use Rattle.poolcalls.proofs.calls.get.Goals as goal
+
+pub returns-then-hits-clause-called : goal.returns-then-hits-clause-called
+returns-then-hits-clause-called g c = get-hits c.requires.key c.enter-found.ensures.enters (sym c.hits.ensures ∙ c.if-hits.true)
+
+-- a miss up to its LEAVE
+opened : (g : Over) (c : goal.After-settle g)
+    → Opened c.args.grid.now.shape (Getting c.args.key) (acts.Get (the_lane c.args.hand.now.me.0).lane c.args.key None) c.args.hand.now.me c.enter-found.new.hand.me
+opened g c = get-misses c.requires.key c.enter-found.ensures.enters (sym c.hits.ensures ∙ c.if-hits.false)
+
+pub returns-clause-called : goal.returns-clause-called
+returns-clause-called g c = called-after (opened g c) refl c.leave-left.ensures.leaves c.requires.spot.place_is c.settle.ensures.ends
+
+pub returns-clause-got : goal.returns-clause-got
+returns-clause-got g c = (
+  rw (sym c.requires.spot.place_is)
+      (acts-behind (opened g c) refl c.leave-left.ensures.leaves c.requires.spot.place_is c.settle.ensures.ends c.settle.result c.settle.ensures.acts),
+  rw (sym c.requires.spot.place_is, sym c.requires.lane.0) c.settle.ensures.reclaimed,
+)

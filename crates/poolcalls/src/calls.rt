@@ -1,0 +1,122 @@
+//! The calls of a key: get, release and clear. A key's place is one of the pool's.
+ghost use Rattle.std.specs.Prelude.{◌∷◌, [], ◌≡◌, ◌≢◌, ◌==◌, ◌<◌, IfSome, true};
+ghost use Rattle.keybits.specs.Keys.{place_of, is_key};
+ghost use Rattle.keybits.specs.Places.{shard_of as shard_number};
+ghost use Rattle.keybits.specs.Words.{state_in};
+ghost use Rattle.seqpool.specs.declared.act.Act.TheVariants as acts;
+ghost use Rattle.sharelaws.specs.declared.stored.Status.TheVariants.{Untouched};
+ghost use Rattle.steplaws.specs.Calls.{is_hit};
+ghost use Rattle.steplaws.specs.Calls.Call.{Getting, Releasing, Clearing};
+ghost use Rattle.steplaws.specs.Facts.{most_references};
+ghost use Rattle.poolsteps.specs.Views.{the_lane, pushed_in, status_of, IsOne};
+ghost use Rattle.poolsteps.specs.Grids.{IsSpot, IsOf, SameSeat};
+ghost use Rattle.poolsteps.specs.Told.{IsIdle, references_seen};
+ghost use Rattle.poolcalls.specs.Called.{Called, EndsWithActs, IsReclaimed, HasGot};
+
+use crate::ends::settle;
+use crate::reclaimed::{Got, Reclaimed};
+use keybits::{Life, State, generation_of};
+use poolsteps::{Grid, Hand, Purpose, Spot};
+use slotcell::Clear;
+use std::alloc::Global;
+
+/// A get of a key: where it hits, the lane has one reference more. It takes no memory.
+pub fn get<T: Clear + Drop>(
+    alloc: Global,
+    grid: &Grid<T>,
+    hand: &mut Hand<T>,
+    spot: Spot,
+    lane: u32,
+    key: u64,
+    top: u64,
+) -> Got<T>
+    requires hand { IsOf grid.now hand.old × IsOne hand.old.me.0 }
+    requires spot { IsSpot grid.now.shape spot (place_of key) }
+    requires lane { (lane ≡ (the_lane hand.old.me.0).lane) × (lane < grid.now.shape.lanes) }
+    requires key { is_key grid.now.shape key ≡ true }
+    requires idle { IsIdle hand.old.me.0 }
+    requires room { references_seen grid.now.shape hand.old.me.0 key < most_references }
+    requires top { top ≡ pushed_in (the_lane hand.old.me.0).pushed (shard_number (place_of key)) }
+    ensures hand { SameSeat hand.old hand.new }
+    ensures called { Called grid.now.shape (Getting key) hand.old.me hand.new.me }
+    ensures got { HasGot T.content T.room grid.now.shape key hand.old.me hand.new.me result }
+{
+    let found = grid.enter(hand, spot, key, Purpose::ToGet);
+    if hits(key, found) {
+        return Got::Hit;
+    }
+    let left = grid.leave(hand, spot, key);
+    Got::Miss(settle(alloc, grid, hand, spot, lane, left, top))
+}
+
+/// A release of a key to which the lane has a reference; its share is back in its slot where that is the last. It takes no
+/// memory.
+pub fn release<T: Clear + Drop>(
+    alloc: Global,
+    grid: &Grid<T>,
+    hand: &mut Hand<T>,
+    spot: Spot,
+    lane: u32,
+    key: u64,
+    top: u64,
+) -> Option<Reclaimed<T>>
+    requires hand { IsOf grid.now hand.old × IsOne hand.old.me.0 }
+    requires spot { IsSpot grid.now.shape spot (place_of key) }
+    requires lane { (lane ≡ (the_lane hand.old.me.0).lane) × (lane < grid.now.shape.lanes) }
+    requires idle { IsIdle hand.old.me.0 }
+    requires held { 0 < references_seen grid.now.shape hand.old.me.0 key }
+    requires share { status_of (the_lane hand.old.me.0) (place_of key) lane ≢ Untouched → 1 < references_seen grid.now.shape hand.old.me.0 key }
+    requires top { top ≡ pushed_in (the_lane hand.old.me.0).pushed (shard_number (place_of key)) }
+    ensures hand { SameSeat hand.old hand.new }
+    ensures called { Called grid.now.shape (Releasing key) hand.old.me hand.new.me }
+    ensures acts { EndsWithActs grid.now.shape (place_of key) (acts.Release lane key ∷ []) hand.old.me.0 hand.new.me.0 result }
+    ensures reclaimed { IfSome result (IsReclaimed T.content T.room grid.now.shape (place_of key) lane hand.new.me.0) }
+{
+    let left = grid.leave(hand, spot, key);
+    settle(alloc, grid, hand, spot, lane, left, top)
+}
+
+/// A clear of a key. Answers whether it is the one that marked it, and what became of its place where that was reclaimed. It
+/// takes no memory.
+pub fn clear<T: Clear + Drop>(
+    alloc: Global,
+    grid: &Grid<T>,
+    hand: &mut Hand<T>,
+    spot: Spot,
+    lane: u32,
+    key: u64,
+    top: u64,
+) -> (bool, Option<Reclaimed<T>>)
+    requires hand { IsOf grid.now hand.old × IsOne hand.old.me.0 }
+    requires spot { IsSpot grid.now.shape spot (place_of key) }
+    requires lane { (lane ≡ (the_lane hand.old.me.0).lane) × (lane < grid.now.shape.lanes) }
+    requires key { is_key grid.now.shape key ≡ true }
+    requires idle { IsIdle hand.old.me.0 }
+    requires top { top ≡ pushed_in (the_lane hand.old.me.0).pushed (shard_number (place_of key)) }
+    ensures hand { SameSeat hand.old hand.new }
+    ensures called { Called grid.now.shape (Clearing key) hand.old.me hand.new.me }
+    ensures acts { EndsWithActs grid.now.shape (place_of key) (acts.Clear lane key result.0 ∷ []) hand.old.me.0 hand.new.me.0 result.1 }
+    ensures reclaimed { IfSome result.1 (IsReclaimed T.content T.room grid.now.shape (place_of key) lane hand.new.me.0) }
+{
+    let found = grid.enter(hand, spot, key, Purpose::ToClear);
+    let marked = hits(key, found) && is_present(grid.mark(hand, spot, key));
+    let left = grid.leave(hand, spot, key);
+    (marked, settle(alloc, grid, hand, spot, lane, left, top))
+}
+
+/// Whether an ENTER that found this word hits the key.
+#[inline]
+fn hits(key: u64, found: u64) -> bool
+    ensures { result ≡ is_hit key found }
+{
+    let life = Life::of_word(found);
+    life.generation == generation_of(key) && life.state == State::Present
+}
+
+/// Whether a key with this word is PRESENT.
+#[inline]
+fn is_present(found: u64) -> bool
+    ensures { result ≡ (state_in found == 1) }
+{
+    Life::of_word(found).state == State::Present
+}

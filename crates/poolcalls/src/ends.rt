@@ -1,0 +1,102 @@
+//! The end of a call that leaves a place: what follows its LEAVE.
+ghost use Rattle.std.specs.Prelude.{◌≡◌, ◌≢◌, ◌<◌, ◌≤◌, [], IfSome};
+ghost use Rattle.keybits.specs.Places.{shard_of as shard_number};
+ghost use Rattle.steplaws.specs.Calls.{owes_claim};
+ghost use Rattle.steplaws.specs.StepLaws.{owed_after};
+ghost use Rattle.sharelaws.specs.Shares.{room_of};
+ghost use Rattle.poolsteps.specs.Views.{the_lane, pushed_in, known_of, IsOne};
+ghost use Rattle.poolsteps.specs.Grids.{IsSpot, IsOf, SameSeat};
+ghost use Rattle.poolsteps.specs.Told.{HasPlace, LeftAlone, claimed_under};
+ghost use Rattle.poolcalls.specs.Called.{EndsWithActs, TailActs, IsLawful, Ends, Tails, IsReclaimed};
+
+use crate::homes::give_home;
+use crate::reclaimed::Reclaimed;
+use keybits::{Life, State, shard_of};
+use poolcells::{rest_cell, take_cell};
+use poolsteps::{Grid, Hand, Spot, shares_law};
+use slotcell::Clear;
+use std::alloc::Global;
+
+/// What follows a LEAVE that found this word: where it left (g, MARKED, 0), the CLAIM of g; and where that succeeded, the
+/// place's object is cleared in place, and a place of another shard returned. None where no place was reclaimed. It takes no
+/// memory.
+pub fn settle<T: Clear + Drop>(
+    alloc: Global,
+    grid: &Grid<T>,
+    hand: &mut Hand<T>,
+    spot: Spot,
+    lane: u32,
+    found: u64,
+    top: u64,
+) -> Option<Reclaimed<T>>
+    requires hand { IsOf grid.now hand.old × IsOne hand.old.me.0 }
+    requires spot { IsSpot grid.now.shape spot spot.place }
+    requires lane { (lane ≡ (the_lane hand.old.me.0).lane) × (lane < grid.now.shape.lanes) }
+    requires seen { IsLawful grid.now.shape hand.old.me.0 }
+    requires owes { (the_lane hand.old.me.0).under ≡ owed_after spot.place found }
+    requires top { top ≡ pushed_in (the_lane hand.old.me.0).pushed (shard_number spot.place) }
+    ensures hand { SameSeat hand.old hand.new }
+    ensures ends { Ends grid.now.shape spot.place found hand.old.me hand.new.me }
+    ensures acts { EndsWithActs grid.now.shape spot.place [] hand.old.me.0 hand.new.me.0 result }
+    ensures reclaimed { IfSome result (IsReclaimed T.content T.room grid.now.shape spot.place lane hand.new.me.0) }
+{
+    if !owes(found) {
+        return None;
+    }
+    let generation = Life::of_word(found).generation;
+    let word = grid.claim(hand, spot, generation);
+    let owed = Life {
+        generation,
+        count: 0,
+        state: State::Marked,
+    };
+    if word != owed.word() {
+        return None;
+    }
+    Some(take_back(alloc, grid, hand, spot, lane, generation, top))
+}
+
+/// Whether a LEAVE that found this word owes a claim.
+fn owes(found: u64) -> bool
+    ensures { result ≡ owes_claim found }
+{
+    let life = Life::of_word(found);
+    life.state == State::Marked && life.count == 1
+}
+
+/// What follows a CLAIM of this generation that succeeded.
+fn take_back<T: Clear + Drop>(
+    alloc: Global,
+    grid: &Grid<T>,
+    hand: &mut Hand<T>,
+    spot: Spot,
+    lane: u32,
+    generation: u32,
+    top: u64,
+) -> Reclaimed<T>
+    requires hand { IsOf grid.now hand.old × IsOne hand.old.me.0 }
+    requires spot { IsSpot grid.now.shape spot spot.place }
+    requires lane { (lane ≡ (the_lane hand.old.me.0).lane) × (lane < grid.now.shape.lanes) }
+    requires seen { IsLawful grid.now.shape hand.old.me.0 }
+    requires under { (the_lane hand.old.me.0).under ≡ claimed_under grid.now.shape lane spot.place generation }
+    requires place { HasPlace grid.now.shape hand.old.me.0 spot.place × LeftAlone grid.now.shape (the_lane hand.old.me.0) spot.place }
+    requires room { (known_of (the_lane hand.old.me.0) spot.place).room ≡ room_of hand.old.me.0.seen hand.old.me.0.rooms spot.place }
+    requires top { top ≡ pushed_in (the_lane hand.old.me.0).pushed (shard_number spot.place) }
+    ensures hand { SameSeat hand.old hand.new }
+    ensures tails { Tails grid.now.shape spot.place generation hand.old.me hand.new.me }
+    ensures acts { TailActs grid.now.shape spot.place hand.old.me.0 hand.new.me.0 result }
+    ensures reclaimed { IsReclaimed T.content T.room grid.now.shape spot.place lane hand.new.me.0 result }
+{
+    shares_law();
+    let mut whole = take_cell(alloc, grid, hand, spot, lane);
+    if generation == grid.shape.last_generation {
+        return Reclaimed::Retired;
+    }
+    whole.get_mut().clear();
+    if shard_of(spot.place) == lane {
+        return Reclaimed::Own(whole);
+    }
+    rest_cell(grid, hand, spot, lane, whole);
+    give_home(grid, hand, spot, lane, top);
+    Reclaimed::Returned
+}

@@ -1,0 +1,72 @@
+//! The calls that publish what was filled in.
+ghost use Rattle.std.specs.Prelude.{◌≡◌, ◌<◌, true, false};
+ghost use Rattle.keybits.specs.Keys.{place_of};
+ghost use Rattle.seqpool.specs.declared.act.Act.TheVariants as acts;
+ghost use Rattle.sharelaws.specs.declared.stored.Status.TheVariants.{Emptied};
+ghost use Rattle.steplaws.specs.Calls.Call.{Publishing};
+ghost use Rattle.poolsteps.specs.Views.{the_lane, status_of, known_of, IsOne};
+ghost use Rattle.poolsteps.specs.Grids.{IsSpot, IsOf, SameSeat};
+ghost use Rattle.poolsteps.specs.Told.{MayPublish, LeftAlone};
+ghost use Rattle.poolsteps.specs.Moved.{stored_of};
+ghost use Rattle.poolcells.specs.Carried.{AreEmptied, ShowsCell};
+ghost use Rattle.poolcalls.specs.Called.{IsLawful, Called, MadeOne};
+
+use poolcells::{spread_cell, spread_others};
+use poolsteps::{Grid, Hand, Spot, shares_law};
+use slotcell::{Clear, Share, Whole};
+
+/// Publishes the content of a whole cell under a key whose place is with the lane, which emptied its slots: a share goes into
+/// each, and PUBLISH follows. It takes no memory.
+pub fn publish<T: Clear + Drop>(
+    grid: &Grid<T>,
+    hand: &mut Hand<T>,
+    spot: Spot,
+    lane: u32,
+    key: u64,
+    whole: Whole<T>,
+)
+    requires hand { IsOf grid.now hand.old × IsOne hand.old.me.0 }
+    requires spot { IsSpot grid.now.shape spot (place_of key) }
+    requires lane { (lane ≡ (the_lane hand.old.me.0).lane) × (lane < grid.now.shape.lanes) }
+    requires seen { IsLawful grid.now.shape hand.old.me.0 }
+    requires may { MayPublish grid.now.shape hand.old.me.0 key }
+    requires slots { AreEmptied grid.now.shape (the_lane hand.old.me.0) (place_of key) }
+    ensures hand { SameSeat hand.old hand.new }
+    ensures called { Called grid.now.shape (Publishing key (T.content whole) false) hand.old.me hand.new.me }
+    ensures acts { MadeOne hand.old.me.0 hand.new.me.0 (acts.Publish lane key (T.content whole) false) }
+    ensures slots { LeftAlone grid.now.shape (the_lane hand.new.me.0) (place_of key) }
+    ensures cell { ShowsCell T.content T.room (known_of (the_lane hand.new.me.0) (place_of key)) whole }
+{
+    shares_law();
+    spread_cell(grid, hand, spot, lane, whole);
+    grid.publish(hand, spot, key);
+}
+
+/// Publishes the content of a whole cell as `publish` does, with a reference: the lane's own share stays in its hands. It takes
+/// no memory.
+pub fn downgrade<T: Clear + Drop>(
+    grid: &Grid<T>,
+    hand: &mut Hand<T>,
+    spot: Spot,
+    lane: u32,
+    key: u64,
+    whole: Whole<T>,
+) -> Share<T>
+    requires hand { IsOf grid.now hand.old × IsOne hand.old.me.0 }
+    requires spot { IsSpot grid.now.shape spot (place_of key) }
+    requires lane { (lane ≡ (the_lane hand.old.me.0).lane) × (lane < grid.now.shape.lanes) }
+    requires seen { IsLawful grid.now.shape hand.old.me.0 }
+    requires may { MayPublish grid.now.shape hand.old.me.0 key }
+    requires slots { AreEmptied grid.now.shape (the_lane hand.old.me.0) (place_of key) }
+    ensures hand { SameSeat hand.old hand.new }
+    ensures called { Called grid.now.shape (Publishing key (T.content whole) true) hand.old.me hand.new.me }
+    ensures acts { MadeOne hand.old.me.0 hand.new.me.0 (acts.Publish lane key (T.content whole) true) }
+    ensures slot { status_of (the_lane hand.new.me.0) (place_of key) lane ≡ Emptied }
+    ensures share { (result.number ≡ lane) × (result.of ≡ grid.now.shape.lanes) × (result.object ≡ whole) }
+    ensures cell { known_of (the_lane hand.new.me.0) (place_of key) ≡ stored_of T.content T.room result }
+{
+    shares_law();
+    let share = spread_others(grid, hand, spot, lane, whole);
+    grid.publish_held(hand, spot, key, &share);
+    share
+}

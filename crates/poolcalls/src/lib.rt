@@ -1,0 +1,18 @@
+//! The calls of a pool, over the hands of its lanes: each puts steps and moves together, and tells them as the steps of the
+//! call.
+#![tactic(auto)]
+
+mod calls;
+mod ends;
+mod fills;
+mod homes;
+mod reclaimed;
+
+pub use calls::{clear, get, release};
+pub use ends::settle;
+pub use fills::{downgrade, publish};
+pub use homes::give_home;
+pub use reclaimed::{Got, Reclaimed};
+
+#[cfg(test)]
+mod tests;

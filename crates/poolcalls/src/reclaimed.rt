@@ -1,0 +1,22 @@
+//! What becomes of a place that was reclaimed, and what a get answers.
+use slotcell::Whole;
+
+/// What became of a place that a call reclaimed.
+#[derive(Drop)]
+pub enum Reclaimed<T> {
+    /// It is of the lane's own shard: its object, which was cleared in place.
+    Own(Whole<T>),
+    /// It is of another shard, and was returned there.
+    Returned,
+    /// Its last generation was over: it is retired, and its object was dropped.
+    Retired,
+}
+
+/// What a get answers.
+#[derive(Drop)]
+pub enum Got<T> {
+    /// The lane has a reference more.
+    Hit,
+    /// The key is not published, or cleared. Where the last to leave its place was this get, the place was reclaimed.
+    Miss(Option<Reclaimed<T>>),
+}
