@@ -1,0 +1,3 @@
+pub mod WithPlaces
+pub mod HeldContents
+pub mod HomePlaces
