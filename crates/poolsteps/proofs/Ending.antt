@@ -2,53 +2,54 @@
 use Rattle.std.proofs.Common.{◌≡◌, ◌⊎◌, inl, inr, ⊎_elim, ℕ, zero, suc, List, [], ◌∷◌, ◌++◌, length, slice_get, Option, Some, refl, ap, sym, ◌∙◌, subst}
 use Rattle.std.specs.List.{All}
 use Rattle.std.proofs.lemmas.List.Elements.{All-head, All-tail}
-use mathlib.Core.List.{IsPrefix}
 use Rattle.atomic_table.specs.declared.shared.Seat.{Seat}
 use Rattle.atomic_table.specs.Table.{Me, Final, Seen}
-use Rattle.seqpool.specs.declared.act.Act.{Act}
 use Rattle.slotcell.specs.Share.{Share}
 use Rattle.poolsteps.specs.declared.grid.Grid.{Grid}
 use Rattle.poolsteps.specs.declared.view.LaneRecord.{LaneRecord}
 use Rattle.poolsteps.specs.declared.view.View.{View}
+use Rattle.poolsteps.specs.declared.view.Heard.{Heard}
 use Rattle.poolsteps.specs.Views.{the_lane, IsOne, In}
-use Rattle.poolsteps.specs.Rule.{World, Stands, Kept}
-use Rattle.poolsteps.specs.Seats.{both_of}
+use Rattle.poolsteps.specs.Rule.{World, IsBeginning, HasSeen, Stands, Kept}
+use Rattle.poolsteps.specs.Seats.{heard_of, both_of}
 use Rattle.poolsteps.specs.Grids.{IsOf, SameSeat, AreHands, EndsWith}
 use Rattle.poolsteps.proofs.ViewLemmas.{in-front, in-behind, entry-of, entry-before, entry-last, all-split}
 
 -- ---- what seats know
 
--- the history begins with what the seat saw, and with each that it was told of
-abbrev pub Begins : List Act → View → Type 0
-Begins history v = IsPrefix v.seen history × All (λ heard. IsPrefix heard history) v.told
+-- the history begins with what the seat saw, and with each that it was told of, with the rooms beside them
+abbrev pub Begins : World → View → Type 0
+Begins world v = HasSeen world v × All (IsBeginning world) v.told
 
 -- a seat has the lanes that another has, and knows what it knows
 pub record Knows (v w : View) : Type 0 where
   pub lanes : (r : LaneRecord) → In r w.lanes → In r v.lanes
-  pub begins : (history : List Act) → Begins history v → Begins history w
+  pub begins : (world : World) → Begins world v → Begins world w
 
 knows-itself : (v : View) → Knows v v
-knows-itself v = record { lanes = λ r among. among; begins = λ history begins. begins }
+knows-itself v = record { lanes = λ r among. among; begins = λ world begins. begins }
 
 knows-further : (u v w : View) → Knows u v → Knows v w → Knows u w
 knows-further u v w first then = record {
   lanes = λ r among. first.lanes r (then.lanes r among);
-  begins = λ history begins. then.begins history (first.begins history begins);
+  begins = λ world begins. then.begins world (first.begins world begins);
 }
 
 -- two seats at one know what either knew
 knows-both : (v w : View) → Knows (both_of v w) v × Knows (both_of v w) w
 knows-both v w = (
-  record { lanes = λ r among. in-front r v.lanes w.lanes among; begins = λ history begins. (told history begins).0 },
-  record { lanes = λ r among. in-behind r v.lanes w.lanes among; begins = λ history begins. (told history begins).1 },
+  record { lanes = λ r among. in-front r v.lanes w.lanes among; begins = λ world begins. (told world begins).0 },
+  record { lanes = λ r among. in-behind r v.lanes w.lanes among; begins = λ world begins. (told world begins).1 },
 )
   where
-    told : (history : List Act) → Begins history (both_of v w) → Begins history v × Begins history w
-    told history begins =
-        let P : List Act → Type 0 = λ heard. IsPrefix heard history in
-        let rest = All-tail P v.seen (w.seen ∷ v.told ++ w.told) begins.1 in
-        let split = all-split P v.told w.told (All-tail P w.seen (v.told ++ w.told) rest) in
-        ((All-head P v.seen (w.seen ∷ v.told ++ w.told) begins.1, split.0), (All-head P w.seen (v.told ++ w.told) rest, split.1))
+    told : (world : World) → Begins world (both_of v w) → Begins world v × Begins world w
+    told world begins =
+        let P : Heard → Type 0 = IsBeginning world in
+        let first : Heard = heard_of v in
+        let second : Heard = heard_of w in
+        let rest = All-tail P first (second ∷ v.told ++ w.told) begins.1 in
+        let split = all-split P v.told w.told (All-tail P second (v.told ++ w.told) rest) in
+        ((All-head P first (second ∷ v.told ++ w.told) begins.1, split.0), (All-head P second (v.told ++ w.told) rest, split.1))
 
 -- ---- the hands
 
@@ -119,15 +120,18 @@ module _ {T : Type 0} (grid : Grid T) (hands : List (Seat (Option (Share T)) Vie
         let s = final.0 in
         let w : World = final.1.0.0 in
         let stands = final.1.0.1 in
-        let at_end = final.1.1 in (
+        let at_end = final.1.1 in
+        let begins : (index : ℕ) (hand : Seat S View) → slice_get hands index ≡ Some hand → HasSeen w hand.me.0 =
+        λ index hand at. ((known index hand at).begins w (stands.seats.seen seat.id seat.me.0 at_end, stands.seats.told seat.id seat.me.0 at_end)).0 in (
           w,
           record {
             homes = s.homes;
             at_home = final.4;
             views = s.views;
             stands = subst (λ (ws : List ℕ). Stands content room grid.shape w s.homes ws s.views) final.2 stands;
-            seen = λ index hand at. ((known index hand at).begins w.history
-                ((stands.seats.seen seat.id seat.me.0 at_end).acts, stands.seats.told seat.id seat.me.0 at_end)).0;
+            seen = λ index hand at. (begins index hand at).acts;
+            rooms = λ index hand at. (begins index hand at).rooms;
+            paired = λ index hand at. (begins index hand at).paired;
             records = λ index hand at. stands.seats.records (the_lane hand.me.0)
                 (seat.id, seat.me.0, at_end, (known index hand at).lanes (the_lane hand.me.0) (own-lane hand (are.each index hand at).1));
           },

@@ -9,8 +9,8 @@ use Rattle.seqpool.specs.Histories.{acts_of}
 use Rattle.poolsteps.specs.declared.view.LaneRecord.{LaneRecord}
 use Rattle.poolsteps.specs.declared.view.View.{View}
 use Rattle.poolsteps.specs.Views.{In}
-use Rattle.poolsteps.specs.Rule.{World, HasSeen, Kept}
-use Rattle.poolsteps.specs.Seats.{both_of, longer, spent}
+use Rattle.poolsteps.specs.Rule.{World, IsBeginning, HasSeen, Kept}
+use Rattle.poolsteps.specs.Seats.{heard_of, both_of, longer, spent}
 use Rattle.poolsteps.proofs.ViewLemmas.{in-either, times-joined, acts-between, longer-begins}
 use Rattle.poolsteps.proofs.Joints.{IsSound, join}
 
@@ -38,9 +38,8 @@ both-sound z v u w one two =
     let begins = longer-begins v.seen u.seen w.history one.seen.acts two.seen.acts in record {
       records = λ r among. ⊎_elim (λ (here : In r v.lanes). one.records r here) (λ (there : In r u.lanes). two.records r there) (in-either r v.lanes u.lanes among);
       seen = both-seen v u w one.seen two.seen;
-      told = All-cons (λ heard. IsPrefix heard w.history) v.seen (u.seen ∷ v.told ++ u.told) one.seen.acts
-          (All-cons (λ heard. IsPrefix heard w.history) u.seen (v.told ++ u.told) two.seen.acts
-          (All-append (λ heard. IsPrefix heard w.history) v.told u.told one.told two.told));
+      told = All-cons (IsBeginning w) (heard_of v) (heard_of u ∷ v.told ++ u.told) one.seen
+          (All-cons (IsBeginning w) (heard_of u) (v.told ++ u.told) two.seen (All-append (IsBeginning w) v.told u.told one.told two.told));
       own = λ r among. ⊎_elim
           (λ (here : In r v.lanes). own-of v one most begins.1 begins.0 r here)
           (λ (there : In r u.lanes). own-of u two most begins.2 begins.0 r there)

@@ -14,7 +14,7 @@ use Rattle.slotcell.specs.Share.{Share}
 use Rattle.poolsteps.specs.declared.view.LaneRecord.{LaneRecord}
 use Rattle.poolsteps.specs.declared.view.View.{View}
 use Rattle.poolsteps.specs.Views.{In, times_in, times_among}
-use Rattle.poolsteps.specs.Rule.{World, IsRecord, HasSeen, AreSeats, Kept}
+use Rattle.poolsteps.specs.Rule.{World, IsRecord, IsBeginning, HasSeen, AreSeats, Kept}
 use Rattle.poolsteps.specs.Seats.{spent}
 use Rattle.poolsteps.proofs.ViewLemmas.{among-set, among-append}
 
@@ -24,7 +24,7 @@ use Rattle.poolsteps.proofs.ViewLemmas.{among-set, among-append}
 pub record IsSound (z : Shape) (w : World) (v : View) : Type 0 where
   pub records : (r : LaneRecord) → In r v.lanes → IsRecord z w r
   pub seen : HasSeen w v
-  pub told : All (λ heard. IsPrefix heard w.history) v.told
+  pub told : All (IsBeginning w) v.told
   pub own : (r : LaneRecord) → In r v.lanes → r.mine ≡ acts_of r.lane v.seen
 
 -- this holds of the view of each seat
@@ -86,8 +86,8 @@ part-sound : (z : Shape) (w : World) (v part : View) → IsPart v part → IsSou
 part-sound z w v part is sound = record {
   records = λ r among. sound.records r (is.inside r among);
   seen = part-seen w v part is sound.seen;
-  told = ⊎_elim (λ (same : part.told ≡ v.told). All-same (λ heard. IsPrefix heard w.history) part.told v.told same sound.told)
-      (λ (none : part.told ≡ []). All-same (λ heard. IsPrefix heard w.history) part.told [] none (All-nil (λ heard. IsPrefix heard w.history))) is.told;
+  told = ⊎_elim (λ (same : part.told ≡ v.told). All-same (IsBeginning w) part.told v.told same sound.told)
+      (λ (none : part.told ≡ []). All-same (IsBeginning w) part.told [] none (All-nil (IsBeginning w))) is.told;
   own = λ r among. sound.own r (is.inside r among) ∙ ap (acts_of r.lane) (sym is.seen);
 }
 
@@ -116,7 +116,7 @@ spent-sound : (z : Shape) (w : World) → IsSound z w spent
 spent-sound z w = record {
   records = λ r among. absurd among;
   seen = record { acts = (w.history, refl); rooms = (w.kept, refl); paired = refl };
-  told = All-nil (λ heard. IsPrefix heard w.history);
+  told = All-nil (IsBeginning w);
   own = λ r among. absurd among;
 }
 

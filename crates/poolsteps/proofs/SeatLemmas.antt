@@ -1,5 +1,5 @@
 -- One lane's seat steps: the table's rule goes on, and what the seat is told.
-use Rattle.std.proofs.Common.{◌≡◌, ◌≢◌, inl, ⊎_elim, ℕ, zero, suc, ◌+◌, ◌<◌, true, cond, eqb, List, [], ◌∷◌, ◌++◌, length, length-append, length-set, take, drop, take-append-drop, Option, Some, None, slice_index, slice_set, refl, ap, sym, ◌∙◌, subst, arith, append-nil}
+use Rattle.std.proofs.Common.{◌≡◌, ◌≢◌, inl, ⊎_elim, ℕ, zero, suc, ◌+◌, ◌<◌, true, cond, eqb, List, [], ◌∷◌, ◌++◌, length, length-append, length-set, take, drop, take-append-drop, Option, Some, None, slice_index, slice_index_or, slice_set, refl, ap, sym, ◌∙◌, subst, arith, append-nil}
 use Rattle.std.specs.List.{All}
 use Rattle.std.proofs.lemmas.List.{length-take-le}
 use Rattle.std.proofs.lemmas.List.Elements.{All-nil, All-same}
@@ -22,13 +22,15 @@ use Rattle.sharelaws.specs.Shares.{Slots, Stock, Shared}
 use Rattle.steplaws.specs.Facts.{Words, Lanes, moment, Rule}
 use Rattle.steplaws.specs.StepLaws.{with_act, Keeps}
 use Rattle.poolsteps.specs.declared.view.LaneRecord.{LaneRecord}
+use Rattle.poolsteps.specs.declared.view.Heard.{Heard}
 use Rattle.poolsteps.specs.declared.view.View.{View}
 use Rattle.poolsteps.specs.Layout.{has_word, index_in, words_in, slot_count, slots_in}
 use Rattle.poolsteps.specs.Views.{the_lane, IsOne, pushed_in, status_of, known_of, In, times_in, acts_in, rooms_in}
-use Rattle.poolsteps.specs.Rule.{World, IsRecord, HasSeen, AreSeats, Stands}
+use Rattle.poolsteps.specs.Rule.{World, IsRecord, IsBeginning, HasSeen, AreSeats, Stands}
+use Rattle.poolsteps.specs.Seats.{heard_of}
 use Rattle.poolsteps.specs.Told.{GoesOn, Steps}
 use Rattle.poolsteps.proofs.LayoutLemmas.{value-is, set-word}
-use Rattle.poolsteps.proofs.ViewLemmas.{times-some, in-one, among-set, among-two, prefix-self, prefix-trans, prefixes-grow, act-behind, none-behind, acts-between, shorter-begins}
+use Rattle.poolsteps.proofs.ViewLemmas.{times-some, in-one, among-set, among-two, prefix-self, prefix-trans, act-behind, none-behind, acts-between, shorter-begins}
 
 -- the view of a seat with this lane, which saw all of a world
 abbrev pub view_of : LaneRecord → World → ℕ → ℕ → View
@@ -178,11 +180,11 @@ module _ (z : Shape) (w : World) (views : List View) (seats : AreSeats z w views
       mine = is.mine;
     }
 
-    -- a seat that saw a beginning of the world before
-    seen-still : (y : View) → HasSeen w y → HasSeen n y
-    seen-still y begins = record {
-      acts = prefix-trans y.seen w.history n.history begins.acts (made, sym grows);
-      rooms = prefix-trans y.rooms w.kept n.kept begins.rooms (rooms_made, sym more);
+    -- a beginning of the world before is one of this
+    begins-still : (heard : Heard) → IsBeginning w heard → IsBeginning n heard
+    begins-still heard begins = record {
+      acts = prefix-trans heard.seen w.history n.history begins.acts (made, sym grows);
+      rooms = prefix-trans heard.rooms w.kept n.kept begins.rooms (rooms_made, sym more);
       paired = begins.paired;
     }
 
@@ -209,13 +211,13 @@ module _ (z : Shape) (w : World) (views : List View) (seats : AreSeats z w views
           (at_set views id has.0 u has.1 has.2);
       seen = λ seat y e. ⊎_elim
           (λ (here : (seat ≡ id) × (u ≡ y)). subst (HasSeen n) here.1 sees)
-          (λ (there : (seat ≢ id) × (get_elem? views seat ≡ some y)). seen-still y (seats.seen seat y there.1))
+          (λ (there : (seat ≢ id) × (get_elem? views seat ≡ some y)). begins-still (heard_of y) (seats.seen seat y there.1))
           (at_set views id seat u y e);
       told = λ seat y e. ⊎_elim
-          (λ (here : (seat ≡ id) × (u ≡ y)). subst (λ (x : View). All (λ heard. IsPrefix heard n.history) x.told) here.1
-          (All-same (λ heard. IsPrefix heard n.history) u.told [] untold (All-nil (λ heard. IsPrefix heard n.history))))
-          (λ (there : (seat ≢ id) × (get_elem? views seat ≡ some y)).
-          prefixes-grow y.told w.history n.history (made, sym grows) (seats.told seat y there.1))
+          (λ (here : (seat ≡ id) × (u ≡ y)). subst (λ (x : View). All (IsBeginning n) x.told) here.1
+          (All-same (IsBeginning n) u.told [] untold (All-nil (IsBeginning n))))
+          (λ (there : (seat ≢ id) × (get_elem? views seat ≡ some y)). λ k heard below.
+          begins-still (slice_index_or y.told k heard) (seats.told seat y there.1 k heard below))
           (at_set views id seat u y e);
       own = λ seat y x e among. ⊎_elim
           (λ (here : (seat ≡ id) × (u ≡ y)).

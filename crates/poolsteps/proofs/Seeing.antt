@@ -1,13 +1,14 @@
 -- SEE, through the table.
-use Rattle.std.proofs.Common.{◌≡◌, true, [], ◌∷◌, ap, sym, ◌∙◌, ℕ, List, Option, refl}
+use Rattle.std.proofs.Common.{◌≡◌, true, [], ◌∷◌, ap, sym, ◌∙◌, ℕ, List, Option, refl, subst}
 use Rattle.atomic_table.specs.Table as table
 use Rattle.atomic_table.specs.Table.{Me, Allows}
 use Rattle.keybits.specs.declared.shape.Shape.{Shape}
 use Rattle.slotcell.specs.Share.{Share}
 use Rattle.poolsteps.specs.declared.view.LaneRecord.{LaneRecord}
+use Rattle.poolsteps.specs.declared.view.Heard.{Heard}
 use Rattle.poolsteps.specs.declared.view.View.{View}
 use Rattle.poolsteps.specs.Views.{the_lane, IsOne}
-use Rattle.poolsteps.specs.Rule.{World, IsRecord, Kept}
+use Rattle.poolsteps.specs.Rule.{World, IsRecord, IsBeginning, Kept}
 use Rattle.poolsteps.specs.Told.{Sees, SeesLife}
 use Rattle.std.specs.List.{All}
 use Rattle.std.proofs.lemmas.List.Elements.{All-head}
@@ -24,13 +25,18 @@ use Rattle.poolsteps.proofs.ViewLemmas.{prefix-self, longer-begins}
 use Rattle.poolsteps.proofs.SeatLemmas.{short_view, stays-same, short-stands, look_view, Agrees, is-at, look-stands}
 
 -- what is seen then: the longer of what was seen and what was told last, if anything was
-furthest : (told : List (List Act)) (seen history : List Act) → IsPrefix seen history → All (λ heard. IsPrefix heard history) told
-    → (far : List Act) × IsPrefix seen far × IsPrefix far history
-    × ((heard : List Act) (more : List (List Act)) → told ≡ heard ∷ more → far ≡ longer seen heard)
-furthest [] seen history begins all = (seen, prefix-self seen, begins, λ heard more is. absurd (cc is))
-furthest (heard ∷ more) seen history begins all =
-    let most = longer-begins seen heard history begins (All-head (λ h. IsPrefix h history) heard more all) in
-    (longer seen heard, most.1, most.0, λ other rest is. let same : heard ≡ other = cc is in ap (longer seen) same)
+furthest : (told : List Heard) (seen : List Act) (w : World) → IsPrefix seen w.history → All (IsBeginning w) told
+    → (far : List Act) × IsPrefix seen far × IsPrefix far w.history
+    × ((heard : Heard) (more : List Heard) → told ≡ heard ∷ more → (far ≡ longer seen heard.seen) × IsPrefix heard.seen far)
+furthest [] seen w begins all = (seen, prefix-self seen, begins, λ heard more is. absurd (cc is))
+furthest (heard ∷ more) seen w begins all =
+    let most = longer-begins seen heard.seen w.history begins (All-head (IsBeginning w) heard more all).acts in (
+      longer seen heard.seen,
+      most.1,
+      most.0,
+      λ other rest is. let same : heard ≡ other = cc is in
+          subst (λ (h : Heard). (longer seen heard.seen ≡ longer seen h.seen) × IsPrefix h.seen (longer seen heard.seen)) same (refl, most.2),
+    )
 
 -- a record that is so agrees with its world
 pub agrees-now : (z : Shape) (w : World) (r : LaneRecord) → IsRecord z w r → Agrees r w.lanes w.stock
@@ -64,6 +70,6 @@ see-no-further-allows content room z slots id me one index s kept homes at small
     let w : World = kept.0 in
     let st = kept.1 in
     let old = (st.seats.seen id me.0 at).acts in
-    let far = furthest me.0.told me.0.seen w.history old (st.seats.told id me.0 at) in
+    let far = furthest me.0.told me.0.seen w old (st.seats.told id me.0 at) in
     let looks = short-stands content room z id me one w s.homes s.words s.views st at index far.0 far.1 far.2 in
     (short_view me.0 w far.0, table.keeps, tt, (w, looks.0), (record { goes = looks.1; held = refl; steps = refl; looks = refl }, far.3))

@@ -3,7 +3,6 @@ use Rattle.std.proofs.Common.{◌≡◌, ⊎_elim, ℕ, zero, suc, ◌+◌, ◌^
 use Rattle.std.proofs.lemmas.List.Elements.{All-nil}
 use mathlib.Core.Logic.{dite}
 use mathlib.Core.Option.{some, some-injective, some-ne-none}
-use mathlib.Core.List.{IsPrefix}
 use native.Mathlib.Decide.{ℕ_discrete}
 use lib.ListN.{get_elem?}
 use Rattle.atomic_table.specs.Table.{opening}
@@ -18,7 +17,7 @@ use Rattle.poolsteps.specs.declared.view.LaneRecord.{LaneRecord}
 use Rattle.poolsteps.specs.declared.view.View.{View}
 use Rattle.poolsteps.specs.Layout.{word_count, words_in, slot_count, slots_in}
 use Rattle.poolsteps.specs.Views.{first_record, In, times_in}
-use Rattle.poolsteps.specs.Rule.{World, IsRecord, AreSeats, Kept, first_records, first_view}
+use Rattle.poolsteps.specs.Rule.{World, IsRecord, IsBeginning, AreSeats, Kept, first_records, first_view}
 use Rattle.poolsteps.proofs.FirstSlots.{AreNone, slots-empty}
 use Rattle.poolsteps.proofs.Joints.{IsSound, all-sound}
 
@@ -74,7 +73,7 @@ first-sound z = record {
   records = λ r among. let found = in-first-records r 0 z.lanes among in
       subst (IsRecord z first_world) (sym found.3) (first-is-record z found.0 (omega arith));
   seen = record { acts = ([], refl); rooms = ([], refl); paired = refl };
-  told = All-nil (λ heard. IsPrefix heard []);
+  told = All-nil (IsBeginning first_world);
   own = λ r among. ap (λ (x : LaneRecord). x.mine) (in-first-records r 0 z.lanes among).3;
 }
 

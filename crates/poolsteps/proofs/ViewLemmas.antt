@@ -1,6 +1,6 @@
 -- Lists of records and of views, and histories that go on.
 use Rattle.std.proofs.Common.{◌≡◌, ◌≢◌, ◌⊎◌, inl, inr, ⊎_elim, ℕ, zero, suc, ◌+◌, ◌<◌, ◌≤◌, Bool, true, false, cond, ltb, List, [], ◌∷◌, ◌++◌, length}
-use Rattle.std.proofs.Common.{slice_get, slice_set, slice_index_or, Option, Some, None, refl, ap, sym, ◌∙◌, subst, arith, eq-eqb, append_assoc, append-nil}
+use Rattle.std.proofs.Common.{slice_get, slice_set, Option, Some, None, refl, ap, sym, ◌∙◌, subst, arith, eq-eqb, append_assoc, append-nil}
 use Rattle.std.specs.List.{All}
 use Rattle.std.proofs.lemmas.Bool.{ltb-true, ltb-false}
 use Rattle.std.proofs.lemmas.List.Elements.{All-nil, All-cons, All-head, All-tail}
@@ -158,11 +158,6 @@ longer-of false xs ys history is p q = (p, prefix-self xs, shorter-begins ys xs 
 -- the longer of two beginnings of a history does
 pub longer-begins : {A : Type 0} (xs ys history : List A) → IsPrefix xs history → IsPrefix ys history → BeginsWith history xs ys (longer xs ys)
 longer-begins xs ys history p q = longer-of (ltb (length xs) (length ys)) xs ys history refl p q
-
--- what begins a history begins a longer one
-pub prefixes-grow : (told : List (List Act)) (history grown : List Act) → IsPrefix history grown → All (λ heard. IsPrefix heard history) told
-    → All (λ heard. IsPrefix heard grown) told
-prefixes-grow told history grown grows begin k heard below = prefix-trans (slice_index_or told k heard) history grown (begin k heard below) grows
 
 -- ---- lists
 

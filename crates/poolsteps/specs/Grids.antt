@@ -45,7 +45,7 @@ pub record AreHands {T : Type 0} (grid : Grid T) (hands : List (Seat (Option (Sh
   pub some_hand : 0 < length hands
   pub each : (index : ℕ) (hand : Seat (Option (Share T)) View) → slice_get hands index ≡ Some hand → IsOf grid hand × IsOne hand.me.0 × (hand.me.1 ≡ [])
 
--- the rule holds of these last words and slots with this world, whose history begins with what each hand saw and has just the acts of its lane
+-- the rule holds of these last words and slots with this world, whose history begins with what each hand saw, with the rooms beside it, and has just the acts of its lane
 pub record EndsWith {T : Type 0} (content : T → List ℕ) (room : T → ℕ) (grid : Grid T) (hands : List (Seat (Option (Share T)) View))
     (words : List ℕ) (slots : List (Option (Share T))) (w : World) : Type 0 where
   -- the slots that no hand has
@@ -54,4 +54,6 @@ pub record EndsWith {T : Type 0} (content : T → List ℕ) (room : T → ℕ) (
   pub views : List View
   pub stands : Stands content room grid.shape w homes words views
   pub seen : (index : ℕ) (hand : Seat (Option (Share T)) View) → slice_get hands index ≡ Some hand → IsPrefix hand.me.0.seen w.history
+  pub rooms : (index : ℕ) (hand : Seat (Option (Share T)) View) → slice_get hands index ≡ Some hand → IsPrefix hand.me.0.rooms w.kept
+  pub paired : (index : ℕ) (hand : Seat (Option (Share T)) View) → slice_get hands index ≡ Some hand → length hand.me.0.rooms ≡ length hand.me.0.seen
   pub records : (index : ℕ) (hand : Seat (Option (Share T)) View) → slice_get hands index ≡ Some hand → IsRecord grid.shape w (the_lane hand.me.0)

@@ -18,6 +18,7 @@ use Rattle.steplaws.specs.declared.pending.Pending.TheVariants.{Nothing, Undo, O
 use Rattle.steplaws.specs.Facts.{home_in, returner}
 use Rattle.poolsteps.specs.declared.view.Deed.TheVariants.{Returned, Collected}
 use Rattle.poolsteps.specs.declared.view.LaneRecord.{LaneRecord}
+use Rattle.poolsteps.specs.declared.view.Heard.{Heard}
 use Rattle.poolsteps.specs.declared.view.View.{View}
 use Rattle.poolsteps.specs.Views.{the_lane, pushed_in, status_of, known_of}
 use Rattle.poolsteps.specs.Seats.{longer}
@@ -130,9 +131,10 @@ module _ {S : Type 0} (z : Shape) where
 
   -- a look, after which the seat saw all that it was told
   abbrev pub SeesTold : Me S View → Me S View → Type 0
-  SeesTold before after = Sees z before after × All (λ heard. IsPrefix heard after.0.seen) before.0.told
+  SeesTold before after = Sees z before after × All (λ heard. IsPrefix heard.seen after.0.seen) before.0.told
 
-  -- a look after which the seat saw no further than it had, or than it was told last
+  -- a look after which the seat saw what it was told last, and no further than that or than it had
   abbrev pub SeesNoFurther : Me S View → Me S View → Type 0
   SeesNoFurther before after = Sees z before after
-      × ((heard : List Act) (more : List (List Act)) → before.0.told ≡ heard ∷ more → after.0.seen ≡ longer before.0.seen heard)
+      × ((heard : Heard) (more : List Heard) → before.0.told ≡ heard ∷ more
+      → (after.0.seen ≡ longer before.0.seen heard.seen) × IsPrefix heard.seen after.0.seen)

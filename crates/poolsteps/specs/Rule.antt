@@ -13,8 +13,10 @@ use Rattle.steplaws.specs.Facts.{Lanes, moment, Rule}
 use Rattle.slotcell.specs.Share.{Share}
 use Rattle.sharelaws.specs.Shares.{Stock, Shared}
 use Rattle.poolsteps.specs.declared.view.LaneRecord.{LaneRecord}
+use Rattle.poolsteps.specs.declared.view.Heard.{Heard}
 use Rattle.poolsteps.specs.declared.view.View.{View}
 use Rattle.poolsteps.specs.Layout.{word_count, words_in, slot_count, slots_in}
+use Rattle.poolsteps.specs.Seats.{heard_of}
 use Rattle.poolsteps.specs.Views.{first_record, pushed_in, status_of, known_of, In, HasRecord, times_among}
 
 -- what the words, the slots and the views of a table tell of: a history, the rooms kept beside its acts, the lanes, and the shares
@@ -35,17 +37,21 @@ pub record IsRecord (z : Shape) (w : World) (r : LaneRecord) : Type 0 where
   pub deeds : (place number : ℕ) → status_of r place number ≡ w.stock.status r.lane place number
   pub cells : (place : ℕ) → known_of r place ≡ w.stock.knows r.lane place
 
+-- this is a beginning of the history, with the rooms beside it
+pub record IsBeginning (w : World) (heard : Heard) : Type 0 where
+  pub acts : IsPrefix heard.seen w.history
+  pub rooms : IsPrefix heard.rooms w.kept
+  pub paired : length heard.rooms ≡ length heard.seen
+
 -- what a seat saw is a beginning of the history, with the rooms beside it
-pub record HasSeen (w : World) (v : View) : Type 0 where
-  pub acts : IsPrefix v.seen w.history
-  pub rooms : IsPrefix v.rooms w.kept
-  pub paired : length v.rooms ≡ length v.seen
+abbrev pub HasSeen : World → View → Type 0
+HasSeen w v = IsBeginning w (heard_of v)
 
 -- Prefix: what each seat saw, and what it was told of, is a beginning of the history; what it saw has just the lane's acts; each lane has one seat at most
 pub record AreSeats (z : Shape) (w : World) (views : List View) : Type 0 where
   pub records : (r : LaneRecord) → HasRecord views r → IsRecord z w r
   pub seen : (seat : ℕ) (v : View) → get_elem? views seat ≡ some v → HasSeen w v
-  pub told : (seat : ℕ) (v : View) → get_elem? views seat ≡ some v → All (λ heard. IsPrefix heard w.history) v.told
+  pub told : (seat : ℕ) (v : View) → get_elem? views seat ≡ some v → All (IsBeginning w) v.told
   pub own : (seat : ℕ) (v : View) (r : LaneRecord) → get_elem? views seat ≡ some v → In r v.lanes → r.mine ≡ acts_of r.lane v.seen
   pub once : (lane : ℕ) → times_among lane views ≤ 1
 

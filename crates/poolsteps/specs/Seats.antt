@@ -1,6 +1,7 @@
 -- How seats are cut and joined.
 use Rattle.std.specs.Prelude.{List, [], ◌∷◌, ◌++◌, length, nat_lt, if◌then◌else◌}
 use Rattle.poolsteps.specs.declared.view.LaneRecord.{LaneRecord}
+use Rattle.poolsteps.specs.declared.view.Heard.{Heard}
 use Rattle.poolsteps.specs.declared.view.View.{View}
 
 -- the first of these records
@@ -25,9 +26,13 @@ first_alone v = record { lanes = first_of v.lanes; seen = v.seen; rooms = v.room
 abbrev pub note_of : View → View
 note_of v = record { lanes = []; seen = v.seen; rooms = v.rooms; told = []; steps = 0; looks = 0 }
 
+-- what a seat saw, with the rooms beside it
+abbrev pub heard_of : View → Heard
+heard_of v = record { seen = v.seen; rooms = v.rooms }
+
 -- a seat that is told what another saw
 abbrev pub told_by : View → View → View
-told_by v w = record v { told = w.seen ∷ v.told }
+told_by v w = record v { told = heard_of w ∷ v.told }
 
 -- the longer of two lists
 abbrev pub longer : {A : Type 0} → List A → List A → List A
@@ -35,7 +40,7 @@ longer xs ys = if nat_lt (length xs) (length ys) then ys else xs
 
 -- the lanes of two seats at one; it is told what both saw
 abbrev pub both_of : View → View → View
-both_of v w = record v { lanes = v.lanes ++ w.lanes; seen = longer v.seen w.seen; rooms = longer v.rooms w.rooms; told = v.seen ∷ w.seen ∷ v.told ++ w.told }
+both_of v w = record v { lanes = v.lanes ++ w.lanes; seen = longer v.seen w.seen; rooms = longer v.rooms w.rooms; told = heard_of v ∷ heard_of w ∷ v.told ++ w.told }
 
 -- a seat that was joined to another
 abbrev pub spent : View

@@ -20,7 +20,8 @@ pub type Hand<T> = Seat<Slot<T>, View>;
 pub struct Spot {
     /// The place's number.
     pub place: u32,
-    pub(crate) position: usize,
+    /// Which place it is among all places of the pool.
+    pub position: usize,
     pub(crate) life: usize,
     pub(crate) link: usize,
 }

@@ -43,7 +43,7 @@ impl<T: Clear> Grid<T> {
     }
 
     /// Takes in a note as `heard` does, and sees no further: what the lane has then seen is the longer of what it saw and what
-    /// the note has. So two lanes that take in a note of each other, one after the other, have seen one history.
+    /// the note has, and begins with both. So two lanes that take in a note of each other, one after the other, have seen one history.
     pub fn met(&self, hand: &mut Hand<T>, lane: u32, note: Hand<T>)
         requires hand { IsOf self.now hand.old × IsOne hand.old.me.0 }
         requires lane { lane < self.now.shape.lanes }
@@ -51,6 +51,7 @@ impl<T: Clear> Grid<T> {
         ensures hand { SameSeat hand.old hand.new }
         ensures sees { Sees self.now.shape hand.old.me hand.new.me }
         ensures met { hand.new.me.0.seen ≡ longer hand.old.me.0.seen note.me.0.seen }
+        ensures heard { IsPrefix note.me.0.seen hand.new.me.0.seen }
     {
         self.told(hand, note);
         self.see_no_further::<Brand>(hand, lane);

@@ -39,6 +39,14 @@ pub struct LaneRecord {
     pub cells: LinkedList<(u32, Stored)>,
 }
 
+/// A history that a seat was told of, with the rooms beside it.
+pub struct Heard {
+    /// The history.
+    pub seen: LinkedList<Act>,
+    /// A number beside each act of it, as in a view.
+    pub rooms: LinkedList<u64>,
+}
+
 /// The view of a seat: that of a hand has the record of one lane.
 pub struct View {
     /// The records of the seat's lanes.
@@ -48,7 +56,7 @@ pub struct View {
     /// A number beside each act of it: beside a publish the room of its object, and 0 beside any other.
     pub rooms: LinkedList<u64>,
     /// Histories of which the seat was told, and which it didn't take in yet.
-    pub told: LinkedList<LinkedList<Act>>,
+    pub told: LinkedList<Heard>,
     /// The number of steps that were made by the seat.
     pub steps: u64,
     /// The number of looks that were made by the seat.
