@@ -18,9 +18,10 @@ use Rattle.poolsteps.specs.declared.view.LaneRecord.{LaneRecord}
 use Rattle.poolsteps.specs.declared.view.View.{View}
 use Rattle.poolsteps.specs.Views.{head_record, the_lane, acts_in, after_step}
 use Rattle.poolsteps.specs.Told.{LifeSteps, EntersGet, EntersClear, Leaves, Marks, IsIdle}
-use Rattle.poolcalls.specs.Called.{caller_of, Make, Did, AreEnd, GoesToEnd, Ends, Called, EndsWithActs, end_acts, end_pushed}
+use Rattle.poolcalls.specs.Called.{caller_of, Make, IsUnmoved, Did, AreEnd, GoesToEnd, Ends, Called, EndsWithActs, MovedNothing, HasGot, end_acts, end_pushed}
 use Rattle.poolcalls.specs.declared.reclaimed.Reclaimed.{Reclaimed}
-use Rattle.poolcalls.proofs.Doing.{life-next, did-step, did-most, did-more, make-one, make-more, same-caller}
+use Rattle.poolcalls.specs.declared.reclaimed.Got.TheVariants.{Hit}
+use Rattle.poolcalls.proofs.Doing.{unmoved-now, unmoved-more, life-next, did-step, did-most, did-more, make-one, make-more, same-caller}
 
 -- ---- the steps of a call, one after another
 
@@ -56,9 +57,10 @@ pub record Opens {S : Type 0} (z : Shape) (call : Call) (steps : List Step) (mad
   pub did : Did z (place_of (key_in call)) made (length steps) 0 a b
   pub pushed : (the_lane b.0).pushed ≡ (the_lane a.0).pushed
   pub same : caller_of z b.0 ≡ caller_of z a.0
+  pub unmoved : IsUnmoved (place_of (key_in call)) (the_lane a.0) (the_lane b.0)
 
 -- a step of the lifecycle word of a key's place
-abbrev life-step : Kind → ℕ → ℕ → ℕ → Step
+abbrev pub life-step : Kind → ℕ → ℕ → ℕ → Step
 life-step kind key found left = record { kind = kind; word = Life (place_of key); before = found; after = left }
 
 pub no-links : ℕ → ℕ
@@ -76,6 +78,9 @@ module _ {S : Type 0} {z : Shape} {kind : Kind} {found left : ℕ} {act : Option
   life-caller : caller_of z b.0 ≡ caller_of z a.0
   life-caller = same-caller z a.0 b.0 (ap (λ (r : LaneRecord). r.lane) now) (ap (λ (r : LaneRecord). r.pushed) now)
 
+  pub life-unmoved : (place : ℕ) → IsUnmoved place (the_lane a.0) (the_lane b.0)
+  life-unmoved place = unmoved-now place (the_lane a.0) (the_lane b.0) act under now
+
   did-life : (place : ℕ) → Did z place (acts_in act) 1 0 a b
   did-life place = did-step steps (life-next (the_lane a.0) place act under)
 
@@ -89,6 +94,7 @@ module _ {S : Type 0} {z : Shape} {kind : Kind} {found left : ℕ} {act : Option
     did = did-life (place_of (key_in call));
     pushed = ap (λ (r : LaneRecord). r.pushed) now;
     same = life-caller;
+    unmoved = life-unmoved (place_of (key_in call));
   }
 
   -- one after others
@@ -105,6 +111,7 @@ module _ {S : Type 0} {z : Shape} {kind : Kind} {found left : ℕ} {act : Option
         did = subst (λ (n : ℕ). Did z place (made ++ acts_in act) n 0 first b) (sym (length-append done (step ∷ []))) (did-more opens.did (did-life place));
         pushed = ap (λ (r : LaneRecord). r.pushed) now ∙ opens.pushed;
         same = life-caller ∙ opens.same;
+        unmoved = unmoved-more opens.unmoved (life-unmoved place);
       }
 
 -- ---- whole calls
@@ -112,13 +119,13 @@ module _ {S : Type 0} {z : Shape} {kind : Kind} {found left : ℕ} {act : Option
 module _ {S : Type 0} {z : Shape} {call : Call} {made : List Act} {a b : Me S View} where
   -- one of these steps only
   pub called-at-once : {steps : List Step} → Opens z call steps made a b → next_step (caller_of z a.0) call steps ≡ None → length steps ≤ 8 → IsIdle b.0
-      → Called z call a b
+      → Called z call 34 a b
   called-at-once {steps = steps} opens last few idle =
       record { steps = steps; made = made; are = opens.are; all = last; make = opens.make; did = did-most opens.did (omega arith); few = few; idle = idle }
 
   -- one that goes on as an end after these, from its LEAVE
   pub called-by-end : {c : Me S View} (done : List Step) (leave : Step) → Opens z call (done ++ leave ∷ []) made a b → length done ≤ 2
-      → GoesOnAsEnd (caller_of z a.0) call done → GoesToEnd z (place_of (key_in call)) (leave ∷ []) 5 34 b c → Called z call a c
+      → GoesOnAsEnd (caller_of z a.0) call done → GoesToEnd z (place_of (key_in call)) (leave ∷ []) 5 34 b c → Called z call 34 a c
   called-by-end {c = c} done leave opens few follows rest =
       let front : List Step = done ++ leave ∷ [] in
       let place : ℕ = place_of (key_in call) in
@@ -136,18 +143,26 @@ module _ {S : Type 0} {z : Shape} {call : Call} {made : List Act} {a b : Me S Vi
         idle = rest.idle;
       }
 
+-- where no place was reclaimed, the lane moved nothing in front of its end either
+moved-after : {T : Type 0} (z : Shape) (place : ℕ) (r s t : LaneRecord) (reclaimed : Option (Reclaimed T)) → IsUnmoved place r s → MovedNothing z place s t reclaimed
+    → MovedNothing z place r t reclaimed
+moved-after z place r s t None first second = unmoved-more first second
+moved-after z place r s t (Some reclaimed) first second = λ number below. sym (first.deeds number) ∙ second number below
+
 -- acts before an end, and those of it
 acts-after : {T : Type 0} (z : Shape) (place : ℕ) (first : List Act) (a c d : View) (reclaimed : Option (Reclaimed T)) → (the_lane c).lane ≡ (the_lane a).lane
-    → (the_lane c).mine ≡ (the_lane a).mine ++ first → (the_lane c).pushed ≡ (the_lane a).pushed → EndsWithActs z place [] c d reclaimed
-    → EndsWithActs z place first a d reclaimed
-acts-after z place first a c d reclaimed lane mine pushed made =
+    → (the_lane c).mine ≡ (the_lane a).mine ++ first → (the_lane c).pushed ≡ (the_lane a).pushed → IsUnmoved place (the_lane a) (the_lane c)
+    → EndsWithActs z place [] c d reclaimed → EndsWithActs z place first a d reclaimed
+acts-after z place first a c d reclaimed lane mine pushed unmoved made =
     let behind : ℕ → List Act = λ l. end_acts z l place made.0.0 reclaimed in (
       (
         made.0.0,
         made.0.1 ∙ (ap (λ (xs : List Act). xs ++ behind (the_lane c).lane) mine
             ∙ (append_assoc (the_lane a).mine first (behind (the_lane c).lane) ∙ ap (λ (l : ℕ). (the_lane a).mine ++ (first ++ behind l)) lane)),
+        made.0.2,
       ),
       made.1 ∙ ap (λ (pushes : List (ℕ × ℕ)). end_pushed pushes place reclaimed) pushed,
+      moved-after z place (the_lane a) (the_lane c) (the_lane d) reclaimed unmoved made.2,
     )
 
 -- a call made its own act, and is to undo its ENTER
@@ -169,7 +184,7 @@ module _ {S : Type 0} {z : Shape} {call : Call} {act : Act} {a b c d : Me S View
   rest : GoesToEnd z (place_of (key_in call)) (leave ∷ []) 5 34 c d
   rest = subst (λ (p : ℕ). GoesToEnd z p (leave ∷ []) 5 34 c d) at (ends leave refl)
 
-  pub called-after : Called z call a d
+  pub called-after : Called z call 34 a d
   called-after =
       let next : next_step (caller_of z a.0) call opened.done ≡ Some (aim kinds.Leave (Life (place_of (key_in call))))
       = ap (next_step (caller_of z a.0) call) (sym (append-nil opened.done)) ∙ opened.follows [] in
@@ -177,15 +192,18 @@ module _ {S : Type 0} {z : Shape} {call : Call} {act : Act} {a b c d : Me S View
 
   pub acts-behind : {T : Type 0} (reclaimed : Option (Reclaimed T)) → EndsWithActs z place [] c.0 d.0 reclaimed → EndsWithActs z place (act ∷ []) a.0 d.0 reclaimed
   acts-behind reclaimed made =
-      let now = ap head_record (leaves.1 opened.hit opened.under).goes.lanes in
+      let left_so = leaves.1 opened.hit opened.under in
+      let now = ap head_record left_so.goes.lanes in
+      let first = subst (λ (p : ℕ). IsUnmoved p (the_lane a.0) (the_lane b.0)) (sym at) opened.opens.unmoved in
       acts-after z place (act ∷ []) a.0 c.0 d.0 reclaimed (ap (λ (r : LaneRecord). r.lane) now ∙ opened.opens.did.lane)
-      (ap (λ (r : LaneRecord). r.mine) now ∙ (append-nil (the_lane b.0).mine ∙ opened.opens.did.mine)) (ap (λ (r : LaneRecord). r.pushed) now ∙ opened.opens.pushed) made
+      (ap (λ (r : LaneRecord). r.mine) now ∙ (append-nil (the_lane b.0).mine ∙ opened.opens.did.mine)) (ap (λ (r : LaneRecord). r.pushed) now ∙ opened.opens.pushed)
+      (unmoved-more first (life-unmoved left_so place)) made
 
 -- ---- each call
 
 -- a release
 pub release-called : {S : Type 0} {z : Shape} {key left place : ℕ} {a b c : Me S View} → IsIdle a.0 → Leaves z key a left b → place ≡ place_of key → Ends z place left b c
-    → Called z (Releasing key) a c
+    → Called z (Releasing key) 34 a c
 release-called {z = z} {key = key} {left = left} {b = b} {c = c} idle leaves at ends =
     let leave : Step = life-step kinds.Leave key left (left - 4) in
     called-by-end [] leave (opens-first (leaves.0 idle) (Releasing key) refl refl) (omega arith) (λ s. refl)
@@ -194,63 +212,118 @@ release-called {z = z} {key = key} {left = left} {b = b} {c = c} idle leaves at 
 pub release-acts : {S T : Type 0} {z : Shape} {key left : ℕ} {a b : Me S View} (place : ℕ) (c : View) (reclaimed : Option (Reclaimed T)) → IsIdle a.0 → Leaves z key a left b
     → EndsWithActs z place [] b.0 c reclaimed → EndsWithActs z place (acts.Release (the_lane a.0).lane key ∷ []) a.0 c reclaimed
 release-acts {z = z} {key = key} {a = a} {b = b} place c reclaimed idle leaves made =
-    let now = ap head_record (leaves.0 idle).goes.lanes in
+    let left_so = leaves.0 idle in
+    let now = ap head_record left_so.goes.lanes in
     acts-after z place (acts.Release (the_lane a.0).lane key ∷ []) a.0 b.0 c reclaimed (ap (λ (r : LaneRecord). r.lane) now) (ap (λ (r : LaneRecord). r.mine) now)
-    (ap (λ (r : LaneRecord). r.pushed) now) made
+    (ap (λ (r : LaneRecord). r.pushed) now) (life-unmoved left_so place) made
 
 -- the ENTER of a key
-abbrev enter-step : ℕ → ℕ → Step
+abbrev pub enter-step : ℕ → ℕ → Step
 enter-step key found = life-step kinds.Enter key found (found + 4)
 
--- it comes first
+-- the MARK of a key
+abbrev pub mark-step : ℕ → ℕ → Step
+mark-step key word = life-step kinds.Mark key word (word + 3 - state_in word)
+
+-- the ENTER comes first
 enter-next : (key : ℕ) (inside : Bool) → inside ≡ true → cond inside (Some (aim kinds.Enter (Life (place_of key)))) None ≡ Some (aim kinds.Enter (Life (place_of key)))
 enter-next key inside is = ap (λ (b : Bool). cond b (Some (aim kinds.Enter (Life (place_of key)))) None) is
 
+-- what follows it, by whether it hits: no step of a get, a MARK of a clear, and else an end
+module _ (c : Caller) (key found : ℕ) where
+  pub get-ends : is_hit key found ≡ true → next_step c (Getting key) (enter-step key found ∷ []) ≡ None
+  get-ends hit = ap (λ (b : Bool). cond b None (end_next c (place_of key) [])) hit
+
+  pub get-follows : is_hit key found ≡ false → GoesOnAsEnd c (Getting key) (enter-step key found ∷ [])
+  get-follows miss s = ap (λ (b : Bool). cond b None (end_next c (place_of key) s)) miss
+
+  pub clear-follows : is_hit key found ≡ false → GoesOnAsEnd c (Clearing key) (enter-step key found ∷ [])
+  clear-follows miss s = ap (λ (b : Bool). cond b (mark_next c (place_of key) s) (end_next c (place_of key) s)) miss
+
+  mark-follows : is_hit key found ≡ true → (s : List Step) → next_step c (Clearing key) (enter-step key found ∷ s) ≡ mark_next c (place_of key) s
+  mark-follows hit s = ap (λ (b : Bool). cond b (mark_next c (place_of key) s) (end_next c (place_of key) s)) hit
+
+  -- and after the MARK
+  pub clear-ends : (word : ℕ) → is_hit key found ≡ true → GoesOnAsEnd c (Clearing key) (enter-step key found ∷ mark-step key word ∷ [])
+  clear-ends word hit s = mark-follows hit (mark-step key word ∷ s)
+
 module _ {S : Type 0} {z : Shape} {key found : ℕ} {a b : Me S View} (inside : is_key z key ≡ true) where
+  -- a get up to its ENTER, which hits
+  pub get-entered : EntersGet z key a found b → is_hit key found ≡ true
+      → (content : List ℕ) × Opens z (Getting key) (enter-step key found ∷ []) (acts.Get (the_lane a.0).lane key (Some content) ∷ []) a b
+  get-entered enters hit =
+      let told = enters.0 hit in (told.0, opens-first told.2 (Getting key) (enter-next key (is_key z key) inside) (Some told.0, sym hit, refl))
+
+  -- or which misses
+  pub get-missed : EntersGet z key a found b → is_hit key found ≡ false
+      → Opens z (Getting key) (enter-step key found ∷ []) (acts.Get (the_lane a.0).lane key None ∷ []) a b
+  get-missed enters miss = opens-first (enters.1 miss) (Getting key) (enter-next key (is_key z key) inside) (None, sym miss, refl)
+
   -- a get that hits
-  pub get-hits : EntersGet z key a found b → is_hit key found ≡ true → Called z (Getting key) a b
-  get-hits enters hit =
+  pub get-hits : EntersGet z key a found b → is_hit key found ≡ true → Called z (Getting key) 34 a b
+  get-hits enters hit = called-at-once (get-entered enters hit).1 (get-ends (caller_of z a.0) key found hit) (omega arith) (life-under (enters.0 hit).2)
+
+  -- it makes its reply, moves nothing, and leaves its slot alone where it had no reference
+  pub hit-tells : {T : Type 0} (content : T → List ℕ) (room : T → ℕ) → EntersGet z key a found b → is_hit key found ≡ true → HasGot content room z key a b Hit
+  hit-tells content room enters hit =
       let told = enters.0 hit in
-      called-at-once (opens-first told.2 (Getting key) (enter-next key (is_key z key) inside) (Some told.0, sym hit, refl))
-      (ap (λ (b : Bool). cond b None (end_next (caller_of z a.0) (place_of key) [])) hit) (omega arith) (life-under told.2)
+      let now = ap head_record told.2.goes.lanes in
+      let unmoved = life-unmoved told.2 (place_of key) in (
+        told.0,
+        (ap (λ (r : LaneRecord). r.mine) now, ap (λ (r : LaneRecord). r.pushed) now),
+        unmoved,
+        λ none. unmoved.deeds (the_lane a.0).lane ∙ told.1 none,
+      )
 
   -- and one that misses
   pub get-misses : EntersGet z key a found b → is_hit key found ≡ false → Opened z (Getting key) (acts.Get (the_lane a.0).lane key None) a b
-  get-misses enters miss = let told = enters.1 miss in record {
+  get-misses enters miss = record {
     done = enter-step key found ∷ [];
-    opens = opens-first told (Getting key) (enter-next key (is_key z key) inside) (None, sym miss, refl);
+    opens = get-missed enters miss;
     few = omega arith;
-    follows = λ s. ap (λ (b : Bool). cond b None (end_next (caller_of z a.0) (place_of key) s)) miss;
+    follows = get-follows (caller_of z a.0) key found miss;
     hit = false;
-    under = life-under told;
+    under = life-under (enters.1 miss);
   }
+
+  -- a clear up to its ENTER, which misses
+  pub clear-missed : EntersClear z key a found b → is_hit key found ≡ false
+      → Opens z (Clearing key) (enter-step key found ∷ []) (acts.Clear (the_lane a.0).lane key false ∷ []) a b
+  clear-missed enters miss = opens-first (enters.1 miss) (Clearing key) (enter-next key (is_key z key) inside)
+      (ap (λ (b : Bool). cond b None (Some (acts.Clear (the_lane a.0).lane key false))) (sym miss))
+
+  -- or which hits
+  pub clear-entered : EntersClear z key a found b → is_hit key found ≡ true → Opens z (Clearing key) (enter-step key found ∷ []) [] a b
+  clear-entered enters hit = opens-first (enters.0 hit) (Clearing key) (enter-next key (is_key z key) inside)
+      (ap (λ (b : Bool). cond b None (Some (acts.Clear (the_lane a.0).lane key false))) (sym hit))
+
+  -- then its MARK
+  pub clear-marked : {word : ℕ} {c : Me S View} → EntersClear z key a found b → is_hit key found ≡ true → Marks z key b word c
+      → Opens z (Clearing key) (enter-step key found ∷ mark-step key word ∷ []) (acts.Clear (the_lane a.0).lane key (state_in word == 1) ∷ []) a c
+  clear-marked {word = word} {c = c} enters hit marks =
+      let entered = clear-entered enters hit in
+      let marked = opens-more marks entered (mark-follows (caller_of z a.0) key found hit []) (ap (λ (l : ℕ). Some (acts.Clear l key (state_in word == 1))) entered.did.lane) in
+      subst (λ (l : ℕ). Opens z (Clearing key) (enter-step key found ∷ mark-step key word ∷ []) (acts.Clear l key (state_in word == 1) ∷ []) a c) entered.did.lane marked
 
   -- a clear that misses
   pub clear-misses : EntersClear z key a found b → is_hit key found ≡ false → Opened z (Clearing key) (acts.Clear (the_lane a.0).lane key false) a b
-  clear-misses enters miss = let told = enters.1 miss in record {
+  clear-misses enters miss = record {
     done = enter-step key found ∷ [];
-    opens = opens-first told (Clearing key) (enter-next key (is_key z key) inside)
-        (ap (λ (b : Bool). cond b None (Some (acts.Clear (the_lane a.0).lane key false))) (sym miss));
+    opens = clear-missed enters miss;
     few = omega arith;
-    follows = λ s. ap (λ (b : Bool). cond b (mark_next (caller_of z a.0) (place_of key) s) (end_next (caller_of z a.0) (place_of key) s)) miss;
+    follows = clear-follows (caller_of z a.0) key found miss;
     hit = false;
-    under = life-under told;
+    under = life-under (enters.1 miss);
   }
 
   -- and one that hits, with its MARK
   pub clear-marks : {word : ℕ} {c : Me S View} → EntersClear z key a found b → is_hit key found ≡ true → Marks z key b word c
       → Opened z (Clearing key) (acts.Clear (the_lane a.0).lane key (state_in word == 1)) a c
-  clear-marks {word = word} {c = c} enters hit marks =
-      let told = enters.0 hit in
-      let mark : Step = life-step kinds.Mark key word (word + 3 - state_in word) in
-      let follows : (s : List Step) → next_step (caller_of z a.0) (Clearing key) (enter-step key found ∷ s) ≡ mark_next (caller_of z a.0) (place_of key) s
-      = λ s. ap (λ (b : Bool). cond b (mark_next (caller_of z a.0) (place_of key) s) (end_next (caller_of z a.0) (place_of key) s)) hit in
-      let entered = opens-first told (Clearing key) (enter-next key (is_key z key) inside) (ap (λ (b : Bool). cond b None (Some (acts.Clear (the_lane a.0).lane key false))) (sym hit)) in
-      let marked = opens-more marks entered (follows []) (ap (λ (l : ℕ). Some (acts.Clear l key (state_in word == 1))) entered.did.lane) in record {
-        done = enter-step key found ∷ mark ∷ [];
-        opens = subst (λ (l : ℕ). Opens z (Clearing key) (enter-step key found ∷ mark ∷ []) (acts.Clear l key (state_in word == 1) ∷ []) a c) entered.did.lane marked;
-        few = omega arith;
-        follows = λ s. follows (mark ∷ s);
-        hit = true;
-        under = life-under marks;
-      }
+  clear-marks {word = word} enters hit marks = record {
+    done = enter-step key found ∷ mark-step key word ∷ [];
+    opens = clear-marked enters hit marks;
+    few = omega arith;
+    follows = clear-ends (caller_of z a.0) key found word hit;
+    hit = true;
+    under = life-under marks;
+  }

@@ -9,19 +9,18 @@ use Rattle.keybits.specs.Steps.{Changes}
 use Rattle.seqpool.specs.declared.act.Act.{Act}
 use Rattle.seqpool.specs.declared.act.Act.TheVariants as acts
 use Rattle.seqpool.specs.Histories.{acts_of}
-use Rattle.seqpool.proofs.Growth.{acts-append}
 use Rattle.sharelaws.specs.declared.stored.Stored.{Stored}
 use Rattle.sharelaws.specs.declared.stored.Status.TheVariants.{Untouched}
 use Rattle.steplaws.specs.declared.pending.Pending.{Pending}
 use Rattle.steplaws.specs.Calls.{Call, Caller, aim, end_next, key_in, Makes}
 use Rattle.poolsteps.specs.declared.view.LaneRecord.{LaneRecord}
 use Rattle.poolsteps.specs.declared.view.View.{View}
-use Rattle.poolsteps.specs.Views.{head_record, the_lane, pushed_in, status_of, known_of, acts_in, after_step, with_cell}
+use Rattle.poolsteps.specs.Views.{head_record, the_lane, pushed_in, status_of, known_of, acts_in, rooms_in, after_step, with_cell}
 use Rattle.poolsteps.specs.Told.{GoesOn, Steps, IsIdle}
 use Rattle.poolsteps.specs.Returned.{with_return, pushed_record}
 use Rattle.poolsteps.proofs.ViewLemmas.{prefix-trans}
 use Rattle.poolcells.specs.Carried.{Carries}
-use Rattle.poolcalls.specs.Called.{caller_of, Make, Did, AreEnd, GoesToEnd}
+use Rattle.poolcalls.specs.Called.{caller_of, Make, IsUnmoved, Did, AreEnd, GoesToEnd}
 
 -- ---- the lane's record
 
@@ -32,6 +31,13 @@ pub record IsNext (place : ℕ) (made : List Act) (r s : LaneRecord) : Type 0 wh
   pub chain : s.chain ≡ r.chain
   pub deeds : (p number : ℕ) → p ≢ place → status_of s p number ≡ status_of r p number
   pub cells : (p : ℕ) → p ≢ place → known_of s p ≡ known_of r p
+
+-- the lane moved nothing by a step of a lifecycle word, and by what follows where it moved nothing before
+pub unmoved-now : (place : ℕ) (r s : LaneRecord) (act : Option Act) (under : Pending) → s ≡ after_step r act under → IsUnmoved place r s
+unmoved-now place r s act under now = record { deeds = λ number. ap (λ (x : LaneRecord). status_of x place number) now; cell = ap (λ (x : LaneRecord). known_of x place) now }
+
+pub unmoved-more : {place : ℕ} {r s t : LaneRecord} → IsUnmoved place r s → IsUnmoved place s t → IsUnmoved place r t
+unmoved-more first second = record { deeds = λ number. second.deeds number ∙ first.deeds number; cell = second.cell ∙ first.cell }
 
 -- so is the record after a step of a lifecycle word, without a cell of the place and with one
 pub life-next : (r : LaneRecord) (place : ℕ) (act : Option Act) (under : Pending) → IsNext place (acts_in act) r (after_step r act under)
@@ -63,15 +69,36 @@ push-next r place = record {
 
 -- ---- what the lane did
 
+-- so many rooms stand beside the acts of a step as it made
+rooms-made : (r : LaneRecord) (act : Option Act) → length (rooms_in r act) ≡ length (acts_in act)
+rooms-made r None = refl
+rooms-made r (Some act) = refl
+
+-- beside these acts and rooms, as many of each are more
+abbrev AreMore : List Act → List ℕ → List Act → List ℕ → Type 0
+AreMore seen rooms seen_now rooms_now = (more : List ℕ) × (rooms_now ≡ rooms ++ more) × (length seen_now ≡ length seen + length more)
+
+-- a room stands beside each act that was seen between two views
+rooms-beside : {z : Shape} {v w : View} {made : List Act} {rooms : List ℕ} {r : LaneRecord} → GoesOn z v w made rooms r → length rooms ≡ length made
+    → AreMore v.seen v.rooms w.seen w.rooms
+rooms-beside {v = v} {w = w} {made = made} {rooms = rooms} goes beside =
+    let one = ap (λ (xs : List Act). length xs) goes.seen in
+    let two = length-append (v.seen ++ goes.between) made in
+    let three = length-append v.seen goes.between in
+    let four = length-append goes.rooms_between rooms in
+    let five = goes.paired.1 in
+    (goes.rooms_between ++ rooms, goes.rooms ∙ append_assoc v.rooms goes.rooms_between rooms, omega (arith, one, two, three, four, five, beside))
+
 module _ {S : Type 0} {z : Shape} {place : ℕ} {a b : Me S View} where
-  did-goes : {made : List Act} {rooms : List ℕ} {r : LaneRecord} {steps looks : ℕ} → GoesOn z a.0 b.0 made rooms r → IsNext place made (the_lane a.0) r
-      → b.1 ≡ a.1 → b.0.steps ≡ a.0.steps + steps → b.0.looks ≤ a.0.looks + looks → Did z place made steps looks a b
-  did-goes {made = made} {r = r} goes next held stepped looked =
+  did-goes : {made : List Act} {rooms : List ℕ} {r : LaneRecord} {steps looks : ℕ} → GoesOn z a.0 b.0 made rooms r → length rooms ≡ length made
+      → IsNext place made (the_lane a.0) r → b.1 ≡ a.1 → b.0.steps ≡ a.0.steps + steps → b.0.looks ≤ a.0.looks + looks → Did z place made steps looks a b
+  did-goes {made = made} {r = r} goes beside next held stepped looked =
       let now : the_lane b.0 ≡ r = ap head_record goes.lanes in record {
         one = goes.lanes ∙ ap (λ (x : LaneRecord). x ∷ []) (sym now);
         lane = ap (λ (x : LaneRecord). x.lane) now ∙ next.lane;
         mine = ap (λ (x : LaneRecord). x.mine) now ∙ next.mine;
         seen = (goes.between ++ made, sym (goes.seen ∙ append_assoc a.0.seen goes.between made));
+        rooms = rooms-beside goes beside;
         legal = goes.legal;
         own = subst (λ (x : LaneRecord). x.mine ≡ acts_of x.lane b.0.seen) (sym now) goes.mine;
         held = held;
@@ -85,19 +112,19 @@ module _ {S : Type 0} {z : Shape} {place : ℕ} {a b : Me S View} where
   -- one step
   pub did-step : {kind : Kind} {found left : ℕ} {act : Option Act} {r : LaneRecord} → Steps z kind found left a b act r → IsNext place (acts_in act) (the_lane a.0) r
       → Did z place (acts_in act) 1 0 a b
-  did-step steps next = did-goes steps.goes next steps.held steps.steps (let same = steps.looks in omega arith)
+  did-step {act = act} {r = r} steps next = did-goes steps.goes (rooms-made r act) next steps.held steps.steps (let same = steps.looks in omega arith)
 
-  -- moves of the place's shares, where the lane's acts were those that its seat saw
-  pub did-carries : {n looks : ℕ} → (the_lane a.0).mine ≡ acts_of (the_lane a.0).lane a.0.seen → Carries z place n a b → n ≤ looks → Did z place [] 0 looks a b
-  did-carries own carries few =
-      let l : ℕ = (the_lane b.0).lane in
-      let goes = carries.goes in
+  -- moves of the place's shares
+  pub did-carries : {n looks : ℕ} → Carries z place n a b → n ≤ looks → Did z place [] 0 looks a b
+  did-carries carries few =
       let same = carries.elsewhere in
-      let none : acts_of l b.0.seen ≡ acts_of l a.0.seen ++ []
-      = ap (acts_of l) (goes.seen ∙ append-nil (a.0.seen ++ goes.between)) ∙ (acts-append l a.0.seen goes.between ∙ ap (λ (xs : List Act). acts_of l a.0.seen ++ xs) goes.others) in
-      let mine : acts_of l a.0.seen ≡ (the_lane a.0).mine = ap (λ (k : ℕ). acts_of k a.0.seen) same.lane ∙ sym own in
-      did-goes goes (record { lane = same.lane; mine = goes.mine ∙ (none ∙ ap (λ (xs : List Act). xs ++ []) mine); chain = same.chain; deeds = same.deeds; cells = same.cells })
-      carries.held (let steps = carries.steps in omega arith) (let looked = carries.looked in omega arith)
+      did-goes carries.goes refl (record {
+        lane = same.lane;
+        mine = same.mine ∙ sym (append-nil (the_lane a.0).mine);
+        chain = same.chain;
+        deeds = same.deeds;
+        cells = same.cells;
+      }) carries.held (let steps = carries.steps in omega arith) (let looked = carries.looked in omega arith)
 
   -- more looks are allowed
   pub did-most : {made : List Act} {steps looks most : ℕ} → Did z place made steps looks a b → looks ≤ most → Did z place made steps most a b
@@ -106,6 +133,7 @@ module _ {S : Type 0} {z : Shape} {place : ℕ} {a b : Me S View} where
     lane = did.lane;
     mine = did.mine;
     seen = did.seen;
+    rooms = did.rooms;
     legal = did.legal;
     own = did.own;
     held = did.held;
@@ -116,6 +144,14 @@ module _ {S : Type 0} {z : Shape} {place : ℕ} {a b : Me S View} where
     cells = did.cells;
   }
 
+-- rooms beside acts, and those beside later ones
+rooms-more : (u v w : View) → AreMore u.seen u.rooms v.seen v.rooms → AreMore v.seen v.rooms w.seen w.rooms → AreMore u.seen u.rooms w.seen w.rooms
+rooms-more u v w first second =
+    let all = length-append first.0 second.0 in
+    let one = first.2 in
+    let two = second.2 in
+    (first.0 ++ second.0, second.1 ∙ (ap (λ (xs : List ℕ). xs ++ second.0) first.1 ∙ append_assoc u.rooms first.0 second.0), omega (arith, all, one, two))
+
 -- one after another
 pub did-more : {S : Type 0} {z : Shape} {place s l t k : ℕ} {made more : List Act} {a b c : Me S View} → Did z place made s l a b → Did z place more t k b c
     → Did z place (made ++ more) (s + t) (l + k) a c
@@ -124,6 +160,7 @@ did-more {made = made} {more = more} {a = a} {b = b} {c = c} first second = reco
   lane = second.lane ∙ first.lane;
   mine = second.mine ∙ (ap (λ (xs : List Act). xs ++ more) first.mine ∙ append_assoc (the_lane a.0).mine made more);
   seen = prefix-trans a.0.seen b.0.seen c.0.seen first.seen second.seen;
+  rooms = rooms-more a.0 b.0 c.0 first.rooms second.rooms;
   legal = second.legal;
   own = second.own;
   held = second.held ∙ first.held;

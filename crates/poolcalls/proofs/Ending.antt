@@ -18,16 +18,16 @@ use Rattle.steplaws.specs.StepLaws.{owed_after, reclaim}
 use Rattle.poolsteps.specs.declared.view.LaneRecord.{LaneRecord}
 use Rattle.poolsteps.specs.declared.view.View.{View}
 use Rattle.poolsteps.specs.Views.{head_record, the_lane, IsOne}
-use Rattle.poolsteps.specs.Told.{HasPlace, claimed_under, Claims}
+use Rattle.poolsteps.specs.Told.{LeftAlone, HasPlace, claimed_under, Claims}
 use Rattle.poolsteps.specs.ViewLaws.{SharesLaw}
 use Rattle.poolsteps.proofs.ViewLemmas.{prefix-self}
 use Rattle.poolsteps.proofs.OwnShares.{may-touch}
 use Rattle.poolsteps.proofs.HandSteps.{under-after}
 use Rattle.poolcells.specs.Carried.{Carries}
-use Rattle.poolcalls.specs.Called.{caller_of, Did, IsLawful, Tails, Ends, TailActs, EndsWithActs}
+use Rattle.poolcalls.specs.Called.{caller_of, IsUnmoved, Did, IsLawful, Tails, Ends, TailActs, EndsWithActs}
 use Rattle.poolcalls.specs.declared.reclaimed.Reclaimed.{Reclaimed}
 use Rattle.poolcalls.specs.declared.reclaimed.Reclaimed.TheVariants.{Own, Returned, Retired}
-use Rattle.poolcalls.proofs.Doing.{life-next, cell-next, did-step, same-caller, goes-first, goes-last, goes-none, goes-most}
+use Rattle.poolcalls.proofs.Doing.{unmoved-now, life-next, cell-next, did-step, same-caller, goes-first, goes-last, goes-none, goes-most}
 
 -- moves of a place's shares leave the caller, and the room of a place that is with the lane
 module _ {S : Type 0} {z : Shape} {place n : ℕ} {before after : Me S View} (carries : Carries z place n before after) where
@@ -57,7 +57,7 @@ module _ (c : Caller) (place : ℕ) (leave : Step) where
     claims-next : owes_claim found ≡ true → end_next c place (leave ∷ []) ≡ Some (aim (Claim (generation_in found)) (words.Life place))
     claims-next owes = ap (λ (w : ℕ). next_claim (owes_claim w) w) is ∙ ap (λ (b : Bool). next_claim b found) owes
 
-    ends-at-leave : owes_claim found ≡ false → end_next c place (leave ∷ []) ≡ None
+    pub ends-at-leave : owes_claim found ≡ false → end_next c place (leave ∷ []) ≡ None
     ends-at-leave none = ap (λ (w : ℕ). next_claim (owes_claim w) w) is ∙ ap (λ (b : Bool). next_claim b found) none
 
   module _ (claim : Step) where
@@ -74,7 +74,7 @@ module _ (c : Caller) (place : ℕ) (leave : Step) where
     abbrev at_own : Bool
     at_own = shard_of place == c.lane
 
-    ends-at-claim : claimed ≡ false → end_next c place (leave ∷ claim ∷ []) ≡ None
+    pub ends-at-claim : claimed ≡ false → end_next c place (leave ∷ claim ∷ []) ≡ None
     ends-at-claim failed = ap (λ (b : Bool). next_link (b && not at_last && not at_own)) failed
 
     pub ends-at-last : generation_in leave.before ≡ c.shape.last_generation → end_next c place (leave ∷ claim ∷ []) ≡ None
@@ -82,6 +82,22 @@ module _ (c : Caller) (place : ℕ) (leave : Step) where
 
     pub ends-at-own : shard_of place ≡ c.lane → end_next c place (leave ∷ claim ∷ []) ≡ None
     ends-at-own own = ap (λ (b : Bool). next_link (claimed && not at_last && not b)) (eq-eqb _ _ own) ∙ ap next_link (no-last claimed (not at_last))
+
+-- whether a claim is owed, by the generation whose claim is
+cond-none : (b : Bool) (n : ℕ) → cond b (Some n) None ≡ None → b ≡ false
+cond-none true n is = absurd (cc is)
+cond-none false n is = refl
+
+cond-some : (b : Bool) (n m : ℕ) → cond b (Some n) None ≡ Some m → (b ≡ true) × (m ≡ n)
+cond-some true n m is = (refl, cc is)
+cond-some false n m is = absurd (cc is)
+
+module _ (found : ℕ) {owed : Option ℕ} (is : owed ≡ cond (owes_claim found) (Some (generation_in found)) None) where
+  pub owes-none : owed ≡ None → owes_claim found ≡ false
+  owes-none none = cond-none (owes_claim found) (generation_in found) (sym is ∙ none)
+
+  pub owes-some : (generation : ℕ) → owed ≡ Some generation → (owes_claim found ≡ true) × (generation ≡ generation_in found)
+  owes-some generation some = cond-some (owes_claim found) (generation_in found) generation (sym is ∙ some)
 
 -- ---- what is under way: nothing after a LEAVE that owes no claim, nor after a CLAIM that succeeded at the last generation or at a place of the lane's own shard
 
@@ -104,15 +120,16 @@ module _ (z : Shape) (lane place generation : ℕ) where
 -- ---- what follows the LEAVE
 
 -- the act of a CLAIM
-abbrev made_at : Shape → ℕ → ℕ → ℕ → Bool → Option Act
+abbrev pub made_at : Shape → ℕ → ℕ → ℕ → Bool → Option Act
 made_at z lane place generation succeeds = cond succeeds (Some (reclaim z lane place generation)) None
 
-did-nothing : {S : Type 0} {z : Shape} {place : ℕ} {a : Me S View} → IsOne a.0 → IsLawful z a.0 → Did z place [] 0 0 a a
+pub did-nothing : {S : Type 0} {z : Shape} {place : ℕ} {a : Me S View} → IsOne a.0 → IsLawful z a.0 → Did z place [] 0 0 a a
 did-nothing {a = a} one seen = record {
   one = one;
   lane = refl;
   mine = sym (append-nil (the_lane a.0).mine);
   seen = prefix-self a.0.seen;
+  rooms = ([], sym (append-nil a.0.rooms), omega arith);
   legal = seen.0;
   own = seen.1;
   held = refl;
@@ -130,7 +147,7 @@ module _ {S : Type 0} {z : Shape} {place found : ℕ} {a : Me S View} where
       (goes-none (leave ∷ []) (did-nothing one seen) (ends-at-leave (caller_of z a.0) place leave is none) (under ∙ none-owed place found none)) (omega arith) (omega arith)
 
   module _ {generation word : ℕ} {b : Me S View} (owes : owes_claim found ≡ true) (of : generation ≡ generation_in found) (claims : Claims z place generation a word b) where
-    claims-so : (leave : Step) → leave.before ≡ found → end_next (caller_of z a.0) place (leave ∷ []) ≡ Some (aim (Claim generation) (words.Life place))
+    pub claims-so : (leave : Step) → leave.before ≡ found → end_next (caller_of z a.0) place (leave ∷ []) ≡ Some (aim (Claim generation) (words.Life place))
     claims-so leave is = claims-next (caller_of z a.0) place leave is owes ∙ ap (λ (g : ℕ). Some (aim (Claim g) (words.Life place))) (sym of)
 
     -- the CLAIM alone, where it fails
@@ -160,22 +177,46 @@ module _ {S : Type 0} {z : Shape} {place found : ℕ} {a : Me S View} where
         (λ call at. ((λ n. n), sym (ap (made_at z (the_lane a.0).lane place generation) succeeds)))
         (tails leave claim (ap generation_in is ∙ sym of) succeeds)
 
+-- no act, where the lane moved and pushed nothing
+none-acts : (T : Type 0) (z : Shape) (place : ℕ) (a b : View) → (the_lane b).mine ≡ (the_lane a).mine ++ [] → (the_lane b).pushed ≡ (the_lane a).pushed
+    → IsUnmoved place (the_lane a) (the_lane b) → EndsWithActs {T = T} z place [] a b None
+none-acts T z place a b mine pushed unmoved = ((0, mine, tt), pushed, unmoved)
+
+-- none where no claim is owed
+pub still-acts : (T : Type 0) (z : Shape) (place : ℕ) (a : View) → EndsWithActs {T = T} z place [] a a None
+still-acts T z place a = none-acts T z place a a (sym (append-nil (the_lane a).mine)) refl (record { deeds = λ number. refl; cell = refl })
+
+-- and none by a claim that failed
+pub lost-acts : (T : Type 0) {S : Type 0} {z : Shape} {place generation word : ℕ} {a b : Me S View} → Claims z place generation a word b → word ≢ claimable generation
+    → EndsWithActs {T = T} z place [] a.0 b.0 None
+lost-acts T {z = z} {place = place} {a = a} {b = b} claims other =
+    let now = ap head_record (claims.1 other).goes.lanes in
+    none-acts T z place a.0 b.0 (ap (λ (r : LaneRecord). r.mine) now) (ap (λ (r : LaneRecord). r.pushed) now) (unmoved-now place (the_lane a.0) (the_lane b.0) None Nothing now)
+
 -- the acts of a claim that succeeded, and those behind it
 pub won-acts : {T : Type 0} (z : Shape) (place generation : ℕ) (a b c : View) (r : LaneRecord) (reclaimed : Reclaimed T) → b.lanes ≡ r ∷ []
     → r.lane ≡ (the_lane a).lane → r.mine ≡ (the_lane a).mine ++ reclaim z (the_lane a).lane place generation ∷ [] → r.pushed ≡ (the_lane a).pushed
-    → TailActs z place b c reclaimed → EndsWithActs z place [] a c (Some reclaimed)
-won-acts z place generation a b c r (Own whole) now lane mine pushed tail =
-    ((generation, tail.0 ∙ (ap (λ (lanes : List LaneRecord). (head_record lanes).mine) now ∙ mine)), tail.1 ∙ (ap (λ (lanes : List LaneRecord). (head_record lanes).pushed) now ∙ pushed))
-won-acts z place generation a b c r Retired now lane mine pushed tail =
-    ((generation, tail.0 ∙ (ap (λ (lanes : List LaneRecord). (head_record lanes).mine) now ∙ mine)), tail.1 ∙ (ap (λ (lanes : List LaneRecord). (head_record lanes).pushed) now ∙ pushed))
-won-acts z place generation a b c r Returned now lane mine pushed tail =
+    → TailActs z place generation b c reclaimed → LeftAlone z (the_lane a) place → EndsWithActs z place [] a c (Some reclaimed)
+won-acts z place generation a b c r (Own whole) now lane mine pushed tail alone = (
+  (generation, tail.1 ∙ (ap (λ (lanes : List LaneRecord). (head_record lanes).mine) now ∙ mine), tail.0),
+  tail.2 ∙ (ap (λ (lanes : List LaneRecord). (head_record lanes).pushed) now ∙ pushed),
+  alone,
+)
+won-acts z place generation a b c r Retired now lane mine pushed tail alone = (
+  (generation, tail.1 ∙ (ap (λ (lanes : List LaneRecord). (head_record lanes).mine) now ∙ mine), tail.0),
+  tail.2 ∙ (ap (λ (lanes : List LaneRecord). (head_record lanes).pushed) now ∙ pushed),
+  alone,
+)
+won-acts z place generation a b c r Returned now lane mine pushed tail alone =
     let of : (the_lane b).lane ≡ (the_lane a).lane = ap (λ (lanes : List LaneRecord). (head_record lanes).lane) now ∙ lane in
     let first : (the_lane b).mine ≡ (the_lane a).mine ++ reclaim z (the_lane a).lane place generation ∷ [] = ap (λ (lanes : List LaneRecord). (head_record lanes).mine) now ∙ mine in (
       (
         generation,
-        tail.0 ∙ (ap (λ (acts_so : List Act). acts_so ++ acts.Home (the_lane b).lane place ∷ []) first
+        tail.1.0 ∙ (ap (λ (acts_so : List Act). acts_so ++ acts.Home (the_lane b).lane place ∷ []) first
             ∙ (append_assoc (the_lane a).mine (reclaim z (the_lane a).lane place generation ∷ []) (acts.Home (the_lane b).lane place ∷ [])
             ∙ ap (λ (l : ℕ). (the_lane a).mine ++ reclaim z (the_lane a).lane place generation ∷ acts.Home l place ∷ []) of)),
+        tail.0,
       ),
-      tail.1 ∙ ap (λ (pushes : List (ℕ × ℕ)). (shard_of place, link_to place) ∷ pushes) (ap (λ (lanes : List LaneRecord). (head_record lanes).pushed) now ∙ pushed),
+      tail.1.1 ∙ ap (λ (pushes : List (ℕ × ℕ)). (shard_of place, link_to place) ∷ pushes) (ap (λ (lanes : List LaneRecord). (head_record lanes).pushed) now ∙ pushed),
+      alone,
     )

@@ -29,18 +29,18 @@ use Rattle.poolcalls.proofs.Doing.{return-next, push-next, did-step, did-more}
 -- ---- each step
 
 module _ {S : Type 0} {z : Shape} {place top : ℕ} {linked : Option ℕ} {failed : Bool} {a b : Me S View} (under : (the_lane a.0).under ≡ Returns place linked failed) where
-  link-steps : (links : Links z top a b) → Steps z (kinds.Link top) links.0 top a b None (with_return (the_lane a.0) place (Some top) failed)
+  pub link-steps : (links : Links z top a b) → Steps z (kinds.Link top) links.0 top a b None (with_return (the_lane a.0) place (Some top) failed)
   link-steps links =
       subst (λ (p : Pending). Steps z (kinds.Link top) links.0 top a b None (with_return (the_lane a.0) (place_under p) (Some top) (failed_under p))) under links.1
 
   module _ {found : ℕ} (pushes : Pushes z top a found b) where
-    home-steps : found ≡ top
+    pub home-steps : found ≡ top
         → Steps z (kinds.Push top (link_to place)) found (link_to place) a b (Some (acts.Home (the_lane a.0).lane place)) (pushed_record (the_lane a.0) place)
     home-steps is = subst
         (λ (p : Pending). Steps z (kinds.Push top (link_to (place_under p))) found (link_to (place_under p)) a b (Some (acts.Home (the_lane a.0).lane (place_under p)))
         (pushed_record (the_lane a.0) (place_under p))) under (pushes.0 is)
 
-    fail-steps : found ≢ top → (failed ≡ false) × Steps z (kinds.Push top (link_to place)) found found a b None (with_return (the_lane a.0) place None true)
+    pub fail-steps : found ≢ top → (failed ≡ false) × Steps z (kinds.Push top (link_to place)) found found a b None (with_return (the_lane a.0) place None true)
     fail-steps other = let told = pushes.1 other in (
       sym (ap failed_under under) ∙ told.1,
       subst (λ (p : Pending). Steps z (kinds.Push top (link_to (place_under p))) found found a b None (with_return (the_lane a.0) (place_under p) None true)) under told.2,
@@ -52,10 +52,10 @@ module _ {S : Type 0} {z : Shape} {kind : Kind} {found left place : ℕ} {linked
   now : the_lane b.0 ≡ with_return (the_lane a.0) place linked failed
   now = ap head_record steps.goes.lanes
 
-  did-return : Did z place [] 1 0 a b
+  pub did-return : Did z place [] 1 0 a b
   did-return = did-step steps (return-next (the_lane a.0) place place linked failed)
 
-  under-return : (the_lane b.0).under ≡ Returns place linked failed
+  pub under-return : (the_lane b.0).under ≡ Returns place linked failed
   under-return = ap (λ (r : LaneRecord). r.under) now
 
   -- it is with the lane and at rest as before
@@ -80,7 +80,7 @@ linked-rests under links law has rests = still-rests (link-steps under links) la
 -- after a PUSH that succeeded
 module _ {S : Type 0} {z : Shape} {kind : Kind} {found left place : ℕ} {a b : Me S View}
     (steps : Steps z kind found left a b (Some (acts.Home (the_lane a.0).lane place)) (pushed_record (the_lane a.0) place)) where
-  did-home : (lane : ℕ) → (the_lane a.0).lane ≡ lane → Did z place (acts.Home lane place ∷ []) 1 0 a b
+  pub did-home : (lane : ℕ) → (the_lane a.0).lane ≡ lane → Did z place (acts.Home lane place ∷ []) 1 0 a b
   did-home lane is = subst (λ (l : ℕ). Did z place (acts.Home l place ∷ []) 1 0 a b) is (did-step steps (push-next (the_lane a.0) place))
 
   idle-home : IsIdle b.0
@@ -89,7 +89,7 @@ module _ {S : Type 0} {z : Shape} {kind : Kind} {found left place : ℕ} {a b : 
 -- ---- the steps of the call
 
 -- the return follows the claim
-returns-next : (c : Caller) (place : ℕ) (top : ℕ) (leave claim : Step) → top ≡ c.pushed (shard_of place) → is_claimed (generation_in leave.before) claim.before ≡ true
+pub returns-next : (c : Caller) (place : ℕ) (top : ℕ) (leave claim : Step) → top ≡ c.pushed (shard_of place) → is_claimed (generation_in leave.before) claim.before ≡ true
     → generation_in leave.before ≢ c.shape.last_generation → shard_of place ≢ c.lane
     → end_next c place (leave ∷ claim ∷ []) ≡ Some (aim (kinds.Link top) (Link place))
 returns-next c place top leave claim is claimed later away =
@@ -101,17 +101,17 @@ returns-next c place top leave claim is claimed later away =
     ∙ ap (λ (t : ℕ). Some (aim (kinds.Link t) (Link place))) (sym is)))
 
 -- LINK and PUSH of a place, as steps
-abbrev link-step : ℕ → ℕ → ℕ → Step
+abbrev pub link-step : ℕ → ℕ → ℕ → Step
 link-step place top found = record { kind = kinds.Link top; word = Link place; before = found; after = top }
 
-abbrev push-step : ℕ → ℕ → ℕ → ℕ → ℕ → Step
+abbrev pub push-step : ℕ → ℕ → ℕ → ℕ → ℕ → Step
 push-step place lane top found left = record { kind = kinds.Push top (link_to place); word = Stack (shard_of place) lane; before = found; after = left }
 
-no-links : ℕ → ℕ
+pub no-links : ℕ → ℕ
 no-links place = 0
 
 -- the act of a PUSH of the place that the call is for
-pushed-act : (call : Call) (place lane found top : ℕ) (b : Bool) → eqb found top ≡ b → place_of (key_in call) ≡ place
+pub pushed-act : (call : Call) (place lane found top : ℕ) (b : Bool) → eqb found top ≡ b → place_of (key_in call) ≡ place
     → cond b (Some (acts.Home lane place)) None ≡ cond (eqb found top) (Some (acts.Home lane (place_of (key_in call)))) None
 pushed-act call place lane found top b test at =
     ap (λ (p : ℕ). cond b (Some (acts.Home lane p)) None) (sym at) ∙ ap (λ (t : Bool). cond t (Some (acts.Home lane (place_of (key_in call)))) None) (sym test)

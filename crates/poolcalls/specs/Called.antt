@@ -20,7 +20,7 @@ use Rattle.sharelaws.specs.Shares.{room_of}
 use Rattle.poolsteps.specs.declared.view.LaneRecord.{LaneRecord}
 use Rattle.poolsteps.specs.declared.view.View.{View}
 use Rattle.poolsteps.specs.Views.{the_lane, pushed_in, status_of, known_of, acts_in, IsOne}
-use Rattle.poolsteps.specs.Told.{IsIdle, HasPlace, references_seen}
+use Rattle.poolsteps.specs.Told.{IsIdle, HasPlace, LeftAlone, references_seen}
 use Rattle.poolcells.specs.Carried.{AreEmptied}
 use Rattle.poolcalls.specs.declared.reclaimed.Got.{Got}
 use Rattle.poolcalls.specs.declared.reclaimed.Got.TheVariants.{Hit, Miss}
@@ -37,12 +37,19 @@ Make z c call [] made = made ≡ []
 Make z c call (step ∷ more) made = (act : Option Act) × (links : ℕ → ℕ) × (rest : List Act)
     × Changes z.last_generation step.kind step.before step.after × Makes c call links step act × Make z c call more rest × (made ≡ acts_in act ++ rest)
 
+-- what the lane did with the slots of the place, and what it knows of its cell, are as before
+pub record IsUnmoved (place : ℕ) (r s : LaneRecord) : Type 0 where
+  pub deeds : (number : ℕ) → status_of s place number ≡ status_of r place number
+  pub cell : known_of s place ≡ known_of r place
+
 -- between two views the lane made these acts, in so many steps and at most so many looks, and what it did with the shares of other places and its chain are as before
 pub record Did {S : Type 0} (z : Shape) (place : ℕ) (made : List Act) (steps looks : ℕ) (before after : Me S View) : Type 0 where
   pub one : IsOne after.0
   pub lane : (the_lane after.0).lane ≡ (the_lane before.0).lane
   pub mine : (the_lane after.0).mine ≡ (the_lane before.0).mine ++ made
   pub seen : IsPrefix before.0.seen after.0.seen
+  -- a room stands beside each act that was then seen
+  pub rooms : (more : List ℕ) × (after.0.rooms ≡ before.0.rooms ++ more) × (length after.0.seen ≡ length before.0.seen + length more)
   pub legal : IsLegal z after.0.seen
   pub own : (the_lane after.0).mine ≡ acts_of (the_lane after.0).lane after.0.seen
   pub held : after.1 ≡ before.1
@@ -100,6 +107,18 @@ end_acts z lane place generation (Some (Own whole)) = reclaim z lane place gener
 end_acts z lane place generation (Some Returned) = reclaim z lane place generation ∷ acts.Home lane place ∷ []
 end_acts z lane place generation (Some Retired) = reclaim z lane place generation ∷ []
 
+-- the generation is the last exactly where the place is retired
+abbrev pub FitsGeneration : {T : Type 0} → Shape → ℕ → Option (Reclaimed T) → Type 0
+FitsGeneration z generation None = Unit {0}
+FitsGeneration z generation (Some (Own whole)) = generation ≢ z.last_generation
+FitsGeneration z generation (Some Returned) = generation ≢ z.last_generation
+FitsGeneration z generation (Some Retired) = generation ≡ z.last_generation
+
+-- where no place was reclaimed, the lane moved nothing; where one was, it had left its slots alone before
+abbrev pub MovedNothing : {T : Type 0} → Shape → ℕ → LaneRecord → LaneRecord → Option (Reclaimed T) → Type 0
+MovedNothing z place r s None = IsUnmoved place r s
+MovedNothing z place r s (Some reclaimed) = LeftAlone z r place
+
 -- the words that the lane pushed, after that
 abbrev pub end_pushed : {T : Type 0} → List (ℕ × ℕ) → ℕ → Option (Reclaimed T) → List (ℕ × ℕ)
 end_pushed pushed place None = pushed
@@ -107,42 +126,42 @@ end_pushed pushed place (Some (Own whole)) = pushed
 end_pushed pushed place (Some Returned) = (shard_of place, link_to place) ∷ pushed
 end_pushed pushed place (Some Retired) = pushed
 
--- the lane made these acts, and after them those by which the place was reclaimed, if it was, and pushed it where it was returned
+-- the lane made these acts, and after them those by which the place was reclaimed, if it was, and pushed it where it was returned; where it was not, the lane moved nothing
 abbrev pub EndsWithActs : {T : Type 0} → Shape → ℕ → List Act → View → View → Option (Reclaimed T) → Type 0
 EndsWithActs z place first before after reclaimed = let r : LaneRecord = the_lane before in
-    ((generation : ℕ) × ((the_lane after).mine ≡ r.mine ++ (first ++ end_acts z r.lane place generation reclaimed)))
-    × ((the_lane after).pushed ≡ end_pushed r.pushed place reclaimed)
+    ((generation : ℕ) × ((the_lane after).mine ≡ r.mine ++ (first ++ end_acts z r.lane place generation reclaimed)) × FitsGeneration z generation reclaimed)
+    × ((the_lane after).pushed ≡ end_pushed r.pushed place reclaimed) × MovedNothing z place r (the_lane after) reclaimed
 
 -- the lane returned the place
 abbrev pub MadeHome : ℕ → View → View → Type 0
 MadeHome place before after = let r : LaneRecord = the_lane before in
     ((the_lane after).mine ≡ r.mine ++ acts.Home r.lane place ∷ []) × ((the_lane after).pushed ≡ (shard_of place, link_to place) ∷ r.pushed)
 
--- what it made and pushed behind its CLAIM
-abbrev pub TailActs : {T : Type 0} → Shape → ℕ → View → View → Reclaimed T → Type 0
-TailActs z place before after (Own whole) = ((the_lane after).mine ≡ (the_lane before).mine) × ((the_lane after).pushed ≡ (the_lane before).pushed)
-TailActs z place before after Returned = MadeHome place before after
-TailActs z place before after Retired = ((the_lane after).mine ≡ (the_lane before).mine) × ((the_lane after).pushed ≡ (the_lane before).pushed)
+-- what it made and pushed behind its CLAIM of this generation
+abbrev pub TailActs : {T : Type 0} → Shape → ℕ → ℕ → View → View → Reclaimed T → Type 0
+TailActs z place generation before after (Own whole) = (generation ≢ z.last_generation) × ((the_lane after).mine ≡ (the_lane before).mine) × ((the_lane after).pushed ≡ (the_lane before).pushed)
+TailActs z place generation before after Returned = (generation ≢ z.last_generation) × MadeHome place before after
+TailActs z place generation before after Retired = (generation ≡ z.last_generation) × ((the_lane after).mine ≡ (the_lane before).mine) × ((the_lane after).pushed ≡ (the_lane before).pushed)
 
 -- the lane made just this act, and pushed nothing
 abbrev pub MadeOne : View → View → Act → Type 0
 MadeOne before after act = ((the_lane after).mine ≡ (the_lane before).mine ++ act ∷ []) × ((the_lane after).pushed ≡ (the_lane before).pushed)
 
--- the lane made one call: its steps, the acts of these, and nothing more
-pub record Called {S : Type 0} (z : Shape) (call : Call) (before after : Me S View) : Type 0 where
+-- the lane made one call: its steps, the acts of these, and nothing more, in at most so many looks
+pub record Called {S : Type 0} (z : Shape) (call : Call) (looks : ℕ) (before after : Me S View) : Type 0 where
   pub steps : List Step
   pub made : List Act
   pub are : AreSteps (caller_of z before.0) call [] steps
   pub all : next_step (caller_of z before.0) call steps ≡ None
   pub make : Make z (caller_of z before.0) call steps made
-  pub did : Did z (place_of (key_in call)) made (length steps) 64 before after
+  pub did : Did z (place_of (key_in call)) made (length steps) looks before after
   pub few : length steps ≤ 8
   pub idle : IsIdle after.0
 
--- what a get answered: at a hit the reply is a content, and the lane's slot is left alone where it had no reference
+-- what a get answered: at a hit the reply is a content, the lane moved nothing, and its slot is left alone where it had no reference
 abbrev pub HasGot : {S T : Type 0} → (T → List ℕ) → (T → ℕ) → Shape → ℕ → Me S View → Me S View → Got T → Type 0
 HasGot content room z key before after Hit = let r : LaneRecord = the_lane before.0 in
-    (bytes : List ℕ) × MadeOne before.0 after.0 (acts.Get r.lane key (Some bytes))
+    (bytes : List ℕ) × MadeOne before.0 after.0 (acts.Get r.lane key (Some bytes)) × IsUnmoved (place_of key) r (the_lane after.0)
     × (references_seen z before.0 key ≡ 0 → status_of (the_lane after.0) (place_of key) r.lane ≡ Untouched)
 HasGot content room z key before after (Miss reclaimed) = let r : LaneRecord = the_lane before.0 in
     EndsWithActs z (place_of key) (acts.Get r.lane key None ∷ []) before.0 after.0 reclaimed × IfSome reclaimed (IsReclaimed content room z (place_of key) r.lane after.0)

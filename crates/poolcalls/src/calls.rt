@@ -38,7 +38,7 @@ pub fn get<T: Clear + Drop>(
     requires room { references_seen grid.now.shape hand.old.me.0 key < most_references }
     requires top { top ≡ pushed_in (the_lane hand.old.me.0).pushed (shard_number (place_of key)) }
     ensures hand { SameSeat hand.old hand.new }
-    ensures called { Called grid.now.shape (Getting key) hand.old.me hand.new.me }
+    ensures called { Called grid.now.shape (Getting key) 34 hand.old.me hand.new.me }
     ensures got { HasGot T.content T.room grid.now.shape key hand.old.me hand.new.me result }
 {
     let found = grid.enter(hand, spot, key, Purpose::ToGet);
@@ -68,7 +68,7 @@ pub fn release<T: Clear + Drop>(
     requires share { status_of (the_lane hand.old.me.0) (place_of key) lane ≢ Untouched → 1 < references_seen grid.now.shape hand.old.me.0 key }
     requires top { top ≡ pushed_in (the_lane hand.old.me.0).pushed (shard_number (place_of key)) }
     ensures hand { SameSeat hand.old hand.new }
-    ensures called { Called grid.now.shape (Releasing key) hand.old.me hand.new.me }
+    ensures called { Called grid.now.shape (Releasing key) 34 hand.old.me hand.new.me }
     ensures acts { EndsWithActs grid.now.shape (place_of key) (acts.Release lane key ∷ []) hand.old.me.0 hand.new.me.0 result }
     ensures reclaimed { IfSome result (IsReclaimed T.content T.room grid.now.shape (place_of key) lane hand.new.me.0) }
 {
@@ -94,7 +94,7 @@ pub fn clear<T: Clear + Drop>(
     requires idle { IsIdle hand.old.me.0 }
     requires top { top ≡ pushed_in (the_lane hand.old.me.0).pushed (shard_number (place_of key)) }
     ensures hand { SameSeat hand.old hand.new }
-    ensures called { Called grid.now.shape (Clearing key) hand.old.me hand.new.me }
+    ensures called { Called grid.now.shape (Clearing key) 34 hand.old.me hand.new.me }
     ensures acts { EndsWithActs grid.now.shape (place_of key) (acts.Clear lane key result.0 ∷ []) hand.old.me.0 hand.new.me.0 result.1 }
     ensures reclaimed { IfSome result.1 (IsReclaimed T.content T.room grid.now.shape (place_of key) lane hand.new.me.0) }
 {
@@ -106,7 +106,7 @@ pub fn clear<T: Clear + Drop>(
 
 /// Whether an ENTER that found this word hits the key.
 #[inline]
-fn hits(key: u64, found: u64) -> bool
+pub fn hits(key: u64, found: u64) -> bool
     ensures { result ≡ is_hit key found }
 {
     let life = Life::of_word(found);

@@ -1,6 +1,7 @@
 //! The end of a call that leaves a place: what follows its LEAVE.
-ghost use Rattle.std.specs.Prelude.{◌≡◌, ◌≢◌, ◌<◌, ◌≤◌, [], IfSome};
+ghost use Rattle.std.specs.Prelude.{◌≡◌, ◌≢◌, ◌<◌, ◌≤◌, [], Some, None, IfSome, if◌then◌else◌};
 ghost use Rattle.keybits.specs.Places.{shard_of as shard_number};
+ghost use Rattle.keybits.specs.Words.{generation_in};
 ghost use Rattle.steplaws.specs.Calls.{owes_claim};
 ghost use Rattle.steplaws.specs.StepLaws.{owed_after};
 ghost use Rattle.sharelaws.specs.Shares.{room_of};
@@ -40,10 +41,7 @@ pub fn settle<T: Clear + Drop>(
     ensures acts { EndsWithActs grid.now.shape spot.place [] hand.old.me.0 hand.new.me.0 result }
     ensures reclaimed { IfSome result (IsReclaimed T.content T.room grid.now.shape spot.place lane hand.new.me.0) }
 {
-    if !owes(found) {
-        return None;
-    }
-    let generation = Life::of_word(found).generation;
+    let generation = owed_by(found)?;
     let word = grid.claim(hand, spot, generation);
     let owed = Life {
         generation,
@@ -56,12 +54,16 @@ pub fn settle<T: Clear + Drop>(
     Some(take_back(alloc, grid, hand, spot, lane, generation, top))
 }
 
-/// Whether a LEAVE that found this word owes a claim.
-fn owes(found: u64) -> bool
-    ensures { result ≡ owes_claim found }
+/// The generation whose claim a LEAVE that found this word owes, where it owes one.
+pub fn owed_by(found: u64) -> Option<u32>
+    ensures { result ≡ (if owes_claim found then Some (generation_in found) else None) }
 {
     let life = Life::of_word(found);
-    life.state == State::Marked && life.count == 1
+    if life.state == State::Marked && life.count == 1 {
+        Some(life.generation)
+    } else {
+        None
+    }
 }
 
 /// What follows a CLAIM of this generation that succeeded.
@@ -77,14 +79,13 @@ fn take_back<T: Clear + Drop>(
     requires hand { IsOf grid.now hand.old × IsOne hand.old.me.0 }
     requires spot { IsSpot grid.now.shape spot spot.place }
     requires lane { (lane ≡ (the_lane hand.old.me.0).lane) × (lane < grid.now.shape.lanes) }
-    requires seen { IsLawful grid.now.shape hand.old.me.0 }
     requires under { (the_lane hand.old.me.0).under ≡ claimed_under grid.now.shape lane spot.place generation }
     requires place { HasPlace grid.now.shape hand.old.me.0 spot.place × LeftAlone grid.now.shape (the_lane hand.old.me.0) spot.place }
     requires room { (known_of (the_lane hand.old.me.0) spot.place).room ≡ room_of hand.old.me.0.seen hand.old.me.0.rooms spot.place }
     requires top { top ≡ pushed_in (the_lane hand.old.me.0).pushed (shard_number spot.place) }
     ensures hand { SameSeat hand.old hand.new }
     ensures tails { Tails grid.now.shape spot.place generation hand.old.me hand.new.me }
-    ensures acts { TailActs grid.now.shape spot.place hand.old.me.0 hand.new.me.0 result }
+    ensures acts { TailActs grid.now.shape spot.place generation hand.old.me.0 hand.new.me.0 result }
     ensures reclaimed { IsReclaimed T.content T.room grid.now.shape spot.place lane hand.new.me.0 result }
 {
     shares_law();

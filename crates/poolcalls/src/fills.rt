@@ -3,13 +3,14 @@ ghost use Rattle.std.specs.Prelude.{◌≡◌, ◌<◌, true, false};
 ghost use Rattle.keybits.specs.Keys.{place_of};
 ghost use Rattle.seqpool.specs.declared.act.Act.TheVariants as acts;
 ghost use Rattle.sharelaws.specs.declared.stored.Status.TheVariants.{Emptied};
+ghost use Rattle.sharelaws.specs.Shares.{room_of};
 ghost use Rattle.steplaws.specs.Calls.Call.{Publishing};
 ghost use Rattle.poolsteps.specs.Views.{the_lane, status_of, known_of, IsOne};
 ghost use Rattle.poolsteps.specs.Grids.{IsSpot, IsOf, SameSeat};
 ghost use Rattle.poolsteps.specs.Told.{MayPublish, LeftAlone};
 ghost use Rattle.poolsteps.specs.Moved.{stored_of};
 ghost use Rattle.poolcells.specs.Carried.{AreEmptied, ShowsCell};
-ghost use Rattle.poolcalls.specs.Called.{IsLawful, Called, MadeOne};
+ghost use Rattle.poolcalls.specs.Called.{Called, MadeOne};
 
 use poolcells::{spread_cell, spread_others};
 use poolsteps::{Grid, Hand, Spot, shares_law};
@@ -28,12 +29,12 @@ pub fn publish<T: Clear + Drop>(
     requires hand { IsOf grid.now hand.old × IsOne hand.old.me.0 }
     requires spot { IsSpot grid.now.shape spot (place_of key) }
     requires lane { (lane ≡ (the_lane hand.old.me.0).lane) × (lane < grid.now.shape.lanes) }
-    requires seen { IsLawful grid.now.shape hand.old.me.0 }
     requires may { MayPublish grid.now.shape hand.old.me.0 key }
     requires slots { AreEmptied grid.now.shape (the_lane hand.old.me.0) (place_of key) }
     ensures hand { SameSeat hand.old hand.new }
-    ensures called { Called grid.now.shape (Publishing key (T.content whole) false) hand.old.me hand.new.me }
+    ensures called { Called grid.now.shape (Publishing key (T.content whole) false) 34 hand.old.me hand.new.me }
     ensures acts { MadeOne hand.old.me.0 hand.new.me.0 (acts.Publish lane key (T.content whole) false) }
+    ensures room { room_of hand.new.me.0.seen hand.new.me.0.rooms (place_of key) ≡ T.room whole }
     ensures slots { LeftAlone grid.now.shape (the_lane hand.new.me.0) (place_of key) }
     ensures cell { ShowsCell T.content T.room (known_of (the_lane hand.new.me.0) (place_of key)) whole }
 {
@@ -55,12 +56,12 @@ pub fn downgrade<T: Clear + Drop>(
     requires hand { IsOf grid.now hand.old × IsOne hand.old.me.0 }
     requires spot { IsSpot grid.now.shape spot (place_of key) }
     requires lane { (lane ≡ (the_lane hand.old.me.0).lane) × (lane < grid.now.shape.lanes) }
-    requires seen { IsLawful grid.now.shape hand.old.me.0 }
     requires may { MayPublish grid.now.shape hand.old.me.0 key }
     requires slots { AreEmptied grid.now.shape (the_lane hand.old.me.0) (place_of key) }
     ensures hand { SameSeat hand.old hand.new }
-    ensures called { Called grid.now.shape (Publishing key (T.content whole) true) hand.old.me hand.new.me }
+    ensures called { Called grid.now.shape (Publishing key (T.content whole) true) 34 hand.old.me hand.new.me }
     ensures acts { MadeOne hand.old.me.0 hand.new.me.0 (acts.Publish lane key (T.content whole) true) }
+    ensures room { room_of hand.new.me.0.seen hand.new.me.0.rooms (place_of key) ≡ T.room whole }
     ensures slot { status_of (the_lane hand.new.me.0) (place_of key) lane ≡ Emptied }
     ensures share { (result.number ≡ lane) × (result.of ≡ grid.now.shape.lanes) × (result.object ≡ whole) }
     ensures cell { known_of (the_lane hand.new.me.0) (place_of key) ≡ stored_of T.content T.room result }

@@ -8,8 +8,8 @@ mod fills;
 mod homes;
 mod reclaimed;
 
-pub use calls::{clear, get, release};
-pub use ends::settle;
+pub use calls::{clear, get, hits, release};
+pub use ends::{owed_by, settle};
 pub use fills::{downgrade, publish};
 pub use homes::give_home;
 pub use reclaimed::{Got, Reclaimed};

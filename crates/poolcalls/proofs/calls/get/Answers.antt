@@ -3,12 +3,15 @@ use Rattle.seqpool.specs.declared.act.Act.TheVariants as acts
 use Rattle.std.specs.Prelude.{None}
 use Rattle.steplaws.specs.Calls.Call.{Getting}
 use Rattle.poolsteps.specs.Views.{the_lane}
-use Rattle.poolcalls.proofs.Calling.{Opened, called-after, acts-behind, get-hits, get-misses}
+use Rattle.poolcalls.proofs.Calling.{Opened, called-after, acts-behind, get-hits, hit-tells, get-misses}
 use Rattle.poolcalls.proofs.calls.get.Given.{Over}
 use Rattle.poolcalls.proofs.calls.get.Goals as goal
 
 pub returns-then-hits-clause-called : goal.returns-then-hits-clause-called
 returns-then-hits-clause-called g c = get-hits c.requires.key c.enter-found.ensures.enters (sym c.hits.ensures ∙ c.if-hits.true)
+
+pub returns-then-hits-clause-got : goal.returns-then-hits-clause-got
+returns-then-hits-clause-got g c = hit-tells c.requires.key g.T.Clear.content g.T.Clear.room c.enter-found.ensures.enters (sym c.hits.ensures ∙ c.if-hits.true)
 
 -- a miss up to its LEAVE
 opened : (g : Over) (c : goal.After-settle g)

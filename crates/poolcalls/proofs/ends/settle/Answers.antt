@@ -1,20 +1,30 @@
 use Rattle.std.proofs.Common.{refl, sym, ◌∙◌}
-use Rattle.poolcalls.proofs.Ending.{ends-none, ends-lost, ends-won, won-acts}
+use Rattle.poolcalls.proofs.Ending.{owes-none, owes-some, ends-none, ends-lost, ends-won, still-acts, lost-acts, won-acts}
 use Rattle.poolcalls.proofs.ends.settle.Goals as goal
 
-pub returns-then-not-owes-clause-ends : goal.returns-then-not-owes-clause-ends
-returns-then-not-owes-clause-ends g c = ends-none c.requires.hand.1 c.requires.seen c.requires.owes (sym c.owes.ensures ∙ c.if-not-owes.true)
+pub returns-in_err-generation-clause-ends : goal.returns-in_err-generation-clause-ends
+returns-in_err-generation-clause-ends g c =
+    ends-none c.requires.hand.1 c.requires.seen c.requires.owes (owes-none c.args.found c.owed_by.ensures c.in_err-generation.was)
+
+pub returns-in_err-generation-clause-acts : goal.returns-in_err-generation-clause-acts
+returns-in_err-generation-clause-acts g c = rw c.from_residual.ensures (still-acts g.row.T.Denot c.args.grid.now.shape c.args.spot.place c.args.hand.now.me.0)
 
 pub returns-then-word-clause-ends : goal.returns-then-word-clause-ends
 returns-then-word-clause-ends g c =
-    ends-lost (sym c.owes.ensures ∙ c.if-not-owes.false) c.of_word-generation.ensures.generation c.claim-word.ensures.claims (λ same. c.if-word.true (same ∙ sym c.word.ensures))
+    let owed = owes-some c.args.found c.owed_by.ensures c.in_ok-generation.generation c.in_ok-generation.was in
+    ends-lost owed.0 owed.1 c.claim-word.ensures.claims (λ same. c.if-word.true (same ∙ sym c.word.ensures))
+
+pub returns-then-word-clause-acts : goal.returns-then-word-clause-acts
+returns-then-word-clause-acts g c = lost-acts g.row.T.Denot c.claim-word.ensures.claims (λ same. c.if-word.true (same ∙ sym c.word.ensures))
 
 pub returns-clause-ends : goal.returns-clause-ends
 returns-clause-ends g c =
-    ends-won (sym c.owes.ensures ∙ c.if-not-owes.false) c.of_word-generation.ensures.generation c.claim-word.ensures.claims (c.if-word.false ∙ c.word.ensures) c.take_back.ensures.tails
+    let owed = owes-some c.args.found c.owed_by.ensures c.in_ok-generation.generation c.in_ok-generation.was in
+    ends-won owed.0 owed.1 c.claim-word.ensures.claims (c.if-word.false ∙ c.word.ensures) c.take_back.ensures.tails
 
 pub returns-clause-acts : goal.returns-clause-acts
 returns-clause-acts g c =
-    let won = (c.claim-word.ensures.claims.0 (c.if-word.false ∙ c.word.ensures)).4 in
-    won-acts c.args.grid.now.shape c.args.spot.place c.of_word-generation.result.generation c.args.hand.now.me.0 c.claim-word.new.hand.me.0 c.take_back.new.hand.me.0 _
-    c.take_back.result won.goes.lanes refl refl refl c.take_back.ensures.acts
+    let told = c.claim-word.ensures.claims.0 (c.if-word.false ∙ c.word.ensures) in
+    let won = told.4 in
+    won-acts c.args.grid.now.shape c.args.spot.place c.in_ok-generation.generation c.args.hand.now.me.0 c.claim-word.new.hand.me.0 c.take_back.new.hand.me.0 _
+    c.take_back.result won.goes.lanes refl refl refl c.take_back.ensures.acts told.3

@@ -16,7 +16,7 @@ returns-then-generation-grid-clause-tails g c leave claim is claimed =
     let most = c.args.grid.now.checked.lanes.1 in
     let few : 2 * z.lanes ≤ 34 = omega arith in
     goes-most
-    (goes-none (leave ∷ claim ∷ []) (did-carries c.requires.seen.1 carries few) (ends-at-last (caller_of z c.args.hand.now.me.0) place leave claim (is ∙ last))
+    (goes-none (leave ∷ claim ∷ []) (did-carries carries few) (ends-at-last (caller_of z c.args.hand.now.me.0) place leave claim (is ∙ last))
     (carries.elsewhere.under ∙ (c.requires.under ∙ none-at-last z c.args.lane place c.args.generation last))) (omega arith) (omega arith)
 
 pub returns-then-shard_of-lane-clause-tails : goal.returns-then-shard_of-lane-clause-tails
@@ -28,7 +28,7 @@ returns-then-shard_of-lane-clause-tails g c leave claim is claimed =
     let most = c.args.grid.now.checked.lanes.1 in
     let few : 2 * z.lanes ≤ 34 = omega arith in
     goes-most
-    (goes-none (leave ∷ claim ∷ []) (did-carries c.requires.seen.1 carries few) (ends-at-own (caller_of z c.args.hand.now.me.0) place leave claim (own ∙ c.requires.lane.0))
+    (goes-none (leave ∷ claim ∷ []) (did-carries carries few) (ends-at-own (caller_of z c.args.hand.now.me.0) place leave claim (own ∙ c.requires.lane.0))
     (carries.elsewhere.under ∙ (c.requires.under ∙ none-at-own z c.args.lane place c.args.generation own))) (omega arith) (omega arith)
 
 pub returns-then-shard_of-lane-clause-reclaimed : goal.returns-then-shard_of-lane-clause-reclaimed
@@ -76,6 +76,6 @@ returns-clause-tails g c leave claim is claimed =
     let most = c.args.grid.now.checked.lanes.1 in
     let few : 2 * z.lanes + 2 ≤ 34 = omega arith in
     let lane_is = rests.elsewhere.lane ∙ took.elsewhere.lane in
-    goes-moves (leave ∷ claim ∷ []) (caller-still rests ∙ caller-still took) (did-carries c.requires.seen.1 (carries-more took rests) few)
+    goes-moves (leave ∷ claim ∷ []) (caller-still rests ∙ caller-still took) (did-carries (carries-more took rests) few)
     (c.give_home.ensures.gives leave claim (ap (λ n. is_claimed n claim.before) is ∙ claimed) (λ last. c.if-generation-grid.false (sym is ∙ last))
     (λ own. c.if-shard_of-lane.false (c.shard_of.ensures ∙ (own ∙ (lane_is ∙ sym c.requires.lane.0)))))

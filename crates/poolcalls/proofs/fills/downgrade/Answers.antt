@@ -1,9 +1,9 @@
-use Rattle.std.proofs.Common.{ℕ, ◌-◌, ◌*◌, ◌≤◌, ap, subst, arith}
+use Rattle.std.proofs.Common.{ℕ, ◌-◌, ◌*◌, ◌≤◌, ap, ◌∙◌, subst, arith}
 use Rattle.keybits.specs.declared.shape.Shape.{Shape}
 use Rattle.poolsteps.specs.Told.{MayRenew}
 use Rattle.poolsteps.specs.Moved.{stored_of}
 use Rattle.poolcells.specs.Carried.{MayCarry}
-use Rattle.poolcalls.proofs.Filling.{still-may, publish-called}
+use Rattle.poolcalls.proofs.Filling.{still-may, publish-called, room-published}
 use Rattle.poolcalls.proofs.fills.downgrade.Goals as goal
 
 pub publish_held-requires-clause-may : goal.publish_held-requires-clause-may
@@ -19,7 +19,10 @@ returns-clause-called g c =
     let z : Shape = c.args.grid.now.shape in
     let filled = c.spread_others-share.ensures in
     let most = c.args.grid.now.checked.lanes.1 in
-    let few : 2 * (z.lanes - 1) ≤ 64 = omega arith in
-    publish-called c.requires.seen
+    let few : 2 * (z.lanes - 1) ≤ 34 = omega arith in
+    publish-called
     (subst (λ (place : ℕ). MayCarry z place (2 * (z.lanes - 1)) c.args.hand.now.me c.spread_others-share.new.hand.me) c.requires.spot.place_is filled.carries) few
     (ap g.T.Clear.content filled.share.2) c.publish_held.ensures.publishes
+
+pub returns-clause-room : goal.returns-clause-room
+returns-clause-room g c = room-published c.publish_held.ensures.publishes ∙ ap g.T.Clear.room c.spread_others-share.ensures.share.2
