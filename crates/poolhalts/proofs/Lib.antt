@@ -1,0 +1,5 @@
+pub mod Within
+pub mod Giving
+pub mod Settling
+pub mod Halting
+pub mod Taking
