@@ -1,0 +1,15 @@
+pub mod Passes
+pub mod Passing
+pub mod Staying
+pub mod Storing
+pub mod Hanging
+pub mod Blanking
+pub mod Rowing
+pub mod RowSteps
+pub mod Ending
+pub mod Laning
+pub mod Quieting
+pub mod Starting
+pub mod Seeing
+pub mod Creating
+pub mod Looking

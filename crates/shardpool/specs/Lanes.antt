@@ -1,0 +1,87 @@
+-- What calls do with lanes: the words of the pool's contracts.
+use Rattle.std.specs.Prelude.{◌≡◌, ◌==◌, ◌&&◌, ℕ, ◌<◌, ◌≤◌, true, false, not, List, [], ◌∷◌, ◌++◌, Contains, Option, Some, None, if◌then◌else◌}
+use Rattle.keybits.specs.declared.shape.Shape.{Shape}
+use Rattle.keybits.specs.declared.place.Place.{Place}
+use Rattle.keybits.specs.Places.{shard_of, page_of, number_of}
+use Rattle.keybits.specs.Shapes.{is_place}
+use Rattle.keybits.specs.Keys.{place_of, generation_of}
+use Rattle.freelists.specs.Shards.{place_numbered}
+use Rattle.seqpool.specs.declared.act.Act.{Act}
+use Rattle.seqpool.specs.declared.act.Act.TheVariants as acts
+use Rattle.seqpool.specs.Pool.{with, has, pool_after}
+use Rattle.steplaws.specs.Calls.{Call}
+use Rattle.poolsteps.specs.declared.view.View.{View}
+use Rattle.poolsteps.specs.Views.{the_lane}
+use Rattle.poolsteps.specs.Told.{MayPublish, references_seen}
+use Rattle.poolsteps.specs.ViewLaws.{references_made}
+use Rattle.poolcells.specs.Carried.{AreEmptied}
+use Rattle.poolcalls.specs.Called.{Called}
+use Rattle.shardpool.specs.Tokens.{PoolOf, LaneOf, FillingOf, RefOf, NoteOf}
+use Rattle.shardpool.specs.Places.{held_after}
+
+-- the lane is one of the pool
+abbrev pub Owns : PoolOf → LaneOf → Type 0
+Owns pool lane = (lane.table ≡ pool.table) × (lane.shape ≡ pool.shape)
+
+-- the note is of the pool
+abbrev pub Issued : PoolOf → NoteOf → Type 0
+Issued pool note = note.table ≡ pool.table
+
+-- how many references the lane has: those that its acts made, less those that they gave back
+abbrev pub refs : LaneOf → ℕ
+refs lane = held_after (the_lane lane.book).mine 0
+
+-- how many references the lane has to a key
+abbrev pub holds : LaneOf → ℕ → ℕ
+holds lane key = references_seen lane.shape lane.book key
+
+-- a place of the lane's shard is a filling: of an opened page, with the lane, and neither on its list nor on its taken chain
+pub record IsFilling (lane : LaneOf) (place : ℕ) : Type 0 where
+  pub inside : is_place lane.shape place ≡ true
+  pub own : shard_of place ≡ lane.number
+  pub opened : page_of place < lane.pages.opened
+  pub with_lane : (pool_after lane.shape lane.book.seen place).phase ≡ with lane.number
+  pub unlisted : (at : Place) → Contains lane.free.own at → number_of at ≡ place → ⊥
+  pub unchained : has (the_lane lane.book).chain place ≡ false
+
+-- the lane made the filling: the key is the next of a place that is a filling of the lane
+pub record Made {T : Type 0} (lane : LaneOf) (filling : FillingOf T) : Type 0 where
+  pub table : filling.table ≡ lane.table
+  pub place : IsFilling lane (place_of filling.key)
+  pub may : MayPublish lane.shape lane.book filling.key
+  pub emptied : AreEmptied lane.shape (the_lane lane.book) (place_of filling.key)
+
+-- it is the same lane
+abbrev pub SameLane : LaneOf → LaneOf → Type 0
+SameLane old new = (new.table ≡ old.table) × (new.shape ≡ old.shape) × (new.number ≡ old.number)
+
+-- between two views the lane made one call: its steps, each by the step relation, the acts that these made, and nothing more
+abbrev pub Calls : Shape → Call → View → View → Type 0
+Calls z call v w = Called {S = Unit {0}} z call 64 (v, []) (w, [])
+
+-- the places that acts of a lane brought to its own list: those of its shard that it reclaimed below the last generation
+abbrev pub freed : Shape → ℕ → List Act → List Place
+freed z lane [] = []
+freed z lane (acts.Publish l key content with_ref ∷ more) = freed z lane more
+freed z lane (acts.Get l key reply ∷ more) = freed z lane more
+freed z lane (acts.Release l key ∷ more) = freed z lane more
+freed z lane (acts.Clear l key reply ∷ more) = freed z lane more
+freed z lane (acts.Reclaim l key ∷ more) =
+    if (shard_of (place_of key) == lane) && not (generation_of key == z.last_generation)
+    then place_numbered (place_of key) ∷ freed z lane more else freed z lane more
+freed z lane (acts.Home l place ∷ more) = freed z lane more
+freed z lane (acts.Collect l places ∷ more) = freed z lane more
+
+-- the lane made these acts, and what it has followed: its references, and its own list; its pages are as before
+pub record Did (made : List Act) (old new : LaneOf) : Type 0 where
+  pub same : SameLane old new
+  pub mine : (the_lane new.book).mine ≡ (the_lane old.book).mine ++ made
+  pub held : (key : ℕ) → holds new key ≡ references_made made key (holds old key)
+  pub list : new.free ≡ record old.free { own = old.free.own ++ freed old.shape old.number made }
+  pub pages : new.pages ≡ old.pages
+
+-- what a get of a key of the pool did: with a reference the reply is a content, and without one it is none
+abbrev pub Gets : ℕ → LaneOf → LaneOf → Option RefOf → Type 0
+Gets key old new None = (rest : List Act) × Did (acts.Get old.number key None ∷ rest) old new
+Gets key old new (Some reference) = (reference.key ≡ key) × (1 ≤ holds new key)
+    × (content : List ℕ) × Did (acts.Get old.number key (Some content) ∷ []) old new

@@ -1,0 +1,42 @@
+-- What a contract sees of pools, lanes and tokens.
+use Rattle.std.specs.Prelude.{ℕ, refl}
+use Rattle.std.specs.Coded.{Coded, code_by, coded×, coded_ℕ}
+use Rattle.atomic_table.specs.Seated.{TableId, table_id_coded}
+use Rattle.keybits.specs.declared.shape.Shape.{Shape}
+use Rattle.freelists.specs.Queues.{FreePlaces}
+use Rattle.freelists.specs.Shards.{ShardPages}
+use Rattle.poolsteps.specs.declared.view.View.{View}
+
+-- a pool: its table and its shape
+pub record PoolOf : Type 0 where
+  pub table : TableId
+  pub shape : Shape
+
+-- a lane: the table and the shape of its pool, its number, the view of its seat, its free places and its pages
+pub record LaneOf : Type 0 where
+  pub table : TableId
+  pub shape : Shape
+  pub number : ℕ
+  pub book : View
+  pub free : FreePlaces
+  pub pages : ShardPages
+
+-- a place to be filled: the table of its pool, its key and its object
+pub record FillingOf (T : Type 0) : Type 0 where
+  pub table : TableId
+  pub key : ℕ
+  pub object : T
+
+-- a code for fillings, by one for their objects
+abbrev pub filling_code : {T : Type 0} → Coded T → Coded (FillingOf T)
+filling_code {T} code = code_by (TableId × (ℕ × T)) (coded× table_id_coded (coded× coded_ℕ code)) (λ s. (s.table, (s.key, s.object)))
+    (λ p. record { table = p.0; key = p.1.0; object = p.1.1 }) (λ _. refl)
+
+-- a reference: its key
+pub record RefOf : Type 0 where
+  pub key : ℕ
+
+-- a note: the table of its pool, and the view that it passes on
+pub record NoteOf : Type 0 where
+  pub table : TableId
+  pub book : View

@@ -1,0 +1,87 @@
+//! Lanes: each owns a shard of a pool.
+use crate::shelf::Shelf;
+use crate::token::Ref;
+use keybits::place_of;
+use poolsteps::Hand;
+use slotcell::Clear;
+use std::marker::Model;
+
+/// The owner of a shard. A thread that has one calls the pool with it.
+#[derive(Drop)]
+pub struct Lane<T: Clear> {
+    pub(crate) hand: Hand<T>,
+    pub(crate) shelf: Shelf<T>,
+}
+
+impl<T: Clear> Model for Lane<T> {
+    ghost use Rattle.std.specs.Prelude.{◌≡◌, []};
+    ghost use Rattle.shardpool.specs.Tokens.{LaneOf};
+    ghost use Rattle.shardpool.specs.Shelves.{Fits};
+
+    ghost Value = { LaneOf };
+
+    ghost view = { λ l. record {
+      table = l.hand.table_id;
+      shape = l.shelf.shape;
+      number = l.shelf.number;
+      book = l.hand.me.0;
+      free = l.shelf.free;
+      pages = l.shelf.pages;
+    } };
+
+    ghost invariant = { λ l. (l.hand.me.1 ≡ []) × Fits T.content T.room l.shelf.shape l.hand.me.0 l.shelf };
+}
+
+impl<T: Clear> Lane<T> {
+    ghost use Rattle.std.specs.Prelude.{◌≡◌, ◌≢◌, ◌≤◌, ◌⊎◌, ◌↔◌, ℕ, IsTrue, IsSome, []};
+    ghost use Rattle.seqpool.specs.Histories.{PublishedAt};
+    ghost use Rattle.shardpool.specs.Lanes.{holds, refs};
+
+    /// The lane's number, which is that of its shard.
+    pub fn number(&self) -> u32
+        ensures { result ≡ self.now.number }
+    {
+        self.shelf.number
+    }
+
+    /// How many references the lane has.
+    pub fn refs(&self) -> u32
+        ensures { result ≡ refs self.now }
+    {
+        self.shelf.references
+    }
+
+    /// Whether the lane's own list has a place, or a taken place is still to be followed. A create then succeeds.
+    pub fn has_free(&self) -> bool
+        ensures { IsTrue result ↔ ((self.now.free.own ≢ []) ⊎ IsSome self.now.free.chain) }
+    {
+        self.shelf.free.len() > 0 || self.shelf.free.chain().is_some()
+    }
+
+    /// How many references the lane has to a key. A number that is no key of the pool has none.
+    pub fn holds(&self, key: u64) -> u32
+        ensures { result ≡ holds self.now key }
+    {
+        if !keybits::fits(key, &self.shelf.shape) {
+            return 0;
+        }
+        let row = &self.shelf.rows[self.shelf.shape.position(place_of(key))];
+        if row.generation == keybits::generation_of(key) {
+            row.count
+        } else {
+            0
+        }
+    }
+
+    /// The object of a key to which the lane has a reference: its content is that with which the key was published.
+    pub fn read<'a>(&'a self, reference: &Ref<T>) -> &'a T
+        requires { 1 ≤ holds self.now reference.now.key }
+        ensures { (j : ℕ) × PublishedAt self.now.book.seen j reference.now.key (T.content result.now) }
+    {
+        let at = self.shelf.shape.position(place_of(reference.key));
+        match &self.shelf.rows[at].share {
+            Some(share) => share.read(),
+            None => unreachable!(),
+        }
+    }
+}

@@ -1,0 +1,22 @@
+//! A sharded pool of objects that are cleared and used again in place: threads share the pool, each with a lane of its own,
+//! without a lock and in a stated number of steps.
+#![tactic(auto)]
+
+mod fault;
+mod lane;
+mod notes;
+mod opening;
+mod pool;
+mod rows;
+mod shelf;
+mod stores;
+mod token;
+
+pub use fault::OpenFault;
+pub use lane::Lane;
+pub use opening::open;
+pub use pool::Pool;
+pub use token::{Filling, Note, Ref};
+
+#[cfg(test)]
+mod tests;

@@ -1,0 +1,69 @@
+//! What lanes tell each other.
+ghost use Rattle.std.specs.Prelude.{◌≡◌, []};
+ghost use mathlib.Core.List.{IsPrefix};
+ghost use Rattle.poolsteps.specs.Seats.{longer};
+ghost use Rattle.shardpool.specs.Tokens.{FillingOf};
+ghost use Rattle.shardpool.specs.Lanes.{Owns, Issued, Made, Did};
+
+use crate::lane::Lane;
+use crate::pool::Pool;
+use crate::token::Note;
+use slotcell::Clear;
+
+impl<T: Clear + Drop> Pool<T> {
+    /// A note of all that a lane has seen. It costs a load.
+    pub fn tell(&self, lane: &mut Lane<T>) -> Note<T>
+        requires { Owns self.now lane.old }
+        ensures note { Issued self.now result × (result.book.seen ≡ lane.old.book.seen) }
+        ensures lane { lane.new ≡ lane.old }
+    {
+        Note {
+            hand: self.grid.note(&mut lane.hand),
+        }
+    }
+
+    /// Takes in a note: what the lane has then seen begins with what it saw, and with what the note has. It makes no step.
+    pub fn hear(&self, lane: &mut Lane<T>, note: Note<T>)
+        requires owns { Owns self.now lane.old }
+        requires note { Issued self.now note }
+        ensures heard { IsPrefix note.book.seen lane.new.book.seen × IsPrefix lane.old.book.seen lane.new.book.seen }
+        ensures goes { Did [] lane.old lane.new }
+        ensures steps { lane.new.book.steps ≡ lane.old.book.steps }
+        ensures fillings { (filling : FillingOf T) → Made lane.old filling → Made lane.new filling }
+    {
+        let number = lane.shelf.number;
+        self.grid.heard(&mut lane.hand, number, note.hand);
+    }
+
+    /// Two lanes tell each other what they have seen: it is then one history, which begins with what each saw. They make no step.
+    pub fn meet(&self, one: &mut Lane<T>, other: &mut Lane<T>)
+        requires one { Owns self.now one.old }
+        requires other { Owns self.now other.old }
+        ensures met { one.new.book.seen ≡ other.new.book.seen }
+        ensures heard { IsPrefix one.old.book.seen one.new.book.seen × IsPrefix other.old.book.seen other.new.book.seen }
+        ensures goes { Did [] one.old one.new × Did [] other.old other.new }
+        ensures steps { (one.new.book.steps ≡ one.old.book.steps) × (other.new.book.steps ≡ other.old.book.steps) }
+        ensures one_fillings { (filling : FillingOf T) → Made one.old filling → Made one.new filling }
+        ensures other_fillings { (filling : FillingOf T) → Made other.old filling → Made other.new filling }
+    {
+        let note = self.tell(other);
+        self.meet_by(one, note);
+        let note = self.tell(one);
+        self.meet_by(other, note);
+    }
+
+    /// Takes in a note as `hear` does, and sees no further: what the lane has then seen is the longer of what it saw and what
+    /// the note has.
+    fn meet_by(&self, lane: &mut Lane<T>, note: Note<T>)
+        requires owns { Owns self.now lane.old }
+        requires note { Issued self.now note }
+        ensures met { lane.new.book.seen ≡ longer lane.old.book.seen note.book.seen }
+        ensures heard { IsPrefix note.book.seen lane.new.book.seen × IsPrefix lane.old.book.seen lane.new.book.seen }
+        ensures goes { Did [] lane.old lane.new }
+        ensures steps { lane.new.book.steps ≡ lane.old.book.steps }
+        ensures fillings { (filling : FillingOf T) → Made lane.old filling → Made lane.new filling }
+    {
+        let number = lane.shelf.number;
+        self.grid.met(&mut lane.hand, number, note.hand);
+    }
+}

@@ -1,0 +1,88 @@
+//! The pool, and the calls of its lanes.
+ghost use Rattle.std.specs.Prelude.{◌≡◌, ◌≢◌, ◌+◌, ◌<◌, ◌≤◌, ◌↔◌, true, false, is_some, IsNone, IfSome, IsSome, [], ◌∷◌, List, if◌then◌else◌};
+ghost use Rattle.keybits.specs.Keys.{is_key, place_of};
+ghost use Rattle.seqpool.specs.declared.act.Act.{Act};
+ghost use Rattle.seqpool.specs.declared.act.Act.TheVariants as acts;
+ghost use Rattle.steplaws.specs.Calls.Call.{Publishing, Getting, Releasing, Clearing};
+ghost use Rattle.steplaws.specs.Facts.{most_references};
+ghost use Rattle.sharelaws.specs.Shares.{room_of};
+ghost use Rattle.poolsteps.specs.Grids.{IsSpot};
+ghost use Rattle.shardpool.specs.Tokens.{FillingOf};
+ghost use Rattle.shardpool.specs.Lanes.{Owns, Made, Calls, Did, Gets, holds, refs};
+
+use crate::lane::Lane;
+use crate::stores::keep_reclaimed;
+use keybits::{Shape, generation_of, place_of, tag_of};
+use poolcalls::clear;
+use poolsteps::{Grid, Spot};
+use slotcell::Clear;
+use std::marker::Model;
+
+/// A pool of objects that are cleared and used again in place. Its lanes call it, each from a thread of its own.
+#[derive(Drop)]
+pub struct Pool<T: Clear> {
+    pub(crate) grid: Grid<T>,
+}
+
+impl<T: Clear> Model for Pool<T> {
+    ghost use Rattle.shardpool.specs.Tokens.{PoolOf};
+
+    ghost Value = { PoolOf };
+
+    ghost view = { λ p. record { table = p.grid.table.shared.table_id; shape = p.grid.shape } };
+}
+
+impl<T: Clear + Drop> Pool<T> {
+    /// The shape that `open` was given.
+    pub fn shape(&self) -> Shape
+        ensures { result ≡ self.now.shape }
+    {
+        self.grid.shape
+    }
+
+    /// Clears the object of a key: true where it is this call that marked the key, which a get then finds no more. The last
+    /// that refers to the object clears it in place. False for a key that is marked or not published, and for a number that is no key of the pool,
+    /// without a step.
+    pub fn clear(&self, lane: &mut Lane<T>, key: u64) -> bool
+        requires owns { Owns self.now lane.old }
+        ensures owns { Owns self.now lane.new }
+        ensures outside { is_key self.now.shape key ≡ false → (result ≡ false) × (lane.new ≡ lane.old) }
+        ensures called { is_key self.now.shape key ≡ true → Calls self.now.shape (Clearing key) lane.old.book lane.new.book }
+        ensures clears { is_key self.now.shape key ≡ true → (rest : List Act) × Did (acts.Clear lane.old.number key result ∷ rest) lane.old lane.new }
+        ensures refs { refs lane.new ≡ refs lane.old }
+        ensures fillings { (filling : FillingOf T) → Made lane.old filling → Made lane.new filling }
+    {
+        let Some(spot) = self.find(key) else {
+            return false;
+        };
+        let top = lane.shelf.top(spot.place);
+        let (marked, reclaimed) = clear(
+            lane.shelf.alloc,
+            &self.grid,
+            &mut lane.hand,
+            spot,
+            lane.shelf.number,
+            key,
+            top,
+        );
+        keep_reclaimed(&mut lane.shelf, spot.place, reclaimed);
+        marked
+    }
+
+    /// Where a key's place stands. None for a number that is no key of the pool.
+    #[inline]
+    fn find(&self, key: u64) -> Option<Spot>
+        ensures some { IsSome result ↔ is_key self.now.shape key ≡ true }
+        ensures spot { IfSome result (λ spot. IsSpot self.now.shape spot (place_of key)) }
+    {
+        let shape = &self.grid.shape;
+        let generation = generation_of(key);
+        if u32::from(tag_of(key)) != shape.tag
+            || generation < 1
+            || generation > shape.last_generation
+        {
+            return None;
+        }
+        self.grid.find(place_of(key))
+    }
+}

@@ -1,0 +1,95 @@
+ghost use Rattle.std.specs.Prelude.{◌≡◌, [], ◌∷◌, length, IfOk};
+ghost use Rattle.shardpool.specs.Lanes.{Owns};
+
+use crate::{Lane, OpenFault, Pool, open};
+use keybits::{Shape, ShapeFault};
+use slotcell::{ByteBuf, Clear, Record};
+use std::alloc::Global;
+use std::process::Abort;
+use std::test::Fail;
+
+const TWO_LANES: Shape = Shape {
+    lanes: 2,
+    first_page: 1,
+    pages: 1,
+    last_generation: 4294967295,
+    tag: 0,
+};
+
+const LARGEST: Shape = Shape {
+    lanes: 16,
+    first_page: 64,
+    pages: 6,
+    last_generation: 4294967295,
+    tag: 255,
+};
+
+/// The lanes, of which there are two.
+fn pair_of<T: Clear + Drop>(mut lanes: Vec<Lane<T>>) -> (Lane<T>, Lane<T>)
+    requires { length lanes.items ≡ 2 }
+    ensures { lanes.items ≡ result.0 ∷ result.1 ∷ [] }
+{
+    let second = lanes.pop().unwrap();
+    let first = lanes.pop().unwrap();
+    (first, second)
+}
+
+/// The pool of two lanes, and these.
+fn open_two<T: Clear + Drop>(alloc: Global) -> Result<(Pool<T>, Lane<T>, Lane<T>), Fail>
+    ensures { IfOk result (λ made. Owns made.0 made.1 × Owns made.0 made.2) }
+{
+    let (pool, lanes) = open(alloc, TWO_LANES)?;
+    let (first, second) = pair_of(lanes);
+    Ok((pool, first, second))
+}
+
+/// Clears of a number outside the shape, and of a key that was never published.
+fn clear_of_nothing<T: Clear + Drop, R: Abort>(rt: &R, pool: &Pool<T>, lane: &mut Lane<T>)
+    requires { Owns pool.now lane.old }
+    ensures { Owns pool.now lane.new }
+{
+    assert!(rt; !pool.clear(lane, 0));
+    assert!(rt; !pool.clear(lane, 18446744073709551615));
+    assert!(rt; !pool.clear(lane, 16777216));
+    assert_eq!(rt; lane.refs(), 0);
+    assert_eq!(rt; lane.holds(16777216), 0);
+}
+
+#[test]
+fn opens_pools_of_each_size(rt: HostRuntime) -> Result<(), Fail> {
+    let (pool, lanes) = open::<ByteBuf>(rt.alloc(), LARGEST)?;
+    assert_eq!(rt; pool.shape(), LARGEST);
+    assert_eq!(rt; lanes.len(), 16);
+    for (number, lane) in lanes.into_iter().enumerate() {
+        assert_eq!(rt; lane.number() as usize, number);
+        assert!(rt; !lane.has_free());
+    }
+    let (pool, lanes) = open::<Record>(rt.alloc(), TWO_LANES)?;
+    assert_eq!(rt; pool.shape().lanes, 2);
+    assert_eq!(rt; lanes.len(), 2);
+    Ok(())
+}
+
+#[test]
+fn refuses_shapes(rt: HostRuntime) {
+    let many = Shape {
+        lanes: 17,
+        ..LARGEST
+    };
+    let Err(fault) = open::<ByteBuf>(rt.alloc(), many) else {
+        panic!(rt; "seventeen lanes")
+    };
+    assert_eq!(rt; fault, OpenFault::Shape(ShapeFault::Lanes));
+    assert_eq!(rt; fault.number(), 1);
+}
+
+#[test]
+fn clears_what_is_not_published(rt: HostRuntime) -> Result<(), Fail> {
+    let (pool, mut first, mut second) = open_two::<ByteBuf>(rt.alloc())?;
+    clear_of_nothing(&rt, &pool, &mut first);
+    clear_of_nothing(&rt, &pool, &mut second);
+    let note = pool.tell(&mut first);
+    pool.hear(&mut second, note);
+    pool.meet(&mut first, &mut second);
+    Ok(())
+}

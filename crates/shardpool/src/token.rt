@@ -1,0 +1,145 @@
+//! Tokens: what a call gives, and another call takes back.
+use poolsteps::Hand;
+use slotcell::Whole;
+use std::marker::{Model, PhantomData};
+use std::snapshot::Snapshot;
+
+/// A place that is to be filled, with its object. It must be spent, by a publish, a downgrade or `leave`.
+pub struct Filling<T> {
+    pub(crate) key: u64,
+    pub(crate) object: Whole<T>,
+    pub(crate) of: Snapshot<Hand<T>>,
+}
+
+impl<T> Model for Filling<T> {
+    ghost use Rattle.shardpool.specs.Tokens.{FillingOf, filling_code};
+
+    ghost Value = { FillingOf T };
+
+    ghost coded = { filling_code T.code };
+
+    ghost view = { λ f. record { table = f.of.value.table_id; key = f.key; object = f.object } };
+}
+
+impl<T> Filling<T> {
+    ghost use Rattle.std.specs.Prelude.{◌≡◌};
+    ghost use Rattle.std.specs.Borrow.{sem};
+    ghost use Rattle.shardpool.specs.Fillings.{LendsFilling};
+
+    /// The key under which the object will be published.
+    pub fn key(&self) -> u64
+        ensures { result ≡ self.now.key }
+    {
+        self.key
+    }
+
+    /// The object.
+    pub fn value(&self) -> &T
+        ensures { result.now ≡ self.now.object }
+    {
+        self.object.get()
+    }
+
+    /// The object, to be written.
+    pub fn value_mut(&mut self) -> &mut T
+        ensures* writes_back { sem 𝓛 (LendsFilling T.row self.old self.entry result) }
+        ensures object { result.now ≡ self.old.object }
+    {
+        self.object.get_mut()
+    }
+
+    /// The filling of a key with this object, by a lane with this hand.
+    pub(crate) fn of(hand: &Hand<T>, key: u64, object: Whole<T>) -> Filling<T>
+        ensures { result ≡ record { table = hand.now.table_id; key = key; object = object } }
+    {
+        Filling {
+            key,
+            object,
+            of: Snapshot::of(hand),
+        }
+    }
+
+    /// The token's key and object.
+    pub(crate) fn spend(self) -> (u64, Whole<T>)
+        ensures { (result.0 ≡ self.key) × (result.1 ≡ self.object) }
+    {
+        let Filling { key, object, of } = self;
+        drop(of);
+        (key, object)
+    }
+
+    /// The token ends, and the pool isn't told: the place stays filling until the pool is closed. The object is dropped.
+    pub fn leave(self)
+    where
+        T: Drop,
+    {
+        let Filling { key: _, object, of } = self;
+        drop(object);
+        drop(of);
+    }
+}
+
+/// A reference to a published object. It must be spent, by a release or `leave`.
+pub struct Ref<T> {
+    pub(crate) key: u64,
+    pub(crate) of: PhantomData<T>,
+}
+
+impl<T> Model for Ref<T> {
+    ghost use Rattle.shardpool.specs.Tokens.{RefOf};
+
+    ghost Value = { RefOf };
+
+    ghost view = { λ r. record { key = r.key } };
+}
+
+impl<T> Ref<T> {
+    ghost use Rattle.std.specs.Prelude.{◌≡◌};
+
+    /// A reference to this key.
+    pub(crate) fn to(key: u64) -> Ref<T>
+        ensures { result.key ≡ key }
+    {
+        Ref {
+            key,
+            of: PhantomData,
+        }
+    }
+
+    /// The key of the object.
+    pub fn key(&self) -> u64
+        ensures { result ≡ self.now.key }
+    {
+        self.key
+    }
+
+    /// The token's key.
+    pub(crate) fn spend(self) -> u64
+        ensures { result ≡ self.key }
+    {
+        let Ref { key, of: _ } = self;
+        key
+    }
+
+    /// The token ends, and the pool isn't told: the reference stays held by its lane until the pool is closed.
+    pub fn leave(self) {
+        self.spend();
+    }
+}
+
+/// What a lane has seen, to be told to another.
+#[derive(Drop)]
+pub struct Note<T> {
+    pub(crate) hand: Hand<T>,
+}
+
+impl<T> Model for Note<T> {
+    ghost use Rattle.std.specs.Prelude.{◌≡◌, []};
+    ghost use Rattle.shardpool.specs.Tokens.{NoteOf};
+
+    ghost Value = { NoteOf };
+
+    ghost view = { λ n. record { table = n.hand.table_id; book = n.hand.me.0 } };
+
+    ghost invariant = { λ n. n.hand.me.1 ≡ [] };
+}
