@@ -13,3 +13,4 @@ pub mod Starting
 pub mod Seeing
 pub mod Creating
 pub mod Looking
+pub mod Getting

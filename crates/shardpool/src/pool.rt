@@ -11,10 +11,12 @@ ghost use Rattle.shardpool.specs.Tokens.{FillingOf};
 ghost use Rattle.shardpool.specs.Lanes.{Owns, Made, Calls, Did, Gets, holds, refs};
 
 use crate::lane::Lane;
+use crate::rows::{begin, go_on};
 use crate::stores::keep_reclaimed;
+use crate::token::Ref;
 use keybits::{Shape, generation_of, place_of, tag_of};
-use poolcalls::clear;
-use poolsteps::{Grid, Spot};
+use poolcalls::{Got, clear, get};
+use poolsteps::{Grid, Spot, shares_law};
 use slotcell::Clear;
 use std::marker::Model;
 
@@ -38,6 +40,47 @@ impl<T: Clear + Drop> Pool<T> {
         ensures { result ≡ self.now.shape }
     {
         self.grid.shape
+    }
+
+    /// A reference to the object of a key, where it is published and not cleared. None otherwise, and for a number that is no
+    /// key of the pool, without a step.
+    pub fn get(&self, lane: &mut Lane<T>, key: u64) -> Option<Ref<T>>
+        requires owns { Owns self.now lane.old }
+        requires room { refs lane.old < most_references }
+        ensures owns { Owns self.now lane.new }
+        ensures outside { is_key self.now.shape key ≡ false → IsNone result × (lane.new ≡ lane.old) }
+        ensures called { is_key self.now.shape key ≡ true → Calls self.now.shape (Getting key) lane.old.book lane.new.book }
+        ensures gets { is_key self.now.shape key ≡ true → Gets key lane.old lane.new result }
+        ensures refs { refs lane.new ≡ refs lane.old + (if is_some result then 1 else 0) }
+        ensures fillings { (filling : FillingOf T) → Made lane.old filling → Made lane.new filling }
+    {
+        shares_law();
+        let spot = self.find(key)?;
+        let number = lane.shelf.number;
+        let top = lane.shelf.top(spot.place);
+        let got = get(
+            lane.shelf.alloc,
+            &self.grid,
+            &mut lane.hand,
+            spot,
+            number,
+            key,
+            top,
+        );
+        match got {
+            Got::Miss(reclaimed) => {
+                keep_reclaimed(&mut lane.shelf, spot.place, reclaimed);
+                return None;
+            }
+            Got::Hit => {}
+        }
+        if lane.shelf.rows[spot.position].count > 0 {
+            go_on(&mut lane.shelf, spot.position);
+            return Some(Ref::to(key));
+        }
+        let share = self.grid.out(&mut lane.hand, spot, number, number);
+        begin(&mut lane.shelf, spot.position, key, share);
+        Some(Ref::to(key))
     }
 
     /// Clears the object of a key: true where it is this call that marked the key, which a get then finds no more. The last
