@@ -13,3 +13,6 @@ pub mod Starting
 pub mod Seeing
 pub mod Creating
 pub mod Looking
+pub mod Paging
+pub mod Popping
+pub mod Taking

@@ -6,3 +6,4 @@ pub mod Fillings
 pub mod Stores
 pub mod Opened
 pub mod Creates
+pub mod Openings
