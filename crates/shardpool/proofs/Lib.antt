@@ -9,6 +9,9 @@ pub mod RowSteps
 pub mod Ending
 pub mod Laning
 pub mod Quieting
+pub mod Calling
+pub mod Publishing
+pub mod Releasing
 pub mod Starting
 pub mod Seeing
 pub mod Creating
