@@ -153,7 +153,8 @@ impl LocalFree {
     /// The first place of the taken chain, where one hangs.
     #[inline]
     pub fn chain(&self) -> Option<Place>
-        ensures { result ≡ self.now.chain }
+        ensures first { result ≡ self.now.chain }
+        ensures places { AreFree self.now }
     {
         self.chain
     }

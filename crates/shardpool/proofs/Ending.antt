@@ -34,6 +34,7 @@ use Rattle.shardpool.specs.Places.{held_after}
 use Rattle.shardpool.specs.Shelves.{FitsSeat, FitsTops, FitsStores, IsHeld, FitsRows, Fits}
 use Rattle.shardpool.specs.Stores.{Keeps}
 use Rattle.shardpool.specs.Lanes.{freed}
+use Rattle.shardpool.proofs.Abroad.{NoneAbroad, abroad-append, abroad-own, abroad-returned, abroad-retired}
 use Rattle.shardpool.proofs.Passes.{Passes, OnlyAt}
 use Rattle.shardpool.proofs.Passing.{passes-did, passes-still, onlyat-append, onlyat-end}
 use Rattle.shardpool.proofs.Staying.{seat-passes, tops-same, tops-pushed}
@@ -41,6 +42,16 @@ use Rattle.shardpool.proofs.Storing.{FitsShelf, IsKeepable, stores-still, stores
 use Rattle.shardpool.proofs.Blanking.{reclaimed-with, last-of}
 use Rattle.shardpool.proofs.Rowing.{rows-pass, held-append}
 use Rattle.shardpool.proofs.RowSteps.{end-refs, end-held}
+
+-- what the lane keeps beside its rows fits what it has seen and did
+pub record FitsBeside {T : Type 0} (content : T → List ℕ) (room : T → ℕ) (z : Shape) (v : View) (s : Shelf T) : Type 0 where
+  pub shape_is : s.shape ≡ z
+  pub seat : FitsSeat z v s.number
+  pub tops : FitsTops z v s.tops.items
+  pub stores : FitsStores content room z v s.free s.pages s.objects.items
+
+pub fits-beside : {T : Type 0} {content : T → List ℕ} {room : T → ℕ} {z : Shape} {v : View} {s : Shelf T} → Fits content room z v s → FitsBeside content room z v s
+fits-beside fits = record { shape_is = fits.shape_is; seat = fits.seat; tops = fits.tops; stores = fits.stores }
 
 -- which slots such a call may have touched: those of the place where it was reclaimed, and none otherwise
 abbrev pub touched_by : {T : Type 0} → ℕ → Option (Reclaimed T) → ℕ → Bool
@@ -100,7 +111,7 @@ passes-by (Some reclaimed) did moved = passes-did did
 pub some-lane : {z : Shape} {v : View} {n : ℕ} → FitsSeat z v n → 0 < z.lanes
 some-lane seat = let below = seat.below in omega (arith, below)
 
-module _ {T : Type 0} {content : T → List ℕ} {room : T → ℕ} {z : Shape} {v w : View} {s : Shelf T} (fits : Fits content room z v s) where
+module _ {T : Type 0} {content : T → List ℕ} {room : T → ℕ} {z : Shape} {v w : View} {s : Shelf T} (fits : FitsBeside content room z v s) where
   stores-by : {place : ℕ} {made : List Act} (reclaimed : Option (Reclaimed T)) → Passes z (touched_by place reclaimed) made v w → (the_lane w).chain ≡ (the_lane v).chain
       → MovedNothing z place (the_lane v) (the_lane w) reclaimed → OnlyAt place made → (reclaimed ≡ None → All (λ act. gives_away act place ≡ false) made)
       → FitsShelf content room z w s
@@ -194,7 +205,7 @@ module _ (z : Shape) (v w : View) (place generation : ℕ) (first : List Act) (s
         (reclaimed-with z (the_lane v).lane (key_number z.tag place generation) w.seen ((the_lane v).mine ++ first) legal last-act (λ is. below (sym key-generation ∙ is))
         ∙ ap with (sym lane))
 
-module _ {T : Type 0} {content : T → List ℕ} {room : T → ℕ} {z : Shape} {v : View} {s : Shelf T} (fits : Fits content room z v s) (w : View) where
+module _ {T : Type 0} {content : T → List ℕ} {room : T → ℕ} {z : Shape} {v : View} {s : Shelf T} (fits : FitsBeside content room z v s) (w : View) where
   -- what is kept of a reclaimed place
   keepable : (place generation : ℕ) (first : List Act) (reclaimed : Option (Reclaimed T)) → is_place z place ≡ true → (the_lane w).mine ≡ acts_of (the_lane w).lane w.seen
       → IsLegal z w.seen → (the_lane w).lane ≡ (the_lane v).lane
@@ -237,6 +248,22 @@ module _ {T : Type 0} {content : T → List ℕ} {room : T → ℕ} {z : Shape} 
       (freed-append z s.number first (reclaim z (the_lane v).lane place generation ∷ [])
       ∙ (ap (λ (xs : List Place). xs ++ freed z s.number (reclaim z (the_lane v).lane place generation ∷ [])) none ∙ one))
 
+  -- its acts leave no place of another shard with the lane
+  alone-by : (place generation : ℕ) (first : List Act) (reclaimed : Option (Reclaimed T)) → is_place z place ≡ true → (the_lane w).mine ≡ acts_of (the_lane w).lane w.seen
+      → IsLegal z w.seen → (the_lane w).lane ≡ (the_lane v).lane
+      → (the_lane w).mine ≡ (the_lane v).mine ++ (first ++ end_acts z (the_lane v).lane place generation reclaimed) → FitsGeneration z generation reclaimed
+      → IfSome reclaimed (IsReclaimed content room z place s.number w) → NoneAbroad z s.number (end_acts z (the_lane v).lane place generation reclaimed)
+  alone-by place generation first None inside own legal lane mine below told = λ p within other. refl
+  alone-by place generation first (Some (Own whole)) inside own legal lane mine below told =
+      abroad-own z s.number (the_lane v).lane (key_number z.tag place generation)
+      (ap shard_of (key-place z v w place generation first fits.seat.shape inside own legal lane) ∙ told.0)
+  alone-by place generation first (Some Returned) inside own legal lane mine below told =
+      abroad-returned z s.number (the_lane v).lane place (key_number z.tag place generation)
+      (key-place z v w place generation first fits.seat.shape inside own legal lane)
+  alone-by place generation first (Some Retired) inside own legal lane mine below told =
+      abroad-retired z s.number (the_lane v).lane (key_number z.tag place generation)
+      (key-generation z v w place generation first fits.seat.shape inside own legal lane mine ∙ below)
+
 -- where no place was reclaimed, nothing is given away
 given-none : {T : Type 0} (z : Shape) (lane place generation : ℕ) (first : List Act) (reclaimed : Option (Reclaimed T)) → reclaimed ≡ None
     → All (λ act. gives_away act place ≡ false) first → All (λ act. gives_away act place ≡ false) (first ++ end_acts z lane place generation reclaimed)
@@ -244,7 +271,7 @@ given-none z lane place generation first None gone keeps = subst (λ (xs : List 
 given-none z lane place generation first (Some reclaimed) gone keeps = absurd (cc gone)
 
 -- the stores once what became of the place was kept
-stores-after : {T : Type 0} {content : T → List ℕ} {room : T → ℕ} {z : Shape} {v : View} {s : Shelf T} → Fits content room z v s → (w : View) (t : Shelf T) (place generation : ℕ)
+stores-after : {T : Type 0} {content : T → List ℕ} {room : T → ℕ} {z : Shape} {v : View} {s : Shelf T} → FitsBeside content room z v s → (w : View) (t : Shelf T) (place generation : ℕ)
     (first : List Act) (reclaimed : Option (Reclaimed T)) → is_place z place ≡ true → (the_lane w).mine ≡ acts_of (the_lane w).lane w.seen → IsLegal z w.seen
     → (the_lane w).lane ≡ (the_lane v).lane → (the_lane w).mine ≡ (the_lane v).mine ++ (first ++ end_acts z (the_lane v).lane place generation reclaimed)
     → FitsGeneration z generation reclaimed → MovedNothing z place (the_lane v) (the_lane w) reclaimed → IfSome reclaimed (IsReclaimed content room z place s.number w)
@@ -261,12 +288,12 @@ stores-after {z = z} {v = v} {s = s} fits w t place generation first (Some recla
     (keepable fits w place generation first (Some reclaimed) inside own legal lane mine below told) kept
 
 -- what a call at a place left
-pub ended : {S T : Type 0} {content : T → List ℕ} {room : T → ℕ} {z : Shape} {place steps looks : ℕ} {made : List Act} {a b : Me S View} {s t : Shelf T}
-    (first : List Act) (reclaimed : Option (Reclaimed T)) → Fits content room z a.0 s → Did z place made steps looks a b → IsIdle b.0 → (acts_so : EndsWithActs z place first a.0 b.0 reclaimed)
+pub ended-beside : {S T : Type 0} {content : T → List ℕ} {room : T → ℕ} {z : Shape} {place steps looks : ℕ} {made : List Act} {a b : Me S View} {s t : Shelf T}
+    (first : List Act) (reclaimed : Option (Reclaimed T)) → FitsBeside content room z a.0 s → Did z place made steps looks a b → IsIdle b.0 → (acts_so : EndsWithActs z place first a.0 b.0 reclaimed)
     → IfSome reclaimed (IsReclaimed content room z place s.number b.0) → is_place z place ≡ true → OnlyAt place first → All (λ act. gives_away act place ≡ false) first
-    → freed z s.number first ≡ [] → Keeps place reclaimed s t
+    → freed z s.number first ≡ [] → NoneAbroad z s.number first → Keeps place reclaimed s t
     → Ended content room z place reclaimed (first ++ end_acts z (the_lane a.0).lane place acts_so.0.0 reclaimed) a.0 b.0 s t
-ended {content = content} {room = room} {z = z} {place = place} {made = made} {a = a} {b = b} {s = s} {t = t} first reclaimed fits did idle acts_so told inside only keeps none kept =
+ended-beside {content = content} {room = room} {z = z} {place = place} {made = made} {a = a} {b = b} {s = s} {t = t} first reclaimed fits did idle acts_so told inside only keeps none alone kept =
     let lane : ℕ = (the_lane a.0).lane in
     let all : List Act = first ++ end_acts z lane place acts_so.0.0 reclaimed in
     let same : made ≡ all = append_cancel_left (the_lane a.0).mine made all (sym did.mine ∙ acts_so.0.1) in
@@ -279,22 +306,37 @@ ended {content = content} {room = room} {z = z} {place = place} {made = made} {a
       keeps = λ gone. given-none z lane place acts_so.0.0 first reclaimed gone keeps;
       moved = acts_so.2;
       chain = did.chain;
-      seat = subst (λ (n : ℕ). FitsSeat z b.0 n) (sym rest.3) (seat-passes fits.seat passes idle);
+      seat = subst (λ (n : ℕ). FitsSeat z b.0 n) (sym rest.3) (seat-passes fits.seat passes idle
+          (abroad-append z s.number first (end_acts z lane place acts_so.0.0 reclaimed) alone (alone-by fits b.0 place acts_so.0.0 first reclaimed inside did.own did.legal did.lane acts_so.0.1 acts_so.0.2 told)));
       tops = tops-by fits t place reclaimed inside acts_so.1 kept;
       stores = stores-after fits b.0 t place acts_so.0.0 first reclaimed inside did.own did.legal did.lane acts_so.0.1 acts_so.0.2 acts_so.2 told stores did.chain kept;
       list = list-by fits b.0 t place acts_so.0.0 first reclaimed inside did.own did.legal did.lane acts_so.0.1 acts_so.0.2 told none kept;
       same = rest;
     }
 
+-- and where the rows fit too
+pub ended : {S T : Type 0} {content : T → List ℕ} {room : T → ℕ} {z : Shape} {place steps looks : ℕ} {made : List Act} {a b : Me S View} {s t : Shelf T}
+    (first : List Act) (reclaimed : Option (Reclaimed T)) → Fits content room z a.0 s → Did z place made steps looks a b → IsIdle b.0 → (acts_so : EndsWithActs z place first a.0 b.0 reclaimed)
+    → IfSome reclaimed (IsReclaimed content room z place s.number b.0) → is_place z place ≡ true → OnlyAt place first → All (λ act. gives_away act place ≡ false) first
+    → freed z s.number first ≡ [] → NoneAbroad z s.number first → Keeps place reclaimed s t
+    → Ended content room z place reclaimed (first ++ end_acts z (the_lane a.0).lane place acts_so.0.0 reclaimed) a.0 b.0 s t
+ended first reclaimed fits did idle acts_so told inside only keeps none alone kept =
+    ended-beside first reclaimed (fits-beside fits) did idle acts_so told inside only keeps none alone kept
+
 -- an object that is answered may be kept
+pub beside-away : {T : Type 0} {content : T → List ℕ} {room : T → ℕ} {z : Shape} {v : View} {s : Shelf T} → FitsBeside content room z v s → (w : View) (place : ℕ)
+    (reclaimed : Option (Reclaimed T)) → is_place z place ≡ true → MovedNothing z place (the_lane v) (the_lane w) reclaimed
+    → IfSome reclaimed (IsReclaimed content room z place s.number w) → (whole : T) → reclaimed ≡ Some (Own whole) → IsAway s.free (place_numbered place)
+beside-away fits w place None inside moved told whole is = absurd (cc is)
+beside-away fits w place (Some (Own object)) inside moved told whole is =
+    apart-away fits.stores place inside (told.0 ∙ fits.seat.number_is) (alone-apart fits.stores (some-lane fits.seat) place moved)
+beside-away fits w place (Some Returned) inside moved told whole is = absurd (cc is)
+beside-away fits w place (Some Retired) inside moved told whole is = absurd (cc is)
+
 pub own-away : {T : Type 0} {content : T → List ℕ} {room : T → ℕ} {z : Shape} {v : View} {s : Shelf T} → Fits content room z v s → (w : View) (place : ℕ)
     (reclaimed : Option (Reclaimed T)) → is_place z place ≡ true → MovedNothing z place (the_lane v) (the_lane w) reclaimed
     → IfSome reclaimed (IsReclaimed content room z place s.number w) → (whole : T) → reclaimed ≡ Some (Own whole) → IsAway s.free (place_numbered place)
-own-away fits w place None inside moved told whole is = absurd (cc is)
-own-away fits w place (Some (Own object)) inside moved told whole is =
-    apart-away fits.stores place inside (told.0 ∙ fits.seat.number_is) (alone-apart fits.stores (some-lane fits.seat) place moved)
-own-away fits w place (Some Returned) inside moved told whole is = absurd (cc is)
-own-away fits w place (Some Retired) inside moved told whole is = absurd (cc is)
+own-away fits = beside-away (fits-beside fits)
 
 -- ---- the rows
 
@@ -304,7 +346,7 @@ made-append [] more key n = refl
 made-append (act ∷ made) more key n = made-append made more key (references_with act key n)
 
 -- where the lane has references to a place, that wasn't reclaimed
-untouched-held : {T : Type 0} {content : T → List ℕ} {room : T → ℕ} {z : Shape} {v : View} {place generation : ℕ} {share : Share T} → FitsSeat z v (the_lane v).lane
+pub untouched-held : {T : Type 0} {content : T → List ℕ} {room : T → ℕ} {z : Shape} {v : View} {place generation : ℕ} {share : Share T} → FitsSeat z v (the_lane v).lane
     → IsHeld content room z v place generation share → (w : View) (p : ℕ) (reclaimed : Option (Reclaimed T)) → MovedNothing z p (the_lane v) (the_lane w) reclaimed
     → touched_by p reclaimed place ≡ false
 untouched-held seat held w p None moved = refl

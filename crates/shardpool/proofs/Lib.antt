@@ -1,3 +1,4 @@
+pub mod Abroad
 pub mod Passes
 pub mod Passing
 pub mod Staying
@@ -13,3 +14,10 @@ pub mod Starting
 pub mod Seeing
 pub mod Creating
 pub mod Looking
+pub mod Getting
+pub mod Paging
+pub mod Popping
+pub mod Taking
+pub mod Calling
+pub mod Publishing
+pub mod Releasing

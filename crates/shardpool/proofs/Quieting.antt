@@ -22,6 +22,7 @@ use Rattle.shardpool.specs.Tokens.{FillingOf}
 use Rattle.shardpool.specs.Stores.{Keeps}
 use Rattle.shardpool.specs.Shelves.{FitsRows, Fits}
 use Rattle.shardpool.specs.Lanes.{Made, Did, freed}
+use Rattle.shardpool.proofs.Abroad.{NoneAbroad}
 use Rattle.shardpool.proofs.Passes.{OnlyAt}
 use Rattle.shardpool.proofs.Passing.{onlyat-clear, onlyat-get}
 use Rattle.shardpool.proofs.Ending.{Ended, ended, rows-ended, some-lane}
@@ -32,6 +33,7 @@ pub record IsQuiet (z : Shape) (lane place : ℕ) (first : List Act) : Type 0 wh
   pub only : OnlyAt place first
   pub keeps : All (λ act. gives_away act place ≡ false) first
   pub freed_none : freed z lane first ≡ []
+  pub alone : NoneAbroad z lane first
   pub references : (key n : ℕ) → references_made first key n ≡ n
   pub held : (n : ℕ) → held_after first n ≡ n
 
@@ -40,7 +42,7 @@ module _ {S T : Type 0} {content : T → List ℕ} {room : T → ℕ} {z : Shape
     (acts_so : EndsWithActs z place first a.0 b.0 reclaimed) (told : IfSome reclaimed (IsReclaimed content room z place s.number b.0)) (inside : is_place z place ≡ true)
     (quiet : IsQuiet z s.number place first) (kept : Keeps place reclaimed s t) where
   quiet-ended : Ended content room z place reclaimed (first ++ end_acts z (the_lane a.0).lane place acts_so.0.0 reclaimed) a.0 b.0 s t
-  quiet-ended = ended first reclaimed fits did idle acts_so told inside quiet.only quiet.keeps quiet.freed_none kept
+  quiet-ended = ended first reclaimed fits did idle acts_so told inside quiet.only quiet.keeps quiet.freed_none quiet.alone kept
 
   -- what the lane keeps fits
   pub quiet-fits : Fits content room z b.0 t
@@ -80,6 +82,7 @@ quiet-clear z own lane key reply = record {
   only = onlyat-clear lane key reply;
   keeps = All-cons (λ act. gives_away act (place_of key) ≡ false) (acts.Clear lane key reply) [] refl (All-nil (λ act. gives_away act (place_of key) ≡ false));
   freed_none = refl;
+  alone = λ p inside other. refl;
   references = λ k n. refl;
   held = λ n. refl;
 }
@@ -89,6 +92,7 @@ quiet-miss z own lane key = record {
   only = onlyat-get lane key None;
   keeps = All-cons (λ act. gives_away act (place_of key) ≡ false) (acts.Get lane key None) [] refl (All-nil (λ act. gives_away act (place_of key) ≡ false));
   freed_none = refl;
+  alone = λ p inside other. refl;
   references = λ k n. refl;
   held = λ n. refl;
 }

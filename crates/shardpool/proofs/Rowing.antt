@@ -39,7 +39,7 @@ same-generation z k key inside_k inside here = dite (ℕ_discrete k key)
     (λ (other : k ≢ key).
     ne_eqb (generation_of k) (generation_of key) (λ is. other (same-key z k key inside_k inside here is)) ∙ sym (ne_eqb k key other))
 
-either-same : (b : Bool) (n : ℕ) → cond b n n ≡ n
+pub either-same : (b : Bool) (n : ℕ) → cond b n n ≡ n
 either-same true n = refl
 either-same false n = refl
 

@@ -118,7 +118,7 @@ fits-sees sees fits =
     let passes = passes-sees sees in
     let seat = fits.seat in record {
       shape_is = fits.shape_is;
-      seat = seat-passes seat passes (still-idle sees seat.idle);
+      seat = seat-passes seat passes (still-idle sees seat.idle) (λ place inside other. refl);
       tops = tops-same fits.tops (same-pushed sees);
       rows = rows-pass passes seat.own fits.rows (λ place row inside stands fit. ((λ some. refl), (λ key n here. refl))) refl;
       stores = stores-still fits.stores {place = 0} seat.paired seat.own (same-chain sees) (onlyat-none 0) passes (All-nil (λ act. gives_away act 0 ≡ false));

@@ -21,15 +21,16 @@ use Rattle.placelaws.proofs.WithPlaces.{with-law}
 use Rattle.poolsteps.specs.declared.view.View.{View}
 use Rattle.poolsteps.specs.Views.{the_lane, pushed_in, known_of}
 use Rattle.poolsteps.specs.Told.{MayPublish, IsIdle}
-use Rattle.shardpool.specs.Places.{IsBlank, IsResting}
+use Rattle.shardpool.specs.Places.{IsBlank, IsResting, left_with}
 use Rattle.shardpool.specs.Shelves.{FitsSeat, FitsTops}
+use Rattle.shardpool.proofs.Abroad.{NoneAbroad, abroad-append}
 use Rattle.shardpool.proofs.Passes.{Passes}
 use Rattle.shardpool.proofs.Passing.{all-acts}
 
 -- ---- what the lane keeps beside its seat
 
-pub seat-passes : {z : Shape} {at : ℕ → Bool} {made : List Act} {v w : View} {n : ℕ} → FitsSeat z v n → Passes z at made v w → IsIdle w → FitsSeat z w n
-seat-passes {v = v} seat passes idle = record {
+pub seat-passes : {z : Shape} {at : ℕ → Bool} {made : List Act} {v w : View} {n : ℕ} → FitsSeat z v n → Passes z at made v w → IsIdle w → NoneAbroad z n made → FitsSeat z w n
+seat-passes {z = z} {made = made} {v = v} {n = n} seat passes idle alone = record {
   shape = seat.shape;
   one = passes.one;
   number_is = seat.number_is ∙ sym passes.lane;
@@ -39,6 +40,8 @@ seat-passes {v = v} seat passes idle = record {
   own = passes.own;
   paired = ap (λ (xs : List ℕ). length xs) passes.rooms.1 ∙ (length-append v.rooms passes.rooms.0
       ∙ (ap (λ (m : ℕ). m + length passes.rooms.0) seat.paired ∙ sym passes.rooms.2));
+  alone = λ place inside other. ap (λ (xs : List Act). left_with z place xs false) passes.mine
+      ∙ abroad-append z n (the_lane v).mine made seat.alone alone place inside other;
 }
 
 pub tops-same : {z : Shape} {v w : View} {tops : List ℕ} → FitsTops z v tops → (the_lane w).pushed ≡ (the_lane v).pushed → FitsTops z w tops

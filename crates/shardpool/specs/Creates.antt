@@ -15,9 +15,16 @@ use Rattle.poolsteps.specs.Views.{the_lane}
 use Rattle.poolsteps.specs.Told.{IsIdle, Sees}
 use Rattle.poolcalls.specs.Called.{caller_of, Make}
 use Rattle.pooltakes.specs.Taken.{NoneHome, Collects, FollowsOut}
+use Rattle.shardpool.specs.declared.create.CreateFault.{CreateFault}
+use Rattle.shardpool.specs.declared.create.CreateFault.TheVariants.{Full, Memory}
 use Rattle.shardpool.specs.Tokens.{LaneOf, FillingOf}
 use Rattle.shardpool.specs.Lanes.{IsFilling, Made, SameLane, holds}
 use Rattle.shardpool.specs.Places.{IsBlank}
+
+-- the number of a fault: 21 where no place is free, and 22 for want of memory
+abbrev pub create_fault_number : CreateFault → ℕ
+create_fault_number Full = 21
+create_fault_number Memory = 22
 
 -- the call of a create, by what the lane has: its own list, its taken chain, and how many pages are opened
 abbrev pub creating : LaneOf → Call

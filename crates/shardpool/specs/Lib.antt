@@ -4,5 +4,7 @@ pub mod Shelves
 pub mod Lanes
 pub mod Fillings
 pub mod Stores
+pub mod Lendings
 pub mod Opened
 pub mod Creates
+pub mod Openings

@@ -1,11 +1,12 @@
 -- Places that are with a lane, by what the lane has seen and did.
-use Rattle.std.specs.Prelude.{◌≡◌, ℕ, ◌+◌, ◌-◌, ◌≤◌, true, false, List, [], ◌∷◌, Some, None}
+use Rattle.std.specs.Prelude.{◌≡◌, ◌==◌, ℕ, ◌+◌, ◌-◌, ◌≤◌, Bool, true, false, not, List, [], ◌∷◌, Some, None, if◌then◌else◌}
 use Rattle.keybits.specs.declared.shape.Shape.{Shape}
 use Rattle.keybits.specs.Places.{shard_of}
 use Rattle.keybits.specs.Shapes.{is_place}
+use Rattle.keybits.specs.Keys.{place_of, generation_of}
 use Rattle.seqpool.specs.declared.act.Act.{Act}
 use Rattle.seqpool.specs.declared.act.Act.TheVariants as acts
-use Rattle.seqpool.specs.Pool.{with, pool_after}
+use Rattle.seqpool.specs.Pool.{with, has, pool_after}
 use Rattle.sharelaws.specs.Shares.{room_of}
 use Rattle.poolsteps.specs.declared.view.View.{View}
 use Rattle.poolsteps.specs.Views.{the_lane, known_of}
@@ -42,3 +43,18 @@ held_with (acts.Collect lane places) n = n
 abbrev pub held_after : List Act → ℕ → ℕ
 held_after [] n = n
 held_after (act ∷ more) n = held_after more (held_with act n)
+
+-- whether a place is with a lane after its act, where it was so before or not: a publish and a return give it away, a collect brings it, and so does a reclaim below the last generation
+abbrev pub left_by : Shape → ℕ → Act → Bool → Bool
+left_by z place (acts.Publish lane key content with_ref) was = if place == place_of key then false else was
+left_by z place (acts.Get lane key reply) was = was
+left_by z place (acts.Release lane key) was = was
+left_by z place (acts.Clear lane key reply) was = was
+left_by z place (acts.Reclaim lane key) was = if place == place_of key then not (generation_of key == z.last_generation) else was
+left_by z place (acts.Home lane at) was = if place == at then false else was
+left_by z place (acts.Collect lane places) was = if has places place then true else was
+
+-- whether a place is with a lane after these acts of it, by these alone
+abbrev pub left_with : Shape → ℕ → List Act → Bool → Bool
+left_with z place [] was = was
+left_with z place (act ∷ more) was = left_with z place more (left_by z place act was)

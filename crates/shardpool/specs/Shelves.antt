@@ -1,5 +1,5 @@
 -- What a lane keeps beside its seat, and how it fits what the lane has seen and did.
-use Rattle.std.specs.Prelude.{◌≡◌, ◌==◌, ℕ, ◌<◌, ◌≤◌, true, List, [], ◌∷◌, length, sum_by, Contains, Option, Some, None, slice_get, slice_index, if◌then◌else◌}
+use Rattle.std.specs.Prelude.{◌≡◌, ◌≢◌, ◌==◌, ℕ, ◌<◌, ◌≤◌, true, false, List, [], ◌∷◌, length, sum_by, Contains, Option, Some, None, slice_get, slice_index, if◌then◌else◌}
 use Rattle.keybits.specs.declared.shape.Shape.{Shape}
 use Rattle.keybits.specs.declared.place.Place.{Place}
 use Rattle.keybits.specs.Places.{shard_of, page_of, number_of}
@@ -18,9 +18,9 @@ use Rattle.poolsteps.specs.Moved.{stored_of}
 use Rattle.poolsteps.specs.Returned.{rest_of}
 use Rattle.shardpool.specs.declared.shelf.Row.{Row}
 use Rattle.shardpool.specs.declared.shelf.Shelf.{Shelf}
-use Rattle.shardpool.specs.Places.{IsBlank, IsResting, held_after}
+use Rattle.shardpool.specs.Places.{IsBlank, IsResting, held_after, left_with}
 
--- the seat is that of one lane of the pool, which saw a legal history with just its own acts, and has nothing under way
+-- the seat is that of one lane of the pool, which saw a legal history with just its own acts, has nothing under way, and whose acts left it no place of another lane's shard
 pub record FitsSeat (z : Shape) (v : View) (number : ℕ) : Type 0 where
   pub shape : IsShape z
   pub one : IsOne v
@@ -30,6 +30,7 @@ pub record FitsSeat (z : Shape) (v : View) (number : ℕ) : Type 0 where
   pub legal : IsLegal z v.seen
   pub own : (the_lane v).mine ≡ acts_of (the_lane v).lane v.seen
   pub paired : length v.rooms ≡ length v.seen
+  pub alone : (place : ℕ) → is_place z place ≡ true → shard_of place ≢ number → left_with z place (the_lane v).mine false ≡ false
 
 -- these are the words that the lane last pushed, by their shards
 pub record FitsTops (z : Shape) (v : View) (tops : List ℕ) : Type 0 where

@@ -3,7 +3,7 @@ use Rattle.std.specs.Prelude.{◌≡◌, ℕ, [], ◌∷◌, ◌++◌, Option, S
 use Rattle.keybits.specs.declared.place.Place.{Place}
 use Rattle.keybits.specs.Places.{shard_of, number_of}
 use Rattle.keybits.specs.Shapes.{index_of}
-use Rattle.keybits.specs.Links.{link_to}
+use Rattle.keybits.specs.Links.{link_to, linked_place}
 use Rattle.freelists.specs.Shards.{place_numbered}
 use Rattle.freelists.specs.Queues.{AreFree, IsAway}
 use Rattle.poolcalls.specs.declared.reclaimed.Reclaimed.{Reclaimed}
@@ -38,3 +38,8 @@ pub record TakesOwn {T : Type 0} (place : Place) (object : T) (old new : Shelf T
   pub free : AreFree new.free
   pub own : new.free ≡ record old.free { own = new.free.own }
   pub rest : new ≡ record old { objects = new.objects; free = new.free }
+
+-- the place that this word leads to is the first of the taken chain; nothing else is changed
+pub record Hangs {T : Type 0} (found : ℕ) (old new : Shelf T) : Type 0 where
+  pub list : new.free ≡ record old.free { chain = Some (place_numbered (linked_place old.number found)) }
+  pub rest : new ≡ record old { free = new.free }

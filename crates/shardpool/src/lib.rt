@@ -2,6 +2,7 @@
 //! without a lock and in a stated number of steps.
 #![tactic(auto)]
 
+mod create;
 mod fault;
 mod lane;
 mod notes;
@@ -12,6 +13,7 @@ mod shelf;
 mod stores;
 mod token;
 
+pub use create::CreateFault;
 pub use fault::OpenFault;
 pub use lane::Lane;
 pub use opening::open;

@@ -26,6 +26,7 @@ impl<T: Clear + Drop> Pool<T> {
     pub fn hear(&self, lane: &mut Lane<T>, note: Note<T>)
         requires owns { Owns self.now lane.old }
         requires note { Issued self.now note }
+        ensures owns { Owns self.now lane.new }
         ensures heard { IsPrefix note.book.seen lane.new.book.seen × IsPrefix lane.old.book.seen lane.new.book.seen }
         ensures goes { Did [] lane.old lane.new }
         ensures steps { lane.new.book.steps ≡ lane.old.book.steps }
@@ -39,6 +40,8 @@ impl<T: Clear + Drop> Pool<T> {
     pub fn meet(&self, one: &mut Lane<T>, other: &mut Lane<T>)
         requires one { Owns self.now one.old }
         requires other { Owns self.now other.old }
+        ensures one { Owns self.now one.new }
+        ensures other { Owns self.now other.new }
         ensures met { one.new.book.seen ≡ other.new.book.seen }
         ensures heard { IsPrefix one.old.book.seen one.new.book.seen × IsPrefix other.old.book.seen other.new.book.seen }
         ensures goes { Did [] one.old one.new × Did [] other.old other.new }
@@ -57,6 +60,7 @@ impl<T: Clear + Drop> Pool<T> {
     fn meet_by(&self, lane: &mut Lane<T>, note: Note<T>)
         requires owns { Owns self.now lane.old }
         requires note { Issued self.now note }
+        ensures owns { Owns self.now lane.new }
         ensures met { lane.new.book.seen ≡ longer lane.old.book.seen note.book.seen }
         ensures heard { IsPrefix note.book.seen lane.new.book.seen × IsPrefix lane.old.book.seen lane.new.book.seen }
         ensures goes { Did [] lane.old lane.new }

@@ -11,10 +11,12 @@ ghost use Rattle.shardpool.specs.Tokens.{FillingOf};
 ghost use Rattle.shardpool.specs.Lanes.{Owns, Made, Calls, Did, Gets, holds, refs};
 
 use crate::lane::Lane;
+use crate::rows::{begin, end, go_on, lend_home};
 use crate::stores::keep_reclaimed;
+use crate::token::{Filling, Ref};
 use keybits::{Shape, generation_of, place_of, tag_of};
-use poolcalls::clear;
-use poolsteps::{Grid, Spot};
+use poolcalls::{Got, clear, downgrade, get, publish, release};
+use poolsteps::{Grid, Spot, shares_law};
 use slotcell::Clear;
 use std::marker::Model;
 
@@ -38,6 +40,75 @@ impl<T: Clear + Drop> Pool<T> {
         ensures { result ≡ self.now.shape }
     {
         self.grid.shape
+    }
+
+    /// A reference to the object of a key, where it is published and not cleared. None otherwise, and for a number that is no
+    /// key of the pool, without a step.
+    pub fn get(&self, lane: &mut Lane<T>, key: u64) -> Option<Ref<T>>
+        requires owns { Owns self.now lane.old }
+        requires room { refs lane.old < most_references }
+        ensures owns { Owns self.now lane.new }
+        ensures outside { is_key self.now.shape key ≡ false → IsNone result × (lane.new ≡ lane.old) }
+        ensures called { is_key self.now.shape key ≡ true → Calls self.now.shape (Getting key) lane.old.book lane.new.book }
+        ensures gets { is_key self.now.shape key ≡ true → Gets key lane.old lane.new result }
+        ensures refs { refs lane.new ≡ refs lane.old + (if is_some result then 1 else 0) }
+        ensures fillings { (filling : FillingOf T) → Made lane.old filling → Made lane.new filling }
+    {
+        shares_law();
+        let spot = self.find(key)?;
+        let number = lane.shelf.number;
+        let top = lane.shelf.top(spot.place);
+        let got = get(
+            lane.shelf.alloc,
+            &self.grid,
+            &mut lane.hand,
+            spot,
+            number,
+            key,
+            top,
+        );
+        match got {
+            Got::Miss(reclaimed) => {
+                keep_reclaimed(&mut lane.shelf, spot.place, reclaimed);
+                return None;
+            }
+            Got::Hit => {}
+        }
+        if lane.shelf.rows[spot.position].count > 0 {
+            go_on(&mut lane.shelf, spot.position);
+            return Some(Ref::to(key));
+        }
+        let share = self.grid.out(&mut lane.hand, spot, number, number);
+        begin(&mut lane.shelf, spot.position, key, share);
+        Some(Ref::to(key))
+    }
+
+    /// Gives a reference back. Where it was the last to a key that is cleared, the object is cleared in place.
+    pub fn release(&self, lane: &mut Lane<T>, reference: Ref<T>)
+        requires owns { Owns self.now lane.old }
+        requires held { 1 ≤ holds lane.old reference.key }
+        ensures owns { Owns self.now lane.new }
+        ensures called { Calls self.now.shape (Releasing reference.key) lane.old.book lane.new.book }
+        ensures releases { (rest : List Act) × Did (acts.Release lane.old.number reference.key ∷ rest) lane.old lane.new }
+        ensures refs { refs lane.new + 1 ≡ refs lane.old }
+        ensures fillings { (filling : FillingOf T) → Made lane.old filling → Made lane.new filling }
+    {
+        let key = reference.spend();
+        let spot = self.grid.spot(place_of(key));
+        let number = lane.shelf.number;
+        let top = lane.shelf.top(spot.place);
+        lend_home(&self.grid, &mut lane.hand, &mut lane.shelf, spot, key);
+        let reclaimed = release(
+            lane.shelf.alloc,
+            &self.grid,
+            &mut lane.hand,
+            spot,
+            number,
+            key,
+            top,
+        );
+        end(&mut lane.shelf, spot.position);
+        keep_reclaimed(&mut lane.shelf, spot.place, reclaimed);
     }
 
     /// Clears the object of a key: true where it is this call that marked the key, which a get then finds no more. The last
@@ -67,6 +138,58 @@ impl<T: Clear + Drop> Pool<T> {
         );
         keep_reclaimed(&mut lane.shelf, spot.place, reclaimed);
         marked
+    }
+
+    /// Publishes a filling: a get of its key finds the content that was written last. Answers the key.
+    pub fn publish(&self, lane: &mut Lane<T>, filling: Filling<T>) -> u64
+        requires owns { Owns self.now lane.old }
+        requires made { Made lane.old filling }
+        ensures key { result ≡ filling.key }
+        ensures owns { Owns self.now lane.new }
+        ensures called { Calls self.now.shape (Publishing filling.key (T.content filling.object) false) lane.old.book lane.new.book }
+        ensures publishes { Did (acts.Publish lane.old.number filling.key (T.content filling.object) false ∷ []) lane.old lane.new }
+        ensures refs { refs lane.new ≡ refs lane.old }
+        ensures room { room_of lane.new.book.seen lane.new.book.rooms (place_of filling.key) ≡ T.room filling.object }
+        ensures fillings { (other : FillingOf T) → other.key ≢ filling.key → Made lane.old other → Made lane.new other }
+    {
+        let (key, object) = filling.spend();
+        let spot = self.grid.spot(place_of(key));
+        publish(
+            &self.grid,
+            &mut lane.hand,
+            spot,
+            lane.shelf.number,
+            key,
+            object,
+        );
+        key
+    }
+
+    /// Publishes a filling as `publish` does, and answers a reference to its key.
+    pub fn downgrade(&self, lane: &mut Lane<T>, filling: Filling<T>) -> Ref<T>
+        requires owns { Owns self.now lane.old }
+        requires made { Made lane.old filling }
+        requires room { refs lane.old < most_references }
+        ensures key { (result.key ≡ filling.key) × (1 ≤ holds lane.new filling.key) }
+        ensures owns { Owns self.now lane.new }
+        ensures called { Calls self.now.shape (Publishing filling.key (T.content filling.object) true) lane.old.book lane.new.book }
+        ensures publishes { Did (acts.Publish lane.old.number filling.key (T.content filling.object) true ∷ []) lane.old lane.new }
+        ensures refs { refs lane.new ≡ refs lane.old + 1 }
+        ensures room { room_of lane.new.book.seen lane.new.book.rooms (place_of filling.key) ≡ T.room filling.object }
+        ensures fillings { (other : FillingOf T) → other.key ≢ filling.key → Made lane.old other → Made lane.new other }
+    {
+        let (key, object) = filling.spend();
+        let spot = self.grid.spot(place_of(key));
+        let share = downgrade(
+            &self.grid,
+            &mut lane.hand,
+            spot,
+            lane.shelf.number,
+            key,
+            object,
+        );
+        begin(&mut lane.shelf, spot.position, key, share);
+        Ref::to(key)
     }
 
     /// Where a key's place stands. None for a number that is no key of the pool.

@@ -1,12 +1,17 @@
 //! The rows of a lane: its references to each place, and its shares under them.
 ghost use Rattle.std.specs.Prelude.{◌≡◌, ◌≢◌, ◌+◌, ◌-◌, ◌<◌, ◌≤◌, Some, None, IsSome, slice_get, slice_set, length};
-ghost use Rattle.keybits.specs.Keys.{generation_of};
+ghost use Rattle.keybits.specs.Keys.{generation_of, place_of};
 ghost use Rattle.steplaws.specs.Facts.{most_references};
+ghost use Rattle.poolsteps.specs.Grids.{IsOf, IsSpot, SameSeat};
+ghost use Rattle.poolsteps.specs.Told.{references_seen};
 ghost use Rattle.shardpool.specs.declared.shelf.Row.{Row as Shown};
+ghost use Rattle.shardpool.specs.Shelves.{Fits};
+ghost use Rattle.shardpool.specs.Lendings.{LendsHome};
 
 use crate::shelf::{Row, Shelf};
 use keybits::generation_of;
-use slotcell::Share;
+use poolsteps::{Grid, Hand, Spot, shares_law};
+use slotcell::{Clear, Share};
 
 /// The row has the first reference to a key, with the share under it.
 #[inline]
@@ -52,6 +57,30 @@ pub(crate) fn lend_back<T: Drop>(shelf: &mut Shelf<T>, at: usize) -> Option<Shar
         row.share.take()
     } else {
         None
+    }
+}
+
+/// The share under the last reference to a key goes back into its slot, in front of a release. Where the lane has more
+/// references to the key, nothing is moved.
+#[inline]
+pub(crate) fn lend_home<T: Clear + Drop>(
+    grid: &Grid<T>,
+    hand: &mut Hand<T>,
+    shelf: &mut Shelf<T>,
+    spot: Spot,
+    key: u64,
+)
+    requires hand { IsOf grid.now hand.old }
+    requires fits { Fits T.content T.room grid.now.shape hand.old.me.0 shelf.old }
+    requires spot { IsSpot grid.now.shape spot (place_of key) }
+    requires held { 0 < references_seen grid.now.shape hand.old.me.0 key }
+    ensures hand { SameSeat hand.old hand.new }
+    ensures lends { LendsHome grid.now.shape key hand.old.me hand.new.me shelf.old shelf.new }
+{
+    shares_law();
+    let number = shelf.number;
+    if let Some(share) = lend_back(shelf, spot.position) {
+        grid.back(hand, spot, number, number, share);
     }
 }
 

@@ -1,17 +1,20 @@
 //! The stores of a lane: the free places of its shard, and their objects.
-ghost use Rattle.std.specs.Prelude.{◌≡◌, ◌<◌, ◌≤◌, ℕ, true, Some, None, length, slice_get, Contains, MatchOption, []};
+ghost use Rattle.std.specs.Prelude.{◌≡◌, ◌<◌, ◌≤◌, ℕ, true, Some, None, length, slice_get, All, Contains, MatchOption, []};
 ghost use Rattle.keybits.specs.declared.place.Place.{Place as Shown};
+ghost use Rattle.keybits.specs.declared.shape.TheConstants.{MOST_LANES};
 ghost use Rattle.keybits.specs.Places.{shard_of, number_of};
-ghost use Rattle.keybits.specs.Shapes.{IsShape, is_place, index_of, shard_places};
+ghost use Rattle.keybits.specs.Shapes.{IsShape, is_place, index_of, page_size, shard_places};
+ghost use Rattle.keybits.specs.Links.{linked_place};
 ghost use Rattle.freelists.specs.Shards.{shape_of, place_numbered};
 ghost use Rattle.freelists.specs.Queues.{IsAway};
 ghost use Rattle.poolcalls.specs.declared.reclaimed.Reclaimed.TheVariants.{Own};
-ghost use Rattle.shardpool.specs.Stores.{KeepsOwn, Keeps, TakesOwn};
+ghost use Rattle.shardpool.specs.Stores.{KeepsOwn, Keeps, TakesOwn, Hangs};
+ghost use Rattle.shardpool.specs.Openings.{OpensNext};
 
 use crate::shelf::Shelf;
-use keybits::{Place, link_to, shard_of};
+use keybits::{Place, link_to, linked_place, shard_of};
 use poolcalls::Reclaimed;
-use slotcell::Whole;
+use slotcell::{Clear, Whole};
 
 /// An emptied object of an own place rests with the lane, and the place goes to the end of the lane's list.
 #[inline]
@@ -61,5 +64,43 @@ pub(crate) fn take_own<T: Drop>(shelf: &mut Shelf<T>) -> Option<(Place, Whole<T>
     match shelf.objects[index].take() {
         Some(whole) => Some((place, whole)),
         None => unreachable!(),
+    }
+}
+
+/// The place that a word leads to becomes the first of the taken chain.
+pub(crate) fn hang<T: Drop>(shelf: &mut Shelf<T>, found: u64)
+    requires shard { shelf.old.number < MOST_LANES }
+    requires word { (1 ≤ found) × (found ≤ 65536) }
+    requires free { shelf.old.free.chain ≡ None }
+    requires away { IsAway shelf.old.free (place_numbered (linked_place shelf.old.number found)) }
+    ensures { Hangs found shelf.old shelf.new }
+{
+    let first = linked_place(shelf.number, found);
+    shelf.free.hang(Place::of_number(first));
+}
+
+/// The next page is opened: its places, each with the object given for it, are the lane's list.
+pub(crate) fn open_next<T: Clear + Drop>(shelf: &mut Shelf<T>, objects: Vec<Whole<T>>)
+    requires shape { IsShape shelf.old.shape }
+    requires lane { shelf.old.number < shelf.old.shape.lanes }
+    requires lists { (shelf.old.free.shard ≡ shelf.old.number) × (shelf.old.free.shape ≡ shape_of shelf.old.shape.first_page shelf.old.shape.pages) }
+    requires paged { shelf.old.pages.shape ≡ shape_of shelf.old.shape.first_page shelf.old.shape.pages }
+    requires narrow { length shelf.old.objects.items ≡ shard_places shelf.old.shape }
+    requires unopened { shelf.old.pages.opened < shelf.old.shape.pages }
+    requires own { shelf.old.free.own ≡ [] }
+    requires chain { shelf.old.free.chain ≡ None }
+    requires count { length objects.items ≡ page_size shelf.old.shape shelf.old.pages.opened }
+    requires empty { All (λ object. T.content object ≡ []) objects.items }
+    ensures { OpensNext T.content T.room shelf.old shelf.new }
+{
+    let page = shelf.pages.opened();
+    shelf.pages.open_next();
+    for object in objects {
+        let place = Place {
+            shard: shelf.number as u8,
+            page: page as u8,
+            slot: shelf.free.len() as u16,
+        };
+        keep(shelf, place.number(), object);
     }
 }

@@ -1,6 +1,5 @@
-use Rattle.std.proofs.Common.{List, IfOk, slice_get, ap, subst}
+use Rattle.std.proofs.Common.{List, slice_get, ap}
 use Rattle.shardpool.specs.Tokens.{LaneOf}
-use Rattle.shardpool.specs.Opened.{AreFirstLanes}
 use Rattle.shardpool.proofs.tests.open_two.Goals as goal
 
 pub returns : goal.returns

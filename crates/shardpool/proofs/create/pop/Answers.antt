@@ -1,0 +1,30 @@
+-- The first place of the list comes off it.
+use Rattle.std.proofs.Common.{ℕ, sym, subst}
+use Rattle.shardpool.specs.Tokens.{LaneOf}
+use Rattle.shardpool.specs.Creates.{Pops}
+use Rattle.shardpool.specs.Lanes.{Made}
+use Rattle.shardpool.proofs.Laning.{lane_of}
+use Rattle.shardpool.proofs.Popping.{listed-object, popped-inside, popped-fits, popped, popped-fillings}
+use Rattle.shardpool.proofs.create.pop.Goals as goal
+
+pub take_own-requires-clause-objects : goal.take_own-requires-clause-objects
+take_own-requires-clause-objects g c = listed-object c.lane.invariant.1
+
+pub number-requires-clause-slot : goal.number-requires-clause-slot
+number-requires-clause-slot g c = (popped-inside c.lane.invariant.1 c.in_ok-place.ensures).low_slot
+
+pub invariant_of-lane-2 : goal.invariant_of-lane-2
+invariant_of-lane-2 g c = (c.lane.invariant.0, popped-fits c.lane.invariant.1 c.in_ok-place.ensures)
+
+pub returns-clause-some : goal.returns-clause-some
+returns-clause-some g c =
+    let content = g.T.Clear.content in
+    let room = g.T.Clear.room in
+    let new : LaneOf = lane_of c.lane.inside.hand.table_id c.lane.inside.hand.me.0 c.take_own.new.shelf in
+    subst (λ (lane : LaneOf). Pops content room lane new c.number.result c.in_ok-place.object) c.lane.view_is
+    (subst (λ (n : ℕ). Pops content room (lane_of c.lane.inside.hand.table_id c.lane.inside.hand.me.0 c.lane.inside.shelf) new n c.in_ok-place.object) (sym c.number.ensures)
+    (popped c.lane.invariant.1 c.in_ok-place.ensures c.lane.inside.hand.table_id))
+
+pub returns-clause-fillings : goal.returns-clause-fillings
+returns-clause-fillings g c = λ filling made.
+    popped-fillings c.lane.invariant.1 c.in_ok-place.ensures c.lane.inside.hand.table_id filling (subst (λ (lane : LaneOf). Made lane filling) (sym c.lane.view_is) made)

@@ -1,0 +1,74 @@
+-- A create gives what its parts make together.
+use Rattle.std.proofs.Common.{◌≢◌, ⊎_elim, [], refl, sym, ◌∙◌, subst, IsSome}
+use Rattle.shardpool.specs.Tokens.{LaneOf}
+use Rattle.shardpool.specs.Creates.{TakesReturned, OpensPage, GivesNone}
+use Rattle.shardpool.proofs.Creating.{IsSound, sound-fits, list-gives, taken-gives, none-gives, page-gives, none-hangs, opened-some}
+use Rattle.shardpool.proofs.pool.Pool.create.Goals as goal
+
+-- the place comes from the own list
+pub returns-in-Some-clause-gives : goal.returns-in-Some-clause-gives
+returns-in-Some-clause-gives g c =
+    let sound : IsSound c.args.lane.now
+    = subst IsSound c.lane.view_is (sound-fits g.T.Clear.content g.T.Clear.room c.lane.inside.hand.table_id c.lane.inside.hand.me.0 c.lane.inside.shelf c.lane.invariant.1) in
+    list-gives g.T.Clear.content g.T.Clear.room c.args.lane.now c.pop.new.lane c.fill.new.lane sound c.in-Some.ensures.some c.fill.ensures.fills
+
+-- the place comes from the chain
+pub returns-in-Some-follow-clause-gives : goal.returns-in-Some-follow-clause-gives
+returns-in-Some-follow-clause-gives g c =
+    let sound : IsSound c.args.lane.now
+    = subst IsSound c.lane.view_is (sound-fits g.T.Clear.content g.T.Clear.room c.lane.inside.hand.table_id c.lane.inside.hand.me.0 c.lane.inside.shelf c.lane.invariant.1) in
+    let none = c.in_default.ensures.none refl in
+    taken-gives g.T.Clear.content g.T.Clear.room c.args.lane.now c.take_returned.new.lane c.follow.new.lane c.fill-in-Some-follow.new.lane sound none.1
+    (subst (λ (lane : LaneOf). TakesReturned lane c.take_returned.new.lane) none.0 c.take_returned.ensures.takes)
+    c.in-Some-follow.ensures.some c.fill-in-Some-follow.ensures.fills
+
+-- nothing was free, and no page could be opened
+pub returns-in_err-open_page-clause-none : goal.returns-in_err-open_page-clause-none
+returns-in_err-open_page-clause-none g c = λ err.
+    let sound : IsSound c.args.lane.now
+    = subst IsSound c.lane.view_is (sound-fits g.T.Clear.content g.T.Clear.room c.lane.inside.hand.table_id c.lane.inside.hand.me.0 c.lane.inside.shelf c.lane.invariant.1) in
+    let none = c.in_default.ensures.none refl in
+    let unfollowed = c.in_default-follow.ensures.none refl in
+    let takes : TakesReturned c.args.lane.now c.take_returned.new.lane
+    = subst (λ (lane : LaneOf). TakesReturned lane c.take_returned.new.lane) none.0 c.take_returned.ensures.takes in
+    subst (GivesNone c.args.lane.now) (sym (c.in_err-open_page.ensures.none refl ∙ unfollowed.0))
+    (none-gives c.args.lane.now c.take_returned.new.lane sound takes unfollowed.1 none.1)
+
+pub returns-in_err-open_page-clause-succeeds : goal.returns-in_err-open_page-clause-succeeds
+returns-in_err-open_page-clause-succeeds g c = λ some.
+    let sound : IsSound c.args.lane.now
+    = subst IsSound c.lane.view_is (sound-fits g.T.Clear.content g.T.Clear.room c.lane.inside.hand.table_id c.lane.inside.hand.me.0 c.lane.inside.shelf c.lane.invariant.1) in
+    let none = c.in_default.ensures.none refl in
+    let unfollowed = c.in_default-follow.ensures.none refl in
+    let takes : TakesReturned c.args.lane.now c.take_returned.new.lane
+    = subst (λ (lane : LaneOf). TakesReturned lane c.take_returned.new.lane) none.0 c.take_returned.ensures.takes in
+    absurd (⊎_elim
+    (λ (isnt : c.args.lane.now.free.own ≢ []). isnt none.1)
+    (λ (hangs : IsSome c.args.lane.now.free.chain). none-hangs c.args.lane.now c.take_returned.new.lane sound takes unfollowed.1 hangs) some)
+
+-- the page that was opened has a place
+pub unreachable-requires : goal.unreachable-requires
+unreachable-requires g c =
+    let sound : IsSound c.args.lane.now
+    = subst IsSound c.lane.view_is (sound-fits g.T.Clear.content g.T.Clear.room c.lane.inside.hand.table_id c.lane.inside.hand.me.0 c.lane.inside.shelf c.lane.invariant.1) in
+    let none = c.in_default.ensures.none refl in
+    let unfollowed = c.in_default-follow.ensures.none refl in
+    let takes : TakesReturned c.args.lane.now c.take_returned.new.lane
+    = subst (λ (lane : LaneOf). TakesReturned lane c.take_returned.new.lane) none.0 c.take_returned.ensures.takes in
+    let opens : OpensPage c.take_returned.new.lane c.open_page.new.lane
+    = subst (λ (lane : LaneOf). OpensPage lane c.open_page.new.lane) unfollowed.0 (c.in_ok-open_page.ensures.opens refl) in
+    opened-some c.args.lane.now c.take_returned.new.lane c.open_page.new.lane sound takes opens (c.in-None.ensures.none refl).1
+
+-- the place comes from the next page
+pub returns-clause-gives : goal.returns-clause-gives
+returns-clause-gives g c =
+    let sound : IsSound c.args.lane.now
+    = subst IsSound c.lane.view_is (sound-fits g.T.Clear.content g.T.Clear.room c.lane.inside.hand.table_id c.lane.inside.hand.me.0 c.lane.inside.shelf c.lane.invariant.1) in
+    let none = c.in_default.ensures.none refl in
+    let unfollowed = c.in_default-follow.ensures.none refl in
+    let takes : TakesReturned c.args.lane.now c.take_returned.new.lane
+    = subst (λ (lane : LaneOf). TakesReturned lane c.take_returned.new.lane) none.0 c.take_returned.ensures.takes in
+    let opens : OpensPage c.take_returned.new.lane c.open_page.new.lane
+    = subst (λ (lane : LaneOf). OpensPage lane c.open_page.new.lane) unfollowed.0 (c.in_ok-open_page.ensures.opens refl) in
+    page-gives g.T.Clear.content g.T.Clear.room c.args.lane.now c.take_returned.new.lane c.open_page.new.lane c.pop-2.new.lane c.fill-in-Some-pop.new.lane sound none.1 takes
+    unfollowed.1 opens c.in-Some-pop.ensures.some c.fill-in-Some-pop.ensures.fills

@@ -1,0 +1,28 @@
+-- What a lane does with the share of a key in front of its release.
+use Rattle.std.specs.Prelude.{◌≡◌, ℕ, ◌<◌, [], Option, Some, slice_get, slice_set}
+use Rattle.atomic_table.specs.Table.{Me}
+use Rattle.keybits.specs.declared.shape.Shape.{Shape}
+use Rattle.keybits.specs.Shapes.{position_of}
+use Rattle.keybits.specs.Keys.{place_of}
+use Rattle.sharelaws.specs.declared.stored.Status.TheVariants.{Untouched}
+use Rattle.slotcell.specs.Share.{Share}
+use Rattle.poolsteps.specs.declared.view.View.{View}
+use Rattle.poolsteps.specs.Views.{the_lane, status_of}
+use Rattle.poolsteps.specs.Told.{IsIdle}
+use Rattle.poolcalls.specs.Called.{Did, IsUnmoved}
+use Rattle.shardpool.specs.declared.shelf.Row.{Row}
+use Rattle.shardpool.specs.declared.shelf.Shelf.{Shelf}
+
+-- where the row of the key's place counts one reference, its share is back in the lane's slot, and where it counts more, nothing is moved; nothing else of the shelf is changed
+pub record LendsHome {T : Type 0} (z : Shape) (key : ℕ) (before after : Me (Option (Share T)) View) (old new : Shelf T) : Type 0 where
+  pub row : Row T
+  pub stands : slice_get old.rows.items (position_of z (place_of key)) ≡ Some row
+  pub did : Did z (place_of key) [] 0 2 before after
+  pub pushed : (the_lane after.0).pushed ≡ (the_lane before.0).pushed
+  pub idle : IsIdle after.0
+  -- what is then left of the row's share
+  pub share : Option (Share T)
+  pub rows : new.rows.items ≡ slice_set old.rows.items (position_of z (place_of key)) (record row { share = share })
+  pub rest : new ≡ record old { rows = new.rows }
+  pub last : row.count ≡ 1 → status_of (the_lane after.0) (place_of key) old.number ≡ Untouched
+  pub still : 1 < row.count → IsUnmoved (place_of key) (the_lane before.0) (the_lane after.0) × (share ≡ row.share)

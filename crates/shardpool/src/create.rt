@@ -1,0 +1,171 @@
+//! How a lane gets a place to fill: from its own list, from its taken chain, from the places that were returned to it, or from
+//! its next page.
+ghost use Rattle.std.specs.Prelude.{◌≡◌, ◌≢◌, ◌<◌, ◌≤◌, ◌⊎◌, ℕ, [], ◌∷◌, length, All, IsSome, IfSome, IsNone, IfOk, IsOk, IsErr, IsErrOf};
+ghost use Rattle.shardpool.specs.Tokens.{FillingOf};
+ghost use Rattle.shardpool.specs.Lanes.{Owns, Made};
+ghost use Rattle.poolsteps.specs.Views.{the_lane};
+ghost use Rattle.shardpool.specs.Creates.{Pops, TakesReturned, FollowsChain, OpensPage, Fills, IsLoose, Gives, GivesNone};
+ghost use Rattle.shardpool.specs.declared.create.CreateFault.TheVariants.{Full, Memory};
+
+use crate::lane::Lane;
+use crate::pool::Pool;
+use crate::stores::{hang, open_next, take_own};
+use crate::token::Filling;
+use pooltakes::{collect, follow, next_key};
+use slotcell::{Clear, Whole};
+use std::alloc::Global;
+use std::error::Error;
+use std::fmt;
+
+/// Why no place was given.
+#[derive(Clone, Copy, Debug, PartialEq, Eq)]
+pub enum CreateFault {
+    /// No place is free: all pages are opened, and each place of the lane's shard is in use.
+    Full,
+    /// The memory of the next page was refused. The page stays unopened, and the next call may try again.
+    Memory,
+}
+
+impl CreateFault {
+    ghost use Rattle.shardpool.specs.Creates.{create_fault_number};
+
+    /// The fault's number: 21 for Full, 22 for Memory.
+    pub fn number(&self) -> u32
+        ensures { result ≡ create_fault_number self.now }
+    {
+        match self {
+            CreateFault::Full => 21,
+            CreateFault::Memory => 22,
+        }
+    }
+}
+
+impl fmt::Display for CreateFault {
+    fn fmt<W: fmt::Write>(&self, f: &mut fmt::Formatter<W>) -> fmt::Result {
+        match self {
+            CreateFault::Full => write!(f, "no place is free"),
+            CreateFault::Memory => write!(f, "out of memory"),
+        }
+    }
+}
+
+impl Error for CreateFault {}
+
+impl<T: Clear + Drop> Pool<T> {
+    /// A place to be filled, whose object is empty, with at least the room that it had when it was last published.
+    ///
+    /// The places come from the lane's own list, first in first out; then from the taken chain; then from the places that other
+    /// lanes returned, which are taken from the first stack by rising lane that has some; then from the next page. It takes memory only to
+    /// open a page, and none where the lane has a free place.
+    pub fn create(&self, lane: &mut Lane<T>) -> Result<Filling<T>, CreateFault>
+        requires owns { Owns self.now lane.old }
+        ensures owns { Owns self.now lane.new }
+        ensures gives { IfOk result (Gives T.content T.room lane.old lane.new) }
+        ensures none { IsErr result → GivesNone lane.old lane.new }
+        ensures full { IsErrOf result Full → lane.old.pages.opened ≡ lane.old.shape.pages }
+        ensures memory { IsErrOf result Memory → lane.old.pages.opened < lane.old.shape.pages }
+        ensures succeeds { ((lane.old.free.own ≢ []) ⊎ IsSome lane.old.free.chain) → IsOk result }
+        ensures fillings { (filling : FillingOf T) → Made lane.old filling → Made lane.new filling }
+    {
+        // A proof knows the invariant of a lane once a field of it is seen.
+        let _ = &lane.shelf;
+        if let Some((place, object)) = pop(lane) {
+            return Ok(self.fill(lane, place, object));
+        }
+        self.take_returned(lane);
+        if let Some((place, object)) = self.follow(lane) {
+            return Ok(self.fill(lane, place, object));
+        }
+        open_page(lane)?;
+        match pop(lane) {
+            Some((place, object)) => Ok(self.fill(lane, place, object)),
+            None => unreachable!(),
+        }
+    }
+
+    /// TAKEs of what other lanes returned, where no taken place is still to be followed and a page is opened.
+    fn take_returned(&self, lane: &mut Lane<T>)
+        requires owns { Owns self.now lane.old }
+        requires own { lane.old.free.own ≡ [] }
+        ensures takes { TakesReturned lane.old lane.new }
+        ensures fillings { (filling : FillingOf T) → Made lane.old filling → Made lane.new filling }
+    {
+        if lane.shelf.free.chain().is_some() || lane.shelf.pages.opened() == 0 {
+            return;
+        }
+        let found = collect(&self.grid, &mut lane.hand, lane.shelf.number);
+        if found != 0 {
+            hang(&mut lane.shelf, found);
+        }
+    }
+
+    /// Follows the taken chain: its first place, with its object. None where no taken place is still to be followed.
+    fn follow(&self, lane: &mut Lane<T>) -> Option<(u32, Whole<T>)>
+        requires owns { Owns self.now lane.old }
+        ensures none { IsNone result → (lane.new ≡ lane.old) × ((the_lane lane.old.book).chain ≡ []) }
+        ensures some { IfSome result (λ taken. FollowsChain T.content T.room lane.old lane.new taken.0 taken.1) }
+        ensures fillings { (filling : FillingOf T) → Made lane.old filling → Made lane.new filling }
+    {
+        let first = lane.shelf.free.chain()?;
+        let spot = self.grid.spot(first.number());
+        let number = lane.shelf.number;
+        let (link, object) = follow(lane.shelf.alloc, &self.grid, &mut lane.hand, spot, number);
+        lane.shelf.free.follow(link);
+        Some((spot.place, object))
+    }
+
+    /// A look at the generation of a place of the lane that nobody has: a filling of it.
+    fn fill(&self, lane: &mut Lane<T>, place: u32, object: Whole<T>) -> Filling<T>
+        requires owns { Owns self.now lane.old }
+        requires loose { IsLoose T.content T.room lane.old place object }
+        ensures fills { Fills lane.old lane.new place object result }
+        ensures fillings { (filling : FillingOf T) → Made lane.old filling → Made lane.new filling }
+    {
+        let spot = self.grid.spot(place);
+        let key = next_key(&self.grid, &mut lane.hand, spot);
+        Filling::of(&lane.hand, key, object)
+    }
+}
+
+/// The first place of the lane's own list, with its object. None where the list is empty.
+fn pop<T: Clear + Drop>(lane: &mut Lane<T>) -> Option<(u32, Whole<T>)>
+    ensures none { IsNone result → (lane.new ≡ lane.old) × (lane.old.free.own ≡ []) }
+    ensures some { IfSome result (λ taken. Pops T.content T.room lane.old lane.new taken.0 taken.1) }
+    ensures fillings { (filling : FillingOf T) → Made lane.old filling → Made lane.new filling }
+{
+    let (place, object) = take_own(&mut lane.shelf)?;
+    Some((place.number(), object))
+}
+
+/// Opens the lane's next page: an object for each of its places, which are then the lane's own list.
+fn open_page<T: Clear + Drop>(lane: &mut Lane<T>) -> Result<(), CreateFault>
+    requires own { lane.old.free.own ≡ [] }
+    requires chain { (the_lane lane.old.book).chain ≡ [] }
+    ensures opens { IsOk result → OpensPage lane.old lane.new }
+    ensures none { IsErr result → lane.new ≡ lane.old }
+    ensures full { IsErrOf result Full → lane.old.pages.opened ≡ lane.old.shape.pages }
+    ensures memory { IsErrOf result Memory → lane.old.pages.opened < lane.old.shape.pages }
+    ensures fillings { (filling : FillingOf T) → Made lane.old filling → Made lane.new filling }
+{
+    let page = lane.shelf.pages.opened();
+    if page == lane.shelf.shape.pages {
+        return Err(CreateFault::Full);
+    }
+    let size = lane.shelf.shape.page_size(page);
+    let objects = fresh_objects(lane.shelf.alloc, size).ok_or(CreateFault::Memory)?;
+    open_next(&mut lane.shelf, objects);
+    Ok(())
+}
+
+/// So many cells with empty objects. None where memory was refused.
+fn fresh_objects<T: Clear + Drop>(alloc: Global, count: u32) -> Option<Vec<Whole<T>>>
+    ensures count { IfSome result (λ objects. length objects.items ≡ count) }
+    ensures empty { IfSome result (λ objects. All (λ object. T.content object ≡ []) objects.items) }
+{
+    let mut objects = Vec::with_capacity(alloc, count as usize).ok()?;
+    for _ in 0..count {
+        let object = Whole::new(alloc, T::fresh(alloc)).ok()?;
+        objects.push_reserved(object);
+    }
+    Some(objects)
+}
