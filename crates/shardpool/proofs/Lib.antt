@@ -21,3 +21,4 @@ pub mod Taking
 pub mod Calling
 pub mod Publishing
 pub mod Releasing
+pub mod Halting

@@ -8,3 +8,4 @@ pub mod Lendings
 pub mod Opened
 pub mod Creates
 pub mod Openings
+pub mod Halts

@@ -4,6 +4,7 @@
 
 mod create;
 mod fault;
+mod halt;
 mod lane;
 mod notes;
 mod opening;
@@ -15,10 +16,13 @@ mod token;
 
 pub use create::CreateFault;
 pub use fault::OpenFault;
+pub use halt::{Halted, LastCall};
 pub use lane::Lane;
 pub use opening::open;
 pub use pool::Pool;
 pub use token::{Filling, Note, Ref};
 
+#[cfg(test)]
+mod halt_tests;
 #[cfg(test)]
 mod tests;

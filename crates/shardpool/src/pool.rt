@@ -194,7 +194,7 @@ impl<T: Clear + Drop> Pool<T> {
 
     /// Where a key's place stands. None for a number that is no key of the pool.
     #[inline]
-    fn find(&self, key: u64) -> Option<Spot>
+    pub(crate) fn find(&self, key: u64) -> Option<Spot>
         ensures some { IsSome result ↔ is_key self.now.shape key ≡ true }
         ensures spot { IfSome result (λ spot. IsSpot self.now.shape spot (place_of key)) }
     {

@@ -1,0 +1,37 @@
+-- Each call over the hand is that of the lane.
+use Rattle.std.proofs.Common.{ℕ, sym, ap, subst}
+use Rattle.steplaws.specs.Calls.{Call}
+use Rattle.steplaws.specs.Calls.Call.{Releasing}
+use Rattle.poolhalts.specs.Halted.{CalledWithin}
+use Rattle.shardpool.specs.declared.halt.LastCall.{LastCall}
+use Rattle.shardpool.specs.declared.halt.LastCall.TheVariants.{Get, Clear, Release, Create}
+use Rattle.shardpool.specs.Creates.{creating}
+use Rattle.shardpool.specs.Halts.{HaltedOf, HaltsIn}
+use Rattle.shardpool.proofs.Halting.{halts-by}
+use Rattle.shardpool.proofs.pool.Pool.halt.Goals.{in-Get, in-Clear, in-Release, in-Create}
+use Rattle.shardpool.proofs.pool.Pool.halt.Goals as goal
+
+pub returns-clause-halts : goal.returns-clause-halts
+returns-clause-halts g c =
+    let lane = c.args.lane in
+    let z = c.args.self.now.shape in
+    let limit : ℕ = c.args.limit in
+    let last = c.match-call.hand.me.0 in
+    let halted : HaltedOf = record { table = c.match-call.hand.table_id; shape = c.match-call.shelf.shape; number = c.match-call.shelf.number; book = last } in
+    let before = ap (λ l. l.book) c.lane.view_is in
+    let shape = c.requires.owns.1 in elim c.match-call.branch [
+      | in-Get w ↦
+          subst (λ (call : LastCall g.row.T.Denot). HaltsIn lane call limit halted) (sym w.in-Get.is)
+          (halts-by shape before (ap (λ h. h.me.0) w.hand-is) (Get w.in-Get.key) w.halt_get.ensures.outside w.halt_get.ensures.called)
+      | in-Clear w ↦
+          subst (λ (call : LastCall g.row.T.Denot). HaltsIn lane call limit halted) (sym w.in-Clear.is)
+          (halts-by shape before (ap (λ h. h.me.0) w.hand-is) (Clear w.in-Clear.key) w.halt_clear.ensures.outside w.halt_clear.ensures.called)
+      | in-Release w ↦
+          subst (λ (call : LastCall g.row.T.Denot). HaltsIn lane call limit halted) (sym w.in-Release.is)
+          (halts-by shape before (ap (λ h. h.me.0) w.hand-is) (Release w.in-Release.reference) (λ none. absurd none)
+          (subst (λ (key : ℕ). CalledWithin z (Releasing key) limit c.lane.inside.hand.me w.halt_release.new.hand.me) w.spend.ensures w.halt_release.ensures.called))
+      | in-Create w ↦
+          subst (λ (call : LastCall g.row.T.Denot). HaltsIn lane call limit halted) (sym w.in-Create.is)
+          (halts-by shape before (ap (λ h. h.me.0) w.hand-is) Create (λ none. absurd none)
+          (subst (λ (call : Call). CalledWithin z call limit c.lane.inside.hand.me w.halt_create.new.hand.me) (ap creating c.lane.view_is) w.halt_create.ensures.called))
+    ]
