@@ -45,7 +45,7 @@ pub(crate) fn word_count(shape: &Shape) -> usize
 }
 
 /// Where the lifecycle word of a place stands, which has this position among the places of the pool.
-pub(crate) fn life_word(shape: &Shape, place: u32, position: usize) -> usize
+pub fn life_word(shape: &Shape, place: u32, position: usize) -> usize
     requires shape { IsShape shape.now }
     requires place { is_place shape.now place ≡ true }
     requires position { position ≡ position_of shape.now place }
@@ -56,8 +56,19 @@ pub(crate) fn life_word(shape: &Shape, place: u32, position: usize) -> usize
     lives_start(shape) + position + shard_of(place) as usize * apart
 }
 
+/// Where the link word of a place stands, which has this position among the places of the pool.
+pub fn link_word(shape: &Shape, place: u32, position: usize) -> usize
+    requires shape { IsShape shape.now }
+    requires place { is_place shape.now place ≡ true }
+    requires position { position ≡ position_of shape.now place }
+    ensures word { result ≡ index_in shape.now (words.Link place) }
+    ensures inside { result < word_count shape.now }
+{
+    life_word(shape, place, position) + shape.shard_places() as usize
+}
+
 /// Where the stack word of a shard and another lane stands.
-pub(crate) fn stack_word(shape: &Shape, shard: u32, lane: u32) -> usize
+pub fn stack_word(shape: &Shape, shard: u32, lane: u32) -> usize
     requires shape { IsShape shape.now }
     requires lanes { (shard < shape.now.lanes) × (lane < shape.now.lanes) }
     ensures word { result ≡ index_in shape.now (words.Stack shard lane) }

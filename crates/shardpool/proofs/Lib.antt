@@ -22,3 +22,13 @@ pub mod Calling
 pub mod Publishing
 pub mod Releasing
 pub mod Halting
+pub mod CensusMarks
+pub mod CensusWalks
+pub mod CensusLists
+pub mod CensusCounts
+pub mod CensusParts
+pub mod CensusRounds
+pub mod ClosingParts
+pub mod ClosingLane
+pub mod ClosingLast
+pub mod ClosingGrid

@@ -1,5 +1,5 @@
 -- What a lane is once it took a chain, or followed the first place of its chain.
-use Rattle.std.proofs.Common.{◌≡◌, ◌≢◌, ⊎_elim, ℕ, ◌<◌, Bool, true, false, cond, eqb, List, [], ◌∷◌, length, Option, Some, None, refl, ap, sym, ◌∙◌, subst, arith, eq-eqb, ne_eqb}
+use Rattle.std.proofs.Common.{◌≡◌, ◌≢◌, ⊎_elim, ℕ, ◌<◌, ◌≤◌, Bool, true, false, cond, eqb, List, [], ◌∷◌, length, Option, Some, None, refl, ap, sym, ◌∙◌, subst, arith, eq-eqb, ne_eqb}
 use Rattle.std.specs.List.{Contains}
 use Rattle.std.proofs.lemmas.Bool.{cases_Bool, eqb-false}
 use Rattle.std.proofs.lemmas.List.Elements.{All-nil}
@@ -81,6 +81,16 @@ bare-follows f = record {
   stepped = f.stepped;
   looked = f.looked;
 }
+
+-- a word that leads to places is one of a place
+word-of : (z : Shape) (shard word : ℕ) (places : List ℕ) → 0 < length places → LeadsTo z shard word places → (1 ≤ word) × (word ≤ 65536)
+word-of z shard word [] some leads = absurd (omega (arith, some))
+word-of z shard word (place ∷ more) some leads = let positive = leads.0 in (omega (arith, positive), leads.1)
+
+-- so is what TAKEs found, but for 0
+pub found-word : {S : Type 0} {z : Shape} {opened found : ℕ} {a b : Me S View} → found ≢ 0 → Collects z opened found a b → (1 ≤ found) × (found ≤ 65536)
+found-word {z = z} {found = found} {a = a} isnt collects =
+    let some = collects.some isnt in word-of z (the_lane a.0).lane found some.0 some.3 some.5
 
 pub bare-collects : {S : Type 0} {z : Shape} {opened found : ℕ} {a b : Me S View} → Collects z opened found a b → Collects {S = Unit {0}} z opened found (a.0, []) (b.0, [])
 bare-collects c = record {

@@ -9,3 +9,6 @@ pub mod Opened
 pub mod Creates
 pub mod Openings
 pub mod Halts
+pub mod Closings
+pub mod Marks
+pub mod Partings

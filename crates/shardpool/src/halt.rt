@@ -70,7 +70,9 @@ impl<T: Clear + Drop> Pool<T> {
         let Lane {
             mut hand,
             mut shelf,
+            row,
         } = lane;
+        drop(row);
         match call {
             LastCall::Get(key) => self.halt_get(&mut hand, &shelf, key, limit),
             LastCall::Clear(key) => self.halt_clear(&mut hand, &shelf, key, limit),

@@ -1,4 +1,5 @@
 //! Lanes: each owns a shard of a pool.
+use crate::closing::HandRow;
 use crate::shelf::Shelf;
 use crate::token::Ref;
 use keybits::place_of;
@@ -11,6 +12,7 @@ use std::marker::Model;
 pub struct Lane<T: Clear> {
     pub(crate) hand: Hand<T>,
     pub(crate) shelf: Shelf<T>,
+    pub(crate) row: HandRow<T>,
 }
 
 impl<T: Clear> Model for Lane<T> {

@@ -2,6 +2,8 @@
 //! without a lock and in a stated number of steps.
 #![tactic(auto)]
 
+mod census;
+mod closing;
 mod create;
 mod fault;
 mod halt;
@@ -14,6 +16,8 @@ mod shelf;
 mod stores;
 mod token;
 
+pub use census::Census;
+pub use closing::close;
 pub use create::CreateFault;
 pub use fault::OpenFault;
 pub use halt::{Halted, LastCall};
@@ -24,5 +28,7 @@ pub use token::{Filling, Note, Ref};
 
 #[cfg(test)]
 mod halt_tests;
+#[cfg(test)]
+mod test_close;
 #[cfg(test)]
 mod tests;

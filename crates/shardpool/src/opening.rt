@@ -6,6 +6,7 @@ ghost use Rattle.keybits.specs.ShapeFaults.{IsFirstFault};
 ghost use Rattle.shardpool.specs.declared.fault.OpenFault.TheVariants as faults;
 ghost use Rattle.shardpool.specs.Opened.{first_book, IsFirstLane, AreFirstLanes};
 
+use crate::closing::HandRow;
 use crate::fault::OpenFault;
 use crate::lane::Lane;
 use crate::pool::Pool;
@@ -40,13 +41,15 @@ fn opened<T: Clear + Drop>(alloc: Global, shape: Shape) -> Option<(Pool<T>, Vec<
     ensures pool { IfSome result (λ made. made.0.shape ≡ shape) }
     ensures lanes { IfSome result (λ made. AreFirstLanes made.0 made.1.items) }
 {
-    let mut lanes = Vec::with_capacity(alloc, shape.lanes as usize).ok()?;
+    let count = shape.lanes as usize;
+    let mut lanes = Vec::with_capacity(alloc, count).ok()?;
+    let shelves = Vec::with_capacity(alloc, count).ok()?;
     let (grid, hands) = Grid::new(alloc, &shape)?;
     for hand in hands {
         let number = lanes.len() as u32;
         lanes.push_reserved(lane_of(alloc, &shape, number, hand)?);
     }
-    Some((Pool { grid }, lanes))
+    Some((Pool { grid, shelves }, lanes))
 }
 
 /// The lane of this number of a pool of this shape, with its hand. None where memory was refused.
@@ -73,7 +76,8 @@ fn lane_of<T: Clear + Drop>(
         objects: no_objects(alloc, shape.shard_places() as usize)?,
         alloc,
     };
-    Some(Lane { hand, shelf })
+    let row = HandRow::new(alloc)?;
+    Some(Lane { hand, shelf, row })
 }
 
 /// So many rows, each without a reference. None where memory was refused.

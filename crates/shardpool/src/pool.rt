@@ -12,6 +12,7 @@ ghost use Rattle.shardpool.specs.Lanes.{Owns, Made, Calls, Did, Gets, holds, ref
 
 use crate::lane::Lane;
 use crate::rows::{begin, end, go_on, lend_home};
+use crate::shelf::Shelf;
 use crate::stores::keep_reclaimed;
 use crate::token::{Filling, Ref};
 use keybits::{Shape, generation_of, place_of, tag_of};
@@ -24,14 +25,20 @@ use std::marker::Model;
 #[derive(Drop)]
 pub struct Pool<T: Clear> {
     pub(crate) grid: Grid<T>,
+    /// Where the shelves of all lanes go when the pool is closed.
+    pub(crate) shelves: Vec<Shelf<T>>,
 }
 
 impl<T: Clear> Model for Pool<T> {
+    ghost use Rattle.std.specs.Prelude.{◌≡◌, ◌≤◌, []};
+    ghost use Rattle.std.specs.Vec.{vec_capacity};
     ghost use Rattle.shardpool.specs.Tokens.{PoolOf};
 
     ghost Value = { PoolOf };
 
     ghost view = { λ p. record { table = p.grid.table.shared.table_id; shape = p.grid.shape } };
+
+    ghost invariant = { λ p. (p.shelves.items ≡ []) × (p.grid.shape.lanes ≤ vec_capacity p.shelves) };
 }
 
 impl<T: Clear + Drop> Pool<T> {

@@ -4,8 +4,17 @@ use Rattle.std.specs.Vec.Iter.{into_iter_items}
 use Rattle.std.proofs.lemmas.List.{nil_from_length, length_push}
 use Rattle.atomic_table.specs.Seated.{TableId}
 use Rattle.shardpool.specs.Opened.{first_book, IsFirstLane}
-use Rattle.shardpool.proofs.Starting.{AreOpened, one-opened, next-hand, hands-left, all-opened}
+use Rattle.shardpool.proofs.Starting.{AreOpened, none-opened, one-opened, next-hand, hands-left, all-opened}
 use Rattle.shardpool.proofs.opening.opened.Goals as goal
+
+pub loop-hand-init : goal.loop-hand-init
+loop-hand-init g c =
+    let gives = c.into_iter-hand-iterator.ensures.into_iter_gives in record {
+      opened = none-opened (record { table = c.in_ok-grid.grid.table.shared.table_id; shape = c.args.shape }) c.in_ok-lanes.lanes.items (search rules);
+      capacity = search rules;
+      hands = rw gives.0 c.in_ok-grid.ensures.hands;
+      rest = search rules;
+    }
 
 pub lane_of-requires-clause-hand : goal.lane_of-requires-clause-hand
 lane_of-requires-clause-hand g c =

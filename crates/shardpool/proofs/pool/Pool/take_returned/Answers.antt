@@ -7,8 +7,15 @@ use Rattle.shardpool.specs.Lanes.{Made}
 use Rattle.shardpool.specs.Creates.{TakesReturned}
 use Rattle.shardpool.proofs.Laning.{lane_of}
 use Rattle.shardpool.proofs.Seeing.{same-shape}
-use Rattle.shardpool.proofs.Taking.{bare-collects, took-away, took-fits, took-takes, took-fillings, none-fits, none-takes, none-fillings}
+use Rattle.shardpool.proofs.Taking.{bare-collects, found-word, took-away, took-fits, took-takes, took-fillings, none-fits, none-takes, none-fillings}
 use Rattle.shardpool.proofs.pool.Pool.take_returned.Goals as goal
+
+pub hang-requires-clause-word : goal.hang-requires-clause-word
+hang-requires-clause-word g c =
+    let opened = c.opened.ensures.opened in
+    let isnt = c.if-opened-eq0.false in
+    let low : 0 < c.lane.inside.shelf.pages.opened = omega (arith, opened, isnt) in
+    found-word c.if-found-ne0.true (c.collect-found.ensures.collects c.lane.inside.shelf.pages.opened low)
 
 pub hang-requires-clause-away : goal.hang-requires-clause-away
 hang-requires-clause-away g c =

@@ -1,0 +1,100 @@
+-- A census counts the places of a shard one after another.
+use Rattle.std.proofs.Common.{◌≡◌, ℕ, ◌+◌, ◌*◌, ◌<◌, true, List, [], ◌∷◌, ◌++◌, length, Some, refl, ap, sym, ◌∙◌, arith, length-append}
+use Rattle.std.specs.Prelude.{slice_get}
+use Rattle.std.proofs.lemmas.List.{get_or_append_left, get_or-append-add}
+use Rattle.std.proofs.lemmas.Option.{slice_get-get_or}
+use mathlib.Core.Logic.{dite}
+use native.Mathlib.Decide.{ℕ_discrete}
+use Rattle.keybits.specs.declared.shape.Shape.{Shape}
+use Rattle.keybits.specs.Places.{shard_of, page_of}
+use Rattle.keybits.specs.Shapes.{is_place, all_places, shard_places, index_of, position_of}
+use Rattle.keybits.proofs.ShapeLemmas.{index_of-lt, index_of-injective}
+use Rattle.std.proofs.lemmas.Nat.{same_from_place, mul-add-lt}
+use Rattle.poolsteps.specs.Layout.{words_in}
+use Rattle.shardpool.specs.declared.census.Census.{Census}
+use Rattle.shardpool.specs.declared.census.Part.{Part}
+use Rattle.shardpool.specs.declared.census.Part.TheVariants.{Free, Unopened, Filling, Present, Marked, Retired}
+use Rattle.shardpool.specs.Closings.{counted, all_counted, places_counted}
+use Rattle.shardpool.specs.Marks.{part_in, Counts}
+
+-- ---- sums
+
+one-counted : (census : Census) (part : Part) → places_counted (counted census part) ≡ places_counted census + 1
+one-counted census Free = omega arith
+one-counted census Unopened = omega arith
+one-counted census Filling = omega arith
+one-counted census Present = omega arith
+one-counted census Marked = omega arith
+one-counted census Retired = omega arith
+
+-- a census counts as many places more as are counted
+pub many-counted : (census : Census) (parts : List Part) → places_counted (all_counted census parts) ≡ places_counted census + length parts
+many-counted census [] = omega arith
+many-counted census (part ∷ more) =
+    let one = one-counted census part in
+    let rest = many-counted (counted census part) more in
+    omega arith
+
+pub counted-append : (census : Census) (parts more : List Part) → all_counted census (parts ++ more) ≡ all_counted (all_counted census parts) more
+counted-append census [] more = refl
+counted-append census (part ∷ parts) more = counted-append (counted census part) parts more
+
+-- ---- elements of lists one behind the other
+
+pub get-front : (xs ys : List Part) (k : ℕ) → k < length xs → slice_get (xs ++ ys) k ≡ slice_get xs k
+get-front xs ys k low =
+    let long = length-append xs ys in
+    slice_get-get_or (xs ++ ys) k Free (omega arith) ∙ (ap Some (get_or_append_left xs ys Free k low) ∙ sym (slice_get-get_or xs k Free low))
+
+pub get-back : (xs ys : List Part) (k : ℕ) → k < length ys → slice_get (xs ++ ys) (length xs + k) ≡ slice_get ys k
+get-back xs ys k low =
+    let long = length-append xs ys in
+    slice_get-get_or (xs ++ ys) (length xs + k) Free (omega arith) ∙ (ap Some (get_or-append-add xs ys k Free) ∙ sym (slice_get-get_or ys k Free low))
+
+-- ---- the places of a shard by index
+
+-- the places before this index are counted
+pub record CountsTo (z : Shape) (shard opened : ℕ) (words : List ℕ) (index : ℕ) (old new : Census) : Type 0 where
+  pub parts : List Part
+  pub wide : length parts ≡ index
+  pub each : (place : ℕ) → is_place z place ≡ true → shard_of place ≡ shard → index_of z place < index
+      → slice_get parts (index_of z place) ≡ Some (part_in opened (page_of place) ((words_in z words).life place))
+  pub counts : new ≡ all_counted old parts
+
+pub counts-none : (z : Shape) (shard opened : ℕ) (words : List ℕ) (census : Census) → CountsTo z shard opened words 0 census census
+counts-none z shard opened words census = record { parts = []; wide = refl; each = λ place inside own low. absurd (omega arith); counts = refl }
+
+pub counts-more : (z : Shape) (shard opened : ℕ) (words : List ℕ) (index place : ℕ) (part : Part) (old now new : Census) → CountsTo z shard opened words index old now
+    → is_place z place ≡ true → shard_of place ≡ shard → index_of z place ≡ index → part ≡ part_in opened (page_of place) ((words_in z words).life place)
+    → new ≡ counted now part → CountsTo z shard opened words (index + 1) old new
+counts-more z shard opened words index place part old now new h inside own at is counts = record {
+  parts = h.parts ++ part ∷ [];
+  wide = length-append h.parts (part ∷ []) ∙ ap (λ (n : ℕ). n + 1) h.wide;
+  each = λ other other_inside other_own low. dite (ℕ_discrete (index_of z other) index)
+      (λ here.
+      let same : other ≡ place = index_of-injective z other place other_inside inside (other_own ∙ sym own) (here ∙ sym at) in
+      let last : slice_get (h.parts ++ part ∷ []) (length h.parts + 0) ≡ Some part = get-back h.parts (part ∷ []) 0 (omega arith) in
+      let wide = h.wide in
+      let to : index_of z other ≡ length h.parts + 0 = omega arith in
+      ap (λ (n : ℕ). slice_get (h.parts ++ part ∷ []) n) to ∙ (last ∙ ap Some (is ∙ ap (λ (p : ℕ). part_in opened (page_of p) ((words_in z words).life p)) (sym same))))
+      (λ before. let wide = h.wide in get-front h.parts (part ∷ []) (index_of z other) (omega arith) ∙ h.each other other_inside other_own (omega arith));
+  counts = counts ∙ (ap (λ (c : Census). counted c part) h.counts ∙ sym (counted-append old h.parts (part ∷ [])));
+}
+
+pub counts-all : (z : Shape) (shard opened : ℕ) (words : List ℕ) (old new : Census) → CountsTo z shard opened words (shard_places z) old new → Counts z shard opened words old new
+counts-all z shard opened words old new h =
+    record { parts = h.parts; wide = h.wide; each = λ place inside own. h.each place inside own (index_of-lt z place inside); counts = h.counts }
+
+-- the census so far has room for the rest
+pub counts-room : (z : Shape) (shard opened : ℕ) (words : List ℕ) (index : ℕ) (old now : Census) → CountsTo z shard opened words index old now
+    → places_counted now ≡ places_counted old + index
+counts-room z shard opened words index old now h =
+    let all = many-counted old h.parts in let sum = ap places_counted h.counts in let wide = h.wide in omega arith
+
+-- a position in a shard is one below all places, and the place there is of this shard and index
+pub position-below : (z : Shape) (shard index : ℕ) → shard < z.lanes → index < shard_places z → shard * shard_places z + index < all_places z
+position-below z shard index low inside = let step = mul-add-lt shard (shard_places z) index z.lanes low inside in omega (arith, step)
+
+pub at-position : (z : Shape) (shard index place : ℕ) → index < shard_places z → is_place z place ≡ true → position_of z place ≡ shard * shard_places z + index
+    → (shard_of place ≡ shard) × (index_of z place ≡ index)
+at-position z shard index place low inside at = same_from_place (shard_of place) (index_of z place) shard index (shard_places z) (index_of-lt z place inside) low at

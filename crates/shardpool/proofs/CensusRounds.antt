@@ -1,0 +1,329 @@
+-- The census goes over the shelves, one shard after another.
+use Rattle.std.proofs.Common.{◌≡◌, ℕ, zero, suc, ◌+◌, ◌*◌, ◌<◌, ◌≤◌, true, List, [], ◌∷◌, ◌++◌, map, length, Some, refl, ap, sym, ◌∙◌, subst, arith, append_assoc, length-append}
+use Rattle.std.specs.Prelude.{slice_get}
+use Rattle.std.specs.List.{Contains}
+use Rattle.std.proofs.Math.ListN.{get_or}
+use Rattle.std.proofs.Math.Seq.{get_or-append_seam}
+use Rattle.std.proofs.lemmas.Option.{slice_get-get_or, slice_get_within}
+use Rattle.std.proofs.lemmas.Nat.{mul-add-lt}
+use mathlib.Core.Logic.{dite}
+use native.Mathlib.Decide.{ℕ_discrete}
+use Rattle.core.specs.declared.slots.Slots.{Slots}
+use Rattle.core.specs.Mem.Slots.{slots_items}
+use Rattle.keybits.specs.declared.shape.Shape.{Shape}
+use Rattle.keybits.specs.Places.{shard_of, page_of, number_of}
+use Rattle.keybits.specs.Shapes.{IsShape, is_place, shard_places, index_of}
+use Rattle.keybits.specs.Counts.{times}
+use Rattle.keybits.proofs.CountLemmas.{times-append, one_at, none_at, no_times, length_le}
+use Rattle.keybits.proofs.ShapeLemmas.{index_of-lt, shape_bounds}
+use Rattle.freelists.specs.Queues.{FreePlaces}
+use Rattle.seqpool.specs.declared.act.Act.{Act}
+use Rattle.poolsteps.specs.Views.{the_lane}
+use Rattle.poolsteps.specs.Layout.{words_in}
+use Rattle.shardpool.specs.declared.census.Census.{Census}
+use Rattle.shardpool.specs.declared.census.Part.{Part}
+use Rattle.shardpool.specs.declared.shelf.Shelf.{Shelf}
+use Rattle.shardpool.specs.Tokens.{LaneOf}
+use Rattle.shardpool.specs.Closings.{IsPart, none_counted, all_counted, places_counted, IsCensus, IsLast, AreLast}
+use Rattle.shardpool.specs.Marks.{IsRow, Blanks, stacked, AreFreePlaces, free_places, part_in, Counts}
+use Rattle.shardpool.proofs.CensusMarks.{AreBlanked, blanks-none, blanks-then, blanks-words}
+use Rattle.shardpool.proofs.CensusLists.{free-stays, among-number, stacked-inside}
+use Rattle.shardpool.proofs.CensusCounts.{many-counted, counted-append, get-front, get-back}
+use Rattle.shardpool.proofs.CensusParts.{threads_of, free-stand, part-is}
+
+-- ---- each lane stands once
+
+-- a lane of this number stands at the index
+abbrev At : List LaneOf → ℕ → ℕ → Type 0
+At lanes index number = (lane : LaneOf) × (slice_get lanes index ≡ Some lane) × (lane.number ≡ number)
+
+some-one : {X : Type 0} (a b : X) → Some a ≡ Some b → a ≡ b
+some-one a b e = cc e
+
+at-one : (lanes : List LaneOf) (index m n : ℕ) → At lanes index m → At lanes index n → m ≡ n
+at-one lanes index m n a b = sym a.2 ∙ (ap (λ (l : LaneOf). l.number) (some-one a.0 b.0 (sym a.1 ∙ b.1)) ∙ b.2)
+
+-- so many indexes, at which the lanes of the first numbers stand
+pub record Picked (lanes : List LaneOf) (count : ℕ) : Type 0 where
+  pub indexes : List ℕ
+  pub wide : length indexes ≡ count
+  pub stands : (index : ℕ) → 0 < times index indexes → (number : ℕ) × (number < count) × At lanes index number
+  pub once : (index : ℕ) → times index indexes ≤ 1
+  pub one : (i j number : ℕ) → 0 < times i indexes → 0 < times j indexes → At lanes i number → At lanes j number → i ≡ j
+
+pick-more : (lanes : List LaneOf) (count index : ℕ) → At lanes index count → Picked lanes count → Picked lanes (suc count)
+pick-more lanes count index at p = record {
+  indexes = index ∷ p.indexes;
+  wide = ap suc p.wide;
+  stands = λ i some. dite (ℕ_discrete index i)
+      (λ here. (count, omega arith, subst (λ n. At lanes n count) here at))
+      (λ other. let none = none_at index i other in let s = p.stands i (omega arith) in (s.0, omega (arith, s.1), s.2));
+  once = λ i. dite (ℕ_discrete index i)
+      (λ here. let one = one_at index i here in let rest = absent i here in omega arith)
+      (λ other. let none = none_at index i other in let rest = p.once i in omega arith);
+  one = λ i j number some_i some_j at_i at_j. dite (ℕ_discrete index i)
+      (λ here_i. dite (ℕ_discrete index j)
+      (λ here_j. sym here_i ∙ here_j)
+      (λ other_j.
+      let none = none_at index j other_j in
+      let is : number ≡ count = at-one lanes i number count at_i (subst (λ n. At lanes n count) here_i at) in
+      absurd (later j number (omega arith) at_j is)))
+      (λ other_i.
+      let none_i = none_at index i other_i in
+      dite (ℕ_discrete index j)
+      (λ here_j.
+      let is : number ≡ count = at-one lanes j number count at_j (subst (λ n. At lanes n count) here_j at) in
+      absurd (later i number (omega arith) at_i is))
+      (λ other_j. let none_j = none_at index j other_j in p.one i j number (omega arith) (omega arith) at_i at_j));
+}
+  where
+    later : (i number : ℕ) → 0 < times i p.indexes → At lanes i number → number ≡ count → ⊥
+    later i number some at_i is = let s = p.stands i some in let same = at-one lanes i s.0 number s.2 at_i in let low = s.1 in omega arith
+
+    absent : (i : ℕ) → index ≡ i → times i p.indexes ≡ 0
+    absent i here = no_times (times i p.indexes) (λ some. later i count some (subst (λ n. At lanes n count) here at) refl)
+
+picks : (lanes : List LaneOf) (count most : ℕ) → count ≤ most → ((number : ℕ) → number < most → (index : ℕ) × At lanes index number) → Picked lanes count
+picks lanes zero most low all = record {
+  indexes = [];
+  wide = refl;
+  stands = λ i some. absurd (omega arith);
+  once = λ i. omega arith;
+  one = λ i j number some_i some_j at_i at_j. absurd (omega arith);
+}
+picks lanes (suc count) most low all = let a = all count (omega arith) in pick-more lanes count a.0 a.1 (picks lanes count most (omega arith) all)
+
+-- where as many lanes stand as there are numbers, and each number is one's, it is one's alone
+pub same-index : (lanes : List LaneOf) (most : ℕ) → length lanes ≡ most → ((number : ℕ) → number < most → (index : ℕ) × At lanes index number)
+    → (i j : ℕ) (a b : LaneOf) → slice_get lanes i ≡ Some a → slice_get lanes j ≡ Some b → a.number ≡ b.number → a.number < most → i ≡ j
+same-index lanes most count all i j a b at_i at_j same low =
+    let p = picks lanes most most (omega arith) all in
+    p.one i j b.number (among p i a at_i) (among p j b at_j) (a, at_i, same) (b, at_j, refl)
+  where
+    low_index : (k : ℕ) (l : LaneOf) → slice_get lanes k ≡ Some l → k < most
+    low_index k l at = let within = slice_get_within lanes k l at in omega arith
+
+    among : (p : Picked lanes most) (k : ℕ) (l : LaneOf) → slice_get lanes k ≡ Some l → 0 < times k p.indexes
+    among p k l at = dite (ℕ_discrete (times k p.indexes) 0)
+        (λ none.
+        let wide = p.wide in
+        let most_all = length_le most (k ∷ p.indexes)
+        (λ x some. dite (ℕ_discrete k x)
+        (λ here. subst (λ n. n < most) here (low_index k l at))
+        (λ other. let no = none_at k x other in let s = p.stands x (omega arith) in low_index x s.2.0 s.2.1))
+        (λ x. dite (ℕ_discrete k x)
+        (λ here. let one = one_at k x here in let rest : times x p.indexes ≡ 0 = ap (λ n. times n p.indexes) (sym here) ∙ none in omega arith)
+        (λ other. let no = none_at k x other in let rest = p.once x in omega arith)) in
+        absurd (omega arith))
+        (λ some. omega arith)
+
+-- ---- what stands after so many shelves
+
+-- the places of the shards of the lanes so far are counted, of which the free ones are marked
+pub record SoFar (z : Shape) (history : List Act) (lanes : List LaneOf) (old : Slots ℕ) (count : ℕ) (now : Slots ℕ) (census : Census) : Type 0 where
+  pub marked : List ℕ
+  pub blanks : Blanks z marked old now
+  pub inside : (place : ℕ) → 0 < times place marked → is_place z place ≡ true
+  pub earlier : (place : ℕ) → 0 < times place marked → (index : ℕ) × (index < count) × At lanes index (shard_of place)
+  pub parts : List Part
+  pub wide : length parts ≡ count * shard_places z
+  pub each : (index : ℕ) (lane : LaneOf) (place : ℕ) (part : Part) → index < count → slice_get lanes index ≡ Some lane → is_place z place ≡ true → shard_of place ≡ lane.number
+      → slice_get parts (index * shard_places z + index_of z place) ≡ Some part → IsPart history lane place part
+  pub counts : census ≡ all_counted none_counted parts
+
+pub so-far-none : (z : Shape) (history : List Act) (lanes : List LaneOf) (words : Slots ℕ) → IsRow z words → SoFar z history lanes words 0 words none_counted
+so-far-none z history lanes words row = record {
+  marked = [];
+  blanks = blanks-none z words row;
+  inside = λ place some. absurd (omega arith);
+  earlier = λ place some. absurd (omega arith);
+  parts = [];
+  wide = omega arith;
+  each = λ index lane place part low. absurd (omega arith);
+  counts = refl;
+}
+
+-- how many places are counted
+pub so-far-counts : (z : Shape) (history : List Act) (lanes : List LaneOf) (old now : Slots ℕ) (count : ℕ) (census : Census) → SoFar z history lanes old count now census
+    → places_counted census ≡ count * shard_places z
+so-far-counts z history lanes old now count census h =
+    let sum = ap places_counted h.counts in let all = many-counted none_counted h.parts in let wide = h.wide in omega arith
+
+-- there is room for a shard more
+pub so-far-room : (z : Shape) → IsShape z → (history : List Act) (lanes : List LaneOf) (old now : Slots ℕ) (count : ℕ) (census : Census) → SoFar z history lanes old count now census
+    → count < z.lanes → places_counted census + shard_places z ≤ 4294967295
+so-far-room z ok history lanes old now count census h low =
+    let all = so-far-counts z history lanes old now count census h in
+    let bounds = shape_bounds z ok in
+    let some = bounds.shard.0 in
+    let top = bounds.all in
+    let few = bounds.shard.1 in
+    let step = mul-add-lt count (shard_places z) 0 z.lanes low (omega arith) in
+    omega (arith, step)
+
+-- ---- the next shelf
+
+-- an element before the end of a list
+get-some : {X : Type 0} (xs : List X) (k : ℕ) → k < length xs → (x : X) × (slice_get xs k ≡ Some x)
+get-some [] k low = absurd (omega arith)
+get-some (x ∷ xs) k low = (get_or (x ∷ xs) k x, slice_get-get_or (x ∷ xs) k x low)
+
+-- the first of those that are left stands behind those that are done
+pub next-shelf : {X : Type 0} (all done left rest : List X) (next : X) → done ++ left ≡ all → left ≡ next ∷ rest → slice_get all (length done) ≡ Some next
+next-shelf all done left rest next whole first =
+    let is : done ++ next ∷ rest ≡ all = ap (λ l. done ++ l) (sym first) ∙ whole in
+    let long = length-append done (next ∷ rest) in
+    subst (λ l. slice_get l (length done) ≡ Some next) is
+    (slice_get-get_or (done ++ next ∷ rest) (length done) next (omega arith) ∙ ap Some (get_or-append_seam done next rest next))
+
+pub shelf-moves : {X : Type 0} (all done left rest : List X) (next : X) → done ++ left ≡ all → left ≡ next ∷ rest → (done ++ next ∷ []) ++ rest ≡ all
+shelf-moves all done left rest next whole first = append_assoc done (next ∷ []) rest ∙ (ap (λ l. done ++ l) (sym first) ∙ whole)
+
+module _ {T : Type 0} (z : Shape) (ok : IsShape z) (history : List Act) (lanes : List LaneOf) (shelves : List (Shelf T)) (old : Slots ℕ) (row : IsRow z old)
+    (last : AreLast z history lanes shelves (words_in z (slots_items old))) (count : ℕ) (shelf : Shelf T) (at : slice_get shelves count ≡ Some shelf) where
+  -- the lane of the next shelf
+  pub found : (lane : LaneOf) × (slice_get lanes count ≡ Some lane)
+  found = let within = slice_get_within shelves count shelf at in let a = last.count.0 in let b = last.count.1 in get-some lanes count (omega arith)
+
+  abbrev pub lane : LaneOf
+  lane = found.0
+
+  pub own : IsLast z history (words_in z (slots_items old)) lane shelf
+  own = last.each count lane shelf found.1 at
+
+  abbrev pub chain : List ℕ
+  chain = (the_lane lane.book).chain
+
+  abbrev pub threads : ℕ → List ℕ
+  threads = threads_of z history lanes shelves (slots_items old) last lane shelf own
+
+  -- it is one of the shape's
+  pub shelf-low : shelf.number < z.lanes
+  shelf-low = subst (λ n. n < z.lanes) (sym own.number_is) own.below
+
+  pub count-low : count < z.lanes
+  count-low = let within = slice_get_within shelves count shelf at in let b = last.count.1 in omega arith
+
+  module _ (now : Slots ℕ) (census : Census) (h : SoFar z history lanes old count now census) where
+    so_far_blanked : AreBlanked h.marked (words_in z (slots_items old)) (words_in z (slots_items now))
+    so_far_blanked = blanks-words z ok h.marked old now row h.inside h.blanks
+
+    -- its free places stand as before
+    stand-own : AreFreePlaces z (slots_items now) lane.number shelf.free chain threads
+    stand-own = free-stays z h.marked (slots_items old) (slots_items now) lane.number shelf.free chain threads so_far_blanked
+        (free-stand z history lanes shelves (slots_items old) last lane shelf own)
+
+    pub stand-now : AreFreePlaces z (slots_items now) shelf.number shelf.free chain threads
+    stand-now = subst (λ n. AreFreePlaces z (slots_items now) n shelf.free chain threads) (sym own.number_is) stand-own
+
+    -- all of them are places of its shard
+    free-own : (place : ℕ) → 0 < times place (free_places z lane.number shelf.free chain threads) → (is_place z place ≡ true) × (shard_of place ≡ lane.number)
+    free-own place some =
+        let front = times-append place (map number_of shelf.free.own) chain in
+        let whole = times-append place (map number_of shelf.free.own ++ chain) (stacked lane.number threads z.lanes) in
+        dite (ℕ_discrete (times place (map number_of shelf.free.own)) 0)
+        (λ unlisted. dite (ℕ_discrete (times place chain) 0)
+        (λ unchained. stacked-inside z (slots_items now) lane.number z.lanes threads stand-own.returned (omega arith) place (omega arith))
+        (λ chained. stand-own.chained.1.inside place (omega arith)))
+        (λ listed.
+        let on = among-number shelf.free.own place (omega arith) in
+        let kept = own.listed on.at (subst (λ (f : FreePlaces). Contains f.own on.at) own.free_is on.within) in
+        (subst (λ n. is_place z n ≡ true) on.is kept.inside, subst (λ n. shard_of n ≡ lane.number) on.is kept.own))
+
+    -- none was marked before
+    unmarked : (place : ℕ) → shard_of place ≡ lane.number → times place h.marked ≡ 0
+    unmarked place of_shard = no_times (times place h.marked) (λ some.
+        let before = h.earlier place some in
+        let at_before = before.2 in
+        let same = same-index lanes z.lanes last.count.0 (λ number low. let a = last.all number low in (a.0, (a.1, a.2, a.3))) before.0 count at_before.0 lane at_before.1 found.1 (at_before.2 ∙ of_shard)
+        (subst (λ n. n < z.lanes) (sym (at_before.2 ∙ of_shard)) own.below) in
+        let low = before.1 in
+        omega arith)
+
+    module _ (then : Slots ℕ) (after : Census) (marks : Blanks z (free_places z lane.number shelf.free chain threads) now then)
+        (counts : Counts z lane.number shelf.pages.opened (slots_items then) census after) where
+      blanked_then : AreBlanked (free_places z lane.number shelf.free chain threads) (words_in z (slots_items now)) (words_in z (slots_items then))
+      blanked_then = blanks-words z ok (free_places z lane.number shelf.free chain threads) now then h.blanks.row (λ place some. (free-own place some).0) marks
+
+      -- what a place of the shard was counted as
+      this-part : (place : ℕ) → is_place z place ≡ true → shard_of place ≡ lane.number
+          → IsPart history lane place (part_in shelf.pages.opened (page_of place) ((words_in z (slots_items then)).life place))
+      this-part place inside of_shard = part-is z history lanes shelves (slots_items old) last lane shelf own place ((words_in z (slots_items then)).life place) inside of_shard
+          (λ some. blanked_then.gone place some)
+          (λ none. blanked_then.kept place none ∙ so_far_blanked.kept place (unmarked place of_shard))
+
+      this-each : (other : LaneOf) (place : ℕ) (part : Part) → slice_get lanes count ≡ Some other → is_place z place ≡ true → shard_of place ≡ other.number
+          → slice_get (h.parts ++ counts.parts) (count * shard_places z + index_of z place) ≡ Some part → IsPart history other place part
+      this-each other place part at_other inside of_shard get =
+          let same : lane ≡ other = some-one lane other (sym found.1 ∙ at_other) in
+          let mine : shard_of place ≡ lane.number = of_shard ∙ ap (λ (l : LaneOf). l.number) (sym same) in
+          let low = index_of-lt z place inside in
+          let wide = counts.wide in
+          let back = get-back h.parts counts.parts (index_of z place) (omega arith) in
+          let to : slice_get (h.parts ++ counts.parts) (count * shard_places z + index_of z place) ≡ slice_get counts.parts (index_of z place)
+          = ap (λ n. slice_get (h.parts ++ counts.parts) (n + index_of z place)) (sym h.wide) ∙ back in
+          let is = some-one (part_in shelf.pages.opened (page_of place) ((words_in z (slots_items then)).life place)) part (sym (counts.each place inside mine) ∙ (sym to ∙ get)) in
+          subst (λ l. IsPart history l place part) same (subst (IsPart history lane place) is (this-part place inside mine))
+
+      one-more : SoFar z history lanes old (count + 1) then after
+      one-more = record {
+        marked = h.marked ++ free_places z lane.number shelf.free chain threads;
+        blanks = blanks-then z h.marked (free_places z lane.number shelf.free chain threads) old now then h.blanks marks;
+        inside = λ place some.
+            let both = times-append place h.marked (free_places z lane.number shelf.free chain threads) in
+            dite (ℕ_discrete (times place h.marked) 0)
+            (λ none. (free-own place (omega arith)).0)
+            (λ more. h.inside place (omega arith));
+        earlier = λ place some.
+            let both = times-append place h.marked (free_places z lane.number shelf.free chain threads) in
+            dite (ℕ_discrete (times place h.marked) 0)
+            (λ none. (count, omega arith, (lane, found.1, sym (free-own place (omega arith)).1)))
+            (λ more. let before = h.earlier place (omega arith) in let low = before.1 in (before.0, omega arith, before.2));
+        parts = h.parts ++ counts.parts;
+        wide =
+            let long = length-append h.parts counts.parts in
+            let front = h.wide in
+            let back = counts.wide in
+            omega arith;
+        each = λ index other place part low at_other inside of_shard get. dite (ℕ_discrete index count)
+            (λ here. this-each other place part (subst (λ n. slice_get lanes n ≡ Some other) here at_other) inside of_shard
+            (subst (λ n. slice_get (h.parts ++ counts.parts) (n * shard_places z + index_of z place) ≡ Some part) here get))
+            (λ before.
+            let step = mul-add-lt index (shard_places z) (index_of z place) count (omega arith) (index_of-lt z place inside) in
+            let front = h.wide in
+            h.each index other place part (omega arith) at_other inside of_shard
+            (sym (get-front h.parts counts.parts (index * shard_places z + index_of z place) (omega (arith, step))) ∙ get));
+        counts = counts.counts ∙ (ap (λ (c : Census). all_counted c counts.parts) h.counts ∙ sym (counted-append none_counted h.parts counts.parts));
+      }
+
+    -- its free places are marked and its places counted
+    pub so-far-more : (then : Slots ℕ) (after : Census)
+        → ((first : List ℕ) (others : ℕ → List ℕ) → AreFreePlaces z (slots_items now) shelf.number shelf.free first others → Blanks z (free_places z shelf.number shelf.free first others) now then)
+        → Counts z shelf.number shelf.pages.opened (slots_items then) census after → SoFar z history lanes old (count + 1) then after
+    so-far-more then after marks counts = one-more then after
+        (subst (λ n. Blanks z (free_places z n shelf.free chain threads) now then) own.number_is (marks chain threads stand-now))
+        (subst (λ n. Counts z n shelf.pages.opened (slots_items then) census after) own.number_is counts)
+
+-- ---- at the end
+
+-- all shelves were gone over
+pub all-gone : {T : Type 0} (z : Shape) (history : List Act) (lanes : List LaneOf) (shelves done left : List (Shelf T)) (old now : Slots ℕ) (census : Census)
+    → AreLast z history lanes shelves (words_in z (slots_items old)) → done ++ left ≡ shelves → left ≡ [] → SoFar z history lanes old (length done) now census
+    → SoFar z history lanes old z.lanes now census
+all-gone z history lanes shelves done left old now census last whole none h =
+    let long = ap length whole in
+    let parts = length-append done left in
+    let empty = ap length none in
+    let all = last.count.1 in
+    subst (λ n. SoFar z history lanes old n now census) (omega arith) h
+
+pub is-census : {T : Type 0} (z : Shape) (history : List Act) (lanes : List LaneOf) (shelves : List (Shelf T)) (old now : Slots ℕ) (census : Census)
+    → AreLast z history lanes shelves (words_in z (slots_items old)) → SoFar z history lanes old z.lanes now census → IsCensus z history lanes census
+is-census z history lanes shelves old now census last h = record {
+  parts = h.parts;
+  wide = h.wide;
+  each = λ index lane place part at inside of_shard get.
+      let within = slice_get_within lanes index lane at in let all = last.count.0 in
+      h.each index lane place part (omega arith) at inside of_shard get;
+  counts = h.counts;
+}

@@ -1,0 +1,69 @@
+-- What the end of a pool's table tells of its lanes.
+use Rattle.std.proofs.Common.{◌≡◌, ℕ, ◌<◌, List, length, Option, Some, refl, sym, ap, ◌∙◌, subst, arith, slice_get}
+use Rattle.std.proofs.lemmas.Option.{slice_get_within}
+use Rattle.atomic_table.specs.declared.shared.Seat.{Seat}
+use Rattle.keybits.specs.declared.shape.Shape.{Shape}
+use Rattle.slotcell.specs.Share.{Share}
+use Rattle.poolsteps.specs.declared.grid.Grid.{Grid}
+use Rattle.poolsteps.specs.declared.view.View.{View}
+use Rattle.poolsteps.specs.Layout.{words_in}
+use Rattle.poolsteps.specs.Rule.{World}
+use Rattle.poolsteps.specs.Grids.{AreHands, EndsWith}
+use Rattle.shardpool.specs.declared.shelf.Shelf.{Shelf}
+use Rattle.shardpool.specs.Tokens.{LaneOf}
+use Rattle.shardpool.specs.Shelves.{Fits}
+use Rattle.shardpool.specs.Closings.{AreLanes, IsLastHistory, AreLast}
+use Rattle.shardpool.specs.Partings.{AreParted}
+use Rattle.shardpool.proofs.Laning.{lane_of}
+use Rattle.shardpool.proofs.ClosingLast.{IsEnded, entry-at, last-are, last-history}
+
+module _ {T : Type 0} {content : T → List ℕ} {room : T → ℕ} (grid : Grid T) {lanes : List LaneOf} {hands : List (Seat (Option (Share T)) View)} {shelves : List (Shelf T)}
+    (are : AreLanes (record { table = grid.table.shared.table_id; shape = grid.shape }) lanes) (parted : AreParted content room lanes hands shelves) where
+  -- there is a lane
+  some-hand : 0 < length hands
+  some-hand =
+      let some = grid.checked.lanes.0 in let all = are.count in let same = parted.count.0 in
+      omega (arith, some, all, same)
+
+  -- the hands are the grid's
+  pub are-hands : AreHands grid hands
+  are-hands = record {
+    some_hand = some-hand;
+    each = λ index hand at.
+        let low = slice_get_within hands index hand at in
+        let same = parted.count.0 in let wide = parted.count.1 in
+        let lane = entry-at lanes index (omega (arith, low, same)) in
+        let shelf = entry-at shelves index (omega (arith, low, same, wide)) in
+        let is = parted.each index lane.0 hand shelf.0 lane.1 at shelf.1 in (
+          sym (ap (λ (l : LaneOf). l.table) is.lane_is) ∙ (are.owned index lane.0 lane.1).0,
+          is.fits.seat.one,
+          is.empty,
+        );
+  }
+
+  module _ {words : List ℕ} {slots : List (Option (Share T))} {w : World} (ends : EndsWith content room grid hands words slots w) where
+    -- what a lane keeps stands beside the last world
+    all-ended : (index : ℕ) (lane : LaneOf) (s : Shelf T) → slice_get lanes index ≡ Some lane → slice_get shelves index ≡ Some s → IsEnded content room grid.shape w lane s
+    all-ended index lane s at_lane at_shelf =
+        let low = slice_get_within lanes index lane at_lane in
+        let same = parted.count.0 in
+        let there = entry-at hands index (omega (arith, low, same)) in
+        let hand : Seat (Option (Share T)) View = there.0 in
+        let is = parted.each index lane hand s at_lane there.1 at_shelf in
+        let shape : s.shape ≡ grid.shape = sym (ap (λ (l : LaneOf). l.shape) is.lane_is) ∙ (are.owned index lane at_lane).1 in
+        let ended : IsEnded content room grid.shape w (lane_of hand.table_id hand.me.0 s) s = record {
+          lane_is = refl;
+          fits = subst (λ (y : Shape). Fits content room y hand.me.0 s) shape is.fits;
+          free = is.free;
+          seen = ends.seen index hand there.1;
+          record_is = ends.records index hand there.1;
+        } in
+        subst (λ (x : LaneOf). IsEnded content room grid.shape w x s) (sym is.lane_is) ended
+
+    -- so all that they keep, the last words and the history tell of each other
+    pub ends-last : AreLast grid.shape w.history lanes shelves (words_in grid.shape words)
+    ends-last = last-are ends.stands.rule grid.table.shared.table_id lanes shelves are parted.count.1 all-ended
+
+    -- and the history is the last
+    pub ends-history : IsLastHistory (record { table = grid.table.shared.table_id; shape = grid.shape }) lanes w.history
+    ends-history = last-history ends.stands.rule grid.table.shared.table_id lanes shelves are parted.count.1 all-ended

@@ -1,0 +1,95 @@
+-- Each round marks and counts the shard of one shelf more.
+use Rattle.std.proofs.Common.{rules, ◌≡◌, ◌<◌, ℕ, List, length, Some, sym, ap, ◌∙◌, subst, arith}
+use Rattle.std.specs.Prelude.{slice_get}
+use Rattle.std.specs.Vec.Iter.{into_iter_items}
+use Rattle.std.proofs.lemmas.List.{nil_from_length, length_push}
+use Rattle.core.specs.Mem.Slots.{slots_items}
+use Rattle.shardpool.specs.Marks.{AreFreePlaces, Counts}
+use Rattle.shardpool.proofs.CensusRounds.{SoFar, so-far-none, so-far-counts, so-far-room, next-shelf, shelf-moves, chain, threads, shelf-low, count-low, stand-now, so-far-more, all-gone, is-census}
+use Rattle.shardpool.proofs.census.take_census.Given.{Over}
+use Rattle.shardpool.proofs.census.take_census.Goals as goal
+use Rattle.shardpool.proofs.census.take_census.Goals.{In-Some}
+
+pub loop-shelf-init : goal.loop-shelf-init
+loop-shelf-init g c = record {
+  so_far = λ history lanes last. subst (SoFar c.args.shape.now history lanes c.args.words.now 0 c.args.words.now) (sym c.none-census.ensures)
+      (so-far-none c.args.shape.now history lanes c.args.words.now c.requires.words);
+  shelves = c.into_iter-shelf-iterator.ensures.into_iter_gives.0;
+  rest = search rules;
+}
+
+-- the shelf of this round
+at : (g : Over) (c : In-Some g) → slice_get c.args.shelves.items (length c.loop-shelf.yielded) ≡ Some c.in-Some.shelf
+at g c = next-shelf c.args.shelves.items c.loop-shelf.yielded (into_iter_items c.loop-shelf.shelf-iterator) (into_iter_items c.next.new.self) c.in-Some.shelf
+    c.loop-shelf.invariant.shelves c.in-Some.ensures.steps.0
+
+-- its number, and its free places
+low : (g : Over) (c : In-Some g) → c.in-Some.shelf.number < c.args.shape.now.lanes
+low g c = let q = c.requires.last in
+    shelf-low c.args.shape.now c.requires.shape q.0 q.1 c.args.shelves.items c.args.words.now c.requires.words q.2 (length c.loop-shelf.yielded) c.in-Some.shelf (at g c)
+
+stands : (g : Over) (c : In-Some g) → (first : List ℕ) × (others : ℕ → List ℕ)
+    × AreFreePlaces c.args.shape.now (slots_items c.loop-shelf.words) c.in-Some.shelf.number c.in-Some.shelf.free first others
+stands g c =
+    let z = c.args.shape.now in let q = c.requires.last in let before = c.loop-shelf in let shelves = c.args.shelves.items in let old = c.args.words.now in (
+      chain z c.requires.shape q.0 q.1 shelves old c.requires.words q.2 (length before.yielded) c.in-Some.shelf (at g c),
+      threads z c.requires.shape q.0 q.1 shelves old c.requires.words q.2 (length before.yielded) c.in-Some.shelf (at g c),
+      stand-now z c.requires.shape q.0 q.1 shelves old c.requires.words q.2 (length before.yielded) c.in-Some.shelf (at g c) before.words before.census
+          (before.invariant.so_far q.0 q.1 q.2),
+    )
+
+pub mark_free-requires-clause-shard : goal.mark_free-requires-clause-shard
+mark_free-requires-clause-shard g c = low g (goal.at.mark_free-requires-clause-shard g c).In-Some
+
+pub mark_free-requires-clause-row : goal.mark_free-requires-clause-row
+mark_free-requires-clause-row g c = let q = c.requires.last in (c.loop-shelf.invariant.so_far q.0 q.1 q.2).blanks.row
+
+pub mark_free-requires-clause-free : goal.mark_free-requires-clause-free
+mark_free-requires-clause-free g c = stands g (goal.at.mark_free-requires-clause-free g c).In-Some
+
+pub count_shard-requires-clause-shard : goal.count_shard-requires-clause-shard
+count_shard-requires-clause-shard g c = low g (goal.at.count_shard-requires-clause-shard g c).In-Some
+
+pub count_shard-requires-clause-row : goal.count_shard-requires-clause-row
+count_shard-requires-clause-row g c = let free = stands g (goal.at.count_shard-requires-clause-row g c).In-Some in (c.mark_free.ensures free.0 free.1 free.2).row
+
+pub count_shard-requires-clause-room : goal.count_shard-requires-clause-room
+count_shard-requires-clause-room g c =
+    let z = c.args.shape.now in let q = c.requires.last in let before = c.loop-shelf in let old = c.args.words.now in
+    so-far-room z c.requires.shape q.0 q.1 old before.words (length before.yielded) before.census (before.invariant.so_far q.0 q.1 q.2)
+    (count-low z c.requires.shape q.0 q.1 c.args.shelves.items old c.requires.words q.2 (length before.yielded) c.in-Some.shelf
+    (at g (goal.at.count_shard-requires-clause-room g c).In-Some))
+
+pub loop-shelf-preserved : goal.loop-shelf-preserved
+loop-shelf-preserved g c =
+    let z = c.args.shape.now in let before = c.loop-shelf in let shelves = c.args.shelves.items in let old = c.args.words.now in
+    record {
+      so_far = λ history lanes last.
+          subst (λ (n : ℕ). SoFar z history lanes old n c.mark_free.new.words c.count_shard.new.census) (sym (length_push before.yielded c.in-Some.shelf))
+          (so-far-more z c.requires.shape history lanes shelves old c.requires.words last (length before.yielded) c.in-Some.shelf
+          (at g (goal.at.loop-shelf-preserved g c).In-Some) before.words before.census
+          (before.invariant.so_far history lanes last) c.mark_free.new.words c.count_shard.new.census c.mark_free.ensures
+          (subst (λ (n : ℕ). Counts z c.in-Some.shelf.number n (slots_items c.mark_free.new.words) before.census c.count_shard.new.census) c.opened.ensures.opened c.count_shard.ensures));
+      shelves = shelf-moves shelves before.yielded (into_iter_items before.shelf-iterator) (into_iter_items c.next.new.self) c.in-Some.shelf before.invariant.shelves c.in-Some.ensures.steps.0;
+      rest = let was = before.invariant.rest in let gone = c.in-Some.ensures.steps.1 in let shorter = ap length c.in-Some.ensures.steps.0 in omega arith;
+    }
+
+pub returns-clause-census : goal.returns-clause-census
+returns-clause-census g c = λ history lanes last.
+    let z = c.args.shape.now in let end = c.loop-shelf in let old = c.args.words.now in let left = into_iter_items end.shelf-iterator in
+    let none = nil_from_length left (sym end.invariant.rest ∙ c.in-None.ensures.steps.0) in
+    is-census z history lanes c.args.shelves.items old end.words end.census last
+    (all-gone z history lanes c.args.shelves.items end.yielded left old end.words end.census last end.invariant.shelves none (end.invariant.so_far history lanes last))
+
+pub returns-clause-adds : goal.returns-clause-adds
+returns-clause-adds g c =
+    let z = c.args.shape.now in let q = c.requires.last in let end = c.loop-shelf in let old = c.args.words.now in let left = into_iter_items end.shelf-iterator in
+    let none = nil_from_length left (sym end.invariant.rest ∙ c.in-None.ensures.steps.0) in
+    so-far-counts z q.0 q.1 old end.words z.lanes end.census
+    (all-gone z q.0 q.1 c.args.shelves.items end.yielded left old end.words end.census q.2 end.invariant.shelves none (end.invariant.so_far q.0 q.1 q.2))
+
+pub returns-clause-words : goal.returns-clause-words
+returns-clause-words g c =
+    let q = c.requires.last in
+    let blanks = (c.loop-shelf.invariant.so_far q.0 q.1 q.2).blanks in
+    (blanks.row.0, blanks.row.1 ∙ sym c.requires.words.1, blanks.start)

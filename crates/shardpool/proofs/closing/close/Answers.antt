@@ -1,0 +1,29 @@
+-- The end of the table tells of all lanes, and the census counts by it.
+use Rattle.std.proofs.Common.{sym, subst}
+use Rattle.poolsteps.specs.Rule.{World}
+use Rattle.shardpool.specs.Tokens.{PoolOf}
+use Rattle.shardpool.specs.Closings.{AreLanes}
+use Rattle.shardpool.proofs.ClosingGrid.{are-hands, ends-last, ends-history}
+use Rattle.shardpool.proofs.closing.close.Goals as goal
+
+pub end-closed-requires : goal.end-closed-requires
+end-closed-requires g c =
+    let are = subst (λ (pool : PoolOf). AreLanes pool c.args.lanes.items) (sym c.pool.view_is) c.requires.lanes in
+    are-hands c.pool.inside.grid are c.parted-hands.ensures
+
+pub take_census-census-requires-clause-last : goal.take_census-census-requires-clause-last
+take_census-census-requires-clause-last g c =
+    let are = subst (λ (pool : PoolOf). AreLanes pool c.args.lanes.items) (sym c.pool.view_is) c.requires.lanes in
+    let w : World = c.end-closed.ensures.world.0 in
+    (w.history, c.args.lanes.items, ends-last c.pool.inside.grid are c.parted-hands.ensures c.end-closed.ensures.world.1)
+
+pub returns-clause-closes : goal.returns-clause-closes
+returns-clause-closes g c =
+    let are = subst (λ (pool : PoolOf). AreLanes pool c.args.lanes.items) (sym c.pool.view_is) c.requires.lanes in
+    let w : World = c.end-closed.ensures.world.0 in
+    let ends = c.end-closed.ensures.world.1 in
+    rw (← c.pool.view_is) (record {
+      history = w.history;
+      last = ends-history c.pool.inside.grid are c.parted-hands.ensures ends;
+      census_is = c.take_census-census.ensures.census w.history c.args.lanes.items (ends-last c.pool.inside.grid are c.parted-hands.ensures ends);
+    })

@@ -1,0 +1,128 @@
+-- What the places of a pool are when it is closed.
+use Rattle.std.specs.Prelude.{◌≡◌, ◌⊎◌, ℕ, ◌+◌, ◌*◌, ◌<◌, ◌≤◌, true, false, List, [], ◌∷◌, length, Contains, Some, slice_get}
+use mathlib.Core.List.{IsPrefix}
+use Rattle.keybits.specs.declared.shape.Shape.{Shape}
+use Rattle.keybits.specs.declared.place.Place.{Place}
+use Rattle.keybits.specs.Places.{shard_of, page_of, number_of}
+use Rattle.keybits.specs.Shapes.{all_places, shard_places, is_place, index_of}
+use Rattle.keybits.specs.Homes.{AreHome}
+use Rattle.keybits.specs.Links.{Leads}
+use Rattle.seqpool.specs.declared.act.Act.{Act}
+use Rattle.seqpool.specs.Pool.{Phase, with, published, home, retired, has, pool_after, IsLegal}
+use Rattle.seqpool.specs.Histories.{acts_of}
+use Rattle.steplaws.specs.Facts.{Words, State, home_in}
+use Rattle.poolsteps.specs.Views.{the_lane}
+use Rattle.shardpool.specs.declared.census.Census.{Census}
+use Rattle.shardpool.specs.declared.census.Part.{Part}
+use Rattle.shardpool.specs.declared.census.Part.TheVariants.{Free, Unopened, Filling, Present, Marked, Retired}
+use Rattle.shardpool.specs.declared.shelf.Shelf.{Shelf}
+use Rattle.shardpool.specs.Tokens.{PoolOf, LaneOf}
+use Rattle.shardpool.specs.Lanes.{Owns}
+use Rattle.shardpool.specs.Shelves.{IsFirst}
+
+-- these are all the lanes of the pool: as many as it has, and each number is one's
+pub record AreLanes (pool : PoolOf) (lanes : List LaneOf) : Type 0 where
+  pub count : length lanes ≡ pool.shape.lanes
+  pub owned : (index : ℕ) (lane : LaneOf) → slice_get lanes index ≡ Some lane → Owns pool lane
+  pub all : (number : ℕ) → number < pool.shape.lanes → (index : ℕ) × (lane : LaneOf) × (slice_get lanes index ≡ Some lane) × (lane.number ≡ number)
+
+-- where a place is after a history
+abbrev pub phase_at : List Act → LaneOf → ℕ → Phase
+phase_at history lane place = (pool_after lane.shape history place).phase
+
+-- the place stands on the lane's own list
+abbrev pub IsOnList : LaneOf → ℕ → Type 0
+IsOnList lane place = (at : Place) × Contains lane.free.own at × (number_of at ≡ place)
+
+-- the place is to be followed on the lane's taken chain
+abbrev pub IsOnChain : LaneOf → ℕ → Type 0
+IsOnChain lane place = has (the_lane lane.book).chain place ≡ true
+
+-- what a place of a lane's shard is after a history: of an unopened page; free, on the lane's list or chain, or home; a filling that wasn't published;
+-- under an unmarked key, or under a marked one; or retired
+abbrev pub IsPart : List Act → LaneOf → ℕ → Part → Type 0
+IsPart history lane place Unopened = (phase_at history lane place ≡ with lane.number) × (lane.pages.opened ≤ page_of place)
+IsPart history lane place Free = (phase_at history lane place ≡ home)
+    ⊎ ((phase_at history lane place ≡ with lane.number) × (page_of place < lane.pages.opened) × (IsOnList lane place ⊎ IsOnChain lane place))
+IsPart history lane place Filling = (phase_at history lane place ≡ with lane.number) × (page_of place < lane.pages.opened)
+    × (IsOnList lane place → ⊥) × (IsOnChain lane place → ⊥)
+IsPart history lane place Present = (content : List ℕ) × (references : ℕ → ℕ) × (phase_at history lane place ≡ published content references false)
+IsPart history lane place Marked = (content : List ℕ) × (references : ℕ → ℕ) × (phase_at history lane place ≡ published content references true)
+IsPart history lane place Retired = phase_at history lane place ≡ retired
+
+-- a census of no place
+abbrev pub none_counted : Census
+none_counted = record { free = 0; unopened = 0; filling = 0; present = 0; marked = 0; retired = 0 }
+
+-- a census with one place more
+abbrev pub counted : Census → Part → Census
+counted census Free = record census { free = census.free + 1 }
+counted census Unopened = record census { unopened = census.unopened + 1 }
+counted census Filling = record census { filling = census.filling + 1 }
+counted census Present = record census { present = census.present + 1 }
+counted census Marked = record census { marked = census.marked + 1 }
+counted census Retired = record census { retired = census.retired + 1 }
+
+-- a census with these places more
+abbrev pub all_counted : Census → List Part → Census
+all_counted census [] = census
+all_counted census (part ∷ more) = all_counted (counted census part) more
+
+-- how many places a census counts
+abbrev pub places_counted : Census → ℕ
+places_counted census = census.free + census.unopened + census.filling + census.present + census.marked + census.retired
+
+-- the census counts what each place is after the history: the places of one lane's shard after those of another, as the lanes stand
+pub record IsCensus (z : Shape) (history : List Act) (lanes : List LaneOf) (census : Census) : Type 0 where
+  pub parts : List Part
+  pub wide : length parts ≡ all_places z
+  pub each : (index : ℕ) (lane : LaneOf) (place : ℕ) (part : Part) → slice_get lanes index ≡ Some lane → is_place z place ≡ true → shard_of place ≡ lane.number
+      → slice_get parts (index * shard_places z + index_of z place) ≡ Some part → IsPart history lane place part
+  pub counts : census ≡ all_counted none_counted parts
+
+-- the history of a closed pool: legal, it begins with what each lane saw, and has of each lane just its acts
+pub record IsLastHistory (pool : PoolOf) (lanes : List LaneOf) (history : List Act) : Type 0 where
+  pub legal : IsLegal pool.shape history
+  pub begins : (index : ℕ) (lane : LaneOf) → slice_get lanes index ≡ Some lane → IsPrefix lane.book.seen history
+  pub own : (index : ℕ) (lane : LaneOf) → slice_get lanes index ≡ Some lane → (the_lane lane.book).mine ≡ acts_of lane.number history
+  -- every marked key has a reference
+  pub held : (place : ℕ) (content : List ℕ) (references : ℕ → ℕ) → is_place pool.shape place ≡ true
+      → (pool_after pool.shape history place).phase ≡ published content references true → (lane : ℕ) × (lane < pool.shape.lanes) × (0 < references lane)
+
+-- a pool with these lanes is closed: one history stands, and the census is that of its places
+pub record Closes (pool : PoolOf) (lanes : List LaneOf) (census : Census) : Type 0 where
+  pub history : List Act
+  pub last : IsLastHistory pool lanes history
+  pub census_is : IsCensus pool.shape history lanes census
+
+-- ---- the parts of a close
+
+-- a place of a lane's shard that it has free: of an opened page, and with the lane
+pub record IsKept (z : Shape) (history : List Act) (lane : LaneOf) (place : ℕ) : Type 0 where
+  pub inside : is_place z place ≡ true
+  pub own : shard_of place ≡ lane.number
+  pub opened : page_of place < lane.pages.opened
+  pub with_lane : (pool_after z history place).phase ≡ with lane.number
+
+-- what a lane keeps, beside the last words of the pool and its history
+pub record IsLast {T : Type 0} (z : Shape) (history : List Act) (words : Words) (lane : LaneOf) (shelf : Shelf T) : Type 0 where
+  pub shape_is : (lane.shape ≡ z) × (shelf.shape ≡ z)
+  pub number_is : shelf.number ≡ lane.number
+  pub below : lane.number < z.lanes
+  pub free_is : shelf.free ≡ lane.free
+  pub pages_is : shelf.pages ≡ lane.pages
+  pub listed : (place : Place) → Contains lane.free.own place → IsKept z history lane (number_of place)
+  pub chained : (place : ℕ) → has (the_lane lane.book).chain place ≡ true → IsKept z history lane place
+  pub unopened : (place : ℕ) → is_place z place ≡ true → shard_of place ≡ lane.number → lane.pages.opened ≤ page_of place → (pool_after z history place).phase ≡ with lane.number
+  pub first : IsFirst lane.free.chain (the_lane lane.book).chain
+  pub leads : (word : ℕ) × Leads words.link lane.number word (the_lane lane.book).chain
+
+-- what the lanes keep, the last words of the pool and a history tell of each other
+pub record AreLast {T : Type 0} (z : Shape) (history : List Act) (lanes : List LaneOf) (shelves : List (Shelf T)) (words : Words) : Type 0 where
+  pub legal : IsLegal z history
+  pub state : State z words history
+  pub homes : (shard : ℕ) → shard < z.lanes → AreHome z shard words.link (words.stack shard) (home_in z history shard)
+  pub alone : (place owner : ℕ) → is_place z place ≡ true → (pool_after z history place).phase ≡ with owner → shard_of place ≡ owner
+  pub count : (length lanes ≡ z.lanes) × (length shelves ≡ z.lanes)
+  pub all : (number : ℕ) → number < z.lanes → (index : ℕ) × (lane : LaneOf) × (slice_get lanes index ≡ Some lane) × (lane.number ≡ number)
+  pub each : (index : ℕ) (lane : LaneOf) (shelf : Shelf T) → slice_get lanes index ≡ Some lane → slice_get shelves index ≡ Some shelf → IsLast z history words lane shelf

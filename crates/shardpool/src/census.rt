@@ -1,0 +1,214 @@
+//! What the places of a pool are when it is closed.
+ghost use Rattle.std.specs.Prelude.{◌≡◌, ◌≢◌, ◌+◌, ◌<◌, ◌≤◌, ℕ, true, List, [], ◌∷◌, map, Contains};
+ghost use Rattle.core.specs.Mem.Slots.{slots_items, slots_len, slots_ptr, IsFull};
+ghost use Rattle.keybits.specs.declared.place.Place.{Place as Shown};
+ghost use Rattle.keybits.specs.declared.shape.TheConstants.{MOST_LANES};
+ghost use Rattle.keybits.specs.Places.{number_of};
+ghost use Rattle.keybits.specs.Shapes.{IsShape, is_place, shard_places, all_places};
+ghost use Rattle.freelists.specs.Queues.{AreFree};
+ghost use Rattle.poolsteps.specs.Layout.{word_count, words_in};
+ghost use Rattle.seqpool.specs.declared.act.Act.{Act};
+ghost use Rattle.shardpool.specs.Tokens.{LaneOf};
+ghost use Rattle.shardpool.specs.Closings.{none_counted, counted, places_counted, IsCensus, AreLast};
+ghost use Rattle.shardpool.specs.Marks.{IsRow, Blanks, IsThread, AreThreads, stacked, AreFreePlaces, free_places, part_in, Counts};
+
+use crate::shelf::Shelf;
+use core::slots::Slots;
+use freelists::LocalFree;
+use keybits::{Life, Place, Shape, State, link_to, linked_place};
+use poolsteps::{life_word, link_word, stack_word};
+
+/// How many places of a pool were what when it was closed. The six numbers add up to all its places.
+#[derive(Clone, Copy, Debug, PartialEq, Eq)]
+pub struct Census {
+    /// Places that a create could have handed out: on a lane's list, taken, or returned.
+    pub free: u32,
+    /// Places of pages that were never opened.
+    pub unopened: u32,
+    /// Places that a create handed out and nobody published.
+    pub filling: u32,
+    /// Published places whose key wasn't cleared.
+    pub present: u32,
+    /// Published places whose key was cleared, and to which somebody still referred.
+    pub marked: u32,
+    /// Places that were used up.
+    pub retired: u32,
+}
+
+/// What a place is when its pool is closed.
+#[derive(Clone, Copy, Debug, PartialEq, Eq)]
+pub(crate) enum Part {
+    Free,
+    Unopened,
+    Filling,
+    Present,
+    Marked,
+    Retired,
+}
+
+impl Census {
+    /// A census of no place.
+    fn none() -> Census
+        ensures { result ≡ none_counted }
+    {
+        Census {
+            free: 0,
+            unopened: 0,
+            filling: 0,
+            present: 0,
+            marked: 0,
+            retired: 0,
+        }
+    }
+
+    /// One place more is this.
+    fn count(&mut self, part: Part)
+        requires { places_counted self.old < 4294967295 }
+        ensures { self.new ≡ counted self.old part }
+    {
+        match part {
+            Part::Free => self.free += 1,
+            Part::Unopened => self.unopened += 1,
+            Part::Filling => self.filling += 1,
+            Part::Present => self.present += 1,
+            Part::Marked => self.marked += 1,
+            Part::Retired => self.retired += 1,
+        }
+    }
+}
+
+/// The census of a pool, by its last words and what its lanes keep.
+pub(crate) fn take_census<T: Drop>(
+    shape: &Shape,
+    shelves: Vec<Shelf<T>>,
+    words: &mut Slots<u64>,
+) -> Census
+    requires shape { IsShape shape.now }
+    requires words { IsFull words.old × (slots_len words.old ≡ word_count shape.now) }
+    requires last { (history : List Act) × (lanes : List LaneOf) × AreLast shape.now history lanes shelves.items (words_in shape.now (slots_items words.old)) }
+    ensures census { (history : List Act) (lanes : List LaneOf) → AreLast shape.now history lanes shelves.items (words_in shape.now (slots_items words.old))
+        → IsCensus shape.now history lanes result }
+    ensures adds { places_counted result ≡ all_places shape.now }
+    ensures words { IsFull words.new × (slots_len words.new ≡ slots_len words.old) × (slots_ptr words.new ≡ slots_ptr words.old) }
+{
+    let mut census = Census::none();
+    for mut shelf in shelves {
+        mark_free(shape, shelf.number, &mut shelf.free, words);
+        count_shard(
+            shape,
+            shelf.number,
+            shelf.pages.opened(),
+            words,
+            &mut census,
+        );
+    }
+    census
+}
+
+/// The free places of a lane's shard are marked: those of its list, of its taken chain, and on its stacks. The list then is empty.
+fn mark_free(shape: &Shape, shard: u32, free: &mut LocalFree, words: &mut Slots<u64>)
+    requires shape { IsShape shape.now }
+    requires shard { shard < shape.now.lanes }
+    requires row { IsRow shape.now words.old }
+    requires free { (chain : List ℕ) × (threads : ℕ → List ℕ) × AreFreePlaces shape.now (slots_items words.old) shard free.old chain threads }
+    ensures { (chain : List ℕ) (threads : ℕ → List ℕ) → AreFreePlaces shape.now (slots_items words.old) shard free.old chain threads
+        → Blanks shape.now (free_places shape.now shard free.old chain threads) words.old words.new }
+{
+    mark_list(shape, free, words);
+    if let Some(first) = free.chain() {
+        mark_thread(shape, shard, link_to(first.number()), words);
+    }
+    mark_stacks(shape, shard, words);
+}
+
+/// The places of a lane's own list are marked, which then is empty.
+fn mark_list(shape: &Shape, free: &mut LocalFree, words: &mut Slots<u64>)
+    requires shape { IsShape shape.now }
+    requires row { IsRow shape.now words.old }
+    requires own { (place : Shown) → Contains free.old.own place → is_place shape.now (number_of place) ≡ true }
+    ensures marks { Blanks shape.now (map number_of free.old.own) words.old words.new }
+    ensures chain { free.new.chain ≡ free.old.chain }
+    ensures free { AreFree free.new }
+{
+    while let Some(place) = free.pop() {
+        mark(shape, place.number(), words);
+    }
+}
+
+/// The places on the stacks of a shard are marked.
+fn mark_stacks(shape: &Shape, shard: u32, words: &mut Slots<u64>)
+    requires shape { IsShape shape.now }
+    requires shard { shard < shape.now.lanes }
+    requires row { IsRow shape.now words.old }
+    requires threads { (threads : ℕ → List ℕ) × AreThreads shape.now (slots_items words.old) shard threads }
+    ensures { (threads : ℕ → List ℕ) → AreThreads shape.now (slots_items words.old) shard threads
+        → Blanks shape.now (stacked shard threads shape.now.lanes) words.old words.new }
+{
+    for lane in 0..shape.lanes {
+        if lane != shard {
+            let word = *words.get(stack_word(shape, shard, lane));
+            mark_thread(shape, shard, word, words);
+        }
+    }
+}
+
+/// The places of a shard are marked through which the link words lead from this word.
+fn mark_thread(shape: &Shape, shard: u32, mut word: u64, words: &mut Slots<u64>)
+    requires shape { IsShape shape.now }
+    requires shard { shard < shape.now.lanes }
+    requires row { IsRow shape.now words.old }
+    requires thread { (thread : List ℕ) × IsThread shape.now (slots_items words.old) shard word thread }
+    ensures { (thread : List ℕ) → IsThread shape.now (slots_items words.old) shard word thread → Blanks shape.now thread words.old words.new }
+{
+    while word != 0 {
+        let place = linked_place(shard, word);
+        mark(shape, place, words);
+        word = *words.get(link_word(shape, place, shape.position(place)));
+    }
+}
+
+/// A place is marked: its lifecycle word becomes 0, which no lifecycle word is.
+fn mark(shape: &Shape, place: u32, words: &mut Slots<u64>)
+    requires shape { IsShape shape.now }
+    requires place { is_place shape.now place ≡ true }
+    requires row { IsRow shape.now words.old }
+    ensures { Blanks shape.now (place ∷ []) words.old words.new }
+{
+    words.put(life_word(shape, place, shape.position(place)), 0);
+}
+
+/// The places of a shard are counted, of which so many pages are opened, and whose free places are marked.
+fn count_shard(shape: &Shape, shard: u32, opened: u32, words: &Slots<u64>, census: &mut Census)
+    requires shape { IsShape shape.now }
+    requires shard { shard < shape.now.lanes }
+    requires row { IsRow shape.now words.now }
+    requires room { places_counted census.old + shard_places shape.now ≤ 4294967295 }
+    ensures { Counts shape.now shard opened (slots_items words.now) census.old census.new }
+{
+    let places = shape.shard_places() as usize;
+    for index in 0..places {
+        let position = shard as usize * places + index;
+        let place = shape.place_at(position);
+        let word = *words.get(life_word(shape, place, position));
+        let page = u32::from(Place::of_number(place).page);
+        census.count(part_of(opened, page, word));
+    }
+}
+
+/// What a place of this page is, where so many pages are opened, by its lifecycle word, which is 0 where it is marked.
+fn part_of(opened: u32, page: u32, word: u64) -> Part
+    ensures { result ≡ part_in opened page word }
+{
+    if page >= opened {
+        return Part::Unopened;
+    }
+    if word == 0 {
+        return Part::Free;
+    }
+    match Life::of_word(word).state {
+        State::Idle => Part::Filling,
+        State::Present => Part::Present,
+        State::Marked => Part::Marked,
+        State::Retired => Part::Retired,
+    }
+}

@@ -1,0 +1,95 @@
+//! How a pool is closed.
+ghost use Rattle.std.specs.Prelude.{◌≡◌, ◌+◌, ◌<◌, ◌≤◌, [], ◌++◌, length, IfSome};
+ghost use Rattle.std.specs.Vec.{vec_capacity};
+ghost use Rattle.std.specs.Mem.Slots.{IsFull};
+ghost use Rattle.keybits.specs.declared.shape.TheConstants.{MOST_LANES};
+ghost use Rattle.keybits.specs.Shapes.{all_places};
+ghost use Rattle.shardpool.specs.Closings.{AreLanes, Closes, places_counted};
+ghost use Rattle.shardpool.specs.Partings.{IsParted, AreParted};
+
+use crate::census::{Census, take_census};
+use crate::lane::Lane;
+use crate::pool::Pool;
+use crate::shelf::Shelf;
+use atomic_table::Closed;
+use keybits::MOST_LANES;
+use poolsteps::Hand;
+use slotcell::{Clear, Slot};
+use std::alloc::Global;
+
+/// A row with room for the hands of all lanes of a pool. Each lane has one, for the call that closes the pool. A hand has no
+/// bytes, so the row takes none.
+#[derive(Drop)]
+pub(crate) struct HandRow<T: Clear> {
+    hands: Vec<Hand<T>>,
+    ghost empty: { (length hands.items ≡ 0) × (MOST_LANES ≤ vec_capacity hands) },
+}
+
+impl<T: Clear> HandRow<T> {
+    /// An empty row. None where memory was refused.
+    pub(crate) fn new(alloc: Global) -> Option<HandRow<T>> {
+        let hands = Vec::with_capacity(alloc, MOST_LANES as usize).ok()?;
+        Some(HandRow { hands })
+    }
+}
+
+/// Closes a pool, with all its lanes. It takes no memory. Answers what its places were: that of a filling that was left counts as
+/// filling, and a key to which a reference was left is present or marked, as it was.
+pub fn close<T: Clear + Drop>(pool: Pool<T>, lanes: Vec<Lane<T>>) -> Census
+    requires lanes { AreLanes pool lanes.items }
+    ensures closes { Closes pool lanes.items result }
+    ensures adds { places_counted result ≡ all_places pool.shape }
+{
+    let Pool { grid, shelves } = pool;
+    let shape = grid.shape;
+    let (hands, shelves) = parted(lanes, shelves);
+    let mut closed = grid.end(hands);
+    let census = take_census(&shape, shelves, &mut closed.words);
+    free(closed);
+    census
+}
+
+/// The hands of these lanes, and their shelves in a row with room for all.
+fn parted<T: Clear + Drop>(
+    mut lanes: Vec<Lane<T>>,
+    mut shelves: Vec<Shelf<T>>,
+) -> (Vec<Hand<T>>, Vec<Shelf<T>>)
+    requires lanes { (0 < length lanes.items) × (length lanes.items ≤ MOST_LANES) }
+    requires shelves { (shelves.items ≡ []) × (length lanes.items ≤ vec_capacity shelves) }
+    ensures { AreParted T.content T.room lanes.items result.0.items result.1.items }
+{
+    let Some(last) = lanes.pop() else {
+        unreachable!()
+    };
+    let (hand, shelf, row) = taken_apart(last);
+    let HandRow { mut hands } = row;
+    for lane in lanes {
+        let (hand, shelf, row) = taken_apart(lane);
+        drop(row);
+        hands.push_reserved(hand);
+        shelves.push_reserved(shelf);
+    }
+    hands.push_reserved(hand);
+    shelves.push_reserved(shelf);
+    (hands, shelves)
+}
+
+/// The hand of a lane, its shelf and its row.
+fn taken_apart<T: Clear>(lane: Lane<T>) -> (Hand<T>, Shelf<T>, HandRow<T>)
+    ensures { IsParted T.content T.room lane result.0 result.1 }
+{
+    let Lane { hand, shelf, row } = lane;
+    // A look at the list tells that its places are the lane's.
+    let _ = shelf.free.len();
+    (hand, shelf, row)
+}
+
+/// Frees the memory of a table, with its slots and the shares in them.
+fn free<T: Drop>(mut closed: Closed<Slot<T>, Global>)
+    requires { IsFull closed.slots }
+{
+    for index in 0..closed.slot_count() {
+        drop(closed.take(index));
+    }
+    closed.free();
+}
