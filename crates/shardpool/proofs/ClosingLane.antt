@@ -1,12 +1,12 @@
 -- What a lane keeps still stands beside the last words and the history of its closed pool.
-use Rattle.std.proofs.Common.{◌≡◌, ℕ, ◌<◌, List, [], ◌∷◌, ◌++◌, true, sym, ap, ◌∙◌, subst, refl}
-use Rattle.std.specs.List.{Contains, All}
+use Rattle.std.proofs.Common.{◌≡◌, ℕ, ◌<◌, List, [], ◌++◌, true, sym, ap, ◌∙◌, subst, refl}
+use Rattle.std.specs.List.{Contains}
 use Rattle.std.proofs.lemmas.List.Elements.{All-contains}
 use mathlib.Core.List.{IsPrefix}
 use Rattle.atomic_table.specs.Seated.{TableId}
 use Rattle.keybits.specs.declared.shape.Shape.{Shape}
 use Rattle.keybits.specs.declared.place.Place.{Place}
-use Rattle.keybits.specs.Places.{shard_of, page_of, number_of}
+use Rattle.keybits.specs.Places.{number_of}
 use Rattle.keybits.specs.Links.{Leads}
 use Rattle.freelists.specs.Queues.{AreFree}
 use Rattle.freelists.specs.Shards.{IsOwn}
@@ -14,7 +14,6 @@ use Rattle.freelists.proofs.ShardLemmas.{OwnNumber}
 use Rattle.seqpool.specs.declared.act.Act.{Act}
 use Rattle.seqpool.specs.Pool.{with, has, pool_after, IsLegal}
 use Rattle.seqpool.specs.Histories.{acts_of}
-use Rattle.steplaws.specs.declared.pending.Pending.{Pending}
 use Rattle.steplaws.specs.declared.pending.Pending.TheVariants.{Nothing}
 use Rattle.steplaws.specs.Facts.{Words, Rule, moment}
 use Rattle.steplaws.proofs.Stays.{own-law}

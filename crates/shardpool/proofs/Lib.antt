@@ -32,3 +32,4 @@ pub mod ClosingParts
 pub mod ClosingLane
 pub mod ClosingLast
 pub mod ClosingGrid
+pub mod Holding

@@ -1,5 +1,5 @@
 //! How a pool is closed.
-ghost use Rattle.std.specs.Prelude.{◌≡◌, ◌+◌, ◌<◌, ◌≤◌, [], ◌++◌, length, IfSome};
+ghost use Rattle.std.specs.Prelude.{◌≡◌, ◌<◌, ◌≤◌, [], length};
 ghost use Rattle.std.specs.Vec.{vec_capacity};
 ghost use Rattle.std.specs.Mem.Slots.{IsFull};
 ghost use Rattle.keybits.specs.declared.shape.TheConstants.{MOST_LANES};
@@ -33,8 +33,11 @@ impl<T: Clear> HandRow<T> {
     }
 }
 
-/// Closes a pool, with all its lanes. It takes no memory. Answers what its places were: that of a filling that was left counts as
-/// filling, and a key to which a reference was left is present or marked, as it was.
+/// Closes a pool, with all its lanes, and answers what its places were. It takes no memory.
+///
+/// Tokens that were left stay counted: the place of a filling as filling, and a key with a reference as present, or as marked
+/// where it was cleared. An object that lies in the table at the close, under a key or with a returned place, is not dropped,
+/// and its memory is lost.
 pub fn close<T: Clear + Drop>(pool: Pool<T>, lanes: Vec<Lane<T>>) -> Census
     requires lanes { AreLanes pool lanes.items }
     ensures closes { Closes pool lanes.items result }
@@ -61,11 +64,9 @@ fn parted<T: Clear + Drop>(
     let Some(last) = lanes.pop() else {
         unreachable!()
     };
-    let (hand, shelf, row) = taken_apart(last);
-    let HandRow { mut hands } = row;
+    let (hand, shelf, HandRow { mut hands }) = taken_apart(last);
     for lane in lanes {
-        let (hand, shelf, row) = taken_apart(lane);
-        drop(row);
+        let (hand, shelf, _) = taken_apart(lane);
         hands.push_reserved(hand);
         shelves.push_reserved(shelf);
     }
@@ -84,7 +85,7 @@ fn taken_apart<T: Clear>(lane: Lane<T>) -> (Hand<T>, Shelf<T>, HandRow<T>)
     (hand, shelf, row)
 }
 
-/// Frees the memory of a table, with its slots and the shares in them.
+/// Drops each slot of a table, and frees its memory.
 fn free<T: Drop>(mut closed: Closed<Slot<T>, Global>)
     requires { IsFull closed.slots }
 {

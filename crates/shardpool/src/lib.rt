@@ -29,6 +29,12 @@ pub use token::{Filling, Note, Ref};
 #[cfg(test)]
 mod halt_tests;
 #[cfg(test)]
+mod test_calls;
+#[cfg(test)]
 mod test_close;
+#[cfg(test)]
+mod test_rows;
+#[cfg(test)]
+mod test_threads;
 #[cfg(test)]
 mod tests;

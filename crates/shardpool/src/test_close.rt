@@ -79,11 +79,7 @@ fn open_two<T: Clear + Drop>(alloc: Global) -> Result<(Pool<T>, Lane<T>, Lane<T>
 }
 
 /// Closes a pool of one lane.
-fn close_one<T: Clear + Drop>(
-    alloc: Global,
-    pool: Pool<T>,
-    lane: Lane<T>,
-) -> Result<Census, Fail>
+fn close_one<T: Clear + Drop>(alloc: Global, pool: Pool<T>, lane: Lane<T>) -> Result<Census, Fail>
     requires shape { pool.shape.lanes ≡ 1 }
     requires lane { Owns pool lane × (lane.number ≡ 0) }
 {
@@ -110,11 +106,7 @@ fn close_two<T: Clear + Drop>(
 }
 
 /// The one place is published and cleared at its last generation. Nothing is free then.
-fn use_up<T: Clear + Drop, R: Abort>(
-    rt: &R,
-    pool: &Pool<T>,
-    lane: &mut Lane<T>,
-) -> Result<(), Fail>
+fn use_up<T: Clear + Drop, R: Abort>(rt: &R, pool: &Pool<T>, lane: &mut Lane<T>) -> Result<(), Fail>
     requires { Owns pool.now lane.old }
     ensures { SameLane lane.old lane.new }
 {

@@ -1,5 +1,5 @@
 -- The two lanes are all lanes, in any order.
-use Rattle.std.proofs.Common.{◌≡◌, ⊎_elim, ℕ, zero, suc, ◌<◌, List, [], ◌∷◌, ◌++◌, length, Some, refl, sym, ap, ◌∙◌, subst, arith, slice_get}
+use Rattle.std.proofs.Common.{◌≡◌, ℕ, zero, suc, List, [], ◌∷◌, ◌++◌, Some, refl, sym, ap, ◌∙◌, subst, arith, slice_get}
 use mathlib.Core.Logic.{dite}
 use native.Mathlib.Decide.{ℕ_discrete}
 use Rattle.shardpool.specs.Tokens.{PoolOf, LaneOf}
@@ -26,5 +26,7 @@ pub close-requires : goal.close-requires
 close-requires g c =
     let items = c.push_reserved-2.ensures.items ∙ (ap (λ (lanes : List LaneOf). lanes ++ c.args.first ∷ []) c.push_reserved.ensures.items
     ∙ ap (λ (lanes : List LaneOf). (lanes ++ c.args.second ∷ []) ++ c.args.first ∷ []) c.in_ok-lanes.ensures.items) in
-    record { lanes = subst (AreLanes c.args.pool) (sym items)
-        (lanes-two c.args.pool c.args.first c.args.second c.requires.shape c.requires.first.0 c.requires.first.1 c.requires.second.0 c.requires.second.1) }
+    record {
+      lanes = subst (AreLanes c.args.pool) (sym items)
+          (lanes-two c.args.pool c.args.first c.args.second c.requires.shape c.requires.first.0 c.requires.first.1 c.requires.second.0 c.requires.second.1);
+    }

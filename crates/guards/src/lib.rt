@@ -1,0 +1,13 @@
+//! Closures and guards over the calls of a pool: what they take they give back by themselves.
+#![tactic(auto)]
+
+mod closures;
+mod filling;
+mod reading;
+
+pub use closures::{create_with, with};
+pub use filling::FillGuard;
+pub use reading::ReadGuard;
+
+#[cfg(test)]
+mod tests;
