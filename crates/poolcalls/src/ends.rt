@@ -21,6 +21,7 @@ use std::alloc::Global;
 /// What follows a LEAVE that found this word: where it left (g, MARKED, 0), the CLAIM of g; and where that succeeded, the
 /// place's object is cleared in place, and a place of another shard returned. None where no place was reclaimed. It takes no
 /// memory.
+#[inline(always)]
 pub fn settle<T: Clear + Drop>(
     alloc: Global,
     grid: &Grid<T>,
@@ -55,6 +56,7 @@ pub fn settle<T: Clear + Drop>(
 }
 
 /// The generation whose claim a LEAVE that found this word owes, where it owes one.
+#[inline(always)]
 pub fn owed_by(found: u64) -> Option<u32>
     ensures { result ≡ (if owes_claim found then Some (generation_in found) else None) }
 {
@@ -67,6 +69,7 @@ pub fn owed_by(found: u64) -> Option<u32>
 }
 
 /// What follows a CLAIM of this generation that succeeded.
+#[inline(always)]
 fn take_back<T: Clear + Drop>(
     alloc: Global,
     grid: &Grid<T>,

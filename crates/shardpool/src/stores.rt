@@ -17,7 +17,7 @@ use poolcalls::Reclaimed;
 use slotcell::{Clear, Whole};
 
 /// An emptied object of an own place rests with the lane, and the place goes to the end of the lane's list.
-#[inline]
+#[inline(always)]
 pub(crate) fn keep<T: Drop>(shelf: &mut Shelf<T>, place: u32, whole: Whole<T>)
     requires shape { IsShape shelf.old.shape }
     requires place { is_place shelf.old.shape place ≡ true }
@@ -31,6 +31,7 @@ pub(crate) fn keep<T: Drop>(shelf: &mut Shelf<T>, place: u32, whole: Whole<T>)
 }
 
 /// What became of a place that was reclaimed is kept: the object of an own place, and of a place that was returned its word.
+#[inline(always)]
 pub(crate) fn keep_reclaimed<T: Drop>(
     shelf: &mut Shelf<T>,
     place: u32,

@@ -5,8 +5,8 @@ ghost use Rattle.std.specs.Prelude.{◌≡◌, ◌+◌, ◌≤◌, ◌<◌, ◌�
 use arrayvec::ArrayVec;
 use std::alloc::Global;
 use std::error::Error;
-use std::fmt;
 use std::marker::Model;
+use std::{fmt, mem};
 
 /// An object that can be emptied in place and filled again, so that its memory is kept.
 ///
@@ -112,7 +112,10 @@ impl ByteBuf {
         {
             return Err(Memory);
         }
-        append_reserved(&mut self.bytes, more);
+        // As a vector of its own it is filled by a block copy, which a field of a borrowed buffer isn't.
+        let empty = Vec::new(*self.bytes.allocator());
+        let bytes = mem::replace(&mut self.bytes, empty);
+        self.bytes = with_appended(bytes, more);
         Ok(())
     }
 
@@ -139,14 +142,17 @@ impl ByteBuf {
 }
 
 // Appends where the capacity has room, and stays. `extend_from_slice` only says that it doesn't shrink.
-fn append_reserved(bytes: &mut Vec<u8>, more: &[u8])
-    requires { vec_len bytes.old + length more.now ≤ vec_capacity bytes.old }
-    ensures items { bytes.new.items ≡ bytes.old.items ++ more.now }
-    ensures capacity { vec_capacity bytes.new ≡ vec_capacity bytes.old }
+#[inline]
+fn with_appended(bytes: Vec<u8>, more: &[u8]) -> Vec<u8>
+    requires { vec_len bytes + length more.now ≤ vec_capacity bytes }
+    ensures items { result.items ≡ bytes.items ++ more.now }
+    ensures capacity { vec_capacity result ≡ vec_capacity bytes }
 {
+    let mut all = bytes;
     for byte in more {
-        bytes.push_reserved(*byte);
+        all.push_reserved(*byte);
     }
+    all
 }
 
 /// At most eight numbers, which are its content and lie in the value itself. Its room is 8, and it never takes memory.
