@@ -1,5 +1,5 @@
 //! The pool, and the calls of its lanes.
-ghost use Rattle.std.specs.Prelude.{◌≡◌, ◌≢◌, ◌+◌, ◌<◌, ◌≤◌, ◌↔◌, true, false, is_some, IsNone, IfSome, IsSome, [], ◌∷◌, List, if◌then◌else◌};
+ghost use Rattle.std.specs.Prelude.{◌≡◌, ◌≢◌, ◌==◌, ℕ, ◌+◌, ◌-◌, ◌<◌, ◌≤◌, ◌↔◌, true, false, is_some, IsNone, IfSome, IsSome, [], ◌∷◌, List, if◌then◌else◌};
 ghost use Rattle.keybits.specs.Keys.{is_key, place_of};
 ghost use Rattle.seqpool.specs.declared.act.Act.{Act};
 ghost use Rattle.seqpool.specs.declared.act.Act.TheVariants as acts;
@@ -59,6 +59,8 @@ impl<T: Clear + Drop> Pool<T> {
         ensures called { is_key self.now.shape key ≡ true → Calls self.now.shape (Getting key) lane.old.book lane.new.book }
         ensures gets { is_key self.now.shape key ≡ true → Gets key lane.old lane.new result }
         ensures refs { refs lane.new ≡ refs lane.old + (if is_some result then 1 else 0) }
+        ensures one_more { IsSome result → (k : ℕ) → holds lane.new k ≡ (if key == k then holds lane.old k + 1 else holds lane.old k) }
+        ensures no_more { IsNone result → (k : ℕ) → holds lane.new k ≡ holds lane.old k }
         ensures fillings { (filling : FillingOf T) → Made lane.old filling → Made lane.new filling }
     {
         shares_law();
@@ -98,6 +100,7 @@ impl<T: Clear + Drop> Pool<T> {
         ensures called { Calls self.now.shape (Releasing reference.key) lane.old.book lane.new.book }
         ensures releases { (rest : List Act) × Did (acts.Release lane.old.number reference.key ∷ rest) lane.old lane.new }
         ensures refs { refs lane.new + 1 ≡ refs lane.old }
+        ensures one_less { (k : ℕ) → holds lane.new k ≡ (if reference.key == k then holds lane.old k - 1 else holds lane.old k) }
         ensures fillings { (filling : FillingOf T) → Made lane.old filling → Made lane.new filling }
     {
         let key = reference.spend();
@@ -128,6 +131,7 @@ impl<T: Clear + Drop> Pool<T> {
         ensures called { is_key self.now.shape key ≡ true → Calls self.now.shape (Clearing key) lane.old.book lane.new.book }
         ensures clears { is_key self.now.shape key ≡ true → (rest : List Act) × Did (acts.Clear lane.old.number key result ∷ rest) lane.old lane.new }
         ensures refs { refs lane.new ≡ refs lane.old }
+        ensures held { (k : ℕ) → holds lane.new k ≡ holds lane.old k }
         ensures fillings { (filling : FillingOf T) → Made lane.old filling → Made lane.new filling }
     {
         let Some(spot) = self.find(key) else {
