@@ -1,5 +1,5 @@
 -- What all lanes of a pool keep, when it is closed, and its last history.
-use Rattle.std.proofs.Common.{◌≡◌, ◌≢◌, ⊎_elim, ℕ, ◌<◌, true, false, List, length, Some, None, sym, ap, ◌∙◌, subst, arith, slice_get}
+use Rattle.std.proofs.Common.{◌≡◌, ◌≢◌, ⊎_elim, ℕ, ◌<◌, true, false, List, length, Some, sym, ap, ◌∙◌, subst, arith, slice_get}
 use Rattle.std.proofs.lemmas.Option.{slice_get_cases, slice_get_within}
 use mathlib.Core.List.{IsPrefix}
 use Rattle.atomic_table.specs.Seated.{TableId}
@@ -8,7 +8,7 @@ use Rattle.keybits.specs.Places.{shard_of}
 use Rattle.keybits.specs.Shapes.{is_place}
 use Rattle.freelists.specs.Queues.{AreFree}
 use Rattle.seqpool.specs.declared.act.Act.{Act}
-use Rattle.seqpool.specs.Pool.{Phase, with, published, references_in, is_marked, pool_after, IsLegal}
+use Rattle.seqpool.specs.Pool.{Phase, with, published, references_in, is_marked, pool_after}
 use Rattle.seqpool.specs.Histories.{acts_of}
 use Rattle.steplaws.specs.declared.pending.Pending.TheVariants.{Nothing}
 use Rattle.steplaws.specs.Facts.{Words, Rule, moment}
@@ -16,7 +16,7 @@ use Rattle.steplaws.proofs.Counts.{quiet-law}
 use Rattle.poolsteps.specs.Views.{the_lane}
 use Rattle.poolsteps.specs.Rule.{World, IsRecord}
 use Rattle.shardpool.specs.declared.shelf.Shelf.{Shelf}
-use Rattle.shardpool.specs.Tokens.{PoolOf, LaneOf}
+use Rattle.shardpool.specs.Tokens.{LaneOf}
 use Rattle.shardpool.specs.Places.{left_with}
 use Rattle.shardpool.specs.Shelves.{Fits}
 use Rattle.shardpool.specs.Closings.{AreLanes, IsLast, IsLastHistory, AreLast}

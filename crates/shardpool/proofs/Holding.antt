@@ -1,5 +1,5 @@
 -- What calls leave of a lane's references, as their contracts tell it.
-use Rattle.std.proofs.Common.{◌≡◌, ℕ, ◌+◌, ◌-◌, Bool, true, false, cond, eqb, List, [], ◌∷◌, ◌++◌, Option, Some, None, refl, sym, ap, ◌∙◌, subst, ⊎_elim, arith, append_assoc, get_or, Result, Ok, Err, IsErr, IfOk, IfSome, IsNone, ◌≤◌}
+use Rattle.std.proofs.Common.{◌≡◌, ℕ, ◌+◌, ◌-◌, Bool, true, false, cond, eqb, eq-eqb, ne_eqb, List, [], ◌∷◌, ◌++◌, Option, Some, None, refl, sym, ap, ◌∙◌, subst, ⊎_elim, arith, append_assoc, get_or}
 use Rattle.std.proofs.lemmas.Bool.{cases_Bool}
 use Rattle.std.proofs.lemmas.List.{append_cancel_left}
 use Rattle.std.proofs.lemmas.List.Elements.{All-nil, All-head, All-tail, All-from_get_or}
@@ -13,6 +13,7 @@ use Rattle.keybits.specs.declared.step.Kind.TheVariants as kinds
 use Rattle.keybits.specs.declared.step.Step.{Step}
 use Rattle.keybits.specs.declared.step.Word.{Word}
 use Rattle.keybits.specs.Keys.{place_of, is_key}
+use Rattle.seqpool.specs.Pool.{Phase, references_in, is_current, pool_after}
 use Rattle.seqpool.specs.declared.act.Act.{Act}
 use Rattle.seqpool.specs.declared.act.Act.TheVariants as acts
 use Rattle.steplaws.specs.Calls.{Call, Caller, Aim, aim, is_hit, is_claimed, owes_claim, end_next, next_step, AreSteps, KindMakes}
@@ -21,14 +22,13 @@ use Rattle.poolsteps.specs.declared.view.View.{View}
 use Rattle.poolsteps.specs.Views.{the_lane, acts_in}
 use Rattle.poolsteps.specs.ViewLaws.{references_made}
 use Rattle.poolcalls.specs.Called.{caller_of, Make}
-use Rattle.shardpool.specs.Tokens.{PoolOf, LaneOf, FillingOf, RefOf}
-use Rattle.shardpool.specs.Lanes.{Owns, Calls, Did, Gets, holds, refs}
-use Rattle.shardpool.specs.declared.create.CreateFault.{CreateFault}
+use Rattle.shardpool.specs.Tokens.{PoolOf, LaneOf, FillingOf}
+use Rattle.shardpool.specs.Lanes.{Owns, Calls, Did, IsFilling, holds, refs}
 use Rattle.shardpool.specs.Opened.{IsFirstLane, AreFirstLanes}
 use Rattle.shardpool.specs.Places.{held_after}
 use Rattle.shardpool.specs.Creates.{HandsOut, Gives, GivesNone}
 use Rattle.shardpool.proofs.Ending.{made-append}
-use Rattle.shardpool.proofs.Rowing.{held-append}
+use Rattle.shardpool.proofs.Rowing.{held-append, either-same}
 
 -- ---- acts that leave all references
 
@@ -197,44 +197,35 @@ get-holds {z = z} {key = key} {old = old} {new = new} {rest = rest} called did k
     let made : called.made ≡ acts.Get old.number key None ∷ rest = append_cancel_left (the_lane old.book).mine _ _ (sym called.did.mine ∙ did.mine) in
     did.held k ∙ still-got z (caller_of z old.book) key called.steps called.made rest (acts.Get old.number key None) called.are called.make made k (holds old k)
 
--- the clauses of a get together
-module _ (z : Shape) (key : ℕ) (old new : LaneOf) where
-  -- what a lane has to each key after a get that hits
-  abbrev HasMore : RefOf → Type 0
-  HasMore reference = (reference.key ≡ key) × (1 ≤ holds new key) × ((k : ℕ) → holds new k ≡ cond (eqb key k) (holds old k + 1) (holds old k))
-
-  none-holds : (got : Option RefOf) → Calls z (Getting key) old.book new.book → Gets key old new got → IsNone got → (k : ℕ) → holds new k ≡ holds old k
-  none-holds None called gets none k = get-holds called gets.1 k
-  none-holds (Some reference) called gets none k = cc
-
-  some-holds : (got : Option RefOf) → Gets key old new got → IfSome got HasMore
-  some-holds None gets = tt
-  some-holds (Some reference) gets = (gets.0, gets.1, λ k. gets.3.held k)
-
-  none-some : (got : Option RefOf) → IsNone got → IfSome got HasMore
-  none-some None none = tt
-  none-some (Some reference) none = cc
-
-  module _ (got : Option RefOf) (outside : is_key z key ≡ false → IsNone got × (new ≡ old)) (called : is_key z key ≡ true → Calls z (Getting key) old.book new.book)
-      (gets : is_key z key ≡ true → Gets key old new got) where
-    pub missed : IsNone got → (k : ℕ) → holds new k ≡ holds old k
-    missed none k = ⊎_elim (λ inside. none-holds got (called inside) (gets inside) none k) (λ off. ap (λ (l : LaneOf). holds l k) (outside off).1)
-        (cases_Bool (is_key z key))
-
-    pub found : IfSome got HasMore
-    found = ⊎_elim (λ inside. some-holds got (gets inside)) (λ off. none-some got (outside off).0) (cases_Bool (is_key z key))
-
--- and of a clear
+-- the clauses of a clear together
 pub cleared : (z : Shape) (key : ℕ) (reply : Bool) (old new : LaneOf) → (is_key z key ≡ false → (reply ≡ false) × (new ≡ old))
     → (is_key z key ≡ true → Calls z (Clearing key) old.book new.book)
     → (is_key z key ≡ true → (rest : List Act) × Did (acts.Clear old.number key reply ∷ rest) old new) → (k : ℕ) → holds new k ≡ holds old k
 cleared z key reply old new outside called did k =
     ⊎_elim (λ inside. clear-holds (called inside) (did inside).1 k) (λ off. ap (λ (l : LaneOf). holds l k) (outside off).1) (cases_Bool (is_key z key))
 
--- a reference that was given back again
-pub back-again : (b : Bool) (m n now : ℕ) → n ≡ cond b (m + 1) m → now ≡ cond b (n - 1) n → now ≡ m
-back-again true m n now more less = omega (arith, more, less)
-back-again false m n now more less = less ∙ more
+-- a lane has no reference to the key of a filling
+filling-none : {lane : LaneOf} (key : ℕ) → IsFilling lane (place_of key) → holds lane key ≡ 0
+filling-none {lane = lane} key filling =
+    let l : ℕ = (the_lane lane.book).lane in
+    let current : Bool = is_current lane.shape (pool_after lane.shape lane.book.seen) key in
+    ap (λ (phase : Phase). cond current (references_in phase l) 0) filling.with_lane ∙ either-same current 0
+
+instead : (key k n first : ℕ) → (key ≡ k → n ≡ 0) → cond (eqb key k) first n ≡ cond (eqb key k) (n + first) n
+instead key k n first none = dite (ℕ_discrete key k)
+    (λ (same : key ≡ k). ap (λ (b : Bool). cond b first n) (eq-eqb key k same) ∙ (omega (arith, none same) ∙ sym (ap (λ (b : Bool). cond b (n + first) n) (eq-eqb key k same))))
+    (λ differs. ap (λ (b : Bool). cond b first n) (ne_eqb key k differs) ∙ sym (ap (λ (b : Bool). cond b (n + first) n) (ne_eqb key k differs)))
+
+-- a publish leaves all references, but for the one that it may give
+pub publish-holds : {key : ℕ} {content : List ℕ} {lane : ℕ} {with_ref : Bool} {old new : LaneOf} → IsFilling old (place_of key)
+    → Did (acts.Publish lane key content with_ref ∷ []) old new → (k : ℕ) → holds new k ≡ cond (eqb key k) (holds old k + cond with_ref 1 0) (holds old k)
+publish-holds {key = key} {with_ref = with_ref} {old = old} filling did k =
+    did.held k ∙ instead key k (holds old k) (cond with_ref 1 0) (λ same. ap (holds old) (sym same) ∙ filling-none key filling)
+
+pub publish-alone : {key : ℕ} {content : List ℕ} {lane : ℕ} {old new : LaneOf} → IsFilling old (place_of key)
+    → Did (acts.Publish lane key content false ∷ []) old new → (k : ℕ) → holds new k ≡ holds old k
+publish-alone {key = key} {old = old} filling did k =
+    publish-holds filling did k ∙ (ap (λ n. cond (eqb key k) n (holds old k)) (let same : holds old k + 0 ≡ holds old k = omega arith in same) ∙ either-same (eqb key k) (holds old k))
 
 -- ---- how many references a lane has
 
@@ -258,12 +249,6 @@ none-refs {old = old} {new = new} none = refs-behind (the_lane old.book).mine []
 -- so does what makes no act
 pub did-none-refs : {old new : LaneOf} → Did [] old new → refs new ≡ refs old
 did-none-refs {old = old} {new = new} did = refs-behind (the_lane old.book).mine [] (the_lane new.book).mine did.mine (λ n. refl)
-
--- whether it gives a place or not
-pub either-refs : {T : Type 0} (content : T → List ℕ) (room : T → ℕ) {old new : LaneOf} (made : Result (FillingOf T) CreateFault) → IfOk made (Gives content room old new)
-    → (IsErr made → GivesNone old new) → refs new ≡ refs old
-either-refs content room (Ok filling) gives none = gives-refs gives
-either-refs content room (Err fault) gives none = none-refs (none refl)
 
 -- ---- lanes that have just been opened
 

@@ -33,3 +33,5 @@ pub mod ClosingLane
 pub mod ClosingLast
 pub mod ClosingGrid
 pub mod Holding
+pub mod Solo
+pub mod Sorting

@@ -126,3 +126,9 @@ pub record AreLast {T : Type 0} (z : Shape) (history : List Act) (lanes : List L
   pub count : (length lanes ≡ z.lanes) × (length shelves ≡ z.lanes)
   pub all : (number : ℕ) → number < z.lanes → (index : ℕ) × (lane : LaneOf) × (slice_get lanes index ≡ Some lane) × (lane.number ≡ number)
   pub each : (index : ℕ) (lane : LaneOf) (shelf : Shelf T) → slice_get lanes index ≡ Some lane → slice_get shelves index ≡ Some shelf → IsLast z history words lane shelf
+
+-- ---- a place is one thing alone
+
+-- a place is in one part at most
+abbrev pub PartsLaw : Type 0
+PartsLaw = (history : List Act) (lane : LaneOf) (place : ℕ) (one other : Part) → IsPart history lane place one → IsPart history lane place other → one ≡ other

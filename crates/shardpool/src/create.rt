@@ -2,7 +2,7 @@
 //! its next page.
 ghost use Rattle.std.specs.Prelude.{◌≡◌, ◌≢◌, ◌<◌, ◌≤◌, ◌⊎◌, ℕ, [], ◌∷◌, length, All, IsSome, IfSome, IsNone, IfOk, IsOk, IsErr, IsErrOf};
 ghost use Rattle.shardpool.specs.Tokens.{FillingOf};
-ghost use Rattle.shardpool.specs.Lanes.{Owns, Made};
+ghost use Rattle.shardpool.specs.Lanes.{Owns, Made, holds, refs};
 ghost use Rattle.poolsteps.specs.Views.{the_lane};
 ghost use Rattle.shardpool.specs.Creates.{Pops, TakesReturned, FollowsChain, OpensPage, Fills, IsLoose, Gives, GivesNone};
 ghost use Rattle.shardpool.specs.declared.create.CreateFault.TheVariants.{Full, Memory};
@@ -65,6 +65,8 @@ impl<T: Clear + Drop> Pool<T> {
         ensures full { IsErrOf result Full → lane.old.pages.opened ≡ lane.old.shape.pages }
         ensures memory { IsErrOf result Memory → lane.old.pages.opened < lane.old.shape.pages }
         ensures succeeds { ((lane.old.free.own ≢ []) ⊎ IsSome lane.old.free.chain) → IsOk result }
+        ensures refs { refs lane.new ≡ refs lane.old }
+        ensures held { (key : ℕ) → holds lane.new key ≡ holds lane.old key }
         ensures fillings { (filling : FillingOf T) → Made lane.old filling → Made lane.new filling }
     {
         // A proof knows the invariant of a lane once a field of it is seen.

@@ -1,40 +1,12 @@
-ghost use Rattle.std.specs.Prelude.{◌≡◌, ◌≤◌, [], ◌∷◌, length, IfOk};
+ghost use Rattle.std.specs.Prelude.{◌≤◌};
 ghost use Rattle.shardpool.specs.Lanes.{Owns, holds};
 
-use crate::{CreateFault, Lane, LastCall, Pool, Ref, open};
-use keybits::Shape;
-use slotcell::{ByteBuf, Clear};
+use crate::test_calls::{open_pair, shape_of};
+use crate::{CreateFault, Lane, LastCall, Pool, Ref};
+use slotcell::ByteBuf;
 use std::alloc::Global;
 use std::process::Abort;
 use std::test::Fail;
-
-/// Two lanes, with a place each.
-const TWO_PLACES: Shape = Shape {
-    lanes: 2,
-    first_page: 1,
-    pages: 1,
-    last_generation: 4294967295,
-    tag: 0,
-};
-
-/// The lanes, of which there are two.
-fn pair_of<T: Clear + Drop>(mut lanes: Vec<Lane<T>>) -> (Lane<T>, Lane<T>)
-    requires { length lanes.items ≡ 2 }
-    ensures { lanes.items ≡ result.0 ∷ result.1 ∷ [] }
-{
-    let second = lanes.pop().unwrap();
-    let first = lanes.pop().unwrap();
-    (first, second)
-}
-
-/// A pool of two lanes, and these.
-fn open_two(alloc: Global) -> Result<(Pool<ByteBuf>, Lane<ByteBuf>, Lane<ByteBuf>), Fail>
-    ensures { IfOk result (λ made. Owns made.0 made.1 × Owns made.0 made.2) }
-{
-    let (pool, lanes) = open(alloc, TWO_PLACES)?;
-    let (first, second) = pair_of(lanes);
-    Ok((pool, first, second))
-}
 
 /// A reference of a lane to a key that it just published.
 fn publish_one<R: Abort>(rt: &R, pool: &Pool<ByteBuf>, lane: &mut Lane<ByteBuf>) -> Ref<ByteBuf>
@@ -71,6 +43,7 @@ fn finds<R: Abort>(rt: &R, pool: &Pool<ByteBuf>, lane: &mut Lane<ByteBuf>, key: 
     assert!(rt; lane.refs() < 2);
     match pool.get(lane, key) {
         Some(reference) => {
+            assert_eq!(rt; reference.key(), key);
             pool.release(lane, reference);
             true
         }
@@ -84,7 +57,7 @@ fn create_after_get<R: Abort>(
     alloc: Global,
     limit: u32,
 ) -> Result<Result<u64, CreateFault>, Fail> {
-    let (pool, mut first, second) = open_two(alloc)?;
+    let (pool, mut first, second) = open_pair(alloc, shape_of(2, 1, 1))?;
     let reference = publish_one(rt, &pool, &mut first);
     assert_eq!(rt; reference.key(), 16777216);
     assert!(rt; pool.clear(&mut first, 16777216));
@@ -99,7 +72,7 @@ fn create_after_get<R: Abort>(
 
 /// Lane 1 stops in a clear of a key to which lane 0 refers. Whether lane 0 then finds the key.
 fn finds_after_clear<R: Abort>(rt: &R, alloc: Global, limit: u32) -> Result<bool, Fail> {
-    let (pool, mut first, second) = open_two(alloc)?;
+    let (pool, mut first, second) = open_pair(alloc, shape_of(2, 1, 1))?;
     let reference = publish_one(rt, &pool, &mut first);
     pool.halt(second, LastCall::Clear(reference.key()), limit)
         .leave();
@@ -115,7 +88,7 @@ fn create_after_release<R: Abort>(
     alloc: Global,
     limit: u32,
 ) -> Result<Result<u64, CreateFault>, Fail> {
-    let (pool, mut first, mut second) = open_two(alloc)?;
+    let (pool, mut first, mut second) = open_pair(alloc, shape_of(2, 1, 1))?;
     let reference = publish_one(rt, &pool, &mut first);
     assert_eq!(rt; second.refs(), 0);
     match pool.get(&mut second, reference.key()) {
@@ -133,7 +106,7 @@ fn create_after_release<R: Abort>(
 
 /// Lane 1 stops in a create, after lane 0 has returned its place. Lane 0 goes on.
 fn stop_in_create<R: Abort>(rt: &R, alloc: Global, limit: u32) -> Result<(), Fail> {
-    let (pool, mut first, mut second) = open_two(alloc)?;
+    let (pool, mut first, mut second) = open_pair(alloc, shape_of(2, 1, 1))?;
     let reference = publish_one(rt, &pool, &mut second);
     let key = reference.key();
     assert_eq!(rt; key, 16842752);

@@ -36,7 +36,9 @@ impl<T: Clear> Model for Lane<T> {
 
 impl<T: Clear> Lane<T> {
     ghost use Rattle.std.specs.Prelude.{◌≡◌, ◌≢◌, ◌≤◌, ◌⊎◌, ◌↔◌, ℕ, IsTrue, IsSome, []};
-    ghost use Rattle.seqpool.specs.Histories.{PublishedAt};
+    ghost use Rattle.seqpool.specs.Pool.{IsLegal};
+    ghost use Rattle.seqpool.specs.Histories.{PublishedAt, acts_of};
+    ghost use Rattle.poolsteps.specs.Views.{the_lane};
     ghost use Rattle.shardpool.specs.Lanes.{holds, refs};
 
     /// The lane's number, which is that of its shard.
@@ -73,6 +75,17 @@ impl<T: Clear> Lane<T> {
         } else {
             0
         }
+    }
+
+    /// As a law: what the lane has seen is a legal history of the pool, and has of the lane's acts just those that it made. In a pool of
+    /// one lane it has no other acts, so that each reply is that of a pool of one thread.
+    pub fn seen_law(&self)
+        ensures legal { IsLegal self.now.shape self.now.book.seen }
+        ensures own { (the_lane self.now.book).mine ≡ acts_of self.now.number self.now.book.seen }
+        ensures alone { self.now.shape.lanes ≡ 1 → self.now.book.seen ≡ (the_lane self.now.book).mine }
+    {
+        // A proof knows the invariant of a lane once a field of it is seen.
+        let _ = &self.shelf;
     }
 
     /// The object of a key to which the lane has a reference: its content is that with which the key was published.

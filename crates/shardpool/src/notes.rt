@@ -1,9 +1,9 @@
 //! What lanes tell each other.
-ghost use Rattle.std.specs.Prelude.{◌≡◌, []};
+ghost use Rattle.std.specs.Prelude.{◌≡◌, ℕ, []};
 ghost use mathlib.Core.List.{IsPrefix};
 ghost use Rattle.poolsteps.specs.Seats.{longer};
 ghost use Rattle.shardpool.specs.Tokens.{FillingOf};
-ghost use Rattle.shardpool.specs.Lanes.{Owns, Issued, Made, Did};
+ghost use Rattle.shardpool.specs.Lanes.{Owns, Issued, Made, Did, holds, refs};
 
 use crate::lane::Lane;
 use crate::pool::Pool;
@@ -30,6 +30,8 @@ impl<T: Clear + Drop> Pool<T> {
         ensures heard { IsPrefix note.book.seen lane.new.book.seen × IsPrefix lane.old.book.seen lane.new.book.seen }
         ensures goes { Did [] lane.old lane.new }
         ensures steps { lane.new.book.steps ≡ lane.old.book.steps }
+        ensures refs { refs lane.new ≡ refs lane.old }
+        ensures held { (key : ℕ) → holds lane.new key ≡ holds lane.old key }
         ensures fillings { (filling : FillingOf T) → Made lane.old filling → Made lane.new filling }
     {
         let number = lane.shelf.number;
@@ -45,6 +47,9 @@ impl<T: Clear + Drop> Pool<T> {
         ensures met { one.new.book.seen ≡ other.new.book.seen }
         ensures heard { IsPrefix one.old.book.seen one.new.book.seen × IsPrefix other.old.book.seen other.new.book.seen }
         ensures goes { Did [] one.old one.new × Did [] other.old other.new }
+        ensures refs { (refs one.new ≡ refs one.old) × (refs other.new ≡ refs other.old) }
+        ensures one_held { (key : ℕ) → holds one.new key ≡ holds one.old key }
+        ensures other_held { (key : ℕ) → holds other.new key ≡ holds other.old key }
         ensures steps { (one.new.book.steps ≡ one.old.book.steps) × (other.new.book.steps ≡ other.old.book.steps) }
         ensures one_fillings { (filling : FillingOf T) → Made one.old filling → Made one.new filling }
         ensures other_fillings { (filling : FillingOf T) → Made other.old filling → Made other.new filling }
@@ -65,6 +70,8 @@ impl<T: Clear + Drop> Pool<T> {
         ensures heard { IsPrefix note.book.seen lane.new.book.seen × IsPrefix lane.old.book.seen lane.new.book.seen }
         ensures goes { Did [] lane.old lane.new }
         ensures steps { lane.new.book.steps ≡ lane.old.book.steps }
+        ensures refs { refs lane.new ≡ refs lane.old }
+        ensures held { (key : ℕ) → holds lane.new key ≡ holds lane.old key }
         ensures fillings { (filling : FillingOf T) → Made lane.old filling → Made lane.new filling }
     {
         let number = lane.shelf.number;

@@ -1,5 +1,5 @@
 //! The pool, and the calls of its lanes.
-ghost use Rattle.std.specs.Prelude.{◌≡◌, ◌≢◌, ◌+◌, ◌<◌, ◌≤◌, ◌↔◌, true, false, is_some, IsNone, IfSome, IsSome, [], ◌∷◌, List, if◌then◌else◌};
+ghost use Rattle.std.specs.Prelude.{◌≡◌, ◌≢◌, ◌==◌, ℕ, ◌+◌, ◌-◌, ◌<◌, ◌≤◌, ◌↔◌, true, false, is_some, IsNone, IfSome, IsSome, [], ◌∷◌, List, if◌then◌else◌};
 ghost use Rattle.keybits.specs.Keys.{is_key, place_of};
 ghost use Rattle.seqpool.specs.declared.act.Act.{Act};
 ghost use Rattle.seqpool.specs.declared.act.Act.TheVariants as acts;
@@ -8,7 +8,7 @@ ghost use Rattle.steplaws.specs.Facts.{most_references};
 ghost use Rattle.sharelaws.specs.Shares.{room_of};
 ghost use Rattle.poolsteps.specs.Grids.{IsSpot};
 ghost use Rattle.shardpool.specs.Tokens.{FillingOf};
-ghost use Rattle.shardpool.specs.Lanes.{Owns, Made, Calls, Did, Gets, holds, refs};
+ghost use Rattle.shardpool.specs.Lanes.{Owns, Made, SameLane, Calls, Did, Gets, holds, refs};
 
 use crate::lane::Lane;
 use crate::rows::{begin, end, go_on, lend_home};
@@ -55,10 +55,13 @@ impl<T: Clear + Drop> Pool<T> {
         requires owns { Owns self.now lane.old }
         requires room { refs lane.old < most_references }
         ensures owns { Owns self.now lane.new }
+        ensures same { SameLane lane.old lane.new }
         ensures outside { is_key self.now.shape key ≡ false → IsNone result × (lane.new ≡ lane.old) }
         ensures called { is_key self.now.shape key ≡ true → Calls self.now.shape (Getting key) lane.old.book lane.new.book }
         ensures gets { is_key self.now.shape key ≡ true → Gets key lane.old lane.new result }
         ensures refs { refs lane.new ≡ refs lane.old + (if is_some result then 1 else 0) }
+        ensures one_more { IsSome result → (k : ℕ) → holds lane.new k ≡ (if key == k then holds lane.old k + 1 else holds lane.old k) }
+        ensures no_more { IsNone result → (k : ℕ) → holds lane.new k ≡ holds lane.old k }
         ensures fillings { (filling : FillingOf T) → Made lane.old filling → Made lane.new filling }
     {
         shares_law();
@@ -98,6 +101,7 @@ impl<T: Clear + Drop> Pool<T> {
         ensures called { Calls self.now.shape (Releasing reference.key) lane.old.book lane.new.book }
         ensures releases { (rest : List Act) × Did (acts.Release lane.old.number reference.key ∷ rest) lane.old lane.new }
         ensures refs { refs lane.new + 1 ≡ refs lane.old }
+        ensures one_less { (k : ℕ) → holds lane.new k ≡ (if reference.key == k then holds lane.old k - 1 else holds lane.old k) }
         ensures fillings { (filling : FillingOf T) → Made lane.old filling → Made lane.new filling }
     {
         let key = reference.spend();
@@ -124,10 +128,12 @@ impl<T: Clear + Drop> Pool<T> {
     pub fn clear(&self, lane: &mut Lane<T>, key: u64) -> bool
         requires owns { Owns self.now lane.old }
         ensures owns { Owns self.now lane.new }
+        ensures same { SameLane lane.old lane.new }
         ensures outside { is_key self.now.shape key ≡ false → (result ≡ false) × (lane.new ≡ lane.old) }
         ensures called { is_key self.now.shape key ≡ true → Calls self.now.shape (Clearing key) lane.old.book lane.new.book }
         ensures clears { is_key self.now.shape key ≡ true → (rest : List Act) × Did (acts.Clear lane.old.number key result ∷ rest) lane.old lane.new }
         ensures refs { refs lane.new ≡ refs lane.old }
+        ensures held { (k : ℕ) → holds lane.new k ≡ holds lane.old k }
         ensures fillings { (filling : FillingOf T) → Made lane.old filling → Made lane.new filling }
     {
         let Some(spot) = self.find(key) else {
@@ -156,6 +162,7 @@ impl<T: Clear + Drop> Pool<T> {
         ensures called { Calls self.now.shape (Publishing filling.key (T.content filling.object) false) lane.old.book lane.new.book }
         ensures publishes { Did (acts.Publish lane.old.number filling.key (T.content filling.object) false ∷ []) lane.old lane.new }
         ensures refs { refs lane.new ≡ refs lane.old }
+        ensures held { (k : ℕ) → holds lane.new k ≡ holds lane.old k }
         ensures room { room_of lane.new.book.seen lane.new.book.rooms (place_of filling.key) ≡ T.room filling.object }
         ensures fillings { (other : FillingOf T) → other.key ≢ filling.key → Made lane.old other → Made lane.new other }
     {
@@ -182,6 +189,7 @@ impl<T: Clear + Drop> Pool<T> {
         ensures called { Calls self.now.shape (Publishing filling.key (T.content filling.object) true) lane.old.book lane.new.book }
         ensures publishes { Did (acts.Publish lane.old.number filling.key (T.content filling.object) true ∷ []) lane.old lane.new }
         ensures refs { refs lane.new ≡ refs lane.old + 1 }
+        ensures one_more { (k : ℕ) → holds lane.new k ≡ (if filling.key == k then holds lane.old k + 1 else holds lane.old k) }
         ensures room { room_of lane.new.book.seen lane.new.book.rooms (place_of filling.key) ≡ T.room filling.object }
         ensures fillings { (other : FillingOf T) → other.key ≢ filling.key → Made lane.old other → Made lane.new other }
     {

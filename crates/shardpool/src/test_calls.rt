@@ -1,10 +1,10 @@
 //! Calls of a pool as tests make them: with what they ask of a lane, and what they leave of it.
-ghost use Rattle.std.specs.Prelude.{◌≡◌, ◌==◌, ◌+◌, ◌-◌, ◌<◌, ◌≤◌, ℕ, All, IfOk, IfSome, IsNone, is_some, if◌then◌else◌};
+ghost use Rattle.std.specs.Prelude.{◌≡◌, ◌==◌, ◌+◌, ◌<◌, ◌≤◌, ℕ, All, IfOk};
 ghost use Rattle.steplaws.specs.Facts.{most_references};
 ghost use Rattle.shardpool.specs.Tokens.{LaneOf, FillingOf};
 ghost use Rattle.shardpool.specs.Lanes.{Owns, Made, holds, refs};
 
-use crate::{CreateFault, Filling, Lane, Pool, Ref, open};
+use crate::{Census, CreateFault, Filling, Lane, Pool, Ref, close, open};
 use keybits::Shape;
 use slotcell::{ByteBuf, Clear};
 use std::alloc::Global;
@@ -13,6 +13,15 @@ use std::test::Fail;
 
 /// The largest generation of a place.
 pub(crate) const LAST: u32 = 4294967295;
+
+pub(crate) const NO_PLACE: Census = Census {
+    free: 0,
+    unopened: 0,
+    filling: 0,
+    present: 0,
+    marked: 0,
+    retired: 0,
+};
 
 /// A pool of so many lanes, of so many pages, of which the first has so many places.
 pub(crate) const fn shape_of(lanes: u32, first_page: u32, pages: u32) -> Shape {
@@ -76,19 +85,51 @@ pub(crate) fn open_pair<T: Clear + Drop>(
     Ok((pool, first, second))
 }
 
-/// A create, with what it leaves of the lane's references.
-pub(crate) fn try_create<T: Clear + Drop>(
-    pool: &Pool<T>,
-    lane: &mut Lane<T>,
-) -> Result<Filling<T>, CreateFault>
-    requires { Owns pool.now lane.old }
-    ensures owns { Owns pool.now lane.new }
-    ensures refs { refs lane.new ≡ refs lane.old }
-    ensures held { (key : ℕ) → holds lane.new key ≡ holds lane.old key }
-    ensures made { IfOk result (Made lane.new) }
-    ensures fillings { (filling : FillingOf T) → Made lane.old filling → Made lane.new filling }
+/// Closes a pool with its lanes, of which the last comes first.
+pub(crate) fn close_all<T: Clear + Drop, R: Abort>(
+    rt: &R,
+    pool: Pool<T>,
+    lanes: Vec<Lane<T>>,
+) -> Census
+    requires { All (λ lane. Owns pool lane) lanes.items }
 {
-    pool.create(lane)
+    let count = lanes.len();
+    assert_eq!(rt; count, pool.shape().lanes as usize);
+    for index in 0..count {
+        assert_eq!(rt; lanes[index].number() as usize, count - 1 - index);
+    }
+    close(pool, lanes)
+}
+
+/// Closes a pool of one lane.
+pub(crate) fn close_one<T: Clear + Drop, R: Abort>(
+    rt: &R,
+    alloc: Global,
+    pool: Pool<T>,
+    lane: Lane<T>,
+) -> Result<Census, Fail>
+    requires { Owns pool lane }
+{
+    let mut lanes = Vec::with_capacity(alloc, 1)?;
+    lanes.push_reserved(lane);
+    Ok(close_all(rt, pool, lanes))
+}
+
+/// Closes a pool of two lanes.
+pub(crate) fn close_two<T: Clear + Drop, R: Abort>(
+    rt: &R,
+    alloc: Global,
+    pool: Pool<T>,
+    first: Lane<T>,
+    second: Lane<T>,
+) -> Result<Census, Fail>
+    requires first { Owns pool first }
+    requires second { Owns pool second }
+{
+    let mut lanes = Vec::with_capacity(alloc, 2)?;
+    lanes.push_reserved(second);
+    lanes.push_reserved(first);
+    Ok(close_all(rt, pool, lanes))
 }
 
 /// A filling. Where the memory of a page is refused, the page stays unopened, and the call is made again.
@@ -104,12 +145,12 @@ pub(crate) fn create<T: Clear + Drop, R: Abort>(
     ensures made { Made lane.new result }
     ensures fillings { (filling : FillingOf T) → Made lane.old filling → Made lane.new filling }
 {
-    match try_create(pool, lane) {
+    match pool.create(lane) {
         Ok(filling) => filling,
         Err(fault) => {
             assert_eq!(rt; fault, CreateFault::Memory);
             assert_eq!(rt; fault.number(), 22);
-            try_create(pool, lane).ok().expect(rt, "a filling")
+            pool.create(lane).ok().expect(rt, "a filling")
         }
     }
 }
@@ -180,24 +221,6 @@ pub(crate) fn publish<R: Abort>(
     assert_eq!(rt; pool.publish(lane, filling), key);
 }
 
-/// A get, with what it leaves of the lane's references.
-pub(crate) fn try_get<T: Clear + Drop>(
-    pool: &Pool<T>,
-    lane: &mut Lane<T>,
-    key: u64,
-) -> Option<Ref<T>>
-    requires owns { Owns pool.now lane.old }
-    requires room { refs lane.old < most_references }
-    ensures owns { Owns pool.now lane.new }
-    ensures refs { refs lane.new ≡ refs lane.old + (if is_some result then 1 else 0) }
-    ensures some { IfSome result (λ reference. (reference.key ≡ key) × (1 ≤ holds lane.new key)
-        × ((k : ℕ) → holds lane.new k ≡ (if key == k then holds lane.old k + 1 else holds lane.old k))) }
-    ensures none { IsNone result → (k : ℕ) → holds lane.new k ≡ holds lane.old k }
-    ensures fillings { (filling : FillingOf T) → Made lane.old filling → Made lane.new filling }
-{
-    pool.get(lane, key)
-}
-
 /// A get that finds the key.
 pub(crate) fn get<T: Clear + Drop, R: Abort>(
     rt: &R,
@@ -212,7 +235,7 @@ pub(crate) fn get<T: Clear + Drop, R: Abort>(
     ensures key { result.key ≡ key }
     ensures here { 1 ≤ holds lane.new key }
 {
-    let Some(reference) = try_get(pool, lane, key) else {
+    let Some(reference) = pool.get(lane, key) else {
         panic!(rt; "{key} is not found")
     };
     assert_eq!(rt; reference.key(), key);
@@ -233,21 +256,10 @@ pub(crate) fn misses<T: Clear + Drop, R: Abort>(
     ensures held { (k : ℕ) → holds lane.new k ≡ holds lane.old k }
     ensures fillings { (filling : FillingOf T) → Made lane.old filling → Made lane.new filling }
 {
-    if let Some(reference) = try_get(pool, lane, key) {
+    if let Some(reference) = pool.get(lane, key) {
         reference.leave();
         panic!(rt; "{key} is found");
     }
-}
-
-/// A reference is given back.
-pub(crate) fn release<T: Clear + Drop>(pool: &Pool<T>, lane: &mut Lane<T>, reference: Ref<T>)
-    requires owns { Owns pool.now lane.old }
-    requires held { 1 ≤ holds lane.old reference.key }
-    ensures owns { Owns pool.now lane.new }
-    ensures refs { refs lane.new + 1 ≡ refs lane.old }
-    ensures held { (key : ℕ) → holds lane.new key ≡ (if reference.key == key then holds lane.old key - 1 else holds lane.old key) }
-{
-    pool.release(lane, reference);
 }
 
 /// A clear, with this answer.

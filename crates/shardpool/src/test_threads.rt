@@ -4,11 +4,12 @@ ghost use Rattle.steplaws.specs.Facts.{most_references};
 ghost use Rattle.shardpool.specs.Lanes.{Owns, holds, refs};
 
 use crate::test_calls::{
-    clear, create, finds_full, get, last_of, misses, open_all, open_pair, reads, release, shape_of,
-    try_get, write,
+    NO_PLACE, clear, close_all, close_two, create, get, last_of, misses, open_all, open_pair,
+    reads, shape_of, write,
 };
-use crate::{Lane, Pool, Ref};
+use crate::{Census, Lane, Pool, Ref};
 use slotcell::ByteBuf;
+use std::alloc::Global;
 use std::process::Abort;
 use std::sync::atomic::{AtomicU64, Ordering};
 use std::test::Fail;
@@ -17,7 +18,7 @@ use std::thread::Threads;
 
 const ROUNDS: u32 = 10_000;
 
-const TURNS: u32 = 20_000;
+const TURNS: u32 = 3_000_000;
 
 /// An object is published with the bytes of its key, the lowest first.
 fn publish_key<R: Abort>(rt: &R, pool: &Pool<ByteBuf>, lane: &mut Lane<ByteBuf>) -> u64
@@ -71,7 +72,7 @@ fn read_and_release<R: Abort>(
     ensures held { (key : ℕ) → holds lane.new key ≡ (if reference.key == key then holds lane.old key - 1 else holds lane.old key) }
 {
     reads_key(rt, lane, &reference);
-    release(pool, lane, reference);
+    pool.release(lane, reference);
 }
 
 /// A key of another lane is got, which may be cleared at any moment, and read where it is found.
@@ -82,7 +83,8 @@ fn look<R: Abort>(rt: &R, pool: &Pool<ByteBuf>, lane: &mut Lane<ByteBuf>, key: u
     ensures refs { refs lane.new ≡ refs lane.old }
     ensures held { (k : ℕ) → holds lane.new k ≡ holds lane.old k }
 {
-    if let Some(reference) = try_get(pool, lane, key) {
+    if let Some(reference) = pool.get(lane, key) {
+        assert_eq!(rt; reference.key(), key);
         read_and_release(rt, pool, lane, reference);
     }
 }
@@ -149,24 +151,25 @@ fn on_two_threads<R: Threads + Abort + Sync>(
     )
 }
 
-/// A lane has no reference, and just so many places of it are free.
-fn has_all<R: Abort>(rt: &R, pool: &Pool<ByteBuf>, lane: &mut Lane<ByteBuf>, places: u32)
-    requires { Owns pool.now lane.old }
-{
-    assert_eq!(rt; lane.refs(), 0);
-    for _ in 0..places {
-        create(rt, pool, lane).leave();
-    }
-    finds_full(rt, pool, lane);
+/// The census of a pool of which nothing is in use: each of its places is free, or of a page that was never opened.
+fn counts_free<R: Abort>(rt: &R, census: Census, places: u64) {
+    let Census { free, unopened, .. } = census;
+    assert_eq!(rt;
+        census,
+        Census {
+            free,
+            unopened,
+            ..NO_PLACE
+        }
+    );
+    assert_eq!(rt; u64::from(free) + u64::from(unopened), places);
 }
 
 #[test]
 fn rounds_on_two_threads(rt: HostRuntime) -> Result<(), Fail> {
     let (pool, first, second) = open_pair(rt.alloc(), shape_of(2, 64, 6))?;
-    let (mut first, mut second) = on_two_threads(&rt, &pool, first, second);
-    pool.meet(&mut first, &mut second);
-    has_all(&rt, &pool, &mut first, 4032);
-    has_all(&rt, &pool, &mut second, 4032);
+    let (first, second) = on_two_threads(&rt, &pool, first, second);
+    counts_free(&rt, close_two(&rt, rt.alloc(), pool, first, second)?, 8064);
     Ok(())
 }
 
@@ -267,6 +270,27 @@ fn two_turns<R: Threads + Abort + Sync>(
     )
 }
 
+/// Closes a pool of four lanes.
+fn close_pairs<R: Abort>(
+    rt: &R,
+    alloc: Global,
+    pool: Pool<ByteBuf>,
+    front: (Lane<ByteBuf>, Lane<ByteBuf>),
+    back: (Lane<ByteBuf>, Lane<ByteBuf>),
+) -> Result<Census, Fail>
+    requires front { Owns pool front.0 × Owns pool front.1 }
+    requires back { Owns pool back.0 × Owns pool back.1 }
+{
+    let (first, second) = front;
+    let (third, fourth) = back;
+    let mut lanes = Vec::with_capacity(alloc, 4)?;
+    lanes.push_reserved(fourth);
+    lanes.push_reserved(third);
+    lanes.push_reserved(second);
+    lanes.push_reserved(first);
+    Ok(close_all(rt, pool, lanes))
+}
+
 #[test]
 fn passes_keys_round_four_threads(rt: HostRuntime) -> Result<(), Fail> {
     let (pool, mut lanes) = open_all(rt.alloc(), shape_of(4, 4, 1))?;
@@ -286,12 +310,12 @@ fn passes_keys_round_four_threads(rt: HostRuntime) -> Result<(), Fail> {
         || two_turns(&rt, &pool, first, second, [four, one, two]),
         || two_turns(&rt, &pool, third, fourth, [two, three, four]),
     );
-    let (mut first, mut second) = front;
-    let (mut third, mut fourth) = back;
+    let (mut first, second) = front;
     clear_all(&rt, &pool, &mut first, &words);
-    has_all(&rt, &pool, &mut first, 4);
-    has_all(&rt, &pool, &mut second, 4);
-    has_all(&rt, &pool, &mut third, 4);
-    has_all(&rt, &pool, &mut fourth, 4);
+    counts_free(
+        &rt,
+        close_pairs(&rt, rt.alloc(), pool, (first, second), back)?,
+        16,
+    );
     Ok(())
 }

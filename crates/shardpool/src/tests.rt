@@ -1,20 +1,11 @@
-ghost use Rattle.std.specs.Prelude.{◌≡◌, [], ◌∷◌, length, IfOk};
 ghost use Rattle.shardpool.specs.Lanes.{Owns};
 
+use crate::test_calls::{open_pair, shape_of};
 use crate::{Lane, OpenFault, Pool, open};
 use keybits::{Shape, ShapeFault};
 use slotcell::{ByteBuf, Clear, Record};
-use std::alloc::Global;
 use std::process::Abort;
 use std::test::Fail;
-
-const TWO_LANES: Shape = Shape {
-    lanes: 2,
-    first_page: 1,
-    pages: 1,
-    last_generation: 4294967295,
-    tag: 0,
-};
 
 const LARGEST: Shape = Shape {
     lanes: 16,
@@ -23,25 +14,6 @@ const LARGEST: Shape = Shape {
     last_generation: 4294967295,
     tag: 255,
 };
-
-/// The lanes, of which there are two.
-fn pair_of<T: Clear + Drop>(mut lanes: Vec<Lane<T>>) -> (Lane<T>, Lane<T>)
-    requires { length lanes.items ≡ 2 }
-    ensures { lanes.items ≡ result.0 ∷ result.1 ∷ [] }
-{
-    let second = lanes.pop().unwrap();
-    let first = lanes.pop().unwrap();
-    (first, second)
-}
-
-/// The pool of two lanes, and these.
-fn open_two<T: Clear + Drop>(alloc: Global) -> Result<(Pool<T>, Lane<T>, Lane<T>), Fail>
-    ensures { IfOk result (λ made. Owns made.0 made.1 × Owns made.0 made.2) }
-{
-    let (pool, lanes) = open(alloc, TWO_LANES)?;
-    let (first, second) = pair_of(lanes);
-    Ok((pool, first, second))
-}
 
 /// Clears of a number outside the shape, and of a key that was never published.
 fn clear_of_nothing<T: Clear + Drop, R: Abort>(rt: &R, pool: &Pool<T>, lane: &mut Lane<T>)
@@ -64,7 +36,7 @@ fn opens_pools_of_each_size(rt: HostRuntime) -> Result<(), Fail> {
         assert_eq!(rt; lane.number() as usize, number);
         assert!(rt; !lane.has_free());
     }
-    let (pool, lanes) = open::<Record>(rt.alloc(), TWO_LANES)?;
+    let (pool, lanes) = open::<Record>(rt.alloc(), shape_of(2, 1, 1))?;
     assert_eq!(rt; pool.shape().lanes, 2);
     assert_eq!(rt; lanes.len(), 2);
     Ok(())
@@ -85,7 +57,7 @@ fn refuses_shapes(rt: HostRuntime) {
 
 #[test]
 fn clears_what_is_not_published(rt: HostRuntime) -> Result<(), Fail> {
-    let (pool, mut first, mut second) = open_two::<ByteBuf>(rt.alloc())?;
+    let (pool, mut first, mut second) = open_pair::<ByteBuf>(rt.alloc(), shape_of(2, 1, 1))?;
     clear_of_nothing(&rt, &pool, &mut first);
     clear_of_nothing(&rt, &pool, &mut second);
     let note = pool.tell(&mut first);

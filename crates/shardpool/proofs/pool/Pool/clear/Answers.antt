@@ -1,4 +1,4 @@
-use Rattle.std.proofs.Common.{◌≡◌, ℕ, [], ◌∷◌, sym, ap, ◌∙◌, subst, true}
+use Rattle.std.proofs.Common.{◌≡◌, ℕ, [], ◌∷◌, refl, sym, ap, ◌∙◌, subst, true, arith}
 use Rattle.keybits.specs.declared.shape.Shape.{Shape}
 use Rattle.keybits.specs.Shapes.{is_place}
 use Rattle.keybits.specs.Keys.{place_of}
@@ -9,6 +9,8 @@ use Rattle.shardpool.specs.Shelves.{Fits}
 use Rattle.shardpool.specs.Stores.{Keeps}
 use Rattle.shardpool.proofs.Ending.{own-away}
 use Rattle.shardpool.proofs.Quieting.{quiet-clear, quiet-fits, quiet-did, quiet-refs, quiet-fillings}
+use Rattle.shardpool.proofs.Calling.{calls-more}
+use Rattle.shardpool.proofs.Holding.{clear-holds}
 use Rattle.shardpool.proofs.pool.Pool.clear.Goals as goal
 
 pub keep_reclaimed-requires-clause-away : goal.keep_reclaimed-requires-clause-away
@@ -93,3 +95,14 @@ returns-clause-owns g c =
       did.same.0 ∙ (ap (λ l. l.table) c.lane.view_is ∙ c.requires.owns.0),
       did.same.1 ∙ (ap (λ l. l.shape) c.lane.view_is ∙ c.requires.owns.1),
     )
+
+pub returns-clause-called : goal.returns-clause-called
+returns-clause-called g c key = rw (← c.self.view_is, ← c.lane.view_is) (calls-more c.clear-marked.ensures.called (omega arith))
+
+pub returns-clause-held : goal.returns-clause-held
+returns-clause-held g c k =
+    let inside = c.in-Some.ensures.some.0 refl in
+    clear-holds (returns-clause-called g c inside) (returns-clause-clears g c inside).1 k
+
+pub returns-clause-same : goal.returns-clause-same
+returns-clause-same g c = (returns-clause-clears g c (c.in-Some.ensures.some.0 refl)).1.same

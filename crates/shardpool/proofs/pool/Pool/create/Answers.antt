@@ -1,8 +1,10 @@
 -- A create gives what its parts make together.
-use Rattle.std.proofs.Common.{◌≢◌, ⊎_elim, [], refl, sym, ◌∙◌, subst, IsSome}
+use Rattle.std.proofs.Common.{◌≢◌, ⊎_elim, [], refl, sym, ap, ◌∙◌, subst, IsSome, is_err}
+use Rattle.std.proofs.lemmas.Result.{err_from_is_err_and}
 use Rattle.shardpool.specs.Tokens.{LaneOf}
 use Rattle.shardpool.specs.Creates.{TakesReturned, OpensPage, GivesNone}
 use Rattle.shardpool.proofs.Creating.{IsSound, sound-fits, list-gives, taken-gives, none-gives, page-gives, none-hangs, opened-some}
+use Rattle.shardpool.proofs.Holding.{gives-refs, none-refs}
 use Rattle.shardpool.proofs.pool.Pool.create.Goals as goal
 
 -- the place comes from the own list
@@ -72,3 +74,29 @@ returns-clause-gives g c =
     = subst (λ (lane : LaneOf). OpensPage lane c.open_page.new.lane) unfollowed.0 (c.in_ok-open_page.ensures.opens refl) in
     page-gives g.T.Clear.content g.T.Clear.room c.args.lane.now c.take_returned.new.lane c.open_page.new.lane c.pop-2.new.lane c.fill-in-Some-pop.new.lane sound none.1 takes
     unfollowed.1 opens c.in-Some-pop.ensures.some c.fill-in-Some-pop.ensures.fills
+
+-- ---- its references are as before
+
+pub returns-in-Some-clause-refs : goal.returns-in-Some-clause-refs
+returns-in-Some-clause-refs g c = gives-refs (returns-in-Some-clause-gives g c)
+
+pub returns-in-Some-clause-held : goal.returns-in-Some-clause-held
+returns-in-Some-clause-held g c = (returns-in-Some-clause-gives g c).created.held
+
+pub returns-in-Some-follow-clause-refs : goal.returns-in-Some-follow-clause-refs
+returns-in-Some-follow-clause-refs g c = gives-refs (returns-in-Some-follow-clause-gives g c)
+
+pub returns-in-Some-follow-clause-held : goal.returns-in-Some-follow-clause-held
+returns-in-Some-follow-clause-held g c = (returns-in-Some-follow-clause-gives g c).created.held
+
+pub returns-in_err-open_page-clause-refs : goal.returns-in_err-open_page-clause-refs
+returns-in_err-open_page-clause-refs g c = none-refs (returns-in_err-open_page-clause-none g c (let left = err_from_is_err_and c.from_residual.result c.from_residual.ensures.1 in ap is_err left.1))
+
+pub returns-in_err-open_page-clause-held : goal.returns-in_err-open_page-clause-held
+returns-in_err-open_page-clause-held g c = (returns-in_err-open_page-clause-none g c (let left = err_from_is_err_and c.from_residual.result c.from_residual.ensures.1 in ap is_err left.1)).created.held
+
+pub returns-clause-refs : goal.returns-clause-refs
+returns-clause-refs g c = gives-refs (returns-clause-gives g c)
+
+pub returns-clause-held : goal.returns-clause-held
+returns-clause-held g c = (returns-clause-gives g c).created.held

@@ -14,6 +14,7 @@ use Rattle.shardpool.proofs.RowSteps.{rows-low}
 use Rattle.shardpool.proofs.Publishing.{published-did, published-held, published-one, published-others, published-held-with}
 use Rattle.shardpool.proofs.Laning.{lane_of}
 use Rattle.shardpool.proofs.pool.Pool.downgrade.Given.{Over}
+use Rattle.shardpool.proofs.Holding.{publish-holds}
 use Rattle.shardpool.proofs.pool.Pool.downgrade.Goals as goal
 
 module _ (g : Over) (c : goal.After-to g) where
@@ -96,3 +97,6 @@ returns-clause-fillings g c other differs is =
     let told = c.downgrade-share.ensures in
     published-others s c.begin.new.shelf c.lane.inside.hand.table_id (filling g c) (g.T.Clear.content c.spend-key.result.1) true (fits g c) told.called.did told.called.idle told.acts (was g c)
     c.begin.ensures.rest c.downgrade-share.new.hand.table_id told.hand.0 other (λ e. differs (e ∙ c.spend-key.ensures.0)) (subst (λ (l : LaneOf). Made l other) (sym c.lane.view_is) is)
+
+pub returns-clause-one_more : goal.returns-clause-one_more
+returns-clause-one_more g c = publish-holds c.requires.made.place (returns-clause-publishes g c)

@@ -1,4 +1,4 @@
-use Rattle.std.proofs.Common.{◌≡◌, ◌+◌, ◌<◌, ℕ, length, [], ◌∷◌, Some, None, slice_get, slice_set, sym, ap, ◌∙◌, subst, arith, true}
+use Rattle.std.proofs.Common.{◌≡◌, ◌+◌, ◌<◌, ℕ, length, [], ◌∷◌, Some, None, slice_get, slice_set, refl, sym, ap, ◌∙◌, subst, arith, true}
 use Rattle.keybits.specs.declared.shape.Shape.{Shape}
 use Rattle.keybits.specs.Shapes.{is_place, position_of}
 use Rattle.keybits.specs.Keys.{place_of, generation_of}
@@ -15,6 +15,7 @@ use Rattle.shardpool.proofs.Ending.{own-away}
 use Rattle.shardpool.proofs.Quieting.{quiet-miss, quiet-fits, quiet-did, quiet-refs, quiet-fillings}
 use Rattle.shardpool.proofs.RowSteps.{rows-low, rows-stand, rows-count-le}
 use Rattle.shardpool.proofs.Getting.{calls-more, called-then, hit-again, hit-moved, seen-within, none-seen, hit-may, hit-fits, hit-did, hit-holds, hit-refs, hit-fillings, rows-again, rows-begun, miss-told}
+use Rattle.shardpool.proofs.Holding.{get-holds}
 use Rattle.shardpool.proofs.pool.Pool.get.Goals as goal
 
 pub get-got-requires-clause-room : goal.get-got-requires-clause-room
@@ -322,3 +323,27 @@ returns-clause-fillings g c filling =
     let outs = subst (λ (p : ℕ). Outs g.T.Clear.content g.T.Clear.room z p c.lane.inside.shelf.number Untouched c.get-got.new.hand.me c.out-share.result c.out-share.new.hand.me) spot.place_is c.out-share.ensures.outs in
     let hit = hit-moved called got.0 got.1 got.2 (carries-out outs) in
     rw (← c.lane.view_is) (hit-fillings fits hit c.begin.new.shelf c.begin.ensures.rest c.lane.inside.hand.table_id c.out-share.new.hand.table_id (c.out-share.ensures.hand.0 ∙ c.in-Hit.ensures.hand.0) filling)
+
+-- ---- its references to each key
+
+pub returns-in-Miss-clause-no_more : goal.returns-in-Miss-clause-no_more
+returns-in-Miss-clause-no_more g c none k =
+    let inside = c.in_ok-spot.ensures.some.0 refl in
+    get-holds (returns-in-Miss-clause-called g c inside) (returns-in-Miss-clause-gets g c inside).1 k
+
+pub returns-then-index-gt0-clause-one_more : goal.returns-then-index-gt0-clause-one_more
+returns-then-index-gt0-clause-one_more g c some k = (returns-then-index-gt0-clause-gets g c (c.in_ok-spot.ensures.some.0 refl)).3.held k
+
+pub returns-clause-one_more : goal.returns-clause-one_more
+returns-clause-one_more g c some k = (returns-clause-gets g c (c.in_ok-spot.ensures.some.0 refl)).3.held k
+
+-- ---- it is the same lane
+
+pub returns-in-Miss-clause-same : goal.returns-in-Miss-clause-same
+returns-in-Miss-clause-same g c = (returns-in-Miss-clause-gets g c (c.in_ok-spot.ensures.some.0 refl)).1.same
+
+pub returns-then-index-gt0-clause-same : goal.returns-then-index-gt0-clause-same
+returns-then-index-gt0-clause-same g c = (returns-then-index-gt0-clause-gets g c (c.in_ok-spot.ensures.some.0 refl)).3.same
+
+pub returns-clause-same : goal.returns-clause-same
+returns-clause-same g c = (returns-clause-gets g c (c.in_ok-spot.ensures.some.0 refl)).3.same

@@ -4,6 +4,7 @@ use Rattle.keybits.specs.declared.shape.Shape.{Shape}
 use Rattle.poolsteps.specs.Told.{Sees}
 use Rattle.shardpool.proofs.Passing.{passes-sees}
 use Rattle.shardpool.proofs.Seeing.{same-shape, fits-sees, did-none, made-still, still-idle, same-chain}
+use Rattle.shardpool.proofs.Holding.{did-none-refs}
 use Rattle.shardpool.proofs.pool.Pool.meet_by.Goals as goal
 
 pub invariant_of-lane : goal.invariant_of-lane
@@ -21,3 +22,9 @@ returns-clause-fillings g c = λ filling made.
     let sees = subst (λ (z : Shape). Sees z c.lane.inside.hand.me c.met.new.hand.me) (same-shape c.lane.view_is c.requires.owns.1 c.self.view_is) c.met.ensures.sees in
     let fits = c.lane.invariant.1 in
     made-still (passes-sees sees) fits.seat (c.met.ensures.hand.0, refl, refl) refl refl c.lane.view_is filling (still-idle sees fits.seat.idle) (same-chain sees) made
+
+pub returns-clause-refs : goal.returns-clause-refs
+returns-clause-refs g c = did-none-refs (returns-clause-goes g c)
+
+pub returns-clause-held : goal.returns-clause-held
+returns-clause-held g c = (returns-clause-goes g c).held

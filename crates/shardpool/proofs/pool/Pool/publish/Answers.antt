@@ -8,6 +8,7 @@ use Rattle.shardpool.specs.Lanes.{Made, Did}
 use Rattle.shardpool.proofs.Publishing.{published-did, published-held, published-others, published-alone}
 use Rattle.shardpool.proofs.Laning.{lane_of}
 use Rattle.shardpool.proofs.pool.Pool.publish.Given.{Over}
+use Rattle.shardpool.proofs.Holding.{publish-alone}
 use Rattle.shardpool.proofs.pool.Pool.publish.Goals as goal
 
 module _ (g : Over) (c : goal.After-publish g) where
@@ -60,3 +61,6 @@ returns-clause-fillings g c other differs is =
     let told = c.publish.ensures in
     published-others s s c.lane.inside.hand.table_id (filling g c) (g.T.Clear.content c.spend-key.result.1) false (fits g c) told.called.did told.called.idle told.acts (was g c) refl
     c.publish.new.hand.table_id told.hand.0 other (λ e. differs (e ∙ c.spend-key.ensures.0)) (subst (λ (l : LaneOf). Made l other) (sym c.lane.view_is) is)
+
+pub returns-clause-held : goal.returns-clause-held
+returns-clause-held g c = publish-alone c.requires.made.place (returns-clause-publishes g c)

@@ -12,6 +12,7 @@ use Rattle.shardpool.specs.Shelves.{Fits}
 use Rattle.shardpool.specs.Lanes.{Made, Calls}
 use Rattle.shardpool.proofs.Calling.{calls-more, calls-behind}
 use Rattle.shardpool.proofs.Releasing.{EndsAt, Released, refers-held, lent-some, lent-share, lent-top, end-low, end-more, end-within, beside, released-away, released}
+use Rattle.shardpool.proofs.Holding.{release-holds}
 use Rattle.shardpool.proofs.pool.Pool.release.Given.{Over}
 use Rattle.shardpool.proofs.pool.Pool.release.Goals as goal
 
@@ -111,3 +112,6 @@ returns-clause-refs g c = rw (← c.lane.view_is) (leaves g c).refs
 pub returns-clause-fillings : goal.returns-clause-fillings
 returns-clause-fillings g c filling was =
     (leaves g c).fillings c.lane.inside.hand.table_id c.release-reclaimed.new.hand.table_id (table g c) filling (subst (λ (l : LaneOf). Made l filling) (sym c.lane.view_is) was)
+
+pub returns-clause-one_less : goal.returns-clause-one_less
+returns-clause-one_less g c = release-holds (returns-clause-called g c) (returns-clause-releases g c).1

@@ -1,0 +1,16 @@
+-- The lane's invariant has the law.
+use Rattle.std.proofs.Common.{ap, ◌∙◌, sym}
+use Rattle.seqpool.specs.Histories.{acts_of}
+use Rattle.shardpool.proofs.Solo.{solo}
+use Rattle.shardpool.proofs.lane.Lane.seen_law.Goals as goal
+
+pub returns-clause-legal : goal.returns-clause-legal
+returns-clause-legal g c = rw (← c.self.view_is) c.self.invariant.1.seat.legal
+
+pub returns-clause-own : goal.returns-clause-own
+returns-clause-own g c =
+    let seat = c.self.invariant.1.seat in
+    rw (← c.self.view_is) (seat.own ∙ ap (λ l. acts_of l c.self.inside.hand.me.0.seen) (sym seat.number_is))
+
+pub returns-clause-alone : goal.returns-clause-alone
+returns-clause-alone g c = rw (← c.self.view_is) (solo c.self.inside.shelf.shape c.self.inside.hand.me.0 c.self.inside.shelf.number c.self.invariant.1.seat)
