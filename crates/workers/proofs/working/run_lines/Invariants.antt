@@ -1,0 +1,17 @@
+-- The lines so far were run, and the row has room for the replies of the others.
+use Rattle.std.proofs.Common.{length, ◌-◌, ◌≡◌, ◌≤◌}
+use Rattle.std.specs.Vec.{vec_capacity}
+use Rattle.workers.specs.Tidy.{desk}
+use Rattle.workers.specs.Steps.{RunsOn}
+use Rattle.workers.proofs.working.run_lines.Given as goal
+
+abbrev pub invariant-loop-ran : goal.invariant-loop-ran
+invariant-loop-ran g l = record {
+  low : l.ran ≤ length l.commands;
+  count : length l.replies.items ≡ l.ran;
+  room : length l.commands ≤ vec_capacity l.replies;
+  runs : RunsOn l.pool (desk l.fn.lane l.fn.registers) l.commands l.ran l.replies.items (desk l.lane l.registers);
+}
+
+abbrev pub decreases-loop-ran : goal.decreases-loop-ran
+decreases-loop-ran g l = length l.commands - l.ran

@@ -1,0 +1,46 @@
+-- What a worker does with its lane, and what it answers.
+use Rattle.std.specs.Prelude.{◌≡◌, ℕ, ◌<◌, ◌≤◌, min, List, length, take, Option, Some, None, MatchResult, slice_get}
+use mathlib.Core.List.{IsPrefix}
+use Rattle.traces.specs.declared.script.Command.{Command}
+use Rattle.shardpool.specs.Tokens.{PoolOf, LaneOf}
+use Rattle.shardpool.specs.Lanes.{Owns, SameLane, refs}
+use Rattle.workers.specs.declared.registers.Register.{Register}
+use Rattle.workers.specs.declared.jobs.Job.{Job}
+use Rattle.workers.specs.declared.jobs.Done.{Done}
+use Rattle.workers.specs.declared.jobs.Report.{Report}
+use Rattle.workers.specs.Lines.{Desk, first_desk, AreLines}
+
+-- the lane is of the pool, and its references leave room for sixteen more
+abbrev pub MayWork : PoolOf → LaneOf → Type 0
+MayWork pool lane = Owns pool lane × (refs lane ≤ 1048559)
+
+-- so many lines were run: all, or all before the one at which the worker was stopped, of which numbers too large for the report count as the largest
+abbrev pub Stops : ℕ → List Command → Option ℕ → Type 0
+Stops ran script None = ran ≡ length script
+Stops ran script (Some line) = (ran < length script) × (line ≡ min ran 4294967295)
+
+-- the lines of a script up to where the worker was stopped were run from the first to the last, and these are their replies
+pub record Ran (old : LaneOf) (script : List Command) (new : LaneOf) (report : Report) : Type 0 where
+  pub ran : ℕ
+  pub stops : Stops ran script report.stopped_at
+  pub registers : List Register
+  pub lines : AreLines (first_desk old) (take ran script) report.replies.items (record { lane = new; registers = registers })
+
+-- what a worker did: the lines that were run; where the row of replies was refused none was, and the lane is as before
+abbrev pub Works : LaneOf → List Command → Done → Type 0
+Works old script done = MatchResult done.report (λ report. Ran old script done.lane report) (λ refused. done.lane ≡ old)
+
+-- what a worker answers for its job
+pub record Answer (job : Job) (done : Done) : Type 0 where
+  pub same : SameLane job.lane done.lane
+  pub seen : IsPrefix job.lane.book.seen done.lane.book.seen
+  pub works : Works job.lane job.script done
+
+-- every job has a lane that may work
+abbrev pub MayBegin : PoolOf → List Job → Type 0
+MayBegin pool jobs = (index : ℕ) (job : Job) → slice_get jobs index ≡ Some job → MayWork pool job.lane
+
+-- each answer is that of its job, in the order of the jobs
+pub record Answers (jobs : List Job) (dones : List Done) : Type 0 where
+  pub count : length dones ≡ length jobs
+  pub each : (index : ℕ) (job : Job) (done : Done) → slice_get jobs index ≡ Some job → slice_get dones index ≡ Some done → Answer job done
