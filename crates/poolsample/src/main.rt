@@ -1,0 +1,95 @@
+//! Two threads share a pool of buffers, each with a lane of its own; then one lane reads and clears what the other published,
+//! and the pool is closed.
+#![tactic(auto)]
+
+ghost use Rattle.std.specs.Prelude.{◌≡◌, ◌<◌};
+ghost use Rattle.steplaws.specs.Facts.{most_references};
+ghost use Rattle.shardpool.specs.Lanes.{Owns, SameLane, refs};
+
+mod lanes;
+
+use crate::lanes::{close_two, open_two};
+use shardpool::{Lane, Pool};
+use slotcell::ByteBuf;
+use std::thread;
+
+/// How often each thread publishes a buffer, reads it and clears it.
+const ROUNDS: u32 = 1_000;
+
+/// Publishes these bytes. Answers the key by which any lane finds them.
+fn publish(pool: &Pool<ByteBuf>, lane: &mut Lane<ByteBuf>, bytes: &[u8]) -> anyhow::Result<u64>
+    requires owns { Owns pool.now lane.old }
+    ensures same { SameLane lane.old lane.new }
+    ensures refs { refs lane.new ≡ refs lane.old }
+{
+    let mut filling = pool.create(lane)?;
+    if let Err(fault) = filling.value_mut().append(bytes) {
+        filling.leave();
+        return Err(fault.into());
+    }
+    Ok(pool.publish(lane, filling))
+}
+
+/// How long the buffer of a key is. None where the key isn't published, or was cleared.
+fn length(pool: &Pool<ByteBuf>, lane: &mut Lane<ByteBuf>, key: u64) -> Option<usize>
+    requires owns { Owns pool.now lane.old }
+    requires room { refs lane.old < most_references }
+    ensures same { SameLane lane.old lane.new }
+    ensures refs { refs lane.new ≡ refs lane.old }
+{
+    let reference = pool.get(lane, key)?;
+    let length = lane.read(&reference).len();
+    pool.release(lane, reference);
+    Some(length)
+}
+
+/// One round: whether the bytes were published, found and cleared.
+fn round(pool: &Pool<ByteBuf>, lane: &mut Lane<ByteBuf>, bytes: &[u8]) -> bool
+    requires owns { Owns pool.now lane.old }
+    requires none { refs lane.old ≡ 0 }
+    ensures same { SameLane lane.old lane.new }
+    ensures none { refs lane.new ≡ 0 }
+{
+    let Ok(key) = publish(pool, lane, bytes) else {
+        return false;
+    };
+    let found = length(pool, lane, key) == Some(bytes.len());
+    pool.clear(lane, key) && found
+}
+
+/// What a thread does with its lane. Answers whether each round went well.
+fn serve(pool: &Pool<ByteBuf>, mut lane: Lane<ByteBuf>, bytes: &[u8]) -> (Lane<ByteBuf>, bool)
+    requires owns { Owns pool.now lane }
+    requires none { refs lane ≡ 0 }
+    ensures same { SameLane lane result.0 }
+    ensures none { refs result.0 ≡ 0 }
+{
+    let mut well = true;
+    for _ in 0..ROUNDS {
+        well &= round(pool, &mut lane, bytes);
+    }
+    (lane, well)
+}
+
+fn main(rt: HostRuntime) -> anyhow::Result<()> {
+    let (pool, first, second) = open_two(rt.alloc())?;
+    let ((mut first, one), (mut second, other)) = thread::join(
+        &rt,
+        || serve(&pool, first, b"first".as_slice()),
+        || serve(&pool, second, b"the second".as_slice()),
+    );
+    println!(rt; "all rounds went well: {one} and {other}")?;
+
+    // What one lane has published the other finds, until one of them clears it.
+    let key = publish(&pool, &mut first, b"hello")?;
+    let note = pool.tell(&mut first);
+    pool.hear(&mut second, note);
+    let found = length(&pool, &mut second, key);
+    let cleared = pool.clear(&mut second, key);
+    let again = pool.clear(&mut first, key);
+    println!(rt; "bytes found: {found:?}; cleared: {cleared}, and again: {again}")?;
+
+    let census = close_two(rt.alloc(), pool, first, second)?;
+    println!(rt; "closed: {census:?}")?;
+    Ok(())
+}
