@@ -1,0 +1,13 @@
+-- The lane that a pool is opened with has done nothing.
+use Rattle.std.proofs.Common.{List, slice_get, ap}
+use Rattle.poolsteps.specs.declared.view.View.{View}
+use Rattle.poolsteps.specs.Views.{the_lane}
+use Rattle.shardpool.specs.Places.{held_after}
+use Rattle.shardpool.specs.Tokens.{LaneOf}
+use Rattle.guardsample.proofs.open_one.Goals as goal
+
+pub returns : goal.returns
+returns c =
+    let lanes = c.in_ok-pool.ensures.lanes in
+    let first = lanes.each 0 c.one_of.result (ap (λ (all : List LaneOf). slice_get all 0) c.one_of.ensures) in
+    (first.owned, ap (λ (v : View). held_after (the_lane v).mine 0) first.book)
