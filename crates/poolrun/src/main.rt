@@ -1,5 +1,5 @@
 //! The program: it replays a script file over a schedule and prints the trace, checks that acts are a
-//! legal history, or says what a key names.
+//! legal history, runs a script file on threads, or says what a key names.
 #![tactic(auto)]
 
 ghost use Rattle.std.specs.Prelude.{◌≡◌, ◌≤◌, if◌then◌else◌};
@@ -19,6 +19,7 @@ use scripts::ScriptFault;
 use std::alloc::AllocError;
 use std::process::ExitCode;
 use std::{env, io};
+use workertexts::run_text;
 
 /// The schedule of a replay, without what comes after a lane's stop.
 fn schedule_of(
@@ -79,6 +80,12 @@ fn work(rt: &HostRuntime, task: Task) -> Result<bool, RunFault> {
             let acts = load(rt, file.as_str())?;
             let mut out = Watched::new(rt.stdout());
             check_text(rt.alloc(), acts.as_slice(), &mut out)
+        }
+        Task::Run { file } => {
+            let script = load(rt, file.as_str())?;
+            let mut out = Watched::new(rt.stdout());
+            run_text(rt, rt.alloc(), script.as_slice(), &mut out)?;
+            Ok(true)
         }
         Task::Key { number } => {
             let mut out = Watched::new(rt.stdout());
@@ -192,6 +199,8 @@ mod test_random;
 mod test_replays;
 #[cfg(test)]
 mod test_rows;
+#[cfg(test)]
+mod test_runs;
 #[cfg(test)]
 mod test_schedules;
 #[cfg(test)]

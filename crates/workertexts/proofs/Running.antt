@@ -1,0 +1,24 @@
+-- How a run is refused.
+use Rattle.std.proofs.Common.{◌≡◌, ⊎_elim, inr, ℕ, List, refl, sym, subst}
+use Rattle.keybits.specs.declared.shape.Shape.{Shape}
+use Rattle.keybits.specs.declared.shape.ShapeFault.{ShapeFault}
+use Rattle.keybits.specs.Shapes.{IsShape}
+use Rattle.keybits.specs.ShapeFaults.{IsFirstFault}
+use Rattle.keybits.proofs.FaultLemmas.{within}
+use Rattle.scripts.specs.declared.plan.Plan.{Plan}
+use Rattle.scripts.specs.declared.script_fault.ScriptFault.TheVariants as faults
+use Rattle.scripts.specs.Readings.{StandsFor}
+use Rattle.pooltexts.specs.declared.run_fault.RunFault.{RunFault}
+use Rattle.pooltexts.specs.declared.run_fault.RunFault.TheVariants as runs
+use Rattle.workertexts.specs.Runs.{IsRunFault, RefusesRun}
+
+pub no_fault : (z : Shape) (fault : ShapeFault) → IsShape z → IsFirstFault z fault → ⊥
+no_fault z fault checked first = first.0 (within z checked fault)
+
+pub refuses_run : (file : List ℕ) (plan : Plan) (fault : RunFault) → StandsFor file plan → IsRunFault fault → RefusesRun file fault
+refuses_run file plan fault stands is = ⊎_elim
+    (λ (opening : fault ≡ runs.Open). subst (RefusesRun file) (sym opening) (record { plan = plan; stands = stands }))
+    (⊎_elim
+    (λ (report : fault ≡ runs.Read faults.Memory). subst (RefusesRun file) (sym report) (inr (refl, record { plan = plan; stands = stands })))
+    (λ (text : fault ≡ runs.Memory). subst (RefusesRun file) (sym text) (record { plan = plan; stands = stands })))
+    is
