@@ -1,24 +1,18 @@
 -- What the calls that take a closure leave of a lane.
-use Rattle.std.proofs.Common.{◌≡◌, ◌≢◌, ◌==◌, ⊎_elim, ℕ, zero, suc, ◌+◌, ◌-◌, ◌≤◌, Bool, true, false, cond, List, [], ◌∷◌, ◌++◌, Some, None, IsNone, sym, ap, ◌∙◌, subst, arith}
-use Rattle.std.proofs.lemmas.Bool.{cases_Bool}
+use Rattle.std.proofs.Common.{◌≡◌, ◌≢◌, ◌==◌, ℕ, zero, suc, ◌+◌, ◌-◌, Bool, true, false, cond, List, [], ◌∷◌, ◌++◌, Some, sym, ap, ◌∙◌, subst, arith}
 use Rattle.std.specs.Fn.{FnOnceReturnsAtMut, Once}
 use Rattle.std.specs.Borrow.{MutBor}
 use mathlib.Core.List.{IsPrefix}
-use Rattle.keybits.specs.declared.shape.Shape.{Shape}
-use Rattle.keybits.specs.Keys.{place_of, is_key}
+use Rattle.keybits.specs.Keys.{place_of}
 use Rattle.seqpool.specs.declared.act.Act.{Act}
 use Rattle.seqpool.specs.declared.act.Act.TheVariants as acts
 use Rattle.seqpool.specs.Histories.{At, PublishedAt}
 use Rattle.sharelaws.specs.Shares.{room_of}
-use Rattle.steplaws.specs.Calls.Call.{Getting, Releasing}
-use Rattle.poolsteps.specs.Views.{the_lane}
-use Rattle.shardpool.specs.Places.{held_after}
 use Rattle.shardpool.specs.Tokens.{PoolOf, LaneOf, FillingOf, RefOf}
-use Rattle.shardpool.specs.Lanes.{Owns, IsFilling, Made, Calls, Did, Gets, holds, refs}
-use Rattle.shardpool.specs.Creates.{FromList, FromChain, FromStack, FromPage, HandsOut, Gives}
-use Rattle.shardpool.proofs.Rowing.{held-append}
+use Rattle.shardpool.specs.Lanes.{Owns, IsFilling, Made, Did, Gets}
+use Rattle.shardpool.specs.Creates.{Gives}
+use Rattle.shardpool.proofs.Holding.{got-held}
 use Rattle.guards.specs.Guarded.{CreatesWith, MayRelease, MayPublish}
-use Rattle.guards.proofs.Leaving.{release-refs, miss-refs}
 
 -- ---- histories
 
@@ -34,58 +28,18 @@ published-later xs ys i key content (rest, is) (lane, with_ref, at) =
 
 -- ---- references
 
--- a get that gave a reference was of a key of the pool
-pub got-inside : (z : Shape) (key : ℕ) (old new : LaneOf) (reference : RefOf) → (is_key z key ≡ false → IsNone (Some reference) × (new ≡ old)) → is_key z key ≡ true
-got-inside z key old new reference outside = ⊎_elim (λ (is : is_key z key ≡ true). is)
-    (λ (off : is_key z key ≡ false). let none = (outside off).0 in absurd (cc none)) (cases_Bool (is_key z key))
-
--- the lane then has a reference to that key
-pub got-held : (key : ℕ) (old new : LaneOf) (reference : RefOf) → Gets key old new (Some reference) → 1 ≤ holds new reference.key
-got-held key old new reference (is, held, content, got) = subst (λ (k : ℕ). 1 ≤ holds new k) (sym is) held
-
 back : (b : Bool) (h m : ℕ) → m ≡ cond b (h + 1) h → cond b (m - 1) m ≡ h
 back true h m is = omega (arith, is)
 back false h m is = is
 
--- a release of the reference of a get leaves the references to each key as they were before both
-pub used-holds : (z : Shape) (key : ℕ) (old between new : LaneOf) (reference : RefOf) → Gets key old between (Some reference)
-    → Calls z (Releasing reference.key) between.book new.book → ((rest : List Act) × Did (acts.Release between.number reference.key ∷ rest) between new)
-    → (other : ℕ) → holds new other ≡ holds old other
-used-holds z key old between new reference (is, held, content, got) called (rest, released) other =
-    let key_is : reference.key == other ≡ key == other = ap (λ (k : ℕ). k == other) is in
-    released.held other ∙ (release-refs reference.key (acts.Release between.number reference.key ∷ rest) called released.mine other (holds between other)
-    ∙ (ap (λ (b : Bool). cond b (holds between other - 1) (holds between other)) key_is ∙ back (key == other) (holds old other) (holds between other) (got.held other)))
-
--- and so does a get that gave none
-pub missed-holds : (z : Shape) (key : ℕ) (old new : LaneOf) → (is_key z key ≡ false → IsNone {T = RefOf} None × (new ≡ old))
-    → (is_key z key ≡ true → Calls z (Getting key) old.book new.book) → (is_key z key ≡ true → Gets key old new None) → (other : ℕ) → holds new other ≡ holds old other
-missed-holds z key old new outside called gets other =
-    ⊎_elim
-    (λ (inside : is_key z key ≡ true).
-    let missed = gets inside in
-    missed.1.held other ∙ miss-refs key old.number missed.0 inside (called inside) missed.1.mine other (holds old other))
-    (λ (off : is_key z key ≡ false). ap (λ (lane : LaneOf). holds lane other) (outside off).1)
-    (cases_Bool (is_key z key))
+-- a reference that a get gave and a release took back: there are as many as before both
+pub given-back : (key of other before between now : ℕ) → of ≡ key → between ≡ cond (key == other) (before + 1) before → now ≡ cond (of == other) (between - 1) between → now ≡ before
+given-back key of other before between now is more less =
+    less ∙ (ap (λ (k : ℕ). cond (k == other) (between - 1) between) is ∙ back (key == other) before between more)
 
 -- ---- creates
 
-held-none : (made : List Act) → made ≡ [] → (n : ℕ) → held_after made n ≡ n
-held-none made is n = ap (λ (xs : List Act). held_after xs n) is
-
--- a place that is handed out makes no reference and gives none back
-held-out : (place : ℕ) (made : List Act) (old new : LaneOf) → HandsOut place made old new → (n : ℕ) → held_after made n ≡ n
-held-out place made old new out n = ⊎_elim (λ (from : FromList place made old new). held-none made from.none n)
-    (λ rest. ⊎_elim (λ (from : FromChain place made old new). held-none made from.none n)
-    (λ more. ⊎_elim (λ (from : FromStack place made old new). ap (λ (xs : List Act). held_after xs n) from.taken)
-    (λ (from : FromPage place made old new). held-none made from.none n) more) rest) out
-
 module _ {T : Type 0} {content : T → List ℕ} {room : T → ℕ} {old between : LaneOf} {filling : FillingOf T} (gives : Gives content room old between filling) where
-  -- a create leaves the lane as many references
-  pub given-refs : refs between ≡ refs old
-  given-refs =
-      ap (λ (xs : List Act). held_after xs 0) gives.created.mine
-      ∙ (held-append (the_lane old.book).mine gives.acts_made 0 ∙ held-out (place_of filling.key) gives.acts_made old between gives.hands_out (held_after (the_lane old.book).mine 0))
-
   -- its filling is of another key than each that the lane had
   pub given-other : (other : FillingOf T) → Made old other → other.key ≢ filling.key
   given-other other made same = gives.unfilled (subst (λ (k : ℕ). IsFilling old (place_of k)) same made.place)

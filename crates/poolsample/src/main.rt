@@ -16,7 +16,7 @@ use std::thread;
 /// How often each thread publishes a buffer, reads it and clears it.
 const ROUNDS: u32 = 1_000;
 
-/// Publishes these bytes. Answers the key by which any lane finds them.
+/// Publishes these bytes. Answers their key.
 fn publish(pool: &Pool<ByteBuf>, lane: &mut Lane<ByteBuf>, bytes: &[u8]) -> anyhow::Result<u64>
     requires owns { Owns pool.now lane.old }
     ensures same { SameLane lane.old lane.new }
@@ -80,7 +80,7 @@ fn main(rt: HostRuntime) -> anyhow::Result<()> {
     );
     println!(rt; "all rounds went well: {one} and {other}")?;
 
-    // What one lane has published the other finds, until one of them clears it.
+    // The second lane is told what the first has seen, finds the buffer, and clears it.
     let key = publish(&pool, &mut first, b"hello")?;
     let note = pool.tell(&mut first);
     pool.hear(&mut second, note);

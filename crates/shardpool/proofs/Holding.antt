@@ -1,5 +1,5 @@
 -- What calls leave of a lane's references, as their contracts tell it.
-use Rattle.std.proofs.Common.{◌≡◌, ℕ, ◌+◌, ◌-◌, Bool, true, false, cond, eqb, eq-eqb, ne_eqb, List, [], ◌∷◌, ◌++◌, Option, Some, None, refl, sym, ap, ◌∙◌, subst, ⊎_elim, arith, append_assoc, get_or}
+use Rattle.std.proofs.Common.{◌≡◌, ℕ, ◌+◌, ◌-◌, Bool, true, false, cond, eqb, eq-eqb, ne_eqb, List, [], ◌∷◌, ◌++◌, Option, Some, None, refl, sym, ap, ◌∙◌, subst, ⊎_elim, arith, append_assoc, get_or, IsNone, ◌≤◌}
 use Rattle.std.proofs.lemmas.Bool.{cases_Bool}
 use Rattle.std.proofs.lemmas.List.{append_cancel_left}
 use Rattle.std.proofs.lemmas.List.Elements.{All-nil, All-head, All-tail, All-from_get_or}
@@ -22,8 +22,8 @@ use Rattle.poolsteps.specs.declared.view.View.{View}
 use Rattle.poolsteps.specs.Views.{the_lane, acts_in}
 use Rattle.poolsteps.specs.ViewLaws.{references_made}
 use Rattle.poolcalls.specs.Called.{caller_of, Make}
-use Rattle.shardpool.specs.Tokens.{PoolOf, LaneOf, FillingOf}
-use Rattle.shardpool.specs.Lanes.{Owns, Calls, Did, IsFilling, holds, refs}
+use Rattle.shardpool.specs.Tokens.{PoolOf, LaneOf, FillingOf, RefOf}
+use Rattle.shardpool.specs.Lanes.{Owns, Calls, Did, Gets, IsFilling, holds, refs}
 use Rattle.shardpool.specs.Opened.{IsFirstLane, AreFirstLanes}
 use Rattle.shardpool.specs.Places.{held_after}
 use Rattle.shardpool.specs.Creates.{HandsOut, Gives, GivesNone}
@@ -197,12 +197,14 @@ get-holds {z = z} {key = key} {old = old} {new = new} {rest = rest} called did k
     let made : called.made ≡ acts.Get old.number key None ∷ rest = append_cancel_left (the_lane old.book).mine _ _ (sym called.did.mine ∙ did.mine) in
     did.held k ∙ still-got z (caller_of z old.book) key called.steps called.made rest (acts.Get old.number key None) called.are called.make made k (holds old k)
 
--- the clauses of a clear together
-pub cleared : (z : Shape) (key : ℕ) (reply : Bool) (old new : LaneOf) → (is_key z key ≡ false → (reply ≡ false) × (new ≡ old))
-    → (is_key z key ≡ true → Calls z (Clearing key) old.book new.book)
-    → (is_key z key ≡ true → (rest : List Act) × Did (acts.Clear old.number key reply ∷ rest) old new) → (k : ℕ) → holds new k ≡ holds old k
-cleared z key reply old new outside called did k =
-    ⊎_elim (λ inside. clear-holds (called inside) (did inside).1 k) (λ off. ap (λ (l : LaneOf). holds l k) (outside off).1) (cases_Bool (is_key z key))
+-- a get that gave a reference was of a key of the pool
+pub got-inside : (z : Shape) (key : ℕ) (old new : LaneOf) (reference : RefOf) → (is_key z key ≡ false → IsNone (Some reference) × (new ≡ old)) → is_key z key ≡ true
+got-inside z key old new reference outside = ⊎_elim (λ (is : is_key z key ≡ true). is)
+    (λ (off : is_key z key ≡ false). let none = (outside off).0 in absurd (cc none)) (cases_Bool (is_key z key))
+
+-- the lane then has a reference to that key
+pub got-held : (key : ℕ) (old new : LaneOf) (reference : RefOf) → Gets key old new (Some reference) → 1 ≤ holds new reference.key
+got-held key old new reference (is, held, content, got) = subst (λ (k : ℕ). 1 ≤ holds new k) (sym is) held
 
 -- a lane has no reference to the key of a filling
 filling-none : {lane : LaneOf} (key : ℕ) → IsFilling lane (place_of key) → holds lane key ≡ 0

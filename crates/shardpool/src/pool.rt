@@ -60,6 +60,7 @@ impl<T: Clear + Drop> Pool<T> {
         ensures called { is_key self.now.shape key ≡ true → Calls self.now.shape (Getting key) lane.old.book lane.new.book }
         ensures gets { is_key self.now.shape key ≡ true → Gets key lane.old lane.new result }
         ensures refs { refs lane.new ≡ refs lane.old + (if is_some result then 1 else 0) }
+        ensures held { IfSome result (λ reference. (reference.key ≡ key) × (1 ≤ holds lane.new reference.key)) }
         ensures one_more { IsSome result → (k : ℕ) → holds lane.new k ≡ (if key == k then holds lane.old k + 1 else holds lane.old k) }
         ensures no_more { IsNone result → (k : ℕ) → holds lane.new k ≡ holds lane.old k }
         ensures fillings { (filling : FillingOf T) → Made lane.old filling → Made lane.new filling }

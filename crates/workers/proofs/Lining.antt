@@ -1,6 +1,8 @@
 -- One line more.
-use Rattle.std.proofs.Common.{◌≡◌, ℕ, ◌+◌, ◌<◌, List, [], ◌∷◌, ◌++◌, length, take, get_or, refl, sym, ap, ◌∙◌, subst, arith}
+use Rattle.std.proofs.Common.{◌≡◌, ◌≢◌, ℕ, ◌+◌, ◌<◌, Bool, true, min, List, [], ◌∷◌, ◌++◌, length, take, get_or, refl, sym, ap, ◌∙◌, subst, arith}
 use Rattle.std.proofs.lemmas.List.{take_more, length_push}
+use mathlib.Core.Logic.{dite}
+use native.Mathlib.Decide.{ℕ_discrete}
 use Rattle.traces.specs.declared.script.Command.{Command}
 use Rattle.traces.specs.declared.reply.Reply.{Reply}
 use Rattle.poolsteps.proofs.ViewLemmas.{prefix-self, prefix-trans}
@@ -41,3 +43,10 @@ module _ (pool : PoolOf) (old between new : Desk) (commands : List Command) (ran
         same = (runs.same.0 ∙ on.same.0, runs.same.1 ∙ on.same.1, runs.same.2 ∙ on.same.2);
         seen = prefix-trans old.lane.book.seen between.lane.book.seen new.lane.book.seen on.seen runs.seen;
       }
+
+-- the gate let one line more pass
+pub passed-more : (says : ℕ → ℕ → Bool → Type 0) (number now ran line : ℕ) → now ≡ number → line ≡ min ran 4294967295 → says now line true
+    → ((i : ℕ) → i < ran → says number (min i 4294967295) true) → (i : ℕ) → i < ran + 1 → says number (min i 4294967295) true
+passed-more says number now ran line same is let_pass before i below = dite (ℕ_discrete i ran)
+    (λ (here : i ≡ ran). subst (λ (n : ℕ). says n (min i 4294967295) true) same (subst (λ (l : ℕ). says now l true) (is ∙ ap (λ (n : ℕ). min n 4294967295) (sym here)) let_pass))
+    (λ (there : i ≢ ran). before i (omega (arith, below, there)))

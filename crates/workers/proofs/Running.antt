@@ -23,7 +23,7 @@ use Rattle.poolsteps.proofs.ViewLemmas.{prefix-self}
 use Rattle.shardpool.specs.Tokens.{PoolOf, LaneOf, FillingOf, RefOf}
 use Rattle.shardpool.specs.Lanes.{Owns, IsFilling, Made, SameLane, Calls, Did, Gets, holds, refs}
 use Rattle.shardpool.specs.Creates.{Gives}
-use Rattle.shardpool.proofs.Holding.{gives-refs, get-holds, release-holds, cleared}
+use Rattle.shardpool.proofs.Holding.{gives-refs}
 use Rattle.workers.specs.declared.registers.Register.{Register}
 use Rattle.workers.specs.declared.registers.Held.{Held}
 use Rattle.workers.specs.declared.registers.Held.TheVariants.{Empty, Filling, Reference}
@@ -241,7 +241,7 @@ at-release false m n is = omega (arith, is)
 module _ {pool : PoolOf} {old new : LaneOf} {rs : List Register} (register : Number) (tidy : Tidy pool (desk old rs)) (owns : Owns pool new) (reference : RefOf)
     (is : reference_in (register_at rs register.number).held ≡ Some reference) (fillings : (filling : FillingOf ByteBuf) → Made old filling → Made new filling)
     (called : Calls pool.shape (Releasing reference.key) old.book new.book) (did : (rest : List Act) × Did (acts.Release old.number reference.key ∷ rest) old new)
-    (refs_less : refs new + 1 ≡ refs old) where
+    (refs_less : refs new + 1 ≡ refs old) (one_less : (k : ℕ) → holds new k ≡ cond (reference.key == k) (holds old k - 1) (holds old k)) where
   abbrev heavy : (weight (register_at rs register.number).held ≡ 1) × ((key : ℕ) → key_weight key (register_at rs register.number).held ≡ cond (reference.key == key) 1 0)
   heavy = reference-heavy (register_at rs register.number).held reference is
 
@@ -251,7 +251,7 @@ module _ {pool : PoolOf} {old new : LaneOf} {rs : List Register} (register : Num
     tidy = tidy-set tidy owns register.number (record (register_at rs register.number) { held = Empty }) register.small
         (λ i other there at. fillings other (tidy.made i other at))
         (λ other at. absurd (cc at)) (λ i this other at there also same. absurd (cc at))
-        (λ key. let h = at-release (reference.key == key) (holds old key) (holds new key) (release-holds called did.1 key) in let l = heavy.1 key in omega (arith, h, l))
+        (λ key. let h = at-release (reference.key == key) (holds old key) (holds new key) (one_less key) in let l = heavy.1 key in omega (arith, h, l))
         (let l = heavy.0 in omega (arith, l, refs_less));
     same = did.1.same;
     seen = called.did.seen;
@@ -272,7 +272,8 @@ module _ {pool : PoolOf} {old new : LaneOf} {rs : List Register} (tidy : Tidy po
 
   module _ (marked : Bool) (outside : is_key pool.shape key ≡ false → (marked ≡ false) × (new ≡ old))
       (called : is_key pool.shape key ≡ true → Calls pool.shape (Clearing key) old.book new.book)
-      (did : is_key pool.shape key ≡ true → (rest : List Act) × Did (acts.Clear old.number key marked ∷ rest) old new) where
+      (did : is_key pool.shape key ≡ true → (rest : List Act) × Did (acts.Clear old.number key marked ∷ rest) old new)
+      (held : (k : ℕ) → holds new k ≡ holds old k) where
     clears-inside : WhereInside key (desk old rs) (replies.Cleared marked) (desk new rs) (replies.Cleared false) (Clears key (desk old rs) (replies.Cleared marked) (desk new rs))
     clears-inside = (
       λ within. (of-shape pool old (Clearing key) old.book new.book tidy.owns (called (at-old true within)), (marked, did (at-old true within), refl), refl),
@@ -286,7 +287,7 @@ module _ {pool : PoolOf} {old new : LaneOf} {rs : List Register} (tidy : Tidy po
     pub runs-clear : Runs pool (desk old rs) (Clear operand) (replies.Cleared marked) (desk new rs)
     runs-clear = record {
       line = where-key (operand_key rs operand) _ _ key key_is clears-inside;
-      tidy = tidy-lane tidy owns fillings (cleared pool.shape key marked old new outside called did) refs_same;
+      tidy = tidy-lane tidy owns fillings held refs_same;
       same = clear-goes.0;
       seen = clear-goes.1;
     }
@@ -295,7 +296,7 @@ module _ {pool : PoolOf} {old new : LaneOf} {rs : List Register} (tidy : Tidy po
 
   module _ (register : Number) (is : is_empty (register_at rs register.number).held ≡ true)
       (outside : is_key pool.shape key ≡ false → new ≡ old) (called : is_key pool.shape key ≡ true → Calls pool.shape (Getting key) old.book new.book)
-      (gets : is_key pool.shape key ≡ true → Gets key old new None) where
+      (gets : is_key pool.shape key ≡ true → Gets key old new None) (no_more : (k : ℕ) → holds new k ≡ holds old k) where
     missed-inside : WhereInside key (desk old rs) replies.Missing (desk new rs) replies.Missing (GetsInto register.number key (desk old rs) replies.Missing (desk new rs))
     missed-inside = (
       λ within. (of-shape pool old (Getting key) old.book new.book tidy.owns (called (at-old true within)), inl (gets (at-old true within), refl, refl)),
@@ -306,26 +307,13 @@ module _ {pool : PoolOf} {old new : LaneOf} {rs : List Register} (tidy : Tidy po
     missed-goes = ⊎_elim (λ (within : is_key pool.shape key ≡ true). ((gets within).1.same, (called within).did.seen))
         (λ (off : is_key pool.shape key ≡ false). same-as (outside off)) (cases_Bool (is_key pool.shape key))
 
-    missed-holds : (k : ℕ) → holds new k ≡ holds old k
-    missed-holds k = ⊎_elim (λ (within : is_key pool.shape key ≡ true). get-holds (called within) (gets within).1 k)
-        (λ (off : is_key pool.shape key ≡ false). ap (λ (l : LaneOf). holds l k) (outside off)) (cases_Bool (is_key pool.shape key))
-
     pub runs-missed : Runs pool (desk old rs) (Get register operand) replies.Missing (desk new rs)
     runs-missed = record {
       line = where-empty (register_at rs register.number).held _ _ is (where-key (operand_key rs operand) _ _ key key_is missed-inside);
-      tidy = tidy-lane tidy owns fillings missed-holds refs_same;
+      tidy = tidy-lane tidy owns fillings no_more refs_same;
       same = missed-goes.0;
       seen = missed-goes.1;
     }
-
--- a get that gave a reference was of a key of the pool
-pub got-inside : (z : Shape) (key : ℕ) (old new : LaneOf) (reference : RefOf) → (is_key z key ≡ false → IsNone (Some reference) × (new ≡ old)) → is_key z key ≡ true
-got-inside z key old new reference outside = ⊎_elim (λ (is : is_key z key ≡ true). is)
-    (λ (off : is_key z key ≡ false). let none = (outside off).0 in absurd (cc none)) (cases_Bool (is_key z key))
-
--- the lane then has it
-pub got-held : (key : ℕ) (old new : LaneOf) (reference : RefOf) → Gets key old new (Some reference) → 1 ≤ holds new reference.key
-got-held key old new reference (is, held, content, got) = subst (λ (k : ℕ). 1 ≤ holds new k) (sym is) held
 
 at-get : (b : Bool) (m n : ℕ) → n ≡ cond b (m + 1) m → m + cond b 1 0 ≤ n
 at-get true m n is = omega (arith, is)

@@ -1,5 +1,5 @@
 -- What a worker does with its lane, and what it answers.
-use Rattle.std.specs.Prelude.{◌≡◌, ℕ, ◌<◌, ◌≤◌, min, List, length, take, Option, Some, None, MatchResult, slice_get}
+use Rattle.std.specs.Prelude.{◌≡◌, ℕ, ◌<◌, ◌≤◌, Bool, true, false, IfSome, min, List, length, take, Option, Some, None, MatchResult, slice_get}
 use mathlib.Core.List.{IsPrefix}
 use Rattle.traces.specs.declared.script.Command.{Command}
 use Rattle.shardpool.specs.Tokens.{PoolOf, LaneOf}
@@ -8,7 +8,7 @@ use Rattle.workers.specs.declared.registers.Register.{Register}
 use Rattle.workers.specs.declared.jobs.Job.{Job}
 use Rattle.workers.specs.declared.jobs.Done.{Done}
 use Rattle.workers.specs.declared.jobs.Report.{Report}
-use Rattle.workers.specs.Lines.{Desk, first_desk, AreLines}
+use Rattle.workers.specs.Lines.{first_desk, AreLines}
 
 -- the lane is of the pool, and its references leave room for sixteen more
 abbrev pub MayWork : PoolOf → LaneOf → Type 0
@@ -25,6 +25,10 @@ pub record Ran (old : LaneOf) (script : List Command) (new : LaneOf) (report : R
   pub stops : Stops ran script report.stopped_at
   pub registers : List Register
   pub lines : AreLines (first_desk old) (take ran script) report.replies.items (record { lane = new; registers = registers })
+
+-- the gate let each of so many lines pass, and not the one before which the worker was stopped
+abbrev pub Passed : (ℕ → Bool → Type 0) → ℕ → Option ℕ → Type 0
+Passed says ran stopped_at = ((line : ℕ) → line < ran → says (min line 4294967295) true) × IfSome stopped_at (λ line. says line false)
 
 -- what a worker did: the lines that were run; where the row of replies was refused none was, and the lane is as before
 abbrev pub Works : LaneOf → List Command → Done → Type 0

@@ -57,6 +57,10 @@ const LINES: usize = 1000;
 struct Open;
 
 impl Gate for Open {
+    ghost use Rattle.std.specs.Prelude.{◌≡◌, true};
+
+    ghost says = { λ gate worker line answer. answer ≡ true };
+
     fn pass(&self, _worker: u32, _line: u32) -> bool {
         true
     }
@@ -64,12 +68,16 @@ impl Gate for Open {
 
 /// Where two workers wait for each other before each line.
 #[derive(Drop)]
-struct Meeting {
+struct Barrier {
     first: AtomicBool,
     second: AtomicBool,
 }
 
-impl Gate for Meeting {
+impl Gate for Barrier {
+    ghost use Rattle.std.specs.Prelude.{Unit};
+
+    ghost says = { λ gate worker line answer. Unit };
+
     fn pass(&self, worker: u32, _line: u32) -> bool {
         let (own, other) = if worker == 0 {
             (&self.first, &self.second)
@@ -206,7 +214,7 @@ fn texts_of(alloc: Global, reports: &[Report]) -> Result<(String, String), Fail>
 #[test]
 fn workers_run_one_beside_another(rt: HostRuntime) -> Result<(), Fail> {
     let alloc = rt.alloc();
-    let gate = Meeting {
+    let gate = Barrier {
         first: AtomicBool::new(false),
         second: AtomicBool::new(false),
     };

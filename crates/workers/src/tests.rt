@@ -47,6 +47,10 @@ struct StopsAt {
 }
 
 impl Gate for StopsAt {
+    ghost use Rattle.std.specs.Prelude.{◌≡◌, ◌↔◌, ◌⊎◌, ◌≢◌, ◌<◌, true};
+
+    ghost says = { λ gate worker line answer. answer ≡ true ↔ (worker ≢ gate.worker) ⊎ (line < gate.line) };
+
     fn pass(&self, worker: u32, line: u32) -> bool {
         worker != self.worker || line < self.line
     }
@@ -57,6 +61,10 @@ impl Gate for StopsAt {
 struct Open;
 
 impl Gate for Open {
+    ghost use Rattle.std.specs.Prelude.{◌≡◌, true};
+
+    ghost says = { λ gate worker line answer. answer ≡ true };
+
     fn pass(&self, _worker: u32, _line: u32) -> bool {
         true
     }

@@ -1,11 +1,11 @@
 //! A worker.
-ghost use Rattle.std.specs.Prelude.{◌≡◌, ◌≤◌, min, length, []};
+ghost use Rattle.std.specs.Prelude.{◌≡◌, ◌≤◌, min, length, [], IfOk};
 ghost use Rattle.std.specs.Vec.{vec_capacity};
 ghost use mathlib.Core.List.{IsPrefix};
 ghost use Rattle.shardpool.specs.Lanes.{SameLane};
 ghost use Rattle.workers.specs.Tidy.{Tidy, desk};
 ghost use Rattle.workers.specs.Steps.{RunsTo};
-ghost use Rattle.workers.specs.Works.{MayWork, Works};
+ghost use Rattle.workers.specs.Works.{MayWork, Works, Passed};
 
 use crate::gate::Gate;
 use crate::jobs::{Done, Report};
@@ -33,6 +33,7 @@ pub fn work<G: Gate>(
     ensures same { SameLane lane result.lane }
     ensures seen { IsPrefix lane.book.seen result.lane.book.seen }
     ensures works { Works lane script result }
+    ensures passed { IfOk result.report (λ report. Passed (G.says gate.now lane.number) (length report.replies.items) report.stopped_at) }
 {
     let mut lane = lane;
     let mut replies = match Vec::with_capacity(alloc, script.as_slice().len()) {
@@ -76,7 +77,8 @@ fn run_lines<G: Gate>(
     requires tidy { Tidy pool.now (desk lane.old registers.old) }
     requires none { replies.old.items ≡ [] }
     requires room { length commands.now ≤ vec_capacity replies.old }
-    ensures { RunsTo pool.now (desk lane.old registers.old) commands.now result replies.new.items (desk lane.new registers.new) }
+    ensures runs { RunsTo pool.now (desk lane.old registers.old) commands.now result replies.new.items (desk lane.new registers.new) }
+    ensures passed { Passed (G.says gate.now lane.old.number) (length replies.new.items) result }
 {
     let mut ran = 0;
     while ran < commands.len() {

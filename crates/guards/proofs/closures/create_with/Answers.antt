@@ -1,6 +1,6 @@
 use Rattle.std.proofs.Common.{◌∙◌, refl}
 use Rattle.std.specs.Fn.{FnOnceReturnsAtMut}
-use Rattle.guards.proofs.Guarding.{given-refs, given-other, creates}
+use Rattle.guards.proofs.Guarding.{given-other, creates}
 use Rattle.guards.proofs.closures.create_with.Goals as goal
 
 pub returns-clause-creates : goal.returns-clause-creates
@@ -15,7 +15,7 @@ returns-clause-creates g c =
     creates c.in_ok-filling.ensures.gives g.F.FnOnce c.args.f c.publish.new.lane c.f.new.arg2 c.publish.result ran c.publish.ensures.key c.publish.ensures.publishes c.publish.ensures.room
 
 pub returns-clause-refs : goal.returns-clause-refs
-returns-clause-refs g c = c.publish.ensures.refs ∙ given-refs c.in_ok-filling.ensures.gives
+returns-clause-refs g c = c.publish.ensures.refs ∙ c.in_ok-filling.ensures.refs
 
 pub returns-clause-fillings : goal.returns-clause-fillings
 returns-clause-fillings g c filling made =

@@ -1,22 +1,8 @@
 use Rattle.std.proofs.Common.{ℕ, refl, subst}
 use Rattle.seqpool.specs.Histories.{PublishedAt}
-use Rattle.guards.proofs.Guarding.{published-later, got-inside, got-held, used-holds, missed-holds}
+use Rattle.shardpool.proofs.Holding.{got-inside}
+use Rattle.guards.proofs.Guarding.{published-later, given-back}
 use Rattle.guards.proofs.closures.with.Goals as goal
-
-pub returns-in_err-reference-clause-holds : goal.returns-in_err-reference-clause-holds
-returns-in_err-reference-clause-holds g c other =
-    missed-holds c.args.pool.now.shape c.args.key c.args.lane.now c.get.new.lane c.in_err-reference.ensures.outside c.in_err-reference.ensures.called
-    c.in_err-reference.ensures.gets other
-
-pub read-requires : goal.read-requires
-read-requires g c =
-    let inside = got-inside c.args.pool.now.shape c.args.key c.args.lane.now c.get.new.lane c.in_ok-reference.reference c.in_ok-reference.ensures.outside in
-    got-held c.args.key c.args.lane.now c.get.new.lane c.in_ok-reference.reference (c.in_ok-reference.ensures.gets inside)
-
-pub release-requires-clause-held : goal.release-requires-clause-held
-release-requires-clause-held g c =
-    let inside = got-inside c.args.pool.now.shape c.args.key c.args.lane.now c.get.new.lane c.in_ok-reference.reference c.in_ok-reference.ensures.outside in
-    got-held c.args.key c.args.lane.now c.get.new.lane c.in_ok-reference.reference (c.in_ok-reference.ensures.gets inside)
 
 pub returns-clause-some : goal.returns-clause-some
 returns-clause-some g c =
@@ -33,6 +19,5 @@ returns-clause-some g c =
 
 pub returns-clause-holds : goal.returns-clause-holds
 returns-clause-holds g c other =
-    let inside = got-inside c.args.pool.now.shape c.args.key c.args.lane.now c.get.new.lane c.in_ok-reference.reference c.in_ok-reference.ensures.outside in
-    used-holds c.args.pool.now.shape c.args.key c.args.lane.now c.get.new.lane c.release.new.lane c.in_ok-reference.reference (c.in_ok-reference.ensures.gets inside)
-    c.release.ensures.called c.release.ensures.releases other
+    let got = c.in_ok-reference.ensures in
+    given-back c.args.key c.in_ok-reference.reference.key other _ _ _ got.held.0 (got.one_more refl other) (c.release.ensures.one_less other)

@@ -1,7 +1,8 @@
-use Rattle.std.proofs.Common.{sym, arith}
+use Rattle.std.proofs.Common.{refl, sym, arith}
 use Rattle.workers.specs.Lines.{register_at}
 use Rattle.workers.proofs.Keeping.{empty-light, tidy-room}
-use Rattle.workers.proofs.Running.{runs-missed, runs-found, got-inside, got-held}
+use Rattle.shardpool.proofs.Holding.{got-inside}
+use Rattle.workers.proofs.Running.{runs-missed, runs-found}
 use Rattle.workers.proofs.lines.get.Goals as goal
 
 pub get-requires-clause-room : goal.get-requires-clause-room
@@ -13,13 +14,7 @@ pub returns-in_default-get : goal.returns-in_default-get
 returns-in_default-get c =
     let did = c.in_default-get.ensures in
     runs-missed c.requires.tidy did.owns c.args.operand c.in-Some.key (sym c.in-Some.ensures) did.fillings (omega (arith, did.refs)) c.args.register (sym c.if-not-is_free.ensures)
-    (λ off. (did.outside off).1) did.called did.gets
-
-pub read-requires : goal.read-requires
-read-requires c =
-    let did = c.in-Some-get.ensures in
-    let within = got-inside c.args.pool.now.shape c.in-Some.key c.args.lane.now c.get.new.lane c.in-Some-get.reference did.outside in
-    got-held c.in-Some.key c.args.lane.now c.get.new.lane c.in-Some-get.reference (did.gets within)
+    (λ off. (did.outside off).1) did.called did.gets (did.no_more refl)
 
 pub returns : goal.returns
 returns c =

@@ -10,5 +10,5 @@ release-requires-clause-held c =
 pub returns : goal.returns
 returns c =
     let did = c.release.ensures in
-    runs-release c.args.register c.requires.tidy did.owns c.in-Some.reference (sym c.in-Some.ensures.reference) did.fillings did.called did.releases did.refs
+    runs-release c.args.register c.requires.tidy did.owns c.in-Some.reference (sym c.in-Some.ensures.reference) did.fillings did.called did.releases did.refs did.one_less
     c.take_reference.new.registers c.in-Some.ensures.registers

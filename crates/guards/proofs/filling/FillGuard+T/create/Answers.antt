@@ -2,7 +2,7 @@ use Rattle.std.proofs.Common.{true, refl, sym, ap, ◌∙◌, subst}
 use mathlib.Core.Option.{some}
 use Rattle.shardpool.specs.Tokens.{LaneOf}
 use Rattle.shardpool.specs.Lanes.{Made, refs}
-use Rattle.guards.proofs.Guarding.{given-refs, guard-may-publish, guard-gives}
+use Rattle.guards.proofs.Guarding.{guard-may-publish, guard-gives}
 use Rattle.guards.proofs.filling.FillGuard+T.create.Goals as goal
 
 pub returns : goal.returns
@@ -17,7 +17,7 @@ returns g c =
         pool = of.1;
         may = guard-may-publish of.0 of.1 got.owns filling c.of.result.filling of.2 got.gives;
         gives = guard-gives of.0 of.1 got.owns filling c.of.result.filling of.2 got.gives;
-        refs = ap refs of.0 ∙ given-refs got.gives;
+        refs = ap refs of.0 ∙ got.refs;
         full = λ e. absurd (cc e);
         memory = λ e. absurd (cc e);
         succeeds = λ some. refl {a = true};

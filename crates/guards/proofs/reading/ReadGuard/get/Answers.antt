@@ -2,7 +2,8 @@ use Rattle.std.proofs.Common.{refl, sym, ap, ◌∙◌, subst}
 use mathlib.Core.Option.{some}
 use Rattle.shardpool.specs.Tokens.{LaneOf}
 use Rattle.shardpool.specs.Lanes.{Made, refs}
-use Rattle.guards.proofs.Guarding.{got-inside, guard-may, guard-gets}
+use Rattle.shardpool.proofs.Holding.{got-inside}
+use Rattle.guards.proofs.Guarding.{guard-may, guard-gets}
 use Rattle.guards.proofs.reading.ReadGuard.get.Goals as goal
 
 pub returns : goal.returns

@@ -15,7 +15,7 @@ use Rattle.shardpool.proofs.Ending.{own-away}
 use Rattle.shardpool.proofs.Quieting.{quiet-miss, quiet-fits, quiet-did, quiet-refs, quiet-fillings}
 use Rattle.shardpool.proofs.RowSteps.{rows-low, rows-stand, rows-count-le}
 use Rattle.shardpool.proofs.Getting.{calls-more, called-then, hit-again, hit-moved, seen-within, none-seen, hit-may, hit-fits, hit-did, hit-holds, hit-refs, hit-fillings, rows-again, rows-begun, miss-told}
-use Rattle.shardpool.proofs.Holding.{get-holds}
+use Rattle.shardpool.proofs.Holding.{get-holds, got-held}
 use Rattle.shardpool.proofs.pool.Pool.get.Goals as goal
 
 pub get-got-requires-clause-room : goal.get-got-requires-clause-room
@@ -347,3 +347,13 @@ returns-then-index-gt0-clause-same g c = (returns-then-index-gt0-clause-gets g c
 
 pub returns-clause-same : goal.returns-clause-same
 returns-clause-same g c = (returns-clause-gets g c (c.in_ok-spot.ensures.some.0 refl)).3.same
+
+-- ---- it has the reference
+
+pub returns-then-index-gt0-clause-held : goal.returns-then-index-gt0-clause-held
+returns-then-index-gt0-clause-held g c =
+    let gets = returns-then-index-gt0-clause-gets g c (c.in_ok-spot.ensures.some.0 refl) in (gets.0, got-held c.args.key _ _ _ gets)
+
+pub returns-clause-held : goal.returns-clause-held
+returns-clause-held g c =
+    let gets = returns-clause-gets g c (c.in_ok-spot.ensures.some.0 refl) in (gets.0, got-held c.args.key _ _ _ gets)
