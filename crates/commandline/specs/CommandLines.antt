@@ -5,7 +5,7 @@ use Rattle.clap.specs.Words.{App, Row, Rule, first_of, new_app, new_rule, subcom
 use Rattle.clap.specs.declared.builder.action.ArgAction.TheVariants.{SetTrue}
 use Rattle.commandline.specs.declared.tasks.Stop.{Stop}
 use Rattle.commandline.specs.declared.tasks.Task.{Task}
-use Rattle.commandline.specs.declared.tasks.Task.TheVariants.{Replay, Check, Key}
+use Rattle.commandline.specs.declared.tasks.Task.TheVariants.{Replay, Check, Run, Key}
 use Rattle.commandline.specs.declared.tasks.Turns.{Turns}
 use Rattle.commandline.specs.Readings.{long_number, AreTurns, IsStop}
 
@@ -35,6 +35,10 @@ replay_line = line_of (codes "replay")
 abbrev pub check_line : App
 check_line = line_of (codes "check") (positional (codes "acts") ∷ [])
 
+-- the subcommand `run`
+abbrev pub run_line : App
+run_line = line_of (codes "run") (positional (codes "file") ∷ [])
+
 -- the subcommand `key`
 abbrev pub key_line : App
 key_line = line_of (codes "key") (positional (codes "number") ∷ [])
@@ -45,7 +49,7 @@ program = record { top = record (new_shape (codes "poolrun")) { subcommand_requi
 
 -- the program's command line
 abbrev pub command_line : App
-command_line = with_subcommand (with_subcommand (with_subcommand program replay_line.top) check_line.top) key_line.top
+command_line = with_subcommand (with_subcommand (with_subcommand (with_subcommand program replay_line.top) check_line.top) run_line.top) key_line.top
 
 -- a replay, by the matches of `replay`: its file, its turns, its stop, and that the acts are wanted where the flag was used
 pub record IsReplayTask (rows : List Row) (file : List ℕ) (turns : Turns) (stop : Option Stop) (acts : Bool) : Type 0 where
@@ -58,6 +62,7 @@ pub record IsReplayTask (rows : List Row) (file : List ℕ) (turns : Turns) (sto
 abbrev pub AreMatchesOf : List ℕ → List Row → Task → Type 0
 AreMatchesOf name rows (Replay file turns stop acts) = (name ≡ codes "replay") × IsReplayTask rows (string_bytes file) turns stop acts
 AreMatchesOf name rows (Check file) = (name ≡ codes "check") × (first_of (codes "acts") rows ≡ Some (string_bytes file))
+AreMatchesOf name rows (Run file) = (name ≡ codes "run") × (first_of (codes "file") rows ≡ Some (string_bytes file))
 AreMatchesOf name rows (Key number) = (name ≡ codes "key") × (option_and_then long_number (first_of (codes "number") rows) ≡ Some number)
 
 -- the words stand for the task

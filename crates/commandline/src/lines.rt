@@ -1,7 +1,7 @@
 ghost use Rattle.std.specs.Prelude.{◌≡◌, IfOk, false};
 ghost use Rattle.clap.specs.Words.{app_of, rule_of, with_rule};
 ghost use Rattle.clap.specs.declared.builder.command.Command.TheViews.{out-Command as fields_of};
-ghost use Rattle.commandline.specs.CommandLines.{positional, option_named, flag_named, replay_line, check_line, key_line, command_line};
+ghost use Rattle.commandline.specs.CommandLines.{positional, option_named, flag_named, replay_line, check_line, run_line, key_line, command_line};
 
 use clap::{Arg, ArgAction, Command};
 use std::alloc::{AllocError, Global};
@@ -83,6 +83,19 @@ fn check_command<'a>(alloc: Global) -> Result<Command<'a>, AllocError>
     )
 }
 
+/// The subcommand `run`.
+fn run_command<'a>(alloc: Global) -> Result<Command<'a>, AllocError>
+    ensures { IfOk result
+        (λ c. (app_of c ≡ run_line) × ((fields_of c).has_globals ≡ false)) }
+{
+    let file = positional(alloc, "file", "FILE", "The script file");
+    let run = Command::new(alloc, "run").arg(file)?;
+    Ok(
+        run.about("Runs each script of a file on a thread of its own and prints the replies")
+            .after_help("Example: poolrun run first.json"),
+    )
+}
+
 /// The subcommand `key`.
 fn key_command<'a>(alloc: Global) -> Result<Command<'a>, AllocError>
     ensures { IfOk result
@@ -102,6 +115,7 @@ pub(crate) fn program_command<'a>(alloc: Global) -> Result<Command<'a>, AllocErr
 {
     let replay = replay_command(alloc)?;
     let check = check_command(alloc)?;
+    let run = run_command(alloc)?;
     let key = key_command(alloc)?;
     let program = Command::new(alloc, "poolrun")
         .about("A pool of objects that are cleared and used again in place")
@@ -110,5 +124,6 @@ pub(crate) fn program_command<'a>(alloc: Global) -> Result<Command<'a>, AllocErr
     program
         .subcommand(replay)?
         .subcommand(check)?
+        .subcommand(run)?
         .subcommand(key)
 }

@@ -13,6 +13,10 @@ pub enum Task {
     Check {
         file: String,
     },
+    /// Run the script file at this path.
+    Run {
+        file: String,
+    },
     /// Say what this number names as a key.
     Key {
         number: u64,

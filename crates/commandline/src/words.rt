@@ -73,6 +73,19 @@ fn check_task(alloc: Global, matches: &ArgMatches) -> Result<Task, TaskFault>
     Ok(Task::Check { file })
 }
 
+/// The task of the matches of `run`.
+fn run_task(alloc: Global, matches: &ArgMatches) -> Result<Task, TaskFault>
+    ensures ok { IfOk result (AreMatchesOf (codes "run") (rows_of (found_of matches.now))) }
+    ensures words { IsErrOf result TaskFault.Words
+        → AreMatchesOfNone (codes "run") (rows_of (found_of matches.now)) }
+{
+    let Some(script) = given(matches, "file") else {
+        return Err(TaskFault::Words);
+    };
+    let file = String::from_str(alloc, script)?;
+    Ok(Task::Run { file })
+}
+
 /// The task of the matches of `key`.
 fn key_task(matches: &ArgMatches) -> Result<Task, TaskFault>
     ensures ok { IfOk result (AreMatchesOf (codes "key") (rows_of (found_of matches.now))) }
@@ -101,6 +114,9 @@ pub fn task(alloc: Global, words: &[String]) -> Result<Task, TaskFault>
     }
     if let Some(check) = matches.subcommand_matches("check") {
         return check_task(alloc, check);
+    }
+    if let Some(run) = matches.subcommand_matches("run") {
+        return run_task(alloc, run);
     }
     if let Some(key) = matches.subcommand_matches("key") {
         return key_task(key);

@@ -1,5 +1,5 @@
 //! The program: it replays a script file over a schedule and prints the trace, checks that acts are a
-//! legal history, or says what a key names.
+//! legal history, runs a script file on threads, or says what a key names.
 #![tactic(auto)]
 
 ghost use Rattle.std.specs.Prelude.{◌≡◌, ◌≤◌, if◌then◌else◌};
@@ -18,7 +18,10 @@ use pooltexts::{
 use scripts::ScriptFault;
 use std::alloc::AllocError;
 use std::process::ExitCode;
+use std::sync::Wait;
+use std::thread::Threads;
 use std::{env, io};
+use workertexts::run_text;
 
 /// The schedule of a replay, without what comes after a lane's stop.
 fn schedule_of(
@@ -63,8 +66,12 @@ fn replay(
 }
 
 /// Does a task, with its output on standard output. The answer is false where acts were found illegal
-/// or a number is no key's.
-fn work(rt: &HostRuntime, task: Task) -> Result<bool, RunFault> {
+/// or a number is no key's. Workers run on the threads of a handle of their own.
+fn work<R: Threads + Wait + Sync>(
+    rt: &HostRuntime,
+    threads: &R,
+    task: Task,
+) -> Result<bool, RunFault> {
     match task {
         Task::Replay {
             file,
@@ -79,6 +86,12 @@ fn work(rt: &HostRuntime, task: Task) -> Result<bool, RunFault> {
             let acts = load(rt, file.as_str())?;
             let mut out = Watched::new(rt.stdout());
             check_text(rt.alloc(), acts.as_slice(), &mut out)
+        }
+        Task::Run { file } => {
+            let script = load(rt, file.as_str())?;
+            let mut out = Watched::new(rt.stdout());
+            run_text(threads, rt.alloc(), script.as_slice(), &mut out)?;
+            Ok(true)
         }
         Task::Key { number } => {
             let mut out = Watched::new(rt.stdout());
@@ -162,10 +175,10 @@ fn read_task(rt: &HostRuntime) -> Result<Task, TaskFault> {
 }
 
 /// Does a task and prints the line of its fault, if there is one. The status is 0 where it was done, and else 1.
-fn run(rt: &HostRuntime, task: Task) -> ExitCode
+fn run<R: Threads + Wait + Sync>(rt: &HostRuntime, threads: &R, task: Task) -> ExitCode
     ensures { exit_status result ≤ 1 }
 {
-    match work(rt, task) {
+    match work(rt, threads, task) {
         Ok(good) => status_of(good),
         Err(fault) => report(rt, &fault),
     }
@@ -173,7 +186,7 @@ fn run(rt: &HostRuntime, task: Task) -> ExitCode
 
 fn main(rt: HostRuntime) -> ExitCode {
     match read_task(&rt) {
-        Ok(task) => run(&rt, task),
+        Ok(task) => run(&rt, &rt, task),
         Err(fault) => report_words(&rt, fault),
     }
 }
@@ -192,6 +205,8 @@ mod test_random;
 mod test_replays;
 #[cfg(test)]
 mod test_rows;
+#[cfg(test)]
+mod test_runs;
 #[cfg(test)]
 mod test_schedules;
 #[cfg(test)]

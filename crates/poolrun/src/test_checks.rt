@@ -198,6 +198,7 @@ fn names_faults(rt: HostRuntime) {
         (RunFault::Acts(ActsFault::Shape(ShapeFault::Tag)), 6, "Tag"),
         (RunFault::Acts(ActsFault::Memory), 18, "Memory"),
         (RunFault::Core(CoreFault::Memory), 25, "Memory"),
+        (RunFault::Open, 5, "Memory"),
         (RunFault::File, 41, "File"),
         (RunFault::Output, 42, "Output"),
         (RunFault::Memory, 43, "Memory"),

@@ -44,7 +44,7 @@ fn outcome_of(alloc: Global, words: &[&str]) -> Result<String, AllocError> {
 }
 
 // Words, and their tasks.
-const TASKS: [(&[&str], &str); 11] = [
+const TASKS: [(&[&str], &str); 13] = [
     (
         &["poolrun", "replay", "a.json", "--schedule", "0,1"],
         "Replay { file: \"a.json\", turns: Listed([0, 1]), stop: None, acts: false }",
@@ -107,6 +107,8 @@ const TASKS: [(&[&str], &str); 11] = [
         "Check { file: \"a.acts\" }",
     ),
     (&["poolrun", "check", "true"], "Check { file: \"true\" }"),
+    (&["poolrun", "run", "a.json"], "Run { file: \"a.json\" }"),
+    (&["poolrun", "run", "run"], "Run { file: \"run\" }"),
     (&["poolrun", "key", "16777216"], "Key { number: 16777216 }"),
     (
         &["poolrun", "key", "00000000000000000000"],
@@ -361,7 +363,7 @@ const WRONG_KEYS: [&[&str]; 8] = [
 ];
 
 // Words that `clap` refuses.
-const REFUSED: [&[&str]; 21] = [
+const REFUSED: [&[&str]; 25] = [
     &["poolrun"],
     &["poolrun", ""],
     &["poolrun", "play"],
@@ -406,6 +408,10 @@ const REFUSED: [&[&str]; 21] = [
     &["poolrun", "check", "a.acts", "b.acts"],
     &["poolrun", "check", "a.acts", "--schedule", "0"],
     &["poolrun", "check", "--acts", "a.acts"],
+    &["poolrun", "run"],
+    &["poolrun", "run", "a.json", "b.json"],
+    &["poolrun", "run", "a.json", "--schedule", "0"],
+    &["poolrun", "run", "--file", "a.json"],
     &["poolrun", "key"],
     &["poolrun", "key", "--acts", "1"],
     &["poolrun", "key", "1", "2"],
@@ -413,11 +419,12 @@ const REFUSED: [&[&str]; 21] = [
 ];
 
 // Words that ask for help, and a part of the help.
-const HELPS: [(&[&str], &str); 6] = [
+const HELPS: [(&[&str], &str); 7] = [
     (&["poolrun", "--help"], "Example: poolrun replay"),
     (&["poolrun", "help"], "Example: poolrun replay"),
     (&["poolrun", "replay", "--help"], "Example: poolrun replay"),
     (&["poolrun", "check", "--help"], "Example: poolrun check"),
+    (&["poolrun", "run", "--help"], "Example: poolrun run"),
     (&["poolrun", "key", "--help"], "Example: poolrun key"),
     (&["poolrun", "help", "key"], "Example: poolrun key"),
 ];

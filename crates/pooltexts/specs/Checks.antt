@@ -81,5 +81,6 @@ RefusesActs bytes (runs.Acts acts.Memory) = HasShape bytes
 RefusesActs bytes runs.Memory = HasVerdict bytes
 RefusesActs bytes (runs.Read fault) = ⊥
 RefusesActs bytes (runs.Core fault) = ⊥
+RefusesActs bytes runs.Open = ⊥
 RefusesActs bytes runs.File = ⊥
 RefusesActs bytes runs.Output = ⊥

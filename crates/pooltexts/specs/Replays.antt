@@ -61,6 +61,7 @@ abbrev pub RefusesDraw : List ℕ → RunFault → Type 0
 RefusesDraw file (runs.Read fault) = RefusesFile file fault ⊎ ((fault ≡ faults.Memory) × HasPlan file)
 RefusesDraw file (runs.Core fault) = ⊥
 RefusesDraw file (runs.Acts fault) = ⊥
+RefusesDraw file runs.Open = ⊥
 RefusesDraw file runs.File = ⊥
 RefusesDraw file runs.Output = ⊥
 RefusesDraw file runs.Memory = ⊥
@@ -70,6 +71,7 @@ abbrev pub IsCoreFault : RunFault → Type 0
 IsCoreFault (runs.Core fault) = Unit {0}
 IsCoreFault (runs.Read fault) = ⊥
 IsCoreFault (runs.Acts fault) = ⊥
+IsCoreFault runs.Open = ⊥
 IsCoreFault runs.File = ⊥
 IsCoreFault runs.Output = ⊥
 IsCoreFault runs.Memory = ⊥
@@ -80,5 +82,6 @@ RefusesReplay file schedule (runs.Read fault) = RefusesFile file fault
 RefusesReplay file schedule (runs.Core fault) = HasPlan file
 RefusesReplay file schedule runs.Memory = HasReplay file schedule
 RefusesReplay file schedule (runs.Acts fault) = ⊥
+RefusesReplay file schedule runs.Open = ⊥
 RefusesReplay file schedule runs.File = ⊥
 RefusesReplay file schedule runs.Output = ⊥

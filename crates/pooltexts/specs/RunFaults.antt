@@ -18,6 +18,7 @@ abbrev pub run_fault_number : RunFault → ℕ
 run_fault_number (runs.Read fault) = script_fault_number fault
 run_fault_number (runs.Acts fault) = acts_fault_number fault
 run_fault_number (runs.Core fault) = 25
+run_fault_number runs.Open = 5
 run_fault_number runs.File = 41
 run_fault_number runs.Output = 42
 run_fault_number runs.Memory = 43
@@ -27,6 +28,7 @@ abbrev pub run_fault_name : RunFault → List ℕ
 run_fault_name (runs.Read fault) = script_fault_name fault
 run_fault_name (runs.Acts fault) = acts_fault_name fault
 run_fault_name (runs.Core fault) = codes "Memory"
+run_fault_name runs.Open = codes "Memory"
 run_fault_name runs.File = codes "File"
 run_fault_name runs.Output = codes "Output"
 run_fault_name runs.Memory = codes "Memory"

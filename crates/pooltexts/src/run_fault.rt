@@ -22,6 +22,9 @@ pub enum RunFault {
     /// The core was refused memory (25).
     #[error(transparent)]
     Core(CoreFault),
+    /// The pool wasn't opened, as memory was refused (5).
+    #[error("out of memory")]
+    Open,
     /// The file can't be opened or read to its end (41).
     #[error("the file can't be read")]
     File,
@@ -56,6 +59,7 @@ impl RunFault {
             RunFault::Read(fault) => fault.number(),
             RunFault::Acts(fault) => fault.number(),
             RunFault::Core(_) => 25,
+            RunFault::Open => 5,
             RunFault::File => 41,
             RunFault::Output => 42,
             RunFault::Memory => 43,
@@ -70,6 +74,7 @@ impl RunFault {
             RunFault::Read(fault) => fault.name(),
             RunFault::Acts(fault) => acts_fault_name(fault),
             RunFault::Core(_) => "Memory",
+            RunFault::Open => "Memory",
             RunFault::File => "File",
             RunFault::Output => "Output",
             RunFault::Memory => "Memory",

@@ -14,6 +14,6 @@ pub use laws::{holds_law, stands_law};
 pub use registers::{Holding, RegisterState};
 pub use reply::{Replies, Reply};
 pub use script::{Command, Operand, Register, Script};
-pub use text::write_trace;
+pub use text::{write_reply_line, write_trace};
 pub use trace::{Trace, Turn};
 pub use turn_laws::{acts_law, replies_law, script_law, words_law};

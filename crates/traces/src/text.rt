@@ -51,7 +51,12 @@ fn write_replies(lane: u32, replies: &[Reply], out: &mut Vec<u8>) -> Result<(), 
     Ok(())
 }
 
-fn write_reply_line(lane: u32, reply: &Reply, out: &mut Vec<u8>) -> Result<(), AllocError>
+/// Appends the line of a reply, as the trace text has it: the lane's number, an equals sign and the reply.
+///
+/// # Errors
+///
+/// `AllocError` where memory is refused: the vector still begins with what it held, and a part of the line may follow.
+pub fn write_reply_line(lane: u32, reply: &Reply, out: &mut Vec<u8>) -> Result<(), AllocError>
     ensures ok { OnOk result (out.new.items ≡ out.old.items ++ reply_line lane reply.now) }
     ensures err { OnErr result (IsPrefix out.old.items out.new.items) }
 {

@@ -74,8 +74,6 @@ struct Barrier {
 }
 
 impl Gate for Barrier {
-    ghost use Rattle.std.specs.Prelude.{Unit};
-
     ghost says = { λ gate worker line answer. Unit };
 
     fn pass(&self, worker: u32, _line: u32) -> bool {
