@@ -100,6 +100,7 @@ module _ {S : Type 0} {z : Shape} {place : ℕ} {a b : Me S View} where
         seen = (goes.between ++ made, sym (goes.seen ∙ append_assoc a.0.seen goes.between made));
         rooms = rooms-beside goes beside;
         legal = goes.legal;
+        quiet = goes.quiet;
         own = subst (λ (x : LaneRecord). x.mine ≡ acts_of x.lane b.0.seen) (sym now) goes.mine;
         held = held;
         stepped = stepped;
@@ -135,6 +136,7 @@ module _ {S : Type 0} {z : Shape} {place : ℕ} {a b : Me S View} where
     seen = did.seen;
     rooms = did.rooms;
     legal = did.legal;
+    quiet = did.quiet;
     own = did.own;
     held = did.held;
     stepped = did.stepped;
@@ -162,6 +164,7 @@ did-more {made = made} {more = more} {a = a} {b = b} {c = c} first second = reco
   seen = prefix-trans a.0.seen b.0.seen c.0.seen first.seen second.seen;
   rooms = rooms-more a.0 b.0 c.0 first.rooms second.rooms;
   legal = second.legal;
+  quiet = second.quiet;
   own = second.own;
   held = second.held ∙ first.held;
   stepped = let one = first.stepped in let two = second.stepped in omega arith;

@@ -132,6 +132,7 @@ did-nothing {a = a} one seen = record {
   rooms = ([], sym (append-nil a.0.rooms), omega arith);
   legal = seen.0;
   own = seen.1;
+  quiet = seen.2;
   held = refl;
   stepped = omega arith;
   looked = omega arith;

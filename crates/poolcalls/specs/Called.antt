@@ -20,7 +20,7 @@ use Rattle.sharelaws.specs.Shares.{room_of}
 use Rattle.poolsteps.specs.declared.view.LaneRecord.{LaneRecord}
 use Rattle.poolsteps.specs.declared.view.View.{View}
 use Rattle.poolsteps.specs.Views.{the_lane, pushed_in, status_of, known_of, acts_in, IsOne}
-use Rattle.poolsteps.specs.Told.{IsIdle, HasPlace, LeftAlone, references_seen}
+use Rattle.poolsteps.specs.Told.{IsIdle, Quiet, HasPlace, LeftAlone, references_seen}
 use Rattle.poolcells.specs.Carried.{AreEmptied}
 use Rattle.poolcalls.specs.declared.reclaimed.Got.{Got}
 use Rattle.poolcalls.specs.declared.reclaimed.Got.TheVariants.{Hit, Miss}
@@ -51,6 +51,7 @@ pub record Did {S : Type 0} (z : Shape) (place : ℕ) (made : List Act) (steps l
   -- a room stands beside each act that was then seen
   pub rooms : (more : List ℕ) × (after.0.rooms ≡ before.0.rooms ++ more) × (length after.0.seen ≡ length before.0.seen + length more)
   pub legal : IsLegal z after.0.seen
+  pub quiet : Quiet z after.0
   pub own : (the_lane after.0).mine ≡ acts_of (the_lane after.0).lane after.0.seen
   pub held : after.1 ≡ before.1
   pub stepped : after.0.steps ≡ before.0.steps + steps
@@ -59,9 +60,9 @@ pub record Did {S : Type 0} (z : Shape) (place : ℕ) (made : List Act) (steps l
   pub deeds : (p number : ℕ) → p ≢ place → status_of (the_lane after.0) p number ≡ status_of (the_lane before.0) p number
   pub cells : (p : ℕ) → p ≢ place → known_of (the_lane after.0) p ≡ known_of (the_lane before.0) p
 
--- what the seat saw is a legal history, with just its lane's own acts
+-- what the seat saw is a legal history, with just its lane's own acts; a pool's only lane, with nothing under way, has a reference to each marked key
 abbrev pub IsLawful : Shape → View → Type 0
-IsLawful z v = IsLegal z v.seen × ((the_lane v).mine ≡ acts_of (the_lane v).lane v.seen)
+IsLawful z v = IsLegal z v.seen × ((the_lane v).mine ≡ acts_of (the_lane v).lane v.seen) × Quiet z v
 
 -- these steps of an END, one after another, are those that it makes after the ones made so far
 abbrev pub AreEnd : Caller → ℕ → List Step → List Step → Type 0

@@ -52,7 +52,7 @@ within-none {z = z} {place = place} {a = a} done limit one seen last = record {
 -- nor is one made after others, where the limit is 0
 pub within-after : {S : Type 0} {z : Shape} {place other s l : ℕ} {made : List Act} {a b : Me S View} (done : List Step) → Did z other made s l a b
     → GoesWithin z place done 0 b b
-within-after done did = within-stop done did.one (did.legal, did.own)
+within-after done did = within-stop done did.one (did.legal, did.own, did.quiet)
 
 module _ {S : Type 0} {z : Shape} {place more l : ℕ} {a b c : Me S View} (done : List Step) where
   -- steps in front

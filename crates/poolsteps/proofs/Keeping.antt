@@ -78,6 +78,7 @@ goes-two z a b c r s same first second = record {
   others = rw (acts-append s.lane first.between second.between, second.others, same, first.others) refl;
   legal = second.legal;
   mine = second.mine;
+  quiet = second.quiet;
 }
 
 -- a key that the lane may publish it still may after a look that leaves what it has under way and its chain

@@ -3,6 +3,7 @@ pub mod ViewLemmas
 pub mod PageLemmas
 pub mod FirstWords
 pub mod FirstSlots
+pub mod Solo
 pub mod SeatLemmas
 pub mod Making
 pub mod SlotLemmas

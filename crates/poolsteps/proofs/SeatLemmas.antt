@@ -30,6 +30,7 @@ use Rattle.poolsteps.specs.Rule.{World, IsRecord, IsBeginning, HasSeen, AreSeats
 use Rattle.poolsteps.specs.Seats.{heard_of}
 use Rattle.poolsteps.specs.Told.{GoesOn, Steps}
 use Rattle.poolsteps.proofs.LayoutLemmas.{value-is, set-word}
+use Rattle.poolsteps.proofs.Solo.{only-lane, quiet-now}
 use Rattle.poolsteps.proofs.ViewLemmas.{times-some, in-one, among-set, among-two, prefix-self, prefix-trans, act-behind, none-behind, acts-between, shorter-begins}
 
 -- the view of a seat with this lane, which saw all of a world
@@ -167,8 +168,8 @@ module _ (z : Shape) (w : World) (views : List View) (seats : AreSeats z w views
     u = view_of r n steps looks
 
     -- what the seat is told of its acts
-    goes-on : length w.kept ≡ length w.history → IsLegal z n.history → GoesOn z v u made rooms_made r
-    goes-on paired legal = let here = seat-at paired in record {
+    goes-on : length w.kept ≡ length w.history → (words : Words) → Rule z (moment words n.history n.lanes) → GoesOn z v u made rooms_made r
+    goes-on paired words rule = let here = seat-at paired in record {
       lanes = refl;
       between = here.between;
       seen = grows ∙ ap (λ (acts : List Act). acts ++ made) here.seen;
@@ -176,8 +177,9 @@ module _ (z : Shape) (w : World) (views : List View) (seats : AreSeats z w views
       rooms = more ∙ ap (λ (rooms : List ℕ). rooms ++ rooms_made) here.rooms;
       paired = here.paired;
       others = ap (λ (lane : ℕ). acts_of lane here.between) same ∙ here.others;
-      legal = legal;
+      legal = rule.legal;
       mine = is.mine;
+      quiet = quiet-now z words n.history n.lanes r n.history n.kept steps looks rule is.inside is.under (λ one. refl);
     }
 
     -- a beginning of the world before is one of this
@@ -284,7 +286,7 @@ module _ {T : Type 0} (content : T → List ℕ) (room : T → ℕ) (z : Shape) 
         record {
           changes = subst (λ (found : ℕ). Changes z.last_generation kind found value) (value-is z words word inside) keeps.changes;
           goes = goes-on z w views st.seats id me.0 at one n (acts_in act) (rooms_in r act) grows refl r is same (me.0.steps + 1) me.0.looks
-              st.paired keeps.rule.legal;
+              st.paired _ keeps.rule;
           held = refl;
           steps = refl;
           looks = refl;
@@ -322,7 +324,7 @@ module _ {T : Type 0} (content : T → List ℕ) (room : T → ℕ) (z : Shape) 
           seats = seats-after z w views st.seats id me.0 at one n [] [] grows more r is same me.0.steps (me.0.looks + 1)
               st.paired (λ l other. refl) stay;
         },
-        goes-on z w views st.seats id me.0 at one n [] [] grows more r is same me.0.steps (me.0.looks + 1) st.paired st.rule.legal,
+        goes-on z w views st.seats id me.0 at one n [] [] grows more r is same me.0.steps (me.0.looks + 1) st.paired (words_in z words) st.rule,
       )
 
   -- a look at any word that moves nothing, after which the seat saw this beginning of the history, which begins with what it saw before
@@ -346,7 +348,8 @@ module _ {T : Type 0} (content : T → List ℕ) (room : T → ℕ) (z : Shape) 
       let rooms_begin : IsPrefix u.rooms w.kept = (drop (length seen) w.kept, take-append-drop (length seen) w.kept) in
       let rooms_further = shorter-begins v.rooms u.rooms w.kept old.rooms rooms_begin (omega (arith, old.paired)) in
       let rooms_split = length-append v.rooms rooms_further.0 in
-      let rooms_length = ap length rooms_further.1 in (
+      let rooms_length = ap length rooms_further.1 in
+      let legal : IsLegal z seen = legal-front z fresh seen begins.0 (subst (IsLegal z) (sym begins.1) st.rule.legal) in (
         record {
           count = length-set words index (slice_index words index) ∙ st.count;
           deep = st.deep;
@@ -364,7 +367,9 @@ module _ {T : Type 0} (content : T → List ℕ) (room : T → ℕ) (z : Shape) 
           rooms = sym rooms_further.1 ∙ sym (append-nil (v.rooms ++ rooms_further.0));
           paired = (old.paired, omega (arith, old.paired));
           others = none;
-          legal = legal-front z fresh seen begins.0 (subst (IsLegal z) (sym begins.1) st.rule.legal);
+          legal = legal;
           mine = mine ∙ all_seen;
+          quiet = quiet-now z (words_in z words) w.history w.lanes r seen u.rooms v.steps (v.looks + 1) st.rule own.inside own.under (λ one.
+          sym (only-lane z r.lane seen one own.inside legal) ∙ (sym (mine ∙ all_seen) ∙ (own.mine ∙ only-lane z r.lane w.history one own.inside st.rule.legal)));
         },
       )

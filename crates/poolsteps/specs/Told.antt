@@ -5,13 +5,14 @@ use Rattle.keybits.specs.declared.shape.Shape.{Shape}
 use Rattle.keybits.specs.declared.step.Kind.{Kind}
 use Rattle.keybits.specs.declared.step.Kind.TheVariants as kinds
 use Rattle.keybits.specs.Places.{shard_of}
+use Rattle.keybits.specs.Shapes.{is_place}
 use Rattle.keybits.specs.Keys.{place_of}
 use Rattle.keybits.specs.Counts.{times}
 use Rattle.keybits.specs.Words.{state_in, generation_in, claimable}
 use Rattle.keybits.specs.Steps.{Changes, claim_gives}
 use Rattle.seqpool.specs.declared.act.Act.{Act}
 use Rattle.seqpool.specs.declared.act.Act.TheVariants as acts
-use Rattle.seqpool.specs.Pool.{with, references, is_current, pool_after, IsLegal}
+use Rattle.seqpool.specs.Pool.{with, references, references_in, is_marked, is_current, pool_after, IsLegal}
 use Rattle.seqpool.specs.Histories.{acts_of}
 use Rattle.sharelaws.specs.declared.stored.Stored.{Stored}
 use Rattle.sharelaws.specs.declared.stored.Status.TheVariants.{Untouched, Emptied, InHand}
@@ -26,6 +27,11 @@ use Rattle.poolsteps.specs.declared.view.LaneRecord.{LaneRecord}
 use Rattle.poolsteps.specs.declared.view.View.{View}
 use Rattle.poolsteps.specs.Views.{the_lane, status_of, known_of, acts_in, rooms_in, after_step, with_cell}
 
+-- a pool's only lane, which has nothing under way, has a reference to each marked key
+abbrev pub Quiet : Shape → View → Type 0
+Quiet z v = z.lanes ≡ 1 → (the_lane v).under ≡ Nothing → (place : ℕ) → is_place z place ≡ true → is_marked (pool_after z v.seen place).phase ≡ true
+    → 0 < references_in (pool_after z v.seen place).phase (the_lane v).lane
+
 -- the lane goes on with these acts of its own, and the rooms beside them, behind what other lanes did, and its record is then this
 pub record GoesOn (z : Shape) (before after : View) (made : List Act) (rooms_made : List ℕ) (r : LaneRecord) : Type 0 where
   pub lanes : after.lanes ≡ r ∷ []
@@ -37,6 +43,7 @@ pub record GoesOn (z : Shape) (before after : View) (made : List Act) (rooms_mad
   pub others : acts_of r.lane between ≡ []
   pub legal : IsLegal z after.seen
   pub mine : r.mine ≡ acts_of r.lane after.seen
+  pub quiet : Quiet z after
 
 -- the seat made one step of this kind, which found the one word and left the other, with this act or none
 pub record Steps {S : Type 0} (z : Shape) (kind : Kind) (found left : ℕ) (before after : Me S View) (act : Option Act) (r : LaneRecord) : Type 0 where

@@ -24,6 +24,7 @@ none-went z v one seen = record {
   rooms = ([], sym (append-nil v.rooms), omega arith);
   legal = seen.0;
   own = seen.1;
+  quiet = seen.2;
   pushed = refl;
   under = refl;
 }
@@ -43,6 +44,7 @@ went-goes {a = a} {b = b} {made = made} {rooms = rooms} {r = r} goes even lane m
       seen = (goes.between ++ made, sym (goes.seen ∙ append_assoc a.seen goes.between made));
       rooms = (goes.rooms_between ++ rooms, goes.rooms ∙ append_assoc a.rooms goes.rooms_between rooms, omega arith);
       legal = goes.legal;
+      quiet = goes.quiet;
       own = subst (λ (x : LaneRecord). x.mine ≡ acts_of x.lane b.seen) (sym now) goes.mine;
       pushed = ap (λ (x : LaneRecord). x.pushed) now ∙ pushed;
       under = ap (λ (x : LaneRecord). x.under) now ∙ under;
@@ -64,6 +66,7 @@ went-more {made = made} {more = more} {a = a} {b = b} {c = c} first second =
         omega arith,
       );
       legal = second.legal;
+      quiet = second.quiet;
       own = second.own;
       pushed = second.pushed ∙ first.pushed;
       under = second.under ∙ first.under;

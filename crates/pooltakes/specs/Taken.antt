@@ -22,6 +22,7 @@ use Rattle.steplaws.specs.Calls.Call.{Creating}
 use Rattle.poolsteps.specs.declared.view.View.{View}
 use Rattle.poolsteps.specs.Views.{the_lane, status_of, known_of, IsOne}
 use Rattle.poolsteps.specs.Returned.{rest_of, taken_record, LeadsTo}
+use Rattle.poolsteps.specs.Told.{Quiet}
 use Rattle.poolcells.specs.Carried.{AreEmptied}
 use Rattle.poolcalls.specs.Called.{caller_of, Make}
 
@@ -34,6 +35,7 @@ pub record Went (z : Shape) (made : List Act) (before after : View) : Type 0 whe
   -- a room stands beside each act that was then seen
   pub rooms : (more : List ℕ) × (after.rooms ≡ before.rooms ++ more) × (length after.seen ≡ length before.seen + length more)
   pub legal : IsLegal z after.seen
+  pub quiet : Quiet z after
   pub own : (the_lane after).mine ≡ acts_of (the_lane after).lane after.seen
   pub pushed : (the_lane after).pushed ≡ (the_lane before).pushed
   pub under : (the_lane after).under ≡ (the_lane before).under

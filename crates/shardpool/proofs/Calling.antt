@@ -27,6 +27,7 @@ calls-more called most =
         seen = did.seen;
         rooms = did.rooms;
         legal = did.legal;
+        quiet = did.quiet;
         own = did.own;
         held = refl;
         stepped = did.stepped;

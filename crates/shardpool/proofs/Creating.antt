@@ -80,7 +80,7 @@ none-yet : (z : Shape) (call : Call) (v : View) {number : ℕ} → FitsSeat z v 
 none-yet z call v seat = record {
   are = tt;
   make = refl;
-  went = none-went z v seat.one (seat.legal, seat.own);
+  went = none-went z v seat.one (seat.legal, seat.own, seat.quiet);
   stepped = omega arith;
   looked = omega arith;
 }

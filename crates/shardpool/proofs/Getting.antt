@@ -66,6 +66,7 @@ calls-more called few =
         seen = did.seen;
         rooms = did.rooms;
         legal = did.legal;
+        quiet = did.quiet;
         own = did.own;
         held = refl;
         stepped = did.stepped;

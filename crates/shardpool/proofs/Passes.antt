@@ -8,6 +8,7 @@ use Rattle.seqpool.specs.Pool.{touches, IsLegal}
 use Rattle.seqpool.specs.Histories.{acts_of}
 use Rattle.poolsteps.specs.declared.view.View.{View}
 use Rattle.poolsteps.specs.Views.{the_lane, status_of, known_of, IsOne}
+use Rattle.poolsteps.specs.Told.{Quiet}
 
 -- between two views the lane made these acts, and touched the slots of no places but these
 pub record Passes (z : Shape) (at : ℕ → Bool) (made : List Act) (v w : View) : Type 0 where
@@ -17,6 +18,7 @@ pub record Passes (z : Shape) (at : ℕ → Bool) (made : List Act) (v w : View)
   pub seen : IsPrefix v.seen w.seen
   pub rooms : (more : List ℕ) × (w.rooms ≡ v.rooms ++ more) × (length w.seen ≡ length v.seen + length more)
   pub legal : IsLegal z w.seen
+  pub quiet : Quiet z w
   pub own : (the_lane w).mine ≡ acts_of (the_lane w).lane w.seen
   pub deeds : (p number : ℕ) → at p ≡ false → status_of (the_lane w) p number ≡ status_of (the_lane v) p number
   pub cells : (p : ℕ) → at p ≡ false → known_of (the_lane w) p ≡ known_of (the_lane v) p

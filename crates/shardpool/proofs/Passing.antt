@@ -61,6 +61,7 @@ passes-goes {z} {at} {v} {w} {made} {rooms} {r} goes beside lane mine deeds cell
       seen = (goes.between ++ made, sym (goes.seen ∙ append_assoc v.seen goes.between made));
       rooms = rooms-go goes beside;
       legal = goes.legal;
+      quiet = goes.quiet;
       own = subst (λ (x : LaneRecord). x.mine ≡ acts_of x.lane w.seen) (sym now) goes.mine;
       deeds = λ p number off. ap (λ (x : LaneRecord). status_of x p number) now ∙ deeds p number off;
       cells = λ p off. ap (λ (x : LaneRecord). known_of x p) now ∙ cells p off;
@@ -80,6 +81,7 @@ passes-did {place = place} did = record {
   seen = did.seen;
   rooms = did.rooms;
   legal = did.legal;
+  quiet = did.quiet;
   own = did.own;
   deeds = λ p number off. did.deeds p number (eqb-false p place off);
   cells = λ p off. did.cells p (eqb-false p place off);
@@ -95,6 +97,7 @@ passes-still {place = place} {a = a} {b = b} did still = record {
   seen = did.seen;
   rooms = did.rooms;
   legal = did.legal;
+  quiet = did.quiet;
   own = did.own;
   deeds = λ p number off. dite (ℕ_discrete p place)
       (λ here. subst (λ (x : ℕ). status_of (the_lane b.0) x number ≡ status_of (the_lane a.0) x number) (sym here) (still.deeds number))
@@ -130,6 +133,7 @@ passes-wider {at = at} {more = more} wider passes =
       seen = passes.seen;
       rooms = passes.rooms;
       legal = passes.legal;
+      quiet = passes.quiet;
       own = passes.own;
       deeds = λ p number none. passes.deeds p number (off p none);
       cells = λ p none. passes.cells p (off p none);
@@ -148,6 +152,7 @@ passes-more {made = made} {more = more} {v = v} {w = w} {u = u} first second = r
     (let all = length-append first.rooms.0 second.rooms.0 in omega (arith, all, first.rooms.2, second.rooms.2)),
   );
   legal = second.legal;
+  quiet = second.quiet;
   own = second.own;
   deeds = λ p number off. second.deeds p number off ∙ first.deeds p number off;
   cells = λ p off. second.cells p off ∙ first.cells p off;

@@ -59,6 +59,7 @@ did-nothing {a = a} place looks seat = record {
   seen = ([], append-nil a.0.seen);
   rooms = ([], sym (append-nil a.0.rooms), omega arith);
   legal = seat.legal;
+  quiet = seat.quiet;
   own = seat.own;
   held = refl;
   stepped = omega arith;

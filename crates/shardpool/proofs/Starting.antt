@@ -40,7 +40,7 @@ entry-is n at a entry is =
 
 -- the seat, the tops, the rows and the stores of the first view
 first-seat : (z : Shape) (lane : ℕ) → IsShape z → lane < z.lanes → FitsSeat z (first_book lane) lane
-first-seat z lane shape below = record { shape = shape; one = refl; number_is = refl; below = below; idle = refl; legal = tt; own = refl; paired = refl; alone = λ place inside other. refl }
+first-seat z lane shape below = record { shape = shape; one = refl; number_is = refl; below = below; idle = refl; legal = tt; quiet = λ one idle place inside marked. absurd (cc marked); own = refl; paired = refl; alone = λ place inside other. refl }
 
 first-tops : (z : Shape) (lane : ℕ) → FitsTops z (first_book lane) (replicate z.lanes 0)
 first-tops z lane = record { wide = length-replicate z.lanes 0; each = λ shard below. get_or-replicate z.lanes shard 0 0 below }

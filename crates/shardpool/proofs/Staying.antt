@@ -37,6 +37,7 @@ seat-passes {z = z} {made = made} {v = v} {n = n} seat passes idle alone = recor
   below = seat.below;
   idle = idle;
   legal = passes.legal;
+  quiet = passes.quiet;
   own = passes.own;
   paired = ap (λ (xs : List ℕ). length xs) passes.rooms.1 ∙ (length-append v.rooms passes.rooms.0
       ∙ (ap (λ (m : ℕ). m + length passes.rooms.0) seat.paired ∙ sym passes.rooms.2));

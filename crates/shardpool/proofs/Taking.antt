@@ -118,6 +118,7 @@ went-passes went deeds cells = record {
   seen = went.seen;
   rooms = went.rooms;
   legal = went.legal;
+  quiet = went.quiet;
   own = went.own;
   deeds = deeds;
   cells = cells;

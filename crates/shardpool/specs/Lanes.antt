@@ -8,7 +8,7 @@ use Rattle.keybits.specs.Keys.{place_of, generation_of}
 use Rattle.freelists.specs.Shards.{place_numbered}
 use Rattle.seqpool.specs.declared.act.Act.{Act}
 use Rattle.seqpool.specs.declared.act.Act.TheVariants as acts
-use Rattle.seqpool.specs.Pool.{with, has, pool_after}
+use Rattle.seqpool.specs.Pool.{with, has, references_in, is_marked, pool_after}
 use Rattle.steplaws.specs.Calls.{Call}
 use Rattle.poolsteps.specs.declared.view.View.{View}
 use Rattle.poolsteps.specs.Views.{the_lane}
@@ -34,6 +34,11 @@ refs lane = held_after (the_lane lane.book).mine 0
 -- how many references the lane has to a key
 abbrev pub holds : LaneOf → ℕ → ℕ
 holds lane key = references_seen lane.shape lane.book key
+
+-- the lane has a reference to each marked key
+abbrev pub AreHeld : LaneOf → Type 0
+AreHeld lane = (place : ℕ) → is_place lane.shape place ≡ true → is_marked (pool_after lane.shape lane.book.seen place).phase ≡ true
+    → 0 < references_in (pool_after lane.shape lane.book.seen place).phase lane.number
 
 -- a place of the lane's shard is a filling: of an opened page, with the lane, and neither on its list nor on its taken chain
 pub record IsFilling (lane : LaneOf) (place : ℕ) : Type 0 where

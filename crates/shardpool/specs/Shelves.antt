@@ -13,7 +13,7 @@ use Rattle.sharelaws.specs.declared.stored.Status.TheVariants.{Emptied}
 use Rattle.slotcell.specs.Share.{Share}
 use Rattle.poolsteps.specs.declared.view.View.{View}
 use Rattle.poolsteps.specs.Views.{the_lane, pushed_in, status_of, known_of, IsOne}
-use Rattle.poolsteps.specs.Told.{IsIdle, references_seen}
+use Rattle.poolsteps.specs.Told.{IsIdle, Quiet, references_seen}
 use Rattle.poolsteps.specs.Moved.{stored_of}
 use Rattle.poolsteps.specs.Returned.{rest_of}
 use Rattle.shardpool.specs.declared.shelf.Row.{Row}
@@ -28,6 +28,7 @@ pub record FitsSeat (z : Shape) (v : View) (number : ℕ) : Type 0 where
   pub below : number < z.lanes
   pub idle : IsIdle v
   pub legal : IsLegal z v.seen
+  pub quiet : Quiet z v
   pub own : (the_lane v).mine ≡ acts_of (the_lane v).lane v.seen
   pub paired : length v.rooms ≡ length v.seen
   pub alone : (place : ℕ) → is_place z place ≡ true → shard_of place ≢ number → left_with z place (the_lane v).mine false ≡ false

@@ -39,7 +39,7 @@ impl<T: Clear> Lane<T> {
     ghost use Rattle.seqpool.specs.Pool.{IsLegal};
     ghost use Rattle.seqpool.specs.Histories.{PublishedAt, acts_of};
     ghost use Rattle.poolsteps.specs.Views.{the_lane};
-    ghost use Rattle.shardpool.specs.Lanes.{holds, refs};
+    ghost use Rattle.shardpool.specs.Lanes.{AreHeld, holds, refs};
 
     /// The lane's number, which is that of its shard.
     pub fn number(&self) -> u32
@@ -78,11 +78,13 @@ impl<T: Clear> Lane<T> {
     }
 
     /// As a law: what the lane has seen is a legal history of the pool, and has of the lane's acts just those that it made. In a pool of
-    /// one lane it has no other acts, so that each reply is that of a pool of one thread.
+    /// one lane it has no other acts, so that each reply is that of a pool of one thread, and each key that was cleared and not yet reclaimed
+    /// has a reference.
     pub fn seen_law(&self)
         ensures legal { IsLegal self.now.shape self.now.book.seen }
         ensures own { (the_lane self.now.book).mine ≡ acts_of self.now.number self.now.book.seen }
         ensures alone { self.now.shape.lanes ≡ 1 → self.now.book.seen ≡ (the_lane self.now.book).mine }
+        ensures held { self.now.shape.lanes ≡ 1 → AreHeld self.now }
     {
         // A proof knows the invariant of a lane once a field of it is seen.
         let _ = &self.shelf;

@@ -27,16 +27,3 @@ pub use laws::parts_law;
 pub use opening::open;
 pub use pool::Pool;
 pub use token::{Filling, Note, Ref};
-
-#[cfg(test)]
-mod halt_tests;
-#[cfg(test)]
-mod test_calls;
-#[cfg(test)]
-mod test_close;
-#[cfg(test)]
-mod test_rows;
-#[cfg(test)]
-mod test_threads;
-#[cfg(test)]
-mod tests;

@@ -1,7 +1,7 @@
 -- The lane's invariant has the law.
 use Rattle.std.proofs.Common.{ap, ◌∙◌, sym}
 use Rattle.seqpool.specs.Histories.{acts_of}
-use Rattle.shardpool.proofs.Solo.{solo}
+use Rattle.shardpool.proofs.Solo.{solo, solo-held}
 use Rattle.shardpool.proofs.lane.Lane.seen_law.Goals as goal
 
 pub returns-clause-legal : goal.returns-clause-legal
@@ -14,3 +14,6 @@ returns-clause-own g c =
 
 pub returns-clause-alone : goal.returns-clause-alone
 returns-clause-alone g c = rw (← c.self.view_is) (solo c.self.inside.shelf.shape c.self.inside.hand.me.0 c.self.inside.shelf.number c.self.invariant.1.seat)
+
+pub returns-clause-held : goal.returns-clause-held
+returns-clause-held g c = rw (← c.self.view_is) (solo-held c.self.inside.shelf.shape c.self.inside.hand.me.0 c.self.inside.shelf.number c.self.invariant.1.seat)

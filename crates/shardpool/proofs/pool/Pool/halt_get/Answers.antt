@@ -12,7 +12,7 @@ use Rattle.shardpool.proofs.pool.Pool.halt_get.Goals as goal
 pub returns-in_default-clause-called : goal.returns-in_default-clause-called
 returns-in_default-clause-called g c =
     let seat = c.requires.parts.fits.seat in
-    halts-none (Getting c.args.key) c.args.limit seat.one (seat.legal, seat.own)
+    halts-none (Getting c.args.key) c.args.limit seat.one (seat.legal, seat.own, seat.quiet)
     (outside-none (caller_of c.args.self.now.shape c.args.hand.now.me.0) c.args.key
     (λ inside. let bad : false ≡ true = c.in_default.ensures.some.1 inside in cc bad)).0
 

@@ -1,0 +1,67 @@
+ghost use Rattle.shardpool.specs.Lanes.{Owns};
+
+use crate::test_calls::{open_pair, shape_of};
+use keybits::{Shape, ShapeFault};
+use shardpool::{Lane, OpenFault, Pool, open};
+use slotcell::{ByteBuf, Clear, Record};
+use std::process::Abort;
+use std::test::Fail;
+
+const LARGEST: Shape = Shape {
+    lanes: 16,
+    first_page: 64,
+    pages: 6,
+    last_generation: 4294967295,
+    tag: 255,
+};
+
+/// Clears of a number outside the shape, and of a key that was never published.
+fn clear_of_nothing<T: Clear + Drop, R: Abort>(rt: &R, pool: &Pool<T>, lane: &mut Lane<T>)
+    requires { Owns pool.now lane.old }
+    ensures { Owns pool.now lane.new }
+{
+    assert!(rt; !pool.clear(lane, 0));
+    assert!(rt; !pool.clear(lane, 18446744073709551615));
+    assert!(rt; !pool.clear(lane, 16777216));
+    assert_eq!(rt; lane.refs(), 0);
+    assert_eq!(rt; lane.holds(16777216), 0);
+}
+
+#[test]
+fn opens_pools_of_each_size(rt: HostRuntime) -> Result<(), Fail> {
+    let (pool, lanes) = open::<ByteBuf>(rt.alloc(), LARGEST)?;
+    assert_eq!(rt; pool.shape(), LARGEST);
+    assert_eq!(rt; lanes.len(), 16);
+    for (number, lane) in lanes.into_iter().enumerate() {
+        assert_eq!(rt; lane.number() as usize, number);
+        assert!(rt; !lane.has_free());
+    }
+    let (pool, lanes) = open::<Record>(rt.alloc(), shape_of(2, 1, 1))?;
+    assert_eq!(rt; pool.shape().lanes, 2);
+    assert_eq!(rt; lanes.len(), 2);
+    Ok(())
+}
+
+#[test]
+fn refuses_shapes(rt: HostRuntime) {
+    let many = Shape {
+        lanes: 17,
+        ..LARGEST
+    };
+    let Err(fault) = open::<ByteBuf>(rt.alloc(), many) else {
+        panic!(rt; "seventeen lanes")
+    };
+    assert_eq!(rt; fault, OpenFault::Shape(ShapeFault::Lanes));
+    assert_eq!(rt; fault.number(), 1);
+}
+
+#[test]
+fn clears_what_is_not_published(rt: HostRuntime) -> Result<(), Fail> {
+    let (pool, mut first, mut second) = open_pair::<ByteBuf>(rt.alloc(), shape_of(2, 1, 1))?;
+    clear_of_nothing(&rt, &pool, &mut first);
+    clear_of_nothing(&rt, &pool, &mut second);
+    let note = pool.tell(&mut first);
+    pool.hear(&mut second, note);
+    pool.meet(&mut first, &mut second);
+    Ok(())
+}
