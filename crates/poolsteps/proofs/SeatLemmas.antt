@@ -370,6 +370,6 @@ module _ {T : Type 0} (content : T → List ℕ) (room : T → ℕ) (z : Shape) 
           legal = legal;
           mine = mine ∙ all_seen;
           quiet = quiet-now z (words_in z words) w.history w.lanes r seen u.rooms v.steps (v.looks + 1) st.rule own.inside own.under (λ one.
-          sym (only-lane z r.lane seen one own.inside legal) ∙ (sym (mine ∙ all_seen) ∙ (own.mine ∙ only-lane z r.lane w.history one own.inside st.rule.legal)));
+              sym (only-lane z r.lane seen one own.inside legal) ∙ (sym (mine ∙ all_seen) ∙ (own.mine ∙ only-lane z r.lane w.history one own.inside st.rule.legal)));
         },
       )
