@@ -101,6 +101,22 @@ fn draws_for_a_file(rt: HostRuntime) -> Result<(), Fail> {
     Ok(())
 }
 
+// Whatever is drawn, scripts without a command do nothing.
+#[test]
+fn draws_for_empty_scripts(rt: HostRuntime) -> Result<(), Fail> {
+    let file =
+        b"{\"shape\":{\"lanes\":2,\"first_page\":1,\"pages\":1,\"last_generation\":1},\"scripts\":[[],[]]}";
+    for turns in [0u32, 5] {
+        let schedule = draw_turns(rt.alloc(), file, 1, turns)?;
+        assert_eq!(rt; schedule.len(), turns as usize);
+        let mut out = Watched::new(Vec::new(rt.alloc()));
+        replay_text(rt.alloc(), file, schedule.as_slice(), false, &mut out)?;
+        assert!(rt; !out.failed());
+        assert!(rt; out.into_inner().is_empty());
+    }
+    Ok(())
+}
+
 // A text, then another so many times, then a third.
 fn around(
     alloc: Global,

@@ -1,5 +1,5 @@
 -- The lanes of workers: from the opening of a pool to its close.
-use Rattle.std.proofs.Common.{◌≡◌, ℕ, zero, suc, ◌≤◌, ◌<◌, List, [], ◌∷◌, length, arith, refl, sym, ap, ◌∙◌, subst}
+use Rattle.std.proofs.Common.{◌≡◌, ℕ, zero, suc, ◌≤◌, ◌<◌, Bool, List, [], ◌∷◌, length, arith, refl, sym, ap, ◌∙◌, subst}
 use Rattle.std.specs.Prelude.{Some, map, slice_get, option_map, unwrap_or}
 use Rattle.std.proofs.lemmas.List.{length-map}
 use Rattle.std.proofs.lemmas.Option.{slice_get_within, slice_get-map}
@@ -45,8 +45,8 @@ may-begin pool lanes jobs first of index job at =
     (is.owned, subst (λ (book : View). held_after (the_lane book).mine 0 ≤ 1048559) (sym is.book) (omega arith))
 
 -- the lanes of the answers of jobs for all lanes of a pool are all its lanes
-pub are-lanes : (pool : PoolOf) (lanes : List LaneOf) (jobs : List Job) (dones : List Done) → AreFirstLanes pool lanes
-    → lanes_before jobs ≡ lanes → Answers jobs dones → AreLanes pool (lanes_after dones)
+pub are-lanes : {says : ℕ → ℕ → Bool → Type 0} (pool : PoolOf) (lanes : List LaneOf) (jobs : List Job) (dones : List Done) → AreFirstLanes pool lanes
+    → lanes_before jobs ≡ lanes → Answers says jobs dones → AreLanes pool (lanes_after dones)
 are-lanes pool lanes jobs dones first of answers = record {
   count = many;
   owned = λ index lane at.

@@ -1,5 +1,5 @@
 -- Jobs that were begun, and what was known of them.
-use Rattle.std.specs.Prelude.{◌≡◌, List, [], ◌∷◌}
+use Rattle.std.specs.Prelude.{◌≡◌, ℕ, Bool, List, [], ◌∷◌}
 use Rattle.workers.specs.declared.jobs.Job.{Job}
 use Rattle.workers.specs.declared.jobs.Done.{Done}
 use Rattle.workers.specs.declared.begun.Begun.{Begun}
@@ -14,24 +14,30 @@ Pairs R (x ∷ xs) [] = ⊥
 Pairs R (x ∷ xs) (y ∷ ys) = R x y × Pairs R xs ys
 
 -- the job that was begun
-abbrev pub job_of : Begun → Job
+abbrev pub job_of : {G : Type 0} → Begun G → Job
 job_of (There handle) = handle.promise.job.value
 job_of (Here done promised) = promised.job.value
 
--- what was run in the caller's thread is the job's answer
-abbrev pub Holds : Begun → Type 0
-Holds (There handle) = Unit {0}
-Holds (Here done promised) = Answer promised.job.value done
+-- the gate with which it was begun
+abbrev pub gate_of : {G : Type 0} → Begun G → G
+gate_of (There handle) = handle.promise.gate.value
+gate_of (Here done promised) = promised.gate.value
 
--- each holds
-abbrev pub AllHold : List Begun → Type 0
-AllHold [] = Unit {0}
-AllHold (begun ∷ more) = Holds begun × AllHold more
+module _ {G : Type 0} (says : G → ℕ → ℕ → Bool → Type 0) where
+  -- what was run in the caller's thread is the job's answer
+  abbrev pub Holds : Begun G → Type 0
+  Holds (There handle) = Unit {0}
+  Holds (Here done promised) = Answer (says promised.gate.value) promised.job.value done
 
--- it was begun of this job
-abbrev pub IsBegun : Job → Begun → Type 0
-IsBegun job begun = (job_of begun ≡ job) × Holds begun
+  -- each holds
+  abbrev pub AllHold : List (Begun G) → Type 0
+  AllHold [] = Unit {0}
+  AllHold (begun ∷ more) = Holds begun × AllHold more
 
--- what came of it is the answer of its job
-abbrev pub IsFinished : Begun → Done → Type 0
-IsFinished begun done = Answer (job_of begun) done
+  -- it was begun of this job, with this gate
+  abbrev pub IsBegun : G → Job → Begun G → Type 0
+  IsBegun gate job begun = (job_of begun ≡ job) × (gate_of begun ≡ gate) × Holds begun
+
+  -- what came of it is the answer of its job
+  abbrev pub IsFinished : Begun G → Done → Type 0
+  IsFinished begun done = Answer (says (gate_of begun)) (job_of begun) done

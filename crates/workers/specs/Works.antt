@@ -1,5 +1,5 @@
 -- What a worker does with its lane, and what it answers.
-use Rattle.std.specs.Prelude.{◌≡◌, ℕ, ◌<◌, ◌≤◌, Bool, true, false, IfSome, min, List, length, take, Option, Some, None, MatchResult, slice_get}
+use Rattle.std.specs.Prelude.{◌≡◌, ℕ, ◌<◌, ◌≤◌, Bool, true, false, IfSome, IfOk, min, List, length, take, Option, Some, None, MatchResult, slice_get}
 use mathlib.Core.List.{IsPrefix}
 use Rattle.traces.specs.declared.script.Command.{Command}
 use Rattle.shardpool.specs.Tokens.{PoolOf, LaneOf}
@@ -34,17 +34,18 @@ Passed says ran stopped_at = ((line : ℕ) → line < ran → says (min line 429
 abbrev pub Works : LaneOf → List Command → Done → Type 0
 Works old script done = MatchResult done.report (λ report. Ran old script done.lane report) (λ refused. done.lane ≡ old)
 
--- what a worker answers for its job
-pub record Answer (job : Job) (done : Done) : Type 0 where
+-- what a worker answers for its job, with a gate that may answer this
+pub record Answer (says : ℕ → ℕ → Bool → Type 0) (job : Job) (done : Done) : Type 0 where
   pub same : SameLane job.lane done.lane
   pub seen : IsPrefix job.lane.book.seen done.lane.book.seen
   pub works : Works job.lane job.script done
+  pub passed : IfOk done.report (λ report. Passed (says job.lane.number) (length report.replies.items) report.stopped_at)
 
 -- every job has a lane that may work
 abbrev pub MayBegin : PoolOf → List Job → Type 0
 MayBegin pool jobs = (index : ℕ) (job : Job) → slice_get jobs index ≡ Some job → MayWork pool job.lane
 
 -- each answer is that of its job, in the order of the jobs
-pub record Answers (jobs : List Job) (dones : List Done) : Type 0 where
+pub record Answers (says : ℕ → ℕ → Bool → Type 0) (jobs : List Job) (dones : List Done) : Type 0 where
   pub count : length dones ≡ length jobs
-  pub each : (index : ℕ) (job : Job) (done : Done) → slice_get jobs index ≡ Some job → slice_get dones index ≡ Some done → Answer job done
+  pub each : (index : ℕ) (job : Job) (done : Done) → slice_get jobs index ≡ Some job → slice_get dones index ≡ Some done → Answer says job done

@@ -2,7 +2,7 @@
 ghost use Rattle.std.specs.Prelude.{◌≡◌, ◌≤◌, [], length, IfOk, IfErr};
 ghost use Rattle.std.specs.Vec.{vec_capacity};
 ghost use Rattle.workers.specs.Works.{MayWork, MayBegin, Answer, Answers};
-ghost use Rattle.workers.specs.Begins.{Pairs, job_of, Holds, AllHold, IsBegun, IsFinished};
+ghost use Rattle.workers.specs.Begins.{Pairs, Holds, AllHold, IsBegun, IsFinished};
 
 use crate::begun::{Begun, Promised};
 use crate::gate::Gate;
@@ -23,27 +23,33 @@ fn begin<'s, E: 's, G: Gate + Sync>(
     pool: &'s Pool<ByteBuf>,
     job: Job,
     gate: &'s G,
-) -> Begun
+) -> Begun<G>
     requires may { MayWork pool.now job.lane }
-    ensures begun { IsBegun job result }
+    ensures begun { IsBegun G.says gate.now job result }
 {
     let here = Promised {
         job: Snapshot::of(&job),
+        gate: Snapshot::of(gate),
     };
     let there = Promised {
         job: Snapshot::of(&job),
+        gate: Snapshot::of(gate),
     };
     let Job { lane, script } = job;
-    match scope.spawn_with(there, move || work(alloc, pool, lane, script, gate)) {
+    let run = move || -> Done
+        requires may { MayWork pool.now lane }
+        ensures answer { Answer (G.says gate.entry.now) (record { lane = lane; script = script }) result }
+    { work(alloc, pool, lane, script, gate) };
+    match scope.spawn_with(there, run) {
         Ok(handle) => Begun::There(handle),
         Err(refused) => Begun::Here((refused.value)(), here),
     }
 }
 
 /// Waits for the end of a job.
-fn finish<R: Threads>(rt: &R, begun: Begun) -> Done
-    requires holds { Holds begun }
-    ensures answer { Answer (job_of begun) result }
+fn finish<R: Threads, G: Gate>(rt: &R, begun: Begun<G>) -> Done
+    requires holds { Holds G.says begun }
+    ensures answer { IsFinished G.says begun result }
 {
     match begun {
         Begun::There(handle) => handle.join(rt),
@@ -58,11 +64,11 @@ fn begin_all<'s, E: 's, G: Gate + Sync>(
     pool: &'s Pool<ByteBuf>,
     jobs: Vec<Job>,
     gate: &'s G,
-    begun: Vec<Begun>,
-) -> Vec<Begun>
+    begun: Vec<Begun<G>>,
+) -> Vec<Begun<G>>
     requires may { MayBegin pool.now jobs.items }
     requires room { (begun.items ≡ []) × (length jobs.items ≤ vec_capacity begun) }
-    ensures begun { Pairs IsBegun jobs.items result.items }
+    ensures begun { Pairs (IsBegun G.says gate.now) jobs.items result.items }
 {
     let mut begun = begun;
     for job in jobs {
@@ -72,10 +78,10 @@ fn begin_all<'s, E: 's, G: Gate + Sync>(
 }
 
 /// Waits for the end of each job, in their order.
-fn finish_all<R: Threads>(rt: &R, begun: Vec<Begun>, dones: Vec<Done>) -> Vec<Done>
-    requires hold { AllHold begun.items }
+fn finish_all<R: Threads, G: Gate>(rt: &R, begun: Vec<Begun<G>>, dones: Vec<Done>) -> Vec<Done>
+    requires hold { AllHold G.says begun.items }
     requires room { (dones.items ≡ []) × (length begun.items ≤ vec_capacity dones) }
-    ensures finished { Pairs IsFinished begun.items result.items }
+    ensures finished { Pairs (IsFinished G.says) begun.items result.items }
 {
     let mut dones = dones;
     for one in begun {
@@ -98,7 +104,7 @@ pub fn run_workers<R: Threads + Wait + Sync, G: Gate + Sync>(
     gate: &G,
 ) -> Result<Vec<Done>, Vec<Job>>
     requires may { MayBegin pool.now jobs.items }
-    ensures answers { IfOk result (λ dones. Answers jobs.items dones.items) }
+    ensures answers { IfOk result (λ dones. Answers (G.says gate.now) jobs.items dones.items) }
     ensures back { IfErr result (λ back. back.items ≡ jobs.items) }
 {
     let Ok(begun) = Vec::with_capacity(alloc, jobs.len()) else {
@@ -114,7 +120,7 @@ pub fn run_workers<R: Threads + Wait + Sync, G: Gate + Sync>(
             requires may { MayBegin pool.now jobs.items }
             requires begun { (begun.items ≡ []) × (length jobs.items ≤ vec_capacity begun) }
             requires dones { (dones.items ≡ []) × (length jobs.items ≤ vec_capacity dones) }
-            ensures answers { Answers jobs.items result.items }
+            ensures answers { Answers (G.says gate.entry.now) jobs.items result.items }
         {
             let begun = begin_all(scope, alloc, pool, jobs, gate, begun);
             finish_all(rt, begun, dones)

@@ -1,5 +1,5 @@
 -- What a run writes.
-use Rattle.std.specs.Prelude.{◌≡◌, ◌⊎◌, ℕ, List, [], ◌++◌, Option, Result, Ok, Err, IsOk, map, flat_map, decimal, codes, slice_get, Some}
+use Rattle.std.specs.Prelude.{◌≡◌, ◌⊎◌, ℕ, Bool, true, List, [], ◌++◌, Option, Result, Ok, Err, IsOk, map, flat_map, decimal, codes, slice_get, Some}
 use Rattle.std.specs.Io.KnownBytes.{Appends}
 use Rattle.std.specs.declared.alloc.AllocError.{AllocError}
 use Rattle.traces.specs.declared.script.Command.{Command}
@@ -47,7 +47,11 @@ pub record AreJobs (lanes : List LaneOf) (scripts : List (List Command)) (jobs :
   pub lanes_are : map (λ job. job.lane) jobs ≡ lanes
   pub scripts_are : map (λ job. job.script) jobs ≡ scripts
 
--- a run of a plan: each worker had a lane of a new pool of the plan's shape and the script of that lane, and its lines stand by rising number; and behind them the census
+-- the answers of a gate that lets each line pass
+abbrev pub LetsPass : ℕ → ℕ → Bool → Type 0
+LetsPass worker line answer = answer ≡ true
+
+-- a run of a plan: each worker had a lane of a new pool of the plan's shape and the script of that lane, which it ran to its end, and its lines stand by rising number; and behind them the census
 -- of the pool, which was closed with the lanes of all workers
 pub record IsRunOf (plan : Plan) (text : List ℕ) : Type 0 where
   pub pool : PoolOf
@@ -57,7 +61,7 @@ pub record IsRunOf (plan : Plan) (text : List ℕ) : Type 0 where
   pub jobs : List Job
   pub are_jobs : AreJobs lanes plan.scripts jobs
   pub dones : List Done
-  pub answers : Answers jobs dones
+  pub answers : Answers LetsPass jobs dones
   pub reported : AllReported dones
   pub census : Census
   pub closes : Closes pool (lanes_of dones) census

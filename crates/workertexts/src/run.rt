@@ -19,9 +19,9 @@ use workers::{Gate, jobs_of, parts_of, run_workers};
 struct Passing;
 
 impl Gate for Passing {
-    ghost use Rattle.std.specs.Prelude.{◌≡◌, true};
+    ghost use Rattle.workertexts.specs.Runs.{LetsPass};
 
-    ghost says = { λ gate worker line answer. answer ≡ true };
+    ghost says = { λ gate. LetsPass };
 
     fn pass(&self, _worker: u32, _line: u32) -> bool {
         true

@@ -3,9 +3,8 @@ use Rattle.std.proofs.Common.{rules, arith, ap, sym, subst, List, [], ◌∷◌,
 use Rattle.std.specs.Prelude.{vec_items}
 use Rattle.std.specs.Vec.Iter.{into_iter_items}
 use Rattle.workers.specs.declared.jobs.Job.{Job}
-use Rattle.workers.specs.declared.begun.Begun.{Begun}
 use Rattle.workers.specs.Works.{MayBegin}
-use Rattle.workers.specs.Begins.{Pairs, IsBegun}
+use Rattle.workers.specs.Begins.{IsBegun}
 use Rattle.workers.proofs.Pairs.{pairs-add, next-first, may-first}
 use Rattle.workers.proofs.threads.begin_all.Goals as goal
 
@@ -13,7 +12,7 @@ pub loop-job-init : goal.loop-job-init
 loop-job-init g c =
     let gives = c.into_iter-job-iterator.ensures.into_iter_gives in
     let none = c.requires.room.0 in (
-      ([], sym gives.0, subst (λ (begun : List Begun). Pairs IsBegun [] begun) (sym none) tt),
+      ([], sym gives.0, rw none tt),
       subst (λ (jobs : List Job). MayBegin c.args.pool.now jobs) (sym gives.0) c.requires.may,
       search rules,
       search rules,
@@ -37,7 +36,7 @@ loop-job-preserved g c =
       (
         inv.0.0 ++ c.in-Some.job ∷ [],
         next-first (vec_items c.args.jobs) inv.0.0 old rest c.in-Some.job inv.0.1 step.0,
-        rw pushed.items (pairs-add IsBegun inv.0.0 (vec_items c.loop-job.begun) c.in-Some.job c.begin.result inv.0.2 c.begin.ensures.begun),
+        rw pushed.items (pairs-add (IsBegun g.G.Gate.says c.args.gate.now) inv.0.0 (vec_items c.loop-job.begun) c.in-Some.job c.begin.result inv.0.2 c.begin.ensures.begun),
       ),
       (may-first c.args.pool.now old rest c.in-Some.job step.0 inv.1).1,
       omega (arith, shorter, step.1, inv.2),

@@ -10,7 +10,7 @@ use Rattle.workers.proofs.threads.begin_all.Given as goal
 abbrev pub invariant-loop-job : goal.invariant-loop-job
 invariant-loop-job g l =
     ((before : List Job) × (vec_items l.fn.jobs ≡ before ++ into_iter_items l.job-iterator)
-    × Pairs IsBegun before (vec_items l.begun))
+    × Pairs (IsBegun g.G.Gate.says l.gate) before (vec_items l.begun))
     × MayBegin l.pool (into_iter_items l.job-iterator)
     × (into_iter_len l.job-iterator ≡ length (into_iter_items l.job-iterator))
     × (vec_len l.begun + into_iter_len l.job-iterator ≤ vec_capacity l.begun)

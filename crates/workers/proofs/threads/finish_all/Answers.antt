@@ -18,9 +18,9 @@ loop-one-preserved g c =
       (
         inv.0.0 ++ c.in-Some.one ∷ [],
         next-first (vec_items c.args.begun) inv.0.0 old rest c.in-Some.one inv.0.1 step.0,
-        rw pushed.items (pairs-add IsFinished inv.0.0 dones c.in-Some.one c.finish.result inv.0.2 c.finish.ensures.answer),
+        rw pushed.items (pairs-add (IsFinished g.G.Gate.says) inv.0.0 dones c.in-Some.one c.finish.result inv.0.2 c.finish.ensures.answer),
       ),
-      (holds-first old rest c.in-Some.one step.0 inv.1).1,
+      (holds-first g.G.Gate.says old rest c.in-Some.one step.0 inv.1).1,
       omega (arith, shorter, step.1, inv.2),
       omega (arith, pushed.len, pushed.capacity, step.1, inv.3),
     )

@@ -8,8 +8,8 @@ use Rattle.workers.proofs.threads.finish_all.Given as goal
 
 abbrev pub invariant-loop-one : goal.invariant-loop-one
 invariant-loop-one g l =
-    ((before : List Begun) × (vec_items l.fn.begun ≡ before ++ into_iter_items l.one-iterator)
-    × Pairs IsFinished before (vec_items l.dones))
-    × AllHold (into_iter_items l.one-iterator)
+    ((before : List (Begun _)) × (vec_items l.fn.begun ≡ before ++ into_iter_items l.one-iterator)
+    × Pairs (IsFinished g.G.Gate.says) before (vec_items l.dones))
+    × AllHold g.G.Gate.says (into_iter_items l.one-iterator)
     × (into_iter_len l.one-iterator ≡ length (into_iter_items l.one-iterator))
     × (vec_len l.dones + into_iter_len l.one-iterator ≤ vec_capacity l.dones)

@@ -9,8 +9,8 @@ finish_all-requires g c =
     let jobs = c.captures.jobs.items in
     let begun = c.begin_all-begun.result.items in
     let starts = c.begin_all-begun.ensures.begun in record {
-      hold = all-hold jobs begun starts;
-      room = (c.requires.dones.0, omega (arith, pairs-length IsBegun jobs begun starts, c.requires.dones.1));
+      hold = all-hold g.G.Gate.says c.captures.gate.now jobs begun starts;
+      room = (c.requires.dones.0, omega (arith, pairs-length (IsBegun g.G.Gate.says c.captures.gate.now) jobs begun starts, c.requires.dones.1));
     }
 
 pub returns : goal.returns
@@ -18,5 +18,5 @@ returns g c =
     let jobs = c.captures.jobs.items in
     let begun = c.begin_all-begun.result.items in
     let dones = c.finish_all.result.items in record {
-      answers = answers-of jobs begun dones c.begin_all-begun.ensures.begun c.finish_all.ensures.finished;
+      answers = answers-of g.G.Gate.says c.captures.gate.now jobs begun dones c.begin_all-begun.ensures.begun c.finish_all.ensures.finished;
     }
