@@ -1,0 +1,48 @@
+-- What a closed pool has in its slots, and what is left of it when a cell was dropped.
+use Rattle.std.specs.Prelude.{◌≡◌, ◌≢◌, ℕ, ◌<◌, List, Option, Some, slice_get, slice_set}
+use Rattle.core.specs.declared.slots.Slots.{Slots}
+use Rattle.core.specs.Mem.Slots.{slots_items, slots_len, slots_ptr, IsFull}
+use Rattle.keybits.specs.declared.shape.Shape.{Shape}
+use Rattle.keybits.specs.Places.{shard_of}
+use Rattle.slotcell.specs.Share.{Share}
+use Rattle.poolsteps.specs.Layout.{slot_index, slot_count}
+
+-- one value of a full row is set
+pub record IsSet {X : Type 0} (index : ℕ) (value : X) (old new : Slots X) : Type 0 where
+  pub items : slots_items new ≡ slice_set (slots_items old) index value
+  pub full : IsFull new
+  pub count : slots_len new ≡ slots_len old
+  pub start : slots_ptr new ≡ slots_ptr old
+
+module _ {T : Type 0} where
+  -- a full row of a pool's slots
+  abbrev pub IsSlotRow : Shape → Slots (Option (Share T)) → Type 0
+  IsSlotRow z slots = IsFull slots × (slots_len slots ≡ slot_count z)
+
+  -- the slot at the index has a share
+  abbrev pub HasAt : List (Option (Share T)) → ℕ → Type 0
+  HasAt slots index = (share : Share T) × (slice_get slots index ≡ Some (Some share))
+
+  -- the slot at the index has the share of this number, of so many, of the cell
+  pub record HasPart (slots : List (Option (Share T))) (index cell number of : ℕ) : Type 0 where
+    pub share : Share T
+    pub stands : slice_get slots index ≡ Some (Some share)
+    pub cell_is : share.cell ≡ cell
+    pub number_is : share.number ≡ number
+    pub of_is : share.of ≡ of
+
+  -- each lane's slot of the place has the lane's share of one cell
+  pub record IsSpread (z : Shape) (slots : List (Option (Share T))) (place : ℕ) : Type 0 where
+    pub cell : ℕ
+    pub each : (lane : ℕ) → lane < z.lanes → HasPart slots (slot_index z place lane) cell lane z.lanes
+
+  -- the slot of the place's shard has the only share of a cell
+  pub record IsResting (z : Shape) (slots : List (Option (Share T))) (place : ℕ) : Type 0 where
+    pub cell : ℕ
+    pub part : HasPart slots (slot_index z place (shard_of place)) cell 0 1
+
+  -- the slots are as before, but perhaps those of the place
+  pub record Drains (z : Shape) (place : ℕ) (old new : Slots (Option (Share T))) : Type 0 where
+    pub row : IsSlotRow z new
+    pub start : slots_ptr new ≡ slots_ptr old
+    pub kept : (index : ℕ) → ((lane : ℕ) → lane < z.lanes → index ≢ slot_index z place lane) → slice_get (slots_items new) index ≡ slice_get (slots_items old) index

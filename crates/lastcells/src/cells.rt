@@ -1,0 +1,87 @@
+ghost use Rattle.std.specs.Prelude.{◌≡◌, ◌<◌, ◌+◌, ◌*◌, true, Some, None, slice_get};
+ghost use Rattle.core.specs.Mem.Slots.{slots_items, slots_len, IsFull};
+ghost use Rattle.keybits.specs.Places.{shard_of};
+ghost use Rattle.keybits.specs.Shapes.{IsShape, is_place, all_places, position_of};
+ghost use Rattle.poolsteps.specs.Layout.{slot_row};
+ghost use Rattle.lastcells.specs.Joins.{IsSlotRow, HasAt, IsSet, IsSpread, IsResting, Drains};
+
+use core::slots::Slots;
+use keybits::{Shape, shard_of};
+use poolsteps::ROWS_APART;
+use slotcell::{Rest, Share, Slot};
+use std::alloc::Global;
+
+/// Where the slot stands of the place at this position, for this lane.
+pub fn slot_of(shape: &Shape, position: usize, lane: u32) -> usize
+    requires shape { IsShape shape.now }
+    requires position { position < all_places shape.now }
+    requires lane { lane < shape.now.lanes }
+    ensures { result ≡ lane * slot_row shape.now + position }
+{
+    lane as usize * (shape.all_places() + ROWS_APART) + position
+}
+
+/// The share goes into the slot at this index. What the slot had is forgotten.
+pub fn lay<T: Drop>(index: usize, share: Share<T>, slots: &mut Slots<Slot<T>>)
+    requires full { IsFull slots.old }
+    requires index { index < slots_len slots.old }
+    ensures { IsSet index (Some share) slots.old slots.new }
+{
+    slots.put(index, Slot::filled(share));
+}
+
+/// The share in the slot at this index, which is then empty.
+fn lift<T: Drop>(index: usize, slots: &mut Slots<Slot<T>>) -> Share<T>
+    requires full { IsFull slots.old }
+    requires share { HasAt (slots_items slots.old) index }
+    ensures share { slice_get (slots_items slots.old) index ≡ Some (Some result) }
+    ensures slots { IsSet index None slots.old slots.new }
+{
+    let slot = slots.take(index);
+    slots.put(index, Slot::empty());
+    slot.into_share()
+}
+
+/// Drops the cell of a place whose shares all lie in its slots, with its object. The slots then are empty.
+pub fn drop_spread<T: Drop>(
+    alloc: Global,
+    shape: &Shape,
+    place: u32,
+    position: usize,
+    slots: &mut Slots<Slot<T>>,
+)
+    requires shape { IsShape shape.now }
+    requires place { is_place shape.now place ≡ true }
+    requires position { position ≡ position_of shape.now place }
+    requires row { IsSlotRow shape.now slots.old }
+    requires spread { IsSpread shape.now (slots_items slots.old) place }
+    ensures { Drains shape.now place slots.old slots.new }
+{
+    let last = shape.lanes - 1;
+    let mut rest = Rest::of_last(lift(slot_of(shape, position, last), slots));
+    let mut number = last;
+    while number > 0 {
+        number -= 1;
+        rest.merge(lift(slot_of(shape, position, number), slots));
+    }
+    drop(rest.into_whole(alloc));
+}
+
+/// Drops the cell of a place whose only share lies in the slot of its shard, with its object. The slot then is empty.
+pub fn drop_resting<T: Drop>(
+    alloc: Global,
+    shape: &Shape,
+    place: u32,
+    position: usize,
+    slots: &mut Slots<Slot<T>>,
+)
+    requires shape { IsShape shape.now }
+    requires place { is_place shape.now place ≡ true }
+    requires position { position ≡ position_of shape.now place }
+    requires row { IsSlotRow shape.now slots.old }
+    requires resting { IsResting shape.now (slots_items slots.old) place }
+    ensures { Drains shape.now place slots.old slots.new }
+{
+    let rest = Rest::of_last(lift(slot_of(shape, position, shard_of(place)), slots));
+    drop(rest.into_whole(alloc));
+}
