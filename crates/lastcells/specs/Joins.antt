@@ -1,9 +1,10 @@
 -- What a closed pool has in its slots, and what is left of it when a cell was dropped.
-use Rattle.std.specs.Prelude.{◌≡◌, ◌≢◌, ℕ, ◌<◌, List, Option, Some, slice_get, slice_set}
+use Rattle.std.specs.Prelude.{◌≡◌, ◌≢◌, ◌⊎◌, ℕ, ◌<◌, List, Option, Some, slice_get, slice_set}
 use Rattle.core.specs.declared.slots.Slots.{Slots}
 use Rattle.core.specs.Mem.Slots.{slots_items, slots_len, slots_ptr, IsFull}
 use Rattle.keybits.specs.declared.shape.Shape.{Shape}
 use Rattle.keybits.specs.Places.{shard_of}
+use Rattle.keybits.specs.Words.{state_in}
 use Rattle.slotcell.specs.Share.{Share}
 use Rattle.poolsteps.specs.Layout.{slot_index, slot_count}
 
@@ -40,6 +41,11 @@ module _ {T : Type 0} where
   pub record IsResting (z : Shape) (slots : List (Option (Share T))) (place : ℕ) : Type 0 where
     pub cell : ℕ
     pub part : HasPart slots (slot_index z place (shard_of place)) cell 0 1
+
+  -- what the slots of a place have, by its lifecycle word: where that is 0 a cell that rests, and where the place is published each lane's share
+  pub record HasCell (z : Shape) (slots : List (Option (Share T))) (place word : ℕ) : Type 0 where
+    pub resting : word ≡ 0 → IsResting z slots place
+    pub spread : (state_in word ≡ 1) ⊎ (state_in word ≡ 3) → IsSpread z slots place
 
   -- the slots are as before, but perhaps those of the place
   pub record Drains (z : Shape) (place : ℕ) (old new : Slots (Option (Share T))) : Type 0 where

@@ -3,10 +3,10 @@ ghost use Rattle.core.specs.Mem.Slots.{slots_items, slots_len, IsFull};
 ghost use Rattle.keybits.specs.Places.{shard_of};
 ghost use Rattle.keybits.specs.Shapes.{IsShape, is_place, all_places, position_of};
 ghost use Rattle.poolsteps.specs.Layout.{slot_row};
-ghost use Rattle.lastcells.specs.Joins.{IsSlotRow, HasAt, IsSet, IsSpread, IsResting, Drains};
+ghost use Rattle.lastcells.specs.Joins.{IsSlotRow, HasAt, IsSet, IsSpread, IsResting, HasCell, Drains};
 
 use core::slots::Slots;
-use keybits::{Shape, shard_of};
+use keybits::{Life, Shape, State, shard_of};
 use poolsteps::ROWS_APART;
 use slotcell::{Rest, Share, Slot};
 use std::alloc::Global;
@@ -42,8 +42,35 @@ fn lift<T: Drop>(index: usize, slots: &mut Slots<Slot<T>>) -> Share<T>
     slot.into_share()
 }
 
+/// Drops the cell that the slots of a place have, with its object, by the place's lifecycle word: where that is 0 the one that
+/// rests there, and where the place is published the one whose shares are all there. Of other places the slots have none.
+pub fn drop_cell<T: Drop>(
+    alloc: Global,
+    shape: &Shape,
+    place: u32,
+    position: usize,
+    word: u64,
+    slots: &mut Slots<Slot<T>>,
+)
+    requires shape { IsShape shape.now }
+    requires place { is_place shape.now place ≡ true }
+    requires position { position ≡ position_of shape.now place }
+    requires row { IsSlotRow shape.now slots.old }
+    requires cell { HasCell shape.now (slots_items slots.old) place word }
+    ensures { Drains shape.now place slots.old slots.new }
+{
+    if word == 0 {
+        drop_resting(alloc, shape, place, position, slots);
+        return;
+    }
+    match Life::of_word(word).state {
+        State::Present | State::Marked => drop_spread(alloc, shape, place, position, slots),
+        State::Idle | State::Retired => {}
+    }
+}
+
 /// Drops the cell of a place whose shares all lie in its slots, with its object. The slots then are empty.
-pub fn drop_spread<T: Drop>(
+fn drop_spread<T: Drop>(
     alloc: Global,
     shape: &Shape,
     place: u32,
@@ -68,7 +95,7 @@ pub fn drop_spread<T: Drop>(
 }
 
 /// Drops the cell of a place whose only share lies in the slot of its shard, with its object. The slot then is empty.
-pub fn drop_resting<T: Drop>(
+fn drop_resting<T: Drop>(
     alloc: Global,
     shape: &Shape,
     place: u32,

@@ -3,4 +3,4 @@
 
 mod cells;
 
-pub use cells::{drop_resting, drop_spread, lay, slot_of};
+pub use cells::{drop_cell, lay, slot_of};
