@@ -8,6 +8,7 @@ pub mod Blanking
 pub mod Rowing
 pub mod RowSteps
 pub mod Ending
+pub mod Handing
 pub mod Laning
 pub mod Quieting
 pub mod Starting
