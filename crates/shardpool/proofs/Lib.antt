@@ -5,6 +5,7 @@ pub mod Staying
 pub mod Storing
 pub mod Hanging
 pub mod Blanking
+pub mod Remaining
 pub mod Rowing
 pub mod RowSteps
 pub mod Ending

@@ -21,7 +21,7 @@ taken g c =
     c.take_rows-number.ensures.taken s.0 (stands-now c.args.shape.now c.args.shelves.now.items c.requires.shelves c.loop-index.invariant.hands s.0 s.1)
 
 pub loop-index-init : goal.loop-index-init
-loop-index-init g c = record { end = c.len-index-end.ensures; hands = hands-none c.args.shape.now c.args.shelves.now.items c.args.slots.now c.requires.row }
+loop-index-init g c = record { end = c.len-index-end.ensures ∙ c.args.shelves.now.ok.0; hands = hands-none c.args.shape.now c.args.shelves.now.items c.args.slots.now c.requires.row }
 
 pub give_back-requires-clause-number : goal.give_back-requires-clause-number
 give_back-requires-clause-number g c =
@@ -47,7 +47,7 @@ loop-index-preserved g c =
     record {
       end = c.loop-index.invariant.end;
       hands = hands-more z c.args.shelves.now.items c.requires.shelves c.loop-index.invariant.hands s.0 s.1 left.0 c.take_rows-number.new.shelves.items c.give_back.new.slots
-          left.1.0 left.1.1 gives;
+          left.1 left.2 gives;
     }
 
 pub returns-clause-shelves : goal.returns-clause-shelves
