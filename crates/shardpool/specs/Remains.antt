@@ -1,14 +1,18 @@
 -- What becomes of the shares under references when a pool is closed.
-use Rattle.std.specs.Prelude.{◌≡◌, ◌≢◌, ℕ, ◌+◌, ◌*◌, ◌<◌, List, length, Option, Some, slice_get}
+use Rattle.std.specs.Prelude.{◌≡◌, ◌≢◌, ℕ, ◌+◌, ◌*◌, ◌<◌, Bool, true, List, length, Option, Some, slice_get}
 use Rattle.core.specs.declared.slots.Slots.{Slots}
 use Rattle.core.specs.Mem.Slots.{slots_items, slots_len, slots_ptr, IsFull}
 use Rattle.keybits.specs.declared.shape.Shape.{Shape}
-use Rattle.keybits.specs.Shapes.{all_places}
+use Rattle.keybits.specs.Shapes.{all_places, is_place}
+use Rattle.seqpool.specs.declared.act.Act.{Act}
+use Rattle.seqpool.specs.Pool.{published, home, has, pool_after}
 use Rattle.slotcell.specs.Share.{Share}
+use Rattle.poolsteps.specs.Views.{the_lane}
 use Rattle.poolsteps.specs.Layout.{slot_row}
-use Rattle.lastcells.specs.Joins.{IsSlotRow}
+use Rattle.lastcells.specs.Joins.{IsSlotRow, IsSpread, IsResting}
 use Rattle.shardpool.specs.declared.shelf.Row.{Row}
 use Rattle.shardpool.specs.declared.shelf.Shelf.{Shelf}
+use Rattle.shardpool.specs.Tokens.{LaneOf}
 
 module _ {T : Type 0} where
   -- where the row counts a reference its share is at this index of the slots, and nothing else is changed
@@ -58,3 +62,11 @@ module _ {T : Type 0} where
         → slice_get (slots_items new) index ≡ slice_get (slots_items old) index
     pub row : IsSlotRow z new
     pub start : slots_ptr new ≡ slots_ptr old
+
+  -- what the slots have when all shares are back: each published place its shares, and each place that is home or on a lane's taken chain its cell
+  pub record HasCells (z : Shape) (history : List Act) (lanes : List LaneOf) (slots : List (Option (Share T))) : Type 0 where
+    pub spread : (place : ℕ) → is_place z place ≡ true → (content : List ℕ) (references : ℕ → ℕ) (mark : Bool)
+        → (pool_after z history place).phase ≡ published content references mark → IsSpread z slots place
+    pub returned : (place : ℕ) → is_place z place ≡ true → (pool_after z history place).phase ≡ home → IsResting z slots place
+    pub taken : (index : ℕ) (lane : LaneOf) (place : ℕ) → is_place z place ≡ true → slice_get lanes index ≡ Some lane → has (the_lane lane.book).chain place ≡ true
+        → IsResting z slots place

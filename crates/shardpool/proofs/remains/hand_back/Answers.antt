@@ -4,6 +4,7 @@ use Rattle.std.specs.Prelude.{slice_get}
 use Rattle.shardpool.specs.declared.shelf.Shelf.{Shelf as Shown}
 use Rattle.shardpool.specs.Remains.{GivesBack}
 use Rattle.shardpool.proofs.ClosingLast.{entry-at}
+use Rattle.shardpool.proofs.Remaining.{has-cells}
 use Rattle.shardpool.proofs.Handing.{hands-none, hands-all, stands-now, hands-more}
 use Rattle.shardpool.proofs.remains.hand_back.Given.{Over}
 use Rattle.shardpool.proofs.remains.hand_back.Goals as goal
