@@ -8,6 +8,7 @@ pub mod Blanking
 pub mod Remaining
 pub mod Rowing
 pub mod RowSteps
+pub mod Draining
 pub mod Ending
 pub mod Handing
 pub mod Laning

@@ -3,12 +3,13 @@ use Rattle.std.specs.Prelude.{◌≡◌, ◌≢◌, ℕ, ◌+◌, ◌*◌, ◌<�
 use Rattle.core.specs.declared.slots.Slots.{Slots}
 use Rattle.core.specs.Mem.Slots.{slots_items, slots_len, slots_ptr, IsFull}
 use Rattle.keybits.specs.declared.shape.Shape.{Shape}
+use Rattle.keybits.specs.Places.{shard_of}
 use Rattle.keybits.specs.Shapes.{all_places, is_place}
 use Rattle.seqpool.specs.declared.act.Act.{Act}
 use Rattle.seqpool.specs.Pool.{published, home, has, pool_after}
 use Rattle.slotcell.specs.Share.{Share}
 use Rattle.poolsteps.specs.Views.{the_lane}
-use Rattle.poolsteps.specs.Layout.{slot_row}
+use Rattle.poolsteps.specs.Layout.{slot_row, slot_index}
 use Rattle.lastcells.specs.Joins.{IsSlotRow, IsSpread, IsResting}
 use Rattle.shardpool.specs.declared.shelf.Row.{Row}
 use Rattle.shardpool.specs.declared.shelf.Shelf.{Shelf}
@@ -70,3 +71,10 @@ module _ {T : Type 0} where
     pub returned : (place : ℕ) → is_place z place ≡ true → (pool_after z history place).phase ≡ home → IsResting z slots place
     pub taken : (index : ℕ) (lane : LaneOf) (place : ℕ) → is_place z place ≡ true → slice_get lanes index ≡ Some lane → has (the_lane lane.book).chain place ≡ true
         → IsResting z slots place
+
+  -- the slots are as before, but perhaps those of the shard's places
+  pub record DrainsShard (z : Shape) (shard : ℕ) (old new : Slots (Option (Share T))) : Type 0 where
+    pub row : IsSlotRow z new
+    pub start : slots_ptr new ≡ slots_ptr old
+    pub kept : (place lane : ℕ) → is_place z place ≡ true → lane < z.lanes → shard_of place ≢ shard
+        → slice_get (slots_items new) (slot_index z place lane) ≡ slice_get (slots_items old) (slot_index z place lane)

@@ -3,10 +3,12 @@ ghost use Rattle.std.specs.Prelude.{◌≡◌, ◌≢◌, ◌+◌, ◌<◌, ◌�
 ghost use Rattle.core.specs.Mem.Slots.{slots_items, slots_len, slots_ptr, IsFull};
 ghost use Rattle.keybits.specs.declared.place.Place.{Place as Shown};
 ghost use Rattle.keybits.specs.declared.shape.TheConstants.{MOST_LANES};
-ghost use Rattle.keybits.specs.Places.{number_of};
+ghost use Rattle.keybits.specs.Places.{shard_of, number_of};
 ghost use Rattle.keybits.specs.Shapes.{IsShape, is_place, shard_places, all_places};
 ghost use Rattle.freelists.specs.Queues.{AreFree};
 ghost use Rattle.poolsteps.specs.Layout.{word_count, words_in};
+ghost use Rattle.lastcells.specs.Joins.{IsSlotRow, HasCell};
+ghost use Rattle.shardpool.specs.Remains.{DrainsShard};
 ghost use Rattle.seqpool.specs.declared.act.Act.{Act};
 ghost use Rattle.shardpool.specs.Tokens.{LaneOf};
 ghost use Rattle.shardpool.specs.Closings.{none_counted, counted, places_counted, IsCensus, AreLast};
@@ -16,7 +18,10 @@ use crate::shelf::Shelf;
 use core::slots::Slots;
 use freelists::LocalFree;
 use keybits::{Life, Place, Shape, State, link_to, linked_place};
+use lastcells::drop_cell;
 use poolsteps::{life_word, link_word, stack_word};
+use slotcell::Slot;
+use std::alloc::Global;
 
 /// How many places of a pool were what when it was closed. The six numbers add up to all its places.
 #[derive(Clone, Copy, Debug, PartialEq, Eq)]
@@ -175,6 +180,32 @@ fn mark(shape: &Shape, place: u32, words: &mut Slots<u64>)
     ensures { Blanks shape.now (place ∷ []) words.old words.new }
 {
     words.put(life_word(shape, place, shape.position(place)), 0);
+}
+
+/// The cells that the slots of a shard's places have are dropped, with their objects: of the places whose lifecycle word is 0, and
+/// of published places.
+fn drop_cells<T: Drop>(
+    alloc: Global,
+    shape: &Shape,
+    shard: u32,
+    words: &Slots<u64>,
+    slots: &mut Slots<Slot<T>>,
+)
+    requires shape { IsShape shape.now }
+    requires shard { shard < shape.now.lanes }
+    requires words { IsRow shape.now words.now }
+    requires row { IsSlotRow shape.now slots.old }
+    requires cells { (place : ℕ) → is_place shape.now place ≡ true → shard_of place ≡ shard
+        → HasCell shape.now (slots_items slots.old) place ((words_in shape.now (slots_items words.now)).life place) }
+    ensures { DrainsShard shape.now shard slots.old slots.new }
+{
+    let places = shape.shard_places() as usize;
+    for index in 0..places {
+        let position = shard as usize * places + index;
+        let place = shape.place_at(position);
+        let word = *words.get(life_word(shape, place, position));
+        drop_cell(alloc, shape, place, position, word, slots);
+    }
 }
 
 /// The places of a shard are counted, of which so many pages are opened, and whose free places are marked.

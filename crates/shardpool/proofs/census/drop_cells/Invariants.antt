@@ -1,0 +1,6 @@
+-- The places before this index are gone over.
+use Rattle.shardpool.proofs.Draining.{DrainsTo}
+use Rattle.shardpool.proofs.census.drop_cells.Given as goal
+
+abbrev pub invariant-loop-index : goal.invariant-loop-index
+invariant-loop-index g l = DrainsTo l.shape l.shard l.index l.fn.slots l.slots
