@@ -1,6 +1,6 @@
 -- The census goes over the shelves, one shard after another.
-use Rattle.std.proofs.Common.{◌≡◌, ℕ, zero, suc, ◌+◌, ◌*◌, ◌<◌, ◌≤◌, true, List, [], ◌∷◌, ◌++◌, map, length, Some, refl, ap, sym, ◌∙◌, subst, arith, append_assoc, length-append}
-use Rattle.std.specs.Prelude.{slice_get}
+use Rattle.std.proofs.Common.{◌≡◌, ◌⊎◌, ⊎_elim, ℕ, zero, suc, ◌+◌, ◌*◌, ◌<◌, ◌≤◌, true, List, [], ◌∷◌, ◌++◌, map, length, Some, refl, ap, sym, ◌∙◌, subst, arith, append_assoc, length-append}
+use Rattle.std.specs.Prelude.{Option, slice_get}
 use Rattle.std.specs.List.{Contains}
 use Rattle.std.proofs.Math.ListN.{get_or}
 use Rattle.std.proofs.Math.Seq.{get_or-append_seam}
@@ -9,7 +9,7 @@ use Rattle.std.proofs.lemmas.Nat.{mul-add-lt}
 use mathlib.Core.Logic.{dite}
 use native.Mathlib.Decide.{ℕ_discrete}
 use Rattle.core.specs.declared.slots.Slots.{Slots}
-use Rattle.core.specs.Mem.Slots.{slots_items}
+use Rattle.core.specs.Mem.Slots.{slots_items, slots_ptr}
 use Rattle.keybits.specs.declared.shape.Shape.{Shape}
 use Rattle.keybits.specs.Places.{shard_of, page_of, number_of}
 use Rattle.keybits.specs.Shapes.{IsShape, is_place, shard_places, index_of}
@@ -17,7 +17,13 @@ use Rattle.keybits.specs.Counts.{times}
 use Rattle.keybits.proofs.CountLemmas.{times-append, one_at, none_at, no_times, length_le}
 use Rattle.keybits.proofs.ShapeLemmas.{index_of-lt, shape_bounds}
 use Rattle.freelists.specs.Queues.{FreePlaces}
+use Rattle.keybits.specs.Words.{state_in}
 use Rattle.seqpool.specs.declared.act.Act.{Act}
+use Rattle.seqpool.specs.Pool.{Phase, with, published, home, retired, pool_after}
+use Rattle.steplaws.specs.Facts.{bits_of}
+use Rattle.steplaws.proofs.HomePlaces.{has-some}
+use Rattle.slotcell.specs.Share.{Share}
+use Rattle.lastcells.specs.Joins.{IsSlotRow, IsSpread, IsResting, HasCell}
 use Rattle.poolsteps.specs.Views.{the_lane}
 use Rattle.poolsteps.specs.Layout.{words_in}
 use Rattle.shardpool.specs.declared.census.Census.{Census}
@@ -25,11 +31,13 @@ use Rattle.shardpool.specs.declared.census.Part.{Part}
 use Rattle.shardpool.specs.declared.shelf.Shelf.{Shelf}
 use Rattle.shardpool.specs.Tokens.{LaneOf}
 use Rattle.shardpool.specs.Closings.{IsPart, none_counted, all_counted, places_counted, IsCensus, IsLast, AreLast}
-use Rattle.shardpool.specs.Marks.{IsRow, Blanks, stacked, AreFreePlaces, free_places, part_in, Counts}
+use Rattle.shardpool.specs.Marks.{IsRow, Blanks, stacked, AreFreePlaces, returned_places, free_places, part_in, Counts}
 use Rattle.shardpool.proofs.CensusMarks.{AreBlanked, blanks-none, blanks-then, blanks-words}
 use Rattle.shardpool.proofs.CensusLists.{free-stays, among-number, stacked-inside}
 use Rattle.shardpool.proofs.CensusCounts.{many-counted, counted-append, get-front, get-back}
-use Rattle.shardpool.proofs.CensusParts.{threads_of, free-stand, part-is}
+use Rattle.shardpool.specs.Remains.{HasCells, DrainsShard}
+use Rattle.shardpool.proofs.Draining.{SameSlots, cell-stays}
+use Rattle.shardpool.proofs.CensusParts.{threads_of, free-stand, word-some, stacked-home, part-is}
 
 -- ---- each lane stands once
 
@@ -161,6 +169,15 @@ so-far-room z ok history lanes old now count census h low =
     let step = mul-add-lt count (shard_places z) 0 z.lanes low (omega arith) in
     omega (arith, step)
 
+-- the slots after the shards of so many shelves: those of the other shards are as before
+pub record SlotsSoFar {T : Type 0} (z : Shape) (lanes : List LaneOf) (count : ℕ) (old now : Slots (Option (Share T))) : Type 0 where
+  pub row : IsSlotRow z now
+  pub start : slots_ptr now ≡ slots_ptr old
+  pub kept : (place : ℕ) → is_place z place ≡ true → ((index : ℕ) → index < count → At lanes index (shard_of place) → ⊥) → SameSlots z (slots_items old) (slots_items now) place
+
+pub slots-so-far-none : {T : Type 0} (z : Shape) (lanes : List LaneOf) (slots : Slots (Option (Share T))) → IsSlotRow z slots → SlotsSoFar z lanes 0 slots slots
+slots-so-far-none z lanes slots row = record { row = row; start = refl; kept = λ place inside none lane low. refl }
+
 -- ---- the next shelf
 
 -- an element before the end of a list
@@ -219,8 +236,8 @@ module _ {T : Type 0} (z : Shape) (ok : IsShape z) (history : List Act) (lanes :
     -- all of them are places of its shard
     free-own : (place : ℕ) → 0 < times place (free_places z lane.number shelf.free chain threads) → (is_place z place ≡ true) × (shard_of place ≡ lane.number)
     free-own place some =
-        let front = times-append place (map number_of shelf.free.own) chain in
-        let whole = times-append place (map number_of shelf.free.own ++ chain) (stacked lane.number threads z.lanes) in
+        let front = times-append place chain (stacked lane.number threads z.lanes) in
+        let whole = times-append place (chain ++ stacked lane.number threads z.lanes) (map number_of shelf.free.own) in
         dite (ℕ_discrete (times place (map number_of shelf.free.own)) 0)
         (λ unlisted. dite (ℕ_discrete (times place chain) 0)
         (λ unchained. stacked-inside z (slots_items now) lane.number z.lanes threads stand-own.returned (omega arith) place (omega arith))
@@ -239,6 +256,74 @@ module _ {T : Type 0} (z : Shape) (ok : IsShape z) (history : List Act) (lanes :
         (subst (λ n. n < z.lanes) (sym (at_before.2 ∙ of_shard)) own.below) in
         let low = before.1 in
         omega arith)
+
+    -- no earlier shelf is of the shard of such a place
+    not-earlier : (place : ℕ) → shard_of place ≡ lane.number → (index : ℕ) → index < count → At lanes index (shard_of place) → ⊥
+    not-earlier place of_shard index low there =
+        let same = same-index lanes z.lanes last.count.0 (λ number below. let a = last.all number below in (a.0, (a.1, a.2, a.3))) index count there.0 lane there.1 found.1 (there.2 ∙ of_shard)
+        (subst (λ n. n < z.lanes) (sym (there.2 ∙ of_shard)) own.below) in
+        omega (arith, low, same)
+
+    -- the slots after the shard
+    pub slots-more : {cells_old cells_now : Slots (Option (Share T))} → SlotsSoFar z lanes count cells_old cells_now → (cells_then : Slots (Option (Share T))) → DrainsShard z shelf.number cells_now cells_then → SlotsSoFar z lanes (count + 1) cells_old cells_then
+    slots-more slots cells_then d = record {
+      row = d.row;
+      start = d.start ∙ slots.start;
+      kept = λ place inside none number low.
+          d.kept place number inside low (λ same. none count (omega arith) (lane, found.1, sym (same ∙ own.number_is)))
+          ∙ slots.kept place inside (λ index below. none index (omega (arith, below))) number low;
+    }
+
+    module _ {cells_old cells_now : Slots (Option (Share T))} (cells : HasCells z history lanes (slots_items cells_old)) (slots : SlotsSoFar z lanes count cells_old cells_now)
+        (mid : Slots ℕ) (returned : Blanks z (returned_places z lane.number chain threads) now mid) where
+      returned-inside : (place : ℕ) → 0 < times place (returned_places z lane.number chain threads) → is_place z place ≡ true
+      returned-inside place some =
+          let front = times-append place chain (stacked lane.number threads z.lanes) in
+          dite (ℕ_discrete (times place chain) 0)
+          (λ unchained. (stacked-inside z (slots_items now) lane.number z.lanes threads stand-own.returned (omega arith) place (omega arith)).0)
+          (λ chained. (stand-own.chained.1.inside place (omega arith)).0)
+
+      blanked-mid : AreBlanked (returned_places z lane.number chain threads) (words_in z (slots_items now)) (words_in z (slots_items mid))
+      blanked-mid = blanks-words z ok (returned_places z lane.number chain threads) now mid h.blanks.row returned-inside returned
+
+      module _ (place : ℕ) (inside : is_place z place ≡ true) (of_shard : shard_of place ≡ lane.number) where
+        same-slots : SameSlots z (slots_items cells_old) (slots_items cells_now) place
+        same-slots = slots.kept place inside (not-earlier place of_shard)
+
+        last-word : times place (returned_places z lane.number chain threads) ≡ 0 → (words_in z (slots_items mid)).life place ≡ (words_in z (slots_items old)).life place
+        last-word none = blanked-mid.kept place none ∙ so_far_blanked.kept place (unmarked place of_shard)
+
+        rests : 0 < times place (returned_places z lane.number chain threads) → IsResting z (slots_items cells_old) place
+        rests some =
+            let front = times-append place chain (stacked lane.number threads z.lanes) in
+            dite (ℕ_discrete (times place chain) 0)
+            (λ unchained. cells.returned place inside (stacked-home z history lanes shelves (slots_items old) last lane shelf own place (omega arith)))
+            (λ chained. cells.taken count lane place inside found.1 (has-some place chain (omega arith)))
+
+        spreads : (bits : ℕ) → (bits ≡ 1) ⊎ (bits ≡ 3) → (phase : Phase) → (pool_after z history place).phase ≡ phase → bits ≡ bits_of phase → IsSpread z (slots_items cells_old) place
+        spreads bits some (with owner) is same = absurd (⊎_elim (λ one. omega (arith, one, same)) (λ three. omega (arith, three, same)) some)
+        spreads bits some (published content references mark) is same = cells.spread place inside content references mark is
+        spreads bits some home is same = absurd (⊎_elim (λ one. omega (arith, one, same)) (λ three. omega (arith, three, same)) some)
+        spreads bits some retired is same = absurd (⊎_elim (λ one. omega (arith, one, same)) (λ three. omega (arith, three, same)) some)
+
+        -- what the slots of a place of the shard have, by its word, which is 0 where it was returned
+        has-cell : HasCell z (slots_items cells_now) place ((words_in z (slots_items mid)).life place)
+        has-cell = cell-stays z (slots_items cells_old) (slots_items cells_now) place ((words_in z (slots_items mid)).life place) inside same-slots (record {
+          resting = λ none. dite (ℕ_discrete (times place (returned_places z lane.number chain threads)) 0)
+              (λ (away : times place (returned_places z lane.number chain threads) ≡ 0).
+              absurd (word-some z history lanes shelves (slots_items old) last lane shelf own place inside (sym (last-word away) ∙ none)))
+              (λ there. rests (omega arith));
+          spread = λ bits. dite (ℕ_discrete (times place (returned_places z lane.number chain threads)) 0)
+              (λ (away : times place (returned_places z lane.number chain threads) ≡ 0).
+              spreads (state_in ((words_in z (slots_items mid)).life place)) bits (pool_after z history place).phase refl
+              (ap state_in (last-word away) ∙ (last.state place inside).0))
+              (λ there.
+              let gone : state_in ((words_in z (slots_items mid)).life place) ≡ 0 = ap state_in (blanked-mid.gone place (omega arith)) in
+              absurd (⊎_elim (λ one. omega (arith, one, gone)) (λ three. omega (arith, three, gone)) bits));
+        })
+
+      pub have-cells : (place : ℕ) → is_place z place ≡ true → shard_of place ≡ shelf.number → HasCell z (slots_items cells_now) place ((words_in z (slots_items mid)).life place)
+      have-cells place inside of_shelf = has-cell place inside (of_shelf ∙ own.number_is)
 
     module _ (then : Slots ℕ) (after : Census) (marks : Blanks z (free_places z lane.number shelf.free chain threads) now then)
         (counts : Counts z lane.number shelf.pages.opened (slots_items then) census after) where
