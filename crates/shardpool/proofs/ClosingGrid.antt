@@ -8,7 +8,6 @@ use Rattle.core.specs.declared.slots.Slots.{Slots}
 use Rattle.core.specs.Mem.Slots.{slots_items}
 use Rattle.seqpool.specs.declared.act.Act.{Act}
 use Rattle.steplaws.specs.Facts.{Words}
-use Rattle.shardpool.specs.declared.shelf.Row.{Row}
 use Rattle.keybits.specs.declared.shape.Shape.{Shape}
 use Rattle.slotcell.specs.Share.{Share}
 use Rattle.poolsteps.specs.declared.grid.Grid.{Grid}
@@ -20,16 +19,16 @@ use Rattle.shardpool.specs.declared.shelf.Shelf.{Shelf}
 use Rattle.shardpool.specs.Tokens.{LaneOf}
 use Rattle.shardpool.specs.Shelves.{Fits}
 use Rattle.shardpool.specs.Closings.{AreLanes, IsLast, IsLastHistory, AreLast}
-use Rattle.shardpool.specs.Remains.{MayHandBack, AreStripped, HandsBack, HasCells}
+use Rattle.shardpool.specs.Remains.{MayHandBack, IsStripped, AreStripped, HandsBack, HasCells}
 use Rattle.shardpool.specs.Partings.{AreParted}
 use Rattle.shardpool.proofs.Laning.{lane_of}
 use Rattle.shardpool.proofs.Remaining.{may-hand-back, has-cells}
 use Rattle.shardpool.proofs.ClosingLast.{IsEnded, entry-at, last-are, last-history}
 
 -- a lane's shelf tells the same without its rows
-still-last : {T : Type 0} {z : Shape} {history : List Act} {words : Words} {lane : LaneOf} {shelf : Shelf T} (rows : Vec (Row T) Global) → IsLast z history words lane shelf
-    → IsLast z history words lane (record shelf { rows = rows })
-still-last rows is = record {
+still-last : {T : Type 0} {z : Shape} {history : List Act} {words : Words} {lane : LaneOf} {shelf one : Shelf T} → IsStripped shelf one → IsLast z history words lane shelf
+    → IsLast z history words lane one
+still-last {T} {z} {history} {words} {lane} stripped is = subst (λ (x : Shelf T). IsLast z history words lane x) (sym stripped) (record {
   shape_is = is.shape_is;
   number_is = is.number_is;
   below = is.below;
@@ -40,7 +39,7 @@ still-last rows is = record {
   unopened = is.unopened;
   first = is.first;
   leads = is.leads;
-}
+})
 
 module _ {T : Type 0} {content : T → List ℕ} {room : T → ℕ} (grid : Grid T) {lanes : List LaneOf} {hands : List (Seat (Option (Share T)) View)} {shelves : List (Shelf T)}
     (are : AreLanes (record { table = grid.table.shared.table_id; shape = grid.shape }) lanes) (parted : AreParted content room lanes hands shelves) where
@@ -97,8 +96,7 @@ module _ {T : Type 0} {content : T → List ℕ} {room : T → ℕ} (grid : Grid
           all = last.all;
           each = λ index lane one at_lane at_one.
               let shelf = stripped.1 index one at_one in
-              let is = last.each index lane shelf.0 at_lane shelf.1 in
-              subst (λ (x : Shelf T). IsLast grid.shape w.history (words_in grid.shape words) lane x) (sym shelf.2) (still-last one.rows is);
+              still-last shelf.2 (last.each index lane shelf.0 at_lane shelf.1);
         }
 
     -- the shares of the rows may go back
