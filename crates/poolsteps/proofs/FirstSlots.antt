@@ -1,16 +1,15 @@
 -- The slots of a table before the first step: none has a share.
 use Rattle.std.proofs.Common.{◌≡◌, ⊎_elim, ℕ, zero, suc, ◌<◌, Bool, true, cond, List, [], ◌∷◌, ◌++◌, map, length, slice_get, nat_lt, Option, Some, None, ap, sym, ◌∙◌, refl, arith}
 use Rattle.std.proofs.lemmas.Bool.{and_from, lt-ltb}
-use Rattle.std.proofs.lemmas.Nat.{mul-add-lt}
 use mathlib.Core.Option as maybe
 use mathlib.Core.Option.{some}
 use lib.ListN.{get_elem?}
 use Rattle.keybits.specs.declared.shape.Shape.{Shape}
-use Rattle.keybits.specs.Shapes.{is_place, position_of}
-use Rattle.keybits.proofs.ShapeLemmas.{position_of-lt}
+use Rattle.keybits.specs.Shapes.{is_place}
 use Rattle.slotcell.specs.Share.{Share}
 use Rattle.sharelaws.specs.Shares.{IsEmpty}
-use Rattle.poolsteps.specs.Layout.{slot_row, slot_count, slot_index, slots_in}
+use Rattle.poolsteps.specs.Layout.{slot_count, slot_index, slots_in}
+use Rattle.poolsteps.proofs.SlotLemmas.{slot-below}
 use Rattle.poolsteps.proofs.ViewLemmas.{entry-of}
 
 -- each slot has none
@@ -24,12 +23,6 @@ pub none-more : {A : Type 0} (slots : List (Option A)) → AreNone slots → Are
 none-more {A} slots none index slot is = ⊎_elim (λ (there : slice_get slots index ≡ Some slot). none index slot there)
     (λ (new : (index ≡ length slots) × (None ≡ slot)). sym new.1) (entry-of slots None slot index is)
 
--- the slot of a place and a lane of the pool stands inside the table
-slot-within : (z : Shape) (place lane : ℕ) → is_place z place ≡ true → lane < z.lanes → slot_index z place lane < slot_count z
-slot-within z place lane inside below =
-    let low = position_of-lt z place inside in
-    omega (arith, mul-add-lt lane (slot_row z) (position_of z place) z.lanes below (omega arith))
-
 -- a slot of the table is at home, with none
 none-at : {A : Type 0} (slots : List (Option A)) → AreNone slots → (index : ℕ) → index < length slots → get_elem? (map some slots) index ≡ some (some None)
 none-at {A} [] none index below = absurd (omega arith)
@@ -41,6 +34,6 @@ pub slots-empty : {T : Type 0} (content : T → List ℕ) (room : T → ℕ) (z 
     → (place lane : ℕ) → is_place z place ≡ true → lane < z.lanes → IsEmpty content room (slots_in z (map some slots)) place lane
 slots-empty {T} content room z slots count none place lane inside below =
     let has = and_from (is_place z place) (nat_lt lane z.lanes) inside (lt-ltb lane z.lanes below) in
-    let deep = slot-within z place lane inside below in
+    let deep = slot-below z place lane inside below in
     let i : ℕ = slot_index z place lane in
     ap (λ (b : Bool). cond b (get_elem? (map some slots) i) maybe.none) has ∙ none-at slots none i (omega arith)

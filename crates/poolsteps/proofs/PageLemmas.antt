@@ -10,7 +10,7 @@ use Rattle.keybits.specs.Shapes.{page_size, position_of, is_place}
 use Rattle.keybits.specs.declared.step.Word.TheVariants.{Life, Link}
 use Rattle.keybits.proofs.ShapeLemmas.{is_place-parts, is_place-from_parts}
 use Rattle.poolsteps.specs.declared.layout.PageRow.{PageRow}
-use Rattle.poolsteps.specs.Layout.{index_in, page_row, page_rows}
+use Rattle.poolsteps.specs.Layout.{index_in, slot_start, page_row, page_rows}
 
 pub rows-length : (z : Shape) (count : ℕ) → length (page_rows z count) ≡ count
 rows-length z zero = refl
@@ -37,8 +37,8 @@ row-found z rows are page other row below is =
 -- the row of a page, by whether the shape has it
 abbrev row-of : Shape → ℕ → Bool → PageRow
 row-of z page has = cond has
-    record { places = page_size z (page % 16); position = position_of z (4096 * page); life = index_in z (Life (4096 * page)); link = index_in z (Link (4096 * page)) }
-    record { places = 0; position = 0; life = 0; link = 0 }
+    record { places = page_size z (page % 16); position = position_of z (4096 * page); life = index_in z (Life (4096 * page)); link = index_in z (Link (4096 * page)); slot = slot_start z (4096 * page) }
+    record { places = 0; position = 0; life = 0; link = 0; slot = 0 }
 
 -- how many places the row of a page has, by whether the shape has the page
 row-places : (z : Shape) (page : ℕ) (has : Bool) → nat_lt (page % 16) z.pages ≡ has → (page_row z page).places ≡ cond has (page_size z (page % 16)) 0

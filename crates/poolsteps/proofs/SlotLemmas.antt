@@ -1,31 +1,48 @@
 -- Each slot of the pool has its own place among the slots of a table.
-use Rattle.std.proofs.Common.{◌≡◌, ◌≢◌, ⊎_elim, ℕ, ◌<◌, Bool, true, false, cond, nat_lt, ◌&&◌, eqb, List, length, slice_set, Option, refl, ap, sym, ◌∙◌, arith, eq-eqb, ne_eqb, lt-ltb}
+use Rattle.std.proofs.Common.{◌≡◌, ◌≢◌, ⊎_elim, ℕ, ◌+◌, ◌*◌, ◌<◌, Bool, true, false, cond, nat_lt, ◌&&◌, eqb, List, length, slice_set, Option, refl, ap, sym, ◌∙◌, arith, eq-eqb, ne_eqb, lt-ltb}
 use Rattle.std.proofs.lemmas.Bool.{and_from, and_left, and_right, cases_Bool}
 use Rattle.std.proofs.lemmas.Nat.{same_from_place, mul-add-lt}
 use mathlib.Core.Option as maybe
 use lib.ListN.{get_elem?}
 use Rattle.atomic_table.proofs.Lists.{set_here, set_else}
 use Rattle.keybits.specs.declared.shape.Shape.{Shape}
-use Rattle.keybits.specs.Shapes.{IsShape, is_place, position_of}
-use Rattle.keybits.proofs.ShapeLemmas.{position_of-lt, position_of-injective}
+use Rattle.keybits.specs.Places.{shard_of}
+use Rattle.keybits.specs.Shapes.{IsShape, is_place, shard_places, index_of}
+use Rattle.keybits.proofs.ShapeLemmas.{is_place-parts, index_of-lt, index_of-injective, position_of-lt}
 use Rattle.slotcell.specs.Share.{Share}
 use Rattle.sharelaws.specs.Shares.{with_slot}
 use Rattle.sharelaws.proofs.Cases.{each-slot}
-use Rattle.poolsteps.specs.Layout.{slot_row, slot_count, slot_index, slots_in}
+use Rattle.poolsteps.specs.Layout.{slot_start, slot_row, slot_count, slot_index, slots_in}
 
--- the position of a place is inside a row
-in-row : (z : Shape) (place : ℕ) → is_place z place ≡ true → position_of z place < slot_row z
-in-row z place inside = let low = position_of-lt z place inside in omega arith
+-- the slot of a place stands inside a row
+in-row : (z : Shape) (place : ℕ) → is_place z place ≡ true → slot_start z place < slot_row z
+in-row z place inside =
+    let low = position_of-lt z place inside in
+    let shard = (is_place-parts z place inside).0 in
+    omega arith
+
+-- each shard has the slots of its places in a row, and those behind them
+in-shards : (shard places index : ℕ) → shard * (places + 8) + index ≡ shard * places + index + 8 * shard
+in-shards shard places index = omega arith
+
+-- two slots at one place of a row are of one place
+start-injective : (z : Shape) (p q : ℕ) → is_place z p ≡ true → is_place z q ≡ true → slot_start z p ≡ slot_start z q → p ≡ q
+start-injective z p q p_inside q_inside same =
+    let p_low = index_of-lt z p p_inside in
+    let q_low = index_of-lt z q q_inside in
+    let both = same_from_place (shard_of p) (index_of z p) (shard_of q) (index_of z q) (shard_places z + 8) (omega arith) (omega arith)
+    (in-shards (shard_of p) (shard_places z) (index_of z p) ∙ (same ∙ sym (in-shards (shard_of q) (shard_places z) (index_of z q)))) in
+    index_of-injective z p q p_inside q_inside both.0 both.1
 
 pub slot-below : (z : Shape) (place number : ℕ) → is_place z place ≡ true → number < z.lanes → slot_index z place number < slot_count z
 slot-below z place number inside below =
-    let deep = mul-add-lt number (slot_row z) (position_of z place) z.lanes below (in-row z place inside) in omega arith
+    let deep = mul-add-lt number (slot_row z) (slot_start z place) z.lanes below (in-row z place inside) in omega arith
 
 -- two slots of the pool at one index are of one place and of one lane
 pub slot-apart : (z : Shape) → IsShape z → (p k q m : ℕ) → is_place z p ≡ true → is_place z q ≡ true → slot_index z p k ≡ slot_index z q m → (p ≡ q) × (k ≡ m)
 slot-apart z ok p k q m p_inside q_inside same =
-    let both = same_from_place k (position_of z p) m (position_of z q) (slot_row z) (in-row z p p_inside) (in-row z q q_inside) same in
-    (position_of-injective z ok p q p_inside q_inside both.1, both.0)
+    let both = same_from_place k (slot_start z p) m (slot_start z q) (slot_row z) (in-row z p p_inside) (in-row z q q_inside) same in
+    (start-injective z p q p_inside q_inside both.1, both.0)
 
 -- what a slot of the pool has
 pub slot-is : {T : Type 0} (z : Shape) (homes : List (maybe.Option (Option (Share T)))) (place number : ℕ) → is_place z place ≡ true → number < z.lanes

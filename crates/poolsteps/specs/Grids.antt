@@ -12,7 +12,7 @@ use Rattle.keybits.specs.Shapes.{position_of, is_place}
 use Rattle.poolsteps.specs.declared.grid.Spot.{Spot}
 use Rattle.poolsteps.specs.declared.grid.Grid.{Grid}
 use Rattle.poolsteps.specs.declared.view.View.{View}
-use Rattle.poolsteps.specs.Layout.{index_in}
+use Rattle.poolsteps.specs.Layout.{index_in, slot_start}
 use Rattle.poolsteps.specs.Views.{first_record, the_lane, IsOne}
 
 -- the spot is that of this place of the shape
@@ -22,6 +22,7 @@ pub record IsSpot (z : Shape) (spot : Spot) (place : ℕ) : Type 0 where
   pub position : spot.position ≡ position_of z place
   pub life : spot.life ≡ index_in z (Life place)
   pub link : spot.link ≡ index_in z (Link place)
+  pub slot : spot.slot ≡ slot_start z place
 
 -- the hand is one of the grid
 abbrev pub IsOf : {T : Type 0} → Grid T → Seat (Option (Share T)) View → Type 0

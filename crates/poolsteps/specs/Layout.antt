@@ -11,7 +11,7 @@ use Rattle.slotcell.specs.Share.{Share}
 use Rattle.sharelaws.specs.Shares.{Slots}
 use Rattle.steplaws.specs.Facts.{Words}
 use Rattle.poolsteps.specs.declared.layout.PageRow.{PageRow}
-use Rattle.poolsteps.specs.declared.layout.TheConstants.{WORDS_APART, ROWS_APART}
+use Rattle.poolsteps.specs.declared.layout.TheConstants.{WORDS_APART, SHARDS_APART}
 
 -- a word of the lane's own, which no step changes
 abbrev pub look_word : ℕ → ℕ
@@ -53,11 +53,15 @@ words_in z words = record {
   stack = λ shard lane. value_in z words (Stack shard lane);
 }
 
+-- where the slot of a place stands in each lane's row
+abbrev pub slot_start : Shape → ℕ → ℕ
+slot_start z place = position_of z place + SHARDS_APART * shard_of place
+
 -- where the places of a page stand, of those counted over all shards, 16 to each: those of its first place, and none where the shape has no such page
 abbrev pub page_row : Shape → ℕ → PageRow
 page_row z page = if nat_lt (page % 16) z.pages
-    then record { places = page_size z (page % 16); position = position_of z (4096 * page); life = index_in z (Life (4096 * page)); link = index_in z (Link (4096 * page)) }
-    else record { places = 0; position = 0; life = 0; link = 0 }
+    then record { places = page_size z (page % 16); position = position_of z (4096 * page); life = index_in z (Life (4096 * page)); link = index_in z (Link (4096 * page)); slot = slot_start z (4096 * page) }
+    else record { places = 0; position = 0; life = 0; link = 0; slot = 0 }
 
 -- the rows of so many pages
 abbrev pub page_rows : Shape → ℕ → List PageRow
@@ -66,7 +70,7 @@ page_rows z (suc pages) = page_rows z pages ++ page_row z pages ∷ []
 
 -- how many slots stand between those of a place for two lanes that follow each other
 abbrev pub slot_row : Shape → ℕ
-slot_row z = all_places z + ROWS_APART
+slot_row z = all_places z + SHARDS_APART * z.lanes
 
 -- how many slots there are
 abbrev pub slot_count : Shape → ℕ
@@ -74,7 +78,7 @@ slot_count z = z.lanes * slot_row z
 
 -- where the slot of a place and a lane stands
 abbrev pub slot_index : Shape → ℕ → ℕ → ℕ
-slot_index z place lane = lane * slot_row z + position_of z place
+slot_index z place lane = lane * slot_row z + slot_start z place
 
 -- the slots of the pool, in this row of slots
 abbrev pub slots_in : {T : Type 0} → Shape → List (maybe.Option (Option (Share T))) → Slots T

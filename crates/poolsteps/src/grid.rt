@@ -24,6 +24,7 @@ pub struct Spot {
     pub position: usize,
     pub(crate) life: usize,
     pub(crate) link: usize,
+    pub(crate) slot: usize,
 }
 
 /// The words of a pool in one table, and a slot for each place and lane.

@@ -1,6 +1,6 @@
 //! Where each word of a pool stands among the words of its table, and each slot among its slots: words that different lanes
-//! change by themselves stand 64 bytes apart. No step changes the first words: the very first is read where seats are cut and joined, and behind it
-//! each lane has one that it looks at.
+//! change by themselves stand 64 bytes apart, and so do the slots of neighbouring shards. No step changes the first words: the
+//! very first is read where seats are cut and joined, and behind it each lane has one that it looks at.
 ghost use Rattle.std.specs.Prelude.{◌≡◌, ◌<◌, ◌*◌, ℕ, true, None, List, Option, length, slice_get, Some, IfSome};
 ghost use Rattle.keybits.specs.Shapes.{IsShape, position_of, is_place};
 ghost use Rattle.keybits.specs.Places.{shard_of};
@@ -16,8 +16,9 @@ use std::alloc::Global;
 /// How many words stand between two that different lanes change by themselves.
 pub const WORDS_APART: usize = 8;
 
-/// How many slots stand unused behind those of each lane, so that the rows of lanes don't meet in a processor's cache.
-pub const ROWS_APART: usize = 4;
+/// How many slots stand unused behind those of each shard in a lane's row, so that those of neighbouring shards don't share a
+/// line of a processor's cache.
+pub const SHARDS_APART: usize = 8;
 
 /// Where the lifecycle word of the first place stands.
 pub(crate) fn lives_start(shape: &Shape) -> usize
@@ -91,7 +92,20 @@ pub(crate) fn slot_row(shape: &Shape) -> usize
     requires { IsShape shape.now }
     ensures { result ≡ slot_row shape.now }
 {
-    shape.all_places() as usize + ROWS_APART
+    shape.all_places() as usize + SHARDS_APART * shape.lanes as usize
+}
+
+/// Where the slot of a place stands for a lane; the place has this position among the places of the pool.
+pub fn slot_at(shape: &Shape, place: u32, position: usize, lane: u32) -> usize
+    requires shape { IsShape shape.now }
+    requires place { is_place shape.now place ≡ true }
+    requires position { position ≡ position_of shape.now place }
+    requires lane { lane < shape.now.lanes }
+    ensures slot { result ≡ slot_index shape.now place lane }
+    ensures inside { result < slot_count shape.now }
+{
+    let start = position + SHARDS_APART * shard_of(place) as usize;
+    lane as usize * slot_row(shape) + start
 }
 
 /// Where the places of a page stand: those of its first place.
@@ -105,6 +119,8 @@ pub struct PageRow {
     pub life: usize,
     /// Where the link word of its first place stands.
     pub link: usize,
+    /// Where the slot of its first place stands in each lane's row.
+    pub slot: usize,
 }
 
 /// The rows of all pages, 16 to a shard. None where memory was refused.
@@ -132,6 +148,7 @@ fn page_row(shape: &Shape, page: u32) -> PageRow
             position: 0,
             life: 0,
             link: 0,
+            slot: 0,
         };
     }
     let first = page << 12;
@@ -142,6 +159,7 @@ fn page_row(shape: &Shape, page: u32) -> PageRow
         position,
         life,
         link: life + shape.shard_places() as usize,
+        slot: slot_at(shape, first, position, 0),
     }
 }
 

@@ -136,7 +136,7 @@ impl<T: Clear> Grid<T> {
         requires number { number < self.now.shape.lanes }
         ensures { result ≡ slot_index self.now.shape spot.place number }
     {
-        number as usize * self.row + spot.position
+        number as usize * self.row + spot.slot
     }
 
     /// A look that takes a slot which the lane left so.

@@ -87,12 +87,13 @@ impl<T: Clear> Grid<T> {
         requires page { page.now ≡ page_row self.now.shape (place / 4096) }
         ensures { IsSpot self.now.shape result place }
     {
-        let slot = (place % 4096) as usize;
+        let index = (place % 4096) as usize;
         Spot {
             place,
-            position: page.position + slot,
-            life: page.life + slot,
-            link: page.link + slot,
+            position: page.position + index,
+            life: page.life + index,
+            link: page.link + index,
+            slot: page.slot + index,
         }
     }
 }
