@@ -23,7 +23,7 @@ use Rattle.poolsteps.specs.Layout.{index_in, words_in}
 use Rattle.poolsteps.specs.Returned.{rest_of}
 use Rattle.shardpool.specs.Shelves.{IsFirst}
 use Rattle.shardpool.specs.Marks.{IsRow, Blanks, IsThread, AreThreads, stacked, AreFreePlaces}
-use Rattle.shardpool.proofs.CensusMarks.{AreBlanked, blanks-then, blanks-words, read-word}
+use Rattle.shardpool.proofs.CensusMarks.{blanks-none, AreBlanked, blanks-then, blanks-words, read-word}
 
 -- ---- the own list
 
@@ -181,42 +181,26 @@ chain-some (Some p) chain place is h = h ∙ ap (λ (q : Place). number_of q ∷
 
 module _ (z : Shape) (ok : IsShape z) (old : Slots ℕ) (row : IsRow z old) (shard : ℕ) (free : FreePlaces) (chain : List ℕ) (threads : ℕ → List ℕ)
     (h : AreFreePlaces z (slots_items old) shard free chain threads) where
-  -- what the words say after the own list
-  listed-words : (now : Slots ℕ) → Blanks z (map number_of free.own) old now → AreBlanked (map number_of free.own) (words_in z (slots_items old)) (words_in z (slots_items now))
-  listed-words now marks = blanks-words z ok (map number_of free.own) old now row (list-inside z free.own h.listed) marks
-
-  -- the chain stands as before, and hangs by the link of its first place
-  pub chain-hangs : (now : Slots ℕ) (place : Place) → Blanks z (map number_of free.own) old now → free.chain ≡ Some place
-      → IsThread z (slots_items now) shard (link_to (number_of place)) chain
-  chain-hangs now place marks is =
+  -- the chain hangs by the link of its first place
+  pub chain-hangs : (place : Place) → free.chain ≡ Some place → IsThread z (slots_items old) shard (link_to (number_of place)) chain
+  chain-hangs place is =
       let split = chain-some free.chain chain place is h.first in
-      let stays = thread-stays z (map number_of free.own) (slots_items old) (slots_items now) shard h.chained.0 chain (listed-words now marks) h.chained.1 in
-      subst (λ (l : List ℕ). IsThread z (slots_items now) shard (link_to (number_of place)) l) (sym split)
-      (thread-first z (slots_items now) shard h.chained.0 (number_of place) (rest_of chain)
-      (subst (λ (l : List ℕ). IsThread z (slots_items now) shard h.chained.0 l) split stays))
+      subst (λ (l : List ℕ). IsThread z (slots_items old) shard (link_to (number_of place)) l) (sym split)
+      (thread-first z (slots_items old) shard h.chained.0 (number_of place) (rest_of chain)
+      (subst (λ (l : List ℕ). IsThread z (slots_items old) shard h.chained.0 l) split h.chained.1))
 
   -- the chain is marked, where one hangs, and else there is none
-  pub chain-marked : (now then : Slots ℕ) (place : Place) (link : ℕ) → Blanks z (map number_of free.own) old now → free.chain ≡ Some place → link ≡ link_to (number_of place)
-      → ((thread : List ℕ) → IsThread z (slots_items now) shard link thread → Blanks z thread now then) → Blanks z (map number_of free.own ++ chain) old then
-  chain-marked now then place link before is at marks = blanks-then z (map number_of free.own) chain old now then before
-      (marks chain (subst (λ (w : ℕ). IsThread z (slots_items now) shard w chain) (sym at) (chain-hangs now place before is)))
+  pub chain-marked : (then : Slots ℕ) (place : Place) (link : ℕ) → free.chain ≡ Some place → link ≡ link_to (number_of place)
+      → ((thread : List ℕ) → IsThread z (slots_items old) shard link thread → Blanks z thread old then) → Blanks z chain old then
+  chain-marked then place link is at marks = marks chain (subst (λ (w : ℕ). IsThread z (slots_items old) shard w chain) (sym at) (chain-hangs place is))
 
-  pub no-chain : (now : Slots ℕ) → Blanks z (map number_of free.own) old now → free.chain ≡ None → Blanks z (map number_of free.own ++ chain) old now
-  no-chain now before is = subst (λ (l : List ℕ). Blanks z l old now)
-      (sym (ap (λ (l : List ℕ). map number_of free.own ++ l) (chain-none free.chain chain is h.first) ∙ append-nil (map number_of free.own))) before
+  pub no-chain : free.chain ≡ None → Blanks z chain old old
+  no-chain is = subst (λ (l : List ℕ). Blanks z l old old) (sym (chain-none free.chain chain is h.first)) (blanks-none z old row)
 
-  -- the list and the chain have places of the shape
-  both-inside : (place : ℕ) → 0 < times place (map number_of free.own ++ chain) → is_place z place ≡ true
-  both-inside place some =
-      let both = times-append place (map number_of free.own) chain in
-      dite (ℕ_discrete (times place chain) 0)
-      (λ none. list-inside z free.own h.listed place (omega arith))
-      (λ more. (h.chained.1.inside place (omega arith)).0)
-
-  -- after both the stacks stand as before
-  pub stacks-stand : (now : Slots ℕ) → Blanks z (map number_of free.own ++ chain) old now → AreThreads z (slots_items now) shard threads
-  stacks-stand now marks = threads-stay z (map number_of free.own ++ chain) (slots_items old) (slots_items now) shard threads
-      (blanks-words z ok (map number_of free.own ++ chain) old now row both-inside marks) h.returned
+  -- after the chain the stacks stand as before
+  pub stacks-stand : (now : Slots ℕ) → Blanks z chain old now → AreThreads z (slots_items now) shard threads
+  stacks-stand now marks = threads-stay z chain (slots_items old) (slots_items now) shard threads
+      (blanks-words z ok chain old now row (λ place some. (h.chained.1.inside place some).0) marks) h.returned
 
 -- the word of the next stack leads through its thread, after the stacks before it were marked
 pub next-thread : (z : Shape) → IsShape z → (old : Slots ℕ) → IsRow z old → (shard : ℕ) → shard < z.lanes → (threads : ℕ → List ℕ) → AreThreads z (slots_items old) shard threads

@@ -98,7 +98,7 @@ module _ {T : Type 0} (z : Shape) (history : List Act) (lanes : List LaneOf) (sh
       let kept = own.chained place on in
       inr (kept-phase place kept, kept.opened, inr on)
 
-  stacked-home : (place : ℕ) → 0 < times place (stacked lane.number threads_of z.lanes) → (pool_after z history place).phase ≡ home
+  pub stacked-home : (place : ℕ) → 0 < times place (stacked lane.number threads_of z.lanes) → (pool_after z history place).phase ≡ home
   stacked-home place some =
       let on = stands-on lane.number z.lanes threads_of place some in
       (home-parts z history lane.number place (home_on threads_of z lane.number (words_in z words).link ((words_in z words).stack lane.number) (home_in z history lane.number) homes
@@ -107,8 +107,8 @@ module _ {T : Type 0} (z : Shape) (history : List Act) (lanes : List LaneOf) (sh
   -- a place of the lists is free
   pub listed-part : (place : ℕ) → 0 < times place all_free → IsPart history lane place Free
   listed-part place some =
-      let front = times-append place (map number_of shelf.free.own) (the_lane lane.book).chain in
-      let whole = times-append place (map number_of shelf.free.own ++ (the_lane lane.book).chain) (stacked lane.number threads_of z.lanes) in
+      let front = times-append place (the_lane lane.book).chain (stacked lane.number threads_of z.lanes) in
+      let whole = times-append place ((the_lane lane.book).chain ++ stacked lane.number threads_of z.lanes) (map number_of shelf.free.own) in
       dite (ℕ_discrete (times place (map number_of shelf.free.own)) 0)
       (λ unlisted. dite (ℕ_discrete (times place (the_lane lane.book).chain) 0)
       (λ unchained. inl (lane-phase place home (stacked-home place (omega arith))))
@@ -116,7 +116,7 @@ module _ {T : Type 0} (z : Shape) (history : List Act) (lanes : List LaneOf) (sh
       (λ listed. listed-free place (omega arith))
 
   -- a home place of the shard stands on a stack
-  home-stacked : (place : ℕ) → is_place z place ≡ true → shard_of place ≡ lane.number → (pool_after z history place).phase ≡ home
+  pub home-stacked : (place : ℕ) → is_place z place ≡ true → shard_of place ≡ lane.number → (pool_after z history place).phase ≡ home
       → 0 < times place (stacked lane.number threads_of z.lanes)
   home-stacked place inside of_shard is =
       let one : times_stacked z.lanes lane.number threads_of place ≡ 1
@@ -133,7 +133,7 @@ module _ {T : Type 0} (z : Shape) (history : List Act) (lanes : List LaneOf) (sh
       on-stacks lane.number z.lanes some.0 threads_of place some.1 apart (omega arith))
 
   -- no word of a place is 0
-  word-some : (place : ℕ) → is_place z place ≡ true → (words_in z words).life place ≢ 0
+  pub word-some : (place : ℕ) → is_place z place ≡ true → (words_in z words).life place ≢ 0
   word-some place inside none =
       let rises = rank-rises z fresh history place last.legal in
       let most = level-le (pool_after z history place).phase in
@@ -145,8 +145,8 @@ module _ {T : Type 0} (z : Shape) (history : List Act) (lanes : List LaneOf) (sh
   by-phase : (place : ℕ) (phase : Phase) → is_place z place ≡ true → shard_of place ≡ lane.number → page_of place < lane.pages.opened → times place all_free ≡ 0
       → (pool_after z history place).phase ≡ phase → IsPart history lane place (part_by (bits_of phase))
   by-phase place (with owner) inside of_shard opened none is =
-      let front = times-append place (map number_of shelf.free.own) (the_lane lane.book).chain in
-      let whole = times-append place (map number_of shelf.free.own ++ (the_lane lane.book).chain) (stacked lane.number threads_of z.lanes) in
+      let front = times-append place (the_lane lane.book).chain (stacked lane.number threads_of z.lanes) in
+      let whole = times-append place ((the_lane lane.book).chain ++ stacked lane.number threads_of z.lanes) (map number_of shelf.free.own) in
       let mine : owner ≡ lane.number = sym (last.alone place owner inside is) ∙ of_shard in (
         lane-phase place (with lane.number) (is ∙ ap with mine),
         opened,
@@ -162,7 +162,8 @@ module _ {T : Type 0} (z : Shape) (history : List Act) (lanes : List LaneOf) (sh
   by-phase place (published content references true) inside of_shard opened none is = (content, references, lane-phase place (published content references true) is)
   by-phase place home inside of_shard opened none is =
       let on = home-stacked place inside of_shard is in
-      let whole = times-append place (map number_of shelf.free.own ++ (the_lane lane.book).chain) (stacked lane.number threads_of z.lanes) in
+      let front = times-append place (the_lane lane.book).chain (stacked lane.number threads_of z.lanes) in
+      let whole = times-append place ((the_lane lane.book).chain ++ stacked lane.number threads_of z.lanes) (map number_of shelf.free.own) in
       absurd (omega arith)
   by-phase place retired inside of_shard opened none is = lane-phase place retired is
 

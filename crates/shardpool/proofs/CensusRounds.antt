@@ -1,23 +1,28 @@
 -- The census goes over the shelves, one shard after another.
-use Rattle.std.proofs.Common.{◌≡◌, ℕ, zero, suc, ◌+◌, ◌*◌, ◌<◌, ◌≤◌, true, List, [], ◌∷◌, ◌++◌, map, length, Some, refl, ap, sym, ◌∙◌, subst, arith, append_assoc, length-append}
-use Rattle.std.specs.Prelude.{slice_get}
+use Rattle.std.proofs.Common.{◌≡◌, ◌≢◌, ◌⊎◌, ⊎_elim, ℕ, Bool, false, zero, suc, ◌+◌, ◌*◌, ◌<◌, ◌≤◌, true, List, [], ◌∷◌, ◌++◌, map, length, Some, refl, ap, sym, ◌∙◌, subst, arith, length-append, inl, inr}
+use Rattle.std.specs.Prelude.{Option, slice_get}
 use Rattle.std.specs.List.{Contains}
 use Rattle.std.proofs.Math.ListN.{get_or}
-use Rattle.std.proofs.Math.Seq.{get_or-append_seam}
 use Rattle.std.proofs.lemmas.Option.{slice_get-get_or, slice_get_within}
 use Rattle.std.proofs.lemmas.Nat.{mul-add-lt}
 use mathlib.Core.Logic.{dite}
 use native.Mathlib.Decide.{ℕ_discrete}
 use Rattle.core.specs.declared.slots.Slots.{Slots}
-use Rattle.core.specs.Mem.Slots.{slots_items}
+use Rattle.core.specs.Mem.Slots.{slots_items, slots_ptr}
 use Rattle.keybits.specs.declared.shape.Shape.{Shape}
 use Rattle.keybits.specs.Places.{shard_of, page_of, number_of}
 use Rattle.keybits.specs.Shapes.{IsShape, is_place, shard_places, index_of}
 use Rattle.keybits.specs.Counts.{times}
 use Rattle.keybits.proofs.CountLemmas.{times-append, one_at, none_at, no_times, length_le}
-use Rattle.keybits.proofs.ShapeLemmas.{index_of-lt, shape_bounds}
+use Rattle.keybits.proofs.ShapeLemmas.{is_place-parts, index_of-lt, shape_bounds}
 use Rattle.freelists.specs.Queues.{FreePlaces}
+use Rattle.keybits.specs.Words.{state_in}
 use Rattle.seqpool.specs.declared.act.Act.{Act}
+use Rattle.seqpool.specs.Pool.{Phase, with, published, home, retired, has, pool_after}
+use Rattle.steplaws.specs.Facts.{bits_of}
+use Rattle.steplaws.proofs.HomePlaces.{has-some, has-none}
+use Rattle.slotcell.specs.Share.{Share}
+use Rattle.lastcells.specs.Joins.{IsSlotRow, IsSpread, IsResting, HasCell, HasNoCell}
 use Rattle.poolsteps.specs.Views.{the_lane}
 use Rattle.poolsteps.specs.Layout.{words_in}
 use Rattle.shardpool.specs.declared.census.Census.{Census}
@@ -25,11 +30,14 @@ use Rattle.shardpool.specs.declared.census.Part.{Part}
 use Rattle.shardpool.specs.declared.shelf.Shelf.{Shelf}
 use Rattle.shardpool.specs.Tokens.{LaneOf}
 use Rattle.shardpool.specs.Closings.{IsPart, none_counted, all_counted, places_counted, IsCensus, IsLast, AreLast}
-use Rattle.shardpool.specs.Marks.{IsRow, Blanks, stacked, AreFreePlaces, free_places, part_in, Counts}
+use Rattle.shardpool.specs.Marks.{IsRow, Blanks, stacked, AreFreePlaces, returned_places, free_places, part_in, Counts}
 use Rattle.shardpool.proofs.CensusMarks.{AreBlanked, blanks-none, blanks-then, blanks-words}
 use Rattle.shardpool.proofs.CensusLists.{free-stays, among-number, stacked-inside}
 use Rattle.shardpool.proofs.CensusCounts.{many-counted, counted-append, get-front, get-back}
-use Rattle.shardpool.proofs.CensusParts.{threads_of, free-stand, part-is}
+use Rattle.shardpool.specs.Remains.{HasCells, IsDrained, DrainsShard}
+use Rattle.shardpool.proofs.Draining.{SameSlots, cell-stays, drained-stays}
+use Rattle.shardpool.proofs.CensusParts.{threads_of, free-stand, word-some, stacked-home, home-stacked, part-is}
+use Rattle.shardpool.proofs.Handing.{some-same}
 
 -- ---- each lane stands once
 
@@ -37,11 +45,8 @@ use Rattle.shardpool.proofs.CensusParts.{threads_of, free-stand, part-is}
 abbrev At : List LaneOf → ℕ → ℕ → Type 0
 At lanes index number = (lane : LaneOf) × (slice_get lanes index ≡ Some lane) × (lane.number ≡ number)
 
-some-one : {X : Type 0} (a b : X) → Some a ≡ Some b → a ≡ b
-some-one a b e = cc e
-
 at-one : (lanes : List LaneOf) (index m n : ℕ) → At lanes index m → At lanes index n → m ≡ n
-at-one lanes index m n a b = sym a.2 ∙ (ap (λ (l : LaneOf). l.number) (some-one a.0 b.0 (sym a.1 ∙ b.1)) ∙ b.2)
+at-one lanes index m n a b = sym a.2 ∙ (ap (λ (l : LaneOf). l.number) (some-same a.0 b.0 (sym a.1 ∙ b.1)) ∙ b.2)
 
 -- so many indexes, at which the lanes of the first numbers stand
 pub record Picked (lanes : List LaneOf) (count : ℕ) : Type 0 where
@@ -161,23 +166,28 @@ so-far-room z ok history lanes old now count census h low =
     let step = mul-add-lt count (shard_places z) 0 z.lanes low (omega arith) in
     omega (arith, step)
 
+-- the slots after the shards of so many shelves: these have no cells more, and those of the other shards are as before
+pub record SlotsSoFar {T : Type 0} (z : Shape) (history : List Act) (lanes : List LaneOf) (count : ℕ) (old now : Slots (Option (Share T))) : Type 0 where
+  pub row : IsSlotRow z now
+  pub start : slots_ptr now ≡ slots_ptr old
+  pub kept : (place : ℕ) → is_place z place ≡ true → ((index : ℕ) → index < count → At lanes index (shard_of place) → ⊥) → SameSlots z (slots_items old) (slots_items now) place
+  pub gone : (place : ℕ) → is_place z place ≡ true → (index : ℕ) → index < count → At lanes index (shard_of place) → IsDrained z history lanes (slots_items now) place
+
+pub slots-so-far-none : {T : Type 0} (z : Shape) (history : List Act) (lanes : List LaneOf) (slots : Slots (Option (Share T))) → IsSlotRow z slots
+    → SlotsSoFar z history lanes 0 slots slots
+slots-so-far-none z history lanes slots row = record {
+  row = row;
+  start = refl;
+  kept = λ place inside none lane low. refl;
+  gone = λ place inside index low. absurd (omega (arith, low));
+}
+
 -- ---- the next shelf
 
 -- an element before the end of a list
 get-some : {X : Type 0} (xs : List X) (k : ℕ) → k < length xs → (x : X) × (slice_get xs k ≡ Some x)
 get-some [] k low = absurd (omega arith)
 get-some (x ∷ xs) k low = (get_or (x ∷ xs) k x, slice_get-get_or (x ∷ xs) k x low)
-
--- the first of those that are left stands behind those that are done
-pub next-shelf : {X : Type 0} (all done left rest : List X) (next : X) → done ++ left ≡ all → left ≡ next ∷ rest → slice_get all (length done) ≡ Some next
-next-shelf all done left rest next whole first =
-    let is : done ++ next ∷ rest ≡ all = ap (λ l. done ++ l) (sym first) ∙ whole in
-    let long = length-append done (next ∷ rest) in
-    subst (λ l. slice_get l (length done) ≡ Some next) is
-    (slice_get-get_or (done ++ next ∷ rest) (length done) next (omega arith) ∙ ap Some (get_or-append_seam done next rest next))
-
-pub shelf-moves : {X : Type 0} (all done left rest : List X) (next : X) → done ++ left ≡ all → left ≡ next ∷ rest → (done ++ next ∷ []) ++ rest ≡ all
-shelf-moves all done left rest next whole first = append_assoc done (next ∷ []) rest ∙ (ap (λ l. done ++ l) (sym first) ∙ whole)
 
 module _ {T : Type 0} (z : Shape) (ok : IsShape z) (history : List Act) (lanes : List LaneOf) (shelves : List (Shelf T)) (old : Slots ℕ) (row : IsRow z old)
     (last : AreLast z history lanes shelves (words_in z (slots_items old))) (count : ℕ) (shelf : Shelf T) (at : slice_get shelves count ≡ Some shelf) where
@@ -219,8 +229,8 @@ module _ {T : Type 0} (z : Shape) (ok : IsShape z) (history : List Act) (lanes :
     -- all of them are places of its shard
     free-own : (place : ℕ) → 0 < times place (free_places z lane.number shelf.free chain threads) → (is_place z place ≡ true) × (shard_of place ≡ lane.number)
     free-own place some =
-        let front = times-append place (map number_of shelf.free.own) chain in
-        let whole = times-append place (map number_of shelf.free.own ++ chain) (stacked lane.number threads z.lanes) in
+        let front = times-append place chain (stacked lane.number threads z.lanes) in
+        let whole = times-append place (chain ++ stacked lane.number threads z.lanes) (map number_of shelf.free.own) in
         dite (ℕ_discrete (times place (map number_of shelf.free.own)) 0)
         (λ unlisted. dite (ℕ_discrete (times place chain) 0)
         (λ unchained. stacked-inside z (slots_items now) lane.number z.lanes threads stand-own.returned (omega arith) place (omega arith))
@@ -240,6 +250,146 @@ module _ {T : Type 0} (z : Shape) (ok : IsShape z) (history : List Act) (lanes :
         let low = before.1 in
         omega arith)
 
+    -- no earlier shelf is of the shard of such a place
+    not-earlier : (place : ℕ) → shard_of place ≡ lane.number → (index : ℕ) → index < count → At lanes index (shard_of place) → ⊥
+    not-earlier place of_shard index low there =
+        let same = same-index lanes z.lanes last.count.0 (λ number below. let a = last.all number below in (a.0, (a.1, a.2, a.3))) index count there.0 lane there.1 found.1 (there.2 ∙ of_shard)
+        (subst (λ n. n < z.lanes) (sym (there.2 ∙ of_shard)) own.below) in
+        omega (arith, low, same)
+
+    -- its returned places are marked
+    pub returned-own : (mid : Slots ℕ) → ((first : List ℕ) (others : ℕ → List ℕ) → AreFreePlaces z (slots_items now) shelf.number shelf.free first others
+        → Blanks z (returned_places z shelf.number first others) now mid) → Blanks z (returned_places z lane.number chain threads) now mid
+    returned-own mid marks = subst (λ n. Blanks z (returned_places z n chain threads) now mid) own.number_is (marks chain threads stand-now)
+
+    module _ (mid : Slots ℕ) (returned : Blanks z (returned_places z lane.number chain threads) now mid) where
+      returned-inside : (place : ℕ) → 0 < times place (returned_places z lane.number chain threads) → is_place z place ≡ true
+      returned-inside place some =
+          let front = times-append place chain (stacked lane.number threads z.lanes) in
+          dite (ℕ_discrete (times place chain) 0)
+          (λ unchained. (stacked-inside z (slots_items now) lane.number z.lanes threads stand-own.returned (omega arith) place (omega arith)).0)
+          (λ chained. (stand-own.chained.1.inside place (omega arith)).0)
+
+      blanked-mid : AreBlanked (returned_places z lane.number chain threads) (words_in z (slots_items now)) (words_in z (slots_items mid))
+      blanked-mid = blanks-words z ok (returned_places z lane.number chain threads) now mid h.blanks.row returned-inside returned
+
+      last-word : (place : ℕ) → shard_of place ≡ lane.number → times place (returned_places z lane.number chain threads) ≡ 0
+          → (words_in z (slots_items mid)).life place ≡ (words_in z (slots_items old)).life place
+      last-word place of_shard none = blanked-mid.kept place none ∙ so_far_blanked.kept place (unmarked place of_shard)
+
+      -- a published place was not returned
+      away : (place : ℕ) (content : List ℕ) (references : ℕ → ℕ) (mark : Bool) → (pool_after z history place).phase ≡ published content references mark
+          → times place (returned_places z lane.number chain threads) ≡ 0
+      away place content references mark is = no_times (times place (returned_places z lane.number chain threads)) (λ some.
+          let front = times-append place chain (stacked lane.number threads z.lanes) in
+          dite (ℕ_discrete (times place chain) 0)
+          (λ unchained.
+          let at_home : published content references mark ≡ home = sym is ∙ stacked-home z history lanes shelves (slots_items old) last lane shelf own place (omega arith) in
+          cc at_home)
+          (λ chained.
+          let with_lane : published content references mark ≡ with lane.number = sym is ∙ (own.chained place (has-some place chain (omega arith))).with_lane in
+          cc with_lane))
+
+      published-bits : (place : ℕ) → is_place z place ≡ true → shard_of place ≡ lane.number → (content : List ℕ) (references : ℕ → ℕ) (mark : Bool)
+          → (pool_after z history place).phase ≡ published content references mark
+          → (state_in ((words_in z (slots_items mid)).life place) ≡ 1) ⊎ (state_in ((words_in z (slots_items mid)).life place) ≡ 3)
+      published-bits place inside of_shard content references mark is = by mark is
+        where
+          state : (state_in ((words_in z (slots_items mid)).life place)) ≡ bits_of (pool_after z history place).phase
+          state = ap state_in (last-word place of_shard (away place content references mark is)) ∙ (last.state place inside).0
+
+          by : (mark : Bool) → (pool_after z history place).phase ≡ published content references mark
+              → (state_in ((words_in z (slots_items mid)).life place) ≡ 1) ⊎ (state_in ((words_in z (slots_items mid)).life place) ≡ 3)
+          by false so = inl (state ∙ ap bits_of so)
+          by true so = inr (state ∙ ap bits_of so)
+
+      -- the places of the shard have no cell more
+      drained : (cells : Slots (Option (Share T))) (place : ℕ) → is_place z place ≡ true → shard_of place ≡ lane.number
+          → HasNoCell z (slots_items cells) place ((words_in z (slots_items mid)).life place) → IsDrained z history lanes (slots_items cells) place
+      drained cells place inside of_shard none = record {
+        spread = λ content references mark is. none.unspread (published-bits place inside of_shard content references mark is);
+        returned = λ is.
+            let on = home-stacked z history lanes shelves (slots_items old) last lane shelf own place inside of_shard is in
+            let front = times-append place chain (stacked lane.number threads z.lanes) in
+            none.unrested (blanked-mid.gone place (omega (arith, on, front)));
+        taken = λ index other at_other among.
+            let number : other.number ≡ lane.number = sym (kept-own index other at_other place among) ∙ of_shard in
+            let same = same-index lanes z.lanes last.count.0 (λ number low. let a = last.all number low in (a.0, (a.1, a.2, a.3))) index count other lane at_other found.1 number
+            (subst (λ n. n < z.lanes) (sym number) own.below) in
+            let is : other ≡ lane = some-same other lane (sym at_other ∙ (ap (slice_get lanes) same ∙ found.1)) in
+            let mine : has chain place ≡ true = subst (λ (l : LaneOf). has (the_lane l.book).chain place ≡ true) is among in
+            let front = times-append place chain (stacked lane.number threads z.lanes) in
+            dite (ℕ_discrete (times place chain) 0)
+            (λ unchained. absurd (cc (sym mine ∙ has-none place chain unchained)))
+            (λ chained. none.unrested (blanked-mid.gone place (omega (arith, chained, front))));
+      }
+        where
+          kept-own : (index : ℕ) (other : LaneOf) → slice_get lanes index ≡ Some other → (p : ℕ) → has (the_lane other.book).chain p ≡ true → shard_of p ≡ other.number
+          kept-own index other at_other p among =
+              let within = slice_get_within lanes index other at_other in
+              let a = last.count.0 in
+              let b = last.count.1 in
+              let there = get-some shelves index (omega (arith, within, a, b)) in
+              ((last.each index other there.0 at_other there.1).chained p among).own
+
+      -- the slots after the shard
+      pub slots-more : {cells_old cells_now : Slots (Option (Share T))} → SlotsSoFar z history lanes count cells_old cells_now → (cells_then : Slots (Option (Share T)))
+          → DrainsShard z shelf.number (words_in z (slots_items mid)).life cells_now cells_then → SlotsSoFar z history lanes (count + 1) cells_old cells_then
+      slots-more {cells_old} {cells_now} slots cells_then d = record {
+        row = d.row;
+        start = d.start ∙ slots.start;
+        kept = λ place inside none number low.
+            d.kept place number inside low (λ same. none count (omega arith) (lane, found.1, sym (same ∙ own.number_is)))
+            ∙ slots.kept place inside (λ index below. none index (omega (arith, below))) number low;
+        gone = λ place inside index low at_index. dite (ℕ_discrete index count)
+            (λ (here : index ≡ count).
+            let number = at-one lanes count (shard_of place) lane.number (subst (λ n. At lanes n (shard_of place)) here at_index) (lane, found.1, refl) in
+            drained cells_then place inside number (d.gone place inside (number ∙ sym own.number_is)))
+            (λ (other : index ≢ count).
+            let before : index < count = omega (arith, low, other) in
+            drained-stays z history lanes (slots_items cells_now) (slots_items cells_then) place inside
+            (λ number below. d.kept place number inside below (λ same. not-earlier place (same ∙ own.number_is) index before at_index))
+            (slots.gone place inside index before at_index));
+      }
+
+    module _ (mid : Slots ℕ) (returned : Blanks z (returned_places z lane.number chain threads) now mid) {cells_old cells_now : Slots (Option (Share T))}
+        (cells : HasCells z history lanes (slots_items cells_old)) (slots : SlotsSoFar z history lanes count cells_old cells_now) where
+      module _ (place : ℕ) (inside : is_place z place ≡ true) (of_shard : shard_of place ≡ lane.number) where
+        same-slots : SameSlots z (slots_items cells_old) (slots_items cells_now) place
+        same-slots = slots.kept place inside (not-earlier place of_shard)
+
+        rests : 0 < times place (returned_places z lane.number chain threads) → IsResting z (slots_items cells_old) place
+        rests some =
+            let front = times-append place chain (stacked lane.number threads z.lanes) in
+            dite (ℕ_discrete (times place chain) 0)
+            (λ unchained. cells.returned place inside (stacked-home z history lanes shelves (slots_items old) last lane shelf own place (omega arith)))
+            (λ chained. cells.taken count lane place inside found.1 (has-some place chain (omega arith)))
+
+        spreads : (bits : ℕ) → (bits ≡ 1) ⊎ (bits ≡ 3) → (phase : Phase) → (pool_after z history place).phase ≡ phase → bits ≡ bits_of phase → IsSpread z (slots_items cells_old) place
+        spreads bits some (with owner) is same = absurd (⊎_elim (λ one. omega (arith, one, same)) (λ three. omega (arith, three, same)) some)
+        spreads bits some (published content references mark) is same = cells.spread place inside content references mark is
+        spreads bits some home is same = absurd (⊎_elim (λ one. omega (arith, one, same)) (λ three. omega (arith, three, same)) some)
+        spreads bits some retired is same = absurd (⊎_elim (λ one. omega (arith, one, same)) (λ three. omega (arith, three, same)) some)
+
+        -- what the slots of a place of the shard have, by its word, which is 0 where it was returned
+        has-cell : HasCell z (slots_items cells_now) place ((words_in z (slots_items mid)).life place)
+        has-cell = cell-stays z (slots_items cells_old) (slots_items cells_now) place ((words_in z (slots_items mid)).life place) inside same-slots (record {
+          resting = λ none. dite (ℕ_discrete (times place (returned_places z lane.number chain threads)) 0)
+              (λ (unreturned : times place (returned_places z lane.number chain threads) ≡ 0).
+              absurd (word-some z history lanes shelves (slots_items old) last lane shelf own place inside (sym (last-word mid returned place of_shard unreturned) ∙ none)))
+              (λ there. rests (omega arith));
+          spread = λ bits. dite (ℕ_discrete (times place (returned_places z lane.number chain threads)) 0)
+              (λ (unreturned : times place (returned_places z lane.number chain threads) ≡ 0).
+              spreads (state_in ((words_in z (slots_items mid)).life place)) bits (pool_after z history place).phase refl
+              (ap state_in (last-word mid returned place of_shard unreturned) ∙ (last.state place inside).0))
+              (λ there.
+              let gone : state_in ((words_in z (slots_items mid)).life place) ≡ 0 = ap state_in ((blanked-mid mid returned).gone place (omega arith)) in
+              absurd (⊎_elim (λ one. omega (arith, one, gone)) (λ three. omega (arith, three, gone)) bits));
+        })
+
+      pub have-cells : (place : ℕ) → is_place z place ≡ true → shard_of place ≡ shelf.number → HasCell z (slots_items cells_now) place ((words_in z (slots_items mid)).life place)
+      have-cells place inside of_shelf = has-cell place inside (of_shelf ∙ own.number_is)
+
     module _ (then : Slots ℕ) (after : Census) (marks : Blanks z (free_places z lane.number shelf.free chain threads) now then)
         (counts : Counts z lane.number shelf.pages.opened (slots_items then) census after) where
       blanked_then : AreBlanked (free_places z lane.number shelf.free chain threads) (words_in z (slots_items now)) (words_in z (slots_items then))
@@ -255,14 +405,14 @@ module _ {T : Type 0} (z : Shape) (ok : IsShape z) (history : List Act) (lanes :
       this-each : (other : LaneOf) (place : ℕ) (part : Part) → slice_get lanes count ≡ Some other → is_place z place ≡ true → shard_of place ≡ other.number
           → slice_get (h.parts ++ counts.parts) (count * shard_places z + index_of z place) ≡ Some part → IsPart history other place part
       this-each other place part at_other inside of_shard get =
-          let same : lane ≡ other = some-one lane other (sym found.1 ∙ at_other) in
+          let same : lane ≡ other = some-same lane other (sym found.1 ∙ at_other) in
           let mine : shard_of place ≡ lane.number = of_shard ∙ ap (λ (l : LaneOf). l.number) (sym same) in
           let low = index_of-lt z place inside in
           let wide = counts.wide in
           let back = get-back h.parts counts.parts (index_of z place) (omega arith) in
           let to : slice_get (h.parts ++ counts.parts) (count * shard_places z + index_of z place) ≡ slice_get counts.parts (index_of z place)
           = ap (λ n. slice_get (h.parts ++ counts.parts) (n + index_of z place)) (sym h.wide) ∙ back in
-          let is = some-one (part_in shelf.pages.opened (page_of place) ((words_in z (slots_items then)).life place)) part (sym (counts.each place inside mine) ∙ (sym to ∙ get)) in
+          let is = some-same (part_in shelf.pages.opened (page_of place) ((words_in z (slots_items then)).life place)) part (sym (counts.each place inside mine) ∙ (sym to ∙ get)) in
           subst (λ l. IsPart history l place part) same (subst (IsPart history lane place) is (this-part place inside mine))
 
       one-more : SoFar z history lanes old (count + 1) then after
@@ -327,3 +477,17 @@ is-census z history lanes shelves old now census last h = record {
       h.each index lane place part (omega arith) at inside of_shard get;
   counts = h.counts;
 }
+
+-- no place's slots have a cell more
+pub all-drained : {T : Type 0} (z : Shape) (history : List Act) (lanes : List LaneOf) (shelves done left : List (Shelf T)) (words : List ℕ) (old now : Slots (Option (Share T)))
+    → AreLast z history lanes shelves (words_in z words) → done ++ left ≡ shelves → left ≡ [] → SlotsSoFar z history lanes (length done) old now
+    → (place : ℕ) → is_place z place ≡ true → IsDrained z history lanes (slots_items now) place
+all-drained z history lanes shelves done left words old now last whole none h place inside =
+    let long = ap length whole in
+    let parts = length-append done left in
+    let empty = ap length none in
+    let all = last.count.1 in
+    let count = last.count.0 in
+    let lane = last.all (shard_of place) (is_place-parts z place inside).0 in
+    let within = slice_get_within lanes lane.0 lane.1 lane.2 in
+    h.gone place inside lane.0 (omega (arith, long, parts, empty, all, count, within)) (lane.1, lane.2, lane.3)

@@ -1,7 +1,12 @@
 -- What the end of a pool's table tells of its lanes.
 use Rattle.std.proofs.Common.{◌≡◌, ℕ, ◌<◌, List, length, Option, Some, refl, sym, ap, ◌∙◌, subst, arith, slice_get}
 use Rattle.std.proofs.lemmas.Option.{slice_get_within}
+use lib.ListN.{get_elem?}
 use Rattle.atomic_table.specs.declared.shared.Seat.{Seat}
+use Rattle.core.specs.declared.slots.Slots.{Slots}
+use Rattle.core.specs.Mem.Slots.{slots_items}
+use Rattle.seqpool.specs.declared.act.Act.{Act}
+use Rattle.steplaws.specs.Facts.{Words}
 use Rattle.keybits.specs.declared.shape.Shape.{Shape}
 use Rattle.slotcell.specs.Share.{Share}
 use Rattle.poolsteps.specs.declared.grid.Grid.{Grid}
@@ -12,10 +17,28 @@ use Rattle.poolsteps.specs.Grids.{AreHands, EndsWith}
 use Rattle.shardpool.specs.declared.shelf.Shelf.{Shelf}
 use Rattle.shardpool.specs.Tokens.{LaneOf}
 use Rattle.shardpool.specs.Shelves.{Fits}
-use Rattle.shardpool.specs.Closings.{AreLanes, IsLastHistory, AreLast}
+use Rattle.shardpool.specs.Closings.{AreLanes, IsLast, IsLastHistory, AreLast}
+use Rattle.shardpool.specs.Remains.{MayHandBack, IsStripped, AreStripped, HandsBack, HasCells}
 use Rattle.shardpool.specs.Partings.{AreParted}
 use Rattle.shardpool.proofs.Laning.{lane_of}
+use Rattle.shardpool.proofs.Remaining.{may-hand-back, has-cells}
 use Rattle.shardpool.proofs.ClosingLast.{IsEnded, entry-at, last-are, last-history}
+
+-- a lane's shelf tells the same without its rows
+still-last : {T : Type 0} {z : Shape} {history : List Act} {words : Words} {lane : LaneOf} {shelf one : Shelf T} → IsStripped shelf one → IsLast z history words lane shelf
+    → IsLast z history words lane one
+still-last {T} {z} {history} {words} {lane} stripped is = subst (λ (x : Shelf T). IsLast z history words lane x) (sym stripped) (record {
+  shape_is = is.shape_is;
+  number_is = is.number_is;
+  below = is.below;
+  free_is = is.free_is;
+  pages_is = is.pages_is;
+  listed = is.listed;
+  chained = is.chained;
+  unopened = is.unopened;
+  first = is.first;
+  leads = is.leads;
+})
 
 module _ {T : Type 0} {content : T → List ℕ} {room : T → ℕ} (grid : Grid T) {lanes : List LaneOf} {hands : List (Seat (Option (Share T)) View)} {shelves : List (Shelf T)}
     (are : AreLanes (record { table = grid.table.shared.table_id; shape = grid.shape }) lanes) (parted : AreParted content room lanes hands shelves) where
@@ -60,9 +83,30 @@ module _ {T : Type 0} {content : T → List ℕ} {room : T → ℕ} (grid : Grid
         } in
         subst (λ (x : LaneOf). IsEnded content room grid.shape w x s) (sym is.lane_is) ended
 
-    -- so all that they keep, the last words and the history tell of each other
-    pub ends-last : AreLast grid.shape w.history lanes shelves (words_in grid.shape words)
-    ends-last = last-are ends.stands.rule grid.table.shared.table_id lanes shelves are parted.count.1 all-ended
+    -- so all that they keep, the last words and the history tell of each other, also when the rows are gone
+    pub ends-last : {left : List (Shelf T)} → AreStripped shelves left → AreLast grid.shape w.history lanes left (words_in grid.shape words)
+    ends-last {left} stripped =
+        let last = last-are ends.stands.rule grid.table.shared.table_id lanes shelves are parted.count.1 all-ended in record {
+          legal = last.legal;
+          state = last.state;
+          homes = last.homes;
+          alone = last.alone;
+          count = (last.count.0, stripped.0 ∙ last.count.1);
+          all = last.all;
+          each = λ index lane one at_lane at_one.
+              let shelf = stripped.1 index one at_one in
+              still-last shelf.2 (last.each index lane shelf.0 at_lane shelf.1);
+        }
+
+    -- the shares of the rows may go back
+    pub ends-may : MayHandBack grid.shape shelves
+    ends-may = may-hand-back ends.stands.rule grid.table.shared.table_id lanes shelves are parted.count.1 all-ended
+
+    -- and then the slots have all cells
+    pub ends-cells : {old new : Slots (Option (Share T))} → slots_items old ≡ slots → HandsBack grid.shape shelves old new → HasCells grid.shape w.history lanes (slots_items new)
+    ends-cells {old} is back =
+        has-cells ends.stands.rule grid.table.shared.table_id lanes shelves are parted.count.1 all-ended grid.checked ends.homes ends.stands.shared
+        (λ index value at. ap (λ (xs : List (Option (Share T))). get_elem? xs index) is ∙ ends.at_home index value at) back
 
     -- and the history is the last
     pub ends-history : IsLastHistory (record { table = grid.table.shared.table_id; shape = grid.shape }) lanes w.history

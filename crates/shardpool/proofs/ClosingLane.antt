@@ -12,7 +12,7 @@ use Rattle.freelists.specs.Queues.{AreFree}
 use Rattle.freelists.specs.Shards.{IsOwn}
 use Rattle.freelists.proofs.ShardLemmas.{OwnNumber}
 use Rattle.seqpool.specs.declared.act.Act.{Act}
-use Rattle.seqpool.specs.Pool.{with, has, pool_after, IsLegal}
+use Rattle.seqpool.specs.Pool.{with, has, references, pool_after, IsLegal}
 use Rattle.seqpool.specs.Histories.{acts_of}
 use Rattle.steplaws.specs.declared.pending.Pending.TheVariants.{Nothing}
 use Rattle.steplaws.specs.Facts.{Words, Rule, moment}
@@ -20,6 +20,7 @@ use Rattle.steplaws.proofs.Stays.{own-law}
 use Rattle.poolsteps.specs.declared.view.View.{View}
 use Rattle.poolsteps.specs.Views.{the_lane}
 use Rattle.poolsteps.specs.Rule.{World, IsRecord}
+use Rattle.poolsteps.specs.Told.{references_seen}
 use Rattle.poolsteps.proofs.ViewLemmas.{none-behind}
 use Rattle.shardpool.specs.declared.shelf.Shelf.{Shelf}
 use Rattle.shardpool.specs.Shelves.{Fits}
@@ -39,6 +40,13 @@ module _ {T : Type 0} {content : T → List ℕ} {room : T → ℕ} {z : Shape} 
       let legal : IsLegal z (v.seen ++ seen.0) = subst (IsLegal z) (sym seen.1) rule.legal in
       let still = (own-law z v.seen seen.0 (the_lane v).lane legal none-more).0 p in
       subst (λ (h : List Act). (pool_after z h p).phase ≡ with s.number) seen.1 (still.0 was ∙ ap with (sym fits.seat.number_is))
+
+  -- and so do its references
+  pub still-refs : (key : ℕ) → references z (pool_after z w.history) (the_lane v).lane key ≡ references_seen z v key
+  still-refs key =
+      let legal : IsLegal z (v.seen ++ seen.0) = subst (IsLegal z) (sym seen.1) rule.legal in
+      subst (λ (h : List Act). references z (pool_after z h) (the_lane v).lane key ≡ references_seen z v key) seen.1
+      ((own-law z v.seen seen.0 (the_lane v).lane legal none-more).1 key)
 
   -- the history has just its acts
   pub own-mine : (the_lane v).mine ≡ acts_of s.number w.history

@@ -5,9 +5,12 @@ pub mod Staying
 pub mod Storing
 pub mod Hanging
 pub mod Blanking
+pub mod Remaining
 pub mod Rowing
 pub mod RowSteps
+pub mod Draining
 pub mod Ending
+pub mod Handing
 pub mod Laning
 pub mod Quieting
 pub mod Starting

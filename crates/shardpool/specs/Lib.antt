@@ -1,5 +1,6 @@
 pub mod Tokens
 pub mod Places
+pub mod Remains
 pub mod Shelves
 pub mod Lanes
 pub mod Fillings

@@ -54,9 +54,13 @@ pub record AreFreePlaces (z : Shape) (words : List ℕ) (shard : ℕ) (free : Fr
   pub chained : (word : ℕ) × IsThread z words shard word chain
   pub returned : AreThreads z words shard threads
 
+-- the places of a shard that were returned: those of its taken chain, and those on its stacks
+abbrev pub returned_places : Shape → ℕ → List ℕ → (ℕ → List ℕ) → List ℕ
+returned_places z shard chain threads = chain ++ stacked shard threads z.lanes
+
 -- all free places of a shard
 abbrev pub free_places : Shape → ℕ → FreePlaces → List ℕ → (ℕ → List ℕ) → List ℕ
-free_places z shard free chain threads = map number_of free.own ++ chain ++ stacked shard threads z.lanes
+free_places z shard free chain threads = returned_places z shard chain threads ++ map number_of free.own
 
 -- what a place is by these state bits, where it is of an opened page and not free
 abbrev pub part_by : ℕ → Part

@@ -3,20 +3,25 @@ ghost use Rattle.std.specs.Prelude.{◌≡◌, ◌≢◌, ◌+◌, ◌<◌, ◌�
 ghost use Rattle.core.specs.Mem.Slots.{slots_items, slots_len, slots_ptr, IsFull};
 ghost use Rattle.keybits.specs.declared.place.Place.{Place as Shown};
 ghost use Rattle.keybits.specs.declared.shape.TheConstants.{MOST_LANES};
-ghost use Rattle.keybits.specs.Places.{number_of};
+ghost use Rattle.keybits.specs.Places.{shard_of, number_of};
 ghost use Rattle.keybits.specs.Shapes.{IsShape, is_place, shard_places, all_places};
 ghost use Rattle.freelists.specs.Queues.{AreFree};
 ghost use Rattle.poolsteps.specs.Layout.{word_count, words_in};
+ghost use Rattle.lastcells.specs.Joins.{IsSlotRow, HasCell};
+ghost use Rattle.shardpool.specs.Remains.{HasCells, IsDrained, DrainsShard};
 ghost use Rattle.seqpool.specs.declared.act.Act.{Act};
 ghost use Rattle.shardpool.specs.Tokens.{LaneOf};
 ghost use Rattle.shardpool.specs.Closings.{none_counted, counted, places_counted, IsCensus, AreLast};
-ghost use Rattle.shardpool.specs.Marks.{IsRow, Blanks, IsThread, AreThreads, stacked, AreFreePlaces, free_places, part_in, Counts};
+ghost use Rattle.shardpool.specs.Marks.{IsRow, Blanks, IsThread, AreThreads, stacked, AreFreePlaces, returned_places, part_in, Counts};
 
 use crate::shelf::Shelf;
 use core::slots::Slots;
 use freelists::LocalFree;
 use keybits::{Life, Place, Shape, State, link_to, linked_place};
+use lastcells::drop_cell;
 use poolsteps::{life_word, link_word, stack_word};
+use slotcell::Slot;
+use std::alloc::Global;
 
 /// How many places of a pool were what when it was closed. The six numbers add up to all its places.
 #[derive(Clone, Copy, Debug, PartialEq, Eq)]
@@ -77,23 +82,31 @@ impl Census {
     }
 }
 
-/// The census of a pool, by its last words and what its lanes keep.
+/// The census of a pool, by its last words and what its lanes keep. The cells in the slots are dropped, with their objects.
 pub(crate) fn take_census<T: Drop>(
     shape: &Shape,
     shelves: Vec<Shelf<T>>,
     words: &mut Slots<u64>,
+    slots: &mut Slots<Slot<T>>,
 ) -> Census
     requires shape { IsShape shape.now }
     requires words { IsFull words.old × (slots_len words.old ≡ word_count shape.now) }
-    requires last { (history : List Act) × (lanes : List LaneOf) × AreLast shape.now history lanes shelves.items (words_in shape.now (slots_items words.old)) }
+    requires slots { IsSlotRow shape.now slots.old }
+    requires last { (history : List Act) × (lanes : List LaneOf) × AreLast shape.now history lanes shelves.items (words_in shape.now (slots_items words.old))
+        × HasCells shape.now history lanes (slots_items slots.old) }
     ensures census { (history : List Act) (lanes : List LaneOf) → AreLast shape.now history lanes shelves.items (words_in shape.now (slots_items words.old))
         → IsCensus shape.now history lanes result }
     ensures adds { places_counted result ≡ all_places shape.now }
     ensures words { IsFull words.new × (slots_len words.new ≡ slots_len words.old) × (slots_ptr words.new ≡ slots_ptr words.old) }
+    ensures slots { IsSlotRow shape.now slots.new × (slots_ptr slots.new ≡ slots_ptr slots.old) }
+    ensures gone { (history : List Act) (lanes : List LaneOf) → AreLast shape.now history lanes shelves.items (words_in shape.now (slots_items words.old))
+        → (place : ℕ) → is_place shape.now place ≡ true → IsDrained shape.now history lanes (slots_items slots.new) place }
 {
     let mut census = Census::none();
     for mut shelf in shelves {
-        mark_free(shape, shelf.number, &mut shelf.free, words);
+        mark_returned(shape, shelf.number, &shelf.free, words);
+        drop_cells(shelf.alloc, shape, shelf.number, words, slots);
+        mark_list(shape, &mut shelf.free, words);
         count_shard(
             shape,
             shelf.number,
@@ -105,16 +118,15 @@ pub(crate) fn take_census<T: Drop>(
     census
 }
 
-/// The free places of a lane's shard are marked: those of its list, of its taken chain, and on its stacks. The list then is empty.
-fn mark_free(shape: &Shape, shard: u32, free: &mut LocalFree, words: &mut Slots<u64>)
+/// The places of a shard that were returned are marked: those of its taken chain, and those on its stacks.
+fn mark_returned(shape: &Shape, shard: u32, free: &LocalFree, words: &mut Slots<u64>)
     requires shape { IsShape shape.now }
     requires shard { shard < shape.now.lanes }
     requires row { IsRow shape.now words.old }
-    requires free { (chain : List ℕ) × (threads : ℕ → List ℕ) × AreFreePlaces shape.now (slots_items words.old) shard free.old chain threads }
-    ensures { (chain : List ℕ) (threads : ℕ → List ℕ) → AreFreePlaces shape.now (slots_items words.old) shard free.old chain threads
-        → Blanks shape.now (free_places shape.now shard free.old chain threads) words.old words.new }
+    requires free { (chain : List ℕ) × (threads : ℕ → List ℕ) × AreFreePlaces shape.now (slots_items words.old) shard free.now chain threads }
+    ensures { (chain : List ℕ) (threads : ℕ → List ℕ) → AreFreePlaces shape.now (slots_items words.old) shard free.now chain threads
+        → Blanks shape.now (returned_places shape.now shard chain threads) words.old words.new }
 {
-    mark_list(shape, free, words);
     if let Some(first) = free.chain() {
         mark_thread(shape, shard, link_to(first.number()), words);
     }
@@ -175,6 +187,32 @@ fn mark(shape: &Shape, place: u32, words: &mut Slots<u64>)
     ensures { Blanks shape.now (place ∷ []) words.old words.new }
 {
     words.put(life_word(shape, place, shape.position(place)), 0);
+}
+
+/// The cells that the slots of a shard's places have are dropped, with their objects: of the places whose lifecycle word is 0, and
+/// of published places.
+fn drop_cells<T: Drop>(
+    alloc: Global,
+    shape: &Shape,
+    shard: u32,
+    words: &Slots<u64>,
+    slots: &mut Slots<Slot<T>>,
+)
+    requires shape { IsShape shape.now }
+    requires shard { shard < shape.now.lanes }
+    requires words { IsRow shape.now words.now }
+    requires row { IsSlotRow shape.now slots.old }
+    requires cells { (place : ℕ) → is_place shape.now place ≡ true → shard_of place ≡ shard
+        → HasCell shape.now (slots_items slots.old) place ((words_in shape.now (slots_items words.now)).life place) }
+    ensures { DrainsShard shape.now shard (words_in shape.now (slots_items words.now)).life slots.old slots.new }
+{
+    let places = shape.shard_places() as usize;
+    for index in 0..places {
+        let position = shard as usize * places + index;
+        let place = shape.place_at(position);
+        let word = *words.get(life_word(shape, place, position));
+        drop_cell(alloc, shape, place, position, word, slots);
+    }
 }
 
 /// The places of a shard are counted, of which so many pages are opened, and whose free places are marked.

@@ -10,6 +10,7 @@ ghost use Rattle.shardpool.specs.Partings.{IsParted, AreParted};
 use crate::census::{Census, take_census};
 use crate::lane::Lane;
 use crate::pool::Pool;
+use crate::remains::hand_back;
 use crate::shelf::Shelf;
 use atomic_table::Closed;
 use keybits::MOST_LANES;
@@ -36,8 +37,7 @@ impl<T: Clear> HandRow<T> {
 /// Closes a pool, with all its lanes, and answers what its places were. It takes no memory.
 ///
 /// Tokens that were left stay counted: the place of a filling as filling, and a key with a reference as present, or as marked
-/// where it was cleared. An object that lies in the table at the close, under a key or with a returned place, is not dropped,
-/// and its memory is lost.
+/// where it was cleared. Each object is dropped that the pool has: with a lane, under a key, or with a returned place.
 pub fn close<T: Clear + Drop>(pool: Pool<T>, lanes: Vec<Lane<T>>) -> Census
     requires lanes { AreLanes pool lanes.items }
     ensures closes { Closes pool lanes.items result }
@@ -45,9 +45,14 @@ pub fn close<T: Clear + Drop>(pool: Pool<T>, lanes: Vec<Lane<T>>) -> Census
 {
     let Pool { grid, shelves } = pool;
     let shape = grid.shape;
-    let (hands, shelves) = parted(lanes, shelves);
+    let (hands, mut shelves) = parted(lanes, shelves);
     let mut closed = grid.end(hands);
-    let census = take_census(&shape, shelves, &mut closed.words);
+    let mut words = closed.words;
+    let mut slots = closed.slots;
+    hand_back(&shape, &mut shelves, &mut slots);
+    let census = take_census(&shape, shelves, &mut words, &mut slots);
+    closed.words = words;
+    closed.slots = slots;
     free(closed);
     census
 }

@@ -12,6 +12,7 @@ mod laws;
 mod notes;
 mod opening;
 mod pool;
+mod remains;
 mod rows;
 mod shelf;
 mod stores;

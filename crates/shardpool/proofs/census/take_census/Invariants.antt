@@ -6,13 +6,15 @@ use Rattle.seqpool.specs.declared.act.Act.{Act}
 use Rattle.poolsteps.specs.Layout.{words_in}
 use Rattle.shardpool.specs.Tokens.{LaneOf}
 use Rattle.shardpool.specs.Closings.{AreLast}
-use Rattle.shardpool.proofs.CensusRounds.{SoFar}
+use Rattle.shardpool.proofs.CensusRounds.{SoFar, SlotsSoFar}
 use Rattle.shardpool.proofs.census.take_census.Given as goal
 
 abbrev pub invariant-loop-shelf : goal.invariant-loop-shelf
 invariant-loop-shelf g l = record {
   so_far : (history : List Act) (lanes : List LaneOf) → AreLast l.shape history lanes l.fn.shelves.items (words_in l.shape (slots_items l.initial.words))
       → SoFar l.shape history lanes l.initial.words (length l.yielded) l.words l.census;
+  slots : (history : List Act) (lanes : List LaneOf) → AreLast l.shape history lanes l.fn.shelves.items (words_in l.shape (slots_items l.initial.words))
+      → SlotsSoFar l.shape history lanes (length l.yielded) l.initial.slots l.slots;
   shelves : l.yielded ++ into_iter_items l.shelf-iterator ≡ l.fn.shelves.items;
   rest : into_iter_len l.shelf-iterator ≡ length (into_iter_items l.shelf-iterator);
 }

@@ -1,0 +1,113 @@
+-- The cells of a shard's places are dropped, one after another.
+use Rattle.std.proofs.Common.{◌≡◌, ◌≢◌, ◌⊎◌, ⊎_elim, inl, inr, ℕ, ◌+◌, ◌*◌, ◌<◌, ◌≤◌, true, List, refl, ap, sym, ◌∙◌, subst, arith}
+use Rattle.std.specs.Prelude.{Option, slice_get}
+use mathlib.Core.Logic.{dite}
+use native.Mathlib.Decide.{ℕ_discrete}
+use Rattle.core.specs.declared.slots.Slots.{Slots}
+use Rattle.core.specs.Mem.Slots.{slots_items, slots_ptr}
+use Rattle.keybits.specs.declared.shape.Shape.{Shape}
+use Rattle.keybits.specs.Places.{shard_of}
+use Rattle.keybits.specs.Shapes.{IsShape, is_place, shard_places, index_of}
+use Rattle.keybits.proofs.ShapeLemmas.{is_place-parts, index_of-lt, position_of-injective}
+use Rattle.slotcell.specs.Share.{Share}
+use Rattle.poolsteps.specs.Layout.{slot_index}
+use Rattle.poolsteps.proofs.SlotLemmas.{slot-apart}
+use Rattle.lastcells.specs.Joins.{IsSlotRow, HasPart, IsSpread, IsResting, HasCell, HasNoCell, Drains}
+use Rattle.seqpool.specs.declared.act.Act.{Act}
+use Rattle.shardpool.specs.Tokens.{LaneOf}
+use Rattle.shardpool.specs.Remains.{IsDrained, DrainsShard}
+
+module _ {T : Type 0} (z : Shape) where
+  -- all slots of a place are as before
+  abbrev pub SameSlots : List (Option (Share T)) → List (Option (Share T)) → ℕ → Type 0
+  SameSlots old new place = (lane : ℕ) → lane < z.lanes → slice_get new (slot_index z place lane) ≡ slice_get old (slot_index z place lane)
+
+  part-stays : (old new : List (Option (Share T))) (index cell number of : ℕ) → slice_get new index ≡ slice_get old index → HasPart old index cell number of → HasPart new index cell number of
+  part-stays old new index cell number of same p = record { share = p.share; stands = same ∙ p.stands; cell_is = p.cell_is; number_is = p.number_is; of_is = p.of_is }
+
+  pub spread-stays : (old new : List (Option (Share T))) (place : ℕ) → SameSlots old new place → IsSpread z old place → IsSpread z new place
+  spread-stays old new place same h = record {
+    cell = h.cell;
+    each = λ lane low. part-stays old new (slot_index z place lane) h.cell lane z.lanes (same lane low) (h.each lane low);
+  }
+
+  pub resting-stays : (old new : List (Option (Share T))) (place : ℕ) → is_place z place ≡ true → SameSlots old new place → IsResting z old place → IsResting z new place
+  resting-stays old new place inside same h = record {
+    cell = h.cell;
+    part = part-stays old new (slot_index z place (shard_of place)) h.cell 0 1 (same (shard_of place) (is_place-parts z place inside).0) h.part;
+  }
+
+  -- so a place has the cell that it had
+  pub cell-stays : (old new : List (Option (Share T))) (place word : ℕ) → is_place z place ≡ true → SameSlots old new place → HasCell z old place word → HasCell z new place word
+  cell-stays old new place word inside same h = record {
+    resting = λ none. resting-stays old new place inside same (h.resting none);
+    spread = λ bits. spread-stays old new place same (h.spread bits);
+  }
+
+  -- or has none, as before
+  no-cell-stays : (old new : List (Option (Share T))) (place word : ℕ) → is_place z place ≡ true → SameSlots old new place → HasNoCell z old place word → HasNoCell z new place word
+  no-cell-stays old new place word inside same h = record {
+    unrested = λ none. same (shard_of place) (is_place-parts z place inside).0 ∙ h.unrested none;
+    unspread = λ bits lane low. same lane low ∙ h.unspread bits lane low;
+  }
+
+  pub drained-stays : (history : List Act) (lanes : List LaneOf) (old new : List (Option (Share T))) (place : ℕ) → is_place z place ≡ true → SameSlots old new place
+      → IsDrained z history lanes old place → IsDrained z history lanes new place
+  drained-stays history lanes old new place inside same h = record {
+    spread = λ content references mark is lane low. same lane low ∙ h.spread content references mark is lane low;
+    returned = λ is. here ∙ h.returned is;
+    taken = λ index lane at among. here ∙ h.taken index lane at among;
+  }
+    where
+      here : slice_get new (slot_index z place (shard_of place)) ≡ slice_get old (slot_index z place (shard_of place))
+      here = same (shard_of place) (is_place-parts z place inside).0
+
+  -- the places of the shard before the index are gone over
+  pub record DrainsTo (shard : ℕ) (life : ℕ → ℕ) (index : ℕ) (old new : Slots (Option (Share T))) : Type 0 where
+    pub row : IsSlotRow z new
+    pub start : slots_ptr new ≡ slots_ptr old
+    pub kept : (place : ℕ) → is_place z place ≡ true → (shard_of place ≢ shard) ⊎ (index ≤ index_of z place) → SameSlots (slots_items old) (slots_items new) place
+    pub gone : (place : ℕ) → is_place z place ≡ true → shard_of place ≡ shard → index_of z place < index → HasNoCell z (slots_items new) place (life place)
+
+  pub drains-none : (shard : ℕ) (life : ℕ → ℕ) (slots : Slots (Option (Share T))) → IsSlotRow z slots → DrainsTo shard life 0 slots slots
+  drains-none shard life slots row = record { row = row; start = refl; kept = λ place inside other lane low. refl; gone = λ place inside same low. absurd (omega (arith, low)) }
+
+  -- the place of the next index
+  pub drains-more : IsShape z → (shard : ℕ) (life : ℕ → ℕ) (index place : ℕ) (a b c : Slots (Option (Share T))) → is_place z place ≡ true → shard_of place ≡ shard → index_of z place ≡ index
+      → DrainsTo shard life index a b → Drains z place b c → HasNoCell z (slots_items c) place (life place) → DrainsTo shard life (index + 1) a c
+  drains-more ok shard life index place a b c inside of_shard is h d none = record {
+    row = d.row;
+    start = d.start ∙ h.start;
+    kept = λ other within beyond lane low.
+        d.kept (slot_index z other lane) (λ number below same. apart other beyond (slot-apart z ok other lane place number within inside same).0)
+        ∙ h.kept other within (earlier other beyond) lane low;
+    gone = λ other within of_other low. dite (ℕ_discrete (index_of z other) index)
+        (λ (same : index_of z other ≡ index).
+        let position : shard_of other * shard_places z + index_of z other ≡ shard_of place * shard_places z + index_of z place
+        = ap (λ (s : ℕ). s * shard_places z + index_of z other) (of_other ∙ sym of_shard) ∙ ap (λ (i : ℕ). shard_of place * shard_places z + i) (same ∙ sym is) in
+        subst (λ (p : ℕ). HasNoCell z (slots_items c) p (life p)) (sym (position_of-injective z ok other place within inside position)) none)
+        (λ (before : index_of z other ≢ index).
+        no-cell-stays (slots_items b) (slots_items c) other (life other) within
+        (λ lane below. d.kept (slot_index z other lane) (λ number under same.
+        let at = slot-apart z ok other lane place number within inside same in
+        let index_same : index_of z other ≡ index_of z place = ap (index_of z) at.0 in
+        before (index_same ∙ is)))
+        (h.gone other within of_other (omega (arith, low, before))));
+  }
+    where
+      apart : (other : ℕ) → (shard_of other ≢ shard) ⊎ (index + 1 ≤ index_of z other) → other ≢ place
+      apart other beyond same = ⊎_elim
+          (λ off. off (ap shard_of same ∙ of_shard))
+          (λ far. let here : index_of z other ≡ index = ap (index_of z) same ∙ is in absurd (omega (arith, far, here)))
+          beyond
+
+      earlier : (other : ℕ) → (shard_of other ≢ shard) ⊎ (index + 1 ≤ index_of z other) → (shard_of other ≢ shard) ⊎ (index ≤ index_of z other)
+      earlier other beyond = ⊎_elim (λ off. inl off) (λ far. inr (omega (arith, far))) beyond
+
+  pub drains-all : (shard : ℕ) (life : ℕ → ℕ) (old new : Slots (Option (Share T))) (index : ℕ) → shard_places z ≤ index → DrainsTo shard life index old new → DrainsShard z shard life old new
+  drains-all shard life old new index all h = record {
+    row = h.row;
+    start = h.start;
+    kept = λ place lane inside low off. h.kept place inside (inl off) lane low;
+    gone = λ place inside of_shard. h.gone place inside of_shard (let low = index_of-lt z place inside in omega (arith, low, all));
+  }

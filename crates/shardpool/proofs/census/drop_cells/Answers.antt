@@ -1,0 +1,56 @@
+-- The place at each position of the shard is the one of the next index.
+use Rattle.std.proofs.Common.{◌≡◌, ℕ, ◌+◌, ◌*◌, ◌<◌, inr, sym, ap, ◌∙◌, subst, arith}
+use Rattle.core.specs.Mem.Slots.{slots_items}
+use Rattle.keybits.specs.declared.step.Word.TheVariants.{Life}
+use Rattle.keybits.specs.Places.{shard_of}
+use Rattle.keybits.specs.Shapes.{all_places, index_of}
+use Rattle.poolsteps.specs.Layout.{words_in}
+use Rattle.lastcells.specs.Joins.{HasCell, HasNoCell}
+use Rattle.shardpool.proofs.CensusMarks.{read-word}
+use Rattle.shardpool.proofs.CensusCounts.{position-below, at-position}
+use Rattle.shardpool.proofs.Draining.{drains-none, drains-more, drains-all, cell-stays}
+use Rattle.shardpool.proofs.census.drop_cells.Given.{Over}
+use Rattle.shardpool.proofs.census.drop_cells.Goals as goal
+use Rattle.shardpool.proofs.census.drop_cells.Goals.{After-get-word}
+
+-- the place of this round
+at : (g : Over) (c : After-get-word g) → (shard_of c.place_at-place.result ≡ c.args.shard) × (index_of c.args.shape.now c.place_at-place.result ≡ c.loop-index.index)
+at g c =
+    let z = c.args.shape.now in let shard = c.args.shard in
+    let same = c.shard_places-places.ensures in
+    at-position z shard c.loop-index.index c.place_at-place.result (omega arith) c.place_at-place.ensures.place
+    (c.place_at-place.ensures.position ∙ ap (λ (n : ℕ). shard * n + c.loop-index.index) same)
+
+pub loop-index-init : goal.loop-index-init
+loop-index-init g c = drains-none c.args.shape.now c.args.shard (words_in c.args.shape.now (slots_items c.args.words.now)).life c.args.slots.now c.requires.row
+
+pub place_at-place-requires-clause-position : goal.place_at-place-requires-clause-position
+place_at-place-requires-clause-position g c =
+    let z = c.args.shape.now in
+    let same = c.shard_places-places.ensures in
+    subst (λ (n : ℕ). c.args.shard * n + c.loop-index.index < all_places z) (sym same) (position-below z c.args.shard c.loop-index.index c.requires.shard (omega arith))
+
+pub drop_cell-requires-clause-cell : goal.drop_cell-requires-clause-cell
+drop_cell-requires-clause-cell g c =
+    let z = c.args.shape.now in let words = c.args.words.now in let place = c.place_at-place.result in
+    let inside = c.place_at-place.ensures.place in
+    let here = at g (goal.at.drop_cell-requires-clause-cell g c).After-get-word in
+    let word = read-word z c.requires.shape words c.requires.words (Life place) inside c.life_word.result c.get-word.result.now c.life_word.ensures.word c.get-word.ensures in
+    subst (HasCell z (slots_items c.loop-index.slots) place) (sym word)
+    (cell-stays z (slots_items c.args.slots.now) (slots_items c.loop-index.slots) place ((words_in z (slots_items words)).life place) inside
+    (c.loop-index.invariant.kept place inside (inr (let is = here.1 in omega (arith, is)))) (c.requires.cells place inside here.0))
+
+pub loop-index-preserved : goal.loop-index-preserved
+loop-index-preserved g c =
+    let z = c.args.shape.now in let words = c.args.words.now in let place = c.place_at-place.result in
+    let inside = c.place_at-place.ensures.place in
+    let here = at g (goal.at.loop-index-preserved g c).After-get-word in
+    let word = read-word z c.requires.shape words c.requires.words (Life place) inside c.life_word.result c.get-word.result.now c.life_word.ensures.word c.get-word.ensures in
+    drains-more z c.requires.shape c.args.shard (words_in z (slots_items words)).life c.loop-index.index place c.args.slots.now c.loop-index.slots c.drop_cell.new.slots
+    inside here.0 here.1 c.loop-index.invariant c.drop_cell.ensures.drains (subst (HasNoCell z (slots_items c.drop_cell.new.slots) place) word c.drop_cell.ensures.gone)
+
+pub returns : goal.returns
+returns g c =
+    let over = c.loop-index-test.false in let same = c.shard_places-places.ensures in
+    drains-all c.args.shape.now c.args.shard (words_in c.args.shape.now (slots_items c.args.words.now)).life c.args.slots.now c.loop-index.slots c.loop-index.index
+    (omega (arith, over, same)) c.loop-index.invariant

@@ -1,0 +1,8 @@
+-- The places before this index are gone over.
+use Rattle.core.specs.Mem.Slots.{slots_items}
+use Rattle.poolsteps.specs.Layout.{words_in}
+use Rattle.shardpool.proofs.Draining.{DrainsTo}
+use Rattle.shardpool.proofs.census.drop_cells.Given as goal
+
+abbrev pub invariant-loop-index : goal.invariant-loop-index
+invariant-loop-index g l = DrainsTo l.shape l.shard (words_in l.shape (slots_items l.words)).life l.index l.fn.slots l.slots

@@ -1,0 +1,87 @@
+-- What becomes of the shares under references when a pool is closed.
+use Rattle.std.specs.Prelude.{◌≡◌, ◌≢◌, ℕ, ◌<◌, Bool, true, List, length, Option, Some, slice_get}
+use Rattle.core.specs.declared.slots.Slots.{Slots}
+use Rattle.core.specs.Mem.Slots.{slots_items, slots_len, slots_ptr, IsFull}
+use Rattle.keybits.specs.declared.shape.Shape.{Shape}
+use Rattle.keybits.specs.Places.{shard_of}
+use Rattle.keybits.specs.Shapes.{all_places, is_place, position_of}
+use Rattle.seqpool.specs.declared.act.Act.{Act}
+use Rattle.seqpool.specs.Pool.{published, home, has, pool_after}
+use Rattle.slotcell.specs.Share.{Share}
+use Rattle.poolsteps.specs.Views.{the_lane}
+use Rattle.poolsteps.specs.Layout.{slot_index}
+use Rattle.lastcells.specs.Joins.{IsSlotRow, IsSpread, IsResting, IsUnspread, IsUnrested, HasNoCell}
+use Rattle.shardpool.specs.declared.shelf.Row.{Row}
+use Rattle.shardpool.specs.declared.shelf.Shelf.{Shelf}
+use Rattle.shardpool.specs.Tokens.{LaneOf}
+
+module _ {T : Type 0} where
+  -- where the row counts a reference its share is at this index of the slots, and nothing else is changed
+  pub record GivesRow (index : ℕ) (row : Row T) (old new : Slots (Option (Share T))) : Type 0 where
+    pub here : (s : Share T) → 0 < row.count → row.share ≡ Some s → slice_get (slots_items new) index ≡ Some (Some s)
+    pub still : row.count ≡ 0 → slice_get (slots_items new) index ≡ slice_get (slots_items old) index
+    pub kept : (other : ℕ) → other ≢ index → slice_get (slots_items new) other ≡ slice_get (slots_items old) other
+    pub full : IsFull new
+    pub count : slots_len new ≡ slots_len old
+    pub start : slots_ptr new ≡ slots_ptr old
+
+  -- the share under a lane's references to a place is in the lane's slot of it
+  abbrev pub IsBack : Shape → ℕ → List (Row T) → List (Option (Share T)) → Type 0
+  IsBack z number rows slots = (place : ℕ) → is_place z place ≡ true → (row : Row T) (s : Share T) → slice_get rows (position_of z place) ≡ Some row → 0 < row.count → row.share ≡ Some s
+      → slice_get slots (slot_index z place number) ≡ Some (Some s)
+
+  -- no row of the lane that counts a reference has its slot at this index
+  abbrev pub IsOff : Shape → ℕ → List (Row T) → ℕ → Type 0
+  IsOff z number rows index = (place : ℕ) → is_place z place ≡ true → (row : Row T) → slice_get rows (position_of z place) ≡ Some row → 0 < row.count → index ≢ slot_index z place number
+
+  -- the shares of a lane's rows are in the lane's slots, and every other slot is as before
+  pub record GivesBack (z : Shape) (number : ℕ) (rows : List (Row T)) (old new : Slots (Option (Share T))) : Type 0 where
+    pub back : IsBack z number rows (slots_items new)
+    pub kept : (index : ℕ) → IsOff z number rows index → slice_get (slots_items new) index ≡ slice_get (slots_items old) index
+    pub row : IsSlotRow z new
+    pub start : slots_ptr new ≡ slots_ptr old
+
+  -- the shelves are those of different lanes of the pool, and each has a row for each place
+  pub record MayHandBack (z : Shape) (shelves : List (Shelf T)) : Type 0 where
+    pub below : (i : ℕ) (shelf : Shelf T) → slice_get shelves i ≡ Some shelf → shelf.number < z.lanes
+    pub wide : (i : ℕ) (shelf : Shelf T) → slice_get shelves i ≡ Some shelf → length shelf.rows.items ≡ all_places z
+    pub once : (i j : ℕ) (one other : Shelf T) → slice_get shelves i ≡ Some one → slice_get shelves j ≡ Some other → one.number ≡ other.number → i ≡ j
+
+  -- it is the shelf without its rows
+  abbrev pub IsStripped : Shelf T → Shelf T → Type 0
+  IsStripped shelf left = left ≡ record shelf { rows = left.rows }
+
+  -- each of these is a shelf of those, but for its rows
+  abbrev pub AreStripped : List (Shelf T) → List (Shelf T) → Type 0
+  AreStripped shelves left = (length left ≡ length shelves)
+      × ((i : ℕ) (one : Shelf T) → slice_get left i ≡ Some one → (shelf : Shelf T) × (slice_get shelves i ≡ Some shelf) × IsStripped shelf one)
+
+  -- so the shares of all rows are in their slots, and every other slot is as before
+  pub record HandsBack (z : Shape) (shelves : List (Shelf T)) (old new : Slots (Option (Share T))) : Type 0 where
+    pub back : (i : ℕ) (shelf : Shelf T) → slice_get shelves i ≡ Some shelf → IsBack z shelf.number shelf.rows.items (slots_items new)
+    pub kept : (index : ℕ) → ((i : ℕ) (shelf : Shelf T) → slice_get shelves i ≡ Some shelf → IsOff z shelf.number shelf.rows.items index)
+        → slice_get (slots_items new) index ≡ slice_get (slots_items old) index
+    pub row : IsSlotRow z new
+    pub start : slots_ptr new ≡ slots_ptr old
+
+  -- what the slots have when all shares are back: each published place its shares, and each place that is home or on a lane's taken chain its cell
+  pub record HasCells (z : Shape) (history : List Act) (lanes : List LaneOf) (slots : List (Option (Share T))) : Type 0 where
+    pub spread : (place : ℕ) → is_place z place ≡ true → (content : List ℕ) (references : ℕ → ℕ) (mark : Bool)
+        → (pool_after z history place).phase ≡ published content references mark → IsSpread z slots place
+    pub returned : (place : ℕ) → is_place z place ≡ true → (pool_after z history place).phase ≡ home → IsResting z slots place
+    pub taken : (index : ℕ) (lane : LaneOf) (place : ℕ) → is_place z place ≡ true → slice_get lanes index ≡ Some lane → has (the_lane lane.book).chain place ≡ true
+        → IsResting z slots place
+
+  -- the slots of a place have no cell more, where they had one
+  pub record IsDrained (z : Shape) (history : List Act) (lanes : List LaneOf) (slots : List (Option (Share T))) (place : ℕ) : Type 0 where
+    pub spread : (content : List ℕ) (references : ℕ → ℕ) (mark : Bool) → (pool_after z history place).phase ≡ published content references mark → IsUnspread z slots place
+    pub returned : (pool_after z history place).phase ≡ home → IsUnrested z slots place
+    pub taken : (index : ℕ) (lane : LaneOf) → slice_get lanes index ≡ Some lane → has (the_lane lane.book).chain place ≡ true → IsUnrested z slots place
+
+  -- the slots are as before, but perhaps those of the shard's places, which have no cell more by these lifecycle words
+  pub record DrainsShard (z : Shape) (shard : ℕ) (life : ℕ → ℕ) (old new : Slots (Option (Share T))) : Type 0 where
+    pub row : IsSlotRow z new
+    pub start : slots_ptr new ≡ slots_ptr old
+    pub kept : (place lane : ℕ) → is_place z place ≡ true → lane < z.lanes → shard_of place ≢ shard
+        → slice_get (slots_items new) (slot_index z place lane) ≡ slice_get (slots_items old) (slot_index z place lane)
+    pub gone : (place : ℕ) → is_place z place ≡ true → shard_of place ≡ shard → HasNoCell z (slots_items new) place (life place)
