@@ -6,6 +6,8 @@ mod test_calls;
 #[cfg(test)]
 mod test_close;
 #[cfg(test)]
+mod test_drops;
+#[cfg(test)]
 mod test_halts;
 #[cfg(test)]
 mod test_open;
