@@ -129,9 +129,9 @@ fn drops_each_object_once(rt: HostRuntime) -> Result<(), Fail> {
     let (pool, mut first, mut second) = open_pair::<Probe>(rt.alloc(), shape_of(2, 8, 1))?;
 
     // Of the first lane's 8 places 4 are returned. A create takes 3 of them as a chain, of which it hands out one.
-    for _ in 0..3 {
-        give_back(&rt, &pool, &mut first, &mut second, &drops)?;
-    }
+    give_back(&rt, &pool, &mut first, &mut second, &drops)?;
+    give_back(&rt, &pool, &mut first, &mut second, &drops)?;
+    give_back(&rt, &pool, &mut first, &mut second, &drops)?;
     let last = publish(&rt, &pool, &mut first, &drops)?;
     keep_some(&rt, &pool, &mut first, &mut second, &drops)?;
     create(&rt, &pool, &mut first).leave();
