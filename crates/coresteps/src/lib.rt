@@ -16,8 +16,4 @@ mod words;
 
 pub use fault::CoreFault;
 pub use replay::{Core, run};
-
-#[cfg(test)]
-mod tests;
-
 pub use traces::{Command, Operand, Register, Replies, Reply, Script, Trace, Turn, write_trace};

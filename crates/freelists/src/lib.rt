@@ -10,6 +10,3 @@ mod shard;
 pub use local::LocalFree;
 pub use pages::Pages;
 pub use returns::Returns;
-
-#[cfg(test)]
-mod tests;

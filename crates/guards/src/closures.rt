@@ -5,7 +5,7 @@ ghost use Rattle.keybits.specs.Keys.{is_key};
 ghost use Rattle.steplaws.specs.Facts.{most_references};
 ghost use Rattle.seqpool.specs.Histories.{PublishedAt};
 ghost use Rattle.shardpool.specs.Tokens.{FillingOf};
-ghost use Rattle.shardpool.specs.Lanes.{Owns, Made, Gets, holds, refs};
+ghost use Rattle.shardpool.specs.Lanes.{Owns, Made, SameLane, Gets, holds, refs};
 ghost use Rattle.shardpool.specs.Creates.{GivesNone};
 ghost use Rattle.shardpool.specs.declared.create.CreateFault.TheVariants.{Full, Memory};
 ghost use Rattle.guards.specs.Guarded.{CreatesWith, Uses};
@@ -26,6 +26,7 @@ pub fn create_with<T: Clear + Drop, F: FnOnce(&mut T)>(
     requires owns { Owns pool.now lane.old }
     requires may { (object : T) → T.content object ≡ [] → FnOnceTakesAtMut F.FnOnce f object }
     ensures owns { Owns pool.now lane.new }
+    ensures same { SameLane lane.old lane.new }
     ensures creates { IfOk result (CreatesWith T.content T.room F.FnOnce f lane.old lane.new) }
     ensures none { IsErr result → GivesNone lane.old lane.new }
     ensures full { IsErrOf result Full → lane.old.pages.opened ≡ lane.old.shape.pages }
@@ -50,6 +51,7 @@ pub fn with<T: Clear + Drop, R, F: FnOnce(&T) -> R>(
     requires room { refs lane.old < most_references }
     requires may { F.IsAlwaysCallable f }
     ensures owns { Owns pool.now lane.new }
+    ensures same { SameLane lane.old lane.new }
     ensures outside { is_key pool.now.shape key ≡ false → IsNone result × (lane.new ≡ lane.old) }
     ensures some { IfSome result (λ r. (x : T) × (j : ℕ) × PublishedAt lane.new.book.seen j key (T.content x) × FnOnceReturnsAt F.FnOnce f x r) }
     ensures gets { is_key pool.now.shape key ≡ true → MatchOption result (Gets key lane.old lane.new None) (λ _. Uses key lane.old lane.new) }

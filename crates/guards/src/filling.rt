@@ -7,7 +7,7 @@ ghost use Rattle.seqpool.specs.declared.act.Act.TheVariants as acts;
 ghost use Rattle.sharelaws.specs.Shares.{room_of};
 ghost use Rattle.steplaws.specs.Facts.{most_references};
 ghost use Rattle.shardpool.specs.Tokens.{FillingOf};
-ghost use Rattle.shardpool.specs.Lanes.{Owns, Made, Did, refs};
+ghost use Rattle.shardpool.specs.Lanes.{Owns, Made, SameLane, Did, refs};
 ghost use Rattle.shardpool.specs.Creates.{Gives};
 ghost use Rattle.shardpool.specs.declared.create.CreateFault.TheVariants.{Full, Memory};
 ghost use Rattle.guards.specs.Guarded.{MayRelease, MayPublish, Refuses};
@@ -47,30 +47,15 @@ impl<'a, T: Clear + Drop> FillGuard<'a, T> {
     ///
     /// # Errors
     ///
-    /// As `Pool::create`.
-    pub fn new(pool: &'a Pool<T>, lane: &'a mut Lane<T>) -> Result<FillGuard<'a, T>, CreateFault>
-        requires owns { Owns pool.now lane.old }
-        ensures same_reference { IfOk result (λ guard. guard.lane.ghost_name ≡ lane.entry.ghost_name) }
-        ensures pool { IfOk result (λ guard. guard.pool.now ≡ pool.now) }
-        ensures may { IfOk result (λ guard. MayPublish guard.pool.now guard.lane.now guard.filling) }
-        ensures gives { IfOk result (λ guard. Gives T.content T.room lane.old guard.lane.now guard.filling) }
-        ensures refs { IfOk result (λ guard. refs guard.lane.now ≡ refs lane.old) }
-        ensures full { IsErrOf result Full → lane.old.pages.opened ≡ lane.old.shape.pages }
-        ensures memory { IsErrOf result Memory → lane.old.pages.opened < lane.old.shape.pages }
-        ensures succeeds { ((lane.old.free.own ≢ []) ⊎ IsSome lane.old.free.chain) → IsOk result }
-        ensures fillings { IfOk result (λ guard. (filling : FillingOf T) → Made lane.old filling → Made guard.lane.now filling) }
-    {
-        FillGuard::create(lane, pool)
-    }
-
-    /// As `new`, with the lane in front: its contract also says what became of the lane where there is no guard.
-    pub fn create(lane: &'a mut Lane<T>, pool: &'a Pool<T>) -> Result<FillGuard<'a, T>, CreateFault>
+    /// As `Pool::create`. The lane is then as a create that gave no place left it.
+    pub fn new(lane: &'a mut Lane<T>, pool: &'a Pool<T>) -> Result<FillGuard<'a, T>, CreateFault>
         requires owns { Owns pool.now lane.old }
         ensures* refuses { sem 𝓛 (RestsIfErr (the_row T.row T.Clear) lane.entry (λ guard. guard.lane.ghost_name) result (Refuses T.row.Denot pool.now lane.old)) }
         ensures same_reference { IfOk result (λ guard. guard.lane.ghost_name ≡ lane.entry.ghost_name) }
         ensures pool { IfOk result (λ guard. guard.pool.now ≡ pool.now) }
         ensures may { IfOk result (λ guard. MayPublish guard.pool.now guard.lane.now guard.filling) }
         ensures gives { IfOk result (λ guard. Gives T.content T.room lane.old guard.lane.now guard.filling) }
+        ensures same { IfOk result (λ guard. SameLane lane.old guard.lane.now) }
         ensures refs { IfOk result (λ guard. refs guard.lane.now ≡ refs lane.old) }
         ensures full { IsErrOf result Full → lane.old.pages.opened ≡ lane.old.shape.pages }
         ensures memory { IsErrOf result Memory → lane.old.pages.opened < lane.old.shape.pages }
@@ -124,6 +109,7 @@ impl<'a, T: Clear + Drop> FillGuard<'a, T> {
         ensures key { result.reference.key ≡ self.entry.filling.key }
         ensures may { MayRelease result.pool.now result.lane.now result.reference }
         ensures publishes { Did (acts.Publish self.entry.lane.now.number self.entry.filling.key (T.content self.entry.filling.object) true ∷ []) self.entry.lane.now result.lane.now }
+        ensures same { SameLane self.entry.lane.now result.lane.now }
         ensures refs { refs result.lane.now ≡ refs self.entry.lane.now + 1 }
         ensures room { room_of result.lane.now.book.seen result.lane.now.book.rooms (place_of self.entry.filling.key) ≡ T.room self.entry.filling.object }
         ensures fillings { (other : FillingOf T) → other.key ≢ self.entry.filling.key → Made self.entry.lane.now other → Made result.lane.now other }
@@ -143,6 +129,7 @@ impl<'a, T: Clear + Drop, F: Fills<T>> Drop for FillGuard<'a, T, F> {
         requires may { MayPublish self.pool.now self.lane.now (F.filling self.filling) }
         ensures owns { Owns self.entry.pool.now self.exit.0.now }
         ensures publishes { Did (acts.Publish self.entry.lane.now.number (F.filling self.entry.filling).key (T.content (F.filling self.entry.filling).object) false ∷ []) self.entry.lane.now self.exit.0.now }
+        ensures same { SameLane self.entry.lane.now self.exit.0.now }
         ensures refs { refs self.exit.0.now ≡ refs self.entry.lane.now }
         ensures room { room_of self.exit.0.now.book.seen self.exit.0.now.book.rooms (place_of (F.filling self.entry.filling).key) ≡ T.room (F.filling self.entry.filling).object }
         ensures fillings { (other : FillingOf T) → other.key ≢ (F.filling self.entry.filling).key → Made self.entry.lane.now other → Made self.exit.0.now other }

@@ -8,6 +8,3 @@ mod reading;
 pub use closures::{create_with, with};
 pub use filling::FillGuard;
 pub use reading::ReadGuard;
-
-#[cfg(test)]
-mod tests;

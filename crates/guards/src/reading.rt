@@ -6,7 +6,7 @@ ghost use Rattle.seqpool.specs.declared.act.Act.TheVariants as acts;
 ghost use Rattle.seqpool.specs.Histories.{PublishedAt};
 ghost use Rattle.steplaws.specs.Facts.{most_references};
 ghost use Rattle.shardpool.specs.Tokens.{FillingOf};
-ghost use Rattle.shardpool.specs.Lanes.{Owns, Made, Did, Gets, refs};
+ghost use Rattle.shardpool.specs.Lanes.{Owns, Made, SameLane, Did, Gets, refs};
 ghost use Rattle.std.specs.Borrow.{sem, RestsIfNone};
 ghost use Rattle.shardpool.specs.contracts.lane.Lane.{the_row};
 ghost use Rattle.guards.specs.Guarded.{MayRelease, Misses};
@@ -22,23 +22,8 @@ pub struct ReadGuard<'a, T: Clear + Drop> {
 }
 
 impl<'a, T: Clear + Drop> ReadGuard<'a, T> {
-    /// Gets a key. None where the get finds none.
-    pub fn new(pool: &'a Pool<T>, lane: &'a mut Lane<T>, key: u64) -> Option<ReadGuard<'a, T>>
-        requires owns { Owns pool.now lane.old }
-        requires room { refs lane.old < most_references }
-        ensures same_reference { IfSome result (λ guard. guard.lane.ghost_name ≡ lane.entry.ghost_name) }
-        ensures pool { IfSome result (λ guard. guard.pool.now ≡ pool.now) }
-        ensures may { IfSome result (λ guard. MayRelease guard.pool.now guard.lane.now guard.reference) }
-        ensures inside { IsSome result → is_key pool.now.shape key ≡ true }
-        ensures gets { IfSome result (λ guard. Gets key lane.old guard.lane.now (Some guard.reference)) }
-        ensures refs { IfSome result (λ guard. refs guard.lane.now ≡ refs lane.old + 1) }
-        ensures fillings { IfSome result (λ guard. (filling : FillingOf T) → Made lane.old filling → Made guard.lane.now filling) }
-    {
-        ReadGuard::get(lane, pool, key)
-    }
-
-    /// As `new`, with the lane in front: its contract also says what became of the lane where there is no guard.
-    pub fn get(lane: &'a mut Lane<T>, pool: &'a Pool<T>, key: u64) -> Option<ReadGuard<'a, T>>
+    /// Gets a key. None where the get finds none; the lane is then as that get left it.
+    pub fn new(lane: &'a mut Lane<T>, pool: &'a Pool<T>, key: u64) -> Option<ReadGuard<'a, T>>
         requires owns { Owns pool.now lane.old }
         requires room { refs lane.old < most_references }
         ensures* misses { sem 𝓛 (RestsIfNone (the_row T.row T.Clear) lane.entry (λ guard. guard.lane.ghost_name) result (Misses T.row.Denot pool.now key lane.old)) }
@@ -47,6 +32,7 @@ impl<'a, T: Clear + Drop> ReadGuard<'a, T> {
         ensures may { IfSome result (λ guard. MayRelease guard.pool.now guard.lane.now guard.reference) }
         ensures inside { IsSome result → is_key pool.now.shape key ≡ true }
         ensures gets { IfSome result (λ guard. Gets key lane.old guard.lane.now (Some guard.reference)) }
+        ensures same { IfSome result (λ guard. SameLane lane.old guard.lane.now) }
         ensures refs { IfSome result (λ guard. refs guard.lane.now ≡ refs lane.old + 1) }
         ensures fillings { IfSome result (λ guard. (filling : FillingOf T) → Made lane.old filling → Made guard.lane.now filling) }
     {
@@ -91,6 +77,7 @@ impl<'a, T: Clear + Drop> Drop for ReadGuard<'a, T> {
         requires may { MayRelease self.pool.now self.lane.now self.reference }
         ensures owns { Owns self.entry.pool.now self.exit.0.now }
         ensures releases { (rest : List Act) × Did (acts.Release self.entry.lane.now.number self.entry.reference.key ∷ rest) self.entry.lane.now self.exit.0.now }
+        ensures same { SameLane self.entry.lane.now self.exit.0.now }
         ensures refs { refs self.exit.0.now + 1 ≡ refs self.entry.lane.now }
         ensures fillings { (filling : FillingOf T) → Made self.entry.lane.now filling → Made self.exit.0.now filling }
     {

@@ -22,6 +22,3 @@ pub use place::{GREATEST_PLACE, Place, shard_of};
 pub use shape::{GREATEST_TAG, LARGEST_FIRST_PAGE, MOST_LANES, MOST_PAGES, Shape, ShapeFault};
 pub use step::{Kind, Step, Word};
 pub use words::{claimed, entered, left, marked, published};
-
-#[cfg(test)]
-mod tests;

@@ -19,7 +19,7 @@ use Rattle.poolsteps.specs.Views.{head_record, the_lane, pushed_in, status_of, k
 use Rattle.poolsteps.specs.Told.{GoesOn, Steps, IsIdle}
 use Rattle.poolsteps.specs.Returned.{with_return, pushed_record}
 use Rattle.poolsteps.proofs.ViewLemmas.{prefix-trans}
-use Rattle.poolcells.specs.Carried.{Carries}
+use Rattle.poolcalls.specs.Carried.{Carries}
 use Rattle.poolcalls.specs.Called.{caller_of, Make, IsUnmoved, Did, AreEnd, GoesToEnd}
 
 -- ---- the lane's record

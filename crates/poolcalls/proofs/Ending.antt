@@ -23,7 +23,7 @@ use Rattle.poolsteps.specs.ViewLaws.{SharesLaw}
 use Rattle.poolsteps.proofs.ViewLemmas.{prefix-self}
 use Rattle.poolsteps.proofs.OwnShares.{may-touch}
 use Rattle.poolsteps.proofs.HandSteps.{under-after}
-use Rattle.poolcells.specs.Carried.{Carries}
+use Rattle.poolcalls.specs.Carried.{Carries}
 use Rattle.poolcalls.specs.Called.{caller_of, IsUnmoved, Did, IsLawful, Tails, Ends, TailActs, EndsWithActs}
 use Rattle.poolcalls.specs.declared.reclaimed.Reclaimed.{Reclaimed}
 use Rattle.poolcalls.specs.declared.reclaimed.Reclaimed.TheVariants.{Own, Returned, Retired}

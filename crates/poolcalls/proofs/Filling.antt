@@ -19,7 +19,7 @@ use Rattle.poolsteps.specs.declared.view.View.{View}
 use Rattle.poolsteps.specs.Views.{head_record, the_lane, known_of, after_step, with_cell}
 use Rattle.poolsteps.specs.Told.{MayPublish, Publishes}
 use Rattle.poolsteps.specs.ViewLaws.{FillingLaw}
-use Rattle.poolcells.specs.Carried.{MayCarry}
+use Rattle.poolcalls.specs.Carried.{MayCarry}
 use Rattle.poolcalls.specs.Called.{caller_of, Did, Called}
 use Rattle.poolcalls.proofs.Doing.{cell-next, did-step, did-carries, did-most, did-more, make-one}
 

@@ -4,3 +4,16 @@ pub mod Ending
 pub mod Filling
 pub mod Calling
 pub mod Having
+pub mod Moves
+pub mod CellTakes
+pub mod Spreads
+pub mod Going
+pub mod Following
+pub mod Keying
+pub mod Chaining
+pub mod Collecting
+pub mod Within
+pub mod Giving
+pub mod Settling
+pub mod Halting
+pub mod Taking

@@ -21,7 +21,7 @@ use Rattle.poolsteps.specs.declared.view.LaneRecord.{LaneRecord}
 use Rattle.poolsteps.specs.declared.view.View.{View}
 use Rattle.poolsteps.specs.Views.{the_lane, pushed_in, status_of, known_of, acts_in, IsOne}
 use Rattle.poolsteps.specs.Told.{IsIdle, Quiet, HasPlace, LeftAlone, references_seen}
-use Rattle.poolcells.specs.Carried.{AreEmptied}
+use Rattle.poolcalls.specs.Carried.{AreEmptied}
 use Rattle.poolcalls.specs.declared.reclaimed.Got.{Got}
 use Rattle.poolcalls.specs.declared.reclaimed.Got.TheVariants.{Hit, Miss}
 use Rattle.poolcalls.specs.declared.reclaimed.Reclaimed.{Reclaimed}

@@ -1,1 +1,4 @@
 pub mod Called
+pub mod Carried
+pub mod Taken
+pub mod Halted

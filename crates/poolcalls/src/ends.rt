@@ -10,10 +10,10 @@ ghost use Rattle.poolsteps.specs.Grids.{IsSpot, IsOf, SameSeat};
 ghost use Rattle.poolsteps.specs.Told.{HasPlace, LeftAlone, claimed_under};
 ghost use Rattle.poolcalls.specs.Called.{EndsWithActs, TailActs, IsLawful, Ends, Tails, IsReclaimed};
 
+use crate::cells::{rest_cell, take_cell};
 use crate::homes::give_home;
 use crate::reclaimed::Reclaimed;
 use keybits::{Life, State, shard_of};
-use poolcells::{rest_cell, take_cell};
 use poolsteps::{Grid, Hand, Spot, shares_law};
 use slotcell::Clear;
 use std::alloc::Global;

@@ -9,10 +9,10 @@ ghost use Rattle.poolsteps.specs.Views.{the_lane, status_of, known_of, IsOne};
 ghost use Rattle.poolsteps.specs.Grids.{IsSpot, IsOf, SameSeat};
 ghost use Rattle.poolsteps.specs.Told.{MayPublish, LeftAlone};
 ghost use Rattle.poolsteps.specs.Moved.{stored_of};
-ghost use Rattle.poolcells.specs.Carried.{AreEmptied, ShowsCell};
+ghost use Rattle.poolcalls.specs.Carried.{AreEmptied, ShowsCell};
 ghost use Rattle.poolcalls.specs.Called.{Called, MadeOne};
 
-use poolcells::{spread_cell, spread_others};
+use crate::cells::{spread_cell, spread_others};
 use poolsteps::{Grid, Hand, Spot, shares_law};
 use slotcell::{Clear, Share, Whole};
 

@@ -1,18 +1,22 @@
 //! The calls of a pool, over the hands of its lanes: each puts steps and moves together, and tells them as the steps of the
-//! call.
+//! call. Whole cells are taken out of a place's slots and spread into them; a create's TAKEs and FOLLOW; calls that end for good
+//! after a number of steps.
 #![tactic(auto)]
 
 mod calls;
+mod cells;
 mod ends;
 mod fills;
+mod halts;
 mod homes;
 mod reclaimed;
+mod takes;
 
 pub use calls::{clear, get, hits, release};
+pub use cells::{rest_cell, spread_cell, spread_others, take_cell, take_resting};
 pub use ends::{owed_by, settle};
 pub use fills::{downgrade, publish};
+pub use halts::{clear_within, collect_within, follow_within, get_within, release_within};
 pub use homes::give_home;
 pub use reclaimed::{Got, Reclaimed};
-
-#[cfg(test)]
-mod tests;
+pub use takes::{collect, follow, next_key};

@@ -12,8 +12,8 @@ ghost use Rattle.poolrun.specs.Statuses.{IsHelp, IsMistake};
 use clap::Error as ClapError;
 use clap::error::ErrorKind;
 use commandline::{Stop, Task, TaskFault, Turns, task};
-use pooltexts::{
-    RunFault, Watched, check_text, draw_turns, key_text, load, replay_text, stop_after,
+use poolprogram::{
+    RunFault, Watched, check_text, draw_turns, key_text, load, replay_text, run_text, stop_after,
 };
 use scripts::ScriptFault;
 use std::alloc::AllocError;
@@ -21,7 +21,6 @@ use std::process::ExitCode;
 use std::sync::Wait;
 use std::thread::Threads;
 use std::{env, io};
-use workertexts::run_text;
 
 /// The schedule of a replay, without what comes after a lane's stop.
 fn schedule_of(

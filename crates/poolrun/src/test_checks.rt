@@ -1,7 +1,7 @@
 use crate::fake_writers::{Clogged, Deaf, Halting};
 use coresteps::CoreFault;
 use keybits::ShapeFault;
-use pooltexts::{RunFault, Watched, check_text};
+use poolprogram::{RunFault, Watched, check_text};
 use scripts::ScriptFault;
 use seqpool::ActsFault;
 use std::io::Write;

@@ -1,5 +1,5 @@
 use crate::fake_writers::{Clogged, Deaf, Halting};
-use pooltexts::{Watched, key_text};
+use poolprogram::{Watched, key_text};
 use std::test::Fail;
 
 // Numbers, and the lines of the keys that have them.

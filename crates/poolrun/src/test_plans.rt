@@ -1,4 +1,4 @@
-use pooltexts::{Watched, replay_text};
+use poolprogram::{Watched, replay_text};
 use scripts::{ScriptFault, parse};
 use std::alloc::{AllocError, Global};
 use std::test::Fail;

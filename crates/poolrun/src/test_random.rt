@@ -1,6 +1,6 @@
 ghost use Rattle.std.specs.Prelude.{◌<◌, ◌≤◌};
 
-use pooltexts::{Watched, check_text, replay_text};
+use poolprogram::{Watched, check_text, replay_text};
 use schedules::draw;
 use std::alloc::{AllocError, Global};
 use std::test::Fail;

@@ -1,5 +1,5 @@
 use crate::fake_writers::{Clogged, Deaf, Halting};
-use pooltexts::{RunFault, Watched, draw_turns, load, read_schedule, replay_text};
+use poolprogram::{RunFault, Watched, draw_turns, load, read_schedule, replay_text};
 use std::alloc::{AllocError, Global};
 use std::test::Fail;
 

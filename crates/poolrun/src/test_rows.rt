@@ -1,4 +1,4 @@
-use pooltexts::{RunFault, Watched, check_text, replay_text, stop_after};
+use poolprogram::{RunFault, Watched, check_text, replay_text, stop_after};
 use std::alloc::Global;
 use std::test::Fail;
 

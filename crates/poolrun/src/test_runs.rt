@@ -1,7 +1,6 @@
 use crate::fake_writers::{Clogged, Deaf, Halting};
-use pooltexts::Watched;
+use poolprogram::{Watched, run_text};
 use std::test::Fail;
-use workertexts::run_text;
 
 const WHOLE_LIFE: &str =
     "{\"shape\":{\"lanes\":1,\"first_page\":2,\"pages\":1,\"last_generation\":4294967295},\"scripts\":[[[\"create\",0],[\"write\",0,\"6869\"],[\"publish\",0],[\"get\",1,16777216],[\"read\",1],[\"release\",1],[\"clear\",16777216]]]}";

@@ -1,4 +1,4 @@
-use pooltexts::read_schedule;
+use poolprogram::read_schedule;
 use scripts::{Memory, draw, stop_after};
 use std::test::Fail;
 

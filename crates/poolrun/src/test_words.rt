@@ -1,5 +1,5 @@
 use commandline::{Task, TaskFault, task};
-use pooltexts::read_schedule;
+use poolprogram::read_schedule;
 use std::alloc::{AllocError, Global};
 use std::test::Fail;
 

@@ -1,5 +1,5 @@
-//! Two threads share a pool of buffers, each with a lane of its own; then one lane reads and clears what the other published,
-//! and the pool is closed.
+//! Two threads share a pool of buffers, each with a lane of its own; then one lane reads and clears what the other published; a
+//! guard and closures do so by themselves; and the pool is closed.
 #![tactic(auto)]
 
 ghost use Rattle.std.specs.Prelude.{◌≡◌, ◌<◌};
@@ -9,7 +9,8 @@ ghost use Rattle.shardpool.specs.Lanes.{Owns, SameLane, refs};
 mod lanes;
 
 use crate::lanes::{close_two, open_two};
-use shardpool::{Lane, Pool};
+use guards::{FillGuard, create_with, with};
+use shardpool::{CreateFault, Lane, Pool};
 use slotcell::ByteBuf;
 use std::thread;
 
@@ -41,6 +42,35 @@ fn length(pool: &Pool<ByteBuf>, lane: &mut Lane<ByteBuf>, key: u64) -> Option<us
     let length = lane.read(&reference).len();
     pool.release(lane, reference);
     Some(length)
+}
+
+/// Publishes these bytes by a guard, which does so on each way out. Answers their key. Where memory for them is refused an empty
+/// buffer is published.
+fn publish_guarded(
+    pool: &Pool<ByteBuf>,
+    lane: &mut Lane<ByteBuf>,
+    bytes: &[u8],
+) -> Result<u64, CreateFault>
+    requires owns { Owns pool.now lane.old }
+    ensures same { SameLane lane.old lane.new }
+    ensures refs { refs lane.new ≡ refs lane.old }
+{
+    let mut guard = FillGuard::new(lane, pool)?;
+    guard
+        .value_mut()
+        .append(bytes)
+        .map_err(|_| CreateFault::Memory)?;
+    Ok(guard.key())
+}
+
+/// How long the buffer of a key is, by a closure, which isn't called where the key is cleared.
+fn measure(pool: &Pool<ByteBuf>, lane: &mut Lane<ByteBuf>, key: u64) -> Option<usize>
+    requires owns { Owns pool.now lane.old }
+    requires room { refs lane.old < most_references }
+    ensures same { SameLane lane.old lane.new }
+    ensures refs { refs lane.new ≡ refs lane.old }
+{
+    with(pool, lane, key, |buffer: &ByteBuf| buffer.len())
 }
 
 /// One round: whether the bytes were published, found and cleared.
@@ -88,6 +118,18 @@ fn main(rt: HostRuntime) -> anyhow::Result<()> {
     let cleared = pool.clear(&mut second, key);
     let again = pool.clear(&mut first, key);
     println!(rt; "bytes found: {found:?}; cleared: {cleared}, and again: {again}")?;
+
+    let key = publish_guarded(&pool, &mut first, b"by a guard")?;
+    let found = measure(&pool, &mut first, key);
+    let cleared = pool.clear(&mut first, key);
+    let after = measure(&pool, &mut first, key);
+    println!(rt; "by a guard: {found:?}; cleared: {cleared}, and then: {after:?}")?;
+
+    let key = create_with(&pool, &mut first, |buffer: &mut ByteBuf| {
+        let _ = buffer.append(b"by a closure");
+    })?;
+    let found = measure(&pool, &mut first, key);
+    println!(rt; "by a closure: {found:?}")?;
 
     let census = close_two(rt.alloc(), pool, first, second)?;
     println!(rt; "closed: {census:?}")?;

@@ -35,3 +35,4 @@ pub mod Holding
 pub mod OwnShares
 pub mod HandSteps
 pub mod HandReturns
+pub mod Joining

@@ -7,3 +7,4 @@ pub mod Moved
 pub mod Grids
 pub mod Returned
 pub mod ViewLaws
+pub mod Joins

@@ -1,7 +1,9 @@
 //! The atomic steps of a sharded object pool, and the moves of its shares, over the words and the slots of one table: each is
-//! one call that keeps what holds between any two steps.
+//! one call that keeps what holds between any two steps. At the end the cells in the slots of a closed pool are made whole again and
+//! dropped.
 #![tactic(auto)]
 
+mod closing;
 mod grid;
 mod laws;
 mod layout;
@@ -13,11 +15,9 @@ mod returns;
 mod steps;
 mod view;
 
+pub use closing::{drop_cell, lay};
 pub use grid::{Grid, Hand, Spot};
 pub use laws::{acts_law, references_law, shares_law};
 pub use layout::{PageRow, SHARDS_APART, WORDS_APART, life_word, link_word, slot_at, stack_word};
 pub use plays::{PoolRule, Purpose};
 pub use view::{Deed, LaneRecord, View};
-
-#[cfg(test)]
-mod tests;

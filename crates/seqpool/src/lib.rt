@@ -30,8 +30,3 @@ pub use fault::{ApplyFault, CheckFault, Memory};
 pub use laws::{get_law, once_law, own_law, reclaim_law};
 pub use pool::SeqPool;
 pub use summary::Summary;
-
-#[cfg(test)]
-mod tests;
-#[cfg(test)]
-mod text_tests;

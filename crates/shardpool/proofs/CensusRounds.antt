@@ -22,7 +22,7 @@ use Rattle.seqpool.specs.Pool.{Phase, with, published, home, retired, has, pool_
 use Rattle.steplaws.specs.Facts.{bits_of}
 use Rattle.steplaws.proofs.HomePlaces.{has-some, has-none}
 use Rattle.slotcell.specs.Share.{Share}
-use Rattle.lastcells.specs.Joins.{IsSlotRow, IsSpread, IsResting, HasCell, HasNoCell}
+use Rattle.poolsteps.specs.Joins.{IsSlotRow, IsSpread, IsResting, HasCell, HasNoCell}
 use Rattle.poolsteps.specs.Views.{the_lane}
 use Rattle.poolsteps.specs.Layout.{words_in}
 use Rattle.shardpool.specs.declared.census.Census.{Census}

@@ -30,8 +30,8 @@ use Rattle.sharelaws.specs.Shares.{room_of}
 use Rattle.steplaws.specs.Facts.{home_in, is_home}
 use Rattle.steplaws.specs.Calls.{Call, Caller, Aim, aim, next_lane, first_lane, follow_next, take_next, next_step, AreSteps}
 use Rattle.steplaws.specs.Calls.Call.{Creating}
-use Rattle.placelaws.specs.PlaceLaws.{gives_away, brings}
-use Rattle.placelaws.proofs.WithPlaces.{with-law}
+use Rattle.sharelaws.specs.PlaceLaws.{gives_away, brings}
+use Rattle.sharelaws.proofs.WithPlaces.{with-law}
 use Rattle.poolsteps.specs.declared.view.LaneRecord.{LaneRecord}
 use Rattle.poolsteps.specs.declared.view.View.{View}
 use Rattle.poolsteps.specs.Views.{the_lane}
@@ -43,8 +43,8 @@ use Rattle.poolsteps.specs.Returned.{LeadsTo}
 use Rattle.poolcalls.specs.Called.{caller_of, Make}
 use Rattle.poolcalls.proofs.Doing.{make-one, make-more}
 use Rattle.poolcalls.proofs.Calling.{no-links, steps-more}
-use Rattle.pooltakes.specs.Taken.{Went, Collects, FollowsOut, NoneHome}
-use Rattle.pooltakes.proofs.Going.{none-went, went-goes, went-more}
+use Rattle.poolcalls.specs.Taken.{Went, Collects, FollowsOut, NoneHome}
+use Rattle.poolcalls.proofs.Going.{none-went, went-goes, went-more}
 use Rattle.shardpool.specs.Tokens.{LaneOf, FillingOf}
 use Rattle.shardpool.specs.Lanes.{IsFilling, SameLane, holds}
 use Rattle.shardpool.specs.Places.{IsBlank}

@@ -12,7 +12,7 @@ use Rattle.keybits.proofs.ShapeLemmas.{is_place-parts, index_of-lt, position_of-
 use Rattle.slotcell.specs.Share.{Share}
 use Rattle.poolsteps.specs.Layout.{slot_index}
 use Rattle.poolsteps.proofs.SlotLemmas.{slot-apart}
-use Rattle.lastcells.specs.Joins.{IsSlotRow, HasPart, IsSpread, IsResting, HasCell, HasNoCell, Drains}
+use Rattle.poolsteps.specs.Joins.{IsSlotRow, HasPart, IsSpread, IsResting, HasCell, HasNoCell, Drains}
 use Rattle.seqpool.specs.declared.act.Act.{Act}
 use Rattle.shardpool.specs.Tokens.{LaneOf}
 use Rattle.shardpool.specs.Remains.{IsDrained, DrainsShard}

@@ -19,7 +19,7 @@ use Rattle.seqpool.proofs.Growth.{legal-rest}
 use Rattle.seqpool.proofs.Ranks.{current-key}
 use Rattle.seqpool.specs.Histories.{acts_of}
 use Rattle.steplaws.specs.StepLaws.{reclaim}
-use Rattle.placelaws.specs.PlaceLaws.{gives_away}
+use Rattle.sharelaws.specs.PlaceLaws.{gives_away}
 use Rattle.poolsteps.specs.declared.view.View.{View}
 use Rattle.poolsteps.specs.Views.{the_lane, status_of}
 use Rattle.poolsteps.specs.ViewLaws.{references_with, references_made}

@@ -19,15 +19,15 @@ use Rattle.sharelaws.specs.Shares.{room_of}
 use Rattle.slotcell.specs.Share.{Share}
 use Rattle.steplaws.specs.Calls.{Call, key_in}
 use Rattle.steplaws.specs.Calls.Call.{Getting}
-use Rattle.placelaws.specs.PlaceLaws.{gives_away}
-use Rattle.placelaws.proofs.HeldContents.{held-content-law}
+use Rattle.sharelaws.specs.PlaceLaws.{gives_away}
+use Rattle.sharelaws.proofs.HeldContents.{held-content-law}
 use Rattle.poolsteps.specs.declared.view.View.{View}
 use Rattle.poolsteps.specs.Views.{the_lane, status_of}
 use Rattle.poolsteps.specs.Told.{IsIdle, MayTouch, references_seen}
 use Rattle.poolsteps.specs.Moved.{Outs}
 use Rattle.poolsteps.specs.ViewLaws.{HeldLaw}
-use Rattle.poolcells.specs.Carried.{Carries}
-use Rattle.poolcells.proofs.Moves.{out-moves, carries-out, moves-here, moves-known}
+use Rattle.poolcalls.specs.Carried.{Carries}
+use Rattle.poolcalls.proofs.Moves.{out-moves, carries-out, moves-here, moves-known}
 use Rattle.poolcalls.specs.declared.reclaimed.Got.TheVariants.{Miss}
 use Rattle.poolcalls.specs.declared.reclaimed.Reclaimed.{Reclaimed}
 use Rattle.poolcalls.specs.Called.{Did as DidSo, Called, MadeOne, IsUnmoved, HasGot, IsReclaimed, EndsWithActs}

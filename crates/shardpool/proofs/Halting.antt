@@ -19,8 +19,8 @@ use Rattle.poolsteps.proofs.ViewLemmas.{prefix-trans}
 use Rattle.poolcalls.specs.Called.{caller_of, Make, Did, IsLawful}
 use Rattle.poolcalls.proofs.Doing.{same-caller}
 use Rattle.poolcalls.proofs.Ending.{did-nothing}
-use Rattle.poolhalts.specs.Halted.{CalledWithin}
-use Rattle.poolhalts.proofs.Within.{at-end}
+use Rattle.poolcalls.specs.Halted.{CalledWithin}
+use Rattle.poolcalls.proofs.Within.{at-end}
 use Rattle.shardpool.specs.declared.shelf.Shelf.{Shelf}
 use Rattle.shardpool.specs.Shelves.{Fits}
 use Rattle.shardpool.specs.Tokens.{PoolOf, LaneOf}

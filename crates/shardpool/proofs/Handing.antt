@@ -14,8 +14,8 @@ use Rattle.keybits.proofs.ShapeLemmas.{position_of-injective}
 use Rattle.slotcell.specs.Share.{Share}
 use Rattle.poolsteps.specs.Layout.{slot_index}
 use Rattle.poolsteps.proofs.SlotLemmas.{slot-apart}
-use Rattle.lastcells.specs.Joins.{IsSlotRow}
-use Rattle.lastcells.proofs.Joining.{get-elsewhere}
+use Rattle.poolsteps.specs.Joins.{IsSlotRow}
+use Rattle.poolsteps.proofs.Joining.{get-elsewhere}
 use Rattle.shardpool.specs.declared.shelf.Row.{Row}
 use Rattle.shardpool.specs.declared.shelf.Shelf.{Shelf}
 use Rattle.shardpool.specs.Remains.{GivesRow, IsBack, IsOff, GivesBack, MayHandBack, IsStripped, AreStripped, HandsBack}

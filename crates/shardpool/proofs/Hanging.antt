@@ -18,13 +18,13 @@ use Rattle.seqpool.specs.Pool.{with, has, NoRepeats, pool_after}
 use Rattle.seqpool.specs.Histories.{acts_of}
 use Rattle.sharelaws.specs.declared.stored.Status.TheVariants.{Emptied, Whole}
 use Rattle.sharelaws.specs.Shares.{room_of, at_rest}
-use Rattle.placelaws.specs.PlaceLaws.{gives_away, brings}
+use Rattle.sharelaws.specs.PlaceLaws.{gives_away, brings}
 use Rattle.sharelaws.specs.declared.stored.Stored.{Stored}
 use Rattle.poolsteps.specs.declared.view.LaneRecord.{LaneRecord}
 use Rattle.poolsteps.specs.declared.view.View.{View}
 use Rattle.poolsteps.specs.Views.{the_lane, known_in, status_of, known_of}
 use Rattle.poolsteps.specs.Returned.{rest_of, with_cells, taken_record, LeadsTo}
-use Rattle.poolcells.specs.Carried.{AreEmptied}
+use Rattle.poolcalls.specs.Carried.{AreEmptied}
 use Rattle.shardpool.specs.Places.{IsBlank, IsResting}
 use Rattle.shardpool.specs.Shelves.{IsFirst, FitsStores}
 use Rattle.shardpool.proofs.Passes.{Passes}

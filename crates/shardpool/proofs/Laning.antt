@@ -18,12 +18,12 @@ use Rattle.seqpool.specs.declared.act.Act.TheVariants as acts
 use Rattle.seqpool.specs.Pool.{with, has, pool_after}
 use Rattle.seqpool.specs.Histories.{acts_of}
 use Rattle.sharelaws.specs.declared.stored.Status.TheVariants.{Untouched, Emptied}
-use Rattle.placelaws.specs.PlaceLaws.{gives_away, brings}
+use Rattle.sharelaws.specs.PlaceLaws.{gives_away, brings}
 use Rattle.poolsteps.specs.declared.view.View.{View}
 use Rattle.poolsteps.specs.Views.{the_lane, status_of}
 use Rattle.poolsteps.specs.Told.{IsIdle, references_seen, MayPublish}
 use Rattle.poolsteps.specs.ViewLaws.{references_made}
-use Rattle.poolcells.specs.Carried.{AreEmptied}
+use Rattle.poolcalls.specs.Carried.{AreEmptied}
 use Rattle.poolcalls.specs.declared.reclaimed.Reclaimed.{Reclaimed}
 use Rattle.poolcalls.specs.Called.{MovedNothing}
 use Rattle.shardpool.specs.declared.shelf.Shelf.{Shelf}

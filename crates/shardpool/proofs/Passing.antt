@@ -18,7 +18,7 @@ use Rattle.seqpool.specs.Pool.{touches}
 use Rattle.seqpool.specs.Histories.{acts_of}
 use Rattle.sharelaws.specs.declared.stored.Status.{Status}
 use Rattle.steplaws.specs.StepLaws.{reclaim}
-use Rattle.placelaws.specs.PlaceLaws.{gives_away}
+use Rattle.sharelaws.specs.PlaceLaws.{gives_away}
 use Rattle.poolsteps.specs.declared.view.LaneRecord.{LaneRecord}
 use Rattle.poolsteps.specs.declared.view.View.{View}
 use Rattle.poolsteps.specs.Views.{head_record, the_lane, status_of, known_of}
@@ -27,8 +27,8 @@ use Rattle.poolsteps.specs.Moved.{Outs, Backs}
 use Rattle.poolsteps.specs.ViewLaws.{references_with, references_made}
 use Rattle.poolsteps.proofs.ViewLemmas.{prefix-trans}
 use Rattle.poolsteps.proofs.Holding.{acts-law}
-use Rattle.poolcells.specs.Carried.{Carries}
-use Rattle.poolcells.proofs.Moves.{carries-out, carries-back}
+use Rattle.poolcalls.specs.Carried.{Carries}
+use Rattle.poolcalls.proofs.Moves.{carries-out, carries-back}
 use Rattle.poolcalls.specs.declared.reclaimed.Reclaimed.{Reclaimed}
 use Rattle.poolcalls.specs.declared.reclaimed.Reclaimed.TheVariants.{Own, Returned, Retired}
 use Rattle.poolcalls.specs.Called.{IsUnmoved, Did, end_acts}

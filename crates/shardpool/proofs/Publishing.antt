@@ -19,7 +19,7 @@ use Rattle.seqpool.specs.Histories.{At, PublishedAt, acts_of}
 use Rattle.seqpool.proofs.Ranks.{same-key, current-key}
 use Rattle.sharelaws.specs.declared.stored.Status.TheVariants.{Emptied}
 use Rattle.slotcell.specs.Share.{Share}
-use Rattle.placelaws.proofs.HeldContents.{held-current}
+use Rattle.sharelaws.proofs.HeldContents.{held-current}
 use Rattle.poolsteps.specs.declared.view.View.{View}
 use Rattle.poolsteps.specs.Views.{the_lane, status_of, known_of}
 use Rattle.poolsteps.specs.Told.{IsIdle, MayPublish, references_seen}

@@ -20,13 +20,13 @@ use Rattle.seqpool.specs.declared.act.Act.TheVariants as acts
 use Rattle.seqpool.specs.Pool.{with, published, pool_after}
 use Rattle.sharelaws.specs.declared.stored.Status.TheVariants.{Untouched}
 use Rattle.slotcell.specs.Share.{Share}
-use Rattle.placelaws.specs.PlaceLaws.{gives_away}
-use Rattle.placelaws.proofs.HeldContents.{held-content-law}
+use Rattle.sharelaws.specs.PlaceLaws.{gives_away}
+use Rattle.sharelaws.proofs.HeldContents.{held-content-law}
 use Rattle.poolsteps.specs.declared.view.View.{View}
 use Rattle.poolsteps.specs.Views.{the_lane, status_of, pushed_in}
 use Rattle.poolsteps.specs.Told.{IsIdle, references_seen}
 use Rattle.poolsteps.specs.Moved.{Backs}
-use Rattle.poolcells.proofs.Moves.{back-moves, carries-back, moves-here}
+use Rattle.poolcalls.proofs.Moves.{back-moves, carries-back, moves-here}
 use Rattle.poolcalls.specs.declared.reclaimed.Reclaimed.{Reclaimed}
 use Rattle.poolcalls.specs.declared.reclaimed.Reclaimed.TheVariants.{Own}
 use Rattle.poolcalls.specs.Called.{Did as DidSo, IsReclaimed, EndsWithActs, end_acts}

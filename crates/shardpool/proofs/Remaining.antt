@@ -28,7 +28,7 @@ use Rattle.poolsteps.specs.Views.{the_lane, known_of}
 use Rattle.poolsteps.specs.Layout.{slot_index, slots_in}
 use Rattle.poolsteps.specs.Rule.{World}
 use Rattle.poolsteps.proofs.SlotLemmas.{slot-is, slot-apart}
-use Rattle.lastcells.specs.Joins.{HasPart, IsSpread, IsResting}
+use Rattle.poolsteps.specs.Joins.{HasPart, IsSpread, IsResting}
 use Rattle.shardpool.specs.declared.shelf.Row.{Row}
 use Rattle.shardpool.specs.declared.shelf.Shelf.{Shelf}
 use Rattle.shardpool.specs.Shelves.{FitsRow}

@@ -15,7 +15,7 @@ use Rattle.seqpool.specs.Pool.{Pool, pool_after, references}
 use Rattle.seqpool.specs.Histories.{PublishedAt, acts_of}
 use Rattle.seqpool.proofs.Ranks.{current-key}
 use Rattle.slotcell.specs.Share.{Share}
-use Rattle.placelaws.proofs.HeldContents.{held-current}
+use Rattle.sharelaws.proofs.HeldContents.{held-current}
 use Rattle.poolcalls.specs.declared.reclaimed.Reclaimed.{Reclaimed}
 use Rattle.poolcalls.specs.declared.reclaimed.Reclaimed.TheVariants.{Own, Returned, Retired}
 use Rattle.poolcalls.specs.Called.{end_acts}

@@ -15,7 +15,7 @@ use Rattle.seqpool.proofs.Ranks.{same-key, current-key}
 use Rattle.sharelaws.specs.declared.stored.Status.TheVariants.{Emptied}
 use Rattle.sharelaws.specs.Shares.{IsKept}
 use Rattle.slotcell.specs.Share.{Share}
-use Rattle.placelaws.proofs.HeldContents.{held-content-law, held-current}
+use Rattle.sharelaws.proofs.HeldContents.{held-content-law, held-current}
 use Rattle.poolsteps.specs.declared.view.View.{View}
 use Rattle.poolsteps.specs.Views.{the_lane, status_of, known_of}
 use Rattle.poolsteps.specs.Told.{references_seen}

@@ -17,12 +17,12 @@ use Rattle.freelists.specs.Queues.{FreePlaces}
 use Rattle.freelists.specs.Shards.{ShardPages}
 use Rattle.seqpool.specs.declared.act.Act.{Act}
 use Rattle.seqpool.specs.Pool.{with, has, pool_after}
-use Rattle.placelaws.specs.PlaceLaws.{gives_away}
+use Rattle.sharelaws.specs.PlaceLaws.{gives_away}
 use Rattle.poolsteps.specs.declared.view.LaneRecord.{LaneRecord}
 use Rattle.poolsteps.specs.declared.view.View.{View}
 use Rattle.poolsteps.specs.Views.{head_record, the_lane}
 use Rattle.poolsteps.specs.Told.{Sees, IsIdle, MayPublish, references_seen}
-use Rattle.poolcells.specs.Carried.{AreEmptied}
+use Rattle.poolcalls.specs.Carried.{AreEmptied}
 use Rattle.shardpool.specs.declared.shelf.Shelf.{Shelf}
 use Rattle.shardpool.specs.Tokens.{PoolOf, LaneOf, FillingOf}
 use Rattle.shardpool.specs.Lanes.{SameLane, Made, Did}

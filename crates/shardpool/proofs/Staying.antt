@@ -16,8 +16,8 @@ use Rattle.seqpool.specs.Histories.{At, PublishedAt, acts_of}
 use Rattle.seqpool.proofs.Growth.{acts-append}
 use Rattle.sharelaws.specs.declared.stored.Stored.{Stored}
 use Rattle.sharelaws.specs.Shares.{room_of}
-use Rattle.placelaws.specs.PlaceLaws.{gives_away, brings}
-use Rattle.placelaws.proofs.WithPlaces.{with-law}
+use Rattle.sharelaws.specs.PlaceLaws.{gives_away, brings}
+use Rattle.sharelaws.proofs.WithPlaces.{with-law}
 use Rattle.poolsteps.specs.declared.view.View.{View}
 use Rattle.poolsteps.specs.Views.{the_lane, pushed_in, known_of}
 use Rattle.poolsteps.specs.Told.{MayPublish, IsIdle}

@@ -21,7 +21,7 @@ use Rattle.seqpool.specs.Pool.{with, has, NoRepeats, pool_after}
 use Rattle.seqpool.specs.Histories.{acts_of}
 use Rattle.sharelaws.specs.declared.stored.Status.TheVariants.{Untouched, Emptied, Whole}
 use Rattle.sharelaws.specs.Shares.{at_rest}
-use Rattle.placelaws.specs.PlaceLaws.{gives_away}
+use Rattle.sharelaws.specs.PlaceLaws.{gives_away}
 use Rattle.poolsteps.specs.declared.view.View.{View}
 use Rattle.poolsteps.specs.Views.{the_lane, status_of}
 use Rattle.poolsteps.specs.Told.{LeftAlone}

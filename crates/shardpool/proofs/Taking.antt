@@ -17,14 +17,14 @@ use Rattle.seqpool.specs.declared.act.Act.{Act}
 use Rattle.seqpool.specs.declared.act.Act.TheVariants as acts
 use Rattle.seqpool.specs.Pool.{Phase, with, has, NoRepeats, references_in, is_current, pool_after}
 use Rattle.sharelaws.specs.declared.stored.Stored.{Stored}
-use Rattle.placelaws.specs.PlaceLaws.{gives_away}
+use Rattle.sharelaws.specs.PlaceLaws.{gives_away}
 use Rattle.poolsteps.specs.declared.view.LaneRecord.{LaneRecord}
 use Rattle.poolsteps.specs.declared.view.View.{View}
 use Rattle.poolsteps.specs.Views.{the_lane, status_of, known_of}
 use Rattle.poolsteps.specs.Told.{references_seen}
 use Rattle.poolsteps.specs.Returned.{rest_of, taken_record, LeadsTo}
-use Rattle.poolcells.specs.Carried.{ShowsCell}
-use Rattle.pooltakes.specs.Taken.{Went, IsCollected, Collects, FollowsOut}
+use Rattle.poolcalls.specs.Carried.{ShowsCell}
+use Rattle.poolcalls.specs.Taken.{Went, IsCollected, Collects, FollowsOut}
 use Rattle.shardpool.specs.declared.shelf.Row.{Row}
 use Rattle.shardpool.specs.declared.shelf.Shelf.{Shelf}
 use Rattle.shardpool.specs.Tokens.{LaneOf, FillingOf}

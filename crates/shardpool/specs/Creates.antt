@@ -14,7 +14,7 @@ use Rattle.steplaws.specs.Calls.Call.{Creating}
 use Rattle.poolsteps.specs.Views.{the_lane}
 use Rattle.poolsteps.specs.Told.{IsIdle, Sees}
 use Rattle.poolcalls.specs.Called.{caller_of, Make}
-use Rattle.pooltakes.specs.Taken.{NoneHome, Collects, FollowsOut}
+use Rattle.poolcalls.specs.Taken.{NoneHome, Collects, FollowsOut}
 use Rattle.shardpool.specs.declared.create.CreateFault.{CreateFault}
 use Rattle.shardpool.specs.declared.create.CreateFault.TheVariants.{Full, Memory}
 use Rattle.shardpool.specs.Tokens.{LaneOf, FillingOf}

@@ -9,7 +9,7 @@ use Rattle.steplaws.specs.Calls.{Call}
 use Rattle.steplaws.specs.Calls.Call.{Getting, Releasing, Clearing}
 use Rattle.steplaws.specs.Facts.{most_references}
 use Rattle.poolsteps.specs.declared.view.View.{View}
-use Rattle.poolhalts.specs.Halted.{CalledWithin}
+use Rattle.poolcalls.specs.Halted.{CalledWithin}
 use Rattle.shardpool.specs.declared.halt.LastCall.{LastCall}
 use Rattle.shardpool.specs.declared.halt.LastCall.TheVariants.{Get, Clear, Release, Create}
 use Rattle.shardpool.specs.declared.shelf.Shelf.{Shelf}

@@ -14,7 +14,7 @@ use Rattle.poolsteps.specs.declared.view.View.{View}
 use Rattle.poolsteps.specs.Views.{the_lane}
 use Rattle.poolsteps.specs.Told.{MayPublish, references_seen}
 use Rattle.poolsteps.specs.ViewLaws.{references_made}
-use Rattle.poolcells.specs.Carried.{AreEmptied}
+use Rattle.poolcalls.specs.Carried.{AreEmptied}
 use Rattle.poolcalls.specs.Called.{Called}
 use Rattle.shardpool.specs.Tokens.{PoolOf, LaneOf, FillingOf, RefOf, NoteOf}
 use Rattle.shardpool.specs.Places.{held_after}

@@ -10,7 +10,7 @@ use Rattle.seqpool.specs.Pool.{published, home, has, pool_after}
 use Rattle.slotcell.specs.Share.{Share}
 use Rattle.poolsteps.specs.Views.{the_lane}
 use Rattle.poolsteps.specs.Layout.{slot_index}
-use Rattle.lastcells.specs.Joins.{IsSlotRow, IsSpread, IsResting, IsUnspread, IsUnrested, HasNoCell}
+use Rattle.poolsteps.specs.Joins.{IsSlotRow, IsSpread, IsResting, IsUnspread, IsUnrested, HasNoCell}
 use Rattle.shardpool.specs.declared.shelf.Row.{Row}
 use Rattle.shardpool.specs.declared.shelf.Shelf.{Shelf}
 use Rattle.shardpool.specs.Tokens.{LaneOf}

@@ -7,7 +7,7 @@ ghost use Rattle.keybits.specs.Places.{shard_of, number_of};
 ghost use Rattle.keybits.specs.Shapes.{IsShape, is_place, shard_places, all_places};
 ghost use Rattle.freelists.specs.Queues.{AreFree};
 ghost use Rattle.poolsteps.specs.Layout.{word_count, words_in};
-ghost use Rattle.lastcells.specs.Joins.{IsSlotRow, HasCell};
+ghost use Rattle.poolsteps.specs.Joins.{IsSlotRow, HasCell};
 ghost use Rattle.shardpool.specs.Remains.{HasCells, IsDrained, DrainsShard};
 ghost use Rattle.seqpool.specs.declared.act.Act.{Act};
 ghost use Rattle.shardpool.specs.Tokens.{LaneOf};
@@ -18,8 +18,7 @@ use crate::shelf::Shelf;
 use core::slots::Slots;
 use freelists::LocalFree;
 use keybits::{Life, Place, Shape, State, link_to, linked_place};
-use lastcells::drop_cell;
-use poolsteps::{life_word, link_word, stack_word};
+use poolsteps::{drop_cell, life_word, link_word, stack_word};
 use slotcell::Slot;
 use std::alloc::Global;
 

@@ -11,7 +11,7 @@ use crate::lane::Lane;
 use crate::pool::Pool;
 use crate::stores::{hang, open_next, take_own};
 use crate::token::Filling;
-use pooltakes::{collect, follow, next_key};
+use poolcalls::{collect, follow, next_key};
 use slotcell::{Clear, Whole};
 use std::alloc::Global;
 use std::error::Error;

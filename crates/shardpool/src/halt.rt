@@ -6,7 +6,7 @@ ghost use Rattle.steplaws.specs.Calls.Call.{Getting, Releasing, Clearing, Creati
 ghost use Rattle.steplaws.specs.Facts.{most_references};
 ghost use Rattle.poolsteps.specs.Views.{the_lane};
 ghost use Rattle.poolsteps.specs.Told.{references_seen};
-ghost use Rattle.poolhalts.specs.Halted.{CalledWithin};
+ghost use Rattle.poolcalls.specs.Halted.{CalledWithin};
 ghost use Rattle.shardpool.specs.Lanes.{Owns};
 ghost use Rattle.shardpool.specs.Halts.{MayMakeLast, HaltsIn, AreParts};
 
@@ -16,7 +16,7 @@ use crate::rows::lend_home;
 use crate::shelf::Shelf;
 use crate::token::Ref;
 use keybits::place_of;
-use poolhalts::{clear_within, collect_within, follow_within, get_within, release_within};
+use poolcalls::{clear_within, collect_within, follow_within, get_within, release_within};
 use poolsteps::Hand;
 use slotcell::Clear;
 use std::marker::Model;

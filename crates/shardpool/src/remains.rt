@@ -2,15 +2,14 @@
 ghost use Rattle.std.specs.Prelude.{◌≡◌, ◌<◌, Some, length, slice_get, slice_set};
 ghost use Rattle.core.specs.Mem.Slots.{slots_len, IsFull};
 ghost use Rattle.keybits.specs.Shapes.{IsShape, all_places};
-ghost use Rattle.lastcells.specs.Joins.{IsSlotRow};
+ghost use Rattle.poolsteps.specs.Joins.{IsSlotRow};
 ghost use Rattle.shardpool.specs.declared.shelf.Shelf.{Shelf as Shown};
 ghost use Rattle.shardpool.specs.Remains.{GivesRow, GivesBack, MayHandBack, IsStripped, HandsBack, AreStripped};
 
 use crate::shelf::{Row, Shelf};
 use core::slots::Slots;
 use keybits::Shape;
-use lastcells::lay;
-use poolsteps::slot_at;
+use poolsteps::{lay, slot_at};
 use slotcell::Slot;
 use std::mem;
 

@@ -22,6 +22,3 @@ pub use rest::Rest;
 pub use share::Share;
 pub use slot::Slot;
 pub use whole::{Whole, join};
-
-#[cfg(test)]
-mod tests;

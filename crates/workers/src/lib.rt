@@ -15,8 +15,3 @@ pub use jobs::{Done, Job, Report};
 pub use rows::{jobs_of, parts_of};
 pub use threads::run_workers;
 pub use working::work;
-
-#[cfg(test)]
-mod test_threads;
-#[cfg(test)]
-mod tests;

@@ -2,7 +2,7 @@ use Rattle.std.proofs.Common.{ℕ, ◌-◌, ◌*◌, ◌≤◌, ap, ◌∙◌, s
 use Rattle.keybits.specs.declared.shape.Shape.{Shape}
 use Rattle.poolsteps.specs.Told.{MayRenew}
 use Rattle.poolsteps.specs.Moved.{stored_of}
-use Rattle.poolcells.specs.Carried.{MayCarry}
+use Rattle.poolcalls.specs.Carried.{MayCarry}
 use Rattle.poolcalls.proofs.Filling.{still-may, publish-called, room-published}
 use Rattle.poolcalls.proofs.fills.downgrade.Goals as goal
 

@@ -1,7 +1,7 @@
 use Rattle.std.proofs.Common.{inr, ℕ, ◌*◌, ◌≤◌, sym, ap, ◌∙◌, subst, arith}
 use Rattle.keybits.specs.declared.shape.Shape.{Shape}
 use Rattle.poolsteps.specs.Views.{the_lane, known_of}
-use Rattle.poolcells.specs.Carried.{MayCarry}
+use Rattle.poolcalls.specs.Carried.{MayCarry}
 use Rattle.poolcalls.proofs.Filling.{still-may, publish-called, room-published}
 use Rattle.poolcalls.proofs.fills.publish.Goals as goal
 

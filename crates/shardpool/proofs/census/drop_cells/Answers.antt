@@ -5,7 +5,7 @@ use Rattle.keybits.specs.declared.step.Word.TheVariants.{Life}
 use Rattle.keybits.specs.Places.{shard_of}
 use Rattle.keybits.specs.Shapes.{all_places, index_of}
 use Rattle.poolsteps.specs.Layout.{words_in}
-use Rattle.lastcells.specs.Joins.{HasCell, HasNoCell}
+use Rattle.poolsteps.specs.Joins.{HasCell, HasNoCell}
 use Rattle.shardpool.proofs.CensusMarks.{read-word}
 use Rattle.shardpool.proofs.CensusCounts.{position-below, at-position}
 use Rattle.shardpool.proofs.Draining.{drains-none, drains-more, drains-all, cell-stays}

@@ -1,7 +1,7 @@
 -- The chain's first place is followed.
 use Rattle.std.proofs.Common.{◌≡◌, [], Some, sym, ◌∙◌, subst}
 use Rattle.keybits.specs.declared.shape.Shape.{Shape}
-use Rattle.pooltakes.specs.Taken.{FollowsOut}
+use Rattle.poolcalls.specs.Taken.{FollowsOut}
 use Rattle.shardpool.specs.Tokens.{LaneOf}
 use Rattle.shardpool.specs.Lanes.{Made}
 use Rattle.shardpool.specs.Creates.{FollowsChain}

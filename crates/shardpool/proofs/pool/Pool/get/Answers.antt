@@ -8,7 +8,7 @@ use Rattle.seqpool.specs.declared.act.Act.TheVariants as acts
 use Rattle.sharelaws.specs.declared.stored.Status.TheVariants.{Untouched}
 use Rattle.poolsteps.specs.Told.{MayTouch}
 use Rattle.poolsteps.specs.Moved.{Outs}
-use Rattle.poolcells.proofs.Moves.{carries-out}
+use Rattle.poolcalls.proofs.Moves.{carries-out}
 use Rattle.shardpool.specs.Shelves.{FitsRows, Fits}
 use Rattle.shardpool.specs.Stores.{Keeps}
 use Rattle.shardpool.proofs.Ending.{own-away}

@@ -2,7 +2,7 @@
 use Rattle.std.proofs.Common.{ℕ, sym, ap, subst}
 use Rattle.steplaws.specs.Calls.{Call}
 use Rattle.steplaws.specs.Calls.Call.{Releasing}
-use Rattle.poolhalts.specs.Halted.{CalledWithin}
+use Rattle.poolcalls.specs.Halted.{CalledWithin}
 use Rattle.shardpool.specs.declared.halt.LastCall.{LastCall}
 use Rattle.shardpool.specs.declared.halt.LastCall.TheVariants.{Get, Clear, Release, Create}
 use Rattle.shardpool.specs.Creates.{creating}

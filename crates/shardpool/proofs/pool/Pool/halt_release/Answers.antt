@@ -7,7 +7,7 @@ use Rattle.sharelaws.specs.declared.stored.Status.TheVariants.{Untouched}
 use Rattle.steplaws.specs.Calls.Call.{Releasing}
 use Rattle.poolsteps.specs.Views.{the_lane, status_of}
 use Rattle.poolsteps.specs.Told.{references_seen}
-use Rattle.poolhalts.specs.Halted.{CalledWithin}
+use Rattle.poolcalls.specs.Halted.{CalledWithin}
 use Rattle.shardpool.proofs.Releasing.{lent-some, lent-share, lent-top}
 use Rattle.shardpool.proofs.Halting.{halts-behind, refers-parts}
 use Rattle.shardpool.proofs.pool.Pool.halt_release.Goals as goal

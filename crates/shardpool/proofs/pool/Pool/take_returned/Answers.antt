@@ -1,7 +1,7 @@
 -- What is taken hangs, or all is as before.
 use Rattle.std.proofs.Common.{rules, ◌≡◌, ◌<◌, [], None, sym, ◌∙◌, subst, arith}
 use Rattle.keybits.specs.declared.shape.Shape.{Shape}
-use Rattle.pooltakes.specs.Taken.{Collects}
+use Rattle.poolcalls.specs.Taken.{Collects}
 use Rattle.shardpool.specs.Tokens.{LaneOf}
 use Rattle.shardpool.specs.Lanes.{Made}
 use Rattle.shardpool.specs.Creates.{TakesReturned}

@@ -1,0 +1,341 @@
+ghost use Rattle.std.specs.Prelude.{◌≡◌, ◌<◌, ◌≤◌, [], ◌∷◌, ◌++◌, length, All, Some, IsSome, IsTrue};
+
+use arrayvec::ArrayVec;
+use slotcell::{ByteBuf, Clear, Memory, Record, Rest, Share, Slot, Whole, join};
+use std::alloc::Global;
+use std::cell::Cell;
+use std::process::Abort;
+use std::snapshot::Snapshot;
+use std::thread::{Promise, PromisedHandle, Threads};
+use std::{mem, thread};
+
+// The last of the shares.
+fn take_last<T: Drop>(shares: &mut ArrayVec<Option<Share<T>>, 16>) -> Share<T>
+    requires { (0 < length shares.old.items) × All IsSome shares.old.items }
+    ensures { shares.old.items ≡ shares.new.items ++ Some result ∷ [] }
+{
+    shares.pop().unwrap().unwrap()
+}
+
+fn round_trip<T: Drop>(alloc: Global, whole: Whole<T>, n: usize) -> Whole<T>
+    requires { (0 < n) × (n ≤ 16) }
+    ensures { result ≡ whole }
+{
+    join(alloc, whole.split(n))
+}
+
+fn put<T: Drop>(whole: &mut Whole<T>, object: T)
+    ensures { whole.new ≡ object }
+{
+    *whole.get_mut() = object;
+}
+
+fn emptied<T: Clear>(object: &mut T) -> usize
+    ensures empty { T.content object.new ≡ [] }
+    ensures room { (T.room object.old ≤ result) × (T.room object.new ≡ result) }
+{
+    object.clear();
+    object.room()
+}
+
+// A cell that is split, joined and emptied holds an object that is empty and has its room.
+fn refilled<T: Clear + Drop>(alloc: Global, whole: Whole<T>, n: usize) -> Whole<T>
+    requires { (0 < n) × (n ≤ 16) }
+    ensures empty { T.content result ≡ [] }
+    ensures room { T.room whole ≤ T.room result }
+{
+    let mut whole = round_trip(alloc, whole, n);
+    whole.get_mut().clear();
+    whole
+}
+
+fn sent<S: Send>(value: S) -> S
+    ensures { result ≡ value }
+{
+    value
+}
+
+fn seen<S: Sync>(value: &S) -> &S
+    ensures { result.now ≡ value.now }
+{
+    value
+}
+
+fn share_crosses<T: Send + Sync + Drop>(share: Share<T>) -> Share<T>
+    ensures { result ≡ share }
+{
+    let _ = seen(&share);
+    sent(share)
+}
+
+fn whole_crosses<T: Send + Sync + Drop>(whole: Whole<T>) -> Whole<T>
+    ensures { result ≡ whole }
+{
+    let _ = seen(&whole);
+    sent(whole)
+}
+
+fn slot_crosses<T: Send + Sync + Drop>(slot: Slot<T>) -> Slot<T>
+    ensures { result ≡ slot }
+{
+    let _ = seen(&slot);
+    sent(slot)
+}
+
+// Puts the share into an empty slot, and takes it out.
+fn kept_in_a_slot<T: Send + Sync + Drop>(share: Share<T>) -> Share<T>
+    ensures { result ≡ share }
+{
+    let mut slot = Slot::empty();
+    drop(mem::replace(&mut slot, Slot::filled(share)));
+    slot_crosses(slot).into_share()
+}
+
+// Lends the cell in three shares, cuts two off, and merges them in again.
+fn lent_in_three<T: Send + Sync + Drop>(alloc: Global, whole: Whole<T>) -> Whole<T>
+    ensures { result ≡ whole }
+{
+    let mut rest = whole.lend(3);
+    let first = rest.cut();
+    let second = kept_in_a_slot(rest.cut());
+    let mut rest = Rest::of_last(rest.into_share());
+    rest.merge(second);
+    rest.merge(first);
+    rest.into_whole(alloc)
+}
+
+// Where memory is refused the buffer is as it was, and the call may be made again.
+fn append_to(rt: &impl Abort, buffer: &mut ByteBuf, more: &[u8])
+    ensures { buffer.new.bytes ≡ buffer.old.bytes ++ more.now }
+{
+    let (len, room) = (buffer.len(), buffer.room());
+    if buffer.append(more).is_err() {
+        assert_eq!(rt; buffer.len(), len);
+        assert_eq!(rt; buffer.room(), room);
+        buffer.append(more).expect(rt, "memory for the bytes");
+    }
+}
+
+// Where memory is refused the object comes back.
+fn cell_of<T: Drop>(rt: &impl Abort, alloc: Global, object: T) -> Whole<T>
+    ensures { result ≡ object }
+{
+    match Whole::new(alloc, object) {
+        Ok(whole) => whole,
+        Err(back) => Whole::new(alloc, back).ok().expect(rt, "memory for a cell"),
+    }
+}
+
+#[test]
+fn a_cleared_buffer_keeps_its_room(rt: HostRuntime) {
+    let bytes = [5u8; 4096];
+    let mut buffer = ByteBuf::fresh(rt.alloc());
+    assert!(rt; buffer.is_empty());
+    assert_eq!(rt; buffer.room(), 0);
+    assert_eq!(rt; buffer.append(&bytes), Ok(()));
+    assert_eq!(rt; buffer.len(), 4096);
+    assert_eq!(rt; buffer.as_slice(), bytes.as_slice());
+
+    let room = emptied(&mut buffer);
+    assert_eq!(rt; buffer.len(), 0);
+    assert!(rt; room >= 4096);
+    buffer.append(&bytes).unwrap();
+    assert_eq!(rt; buffer.as_slice(), bytes.as_slice());
+    assert_eq!(rt; buffer.room(), room);
+}
+
+#[test]
+fn a_record_takes_eight_numbers(rt: HostRuntime) {
+    let mut record = Record::fresh(rt.alloc());
+    assert_eq!(rt; record.room(), 8);
+    for number in 0..8 {
+        assert!(rt; record.push(number));
+    }
+    assert!(rt; !record.push(8));
+    assert_eq!(rt; record.as_slice(), [0, 1, 2, 3, 4, 5, 6, 7].as_slice());
+    assert_eq!(rt; emptied(&mut record), 8);
+    assert_eq!(rt; record.as_slice(), [].as_slice());
+    assert!(rt; record.push(9));
+    assert_eq!(rt; record.as_slice(), [9].as_slice());
+}
+
+fn each_shows(rt: &impl Abort, shares: &[Option<Share<Record>>], numbers: &[u64]) {
+    for share in shares {
+        let share = share.as_ref().expect(rt, "a share");
+        assert_eq!(rt; share.read().as_slice(), numbers);
+    }
+}
+
+// Splits the cell, reads each share, and joins them.
+fn read_apart(
+    rt: &impl Abort,
+    alloc: Global,
+    whole: Whole<Record>,
+    n: usize,
+    numbers: &[u64],
+) -> Whole<Record>
+    requires { (0 < n) × (n ≤ 16) }
+    ensures { result ≡ whole }
+{
+    let shares = whole.split(n);
+    assert_eq!(rt; shares.len(), n);
+    each_shows(rt, shares.as_slice(), numbers);
+    join(alloc, shares)
+}
+
+#[test]
+fn each_share_of_a_record_shows_its_numbers(rt: HostRuntime) {
+    for n in 1..=16 {
+        let mut whole = cell_of(&rt, rt.alloc(), Record::fresh(rt.alloc()));
+        assert!(rt; whole.get_mut().push(7));
+        let mut whole = read_apart(&rt, rt.alloc(), whole, n, &[7]);
+        assert_eq!(rt; whole.get().as_slice(), [7].as_slice());
+        assert!(rt; whole.get_mut().push(8));
+        let whole = read_apart(&rt, rt.alloc(), whole, n, &[7, 8]);
+        assert_eq!(rt; whole.into_inner().as_slice(), [7, 8].as_slice());
+    }
+}
+
+#[test]
+fn a_cell_that_was_lent_is_whole_again(rt: HostRuntime) {
+    let mut whole = cell_of(&rt, rt.alloc(), Record::fresh(rt.alloc()));
+    assert!(rt; whole.get_mut().push(7));
+    let mut whole = lent_in_three(rt.alloc(), whole);
+    assert!(rt; whole.get_mut().push(8));
+    assert_eq!(rt; whole.into_inner().as_slice(), [7, 8].as_slice());
+}
+
+#[test]
+fn a_slot_gives_back_its_share(rt: HostRuntime) {
+    let whole = cell_of(&rt, rt.alloc(), Record::fresh(rt.alloc()));
+    let share = kept_in_a_slot(whole.lend(1).into_share());
+    assert_eq!(rt; share.read().as_slice(), [].as_slice());
+    let mut whole = Rest::of_last(share).into_whole(rt.alloc());
+    assert!(rt; whole.get_mut().push(9));
+    assert_eq!(rt; whole.get().as_slice(), [9].as_slice());
+    assert_eq!(rt; mem::size_of::<Slot<Record>>(), mem::size_of::<usize>());
+}
+
+// Who reads a share hands on the very share.
+#[derive(Drop)]
+struct SameShare(Snapshot<Share<ByteBuf>>);
+
+impl Promise<(Share<ByteBuf>, bool)> for SameShare {
+    ghost kept_by = { λ same answer. answer.0 ≡ same.0.value };
+}
+
+fn shows(share: Share<ByteBuf>, bytes: &'static [u8]) -> (Share<ByteBuf>, bool)
+    ensures { result.0 ≡ share }
+{
+    let same = share.read().as_slice() == bytes;
+    (share, same)
+}
+
+fn read_in_thread<R: Threads + Abort>(
+    rt: &R,
+    share: Share<ByteBuf>,
+    bytes: &'static [u8],
+) -> PromisedHandle<(Share<ByteBuf>, bool), SameShare>
+    ensures { result.promise.0.value ≡ share }
+{
+    let same = SameShare(Snapshot::of(&share));
+    let child = thread::spawn_with(rt, same, move || shows(share, bytes));
+    child.ok().expect(rt, "a thread")
+}
+
+// Each share is read in a thread of its own, both at once.
+fn read_in_threads<R: Threads + Abort>(
+    rt: &R,
+    one: Share<ByteBuf>,
+    other: Share<ByteBuf>,
+    bytes: &'static [u8],
+) -> (Share<ByteBuf>, Share<ByteBuf>)
+    ensures { (result.0 ≡ one) × (result.1 ≡ other) }
+{
+    let one_thread = read_in_thread(rt, one, bytes);
+    let other_thread = read_in_thread(rt, other, bytes);
+    let (one, seen) = one_thread.join(rt);
+    let (other, also_seen) = other_thread.join(rt);
+    assert!(rt; seen && also_seen);
+    (one, other)
+}
+
+// Two shares of one cell read one object.
+fn lengths_agree(one: &Share<ByteBuf>, other: &Share<ByteBuf>) -> bool
+    requires { one.now.cell ≡ other.now.cell }
+    ensures { IsTrue result }
+{
+    one.agree(other);
+    one.read().len() == other.read().len()
+}
+
+// Splits the cell, has two of its shares read, and joins all, these two in the other order.
+fn read_by_two_threads<R: Threads + Abort>(
+    rt: &R,
+    alloc: Global,
+    whole: Whole<ByteBuf>,
+    bytes: &'static [u8],
+) -> Whole<ByteBuf>
+    ensures { result ≡ whole }
+{
+    let mut shares = whole.split(16);
+    let last = take_last(&mut shares);
+    let before = take_last(&mut shares);
+    let agree = lengths_agree(&last, &before);
+    assert!(rt; agree);
+    let (last, before) = read_in_threads(rt, last, before, bytes);
+    shares.push(Some(last));
+    shares.push(Some(before));
+    join(alloc, shares)
+}
+
+#[test]
+fn a_cell_is_written_again_once_two_threads_have_read_it(rt: HostRuntime) {
+    let mut whole = cell_of(&rt, rt.alloc(), ByteBuf::fresh(rt.alloc()));
+    append_to(&rt, whole.get_mut(), b"abc");
+    let mut whole = read_by_two_threads(&rt, rt.alloc(), whole, b"abc");
+    append_to(&rt, whole.get_mut(), b"de");
+    let mut whole = read_by_two_threads(&rt, rt.alloc(), whole, b"abcde");
+    assert_eq!(rt; whole.get().as_slice(), b"abcde".as_slice());
+
+    put(&mut whole, ByteBuf::fresh(rt.alloc()));
+    append_to(&rt, whole.get_mut(), b"f");
+    let whole = refilled(rt.alloc(), whole, 3);
+    assert!(rt; whole.get().room() >= 1);
+    assert!(rt; whole.into_inner().is_empty());
+}
+
+// Counts how often it is dropped.
+struct Probe<'a> {
+    drops: &'a Cell<u32>,
+}
+
+impl Drop for Probe<'_> {
+    fn drop(self) {
+        let Probe { drops } = self;
+        drops.set(drops.get().wrapping_add(1));
+    }
+}
+
+#[test]
+fn a_whole_drops_its_object_and_a_share_drops_nothing(rt: HostRuntime) {
+    let drops = Cell::new(0);
+    drop(cell_of(&rt, rt.alloc(), Probe { drops: &drops }));
+    assert_eq!(rt; drops.get(), 1);
+    drop(cell_of(&rt, rt.alloc(), Probe { drops: &drops }).into_inner());
+    assert_eq!(rt; drops.get(), 2);
+
+    let mut shares = cell_of(&rt, rt.alloc(), Probe { drops: &drops }).split(2);
+    drop(take_last(&mut shares));
+    assert_eq!(rt; drops.get(), 2);
+    let left = take_last(&mut shares);
+    assert_eq!(rt; left.read().drops.get(), 2);
+    drop(left);
+    assert_eq!(rt; drops.get(), 2);
+}
+
+#[test]
+fn memory_is_printed(rt: HostRuntime) {
+    let text = format!(in rt.alloc(); "{Memory}").expect(&rt, "memory for the text");
+    assert_eq!(rt; text.as_str(), "out of memory");
+}

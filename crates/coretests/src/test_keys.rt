@@ -1,0 +1,245 @@
+use keybits::{
+    Key, Life, Place, Shape, ShapeFault, State, claimed, entered, fits, left, link_to,
+    linked_place, marked, published,
+};
+use std::test::Fail;
+
+const LARGEST: Shape = Shape {
+    lanes: 16,
+    first_page: 64,
+    pages: 6,
+    last_generation: 4294967295,
+    tag: 255,
+};
+
+const SMALL: Shape = Shape {
+    lanes: 2,
+    first_page: 2,
+    pages: 2,
+    last_generation: 3,
+    tag: 7,
+};
+
+#[test]
+fn keys_are_packed_and_unpacked(rt: HostRuntime) -> Result<(), Fail> {
+    for (shard, page, slot, generation, number) in [
+        (0, 0, 0, 1, 16777216),
+        (1, 0, 0, 1, 16842752),
+        (0, 0, 0, 2, 33554432),
+        (0, 1, 0, 1, 16781312),
+        (15, 0, 0, 1, 17760256),
+        (15, 5, 2047, 1, 17782783),
+    ] {
+        let place = Place { shard, page, slot };
+        let key = Key::pack(place, generation).ok_or("no key")?;
+        assert_eq!(rt; key.number(), number);
+        assert_eq!(rt;
+            Key::unpack(number),
+            Some((place, generation)),
+            "at {number}"
+        );
+    }
+    Ok(())
+}
+
+#[test]
+fn keys_have_tags(rt: HostRuntime) -> Result<(), Fail> {
+    let place = Place {
+        shard: 255,
+        page: 15,
+        slot: 4095,
+    };
+    let key = Key::pack_tagged(255, place, 4294967295).ok_or("no key")?;
+    assert_eq!(rt; key.number(), 18446744073709551615);
+    assert_eq!(rt;
+        Key::unpack_tagged(18446744073709551615),
+        Some((255, place, 4294967295))
+    );
+    assert_eq!(rt; Key::unpack(18446744073709551615), None, "a tagged number");
+    assert_eq!(rt; Key::unpack_tagged(16777215), None, "generation 0");
+    assert_eq!(rt; Key::unpack(0), None, "generation 0");
+    for (page, slot, generation) in [(16, 0, 1), (0, 4096, 1), (0, 0, 0)] {
+        let place = Place {
+            shard: 0,
+            page,
+            slot,
+        };
+        assert_eq!(rt;
+            Key::pack(place, generation),
+            None,
+            "page {page} slot {slot} generation {generation}"
+        );
+        assert_eq!(rt; Key::pack_tagged(9, place, generation), None);
+    }
+    Ok(())
+}
+
+#[test]
+fn numbers_fit_a_shape(rt: HostRuntime) {
+    let tag = 7 * 72057594037927936;
+    for (number, inside) in [
+        (tag + 16777216, true),
+        (tag + 3 * 16777216 + 65536 + 4096 + 3, true),
+        (16777216, false),
+        (tag + 0, false),
+        (tag + 4 * 16777216, false),
+        (tag + 16777216 + 2 * 65536, false),
+        (tag + 16777216 + 2 * 4096, false),
+        (tag + 16777216 + 2, false),
+        (tag + 16777216 + 4096 + 4, false),
+    ] {
+        assert_eq!(rt; fits(number, &SMALL), inside, "at {number}");
+    }
+}
+
+#[test]
+fn words_after_steps(rt: HostRuntime) {
+    for (word, want) in [
+        (published(4294967296, false), 4294967297),
+        (entered(4294967297), 4294967301),
+        (left(4294967301), 4294967297),
+        (entered(4294967297), 4294967301),
+        (marked(4294967301), 4294967303),
+        (left(4294967303), 4294967299),
+        (claimed(4294967299, 4294967295), 8589934592),
+        (claimed(4294967299, 1), 4294967298),
+        (published(4294967296, true), 4294967301),
+        (marked(4294967303), 4294967303),
+    ] {
+        assert_eq!(rt; word, want);
+    }
+}
+
+#[test]
+fn words_say_lives(rt: HostRuntime) {
+    for (word, generation, count, state) in [
+        (4294967296, 1, 0, State::Idle),
+        (4294967301, 1, 1, State::Present),
+        (4294967298, 1, 0, State::Retired),
+        (4294967303, 1, 1, State::Marked),
+        (18446744073709551615, 4294967295, 1073741823, State::Marked),
+    ] {
+        let life = Life {
+            generation,
+            count,
+            state,
+        };
+        assert_eq!(rt; Life::of_word(word), life, "at {word}");
+        assert!(rt; count <= 1073741823);
+        assert_eq!(rt; life.word(), word);
+    }
+}
+
+#[test]
+fn shapes_are_checked(rt: HostRuntime) {
+    for (lanes, first_page, pages, last_generation, tag, want) in [
+        (16, 64, 6, 4294967295, 255, Ok(())),
+        (1, 1, 1, 1, 0, Ok(())),
+        (0, 64, 6, 1, 0, Err(ShapeFault::Lanes)),
+        (17, 3, 7, 0, 256, Err(ShapeFault::Lanes)),
+        (16, 0, 6, 1, 0, Err(ShapeFault::FirstPage)),
+        (16, 3, 7, 0, 256, Err(ShapeFault::FirstPage)),
+        (16, 128, 6, 1, 0, Err(ShapeFault::FirstPage)),
+        (16, 64, 0, 1, 0, Err(ShapeFault::Pages)),
+        (16, 64, 7, 0, 256, Err(ShapeFault::Pages)),
+        (16, 64, 6, 0, 256, Err(ShapeFault::Generation)),
+        (16, 64, 6, 1, 256, Err(ShapeFault::Tag)),
+    ] {
+        let shape = Shape {
+            lanes,
+            first_page,
+            pages,
+            last_generation,
+            tag,
+        };
+        assert_eq!(rt; shape.check(), want, "at {shape:?}");
+    }
+}
+
+#[test]
+fn faults_have_numbers_and_texts(rt: HostRuntime) -> Result<(), Fail> {
+    for (fault, number, text) in [
+        (
+            ShapeFault::Lanes,
+            1,
+            "the number of lanes is not from 1 to 16",
+        ),
+        (
+            ShapeFault::FirstPage,
+            2,
+            "the size of the first page is not 1, 2, 4, 8, 16, 32 or 64",
+        ),
+        (
+            ShapeFault::Pages,
+            3,
+            "the number of pages is not from 1 to 6",
+        ),
+        (ShapeFault::Generation, 4, "the last generation is 0"),
+        (ShapeFault::Tag, 6, "the tag is over 255"),
+    ] {
+        assert_eq!(rt; fault.number(), number);
+        assert_eq!(rt; format!(in rt.alloc(); "{fault}")?.as_str(), text);
+    }
+    Ok(())
+}
+
+#[test]
+fn pages_have_sizes(rt: HostRuntime) -> Result<(), Fail> {
+    let small = Shape {
+        first_page: 2,
+        ..LARGEST
+    };
+    LARGEST.check()?;
+    small.check()?;
+    for (page, of_largest, of_small) in [
+        (0, 64, 2),
+        (1, 128, 4),
+        (2, 256, 8),
+        (3, 512, 16),
+        (4, 1024, 32),
+        (5, 2048, 64),
+    ] {
+        assert!(rt; page < 6);
+        assert_eq!(rt; LARGEST.page_size(page), of_largest);
+        assert_eq!(rt; small.page_size(page), of_small);
+    }
+    assert_eq!(rt; LARGEST.shard_places(), 4032);
+    assert_eq!(rt; LARGEST.all_places(), 64512);
+    assert_eq!(rt; small.shard_places(), 126);
+    assert_eq!(rt; small.all_places(), 2016);
+    Ok(())
+}
+
+#[test]
+fn places_have_positions(rt: HostRuntime) -> Result<(), Fail> {
+    LARGEST.check()?;
+    for (shard, page, slot, index, position) in [
+        (0, 0, 0, 0, 0),
+        (0, 1, 70, 134, 134),
+        (1, 0, 3, 3, 4035),
+        (15, 5, 2047, 4031, 64511),
+    ] {
+        let place = Place { shard, page, slot };
+        assert!(rt; page <= 15 && slot <= 4095 && position < LARGEST.all_places());
+        let number = place.number();
+        assert!(rt; number < 16777216);
+        assert_eq!(rt; Place::of_number(number), place);
+        assert!(rt; LARGEST.is_place(number));
+        assert_eq!(rt; LARGEST.index(number), index);
+        assert_eq!(rt; LARGEST.position(number), position);
+        assert_eq!(rt; LARGEST.place_at(position), number);
+    }
+    for number in [2 * 65536, 2 * 4096, 2, 4096 + 4] {
+        assert!(rt; !SMALL.is_place(number), "at {number}");
+    }
+    Ok(())
+}
+
+#[test]
+fn links_stand_for_places(rt: HostRuntime) {
+    for (place, shard, word) in [(0, 0, 1), (65539, 1, 4), (15 * 65536 + 22527, 15, 22528)] {
+        assert_eq!(rt; link_to(place), word);
+        assert!(rt; shard < 16 && 1 <= word && word <= 65536);
+        assert_eq!(rt; linked_place(shard, word), place);
+    }
+}

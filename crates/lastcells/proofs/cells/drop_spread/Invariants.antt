@@ -1,9 +1,0 @@
--- The shares from the number on are in one hand.
-use Rattle.lastcells.proofs.Joining.{HasJoined}
-use Rattle.lastcells.proofs.cells.drop_spread.Given as goal
-
-abbrev pub invariant-loop-number : goal.invariant-loop-number
-invariant-loop-number g l = HasJoined l.shape l.place l.number l.fn.slots l.slots l.rest
-
-abbrev pub decreases-loop-number : goal.decreases-loop-number
-decreases-loop-number g l = l.number

@@ -1,3 +1,0 @@
-pub mod WithPlaces
-pub mod HeldContents
-pub mod HomePlaces

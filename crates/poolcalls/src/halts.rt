@@ -1,0 +1,294 @@
+//! Calls that end for good after so many steps. What a lane has under way then stays so: its hand is never used again.
+ghost use Rattle.std.specs.Prelude.{◌≡◌, ◌≢◌, ◌<◌, ℕ, [], ◌∷◌, None, true, false};
+ghost use Rattle.keybits.specs.Keys.{place_of, is_key};
+ghost use Rattle.keybits.specs.Places.{shard_of as shard_number};
+ghost use Rattle.sharelaws.specs.declared.stored.Status.TheVariants.{Untouched};
+ghost use Rattle.sharelaws.specs.Shares.{room_of};
+ghost use Rattle.steplaws.specs.declared.pending.Pending.TheVariants.{Returns};
+ghost use Rattle.steplaws.specs.Calls.Call.{Getting, Releasing, Clearing, Creating};
+ghost use Rattle.steplaws.specs.Facts.{most_references};
+ghost use Rattle.steplaws.specs.StepLaws.{owed_after};
+ghost use Rattle.poolsteps.specs.Views.{the_lane, pushed_in, status_of, known_of, IsOne};
+ghost use Rattle.poolsteps.specs.Grids.{IsSpot, IsOf, SameSeat};
+ghost use Rattle.poolsteps.specs.Told.{IsIdle, HasPlace, LeftAlone, MayLeave, claimed_under, references_seen};
+ghost use Rattle.poolsteps.specs.Returned.{IsAtRest, rest_of};
+ghost use Rattle.poolcalls.specs.Called.{IsLawful};
+ghost use Rattle.poolcalls.specs.Halted.{CalledWithin, LeavesWithin, EndsWithin, TailsWithin, GivesWithin, FollowsWithin};
+
+use crate::calls::hits;
+use crate::cells::{rest_cell, take_cell};
+use crate::ends::owed_by;
+use keybits::{Life, State, linked_place, shard_of};
+use poolsteps::{Grid, Hand, Purpose, Spot, shares_law};
+use sharelaws::home_law;
+use slotcell::Clear;
+use std::alloc::Global;
+
+/// A get of a key that ends after so many steps.
+pub fn get_within<T: Clear + Drop>(
+    alloc: Global,
+    grid: &Grid<T>,
+    hand: &mut Hand<T>,
+    spot: Spot,
+    lane: u32,
+    key: u64,
+    top: u64,
+    limit: u32,
+)
+    requires hand { IsOf grid.now hand.old × IsOne hand.old.me.0 }
+    requires spot { IsSpot grid.now.shape spot (place_of key) }
+    requires lane { (lane ≡ (the_lane hand.old.me.0).lane) × (lane < grid.now.shape.lanes) }
+    requires key { is_key grid.now.shape key ≡ true }
+    requires idle { IsIdle hand.old.me.0 }
+    requires seen { IsLawful grid.now.shape hand.old.me.0 }
+    requires room { references_seen grid.now.shape hand.old.me.0 key < most_references }
+    requires top { top ≡ pushed_in (the_lane hand.old.me.0).pushed (shard_number (place_of key)) }
+    ensures hand { SameSeat hand.old hand.new }
+    ensures called { CalledWithin grid.now.shape (Getting key) limit hand.old.me hand.new.me }
+{
+    if limit == 0 {
+        return;
+    }
+    let found = grid.enter(hand, spot, key, Purpose::ToGet);
+    if !hits(key, found) {
+        leave_within(alloc, grid, hand, spot, lane, key, top, limit - 1);
+    }
+}
+
+/// A release of a key to which the lane has a reference, that ends after so many steps; its share is back in its slot where
+/// that reference is the last and a step is made.
+pub fn release_within<T: Clear + Drop>(
+    alloc: Global,
+    grid: &Grid<T>,
+    hand: &mut Hand<T>,
+    spot: Spot,
+    lane: u32,
+    key: u64,
+    top: u64,
+    limit: u32,
+)
+    requires hand { IsOf grid.now hand.old × IsOne hand.old.me.0 }
+    requires spot { IsSpot grid.now.shape spot (place_of key) }
+    requires lane { (lane ≡ (the_lane hand.old.me.0).lane) × (lane < grid.now.shape.lanes) }
+    requires idle { IsIdle hand.old.me.0 }
+    requires seen { IsLawful grid.now.shape hand.old.me.0 }
+    requires held { 0 < references_seen grid.now.shape hand.old.me.0 key }
+    requires share { 0 < limit → status_of (the_lane hand.old.me.0) (place_of key) lane ≢ Untouched → 1 < references_seen grid.now.shape hand.old.me.0 key }
+    requires top { top ≡ pushed_in (the_lane hand.old.me.0).pushed (shard_number (place_of key)) }
+    ensures hand { SameSeat hand.old hand.new }
+    ensures called { CalledWithin grid.now.shape (Releasing key) limit hand.old.me hand.new.me }
+{
+    leave_within(alloc, grid, hand, spot, lane, key, top, limit);
+}
+
+/// A clear of a key that ends after so many steps.
+pub fn clear_within<T: Clear + Drop>(
+    alloc: Global,
+    grid: &Grid<T>,
+    hand: &mut Hand<T>,
+    spot: Spot,
+    lane: u32,
+    key: u64,
+    top: u64,
+    limit: u32,
+)
+    requires hand { IsOf grid.now hand.old × IsOne hand.old.me.0 }
+    requires spot { IsSpot grid.now.shape spot (place_of key) }
+    requires lane { (lane ≡ (the_lane hand.old.me.0).lane) × (lane < grid.now.shape.lanes) }
+    requires key { is_key grid.now.shape key ≡ true }
+    requires idle { IsIdle hand.old.me.0 }
+    requires seen { IsLawful grid.now.shape hand.old.me.0 }
+    requires top { top ≡ pushed_in (the_lane hand.old.me.0).pushed (shard_number (place_of key)) }
+    ensures hand { SameSeat hand.old hand.new }
+    ensures called { CalledWithin grid.now.shape (Clearing key) limit hand.old.me hand.new.me }
+{
+    if limit == 0 {
+        return;
+    }
+    let found = grid.enter(hand, spot, key, Purpose::ToClear);
+    if !hits(key, found) {
+        leave_within(alloc, grid, hand, spot, lane, key, top, limit - 1);
+        return;
+    }
+    if limit == 1 {
+        return;
+    }
+    grid.mark(hand, spot, key);
+    leave_within(alloc, grid, hand, spot, lane, key, top, limit - 2);
+}
+
+/// TAKEs as a create makes them, and the FOLLOW behind one that found places, up to so many steps.
+pub fn collect_within<T: Clear>(grid: &Grid<T>, hand: &mut Hand<T>, lane: u32, limit: u32)
+    requires hand { IsOf grid.now hand.old × IsOne hand.old.me.0 }
+    requires lane { (lane ≡ (the_lane hand.old.me.0).lane) × (lane < grid.now.shape.lanes) }
+    requires seen { IsLawful grid.now.shape hand.old.me.0 }
+    requires chain { (the_lane hand.old.me.0).chain ≡ [] }
+    ensures hand { SameSeat hand.old hand.new }
+    ensures called { (opened : ℕ) → 0 < opened → CalledWithin grid.now.shape (Creating [] [] opened) limit hand.old.me hand.new.me }
+{
+    home_law();
+    let mut left = limit;
+    for from in 0..grid.shape.lanes {
+        if left == 0 {
+            return;
+        }
+        if from != lane {
+            let found = grid.take(hand, lane, from);
+            left -= 1;
+            if found != 0 {
+                let first = grid.spot(linked_place(lane, found));
+                follow_within(grid, hand, first, left);
+                return;
+            }
+        }
+    }
+}
+
+/// FOLLOW of the first place of a taken chain, where at least one step may be made.
+pub fn follow_within<T: Clear>(grid: &Grid<T>, hand: &mut Hand<T>, spot: Spot, limit: u32)
+    requires hand { IsOf grid.now hand.old × IsOne hand.old.me.0 }
+    requires spot { IsSpot grid.now.shape spot spot.place }
+    requires chain { (the_lane hand.old.me.0).chain ≡ spot.place ∷ rest_of (the_lane hand.old.me.0).chain }
+    requires seen { IsLawful grid.now.shape hand.old.me.0 }
+    ensures hand { SameSeat hand.old hand.new }
+    ensures called { (opened : ℕ) → CalledWithin grid.now.shape (Creating [] (the_lane hand.old.me.0).chain opened) limit hand.old.me hand.new.me }
+    ensures follows { FollowsWithin grid.now.shape limit hand.old.me hand.new.me }
+{
+    if limit > 0 {
+        grid.follow(hand, spot);
+    }
+}
+
+/// LEAVE of a key's place and what follows it, up to so many steps.
+fn leave_within<T: Clear + Drop>(
+    alloc: Global,
+    grid: &Grid<T>,
+    hand: &mut Hand<T>,
+    spot: Spot,
+    lane: u32,
+    key: u64,
+    top: u64,
+    limit: u32,
+)
+    requires hand { IsOf grid.now hand.old × IsOne hand.old.me.0 }
+    requires spot { IsSpot grid.now.shape spot (place_of key) }
+    requires lane { (lane ≡ (the_lane hand.old.me.0).lane) × (lane < grid.now.shape.lanes) }
+    requires may { 0 < limit → MayLeave grid.now.shape hand.old.me.0 key }
+    requires top { top ≡ pushed_in (the_lane hand.old.me.0).pushed (shard_number (place_of key)) }
+    ensures hand { SameSeat hand.old hand.new }
+    ensures leaves { LeavesWithin grid.now.shape key limit hand.old.me hand.new.me }
+{
+    if limit == 0 {
+        return;
+    }
+    let found = grid.leave(hand, spot, key);
+    settle_within(alloc, grid, hand, spot, lane, found, top, limit - 1);
+}
+
+/// What follows a LEAVE that found this word, up to so many steps.
+fn settle_within<T: Clear + Drop>(
+    alloc: Global,
+    grid: &Grid<T>,
+    hand: &mut Hand<T>,
+    spot: Spot,
+    lane: u32,
+    found: u64,
+    top: u64,
+    limit: u32,
+)
+    requires hand { IsOf grid.now hand.old × IsOne hand.old.me.0 }
+    requires spot { IsSpot grid.now.shape spot spot.place }
+    requires lane { (lane ≡ (the_lane hand.old.me.0).lane) × (lane < grid.now.shape.lanes) }
+    requires seen { IsLawful grid.now.shape hand.old.me.0 }
+    requires owes { (the_lane hand.old.me.0).under ≡ owed_after spot.place found }
+    requires top { top ≡ pushed_in (the_lane hand.old.me.0).pushed (shard_number spot.place) }
+    ensures hand { SameSeat hand.old hand.new }
+    ensures ends { EndsWithin grid.now.shape spot.place found limit hand.old.me hand.new.me }
+{
+    if limit == 0 {
+        return;
+    }
+    let Some(generation) = owed_by(found) else {
+        return;
+    };
+    let word = grid.claim(hand, spot, generation);
+    let owed = Life {
+        generation,
+        count: 0,
+        state: State::Marked,
+    };
+    if word != owed.word() {
+        return;
+    }
+    if limit > 1 {
+        take_back_within(alloc, grid, hand, spot, lane, generation, top, limit - 1);
+    }
+}
+
+/// What follows a CLAIM of this generation that succeeded, up to so many steps. A place that isn't returned stays as it is.
+fn take_back_within<T: Clear + Drop>(
+    alloc: Global,
+    grid: &Grid<T>,
+    hand: &mut Hand<T>,
+    spot: Spot,
+    lane: u32,
+    generation: u32,
+    top: u64,
+    limit: u32,
+)
+    requires hand { IsOf grid.now hand.old × IsOne hand.old.me.0 }
+    requires spot { IsSpot grid.now.shape spot spot.place }
+    requires lane { (lane ≡ (the_lane hand.old.me.0).lane) × (lane < grid.now.shape.lanes) }
+    requires seen { IsLawful grid.now.shape hand.old.me.0 }
+    requires under { (the_lane hand.old.me.0).under ≡ claimed_under grid.now.shape lane spot.place generation }
+    requires place { HasPlace grid.now.shape hand.old.me.0 spot.place × LeftAlone grid.now.shape (the_lane hand.old.me.0) spot.place }
+    requires room { (known_of (the_lane hand.old.me.0) spot.place).room ≡ room_of hand.old.me.0.seen hand.old.me.0.rooms spot.place }
+    requires top { top ≡ pushed_in (the_lane hand.old.me.0).pushed (shard_number spot.place) }
+    requires some { 0 < limit }
+    ensures hand { SameSeat hand.old hand.new }
+    ensures tails { TailsWithin grid.now.shape spot.place generation limit hand.old.me hand.new.me }
+{
+    if generation == grid.shape.last_generation || shard_of(spot.place) == lane {
+        return;
+    }
+    shares_law();
+    let mut whole = take_cell(alloc, grid, hand, spot, lane);
+    whole.get_mut().clear();
+    rest_cell(grid, hand, spot, lane, whole);
+    give_home_within(grid, hand, spot, lane, top, limit);
+}
+
+/// The return of a place of another shard, which is at rest, up to so many steps.
+fn give_home_within<T: Clear>(
+    grid: &Grid<T>,
+    hand: &mut Hand<T>,
+    spot: Spot,
+    lane: u32,
+    top: u64,
+    limit: u32,
+)
+    requires hand { IsOf grid.now hand.old × IsOne hand.old.me.0 }
+    requires spot { IsSpot grid.now.shape spot spot.place }
+    requires lane { (lane ≡ (the_lane hand.old.me.0).lane) × (lane < grid.now.shape.lanes) }
+    requires returns { (the_lane hand.old.me.0).under ≡ Returns spot.place None false }
+    requires place { HasPlace grid.now.shape hand.old.me.0 spot.place }
+    requires top { top ≡ pushed_in (the_lane hand.old.me.0).pushed (shard_number spot.place) }
+    requires rests { IsAtRest grid.now.shape hand.old.me.0 spot.place }
+    requires some { 0 < limit }
+    ensures hand { SameSeat hand.old hand.new }
+    ensures gives { GivesWithin grid.now.shape spot.place limit hand.old.me hand.new.me }
+{
+    shares_law();
+    grid.link(hand, spot, top);
+    if limit == 1 {
+        return;
+    }
+    let found = grid.push(hand, spot, lane, top);
+    if found == top || limit == 2 {
+        return;
+    }
+    grid.link(hand, spot, 0);
+    if limit > 3 {
+        grid.push(hand, spot, lane, 0);
+    }
+}

@@ -1,0 +1,4 @@
+pub mod Refusing
+pub mod Verdicts
+pub mod Writing
+mod Running

@@ -1,0 +1,6 @@
+pub mod Replays
+pub mod RunFaults
+pub mod Checks
+pub mod KeyTexts
+pub mod Watching
+pub mod Runs

@@ -1,0 +1,87 @@
+-- What a replay writes.
+use Rattle.std.specs.Prelude.{◌≡◌, ◌⊎◌, ℕ, Bool, true, false, List, Option}
+use Rattle.std.specs.Io.KnownBytes.{Appends}
+use Rattle.traces.specs.Lawful.{IsLawful}
+use Rattle.keybits.specs.declared.shape.Shape.{Shape}
+use Rattle.seqpool.specs.ActsText.{IsTextOf}
+use Rattle.schedules.specs.Draws.{drawn}
+use Rattle.traces.specs.Text.{trace_text}
+use Rattle.traces.specs.TurnLaws.{all_acts}
+use Rattle.traces.specs.declared.trace.Turn.{Turn}
+use Rattle.scripts.specs.declared.plan.Plan.{Plan}
+use Rattle.scripts.specs.declared.script_fault.ScriptFault.TheVariants as faults
+use Rattle.scripts.specs.Readings.{StandsFor, RefusesFile}
+use Rattle.poolprogram.specs.declared.run_fault.RunFault.{RunFault}
+use Rattle.poolprogram.specs.declared.run_fault.RunFault.TheVariants as runs
+
+-- the file stands for a plan
+pub record HasPlan (file : List ℕ) : Type 0 where
+  pub plan : Plan
+  pub stands : StandsFor file plan
+
+-- the text of a trace; or, where these are wanted, that of the shape and of the trace's acts
+abbrev pub IsText : Shape → List Turn → Bool → List ℕ → Type 0
+IsText z trace false text = text ≡ trace_text trace
+IsText z trace true text = IsTextOf z (all_acts trace) text
+
+-- a lawful trace of the plan that the file's bytes stand for, which has this shape, and of the schedule
+pub record IsTraceOf (file schedule : List ℕ) (z : Shape) (trace : List Turn) : Type 0 where
+  pub plan : Plan
+  pub stands : StandsFor file plan
+  pub shape : plan.shape ≡ z
+  pub lawful : IsLawful plan.shape plan.scripts schedule trace
+
+-- the text of such a trace, or of its acts
+pub record IsReplay (file schedule : List ℕ) (acts : Bool) (text : List ℕ) : Type 0 where
+  pub shape : Shape
+  pub trace : List Turn
+  pub replayed : IsTraceOf file schedule shape trace
+  pub is : IsText shape trace acts text
+
+-- known bytes grow by such a text
+pub record WritesReplay (file schedule : List ℕ) (acts : Bool) (old new : Option (List ℕ)) : Type 0 where
+  pub text : List ℕ
+  pub replay : IsReplay file schedule acts text
+  pub appended : Appends old new text
+
+-- there is a trace of the file over the schedule
+pub record HasReplay (file schedule : List ℕ) : Type 0 where
+  pub shape : Shape
+  pub trace : List Turn
+  pub replayed : IsTraceOf file schedule shape trace
+
+-- the schedule that is drawn from this seed for the lanes of the plan that the file's bytes stand for
+pub record IsDrawnFor (file : List ℕ) (seed turns : ℕ) (schedule : List ℕ) : Type 0 where
+  pub plan : Plan
+  pub stands : StandsFor file plan
+  pub is : schedule ≡ drawn seed plan.shape.lanes turns
+
+-- the file is refused with this fault: as its reading says; or memory was refused for the schedule of the plan that it stands for
+abbrev pub RefusesDraw : List ℕ → RunFault → Type 0
+RefusesDraw file (runs.Read fault) = RefusesFile file fault ⊎ ((fault ≡ faults.Memory) × HasPlan file)
+RefusesDraw file (runs.Core fault) = ⊥
+RefusesDraw file (runs.Acts fault) = ⊥
+RefusesDraw file runs.Open = ⊥
+RefusesDraw file runs.File = ⊥
+RefusesDraw file runs.Output = ⊥
+RefusesDraw file runs.Memory = ⊥
+
+-- the core was refused memory
+abbrev pub IsCoreFault : RunFault → Type 0
+IsCoreFault (runs.Core fault) = Unit {0}
+IsCoreFault (runs.Read fault) = ⊥
+IsCoreFault (runs.Acts fault) = ⊥
+IsCoreFault runs.Open = ⊥
+IsCoreFault runs.File = ⊥
+IsCoreFault runs.Output = ⊥
+IsCoreFault runs.Memory = ⊥
+
+-- the file is refused with this fault: as a script file; or the core was refused memory for the plan that it stands for; or memory was refused for the text of a trace
+abbrev pub RefusesReplay : List ℕ → List ℕ → RunFault → Type 0
+RefusesReplay file schedule (runs.Read fault) = RefusesFile file fault
+RefusesReplay file schedule (runs.Core fault) = HasPlan file
+RefusesReplay file schedule runs.Memory = HasReplay file schedule
+RefusesReplay file schedule (runs.Acts fault) = ⊥
+RefusesReplay file schedule runs.Open = ⊥
+RefusesReplay file schedule runs.File = ⊥
+RefusesReplay file schedule runs.Output = ⊥

@@ -1,0 +1,34 @@
+-- The numbers and the names of faults.
+use Rattle.std.specs.Prelude.{ℕ, List, codes}
+use Rattle.seqpool.specs.Refusals.{acts_fault_number}
+use Rattle.seqpool.specs.declared.acts_fault.ActsFault.{ActsFault}
+use Rattle.seqpool.specs.declared.acts_fault.ActsFault.TheVariants as acts
+use Rattle.scripts.specs.ScriptFaults.{shape_fault_name, script_fault_number, script_fault_name}
+use Rattle.poolprogram.specs.declared.run_fault.RunFault.{RunFault}
+use Rattle.poolprogram.specs.declared.run_fault.RunFault.TheVariants as runs
+
+-- the name of a fault of acts
+abbrev pub acts_fault_name : ActsFault → List ℕ
+acts_fault_name acts.ActsLine = codes "ActsLine"
+acts_fault_name (acts.Shape fault) = shape_fault_name fault
+acts_fault_name acts.Memory = codes "Memory"
+
+-- the number of a fault; the core's only one is want of memory
+abbrev pub run_fault_number : RunFault → ℕ
+run_fault_number (runs.Read fault) = script_fault_number fault
+run_fault_number (runs.Acts fault) = acts_fault_number fault
+run_fault_number (runs.Core fault) = 25
+run_fault_number runs.Open = 5
+run_fault_number runs.File = 41
+run_fault_number runs.Output = 42
+run_fault_number runs.Memory = 43
+
+-- the name of a fault
+abbrev pub run_fault_name : RunFault → List ℕ
+run_fault_name (runs.Read fault) = script_fault_name fault
+run_fault_name (runs.Acts fault) = acts_fault_name fault
+run_fault_name (runs.Core fault) = codes "Memory"
+run_fault_name runs.Open = codes "Memory"
+run_fault_name runs.File = codes "File"
+run_fault_name runs.Output = codes "Output"
+run_fault_name runs.Memory = codes "Memory"

@@ -1,0 +1,26 @@
+//! The calls of the program: a script file's bytes become a trace, or a pool with a worker on each of its lanes and what these
+//! replied; a text of acts the line of its check; a number what it names as a key.
+#![tactic(auto)]
+
+mod check;
+mod files;
+mod key;
+mod opening;
+mod output;
+mod replay;
+mod run;
+mod run_fault;
+mod texts;
+mod write_failed;
+mod writer;
+
+pub use check::check_text;
+pub use files::load;
+pub use key::key_text;
+pub use output::write_and_flush;
+pub use replay::{draw_turns, replay_text};
+pub use run::run_text;
+pub use run_fault::RunFault;
+pub use schedules::{read_schedule, stop_after};
+pub use write_failed::WriteFailed;
+pub use writer::Watched;

@@ -1,0 +1,139 @@
+ghost use Rattle.std.specs.Prelude.{◌≡◌, ◌≢◌, ◌↔◌, true, false, length, IfOk, IfErr, OnOk, IsErrOf};
+ghost use Rattle.keybits.specs.Shapes.{IsShape};
+ghost use Rattle.traces.specs.Lawful.{IsLawful};
+ghost use Rattle.seqpool.specs.ActsText.{IsTextOf};
+ghost use Rattle.traces.specs.Text.{trace_text};
+ghost use Rattle.traces.specs.TurnLaws.{all_acts};
+ghost use Rattle.scripts.specs.Readings.{StandsFor};
+ghost use Rattle.poolprogram.specs.Replays.{IsText, IsCoreFault, IsTraceOf, IsReplay, RefusesReplay, WritesReplay, IsDrawnFor, RefusesDraw};
+
+use crate::output::write_and_flush;
+use crate::run_fault::RunFault;
+use crate::writer::Watched;
+use coresteps::run;
+use keybits::Shape;
+use schedules::draw;
+use scripts::{Plan, ScriptFault, parse};
+use seqpool::{Act, write_acts};
+use std::alloc::{AllocError, Global};
+use std::io::Write;
+use traces::{Trace, Turn, write_trace};
+
+/// The trace of a plan over a schedule.
+fn run_plan(alloc: Global, plan: Plan, schedule: &[u32]) -> Result<Trace, RunFault>
+    requires shape { IsShape plan.shape }
+    requires count { length plan.scripts ≡ plan.shape.lanes }
+    ensures ok { IfOk result (λ trace. IsLawful plan.shape plan.scripts schedule.now trace) }
+    ensures err { IfErr result (λ fault. IsCoreFault fault) }
+{
+    let Plan { shape, scripts } = plan;
+    run(alloc, shape, scripts.into_vec(), schedule).map_err(RunFault::Core)
+}
+
+/// The trace of a script file over a schedule, and the shape that it is of.
+fn trace_of(alloc: Global, file: &[u8], schedule: &[u32]) -> Result<(Shape, Trace), RunFault>
+    ensures ok { IfOk result (λ found. IsTraceOf file.now schedule.now found.0 found.1) }
+    ensures err { IfErr result (RefusesReplay file.now schedule.now) }
+{
+    let plan = parse(alloc, file).map_err(RunFault::Read)?;
+    let shape = plan.shape;
+    let trace = run_plan(alloc, plan, schedule)?;
+    Ok((shape, trace))
+}
+
+/// The acts of a trace, once more.
+fn acts_of(alloc: Global, turns: &[Turn]) -> Result<Vec<Act>, AllocError>
+    ensures { IfOk result (λ acts. acts.items ≡ all_acts turns.now) }
+{
+    let mut acts = Vec::new(alloc);
+    for turn in turns {
+        if let Some(act) = &turn.act {
+            let act = act.copy(alloc)?;
+            acts.push(act)?;
+        }
+    }
+    Ok(acts)
+}
+
+/// The text of a shape and of a trace's acts.
+fn acts_text(alloc: Global, shape: &Shape, trace: &Trace) -> Result<Vec<u8>, RunFault>
+    ensures ok { IfOk result (λ text. IsTextOf shape.now (all_acts trace.now) text.items) }
+    ensures err { IfErr result (λ fault. fault ≡ RunFault.Memory) }
+{
+    let acts = acts_of(alloc, trace.as_slice())?;
+    let mut text = Vec::new(alloc);
+    if write_acts(alloc, shape, acts.as_slice(), &mut text).is_err() {
+        return Err(RunFault::Memory);
+    }
+    Ok(text)
+}
+
+/// The text of a trace.
+fn turns_text(alloc: Global, trace: &Trace) -> Result<Vec<u8>, RunFault>
+    ensures ok { IfOk result (λ text. text.items ≡ trace_text trace.now) }
+    ensures err { IfErr result (λ fault. fault ≡ RunFault.Memory) }
+{
+    let mut text = Vec::new(alloc);
+    if write_trace(trace, &mut text).is_err() {
+        return Err(RunFault::Memory);
+    }
+    Ok(text)
+}
+
+/// The text of a trace, or of its acts.
+fn text_of(alloc: Global, shape: &Shape, trace: &Trace, acts: bool) -> Result<Vec<u8>, RunFault>
+    ensures ok { IfOk result (λ text. IsText shape.now trace.now acts text.items) }
+    ensures err { IfErr result (λ fault. fault ≡ RunFault.Memory) }
+{
+    if acts {
+        acts_text(alloc, shape, trace)
+    } else {
+        turns_text(alloc, trace)
+    }
+}
+
+/// The text of the trace of a script file over a schedule, or of its acts.
+fn replayed(alloc: Global, file: &[u8], schedule: &[u32], acts: bool) -> Result<Vec<u8>, RunFault>
+    ensures ok { IfOk result (λ text. IsReplay file.now schedule.now acts text.items) }
+    ensures err { IfErr result (RefusesReplay file.now schedule.now) }
+{
+    let (shape, trace) = trace_of(alloc, file, schedule)?;
+    text_of(alloc, &shape, &trace, acts)
+}
+
+/// Replays a script file over a schedule, whose entries are numbers of lanes, and writes the text of
+/// the trace, or where `acts` holds the text of its acts. The errors: `Read` as `parse` answers it; `Core`
+/// where the core was refused memory for the plan, and `Memory` where it was refused for the text of a
+/// trace. These come before the first byte; `Output` comes exactly where `out` failed, and then it
+/// isn't said how much went out.
+pub fn replay_text<W: Write>(
+    alloc: Global,
+    file: &[u8],
+    schedule: &[u32],
+    acts: bool,
+    out: &mut Watched<W>,
+) -> Result<(), RunFault>
+    requires { out.old.failed ≡ false }
+    ensures ok { OnOk result (WritesReplay file.now schedule.now acts
+        (W.contents out.old.inner) (W.contents out.new.inner)) }
+    ensures output { IsErrOf result RunFault.Output ↔ (out.new.failed ≡ true) }
+    ensures refused { IfErr result (λ fault. fault ≢ RunFault.Output
+        → (out.new ≡ out.old) × RefusesReplay file.now schedule.now fault) }
+{
+    let text = replayed(alloc, file, schedule, acts)?;
+    write_and_flush(text.as_slice(), out)?;
+    Ok(())
+}
+
+/// Draws a schedule of so many turns for the lanes of a script file. The errors: `Read` as `parse`
+/// answers it, and with `Memory` where it was refused for the schedule.
+pub fn draw_turns(alloc: Global, file: &[u8], seed: u64, turns: u32) -> Result<Vec<u32>, RunFault>
+    ensures ok { IfOk result (λ schedule. IsDrawnFor file.now seed turns schedule.items) }
+    ensures err { IfErr result (RefusesDraw file.now) }
+{
+    let plan = parse(alloc, file).map_err(RunFault::Read)?;
+    match draw(alloc, seed, plan.shape.lanes, turns) {
+        Ok(schedule) => Ok(schedule),
+        Err(_) => Err(RunFault::Read(ScriptFault::Memory)),
+    }
+}

@@ -1,0 +1,99 @@
+ghost use Rattle.std.specs.Prelude.{◌≡◌};
+ghost use Rattle.poolprogram.specs.RunFaults.{acts_fault_name};
+ghost use Rattle.poolprogram.specs.declared.run_fault.RunFault.TheVariants as runs;
+
+use crate::write_failed::WriteFailed;
+use coresteps::CoreFault;
+use scripts::{ScriptFault, shape_fault_name};
+use seqpool::ActsFault;
+use std::alloc::AllocError;
+use thiserror::Error;
+
+/// Why the program could not do what it was told.
+#[derive(Debug, Drop, Error)]
+pub enum RunFault {
+    /// The script file is no plan (1, 2, 3, 4, 6, 31 to 36), or one that isn't replayed so far (32).
+    #[error(transparent)]
+    Read(ScriptFault),
+    /// The text of acts stands for none: a line is wrong (19), the shape is refused (1, 2, 3, 4, 6) or
+    /// memory was refused (18).
+    #[error(transparent)]
+    Acts(ActsFault),
+    /// The core was refused memory (25).
+    #[error(transparent)]
+    Core(CoreFault),
+    /// The pool wasn't opened, as memory was refused (5).
+    #[error("out of memory")]
+    Open,
+    /// The file can't be opened or read to its end (41).
+    #[error("the file can't be read")]
+    File,
+    /// A write failed (42).
+    #[error("the output can't be written")]
+    Output,
+    /// Memory was refused (43).
+    #[error("out of memory")]
+    Memory,
+}
+
+/// The name of a fault of a text of acts.
+fn acts_fault_name(fault: &ActsFault) -> &'static str
+    ensures { result.now ≡ acts_fault_name fault.now }
+{
+    match fault {
+        ActsFault::ActsLine => "ActsLine",
+        ActsFault::Shape(fault) => shape_fault_name(fault),
+        ActsFault::Memory => "Memory",
+    }
+}
+
+impl RunFault {
+    ghost use Rattle.std.specs.Prelude.{◌≡◌};
+    ghost use Rattle.poolprogram.specs.RunFaults.{run_fault_number, run_fault_name};
+
+    /// The fault's number, the first part of its line.
+    pub fn number(&self) -> u32
+        ensures { result ≡ run_fault_number self.now }
+    {
+        match self {
+            RunFault::Read(fault) => fault.number(),
+            RunFault::Acts(fault) => fault.number(),
+            RunFault::Core(_) => 25,
+            RunFault::Open => 5,
+            RunFault::File => 41,
+            RunFault::Output => 42,
+            RunFault::Memory => 43,
+        }
+    }
+
+    /// The fault's name, the second part of its line.
+    pub fn name(&self) -> &'static str
+        ensures { result.now ≡ run_fault_name self.now }
+    {
+        match self {
+            RunFault::Read(fault) => fault.name(),
+            RunFault::Acts(fault) => acts_fault_name(fault),
+            RunFault::Core(_) => "Memory",
+            RunFault::Open => "Memory",
+            RunFault::File => "File",
+            RunFault::Output => "Output",
+            RunFault::Memory => "Memory",
+        }
+    }
+}
+
+impl From<WriteFailed> for RunFault {
+    ghost from_gives = { λ _ fault. fault ≡ runs.Output };
+
+    fn from(_failed: WriteFailed) -> RunFault {
+        RunFault::Output
+    }
+}
+
+impl From<AllocError> for RunFault {
+    ghost from_gives = { λ _ fault. fault ≡ runs.Memory };
+
+    fn from(_refused: AllocError) -> RunFault {
+        RunFault::Memory
+    }
+}

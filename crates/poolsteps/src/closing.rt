@@ -1,0 +1,106 @@
+ghost use Rattle.std.specs.Prelude.{◌≡◌, ◌<◌, true, Some, None, slice_get};
+ghost use Rattle.core.specs.Mem.Slots.{slots_items, slots_len, IsFull};
+ghost use Rattle.keybits.specs.Shapes.{IsShape, is_place, position_of};
+ghost use Rattle.poolsteps.specs.Joins.{IsSlotRow, HasAt, IsSet, IsSpread, IsResting, HasCell, IsUnspread, IsUnrested, HasNoCell, Drains};
+
+use crate::layout::slot_at;
+use core::slots::Slots;
+use keybits::{Life, Shape, State, shard_of};
+use slotcell::{Rest, Share, Slot};
+use std::alloc::Global;
+
+/// The share goes into the slot at this index. What the slot had is forgotten.
+pub fn lay<T: Drop>(index: usize, share: Share<T>, slots: &mut Slots<Slot<T>>)
+    requires full { IsFull slots.old }
+    requires index { index < slots_len slots.old }
+    ensures { IsSet index (Some share) slots.old slots.new }
+{
+    slots.put(index, Slot::filled(share));
+}
+
+/// The share in the slot at this index, which is then empty.
+fn lift<T: Drop>(index: usize, slots: &mut Slots<Slot<T>>) -> Share<T>
+    requires full { IsFull slots.old }
+    requires share { HasAt (slots_items slots.old) index }
+    ensures share { slice_get (slots_items slots.old) index ≡ Some (Some result) }
+    ensures slots { IsSet index None slots.old slots.new }
+{
+    let slot = slots.take(index);
+    slots.put(index, Slot::empty());
+    slot.into_share()
+}
+
+/// Drops the cell that the slots of a place have, with its object, by the place's lifecycle word: where that is 0 the one that
+/// rests there, and where the place is published the one whose shares are all there. Of other places the slots have none.
+pub fn drop_cell<T: Drop>(
+    alloc: Global,
+    shape: &Shape,
+    place: u32,
+    position: usize,
+    word: u64,
+    slots: &mut Slots<Slot<T>>,
+)
+    requires shape { IsShape shape.now }
+    requires place { is_place shape.now place ≡ true }
+    requires position { position ≡ position_of shape.now place }
+    requires row { IsSlotRow shape.now slots.old }
+    requires cell { HasCell shape.now (slots_items slots.old) place word }
+    ensures drains { Drains shape.now place slots.old slots.new }
+    ensures gone { HasNoCell shape.now (slots_items slots.new) place word }
+{
+    if word == 0 {
+        drop_resting(alloc, shape, place, position, slots);
+        return;
+    }
+    match Life::of_word(word).state {
+        State::Present | State::Marked => drop_spread(alloc, shape, place, position, slots),
+        State::Idle | State::Retired => {}
+    }
+}
+
+/// Drops the cell of a place whose shares all lie in its slots, with its object. The slots then are empty.
+fn drop_spread<T: Drop>(
+    alloc: Global,
+    shape: &Shape,
+    place: u32,
+    position: usize,
+    slots: &mut Slots<Slot<T>>,
+)
+    requires shape { IsShape shape.now }
+    requires place { is_place shape.now place ≡ true }
+    requires position { position ≡ position_of shape.now place }
+    requires row { IsSlotRow shape.now slots.old }
+    requires spread { IsSpread shape.now (slots_items slots.old) place }
+    ensures drains { Drains shape.now place slots.old slots.new }
+    ensures gone { IsUnspread shape.now (slots_items slots.new) place }
+{
+    let last = shape.lanes - 1;
+    let mut rest = Rest::of_last(lift(slot_at(shape, place, position, last), slots));
+    let mut number = last;
+    while number > 0 {
+        number -= 1;
+        rest.merge(lift(slot_at(shape, place, position, number), slots));
+    }
+    drop(rest.into_whole(alloc));
+}
+
+/// Drops the cell of a place whose only share lies in the slot of its shard, with its object. The slot then is empty.
+fn drop_resting<T: Drop>(
+    alloc: Global,
+    shape: &Shape,
+    place: u32,
+    position: usize,
+    slots: &mut Slots<Slot<T>>,
+)
+    requires shape { IsShape shape.now }
+    requires place { is_place shape.now place ≡ true }
+    requires position { position ≡ position_of shape.now place }
+    requires row { IsSlotRow shape.now slots.old }
+    requires resting { IsResting shape.now (slots_items slots.old) place }
+    ensures drains { Drains shape.now place slots.old slots.new }
+    ensures gone { IsUnrested shape.now (slots_items slots.new) place }
+{
+    let slot = slot_at(shape, place, position, shard_of(place));
+    let rest = Rest::of_last(lift(slot, slots));
+    drop(rest.into_whole(alloc));
+}

@@ -1,5 +1,0 @@
-pub mod Going
-pub mod Following
-pub mod Keying
-pub mod Chaining
-pub mod Collecting

@@ -1,0 +1,5 @@
+use Rattle.shardpool.specs.Lanes.{Owns}
+use Rattle.pooltests.proofs.test_rows.fill_all.Given as goal
+
+abbrev pub invariant-loop-number : goal.invariant-loop-number
+invariant-loop-number g l = Owns l.pool l.lane

@@ -1,0 +1,30 @@
+//! Tests of the running pool, and of the steps, hands, guards and workers under and over it: they stand in a crate of their own,
+//! which proves no function of these libraries again.
+#![tactic(auto)]
+
+#[cfg(test)]
+mod test_calls;
+#[cfg(test)]
+mod test_cells;
+#[cfg(test)]
+mod test_close;
+#[cfg(test)]
+mod test_drops;
+#[cfg(test)]
+mod test_guards;
+#[cfg(test)]
+mod test_halts;
+#[cfg(test)]
+mod test_hands;
+#[cfg(test)]
+mod test_open;
+#[cfg(test)]
+mod test_rows;
+#[cfg(test)]
+mod test_steps;
+#[cfg(test)]
+mod test_threads;
+#[cfg(test)]
+mod test_worker_threads;
+#[cfg(test)]
+mod test_workers;

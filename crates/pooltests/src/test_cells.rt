@@ -1,0 +1,89 @@
+ghost use Rattle.std.specs.Prelude.{◌≡◌, ◌*◌, ◌<◌, IfOk};
+ghost use Rattle.poolsteps.specs.Grids.{IsSpot, IsFirstHand};
+ghost use Rattle.poolsteps.specs.Moved.{stored_of};
+ghost use Rattle.poolcalls.specs.Carried.{ShowsCell};
+
+use keybits::Shape;
+use poolcalls::{rest_cell, spread_cell, spread_others, take_cell, take_resting};
+use poolsteps::{Grid, Hand, Spot};
+use slotcell::{ByteBuf, Clear, Share, Whole};
+use std::alloc::Global;
+use std::test::Fail;
+
+const ONE_LANE: Shape = Shape {
+    lanes: 1,
+    first_page: 1,
+    pages: 1,
+    last_generation: 2,
+    tag: 0,
+};
+
+const TWO_LANES: Shape = Shape {
+    lanes: 2,
+    ..ONE_LANE
+};
+
+const THREE_LANES: Shape = Shape {
+    lanes: 3,
+    ..ONE_LANE
+};
+
+/// A grid of this shape, and the hand of one of its lanes.
+fn grid_of<T: Clear>(alloc: Global, shape: &Shape, lane: u32) -> Result<(Grid<T>, Hand<T>), Fail>
+    ensures lane { IfOk result (λ made. lane < made.0.shape.lanes) }
+    ensures hand { IfOk result (λ made. IsFirstHand made.0 lane made.1) }
+{
+    shape.check()?;
+    let (grid, mut hands) = Grid::new(alloc, shape).ok_or("no memory")?;
+    if lane >= grid.shape.lanes {
+        return Err(Fail::from("no lane"));
+    }
+    Ok((grid, hands.swap_remove(lane as usize)))
+}
+
+/// A lane puts a cell into the slots of its first place and takes it out, puts it to rest and takes it out, and then puts the
+/// shares of the other lanes into their slots. Answers its own share.
+fn move_about<T: Clear + Drop>(
+    alloc: Global,
+    grid: &Grid<T>,
+    hand: &mut Hand<T>,
+    spot: Spot,
+    lane: u32,
+    whole: Whole<T>,
+) -> Share<T>
+    requires lane { lane < grid.now.shape.lanes }
+    requires hand { IsFirstHand grid.now lane hand.old }
+    requires spot { IsSpot grid.now.shape spot (65536 * lane) }
+    ensures share { (result.number ≡ lane) × (result.of ≡ grid.now.shape.lanes) }
+    ensures cell { ShowsCell T.content T.room (stored_of T.content T.room result) whole }
+{
+    spread_cell(grid, hand, spot, lane, whole);
+    let taken = take_cell(alloc, grid, hand, spot, lane);
+    rest_cell(grid, hand, spot, lane, taken);
+    let rested = take_resting(alloc, grid, hand, spot, lane);
+    spread_others(grid, hand, spot, lane, rested)
+}
+
+/// An object of this byte, in a cell.
+fn object_of(alloc: Global, byte: u8) -> Result<Whole<ByteBuf>, Fail> {
+    let mut object = ByteBuf::fresh(alloc);
+    object.append(&[byte]).ok().ok_or("no memory")?;
+    Ok(Whole::new(alloc, object).ok().ok_or("no memory")?)
+}
+
+#[test]
+fn moves_whole_cells(rt: HostRuntime) -> Result<(), Fail> {
+    for (shape, lane) in [
+        (ONE_LANE, 0),
+        (TWO_LANES, 0),
+        (TWO_LANES, 1),
+        (THREE_LANES, 1),
+    ] {
+        let (grid, mut hand) = grid_of(rt.alloc(), &shape, lane)?;
+        let spot = grid.find(lane << 16).ok_or("no place")?;
+        let whole = object_of(rt.alloc(), 7)?;
+        let share = move_about(rt.alloc(), &grid, &mut hand, spot, lane, whole);
+        assert_eq!(rt; share.read().as_slice(), [7].as_slice());
+    }
+    Ok(())
+}

@@ -1,0 +1,457 @@
+ghost use Rattle.std.specs.Prelude.{◌≡◌, ◌≤◌, true, [], ◌∷◌, length, IfOk, IfSome};
+ghost use Rattle.std.specs.Mem.Slots.{IsFull};
+ghost use Rattle.keybits.specs.Keys.{place_of, is_key};
+ghost use Rattle.sharelaws.specs.declared.stored.Status.TheVariants.{Emptied};
+ghost use Rattle.sharelaws.specs.Shares.{room_of};
+ghost use Rattle.steplaws.specs.Calls.{owes_claim};
+ghost use Rattle.steplaws.specs.StepLaws.{owed_after};
+ghost use Rattle.poolsteps.specs.Views.{the_lane, status_of, known_of, IsOne};
+ghost use Rattle.poolsteps.specs.Grids.{IsSpot, IsOf, IsFirstHand};
+ghost use Rattle.poolsteps.specs.Told.{IsIdle, HasPlace, LeftAlone, references_seen};
+ghost use Rattle.poolsteps.specs.Moved.{stored_of};
+
+use atomic_table::Closed;
+use keybits::{Life, Shape, State};
+use poolsteps::{Grid, Hand, Purpose, Spot, references_law, shares_law};
+use slotcell::{ByteBuf, Clear, Rest, Share, Slot, Whole};
+use std::alloc::Global;
+use std::process::Abort;
+use std::test::Fail;
+use std::thread;
+use std::thread::Threads;
+
+const TWO_LANES: Shape = Shape {
+    lanes: 2,
+    first_page: 1,
+    pages: 1,
+    last_generation: 2,
+    tag: 0,
+};
+
+const SMALLEST: Shape = Shape {
+    lanes: 1,
+    first_page: 1,
+    pages: 1,
+    last_generation: 4294967295,
+    tag: 255,
+};
+
+const LARGEST: Shape = Shape {
+    lanes: 16,
+    first_page: 64,
+    pages: 6,
+    ..SMALLEST
+};
+
+// The key of place 0 at generation 1.
+const KEY: u64 = 16777216;
+
+/// The hands, of which there are two.
+fn pair_of<T>(mut hands: Vec<Hand<T>>) -> (Hand<T>, Hand<T>)
+    requires { length hands.items ≡ 2 }
+    ensures { hands.items ≡ result.0 ∷ result.1 ∷ [] }
+{
+    let second = hands.pop().unwrap();
+    let first = hands.pop().unwrap();
+    (first, second)
+}
+
+/// The grid of two lanes with a place each, and their hands.
+fn grid_of_two<T: Clear>(alloc: Global) -> Result<(Grid<T>, Hand<T>, Hand<T>), Fail>
+    ensures shape { IfOk result (λ made. made.0.shape ≡ TWO_LANES) }
+    ensures hands { IfOk result (λ made. IsFirstHand made.0 0 made.1 × IsFirstHand made.0 1 made.2) }
+{
+    TWO_LANES.check()?;
+    let (grid, hands) = Grid::new(alloc, &TWO_LANES).ok_or("no memory")?;
+    let (first, second) = pair_of(hands);
+    Ok((grid, first, second))
+}
+
+/// Lane 0 puts the share of lane 1 in its slot, and publishes with a reference. Answers its own share.
+fn publish<T: Clear + Drop>(
+    rt: &impl Abort,
+    grid: &Grid<T>,
+    hand: &mut Hand<T>,
+    spot: Spot,
+    whole: Whole<T>,
+) -> Share<T>
+    requires shape { grid.now.shape ≡ TWO_LANES }
+    requires spot { IsSpot grid.now.shape spot 0 }
+    requires hand { IsFirstHand grid.now 0 hand.old }
+    ensures hand { IsOf grid.now hand.new × IsOne hand.new.me.0 }
+    ensures lane { (the_lane hand.new.me.0).lane ≡ 0 }
+    ensures idle { IsIdle hand.new.me.0 }
+    ensures reference { references_seen grid.now.shape hand.new.me.0 KEY ≡ 1 }
+    ensures share { (result.number ≡ 0) × (result.of ≡ 2) }
+    ensures cell { known_of (the_lane hand.new.me.0) 0 ≡ stored_of T.content T.room result }
+    ensures slot { status_of (the_lane hand.new.me.0) 0 0 ≡ Emptied }
+{
+    references_law();
+    shares_law();
+    let mut rest = whole.lend(2);
+    let own = rest.cut();
+    grid.back(hand, spot, 0, 1, rest.into_share());
+    let found = grid.publish_held(hand, spot, KEY, &own);
+    assert_eq!(rt; found, 4294967296);
+    own
+}
+
+/// Lane 1 gets the key, and takes its share out.
+fn get<T: Clear>(rt: &impl Abort, grid: &Grid<T>, hand: &mut Hand<T>, spot: Spot) -> Share<T>
+    requires shape { grid.now.shape ≡ TWO_LANES }
+    requires spot { IsSpot grid.now.shape spot 0 }
+    requires hand { IsFirstHand grid.now 1 hand.old }
+    ensures hand { IsOf grid.now hand.new × IsOne hand.new.me.0 }
+    ensures lane { (the_lane hand.new.me.0).lane ≡ 1 }
+    ensures idle { IsIdle hand.new.me.0 }
+    ensures reference { references_seen grid.now.shape hand.new.me.0 KEY ≡ 1 }
+    ensures share { (result.number ≡ 1) × (result.of ≡ 2) }
+    ensures cell { known_of (the_lane hand.new.me.0) 0 ≡ stored_of T.content T.room result }
+    ensures slot { status_of (the_lane hand.new.me.0) 0 1 ≡ Emptied }
+{
+    references_law();
+    shares_law();
+    let entered = grid.enter(hand, spot, KEY, Purpose::ToGet);
+    assert_eq!(rt; entered, 4294967301);
+    grid.out(hand, spot, 1, 1)
+}
+
+/// A lane gives back its share and its only reference to the key. Answers the word that the LEAVE found.
+fn give_back<T: Clear>(
+    grid: &Grid<T>,
+    hand: &mut Hand<T>,
+    spot: Spot,
+    lane: u32,
+    share: Share<T>,
+) -> u64
+    requires shape { grid.now.shape ≡ TWO_LANES }
+    requires spot { IsSpot grid.now.shape spot 0 }
+    requires hand { IsOf grid.now hand.old × IsOne hand.old.me.0 }
+    requires lane { (lane ≡ (the_lane hand.old.me.0).lane) × (lane ≤ 1) }
+    requires idle { IsIdle hand.old.me.0 }
+    requires reference { references_seen grid.now.shape hand.old.me.0 KEY ≡ 1 }
+    requires share { (share.number ≡ lane) × (share.of ≡ 2) }
+    requires cell { known_of (the_lane hand.old.me.0) 0 ≡ stored_of T.content T.room share }
+    requires slot { status_of (the_lane hand.old.me.0) 0 lane ≡ Emptied }
+    ensures hand { IsOf grid.now hand.new × IsOne hand.new.me.0 }
+    ensures lane { (the_lane hand.new.me.0).lane ≡ lane }
+    ensures under { (the_lane hand.new.me.0).under ≡ owed_after 0 result }
+    ensures reference { references_seen grid.now.shape hand.new.me.0 KEY ≡ 0 }
+{
+    references_law();
+    shares_law();
+    grid.back(hand, spot, lane, lane, share);
+    grid.leave(hand, spot, KEY)
+}
+
+/// Lane 1 gives back its share and its reference, while lane 0 has one.
+fn release_one<T: Clear>(
+    rt: &impl Abort,
+    grid: &Grid<T>,
+    hand: &mut Hand<T>,
+    spot: Spot,
+    share: Share<T>,
+)
+    requires shape { grid.now.shape ≡ TWO_LANES }
+    requires spot { IsSpot grid.now.shape spot 0 }
+    requires hand { IsOf grid.now hand.old × IsOne hand.old.me.0 }
+    requires lane { (the_lane hand.old.me.0).lane ≡ 1 }
+    requires idle { IsIdle hand.old.me.0 }
+    requires reference { references_seen grid.now.shape hand.old.me.0 KEY ≡ 1 }
+    requires share { (share.number ≡ 1) × (share.of ≡ 2) }
+    requires cell { known_of (the_lane hand.old.me.0) 0 ≡ stored_of T.content T.room share }
+    requires slot { status_of (the_lane hand.old.me.0) 0 1 ≡ Emptied }
+    ensures hand { IsOf grid.now hand.new × IsOne hand.new.me.0 }
+    ensures idle { IsIdle hand.new.me.0 }
+    ensures reference { references_seen grid.now.shape hand.new.me.0 KEY ≡ 0 }
+{
+    let left = give_back(grid, hand, spot, 1, share);
+    assert_eq!(rt; left, 4294967305);
+}
+
+/// A clear of lane 1 hits and marks, and its LEAVE leaves a reference.
+fn clear<T: Clear>(rt: &impl Abort, grid: &Grid<T>, hand: &mut Hand<T>, spot: Spot)
+    requires shape { grid.now.shape ≡ TWO_LANES }
+    requires spot { IsSpot grid.now.shape spot 0 }
+    requires hand { IsOf grid.now hand.old × IsOne hand.old.me.0 }
+    requires idle { IsIdle hand.old.me.0 }
+    requires reference { references_seen grid.now.shape hand.old.me.0 KEY ≡ 0 }
+    ensures hand { IsOf grid.now hand.new × IsOne hand.new.me.0 }
+    ensures idle { IsIdle hand.new.me.0 }
+    ensures reference { references_seen grid.now.shape hand.new.me.0 KEY ≡ 0 }
+{
+    references_law();
+    let entered = grid.enter(hand, spot, KEY, Purpose::ToClear);
+    assert_eq!(rt; entered, 4294967301);
+    let marked = grid.mark(hand, spot, KEY);
+    assert_eq!(rt; marked, 4294967305);
+    let left = grid.leave(hand, spot, KEY);
+    assert_eq!(rt; left, 4294967307);
+}
+
+/// A lane that has place 0, and left its slots alone, takes its shares out: they are the whole cell.
+fn take_shares<T: Clear + Drop>(
+    alloc: Global,
+    grid: &Grid<T>,
+    hand: &mut Hand<T>,
+    spot: Spot,
+    lane: u32,
+) -> Whole<T>
+    requires shape { grid.now.shape ≡ TWO_LANES }
+    requires spot { IsSpot grid.now.shape spot 0 }
+    requires hand { IsOf grid.now hand.old × IsOne hand.old.me.0 }
+    requires lane { (lane ≡ (the_lane hand.old.me.0).lane) × (lane ≤ 1) }
+    requires place { HasPlace grid.now.shape hand.old.me.0 0 × LeftAlone grid.now.shape (the_lane hand.old.me.0) 0 }
+    ensures hand { IsOf grid.now hand.new × IsOne hand.new.me.0 × (hand.new.me.1 ≡ hand.old.me.1) }
+    ensures lane { (the_lane hand.new.me.0).lane ≡ (the_lane hand.old.me.0).lane }
+    ensures under { (the_lane hand.new.me.0).under ≡ (the_lane hand.old.me.0).under }
+    ensures pushed { (the_lane hand.new.me.0).pushed ≡ (the_lane hand.old.me.0).pushed }
+    ensures place { HasPlace grid.now.shape hand.new.me.0 0 }
+    ensures slots { (status_of (the_lane hand.new.me.0) 0 0 ≡ Emptied) × (status_of (the_lane hand.new.me.0) 0 1 ≡ Emptied) }
+    ensures room { (known_of (the_lane hand.old.me.0) 0).room ≡ T.room result }
+    ensures kept { room_of hand.new.me.0.seen hand.new.me.0.rooms 0 ≡ room_of hand.old.me.0.seen hand.old.me.0.rooms 0 }
+{
+    shares_law();
+    let first = grid.out(hand, spot, lane, 0);
+    let last = grid.out(hand, spot, lane, 1);
+    let mut rest = Rest::of_last(last);
+    rest.merge(first);
+    rest.into_whole(alloc)
+}
+
+/// Lane 0 gives back its share and the last reference to the key, which is marked, claims its place, and takes its shares
+/// out.
+fn release<T: Clear + Drop, R: Abort>(
+    rt: &R,
+    alloc: Global,
+    grid: &Grid<T>,
+    hand: &mut Hand<T>,
+    spot: Spot,
+    share: Share<T>,
+) -> Whole<T>
+    requires shape { grid.now.shape ≡ TWO_LANES }
+    requires spot { IsSpot grid.now.shape spot 0 }
+    requires hand { IsOf grid.now hand.old × IsOne hand.old.me.0 }
+    requires lane { (the_lane hand.old.me.0).lane ≡ 0 }
+    requires idle { IsIdle hand.old.me.0 }
+    requires reference { references_seen grid.now.shape hand.old.me.0 KEY ≡ 1 }
+    requires share { (share.number ≡ 0) × (share.of ≡ 2) }
+    requires cell { known_of (the_lane hand.old.me.0) 0 ≡ stored_of T.content T.room share }
+    requires slot { status_of (the_lane hand.old.me.0) 0 0 ≡ Emptied }
+{
+    let left = give_back(grid, hand, spot, 0, share);
+    assert_eq!(rt; left, 4294967303);
+    let claimed = grid.claim(hand, spot, 1);
+    assert_eq!(rt; claimed, 4294967299);
+    take_shares(alloc, grid, hand, spot, 0)
+}
+
+/// Lane 0 puts both shares in their slots, and publishes without a reference.
+fn publish_alone<T: Clear + Drop>(
+    rt: &impl Abort,
+    grid: &Grid<T>,
+    hand: &mut Hand<T>,
+    spot: Spot,
+    whole: Whole<T>,
+)
+    requires shape { grid.now.shape ≡ TWO_LANES }
+    requires spot { IsSpot grid.now.shape spot 0 }
+    requires hand { IsFirstHand grid.now 0 hand.old }
+    ensures hand { IsOf grid.now hand.new × IsOne hand.new.me.0 × (hand.new.me.1 ≡ []) }
+    ensures lane { (the_lane hand.new.me.0).lane ≡ 0 }
+{
+    shares_law();
+    let mut rest = whole.lend(2);
+    grid.back(hand, spot, 0, 0, rest.cut());
+    grid.back(hand, spot, 0, 1, rest.into_share());
+    let found = grid.publish(hand, spot, KEY);
+    assert_eq!(rt; found, 4294967296);
+}
+
+/// A clear of lane 1 alone hits, marks and claims the place of lane 0, clears its object in place, and returns it.
+fn clear_and_return<T: Clear + Drop, R: Abort>(
+    rt: &R,
+    alloc: Global,
+    grid: &Grid<T>,
+    hand: &mut Hand<T>,
+    spot: Spot,
+)
+    requires shape { grid.now.shape ≡ TWO_LANES }
+    requires spot { IsSpot grid.now.shape spot 0 }
+    requires hand { IsFirstHand grid.now 1 hand.old }
+    ensures { IsOf grid.now hand.new × IsOne hand.new.me.0 × (hand.new.me.1 ≡ []) }
+{
+    shares_law();
+    let entered = grid.enter(hand, spot, KEY, Purpose::ToClear);
+    assert_eq!(rt; entered, 4294967297);
+    let marked = grid.mark(hand, spot, KEY);
+    assert_eq!(rt; marked, 4294967301);
+    let left = grid.leave(hand, spot, KEY);
+    assert_eq!(rt; left, 4294967303);
+    let claimed = grid.claim(hand, spot, 1);
+    assert_eq!(rt; claimed, 4294967299);
+    let mut whole = take_shares(alloc, grid, hand, spot, 1);
+    whole.get_mut().clear();
+    grid.back_whole(hand, spot, 1, whole.lend(1).into_share());
+    grid.link(hand, spot, 0);
+    let top = grid.push(hand, spot, 1, 0);
+    assert_eq!(rt; top, 0);
+}
+
+/// Lane 0 takes the place that lane 1 returned, follows it to the end, and takes its object out, which is empty.
+fn take_and_follow<T: Clear + Drop, R: Abort>(
+    rt: &R,
+    alloc: Global,
+    grid: &Grid<T>,
+    hand: &mut Hand<T>,
+    spot: Spot,
+) -> Whole<T>
+    requires shape { grid.now.shape ≡ TWO_LANES }
+    requires spot { IsSpot grid.now.shape spot 0 }
+    requires hand { IsOf grid.now hand.old × IsOne hand.old.me.0 × (hand.old.me.1 ≡ []) }
+    requires lane { (the_lane hand.old.me.0).lane ≡ 0 }
+    ensures hand { IsOf grid.now hand.new × IsOne hand.new.me.0 × (hand.new.me.1 ≡ []) }
+    ensures empty { T.content result ≡ [] }
+{
+    shares_law();
+    let taken = grid.take(hand, 0, 1);
+    assert_eq!(rt; taken, 1);
+    let end = grid.follow(hand, spot);
+    assert_eq!(rt; end, 0);
+    grid.see(hand, 0);
+    Rest::of_last(grid.out_whole(hand, spot, 0)).into_whole(alloc)
+}
+
+/// Frees the memory of a table, with its slots, of which none has a share.
+fn free<T>(mut closed: Closed<Slot<T>, Global>)
+    requires { IsFull closed.slots }
+{
+    for index in 0..closed.slot_count() {
+        drop(closed.take(index));
+    }
+    closed.free();
+}
+
+/// An object of this byte, in a cell.
+fn object_of(alloc: Global, byte: u8) -> Result<Whole<ByteBuf>, Fail> {
+    let mut object = ByteBuf::fresh(alloc);
+    object.append(&[byte]).ok().ok_or("no memory")?;
+    Ok(Whole::new(alloc, object).ok().ok_or("no memory")?)
+}
+
+#[test]
+fn makes_each_step(rt: HostRuntime) -> Result<(), Fail> {
+    let (grid, mut first, mut second) = grid_of_two(rt.alloc())?;
+    let spot = grid.spot(0);
+    let whole = object_of(rt.alloc(), 7)?;
+    let share = publish(&rt, &grid, &mut first, spot, whole);
+    assert_eq!(rt; share.read().as_slice(), [7].as_slice());
+    let other = get(&rt, &grid, &mut second, spot);
+    assert_eq!(rt; other.read().as_slice(), [7].as_slice());
+    release_one(&rt, &grid, &mut second, spot, other);
+    clear(&rt, &grid, &mut second, spot);
+    let whole = release(&rt, rt.alloc(), &grid, &mut first, spot, share);
+    assert_eq!(rt; whole.get().as_slice(), [7].as_slice());
+    let found = grid.enter(&mut second, spot, KEY, Purpose::ToGet);
+    assert_eq!(rt; found, 8589934592);
+    Ok(())
+}
+
+#[test]
+fn returns_and_takes_a_place(rt: HostRuntime) -> Result<(), Fail> {
+    let (grid, mut first, mut second) = grid_of_two(rt.alloc())?;
+    let spot = grid.spot(0);
+    let whole = object_of(rt.alloc(), 7)?;
+    publish_alone(&rt, &grid, &mut first, spot, whole);
+    clear_and_return(&rt, rt.alloc(), &grid, &mut second, spot);
+    let whole = take_and_follow(&rt, rt.alloc(), &grid, &mut first, spot);
+    assert!(rt; whole.get().is_empty());
+    let generation = grid.generation(&mut first, spot);
+    assert_eq!(rt; generation, 2);
+    let note = grid.note(&mut second);
+    grid.heard(&mut first, 0, note);
+    let note = grid.note(&mut first);
+    grid.met(&mut second, 1, note);
+    let mut hands = Vec::with_capacity(rt.alloc(), 2)?;
+    hands.push_reserved(first);
+    hands.push_reserved(second);
+    let closed = grid.end(hands);
+    let first_word = closed.word(0);
+    free(closed);
+    assert_eq!(rt; first_word, 0);
+    Ok(())
+}
+
+/// A LEAVE that found this word leaves a claim to be made.
+fn owes(found: u64) -> bool
+    ensures { result ≡ owes_claim found }
+{
+    let life = Life::of_word(found);
+    life.state == State::Marked && life.count == 1
+}
+
+/// ENTER for a clear and LEAVE, so many times. None where a LEAVE leaves a claim to be made.
+fn enter_and_leave<T: Clear>(
+    grid: &Grid<T>,
+    mut hand: Hand<T>,
+    spot: Spot,
+    times: u32,
+) -> Option<Hand<T>>
+    requires hand { IsOf grid.now hand × IsOne hand.me.0 × IsIdle hand.me.0 }
+    requires spot { IsSpot grid.now.shape spot (place_of KEY) }
+    requires key { is_key grid.now.shape KEY ≡ true }
+    ensures { IfSome result (λ after. IsOf grid.now after × IsOne after.me.0 × IsIdle after.me.0) }
+{
+    for _ in 0..times {
+        grid.enter(&mut hand, spot, KEY, Purpose::ToClear);
+        if owes(grid.leave(&mut hand, spot, KEY)) {
+            return None;
+        }
+    }
+    Some(hand)
+}
+
+/// Both hands do so at once, each in a thread of its own.
+fn on_two_threads<R: Threads + Sync, T: Clear + Send + Sync>(
+    rt: &R,
+    grid: &Grid<T>,
+    first: Hand<T>,
+    second: Hand<T>,
+    spot: Spot,
+) -> (Option<Hand<T>>, Option<Hand<T>>)
+    requires first { IsOf grid.now first × IsOne first.me.0 × IsIdle first.me.0 }
+    requires second { IsOf grid.now second × IsOne second.me.0 × IsIdle second.me.0 }
+    requires spot { IsSpot grid.now.shape spot (place_of KEY) }
+    requires key { is_key grid.now.shape KEY ≡ true }
+    ensures { IfSome result.0 (λ hand. IsOf grid.now hand × IsOne hand.me.0 × IsIdle hand.me.0) }
+{
+    thread::join(
+        rt,
+        move || enter_and_leave(grid, first, spot, 100_000),
+        move || enter_and_leave(grid, second, spot, 100_000),
+    )
+}
+
+#[test]
+fn enters_and_leaves_on_two_threads(rt: HostRuntime) -> Result<(), Fail> {
+    let (grid, first, second) = grid_of_two::<ByteBuf>(rt.alloc())?;
+    let spot = grid.spot(0);
+    let (first, second) = on_two_threads(&rt, &grid, first, second, spot);
+    assert!(rt; second.is_some());
+    let mut first = first.ok_or("a claim is owed")?;
+    let found = grid.enter(&mut first, spot, KEY, Purpose::ToClear);
+    assert_eq!(rt; found, 4294967296);
+    Ok(())
+}
+
+#[test]
+fn makes_and_ends_grids_of_each_size(rt: HostRuntime) -> Result<(), Fail> {
+    for shape in [SMALLEST, LARGEST] {
+        shape.check()?;
+        let (grid, hands) = Grid::<ByteBuf>::new(rt.alloc(), &shape).ok_or("no memory")?;
+        assert_eq!(rt; hands.len(), shape.lanes as usize);
+        assert!(rt; grid.find(shape.lanes << 16).is_none());
+        free(grid.end(hands));
+    }
+    Ok(())
+}

@@ -1,4 +1,0 @@
-pub mod Replays
-pub mod RunFaults
-pub mod Checks
-pub mod KeyTexts

@@ -1,5 +1,0 @@
-use Rattle.shardpool.proofs.Holding.{first-lanes}
-use Rattle.pooltrials.proofs.test_calls.open_all.Goals as goal
-
-pub returns : goal.returns
-returns g c = first-lanes c.in_ok-open.field-0.0 c.in_ok-open.field-0.1.items c.in_ok-open.ensures.lanes

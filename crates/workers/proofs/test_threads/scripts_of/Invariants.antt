@@ -1,6 +1,0 @@
--- There are as many scripts as rounds.
-use Rattle.std.proofs.Common.{◌≡◌, vec_len}
-use Rattle.workers.proofs.test_threads.scripts_of.Given as goal
-
-abbrev pub invariant-loop : goal.invariant-loop
-invariant-loop l = vec_len l.scripts ≡ l.counter
