@@ -1,9 +1,8 @@
 ghost use Rattle.std.specs.Prelude.{option_copied, MatchBool, MatchOption, ◌≡◌, ◌≢◌, ◌∷◌, ◌++◌, ◌<◌, ◌≤◌, ℕ, [], List, Some, None, true, false, nat_lt, slice_get, slice_index, if◌then◌else◌};
 ghost use Rattle.keybits.specs.Shapes.{IsShape};
-ghost use Rattle.keybits.specs.Words.{claimable};
 ghost use Rattle.keybits.specs.Places.{shard_of};
 ghost use Rattle.keybits.specs.Keys.{place_of};
-ghost use Rattle.steplaws.specs.Calls.{is_hit, owes_claim, AreSteps, key_in};
+ghost use Rattle.steplaws.specs.Calls.{is_hit, AreSteps, key_in};
 ghost use Rattle.steplaws.specs.Calls as calls;
 ghost use Rattle.seqpool.specs.declared.act.Act.{Act};
 ghost use Rattle.traces.specs.declared.script.Command.{Command};
@@ -19,8 +18,8 @@ use crate::lane::Lane;
 use crate::progress::{Call, Chain, Progress};
 use crate::shared::{Made, Shared};
 use keybits::{
-    Kind, Life, Shape, State, Step, Word, fits, generation_of, link_to, linked_place, place_of,
-    shard_of,
+    Kind, Life, Shape, Step, Word, claimable, fits, is_hit, link_to, linked_place, owes_claim,
+    place_of, shard_of,
 };
 use seqpool::Act;
 
@@ -135,14 +134,6 @@ impl Shared {
     }
 }
 
-/// Whether an ENTER that finds this word hits the key: the key's generation, and PRESENT.
-pub(crate) fn is_hit(key: u64, word: u64) -> bool
-    ensures { result ≡ is_hit key word }
-{
-    let life = Life::of_word(word);
-    life.generation == generation_of(key) && life.state == State::Present
-}
-
 /// Whether the step is an ENTER that hit the key.
 fn has_hit(key: u64, step: Step) -> bool
     ensures { MatchBool result ((step.kind ≡ kinds.Enter) × (is_hit key step.before ≡ true)) (step.kind ≡ kinds.Enter → is_hit key step.before ≡ false) }
@@ -151,26 +142,6 @@ fn has_hit(key: u64, step: Step) -> bool
         Kind::Enter => is_hit(key, step.before),
         _ => false,
     }
-}
-
-/// Whether a LEAVE that finds this word owes a claim: MARKED with count 1.
-fn owes_claim(word: u64) -> bool
-    ensures { result ≡ owes_claim word }
-{
-    let life = Life::of_word(word);
-    life.state == State::Marked && life.count == 1
-}
-
-/// The one word from which a claim of this generation succeeds: marked, with count 0.
-pub(crate) fn claimable(generation: u32) -> u64
-    ensures { result ≡ claimable generation }
-{
-    let life = Life {
-        generation,
-        count: 0,
-        state: State::Marked,
-    };
-    life.word()
 }
 
 /// A kind of step on a place's lifecycle word.

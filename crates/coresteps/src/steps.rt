@@ -19,14 +19,14 @@ ghost use Rattle.keybits.specs.Keys.{key_number, place_of};
 ghost use Rattle.coresteps.specs.Lanes.{aim_of, IsCall};
 ghost use Rattle.coresteps.specs.Kept.{IsTable, made_acts, index_of_publish, IsDraft, IsLaneAt};
 
-use crate::aims::{Aim, claimable, is_hit};
+use crate::aims::Aim;
 use crate::fault::CoreFault;
 use crate::lane::Lane;
 use crate::progress::{Call, Progress};
 use crate::shared::{Made, Shared};
 use keybits::{
-    Key, Kind, Life, Place, State, Step, Word, claimed, entered, left, linked_place, marked,
-    place_of, published,
+    Key, Kind, Place, Step, Word, claimable, claimed, entered, is_hit, is_present, left,
+    linked_place, marked, place_of, published,
 };
 use seqpool::{Act, Bytes, Places};
 use std::alloc::Global;
@@ -327,13 +327,6 @@ fn act_of_mark(number: u32, call: Call, before: u64) -> Option<Act>
         }),
         _ => None,
     }
-}
-
-/// Whether a word is of a place whose object can be got.
-fn is_present(word: u64) -> bool
-    ensures { result ≡ (state_in word == 1) }
-{
-    Life::of_word(word).state == State::Present
 }
 
 /// The act of a PUSH that found this word: the place of the call's key is home, where the word was expected.

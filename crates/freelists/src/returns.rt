@@ -1,3 +1,4 @@
+ghost use Rattle.keybits.specs.declared.place.TheConstants.{SHARD_NUMBERS};
 ghost use Rattle.keybits.specs.declared.shape.TheConstants.{MOST_LANES};
 ghost use Rattle.std.specs.Prelude.{◌<◌};
 
@@ -55,7 +56,7 @@ impl Returns {
         requires page { place.page ≤ 15 }
         requires slot { place.slot ≤ 4095 }
         ensures word { result ≡ link_to (number_of place) }
-        ensures in_range { (1 ≤ result) × (result ≤ 65536) }
+        ensures in_range { (1 ≤ result) × (result ≤ SHARD_NUMBERS) }
     {
         link_to(place.number())
     }
@@ -64,7 +65,7 @@ impl Returns {
     /// `word`.
     #[inline]
     pub fn place(&self, word: u64) -> Option<Place>
-        requires { word ≤ 65536 }
+        requires { word ≤ SHARD_NUMBERS }
         ensures some { IsSome result ↔ (1 ≤ word) }
         ensures shard { IfSome result (λ place. place.shard ≡ self.now.shard) }
         ensures linked { IfSome result (λ place. number_of place ≡ linked_place self.now.shard word) }

@@ -3,7 +3,7 @@ ghost use Rattle.keybits.specs.Places.{number_of};
 ghost use Rattle.keybits.specs.Links.{linked_place};
 ghost use Rattle.freelists.specs.Shards.{place_numbered};
 
-use keybits::{MOST_LANES, Place, Shape, linked_place};
+use keybits::{MOST_LANES, Place, SHARD_NUMBERS, Shape, linked_place};
 
 /// A shard, with a shape that tells the sizes of its pages.
 #[derive(Clone, Copy, Debug)]
@@ -67,7 +67,7 @@ impl Shard {
 pub(crate) fn place_of_word(shard: u8, word: u64) -> Place
     requires shard { shard < MOST_LANES }
     requires place { 1 ≤ word }
-    requires in_range { word ≤ 65536 }
+    requires in_range { word ≤ SHARD_NUMBERS }
     ensures place { result ≡ place_numbered (linked_place shard word) }
     ensures number { number_of result ≡ linked_place shard word }
     ensures shard { result.shard ≡ shard }

@@ -1,8 +1,9 @@
 -- Lifecycle words: state + 4 * count + 2^32 * generation.
-use Rattle.std.specs.Prelude.{ℕ, ◌+◌, ◌*◌, ◌/◌, ◌%◌}
+use Rattle.std.specs.Prelude.{◌==◌, ◌&&◌, ℕ, ◌+◌, ◌*◌, ◌/◌, ◌%◌, Bool}
 use Rattle.keybits.specs.declared.life.State.{State}
 use Rattle.keybits.specs.declared.life.State.TheVariants.{Idle, Present, Retired, Marked}
 use Rattle.keybits.specs.declared.life.Life.{Life}
+use Rattle.keybits.specs.Keys.{generation_of}
 
 -- the two lowest bits of a word in this state
 abbrev pub state_bits : State → ℕ
@@ -38,3 +39,11 @@ fresh_word = word_with 0 0 1
 -- the one word from which a claim of this generation succeeds: marked, with count 0
 abbrev pub claimable : ℕ → ℕ
 claimable generation = word_with 3 0 generation
+
+-- an ENTER that finds this word hits the key: its generation, and PRESENT
+abbrev pub is_hit : ℕ → ℕ → Bool
+is_hit key word = (generation_in word == generation_of key) && (state_in word == 1)
+
+-- a LEAVE that finds this word owes a claim: MARKED with count 1
+abbrev pub owes_claim : ℕ → Bool
+owes_claim word = (state_in word == 3) && (count_in word == 1)

@@ -18,7 +18,9 @@ pub use home_laws::{home_law, push_law, take_law, unchanged_law};
 pub use key::Key;
 pub use life::{Life, State};
 pub use link::{link_to, linked_place};
-pub use place::{GREATEST_PLACE, Place, shard_of};
+pub use place::{GREATEST_PLACE, PAGE_NUMBERS, Place, SHARD_NUMBERS, shard_of};
 pub use shape::{GREATEST_TAG, LARGEST_FIRST_PAGE, MOST_LANES, MOST_PAGES, Shape, ShapeFault};
 pub use step::{Kind, Step, Word};
-pub use words::{claimed, entered, left, marked, published};
+pub use words::{
+    claimable, claimed, entered, is_hit, is_present, left, marked, owes_claim, published,
+};

@@ -1,3 +1,9 @@
+/// What a reference adds to a lifecycle word, whose count has the bits 2 to 31.
+pub(crate) const ONE_COUNT: u64 = 1 << 2;
+
+/// What a generation adds to a lifecycle word, which has it in the bits 32 to 63.
+pub(crate) const ONE_GENERATION: u64 = 1 << 32;
+
 /// Whether a place's object can be got.
 #[derive(Clone, Copy, Debug, PartialEq, Eq)]
 pub enum State {

@@ -2,6 +2,7 @@ ghost use Rattle.std.specs.Prelude.{◌≡◌, ◌<◌, ◌≤◌};
 ghost use Rattle.keybits.specs.Places.{shard_of};
 ghost use Rattle.keybits.specs.Links.{link_to, linked_place};
 
+use crate::place::SHARD_NUMBERS;
 use crate::shape::MOST_LANES;
 
 /// The link or stack word that stands for a place: 1 more than the lowest 16 bits of its number, so
@@ -9,7 +10,7 @@ use crate::shape::MOST_LANES;
 #[inline]
 pub fn link_to(place: u32) -> u64
     ensures word { result ≡ link_to place }
-    ensures in_range { (1 ≤ result) × (result ≤ 65536) }
+    ensures in_range { (1 ≤ result) × (result ≤ SHARD_NUMBERS) }
     ensures inverse { linked_place (shard_of place) result ≡ place }
 {
     u64::from(place & 0xffff) + 1
@@ -21,7 +22,7 @@ pub fn link_to(place: u32) -> u64
 pub fn linked_place(shard: u32, word: u64) -> u32
     requires shard { shard < MOST_LANES }
     requires place { 1 ≤ word }
-    requires in_range { word ≤ 65536 }
+    requires in_range { word ≤ SHARD_NUMBERS }
     ensures place { result ≡ linked_place shard word }
     ensures shard { shard_of result ≡ shard }
     ensures inverse { link_to result ≡ word }

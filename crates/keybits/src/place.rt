@@ -4,6 +4,12 @@ ghost use Rattle.keybits.specs.Places.{shard_of, page_of, slot_of};
 /// The greatest number of a place: of shard 255, page 15 and slot 4095.
 pub const GREATEST_PLACE: u32 = 16_777_215;
 
+/// How many numbers of places belong to a page, whether or not the page has as many places.
+pub const PAGE_NUMBERS: u32 = 4096;
+
+/// How many numbers of places belong to a shard: 16 pages.
+pub const SHARD_NUMBERS: u32 = 65_536;
+
 /// Where an object of the pool lies: a slot of a page of a shard.
 #[derive(Clone, Copy, Debug, PartialEq, Eq)]
 pub struct Place {

@@ -9,6 +9,7 @@ use Rattle.keybits.specs.declared.step.Step.{Step}
 use Rattle.keybits.specs.Places.{shard_of}
 use Rattle.keybits.specs.Keys.{key_number, place_of, generation_of, is_key}
 use Rattle.keybits.specs.Words.{state_in, count_in, generation_in, claimable}
+pub use Rattle.keybits.specs.Words.{is_hit, owes_claim}
 use Rattle.keybits.specs.Links.{link_to, linked_place, Leads}
 use Rattle.seqpool.specs.declared.act.Act.{Act}
 use Rattle.seqpool.specs.declared.act.Act.TheVariants as acts
@@ -36,14 +37,6 @@ pub record Aim : Type 0 where
 -- a kind of step on a word
 abbrev pub aim : Kind → Word → Aim
 aim kind word = record { kind = kind; word = word }
-
--- an ENTER that finds this word hits the key: its generation, and PRESENT
-abbrev pub is_hit : ℕ → ℕ → Bool
-is_hit key word = (generation_in word == generation_of key) && (state_in word == 1)
-
--- a LEAVE that finds this word owes a claim: MARKED with count 1
-abbrev pub owes_claim : ℕ → Bool
-owes_claim word = (state_in word == 3) && (count_in word == 1)
 
 -- a claim that finds this word succeeds
 abbrev pub is_claimed : ℕ → ℕ → Bool
