@@ -20,7 +20,7 @@ use Rattle.sharelaws.specs.Shares.{room_of}
 use Rattle.steplaws.specs.Facts.{home_in, returner}
 use Rattle.steplaws.specs.Calls.{Call, Caller, aim, next_lane, first_lane, follow_next, take_next, next_step, AreSteps, TakeMakes}
 use Rattle.steplaws.specs.Calls.Call.{Creating}
-use Rattle.sharelaws.specs.PlaceLaws.{HomeLaw}
+use Rattle.steplaws.specs.MomentLaws.{HomeStaysLaw}
 use Rattle.poolsteps.specs.declared.view.LaneRecord.{LaneRecord}
 use Rattle.poolsteps.specs.declared.view.View.{View}
 use Rattle.poolsteps.specs.Views.{head_record, the_lane, acts_in, IsOne}
@@ -33,6 +33,7 @@ use Rattle.poolcalls.proofs.Calling.{no-links, steps-more}
 use Rattle.poolcalls.specs.Taken.{Went, IsCollected, Collects}
 use Rattle.poolcalls.proofs.Going.{none-went, went-step, went-more}
 use Rattle.poolcalls.proofs.Chaining.{links_of, chain-leads}
+use Rattle.poolcalls.proofs.Returners.{home-returned}
 
 -- ---- the lanes, one after another
 
@@ -206,7 +207,7 @@ module _ {S : Type 0} {z : Shape} {opened from : ℕ} {before now : Me S View} (
     none-from = subst (λ (lane : ℕ). NoneFrom z after.0.seen lane from) tried-lane (takes.0 zero).0
 
     -- a home place of the shard was returned by another lane than that of the stack
-    none-there : HomeLaw → IsLawful z before.0 → (place : ℕ) → home_in z before.0.seen own place ≡ true → returner before.0.seen place ≢ from
+    none-there : HomeStaysLaw → IsLawful z before.0 → (place : ℕ) → home_in z before.0.seen own place ≡ true → returner before.0.seen place ≢ from
     none-there law seen place home is =
         let more : List Act = none-after.seen.0 in
         let grown : before.0.seen ++ more ≡ after.0.seen = none-after.seen.1 in
@@ -218,7 +219,7 @@ module _ {S : Type 0} {z : Shape} {opened from : ℕ} {before now : Me S View} (
         let same : returner after.0.seen place ≡ returner before.0.seen place = ap (λ (h : List Act). returner h place) (sym grown) ∙ stays.1 in
         (none-from place still).2 (same ∙ is)
 
-    pub one-more : HomeLaw → IsLawful z before.0 → from ≢ own → from < z.lanes → Tried z opened (from + 1) before after
+    pub one-more : HomeStaysLaw → IsLawful z before.0 → from ≢ own → from < z.lanes → Tried z opened (from + 1) before after
     one-more law seen isnt below = record {
       steps = tried.steps ++ take_step own from found ∷ [];
       are = take-are steps-none isnt below;
@@ -306,17 +307,17 @@ pub taken-some : {S : Type 0} {z : Shape} {opened from found : ℕ} {before now 
 taken-some {z = z} {found = found} {now = now} {after = after} tried takes some = subst (λ (r : LaneRecord). TakesSome z r found now after) tried.same (takes.1 some)
 
 -- each stack was found empty
-pub none-collects : {S : Type 0} {z : Shape} {opened : ℕ} {before after : Me S View} → Tried z opened z.lanes before after → HomeLaw → IsLawful z before.0
+pub none-collects : {S : Type 0} {z : Shape} {opened : ℕ} {before after : Me S View} → Tried z opened z.lanes before after → IsLawful z before.0
     → z.lanes ≤ 16 → (the_lane before.0).lane < z.lanes → Collects z opened 0 before after
-none-collects {z = z} {opened = opened} {before = before} tried law seen most inside =
+none-collects {z = z} {opened = opened} {before = before} tried seen most inside =
     let own : ℕ = (the_lane before.0).lane in
     let c : Caller = caller_of z before.0 in
     let last : z.lanes ≢ own = λ e. absurd (omega arith) in
     let history : List Act = before.0.seen in
     let nowhere : (place : ℕ) → home_in z history own place ≡ false = λ place. ⊎_elim
     (λ (home : home_in z history own place ≡ true).
-    let told = law z history [] own place (subst (IsLegal z) (sym (append-nil history)) seen.0) refl home in
-    absurd (tried.others place home (returner history place) told.2 told.3 refl))
+    let told = home-returned z history own place seen.0 home in
+    absurd (tried.others place home (returner history place) told.0 told.1 refl))
     (λ (isnt : home_in z history own place ≡ false). isnt)
     (cases_Bool (home_in z history own place)) in record {
       steps = tried.steps;

@@ -11,6 +11,7 @@ pub mod Going
 pub mod Following
 pub mod Keying
 pub mod Chaining
+pub mod Returners
 pub mod Collecting
 pub mod Within
 pub mod Giving

@@ -6,7 +6,6 @@ use Rattle.keybits.specs.declared.step.Kind.TheVariants as kinds
 use Rattle.keybits.specs.declared.step.Step.{Step}
 use Rattle.keybits.specs.declared.step.Word.TheVariants.{Link}
 use Rattle.keybits.specs.Links.{linked_place}
-use Rattle.sharelaws.specs.PlaceLaws.{HomeLaw}
 use Rattle.seqpool.specs.declared.act.Act.{Act}
 use Rattle.seqpool.specs.declared.act.Act.TheVariants as acts
 use Rattle.steplaws.specs.Calls.{Call, Caller, next_lane, take_next, follow_next, next_step, AreSteps}
@@ -89,10 +88,10 @@ module _ {S : Type 0} {z : Shape} {opened from : ℕ} {a b : Me S View} (tried :
       (inl (let stepped = tried.stepped in omega (arith, stepped, sum, none)))
 
 -- each stack was found empty
-pub called-empty : {S : Type 0} {z : Shape} {opened : ℕ} {a b : Me S View} → Tried z opened z.lanes a b → HomeLaw → IsLawful z a.0 → z.lanes ≤ 16
+pub called-empty : {S : Type 0} {z : Shape} {opened : ℕ} {a b : Me S View} → Tried z opened z.lanes a b → IsLawful z a.0 → z.lanes ≤ 16
     → (the_lane a.0).lane < z.lanes → (left limit : ℕ) → b.0.steps + left ≡ a.0.steps + limit → CalledWithin z (Creating [] [] opened) limit a b
-called-empty tried law seen most inside left limit sum =
-    let collects = none-collects tried law seen most inside in
+called-empty tried seen most inside left limit sum =
+    let collects = none-collects tried seen most inside in
     let stepped = collects.stepped in
     called-went collects.steps collects.made collects.are collects.make collects.went collects.held stepped
     (at-end (length collects.steps) limit _ (omega (arith, stepped, sum)) collects.next)

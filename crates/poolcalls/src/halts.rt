@@ -20,9 +20,9 @@ use crate::cells::{rest_cell, take_cell};
 use crate::ends::owed_by;
 use keybits::{Life, State, linked_place, shard_of};
 use poolsteps::{Grid, Hand, Purpose, Spot, shares_law};
-use sharelaws::home_law;
 use slotcell::Clear;
 use std::alloc::Global;
+use steplaws::home_law;
 
 /// A get of a key that ends after so many steps.
 pub fn get_within<T: Clear + Drop>(

@@ -14,9 +14,9 @@ ghost use Rattle.poolcalls.specs.Taken.{Collects, FollowsOut};
 use crate::cells::take_resting;
 use keybits::{Key, Place};
 use poolsteps::{Grid, Hand, Spot};
-use sharelaws::home_law;
 use slotcell::{Clear, Whole};
 use std::alloc::Global;
+use steplaws::home_law;
 
 /// TAKEs of the stacks of the lane's shard, by rising number of the lanes that return to it, up to the first that has places:
 /// they are then the lane's taken chain. Answers the word that was found there, which leads to the first of them; 0 where

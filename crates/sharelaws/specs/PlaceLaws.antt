@@ -7,7 +7,6 @@ use Rattle.seqpool.specs.declared.act.Act.{Act}
 use Rattle.seqpool.specs.declared.act.Act.TheVariants as acts
 use Rattle.seqpool.specs.Pool.{with, published, has, references, pool_after, IsLegal}
 use Rattle.seqpool.specs.Histories.{PublishedAt, acts_of}
-use Rattle.steplaws.specs.Facts.{home_in, returner}
 use Rattle.sharelaws.specs.Shares.{room_of}
 
 -- the act gives the place away: it publishes a key of it, or returns it
@@ -44,9 +43,3 @@ abbrev pub HeldContentLaw : Type 0
 HeldContentLaw = (z : Shape) (history : List Act) (lane key : ℕ) → IsLegal z history → 0 < references z (pool_after z history) lane key
     → (content : List ℕ) × (refs : ℕ → ℕ) × (mark : Bool) × ((pool_after z history (place_of key)).phase ≡ published content refs mark)
     × (j : ℕ) × PublishedAt history j key content
-
--- a home place stays home, returned by the same lane, until the lane of its shard acts; and it was returned by another lane of the shape than that
-abbrev pub HomeLaw : Type 0
-HomeLaw = (z : Shape) (history more : List Act) (shard place : ℕ) → IsLegal z (history ++ more) → acts_of shard more ≡ [] → home_in z history shard place ≡ true
-    → (home_in z (history ++ more) shard place ≡ true) × (returner (history ++ more) place ≡ returner history place)
-    × (returner history place < z.lanes) × (returner history place ≢ shard)

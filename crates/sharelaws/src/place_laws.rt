@@ -1,6 +1,6 @@
 //! The laws of places over a history that goes on, as calls that do nothing: whoever calls one may use its law in a proof.
 
-ghost use Rattle.sharelaws.specs.PlaceLaws.{WithLaw, HeldContentLaw, HomeLaw};
+ghost use Rattle.sharelaws.specs.PlaceLaws.{WithLaw, HeldContentLaw};
 
 /// A place that is with a lane stays so, in its generation and with its room, until the lane publishes or returns it.
 pub fn with_law()
@@ -10,9 +10,4 @@ pub fn with_law()
 /// A key to which a lane refers was published, and its place has that content.
 pub fn held_content_law()
     ensures { HeldContentLaw }
-{}
-
-/// A home place stays home until the lane of its shard acts, and another lane returned it.
-pub fn home_law()
-    ensures { HomeLaw }
 {}

@@ -43,7 +43,7 @@ loop-from-preserved g c =
     elim c.if-from-lane.branch [
       | then-from-lane+else-found-ne0 w ↦ rw (w.hand-is, w.left-is) (record {
         hand = (w.take-found.ensures.hand.0 ∙ h.hand.0, w.take-found.ensures.hand.1 ∙ h.hand.1);
-        tried = λ opened some. one-more (h.tried opened some) w.take-found.ensures.takes w.if-found-ne0.false c.home_law.ensures c.requires.seen
+        tried = λ opened some. one-more (h.tried opened some) w.take-found.ensures.takes w.if-found-ne0.false c.home_law.ensures.stays c.requires.seen
             (λ e. w.if-from-lane.true (e ∙ sym c.requires.lane.0)) c.loop-from-test.true;
         sum = let stepped = empty-stepped w.take-found.ensures.takes w.if-found-ne0.false in omega (arith, sum, stepped, left);
       })
@@ -58,5 +58,5 @@ pub returns-clause-called : goal.returns-clause-called
 returns-clause-called g c opened some =
     let h = c.loop-from.invariant in
     called-empty (subst (λ (n : ℕ). Tried c.args.grid.now.shape opened n c.args.hand.now.me c.loop-from.hand.me) (omega (arith, c.loop-from-test.false, c.loop-from.auto.from-end)) (h.tried opened some))
-    c.home_law.ensures c.requires.seen c.args.grid.now.checked.lanes.1
+    c.requires.seen c.args.grid.now.checked.lanes.1
     (subst (λ (n : ℕ). n < c.args.grid.now.shape.lanes) c.requires.lane.0 c.requires.lane.1) c.loop-from.left c.args.limit h.sum

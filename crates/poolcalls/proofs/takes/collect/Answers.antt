@@ -27,7 +27,7 @@ loop-from-preserved g c =
     elim c.if-from-lane.branch [
       | then-from-lane+else-found-ne0 w ↦ rw w.hand-is (record {
         hand = (w.take-found.ensures.hand.0 ∙ h.hand.0, w.take-found.ensures.hand.1 ∙ h.hand.1);
-        tried = λ opened some. one-more (h.tried opened some) w.take-found.ensures.takes w.if-found-ne0.false c.home_law.ensures c.requires.seen.0
+        tried = λ opened some. one-more (h.tried opened some) w.take-found.ensures.takes w.if-found-ne0.false c.home_law.ensures.stays c.requires.seen.0
             (λ e. w.if-from-lane.true (e ∙ sym c.requires.lane.0)) c.loop-from-test.true;
       })
       | else-from-lane w ↦ rw w.hand-is (record { hand = h.hand; tried = λ opened some. past-own (h.tried opened some) (w.if-from-lane.false ∙ c.requires.lane.0) })
@@ -36,5 +36,5 @@ loop-from-preserved g c =
 pub returns-clause-collects : goal.returns-clause-collects
 returns-clause-collects g c opened some =
     let tried = c.loop-from.invariant.tried opened some in
-    none-collects (subst (λ (n : ℕ). Tried c.args.grid.now.shape opened n c.args.hand.now.me c.loop-from.hand.me) (omega (arith, c.loop-from-test.false, c.loop-from.auto.from-end)) tried) c.home_law.ensures c.requires.seen.0
+    none-collects (subst (λ (n : ℕ). Tried c.args.grid.now.shape opened n c.args.hand.now.me c.loop-from.hand.me) (omega (arith, c.loop-from-test.false, c.loop-from.auto.from-end)) tried) c.requires.seen.0
     c.args.grid.now.checked.lanes.1 (subst (λ (n : ℕ). n < c.args.grid.now.shape.lanes) c.requires.lane.0 c.requires.lane.1)

@@ -7,14 +7,12 @@ use Rattle.keybits.specs.declared.shape.Shape.{Shape}
 use Rattle.keybits.specs.Places.{shard_of}
 use Rattle.seqpool.specs.declared.act.Act.{Act}
 use Rattle.seqpool.specs.declared.act.Act.TheVariants as acts
-use Rattle.seqpool.specs.Pool.{with, home, Spot, Pool, has, lane_of, Allowed, after, fresh, pool_from, LegalFrom}
-use Rattle.seqpool.proofs.Growth.{legal-front, after-here, after-else}
-use Rattle.steplaws.specs.Facts.{is_home, returner_after, returners_after, returner}
+use Rattle.seqpool.specs.Pool.{with, home, Spot, Pool, has, lane_of, Allowed, after, fresh, pool_from, LegalFrom, IsLegal}
+use Rattle.seqpool.proofs.Growth.{after-here, after-else}
+use Rattle.steplaws.specs.Facts.{is_home, home_in, returner_after, returners_after, returner}
 use Rattle.steplaws.proofs.Updates.{at-here, at-else}
 use Rattle.steplaws.proofs.HomePlaces.{home-is, home-parts}
 use Rattle.steplaws.proofs.Acts.{IsLife, life-homes, life-returner}
-use Rattle.steplaws.proofs.Stays.{home_stays}
-use Rattle.sharelaws.specs.PlaceLaws.{HomeLaw}
 
 module _ (z : Shape) (place : ℕ) where
   -- where the place is home, a lane of the shape returned it, and another than its shard's
@@ -54,12 +52,13 @@ module _ (z : Shape) (place : ℕ) where
   returned-from pool returners (act ∷ more) legal so =
       returned-from (after z act pool) (returner_after act returners) more legal.2 (over pool returners so act legal.0 legal.1)
 
-  pub returned : (history : List Act) → LegalFrom z fresh history → IsReturned (pool_from z fresh history) (returner history)
+  returned : (history : List Act) → LegalFrom z fresh history → IsReturned (pool_from z fresh history) (returner history)
   returned history legal = returned-from fresh (λ _. 0) history legal (λ is. absurd (cc is))
 
-pub home-law : HomeLaw
-home-law z history more shard place legal none is =
-    let stays = home_stays z history more shard place legal none is in
+-- a home place of a shard was returned by a lane of the shape, and another than the shard's
+pub home-returned : (z : Shape) (history : List Act) (shard place : ℕ) → IsLegal z history → home_in z history shard place ≡ true
+    → (returner history place < z.lanes) × (returner history place ≢ shard)
+home-returned z history shard place legal is =
     let parts = home-parts z history shard place is in
-    let bound = returned z place history (legal-front z fresh history more legal) parts.home in
-    (stays.0, stays.1, bound.0, λ same. bound.1 (same ∙ sym parts.own))
+    let bound = returned z place history legal parts.home in
+    (bound.0, λ same. bound.1 (same ∙ sym parts.own))
