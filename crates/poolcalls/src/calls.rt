@@ -1,11 +1,9 @@
 //! The calls of a key: get, release and clear. A key's place is one of the pool's.
-ghost use Rattle.std.specs.Prelude.{◌∷◌, [], ◌≡◌, ◌≢◌, ◌==◌, ◌<◌, IfSome, true};
+ghost use Rattle.std.specs.Prelude.{◌∷◌, [], ◌≡◌, ◌≢◌, ◌<◌, IfSome, true};
 ghost use Rattle.keybits.specs.Keys.{place_of, is_key};
 ghost use Rattle.keybits.specs.Places.{shard_of as shard_number};
-ghost use Rattle.keybits.specs.Words.{state_in};
 ghost use Rattle.seqpool.specs.declared.act.Act.TheVariants as acts;
 ghost use Rattle.sharelaws.specs.declared.stored.Status.TheVariants.{Untouched};
-ghost use Rattle.steplaws.specs.Calls.{is_hit};
 ghost use Rattle.steplaws.specs.Calls.Call.{Getting, Releasing, Clearing};
 ghost use Rattle.steplaws.specs.Facts.{most_references};
 ghost use Rattle.poolsteps.specs.Views.{the_lane, pushed_in, status_of, IsOne};
@@ -15,7 +13,7 @@ ghost use Rattle.poolcalls.specs.Called.{Called, EndsWithActs, IsReclaimed, HasG
 
 use crate::ends::settle;
 use crate::reclaimed::{Got, Reclaimed};
-use keybits::{Life, State, generation_of};
+use keybits::{is_hit, is_present};
 use poolsteps::{Grid, Hand, Purpose, Spot};
 use slotcell::Clear;
 use std::alloc::Global;
@@ -42,7 +40,7 @@ pub fn get<T: Clear + Drop>(
     ensures got { HasGot T.content T.room grid.now.shape key hand.old.me hand.new.me result }
 {
     let found = grid.enter(hand, spot, key, Purpose::ToGet);
-    if hits(key, found) {
+    if is_hit(key, found) {
         return Got::Hit;
     }
     let left = grid.leave(hand, spot, key);
@@ -99,24 +97,7 @@ pub fn clear<T: Clear + Drop>(
     ensures reclaimed { IfSome result.1 (IsReclaimed T.content T.room grid.now.shape (place_of key) lane hand.new.me.0) }
 {
     let found = grid.enter(hand, spot, key, Purpose::ToClear);
-    let marked = hits(key, found) && is_present(grid.mark(hand, spot, key));
+    let marked = is_hit(key, found) && is_present(grid.mark(hand, spot, key));
     let left = grid.leave(hand, spot, key);
     (marked, settle(alloc, grid, hand, spot, lane, left, top))
-}
-
-/// Whether an ENTER that found this word hits the key.
-#[inline]
-pub fn hits(key: u64, found: u64) -> bool
-    ensures { result ≡ is_hit key found }
-{
-    let life = Life::of_word(found);
-    life.generation == generation_of(key) && life.state == State::Present
-}
-
-/// Whether a key with this word is PRESENT.
-#[inline]
-fn is_present(found: u64) -> bool
-    ensures { result ≡ (state_in found == 1) }
-{
-    Life::of_word(found).state == State::Present
 }

@@ -1,8 +1,7 @@
 //! The end of a call that leaves a place: what follows its LEAVE.
 ghost use Rattle.std.specs.Prelude.{◌≡◌, ◌≢◌, ◌<◌, ◌≤◌, [], Some, None, IfSome, if◌then◌else◌};
 ghost use Rattle.keybits.specs.Places.{shard_of as shard_number};
-ghost use Rattle.keybits.specs.Words.{generation_in};
-ghost use Rattle.steplaws.specs.Calls.{owes_claim};
+ghost use Rattle.keybits.specs.Words.{generation_in, owes_claim};
 ghost use Rattle.steplaws.specs.StepLaws.{owed_after};
 ghost use Rattle.sharelaws.specs.Shares.{room_of};
 ghost use Rattle.poolsteps.specs.Views.{the_lane, pushed_in, known_of, IsOne};
@@ -13,7 +12,7 @@ ghost use Rattle.poolcalls.specs.Called.{EndsWithActs, TailActs, IsLawful, Ends,
 use crate::cells::{rest_cell, take_cell};
 use crate::homes::give_home;
 use crate::reclaimed::Reclaimed;
-use keybits::{Life, State, shard_of};
+use keybits::{Life, claimable, owes_claim, shard_of};
 use poolsteps::{Grid, Hand, Spot, shares_law};
 use slotcell::Clear;
 use std::alloc::Global;
@@ -22,7 +21,7 @@ use std::alloc::Global;
 /// place's object is cleared in place, and a place of another shard returned. None where no place was reclaimed. It takes no
 /// memory.
 #[inline(always)]
-pub fn settle<T: Clear + Drop>(
+pub(crate) fn settle<T: Clear + Drop>(
     alloc: Global,
     grid: &Grid<T>,
     hand: &mut Hand<T>,
@@ -44,12 +43,7 @@ pub fn settle<T: Clear + Drop>(
 {
     let generation = owed_by(found)?;
     let word = grid.claim(hand, spot, generation);
-    let owed = Life {
-        generation,
-        count: 0,
-        state: State::Marked,
-    };
-    if word != owed.word() {
+    if word != claimable(generation) {
         return None;
     }
     Some(take_back(alloc, grid, hand, spot, lane, generation, top))
@@ -57,12 +51,11 @@ pub fn settle<T: Clear + Drop>(
 
 /// The generation whose claim a LEAVE that found this word owes, where it owes one.
 #[inline(always)]
-pub fn owed_by(found: u64) -> Option<u32>
+pub(crate) fn owed_by(found: u64) -> Option<u32>
     ensures { result ≡ (if owes_claim found then Some (generation_in found) else None) }
 {
-    let life = Life::of_word(found);
-    if life.state == State::Marked && life.count == 1 {
-        Some(life.generation)
+    if owes_claim(found) {
+        Some(Life::of_word(found).generation)
     } else {
         None
     }

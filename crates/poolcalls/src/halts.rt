@@ -15,10 +15,9 @@ ghost use Rattle.poolsteps.specs.Returned.{IsAtRest, rest_of};
 ghost use Rattle.poolcalls.specs.Called.{IsLawful};
 ghost use Rattle.poolcalls.specs.Halted.{CalledWithin, LeavesWithin, EndsWithin, TailsWithin, GivesWithin, FollowsWithin};
 
-use crate::calls::hits;
 use crate::cells::{rest_cell, take_cell};
 use crate::ends::owed_by;
-use keybits::{Life, State, linked_place, shard_of};
+use keybits::{claimable, is_hit, linked_place, shard_of};
 use poolsteps::{Grid, Hand, Purpose, Spot, shares_law};
 use slotcell::Clear;
 use std::alloc::Global;
@@ -50,7 +49,7 @@ pub fn get_within<T: Clear + Drop>(
         return;
     }
     let found = grid.enter(hand, spot, key, Purpose::ToGet);
-    if !hits(key, found) {
+    if !is_hit(key, found) {
         leave_within(alloc, grid, hand, spot, lane, key, top, limit - 1);
     }
 }
@@ -106,7 +105,7 @@ pub fn clear_within<T: Clear + Drop>(
         return;
     }
     let found = grid.enter(hand, spot, key, Purpose::ToClear);
-    if !hits(key, found) {
+    if !is_hit(key, found) {
         leave_within(alloc, grid, hand, spot, lane, key, top, limit - 1);
         return;
     }
@@ -212,12 +211,7 @@ fn settle_within<T: Clear + Drop>(
         return;
     };
     let word = grid.claim(hand, spot, generation);
-    let owed = Life {
-        generation,
-        count: 0,
-        state: State::Marked,
-    };
-    if word != owed.word() {
+    if word != claimable(generation) {
         return;
     }
     if limit > 1 {

@@ -13,7 +13,13 @@ use slotcell::Clear;
 
 /// Returns a place of another shard, which is at rest: LINK and PUSH from the word that the lane last pushed there, and once
 /// more from an empty stack where that was taken. It takes no memory.
-pub fn give_home<T: Clear>(grid: &Grid<T>, hand: &mut Hand<T>, spot: Spot, lane: u32, top: u64)
+pub(crate) fn give_home<T: Clear>(
+    grid: &Grid<T>,
+    hand: &mut Hand<T>,
+    spot: Spot,
+    lane: u32,
+    top: u64,
+)
     requires hand { IsOf grid.now hand.old × IsOne hand.old.me.0 }
     requires spot { IsSpot grid.now.shape spot spot.place }
     requires lane { (lane ≡ (the_lane hand.old.me.0).lane) × (lane < grid.now.shape.lanes) }

@@ -12,11 +12,9 @@ mod homes;
 mod reclaimed;
 mod takes;
 
-pub use calls::{clear, get, hits, release};
+pub use calls::{clear, get, release};
 pub use cells::{rest_cell, spread_cell, spread_others, take_cell, take_resting};
-pub use ends::{owed_by, settle};
 pub use fills::{downgrade, publish};
 pub use halts::{clear_within, collect_within, follow_within, get_within, release_within};
-pub use homes::give_home;
 pub use reclaimed::{Got, Reclaimed};
 pub use takes::{collect, follow, next_key};

@@ -4,18 +4,18 @@ use Rattle.steplaws.specs.Calls.Call.{Clearing}
 use Rattle.poolcalls.proofs.Calling.{Opened, called-after, acts-behind, clear-misses, clear-marks}
 use Rattle.poolcalls.proofs.calls.clear.Given.{Over}
 use Rattle.poolcalls.proofs.calls.clear.Goals as goal
-use Rattle.poolcalls.proofs.calls.clear.Goals.{then-hits, else-hits}
+use Rattle.poolcalls.proofs.calls.clear.Goals.{then-is_hit, else-is_hit}
 
 -- the call up to its LEAVE
 opened : (g : Over) (c : goal.After-settle g)
-    → Opened c.args.grid.now.shape (Clearing c.args.key) (acts.Clear c.args.lane c.args.key c.if-hits.marked) c.args.hand.now.me c.if-hits.hand.me
-opened g c = elim c.if-hits.branch [
-  | then-hits w ↦
+    → Opened c.args.grid.now.shape (Clearing c.args.key) (acts.Clear c.args.lane c.args.key c.if-is_hit.marked) c.args.hand.now.me c.if-is_hit.hand.me
+opened g c = elim c.if-is_hit.branch [
+  | then-is_hit w ↦
       rw (c.requires.lane.0, w.hand-is, w.marked-is, w.is_present-marked.ensures)
-      (clear-marks c.requires.key c.enter-found.ensures.enters (sym c.hits.ensures ∙ w.if-hits.true) w.mark.ensures.marks)
-  | else-hits w ↦
-      rw (c.requires.lane.0, w.hand-is, w.marked-is, w.if-hits.false)
-      (clear-misses c.requires.key c.enter-found.ensures.enters (sym c.hits.ensures ∙ w.if-hits.false))
+      (clear-marks c.requires.key c.enter-found.ensures.enters (sym c.is_hit.ensures ∙ w.if-is_hit.true) w.mark.ensures.marks)
+  | else-is_hit w ↦
+      rw (c.requires.lane.0, w.hand-is, w.marked-is, w.if-is_hit.false)
+      (clear-misses c.requires.key c.enter-found.ensures.enters (sym c.is_hit.ensures ∙ w.if-is_hit.false))
 ]
 
 pub returns-clause-called : goal.returns-clause-called

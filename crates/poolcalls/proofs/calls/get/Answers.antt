@@ -7,16 +7,16 @@ use Rattle.poolcalls.proofs.Calling.{Opened, called-after, acts-behind, get-hits
 use Rattle.poolcalls.proofs.calls.get.Given.{Over}
 use Rattle.poolcalls.proofs.calls.get.Goals as goal
 
-pub returns-then-hits-clause-called : goal.returns-then-hits-clause-called
-returns-then-hits-clause-called g c = get-hits c.requires.key c.enter-found.ensures.enters (sym c.hits.ensures ∙ c.if-hits.true)
+pub returns-then-is_hit-clause-called : goal.returns-then-is_hit-clause-called
+returns-then-is_hit-clause-called g c = get-hits c.requires.key c.enter-found.ensures.enters (sym c.is_hit.ensures ∙ c.if-is_hit.true)
 
-pub returns-then-hits-clause-got : goal.returns-then-hits-clause-got
-returns-then-hits-clause-got g c = hit-tells c.requires.key g.T.Clear.content g.T.Clear.room c.enter-found.ensures.enters (sym c.hits.ensures ∙ c.if-hits.true)
+pub returns-then-is_hit-clause-got : goal.returns-then-is_hit-clause-got
+returns-then-is_hit-clause-got g c = hit-tells c.requires.key g.T.Clear.content g.T.Clear.room c.enter-found.ensures.enters (sym c.is_hit.ensures ∙ c.if-is_hit.true)
 
 -- a miss up to its LEAVE
 opened : (g : Over) (c : goal.After-settle g)
     → Opened c.args.grid.now.shape (Getting c.args.key) (acts.Get (the_lane c.args.hand.now.me.0).lane c.args.key None) c.args.hand.now.me c.enter-found.new.hand.me
-opened g c = get-misses c.requires.key c.enter-found.ensures.enters (sym c.hits.ensures ∙ c.if-hits.false)
+opened g c = get-misses c.requires.key c.enter-found.ensures.enters (sym c.is_hit.ensures ∙ c.if-is_hit.false)
 
 pub returns-clause-called : goal.returns-clause-called
 returns-clause-called g c = called-after (opened g c) refl c.leave-left.ensures.leaves c.requires.spot.place_is c.settle.ensures.ends

@@ -9,22 +9,22 @@ returns-in_err-generation-clause-ends g c =
 pub returns-in_err-generation-clause-acts : goal.returns-in_err-generation-clause-acts
 returns-in_err-generation-clause-acts g c = rw c.from_residual.ensures (still-acts g.row.T.Denot c.args.grid.now.shape c.args.spot.place c.args.hand.now.me.0)
 
-pub returns-then-word-clause-ends : goal.returns-then-word-clause-ends
-returns-then-word-clause-ends g c =
+pub returns-then-word-claimable-clause-ends : goal.returns-then-word-claimable-clause-ends
+returns-then-word-claimable-clause-ends g c =
     let owed = owes-some c.args.found c.owed_by.ensures c.in_ok-generation.generation c.in_ok-generation.was in
-    ends-lost owed.0 owed.1 c.claim-word.ensures.claims (λ same. c.if-word.true (same ∙ sym c.word.ensures))
+    ends-lost owed.0 owed.1 c.claim-word.ensures.claims (λ same. c.if-word-claimable.true (same ∙ sym c.claimable.ensures))
 
-pub returns-then-word-clause-acts : goal.returns-then-word-clause-acts
-returns-then-word-clause-acts g c = lost-acts g.row.T.Denot c.claim-word.ensures.claims (λ same. c.if-word.true (same ∙ sym c.word.ensures))
+pub returns-then-word-claimable-clause-acts : goal.returns-then-word-claimable-clause-acts
+returns-then-word-claimable-clause-acts g c = lost-acts g.row.T.Denot c.claim-word.ensures.claims (λ same. c.if-word-claimable.true (same ∙ sym c.claimable.ensures))
 
 pub returns-clause-ends : goal.returns-clause-ends
 returns-clause-ends g c =
     let owed = owes-some c.args.found c.owed_by.ensures c.in_ok-generation.generation c.in_ok-generation.was in
-    ends-won owed.0 owed.1 c.claim-word.ensures.claims (c.if-word.false ∙ c.word.ensures) c.take_back.ensures.tails
+    ends-won owed.0 owed.1 c.claim-word.ensures.claims (c.if-word-claimable.false ∙ c.claimable.ensures) c.take_back.ensures.tails
 
 pub returns-clause-acts : goal.returns-clause-acts
 returns-clause-acts g c =
-    let told = c.claim-word.ensures.claims.0 (c.if-word.false ∙ c.word.ensures) in
+    let told = c.claim-word.ensures.claims.0 (c.if-word-claimable.false ∙ c.claimable.ensures) in
     let won = told.4 in
     won-acts c.args.grid.now.shape c.args.spot.place c.in_ok-generation.generation c.args.hand.now.me.0 c.claim-word.new.hand.me.0 c.take_back.new.hand.me.0 _
     c.take_back.result won.goes.lanes refl refl refl c.take_back.ensures.acts told.3

@@ -11,9 +11,9 @@ pub returns-then-limit-eq0-clause-called : goal.returns-then-limit-eq0-clause-ca
 returns-then-limit-eq0-clause-called g c = subst (λ (n : ℕ). CalledWithin c.args.grid.now.shape (Clearing c.args.key) n c.args.hand.now.me c.args.hand.now.me)
     (sym c.if-limit-eq0.true) (called-not (Clearing c.args.key) c.requires.hand.1 c.requires.seen)
 
-pub returns-then-not-hits-clause-called : goal.returns-then-not-hits-clause-called
-returns-then-not-hits-clause-called g c =
-    let miss = sym c.hits.ensures ∙ c.if-not-hits.true in
+pub returns-then-not-is_hit-clause-called : goal.returns-then-not-is_hit-clause-called
+returns-then-not-is_hit-clause-called g c =
+    let miss = sym c.is_hit.ensures ∙ c.if-not-is_hit.true in
     let enters = c.enter-found.ensures.enters in
     let some = c.if-limit-eq0.false in
     called-undoes (enter-step c.args.key c.enter-found.result ∷ []) (clear-missed c.requires.key enters miss)
@@ -22,13 +22,13 @@ returns-then-not-hits-clause-called g c =
 
 pub returns-then-limit-eq1-clause-called : goal.returns-then-limit-eq1-clause-called
 returns-then-limit-eq1-clause-called g c =
-    let hit = sym c.hits.ensures ∙ c.if-not-hits.false in
+    let hit = sym c.is_hit.ensures ∙ c.if-not-is_hit.false in
     subst (λ (n : ℕ). CalledWithin c.args.grid.now.shape (Clearing c.args.key) n c.args.hand.now.me c.enter-found.new.hand.me) (sym c.if-limit-eq1.true)
     (called-part (clear-entered c.requires.key c.enter-found.ensures.enters hit))
 
 pub returns-clause-called : goal.returns-clause-called
 returns-clause-called g c =
-    let hit = sym c.hits.ensures ∙ c.if-not-hits.false in
+    let hit = sym c.is_hit.ensures ∙ c.if-not-is_hit.false in
     let none = c.if-limit-eq0.false in
     let one = c.if-limit-eq1.false in
     let key : ℕ = c.args.key in
