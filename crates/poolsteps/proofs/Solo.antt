@@ -5,11 +5,9 @@ use Rattle.seqpool.specs.declared.act.Act.{Act}
 use Rattle.seqpool.specs.Pool.{Pool, lane_of, references_in, is_marked, pool_after, after, fresh, LegalFrom, IsLegal}
 use Rattle.seqpool.specs.Histories.{acts_of}
 use Rattle.steplaws.specs.Facts.{Words, Lanes, moment, Rule}
-use Rattle.steplaws.specs.declared.pending.Pending.{Pending}
 use Rattle.steplaws.specs.declared.pending.Pending.TheVariants.{Nothing}
 use Rattle.steplaws.proofs.Counts.{quiet-law}
 use Rattle.poolsteps.specs.declared.view.LaneRecord.{LaneRecord}
-use Rattle.poolsteps.specs.declared.view.View.{View}
 use Rattle.poolsteps.specs.Told.{Quiet}
 
 -- in its histories all acts are of the lane

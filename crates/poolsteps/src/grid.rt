@@ -35,9 +35,9 @@ pub struct Grid<T: Clear> {
     /// The pool's shape.
     pub shape: Shape,
     /// How many slots stand between those of a place for two lanes that follow each other.
-    pub row: usize,
+    pub(crate) row: usize,
     /// Where the places of each page stand.
-    pub pages: Vec<PageRow>,
+    pub(crate) pages: Vec<PageRow>,
     ghost shape_is: { table.shared.key ≡ shape },
     ghost checked: { IsShape shape } by { IsShape-prop shape },
     ghost sized: { table.shared.table_id.words ≡ word_count shape },

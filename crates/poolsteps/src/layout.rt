@@ -9,16 +9,16 @@ ghost use Rattle.slotcell.specs.Share.{Share};
 ghost use Rattle.poolsteps.specs.Layout.{index_in, look_word, lives_start, shard_words, word_count, words_in, page_row, page_rows, slot_row, slot_count, slot_index};
 ghost use Rattle.steplaws.specs.MomentLaws.{AreFirst};
 
-use keybits::{Life, Shape, State, shard_of};
+use keybits::{Life, PAGE_NUMBERS, Shape, State, shard_of};
 use slotcell::Slot;
 use std::alloc::Global;
 
 /// How many words stand between two that different lanes change by themselves.
-pub const WORDS_APART: usize = 8;
+pub(crate) const WORDS_APART: usize = 8;
 
 /// How many slots stand unused behind those of each shard in a lane's row, so that those of neighbouring shards don't share a
 /// line of a processor's cache.
-pub const SHARDS_APART: usize = 8;
+pub(crate) const SHARDS_APART: usize = 8;
 
 /// Where the lifecycle word of the first place stands.
 pub(crate) fn lives_start(shape: &Shape) -> usize
@@ -110,17 +110,17 @@ pub fn slot_at(shape: &Shape, place: u32, position: usize, lane: u32) -> usize
 
 /// Where the places of a page stand: those of its first place.
 #[derive(Clone, Copy, Debug, PartialEq, Eq)]
-pub struct PageRow {
+pub(crate) struct PageRow {
     /// How many places the page has; 0 where the shape has no such page.
-    pub places: u32,
+    pub(crate) places: u32,
     /// The position of its first place among all places.
-    pub position: usize,
+    pub(crate) position: usize,
     /// Where the lifecycle word of its first place stands.
-    pub life: usize,
+    pub(crate) life: usize,
     /// Where the link word of its first place stands.
-    pub link: usize,
+    pub(crate) link: usize,
     /// Where the slot of its first place stands in each lane's row.
-    pub slot: usize,
+    pub(crate) slot: usize,
 }
 
 /// The rows of all pages, 16 to a shard. None where memory was refused.
@@ -151,7 +151,7 @@ fn page_row(shape: &Shape, page: u32) -> PageRow
             slot: 0,
         };
     }
-    let first = page << 12;
+    let first = page * PAGE_NUMBERS;
     let position = shape.position(first);
     let life = life_word(shape, first, position);
     PageRow {

@@ -1,6 +1,7 @@
 //! How a pool's table is made, and its places are found.
 ghost use Rattle.std.specs.Prelude.{◌≡◌, ◌/◌, ◌↔◌, [], true, IfSome, IsSome};
 ghost use Rattle.poolsteps.specs.Layout.{page_row};
+ghost use Rattle.keybits.specs.declared.place.TheConstants.{PAGE_NUMBERS};
 ghost use Rattle.keybits.specs.Shapes.{IsShape, is_place};
 ghost use Rattle.poolsteps.specs.Rule.{first_view};
 ghost use Rattle.poolsteps.specs.Seats.{without_first, first_alone};
@@ -10,7 +11,7 @@ use crate::grid::{Grid, Hand, Spot};
 use crate::layout::{PageRow, first_slots, first_words, page_rows, slot_row};
 use crate::plays::Deal;
 use atomic_table::Table;
-use keybits::Shape;
+use keybits::{PAGE_NUMBERS, Shape};
 use slotcell::Clear;
 use std::alloc::Global;
 
@@ -63,8 +64,8 @@ impl<T: Clear> Grid<T> {
         ensures some { IfSome result (λ spot. IsSpot self.now.shape spot place) }
         ensures none { IsSome result ↔ is_place self.now.shape place ≡ true }
     {
-        let page = self.pages.get((place >> 12) as usize)?;
-        if place % 4096 < page.places {
+        let page = self.pages.get((place / PAGE_NUMBERS) as usize)?;
+        if place % PAGE_NUMBERS < page.places {
             Some(self.spot_in(page, place))
         } else {
             None
@@ -77,17 +78,17 @@ impl<T: Clear> Grid<T> {
         requires { is_place self.now.shape place ≡ true }
         ensures { IsSpot self.now.shape result place }
     {
-        self.spot_in(&self.pages[(place >> 12) as usize], place)
+        self.spot_in(&self.pages[(place / PAGE_NUMBERS) as usize], place)
     }
 
     /// Where the words and the slots of a place stand, by the row of its page.
     #[inline]
     fn spot_in(&self, page: &PageRow, place: u32) -> Spot
         requires place { is_place self.now.shape place ≡ true }
-        requires page { page.now ≡ page_row self.now.shape (place / 4096) }
+        requires page { page.now ≡ page_row self.now.shape (place / PAGE_NUMBERS) }
         ensures { IsSpot self.now.shape result place }
     {
-        let index = (place % 4096) as usize;
+        let index = (place % PAGE_NUMBERS) as usize;
         Spot {
             place,
             position: page.position + index,

@@ -11,9 +11,18 @@ ghost use Rattle.poolsteps.specs.Moved.{stored_of};
 
 use crate::grid::{Grid, Hand, Spot};
 use crate::plays::{Aim, Claim, Enter, Leave, Mark, Publish, Purpose};
-use keybits::{Life, State, claimed};
+use keybits::{claimable, claimed};
 use slotcell::{Clear, Share};
 use std::marker::Brand;
+
+/// What a reference adds to a lifecycle word, whose count has the bits 2 to 31.
+const ONE_COUNT: u64 = 1 << 2;
+
+/// What a publish adds to an idle lifecycle word, which is then present.
+const PRESENT: u64 = 1;
+
+/// The bit that a mark sets in a present lifecycle word, which is then marked.
+const MARK: u64 = 2;
 
 impl<T: Clear> Grid<T> {
     /// ENTER of a get or of a clear of a key: one is added to the count of its place. Answers the word that was found; the
@@ -45,7 +54,9 @@ impl<T: Clear> Grid<T> {
     {
         let _ = key;
         let _ = purpose;
-        self.table.shared.fetch_add::<Enter<J>>(hand, spot.life, 4)
+        self.table
+            .shared
+            .fetch_add::<Enter<J>>(hand, spot.life, ONE_COUNT)
     }
 
     /// LEAVE: one is taken from the count of a key's place. It gives back a reference where nothing is under way, and else
@@ -71,7 +82,9 @@ impl<T: Clear> Grid<T> {
         ensures leaves { Leaves self.now.shape key hand.old.me result hand.new.me }
     {
         let _ = key;
-        self.table.shared.fetch_sub::<Leave<J>>(hand, spot.life, 4)
+        self.table
+            .shared
+            .fetch_sub::<Leave<J>>(hand, spot.life, ONE_COUNT)
     }
 
     /// PUBLISH, without a reference, of the content of the cell at the place of a key: the place is with the lane, and each
@@ -136,7 +149,11 @@ impl<T: Clear> Grid<T> {
         ensures publishes { Publishes self.now.shape key J.stored with_ref hand.old.me result hand.new.me }
     {
         let _ = key;
-        let added = if with_ref { 5 } else { 1 };
+        let added = if with_ref {
+            PRESENT + ONE_COUNT
+        } else {
+            PRESENT
+        };
         self.table
             .shared
             .fetch_add::<Publish<J>>(hand, spot.life, added)
@@ -165,7 +182,7 @@ impl<T: Clear> Grid<T> {
         ensures marks { Marks self.now.shape key hand.old.me result hand.new.me }
     {
         let _ = key;
-        self.table.shared.fetch_or::<Mark<J>>(hand, spot.life, 2)
+        self.table.shared.fetch_or::<Mark<J>>(hand, spot.life, MARK)
     }
 
     /// CLAIM of the place and generation that the lane owes: it succeeds where the word found is (generation, MARKED, count
@@ -190,12 +207,7 @@ impl<T: Clear> Grid<T> {
         ensures hand { SameSeat hand.old hand.new }
         ensures claims { Claims self.now.shape spot.place generation hand.old.me result hand.new.me }
     {
-        let owed = Life {
-            generation,
-            count: 0,
-            state: State::Marked,
-        };
-        let old = owed.word();
+        let old = claimable(generation);
         let new = claimed(old, self.shape.last_generation);
         self.table
             .shared

@@ -20,12 +20,12 @@ compare_exchange-requires g c =
     let generation : ℕ = c.args.generation in
     let new : ℕ = c.claimed-new.result in
     let asked = c.requires in
-    let old : c.word-old.result ≡ claimable generation = c.word-old.ensures in (
+    let old : c.claimable-old.result ≡ claimable generation = c.claimable-old.ensures in (
       asked.hand.0,
       rw (asked.spot.life, grid.sized) (index-below z grid.checked (Life place) asked.spot.inside),
       rw (asked.aim, asked.spot.life, old, asked.owes, grid.shape_is)
           (life-allows content room z grid.table.shared.table_id.slots hand.id hand.me asked.hand.1 place asked.spot.inside
           (λ word. either (word == claimable generation) new word) (Claims z place generation hand.me)
           (λ words w slots point at small. claim-makes content room z words w slots point hand.me place generation new at asked.spot.inside asked.owes
-          (claim-given z.last_generation generation c.word-old.result new old c.claimed-new.ensures.step))),
+          (claim-given z.last_generation generation c.claimable-old.result new old c.claimed-new.ensures.step))),
     )
