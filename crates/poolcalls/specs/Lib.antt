@@ -1,3 +1,4 @@
+pub mod AtPlace
 pub mod Called
 pub mod Carried
 pub mod Taken

@@ -1,20 +1,21 @@
 //! The calls of a key: get, release and clear. A key's place is one of the pool's.
 ghost use Rattle.std.specs.Prelude.{◌∷◌, [], ◌≡◌, ◌≢◌, ◌<◌, IfSome, true};
 ghost use Rattle.keybits.specs.Keys.{place_of, is_key};
-ghost use Rattle.keybits.specs.Places.{shard_of as shard_number};
 ghost use Rattle.seqpool.specs.declared.act.Act.TheVariants as acts;
 ghost use Rattle.sharelaws.specs.declared.stored.Status.TheVariants.{Untouched};
 ghost use Rattle.steplaws.specs.Calls.Call.{Getting, Releasing, Clearing};
 ghost use Rattle.steplaws.specs.Facts.{most_references};
-ghost use Rattle.poolsteps.specs.Views.{the_lane, pushed_in, status_of, IsOne};
-ghost use Rattle.poolsteps.specs.Grids.{IsSpot, IsOf, SameSeat};
+ghost use Rattle.poolsteps.specs.Views.{the_lane, status_of, IsOne};
+ghost use Rattle.poolsteps.specs.Grids.{IsOf, SameSeat};
 ghost use Rattle.poolsteps.specs.Told.{IsIdle, references_seen};
+ghost use Rattle.poolcalls.specs.AtPlace.{IsAt};
 ghost use Rattle.poolcalls.specs.Called.{Called, EndsWithActs, IsReclaimed, HasGot};
 
+use crate::at_place::At;
 use crate::ends::settle;
 use crate::reclaimed::{Got, Reclaimed};
 use keybits::{is_hit, is_present};
-use poolsteps::{Grid, Hand, Purpose, Spot};
+use poolsteps::{Grid, Hand, Purpose};
 use slotcell::Clear;
 use std::alloc::Global;
 
@@ -23,28 +24,24 @@ pub fn get<T: Clear + Drop>(
     alloc: Global,
     grid: &Grid<T>,
     hand: &mut Hand<T>,
-    spot: Spot,
-    lane: u32,
+    at: At,
     key: u64,
-    top: u64,
 ) -> Got<T>
     requires hand { IsOf grid.now hand.old × IsOne hand.old.me.0 }
-    requires spot { IsSpot grid.now.shape spot (place_of key) }
-    requires lane { (lane ≡ (the_lane hand.old.me.0).lane) × (lane < grid.now.shape.lanes) }
+    requires at { IsAt grid.now.shape hand.old.me.0 (place_of key) at }
     requires key { is_key grid.now.shape key ≡ true }
     requires idle { IsIdle hand.old.me.0 }
     requires room { references_seen grid.now.shape hand.old.me.0 key < most_references }
-    requires top { top ≡ pushed_in (the_lane hand.old.me.0).pushed (shard_number (place_of key)) }
     ensures hand { SameSeat hand.old hand.new }
     ensures called { Called grid.now.shape (Getting key) 34 hand.old.me hand.new.me }
     ensures got { HasGot T.content T.room grid.now.shape key hand.old.me hand.new.me result }
 {
-    let found = grid.enter(hand, spot, key, Purpose::ToGet);
+    let found = grid.enter(hand, at.spot, key, Purpose::ToGet);
     if is_hit(key, found) {
         return Got::Hit;
     }
-    let left = grid.leave(hand, spot, key);
-    Got::Miss(settle(alloc, grid, hand, spot, lane, left, top))
+    let left = grid.leave(hand, at.spot, key);
+    Got::Miss(settle(alloc, grid, hand, at, left))
 }
 
 /// A release of a key to which the lane has a reference; its share is back in its slot where that is the last. It takes no
@@ -53,25 +50,21 @@ pub fn release<T: Clear + Drop>(
     alloc: Global,
     grid: &Grid<T>,
     hand: &mut Hand<T>,
-    spot: Spot,
-    lane: u32,
+    at: At,
     key: u64,
-    top: u64,
 ) -> Option<Reclaimed<T>>
     requires hand { IsOf grid.now hand.old × IsOne hand.old.me.0 }
-    requires spot { IsSpot grid.now.shape spot (place_of key) }
-    requires lane { (lane ≡ (the_lane hand.old.me.0).lane) × (lane < grid.now.shape.lanes) }
+    requires at { IsAt grid.now.shape hand.old.me.0 (place_of key) at }
     requires idle { IsIdle hand.old.me.0 }
     requires held { 0 < references_seen grid.now.shape hand.old.me.0 key }
-    requires share { status_of (the_lane hand.old.me.0) (place_of key) lane ≢ Untouched → 1 < references_seen grid.now.shape hand.old.me.0 key }
-    requires top { top ≡ pushed_in (the_lane hand.old.me.0).pushed (shard_number (place_of key)) }
+    requires share { status_of (the_lane hand.old.me.0) (place_of key) at.lane ≢ Untouched → 1 < references_seen grid.now.shape hand.old.me.0 key }
     ensures hand { SameSeat hand.old hand.new }
     ensures called { Called grid.now.shape (Releasing key) 34 hand.old.me hand.new.me }
-    ensures acts { EndsWithActs grid.now.shape (place_of key) (acts.Release lane key ∷ []) hand.old.me.0 hand.new.me.0 result }
-    ensures reclaimed { IfSome result (IsReclaimed T.content T.room grid.now.shape (place_of key) lane hand.new.me.0) }
+    ensures acts { EndsWithActs grid.now.shape (place_of key) (acts.Release at.lane key ∷ []) hand.old.me.0 hand.new.me.0 result }
+    ensures reclaimed { IfSome result (IsReclaimed T.content T.room grid.now.shape (place_of key) at.lane hand.new.me.0) }
 {
-    let left = grid.leave(hand, spot, key);
-    settle(alloc, grid, hand, spot, lane, left, top)
+    let left = grid.leave(hand, at.spot, key);
+    settle(alloc, grid, hand, at, left)
 }
 
 /// A clear of a key. Answers whether it is the one that marked it, and what became of its place where that was reclaimed. It
@@ -80,24 +73,20 @@ pub fn clear<T: Clear + Drop>(
     alloc: Global,
     grid: &Grid<T>,
     hand: &mut Hand<T>,
-    spot: Spot,
-    lane: u32,
+    at: At,
     key: u64,
-    top: u64,
 ) -> (bool, Option<Reclaimed<T>>)
     requires hand { IsOf grid.now hand.old × IsOne hand.old.me.0 }
-    requires spot { IsSpot grid.now.shape spot (place_of key) }
-    requires lane { (lane ≡ (the_lane hand.old.me.0).lane) × (lane < grid.now.shape.lanes) }
+    requires at { IsAt grid.now.shape hand.old.me.0 (place_of key) at }
     requires key { is_key grid.now.shape key ≡ true }
     requires idle { IsIdle hand.old.me.0 }
-    requires top { top ≡ pushed_in (the_lane hand.old.me.0).pushed (shard_number (place_of key)) }
     ensures hand { SameSeat hand.old hand.new }
     ensures called { Called grid.now.shape (Clearing key) 34 hand.old.me hand.new.me }
-    ensures acts { EndsWithActs grid.now.shape (place_of key) (acts.Clear lane key result.0 ∷ []) hand.old.me.0 hand.new.me.0 result.1 }
-    ensures reclaimed { IfSome result.1 (IsReclaimed T.content T.room grid.now.shape (place_of key) lane hand.new.me.0) }
+    ensures acts { EndsWithActs grid.now.shape (place_of key) (acts.Clear at.lane key result.0 ∷ []) hand.old.me.0 hand.new.me.0 result.1 }
+    ensures reclaimed { IfSome result.1 (IsReclaimed T.content T.room grid.now.shape (place_of key) at.lane hand.new.me.0) }
 {
-    let found = grid.enter(hand, spot, key, Purpose::ToClear);
-    let marked = is_hit(key, found) && is_present(grid.mark(hand, spot, key));
-    let left = grid.leave(hand, spot, key);
-    (marked, settle(alloc, grid, hand, spot, lane, left, top))
+    let found = grid.enter(hand, at.spot, key, Purpose::ToClear);
+    let marked = is_hit(key, found) && is_present(grid.mark(hand, at.spot, key));
+    let left = grid.leave(hand, at.spot, key);
+    (marked, settle(alloc, grid, hand, at, left))
 }

@@ -1,19 +1,20 @@
 //! The end of a call that leaves a place: what follows its LEAVE.
 ghost use Rattle.std.specs.Prelude.{◌≡◌, ◌≢◌, ◌<◌, ◌≤◌, [], Some, None, IfSome, if◌then◌else◌};
-ghost use Rattle.keybits.specs.Places.{shard_of as shard_number};
 ghost use Rattle.keybits.specs.Words.{generation_in, owes_claim};
 ghost use Rattle.steplaws.specs.StepLaws.{owed_after};
 ghost use Rattle.sharelaws.specs.Shares.{room_of};
-ghost use Rattle.poolsteps.specs.Views.{the_lane, pushed_in, known_of, IsOne};
-ghost use Rattle.poolsteps.specs.Grids.{IsSpot, IsOf, SameSeat};
+ghost use Rattle.poolsteps.specs.Views.{the_lane, known_of, IsOne};
+ghost use Rattle.poolsteps.specs.Grids.{IsOf, SameSeat};
 ghost use Rattle.poolsteps.specs.Told.{HasPlace, LeftAlone, claimed_under};
+ghost use Rattle.poolcalls.specs.AtPlace.{IsAt};
 ghost use Rattle.poolcalls.specs.Called.{EndsWithActs, TailActs, IsLawful, Ends, Tails, IsReclaimed};
 
+use crate::at_place::At;
 use crate::cells::{rest_cell, take_cell};
 use crate::homes::give_home;
 use crate::reclaimed::Reclaimed;
 use keybits::{Life, claimable, owes_claim, shard_of};
-use poolsteps::{Grid, Hand, Spot, shares_law};
+use poolsteps::{Grid, Hand, shares_law};
 use slotcell::Clear;
 use std::alloc::Global;
 
@@ -25,28 +26,24 @@ pub(crate) fn settle<T: Clear + Drop>(
     alloc: Global,
     grid: &Grid<T>,
     hand: &mut Hand<T>,
-    spot: Spot,
-    lane: u32,
+    at: At,
     found: u64,
-    top: u64,
 ) -> Option<Reclaimed<T>>
     requires hand { IsOf grid.now hand.old × IsOne hand.old.me.0 }
-    requires spot { IsSpot grid.now.shape spot spot.place }
-    requires lane { (lane ≡ (the_lane hand.old.me.0).lane) × (lane < grid.now.shape.lanes) }
+    requires at { IsAt grid.now.shape hand.old.me.0 at.spot.place at }
     requires seen { IsLawful grid.now.shape hand.old.me.0 }
-    requires owes { (the_lane hand.old.me.0).under ≡ owed_after spot.place found }
-    requires top { top ≡ pushed_in (the_lane hand.old.me.0).pushed (shard_number spot.place) }
+    requires owes { (the_lane hand.old.me.0).under ≡ owed_after at.spot.place found }
     ensures hand { SameSeat hand.old hand.new }
-    ensures ends { Ends grid.now.shape spot.place found hand.old.me hand.new.me }
-    ensures acts { EndsWithActs grid.now.shape spot.place [] hand.old.me.0 hand.new.me.0 result }
-    ensures reclaimed { IfSome result (IsReclaimed T.content T.room grid.now.shape spot.place lane hand.new.me.0) }
+    ensures ends { Ends grid.now.shape at.spot.place found hand.old.me hand.new.me }
+    ensures acts { EndsWithActs grid.now.shape at.spot.place [] hand.old.me.0 hand.new.me.0 result }
+    ensures reclaimed { IfSome result (IsReclaimed T.content T.room grid.now.shape at.spot.place at.lane hand.new.me.0) }
 {
     let generation = owed_by(found)?;
-    let word = grid.claim(hand, spot, generation);
+    let word = grid.claim(hand, at.spot, generation);
     if word != claimable(generation) {
         return None;
     }
-    Some(take_back(alloc, grid, hand, spot, lane, generation, top))
+    Some(take_back(alloc, grid, hand, at, generation))
 }
 
 /// The generation whose claim a LEAVE that found this word owes, where it owes one.
@@ -67,33 +64,29 @@ fn take_back<T: Clear + Drop>(
     alloc: Global,
     grid: &Grid<T>,
     hand: &mut Hand<T>,
-    spot: Spot,
-    lane: u32,
+    at: At,
     generation: u32,
-    top: u64,
 ) -> Reclaimed<T>
     requires hand { IsOf grid.now hand.old × IsOne hand.old.me.0 }
-    requires spot { IsSpot grid.now.shape spot spot.place }
-    requires lane { (lane ≡ (the_lane hand.old.me.0).lane) × (lane < grid.now.shape.lanes) }
-    requires under { (the_lane hand.old.me.0).under ≡ claimed_under grid.now.shape lane spot.place generation }
-    requires place { HasPlace grid.now.shape hand.old.me.0 spot.place × LeftAlone grid.now.shape (the_lane hand.old.me.0) spot.place }
-    requires room { (known_of (the_lane hand.old.me.0) spot.place).room ≡ room_of hand.old.me.0.seen hand.old.me.0.rooms spot.place }
-    requires top { top ≡ pushed_in (the_lane hand.old.me.0).pushed (shard_number spot.place) }
+    requires at { IsAt grid.now.shape hand.old.me.0 at.spot.place at }
+    requires under { (the_lane hand.old.me.0).under ≡ claimed_under grid.now.shape at.lane at.spot.place generation }
+    requires place { HasPlace grid.now.shape hand.old.me.0 at.spot.place × LeftAlone grid.now.shape (the_lane hand.old.me.0) at.spot.place }
+    requires room { (known_of (the_lane hand.old.me.0) at.spot.place).room ≡ room_of hand.old.me.0.seen hand.old.me.0.rooms at.spot.place }
     ensures hand { SameSeat hand.old hand.new }
-    ensures tails { Tails grid.now.shape spot.place generation hand.old.me hand.new.me }
-    ensures acts { TailActs grid.now.shape spot.place generation hand.old.me.0 hand.new.me.0 result }
-    ensures reclaimed { IsReclaimed T.content T.room grid.now.shape spot.place lane hand.new.me.0 result }
+    ensures tails { Tails grid.now.shape at.spot.place generation hand.old.me hand.new.me }
+    ensures acts { TailActs grid.now.shape at.spot.place generation hand.old.me.0 hand.new.me.0 result }
+    ensures reclaimed { IsReclaimed T.content T.room grid.now.shape at.spot.place at.lane hand.new.me.0 result }
 {
     shares_law();
-    let mut whole = take_cell(alloc, grid, hand, spot, lane);
+    let mut whole = take_cell(alloc, grid, hand, at.spot, at.lane);
     if generation == grid.shape.last_generation {
         return Reclaimed::Retired;
     }
     whole.get_mut().clear();
-    if shard_of(spot.place) == lane {
+    if shard_of(at.spot.place) == at.lane {
         return Reclaimed::Own(whole);
     }
-    rest_cell(grid, hand, spot, lane, whole);
-    give_home(grid, hand, spot, lane, top);
+    rest_cell(grid, hand, at.spot, at.lane, whole);
+    give_home(grid, hand, at);
     Reclaimed::Returned
 }

@@ -1,20 +1,21 @@
 //! Calls that end for good after so many steps. What a lane has under way then stays so: its hand is never used again.
 ghost use Rattle.std.specs.Prelude.{◌≡◌, ◌≢◌, ◌<◌, ℕ, [], ◌∷◌, None, true, false};
 ghost use Rattle.keybits.specs.Keys.{place_of, is_key};
-ghost use Rattle.keybits.specs.Places.{shard_of as shard_number};
 ghost use Rattle.sharelaws.specs.declared.stored.Status.TheVariants.{Untouched};
 ghost use Rattle.sharelaws.specs.Shares.{room_of};
 ghost use Rattle.steplaws.specs.declared.pending.Pending.TheVariants.{Returns};
 ghost use Rattle.steplaws.specs.Calls.Call.{Getting, Releasing, Clearing, Creating};
 ghost use Rattle.steplaws.specs.Facts.{most_references};
 ghost use Rattle.steplaws.specs.StepLaws.{owed_after};
-ghost use Rattle.poolsteps.specs.Views.{the_lane, pushed_in, status_of, known_of, IsOne};
+ghost use Rattle.poolsteps.specs.Views.{the_lane, status_of, known_of, IsOne};
 ghost use Rattle.poolsteps.specs.Grids.{IsSpot, IsOf, SameSeat};
 ghost use Rattle.poolsteps.specs.Told.{IsIdle, HasPlace, LeftAlone, MayLeave, claimed_under, references_seen};
 ghost use Rattle.poolsteps.specs.Returned.{IsAtRest, rest_of};
+ghost use Rattle.poolcalls.specs.AtPlace.{IsAt};
 ghost use Rattle.poolcalls.specs.Called.{IsLawful};
 ghost use Rattle.poolcalls.specs.Halted.{CalledWithin, LeavesWithin, EndsWithin, TailsWithin, GivesWithin, FollowsWithin};
 
+use crate::at_place::At;
 use crate::cells::{rest_cell, take_cell};
 use crate::ends::owed_by;
 use keybits::{claimable, is_hit, linked_place, shard_of};
@@ -28,29 +29,25 @@ pub fn get_within<T: Clear + Drop>(
     alloc: Global,
     grid: &Grid<T>,
     hand: &mut Hand<T>,
-    spot: Spot,
-    lane: u32,
+    at: At,
     key: u64,
-    top: u64,
     limit: u32,
 )
     requires hand { IsOf grid.now hand.old × IsOne hand.old.me.0 }
-    requires spot { IsSpot grid.now.shape spot (place_of key) }
-    requires lane { (lane ≡ (the_lane hand.old.me.0).lane) × (lane < grid.now.shape.lanes) }
+    requires at { IsAt grid.now.shape hand.old.me.0 (place_of key) at }
     requires key { is_key grid.now.shape key ≡ true }
     requires idle { IsIdle hand.old.me.0 }
     requires seen { IsLawful grid.now.shape hand.old.me.0 }
     requires room { references_seen grid.now.shape hand.old.me.0 key < most_references }
-    requires top { top ≡ pushed_in (the_lane hand.old.me.0).pushed (shard_number (place_of key)) }
     ensures hand { SameSeat hand.old hand.new }
     ensures called { CalledWithin grid.now.shape (Getting key) limit hand.old.me hand.new.me }
 {
     if limit == 0 {
         return;
     }
-    let found = grid.enter(hand, spot, key, Purpose::ToGet);
+    let found = grid.enter(hand, at.spot, key, Purpose::ToGet);
     if !is_hit(key, found) {
-        leave_within(alloc, grid, hand, spot, lane, key, top, limit - 1);
+        leave_within(alloc, grid, hand, at, key, limit - 1);
     }
 }
 
@@ -60,24 +57,20 @@ pub fn release_within<T: Clear + Drop>(
     alloc: Global,
     grid: &Grid<T>,
     hand: &mut Hand<T>,
-    spot: Spot,
-    lane: u32,
+    at: At,
     key: u64,
-    top: u64,
     limit: u32,
 )
     requires hand { IsOf grid.now hand.old × IsOne hand.old.me.0 }
-    requires spot { IsSpot grid.now.shape spot (place_of key) }
-    requires lane { (lane ≡ (the_lane hand.old.me.0).lane) × (lane < grid.now.shape.lanes) }
+    requires at { IsAt grid.now.shape hand.old.me.0 (place_of key) at }
     requires idle { IsIdle hand.old.me.0 }
     requires seen { IsLawful grid.now.shape hand.old.me.0 }
     requires held { 0 < references_seen grid.now.shape hand.old.me.0 key }
-    requires share { 0 < limit → status_of (the_lane hand.old.me.0) (place_of key) lane ≢ Untouched → 1 < references_seen grid.now.shape hand.old.me.0 key }
-    requires top { top ≡ pushed_in (the_lane hand.old.me.0).pushed (shard_number (place_of key)) }
+    requires share { 0 < limit → status_of (the_lane hand.old.me.0) (place_of key) at.lane ≢ Untouched → 1 < references_seen grid.now.shape hand.old.me.0 key }
     ensures hand { SameSeat hand.old hand.new }
     ensures called { CalledWithin grid.now.shape (Releasing key) limit hand.old.me hand.new.me }
 {
-    leave_within(alloc, grid, hand, spot, lane, key, top, limit);
+    leave_within(alloc, grid, hand, at, key, limit);
 }
 
 /// A clear of a key that ends after so many steps.
@@ -85,35 +78,31 @@ pub fn clear_within<T: Clear + Drop>(
     alloc: Global,
     grid: &Grid<T>,
     hand: &mut Hand<T>,
-    spot: Spot,
-    lane: u32,
+    at: At,
     key: u64,
-    top: u64,
     limit: u32,
 )
     requires hand { IsOf grid.now hand.old × IsOne hand.old.me.0 }
-    requires spot { IsSpot grid.now.shape spot (place_of key) }
-    requires lane { (lane ≡ (the_lane hand.old.me.0).lane) × (lane < grid.now.shape.lanes) }
+    requires at { IsAt grid.now.shape hand.old.me.0 (place_of key) at }
     requires key { is_key grid.now.shape key ≡ true }
     requires idle { IsIdle hand.old.me.0 }
     requires seen { IsLawful grid.now.shape hand.old.me.0 }
-    requires top { top ≡ pushed_in (the_lane hand.old.me.0).pushed (shard_number (place_of key)) }
     ensures hand { SameSeat hand.old hand.new }
     ensures called { CalledWithin grid.now.shape (Clearing key) limit hand.old.me hand.new.me }
 {
     if limit == 0 {
         return;
     }
-    let found = grid.enter(hand, spot, key, Purpose::ToClear);
+    let found = grid.enter(hand, at.spot, key, Purpose::ToClear);
     if !is_hit(key, found) {
-        leave_within(alloc, grid, hand, spot, lane, key, top, limit - 1);
+        leave_within(alloc, grid, hand, at, key, limit - 1);
         return;
     }
     if limit == 1 {
         return;
     }
-    grid.mark(hand, spot, key);
-    leave_within(alloc, grid, hand, spot, lane, key, top, limit - 2);
+    grid.mark(hand, at.spot, key);
+    leave_within(alloc, grid, hand, at, key, limit - 2);
 }
 
 /// TAKEs as a create makes them, and the FOLLOW behind one that found places, up to so many steps.
@@ -163,25 +152,21 @@ fn leave_within<T: Clear + Drop>(
     alloc: Global,
     grid: &Grid<T>,
     hand: &mut Hand<T>,
-    spot: Spot,
-    lane: u32,
+    at: At,
     key: u64,
-    top: u64,
     limit: u32,
 )
     requires hand { IsOf grid.now hand.old × IsOne hand.old.me.0 }
-    requires spot { IsSpot grid.now.shape spot (place_of key) }
-    requires lane { (lane ≡ (the_lane hand.old.me.0).lane) × (lane < grid.now.shape.lanes) }
+    requires at { IsAt grid.now.shape hand.old.me.0 (place_of key) at }
     requires may { 0 < limit → MayLeave grid.now.shape hand.old.me.0 key }
-    requires top { top ≡ pushed_in (the_lane hand.old.me.0).pushed (shard_number (place_of key)) }
     ensures hand { SameSeat hand.old hand.new }
     ensures leaves { LeavesWithin grid.now.shape key limit hand.old.me hand.new.me }
 {
     if limit == 0 {
         return;
     }
-    let found = grid.leave(hand, spot, key);
-    settle_within(alloc, grid, hand, spot, lane, found, top, limit - 1);
+    let found = grid.leave(hand, at.spot, key);
+    settle_within(alloc, grid, hand, at, found, limit - 1);
 }
 
 /// What follows a LEAVE that found this word, up to so many steps.
@@ -189,20 +174,16 @@ fn settle_within<T: Clear + Drop>(
     alloc: Global,
     grid: &Grid<T>,
     hand: &mut Hand<T>,
-    spot: Spot,
-    lane: u32,
+    at: At,
     found: u64,
-    top: u64,
     limit: u32,
 )
     requires hand { IsOf grid.now hand.old × IsOne hand.old.me.0 }
-    requires spot { IsSpot grid.now.shape spot spot.place }
-    requires lane { (lane ≡ (the_lane hand.old.me.0).lane) × (lane < grid.now.shape.lanes) }
+    requires at { IsAt grid.now.shape hand.old.me.0 at.spot.place at }
     requires seen { IsLawful grid.now.shape hand.old.me.0 }
-    requires owes { (the_lane hand.old.me.0).under ≡ owed_after spot.place found }
-    requires top { top ≡ pushed_in (the_lane hand.old.me.0).pushed (shard_number spot.place) }
+    requires owes { (the_lane hand.old.me.0).under ≡ owed_after at.spot.place found }
     ensures hand { SameSeat hand.old hand.new }
-    ensures ends { EndsWithin grid.now.shape spot.place found limit hand.old.me hand.new.me }
+    ensures ends { EndsWithin grid.now.shape at.spot.place found limit hand.old.me hand.new.me }
 {
     if limit == 0 {
         return;
@@ -210,12 +191,12 @@ fn settle_within<T: Clear + Drop>(
     let Some(generation) = owed_by(found) else {
         return;
     };
-    let word = grid.claim(hand, spot, generation);
+    let word = grid.claim(hand, at.spot, generation);
     if word != claimable(generation) {
         return;
     }
     if limit > 1 {
-        take_back_within(alloc, grid, hand, spot, lane, generation, top, limit - 1);
+        take_back_within(alloc, grid, hand, at, generation, limit - 1);
     }
 }
 
@@ -224,65 +205,52 @@ fn take_back_within<T: Clear + Drop>(
     alloc: Global,
     grid: &Grid<T>,
     hand: &mut Hand<T>,
-    spot: Spot,
-    lane: u32,
+    at: At,
     generation: u32,
-    top: u64,
     limit: u32,
 )
     requires hand { IsOf grid.now hand.old × IsOne hand.old.me.0 }
-    requires spot { IsSpot grid.now.shape spot spot.place }
-    requires lane { (lane ≡ (the_lane hand.old.me.0).lane) × (lane < grid.now.shape.lanes) }
+    requires at { IsAt grid.now.shape hand.old.me.0 at.spot.place at }
     requires seen { IsLawful grid.now.shape hand.old.me.0 }
-    requires under { (the_lane hand.old.me.0).under ≡ claimed_under grid.now.shape lane spot.place generation }
-    requires place { HasPlace grid.now.shape hand.old.me.0 spot.place × LeftAlone grid.now.shape (the_lane hand.old.me.0) spot.place }
-    requires room { (known_of (the_lane hand.old.me.0) spot.place).room ≡ room_of hand.old.me.0.seen hand.old.me.0.rooms spot.place }
-    requires top { top ≡ pushed_in (the_lane hand.old.me.0).pushed (shard_number spot.place) }
+    requires under { (the_lane hand.old.me.0).under ≡ claimed_under grid.now.shape at.lane at.spot.place generation }
+    requires place { HasPlace grid.now.shape hand.old.me.0 at.spot.place × LeftAlone grid.now.shape (the_lane hand.old.me.0) at.spot.place }
+    requires room { (known_of (the_lane hand.old.me.0) at.spot.place).room ≡ room_of hand.old.me.0.seen hand.old.me.0.rooms at.spot.place }
     requires some { 0 < limit }
     ensures hand { SameSeat hand.old hand.new }
-    ensures tails { TailsWithin grid.now.shape spot.place generation limit hand.old.me hand.new.me }
+    ensures tails { TailsWithin grid.now.shape at.spot.place generation limit hand.old.me hand.new.me }
 {
-    if generation == grid.shape.last_generation || shard_of(spot.place) == lane {
+    if generation == grid.shape.last_generation || shard_of(at.spot.place) == at.lane {
         return;
     }
     shares_law();
-    let mut whole = take_cell(alloc, grid, hand, spot, lane);
+    let mut whole = take_cell(alloc, grid, hand, at.spot, at.lane);
     whole.get_mut().clear();
-    rest_cell(grid, hand, spot, lane, whole);
-    give_home_within(grid, hand, spot, lane, top, limit);
+    rest_cell(grid, hand, at.spot, at.lane, whole);
+    give_home_within(grid, hand, at, limit);
 }
 
 /// The return of a place of another shard, which is at rest, up to so many steps.
-fn give_home_within<T: Clear>(
-    grid: &Grid<T>,
-    hand: &mut Hand<T>,
-    spot: Spot,
-    lane: u32,
-    top: u64,
-    limit: u32,
-)
+fn give_home_within<T: Clear>(grid: &Grid<T>, hand: &mut Hand<T>, at: At, limit: u32)
     requires hand { IsOf grid.now hand.old × IsOne hand.old.me.0 }
-    requires spot { IsSpot grid.now.shape spot spot.place }
-    requires lane { (lane ≡ (the_lane hand.old.me.0).lane) × (lane < grid.now.shape.lanes) }
-    requires returns { (the_lane hand.old.me.0).under ≡ Returns spot.place None false }
-    requires place { HasPlace grid.now.shape hand.old.me.0 spot.place }
-    requires top { top ≡ pushed_in (the_lane hand.old.me.0).pushed (shard_number spot.place) }
-    requires rests { IsAtRest grid.now.shape hand.old.me.0 spot.place }
+    requires at { IsAt grid.now.shape hand.old.me.0 at.spot.place at }
+    requires returns { (the_lane hand.old.me.0).under ≡ Returns at.spot.place None false }
+    requires place { HasPlace grid.now.shape hand.old.me.0 at.spot.place }
+    requires rests { IsAtRest grid.now.shape hand.old.me.0 at.spot.place }
     requires some { 0 < limit }
     ensures hand { SameSeat hand.old hand.new }
-    ensures gives { GivesWithin grid.now.shape spot.place limit hand.old.me hand.new.me }
+    ensures gives { GivesWithin grid.now.shape at.spot.place limit hand.old.me hand.new.me }
 {
     shares_law();
-    grid.link(hand, spot, top);
+    grid.link(hand, at.spot, at.top);
     if limit == 1 {
         return;
     }
-    let found = grid.push(hand, spot, lane, top);
-    if found == top || limit == 2 {
+    let found = grid.push(hand, at.spot, at.lane, at.top);
+    if found == at.top || limit == 2 {
         return;
     }
-    grid.link(hand, spot, 0);
+    grid.link(hand, at.spot, 0);
     if limit > 3 {
-        grid.push(hand, spot, lane, 0);
+        grid.push(hand, at.spot, at.lane, 0);
     }
 }

@@ -3,6 +3,7 @@
 //! after a number of steps.
 #![tactic(auto)]
 
+mod at_place;
 mod calls;
 mod cells;
 mod ends;
@@ -12,6 +13,7 @@ mod homes;
 mod reclaimed;
 mod takes;
 
+pub use at_place::At;
 pub use calls::{clear, get, release};
 pub use cells::{rest_cell, spread_cell, spread_others, take_cell, take_resting};
 pub use fills::{downgrade, publish};

@@ -2,7 +2,7 @@ ghost use Rattle.std.specs.Prelude.{◌≡◌, [], ◌∷◌, length, IfOk};
 ghost use Rattle.poolsteps.specs.Grids.{IsSpot, IsFirstHand};
 
 use keybits::Shape;
-use poolcalls::{Got, Reclaimed, clear, downgrade, get, publish, release};
+use poolcalls::{At, Got, Reclaimed, clear, downgrade, get, publish, release};
 use poolsteps::{Grid, Hand, Spot, acts_law};
 use slotcell::{ByteBuf, Clear, Share, Whole};
 use std::alloc::Global;
@@ -76,7 +76,12 @@ fn clear_alone<T: Clear + Drop, R: Abort>(
     requires spot { IsSpot grid.now.shape spot 0 }
     requires hand { IsFirstHand grid.now 1 hand.old }
 {
-    let (marked, reclaimed) = clear(alloc, grid, hand, spot, 1, KEY, 0);
+    let at = At {
+        spot,
+        lane: 1,
+        top: 0,
+    };
+    let (marked, reclaimed) = clear(alloc, grid, hand, at, KEY);
     assert!(rt; marked);
     assert!(rt; matches!(reclaimed, Some(Reclaimed::Returned)));
 }
@@ -94,10 +99,15 @@ fn get_and_release<T: Clear + Drop, R: Abort>(
     requires hand { IsFirstHand grid.now 1 hand.old }
 {
     acts_law();
-    let Got::Hit = get(alloc, grid, hand, spot, 1, KEY, 0) else {
+    let at = At {
+        spot,
+        lane: 1,
+        top: 0,
+    };
+    let Got::Hit = get(alloc, grid, hand, at, KEY) else {
         panic!(rt; "a miss")
     };
-    let reclaimed = release(alloc, grid, hand, spot, 1, KEY, 0);
+    let reclaimed = release(alloc, grid, hand, at, KEY);
     assert!(rt; reclaimed.is_none());
 }
 

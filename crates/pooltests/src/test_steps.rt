@@ -3,7 +3,6 @@ ghost use Rattle.std.specs.Mem.Slots.{IsFull};
 ghost use Rattle.keybits.specs.Keys.{place_of, is_key};
 ghost use Rattle.sharelaws.specs.declared.stored.Status.TheVariants.{Emptied};
 ghost use Rattle.sharelaws.specs.Shares.{room_of};
-ghost use Rattle.steplaws.specs.Calls.{owes_claim};
 ghost use Rattle.steplaws.specs.StepLaws.{owed_after};
 ghost use Rattle.poolsteps.specs.Views.{the_lane, status_of, known_of, IsOne};
 ghost use Rattle.poolsteps.specs.Grids.{IsSpot, IsOf, IsFirstHand};
@@ -11,7 +10,7 @@ ghost use Rattle.poolsteps.specs.Told.{IsIdle, HasPlace, LeftAlone, references_s
 ghost use Rattle.poolsteps.specs.Moved.{stored_of};
 
 use atomic_table::Closed;
-use keybits::{Life, Shape, State};
+use keybits::{Shape, owes_claim};
 use poolsteps::{Grid, Hand, Purpose, Spot, references_law, shares_law};
 use slotcell::{ByteBuf, Clear, Rest, Share, Slot, Whole};
 use std::alloc::Global;
@@ -382,14 +381,6 @@ fn returns_and_takes_a_place(rt: HostRuntime) -> Result<(), Fail> {
     Ok(())
 }
 
-/// A LEAVE that found this word leaves a claim to be made.
-fn owes(found: u64) -> bool
-    ensures { result ≡ owes_claim found }
-{
-    let life = Life::of_word(found);
-    life.state == State::Marked && life.count == 1
-}
-
 /// ENTER for a clear and LEAVE, so many times. None where a LEAVE leaves a claim to be made.
 fn enter_and_leave<T: Clear>(
     grid: &Grid<T>,
@@ -404,7 +395,7 @@ fn enter_and_leave<T: Clear>(
 {
     for _ in 0..times {
         grid.enter(&mut hand, spot, KEY, Purpose::ToClear);
-        if owes(grid.leave(&mut hand, spot, KEY)) {
+        if owes_claim(grid.leave(&mut hand, spot, KEY)) {
             return None;
         }
     }

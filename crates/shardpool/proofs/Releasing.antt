@@ -23,10 +23,13 @@ use Rattle.slotcell.specs.Share.{Share}
 use Rattle.sharelaws.specs.PlaceLaws.{gives_away}
 use Rattle.sharelaws.proofs.HeldContents.{held-content-law}
 use Rattle.poolsteps.specs.declared.view.View.{View}
+use Rattle.poolsteps.specs.Grids.{IsSpot}
 use Rattle.poolsteps.specs.Views.{the_lane, status_of, pushed_in}
 use Rattle.poolsteps.specs.Told.{IsIdle, references_seen}
 use Rattle.poolsteps.specs.Moved.{Backs}
 use Rattle.poolcalls.proofs.Moves.{back-moves, carries-back, moves-here}
+use Rattle.poolcalls.specs.declared.at_place.At.{At}
+use Rattle.poolcalls.specs.AtPlace.{IsAt}
 use Rattle.poolcalls.specs.declared.reclaimed.Reclaimed.{Reclaimed}
 use Rattle.poolcalls.specs.declared.reclaimed.Reclaimed.TheVariants.{Own}
 use Rattle.poolcalls.specs.Called.{Did as DidSo, IsReclaimed, EndsWithActs, end_acts}
@@ -250,10 +253,19 @@ module _ {T : Type 0} {content : T → List ℕ} {room : T → ℕ} {z : Shape} 
       (λ (several : lent.row.count ≢ 1). let same = lent-some in let is = of.3 in let any = of.2 in omega (arith, same, is, any, several))
 
   -- and the word that the lane pushed last there is the same
-  pub lent-top : (p : ℕ) → p ≡ place → slice_index s.tops.items (shard_of p) ≡ pushed_in (the_lane b.0).pushed (shard_of place)
+  lent-top : (p : ℕ) → p ≡ place → slice_index s.tops.items (shard_of p) ≡ pushed_in (the_lane b.0).pushed (shard_of place)
   lent-top p there =
       ap (λ (q : ℕ). slice_index s.tops.items (shard_of q)) there
       ∙ (fits.tops.each (shard_of place) (is_place-parts z place (place-inside s key fits some)).0 ∙ ap (λ (pushed : List (ℕ × ℕ)). pushed_in pushed (shard_of place)) (sym lent.pushed))
+
+  -- so the call acts at the key's place
+  pub lent-at : (acting : At) → IsSpot z acting.spot place → acting.lane ≡ s.number → acting.top ≡ slice_index s.tops.items (shard_of acting.spot.place) → IsAt z b.0 place acting
+  lent-at acting spot lane top = record {
+    spot = spot;
+    lane = lane ∙ (fits.seat.number_is ∙ sym lent.did.lane);
+    below = subst (λ (n : ℕ). n < z.lanes) (sym lane) fits.seat.below;
+    top = top ∙ lent-top acting.spot.place spot.place_is;
+  }
 
   stood-now : slice_get m.rows.items at ≡ Some row-lent
   stood-now = ap (λ (xs : List (Row T)). slice_get xs at) lent.rows ∙ stands-here s.rows.items at row-lent low

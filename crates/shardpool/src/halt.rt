@@ -16,7 +16,7 @@ use crate::rows::lend_home;
 use crate::shelf::Shelf;
 use crate::token::Ref;
 use keybits::place_of;
-use poolcalls::{clear_within, collect_within, follow_within, get_within, release_within};
+use poolcalls::{At, clear_within, collect_within, follow_within, get_within, release_within};
 use poolsteps::Hand;
 use slotcell::Clear;
 use std::marker::Model;
@@ -96,16 +96,12 @@ impl<T: Clear + Drop> Pool<T> {
             return;
         };
         let top = shelf.top(spot.place);
-        get_within(
-            shelf.alloc,
-            &self.grid,
-            hand,
+        let at = At {
             spot,
-            shelf.number,
-            key,
+            lane: shelf.number,
             top,
-            limit,
-        );
+        };
+        get_within(shelf.alloc, &self.grid, hand, at, key, limit);
     }
 
     /// A clear that ends after so many steps.
@@ -119,16 +115,12 @@ impl<T: Clear + Drop> Pool<T> {
             return;
         };
         let top = shelf.top(spot.place);
-        clear_within(
-            shelf.alloc,
-            &self.grid,
-            hand,
+        let at = At {
             spot,
-            shelf.number,
-            key,
+            lane: shelf.number,
             top,
-            limit,
-        );
+        };
+        clear_within(shelf.alloc, &self.grid, hand, at, key, limit);
     }
 
     /// A release that ends after so many steps.
@@ -143,18 +135,14 @@ impl<T: Clear + Drop> Pool<T> {
             return;
         }
         let spot = self.grid.spot(place_of(key));
-        lend_home(&self.grid, hand, shelf, spot, key);
         let top = shelf.top(spot.place);
-        release_within(
-            shelf.alloc,
-            &self.grid,
-            hand,
+        let at = At {
             spot,
-            shelf.number,
-            key,
+            lane: shelf.number,
             top,
-            limit,
-        );
+        };
+        lend_home(&self.grid, hand, shelf, spot, key);
+        release_within(shelf.alloc, &self.grid, hand, at, key, limit);
     }
 
     /// A create that ends after so many steps. It makes none where the lane's own list has a place, and none where nothing hangs and

@@ -16,7 +16,7 @@ use crate::shelf::Shelf;
 use crate::stores::keep_reclaimed;
 use crate::token::{Filling, Ref};
 use keybits::{Shape, generation_of, place_of, tag_of};
-use poolcalls::{Got, clear, downgrade, get, publish, release};
+use poolcalls::{At, Got, clear, downgrade, get, publish, release};
 use poolsteps::{Grid, Spot, shares_law};
 use slotcell::Clear;
 use std::marker::Model;
@@ -69,15 +69,12 @@ impl<T: Clear + Drop> Pool<T> {
         let spot = self.find(key)?;
         let number = lane.shelf.number;
         let top = lane.shelf.top(spot.place);
-        let got = get(
-            lane.shelf.alloc,
-            &self.grid,
-            &mut lane.hand,
+        let at = At {
             spot,
-            number,
-            key,
+            lane: number,
             top,
-        );
+        };
+        let got = get(lane.shelf.alloc, &self.grid, &mut lane.hand, at, key);
         match got {
             Got::Miss(reclaimed) => {
                 keep_reclaimed(&mut lane.shelf, spot.place, reclaimed);
@@ -107,18 +104,14 @@ impl<T: Clear + Drop> Pool<T> {
     {
         let key = reference.spend();
         let spot = self.grid.spot(place_of(key));
-        let number = lane.shelf.number;
         let top = lane.shelf.top(spot.place);
-        lend_home(&self.grid, &mut lane.hand, &mut lane.shelf, spot, key);
-        let reclaimed = release(
-            lane.shelf.alloc,
-            &self.grid,
-            &mut lane.hand,
+        let at = At {
             spot,
-            number,
-            key,
+            lane: lane.shelf.number,
             top,
-        );
+        };
+        lend_home(&self.grid, &mut lane.hand, &mut lane.shelf, spot, key);
+        let reclaimed = release(lane.shelf.alloc, &self.grid, &mut lane.hand, at, key);
         end(&mut lane.shelf, spot.position);
         keep_reclaimed(&mut lane.shelf, spot.place, reclaimed);
     }
@@ -141,15 +134,12 @@ impl<T: Clear + Drop> Pool<T> {
             return false;
         };
         let top = lane.shelf.top(spot.place);
-        let (marked, reclaimed) = clear(
-            lane.shelf.alloc,
-            &self.grid,
-            &mut lane.hand,
+        let at = At {
             spot,
-            lane.shelf.number,
-            key,
+            lane: lane.shelf.number,
             top,
-        );
+        };
+        let (marked, reclaimed) = clear(lane.shelf.alloc, &self.grid, &mut lane.hand, at, key);
         keep_reclaimed(&mut lane.shelf, spot.place, reclaimed);
         marked
     }

@@ -1,6 +1,7 @@
 //! The stores of a lane: the free places of its shard, and their objects.
 ghost use Rattle.std.specs.Prelude.{◌≡◌, ◌<◌, ◌≤◌, ℕ, true, Some, None, length, slice_get, All, Contains, MatchOption, []};
 ghost use Rattle.keybits.specs.declared.place.Place.{Place as Shown};
+ghost use Rattle.keybits.specs.declared.place.TheConstants.{SHARD_NUMBERS};
 ghost use Rattle.keybits.specs.declared.shape.TheConstants.{MOST_LANES};
 ghost use Rattle.keybits.specs.Places.{shard_of, number_of};
 ghost use Rattle.keybits.specs.Shapes.{IsShape, is_place, index_of, page_size, shard_places};
@@ -71,7 +72,7 @@ pub(crate) fn take_own<T: Drop>(shelf: &mut Shelf<T>) -> Option<(Place, Whole<T>
 /// The place that a word leads to becomes the first of the taken chain.
 pub(crate) fn hang<T: Drop>(shelf: &mut Shelf<T>, found: u64)
     requires shard { shelf.old.number < MOST_LANES }
-    requires word { (1 ≤ found) × (found ≤ 65536) }
+    requires word { (1 ≤ found) × (found ≤ SHARD_NUMBERS) }
     requires free { shelf.old.free.chain ≡ None }
     requires away { IsAway shelf.old.free (place_numbered (linked_place shelf.old.number found)) }
     ensures { Hangs found shelf.old shelf.new }

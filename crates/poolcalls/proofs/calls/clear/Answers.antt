@@ -8,19 +8,19 @@ use Rattle.poolcalls.proofs.calls.clear.Goals.{then-is_hit, else-is_hit}
 
 -- the call up to its LEAVE
 opened : (g : Over) (c : goal.After-settle g)
-    → Opened c.args.grid.now.shape (Clearing c.args.key) (acts.Clear c.args.lane c.args.key c.if-is_hit.marked) c.args.hand.now.me c.if-is_hit.hand.me
+    → Opened c.args.grid.now.shape (Clearing c.args.key) (acts.Clear c.args.at.lane c.args.key c.if-is_hit.marked) c.args.hand.now.me c.if-is_hit.hand.me
 opened g c = elim c.if-is_hit.branch [
   | then-is_hit w ↦
-      rw (c.requires.lane.0, w.hand-is, w.marked-is, w.is_present-marked.ensures)
+      rw (c.requires.at.lane, w.hand-is, w.marked-is, w.is_present-marked.ensures)
       (clear-marks c.requires.key c.enter-found.ensures.enters (sym c.is_hit.ensures ∙ w.if-is_hit.true) w.mark.ensures.marks)
   | else-is_hit w ↦
-      rw (c.requires.lane.0, w.hand-is, w.marked-is, w.if-is_hit.false)
+      rw (c.requires.at.lane, w.hand-is, w.marked-is, w.if-is_hit.false)
       (clear-misses c.requires.key c.enter-found.ensures.enters (sym c.is_hit.ensures ∙ w.if-is_hit.false))
 ]
 
 pub returns-clause-called : goal.returns-clause-called
-returns-clause-called g c = called-after (opened g c) refl c.leave-left.ensures.leaves c.requires.spot.place_is c.settle.ensures.ends
+returns-clause-called g c = called-after (opened g c) refl c.leave-left.ensures.leaves c.requires.at.spot.place_is c.settle.ensures.ends
 
 pub returns-clause-acts : goal.returns-clause-acts
-returns-clause-acts g c = rw (sym c.requires.spot.place_is)
-    (acts-behind (opened g c) refl c.leave-left.ensures.leaves c.requires.spot.place_is c.settle.ensures.ends c.settle.result c.settle.ensures.acts)
+returns-clause-acts g c = rw (sym c.requires.at.spot.place_is)
+    (acts-behind (opened g c) refl c.leave-left.ensures.leaves c.requires.at.spot.place_is c.settle.ensures.ends c.settle.result c.settle.ensures.acts)

@@ -19,11 +19,11 @@ opened : (g : Over) (c : goal.After-settle g)
 opened g c = get-misses c.requires.key c.enter-found.ensures.enters (sym c.is_hit.ensures ∙ c.if-is_hit.false)
 
 pub returns-clause-called : goal.returns-clause-called
-returns-clause-called g c = called-after (opened g c) refl c.leave-left.ensures.leaves c.requires.spot.place_is c.settle.ensures.ends
+returns-clause-called g c = called-after (opened g c) refl c.leave-left.ensures.leaves c.requires.at.spot.place_is c.settle.ensures.ends
 
 pub returns-clause-got : goal.returns-clause-got
 returns-clause-got g c = (
-  rw (sym c.requires.spot.place_is)
-      (acts-behind (opened g c) refl c.leave-left.ensures.leaves c.requires.spot.place_is c.settle.ensures.ends c.settle.result c.settle.ensures.acts),
-  rw (sym c.requires.spot.place_is, sym c.requires.lane.0) c.settle.ensures.reclaimed,
+  rw (sym c.requires.at.spot.place_is)
+      (acts-behind (opened g c) refl c.leave-left.ensures.leaves c.requires.at.spot.place_is c.settle.ensures.ends c.settle.result c.settle.ensures.acts),
+  rw (sym c.requires.at.spot.place_is, sym c.requires.at.lane) c.settle.ensures.reclaimed,
 )

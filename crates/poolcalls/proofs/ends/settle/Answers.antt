@@ -7,7 +7,7 @@ returns-in_err-generation-clause-ends g c =
     ends-none c.requires.hand.1 c.requires.seen c.requires.owes (owes-none c.args.found c.owed_by.ensures c.in_err-generation.was)
 
 pub returns-in_err-generation-clause-acts : goal.returns-in_err-generation-clause-acts
-returns-in_err-generation-clause-acts g c = rw c.from_residual.ensures (still-acts g.row.T.Denot c.args.grid.now.shape c.args.spot.place c.args.hand.now.me.0)
+returns-in_err-generation-clause-acts g c = rw c.from_residual.ensures (still-acts g.row.T.Denot c.args.grid.now.shape c.args.at.spot.place c.args.hand.now.me.0)
 
 pub returns-then-word-claimable-clause-ends : goal.returns-then-word-claimable-clause-ends
 returns-then-word-claimable-clause-ends g c =
@@ -26,5 +26,5 @@ pub returns-clause-acts : goal.returns-clause-acts
 returns-clause-acts g c =
     let told = c.claim-word.ensures.claims.0 (c.if-word-claimable.false ∙ c.claimable.ensures) in
     let won = told.4 in
-    won-acts c.args.grid.now.shape c.args.spot.place c.in_ok-generation.generation c.args.hand.now.me.0 c.claim-word.new.hand.me.0 c.take_back.new.hand.me.0 _
+    won-acts c.args.grid.now.shape c.args.at.spot.place c.in_ok-generation.generation c.args.hand.now.me.0 c.claim-word.new.hand.me.0 c.take_back.new.hand.me.0 _
     c.take_back.result won.goes.lanes refl refl refl c.take_back.ensures.acts told.3

@@ -10,53 +10,53 @@ use Rattle.poolcalls.proofs.ends.take_back.Goals as goal
 pub returns-then-generation-grid-clause-tails : goal.returns-then-generation-grid-clause-tails
 returns-then-generation-grid-clause-tails g c leave claim is claimed =
     let z : Shape = c.args.grid.now.shape in
-    let place : ℕ = c.args.spot.place in
+    let place : ℕ = c.args.at.spot.place in
     let carries = c.take_cell-whole.ensures.carries in
     let last = c.if-generation-grid.true in
     let most = c.args.grid.now.checked.lanes.1 in
     let few : 2 * z.lanes ≤ 34 = omega arith in
     goes-most
     (goes-none (leave ∷ claim ∷ []) (did-carries carries few) (ends-at-last (caller_of z c.args.hand.now.me.0) place leave claim (is ∙ last))
-    (carries.elsewhere.under ∙ (c.requires.under ∙ none-at-last z c.args.lane place c.args.generation last))) (omega arith) (omega arith)
+    (carries.elsewhere.under ∙ (c.requires.under ∙ none-at-last z c.args.at.lane place c.args.generation last))) (omega arith) (omega arith)
 
-pub returns-then-shard_of-lane-clause-tails : goal.returns-then-shard_of-lane-clause-tails
-returns-then-shard_of-lane-clause-tails g c leave claim is claimed =
+pub returns-then-shard_of-at-clause-tails : goal.returns-then-shard_of-at-clause-tails
+returns-then-shard_of-at-clause-tails g c leave claim is claimed =
     let z : Shape = c.args.grid.now.shape in
-    let place : ℕ = c.args.spot.place in
+    let place : ℕ = c.args.at.spot.place in
     let carries = c.take_cell-whole.ensures.carries in
-    let own = sym c.shard_of.ensures ∙ c.if-shard_of-lane.true in
+    let own = sym c.shard_of.ensures ∙ c.if-shard_of-at.true in
     let most = c.args.grid.now.checked.lanes.1 in
     let few : 2 * z.lanes ≤ 34 = omega arith in
     goes-most
-    (goes-none (leave ∷ claim ∷ []) (did-carries carries few) (ends-at-own (caller_of z c.args.hand.now.me.0) place leave claim (own ∙ c.requires.lane.0))
-    (carries.elsewhere.under ∙ (c.requires.under ∙ none-at-own z c.args.lane place c.args.generation own))) (omega arith) (omega arith)
+    (goes-none (leave ∷ claim ∷ []) (did-carries carries few) (ends-at-own (caller_of z c.args.hand.now.me.0) place leave claim (own ∙ c.requires.at.lane))
+    (carries.elsewhere.under ∙ (c.requires.under ∙ none-at-own z c.args.at.lane place c.args.generation own))) (omega arith) (omega arith)
 
-pub returns-then-shard_of-lane-clause-reclaimed : goal.returns-then-shard_of-lane-clause-reclaimed
-returns-then-shard_of-lane-clause-reclaimed g c =
+pub returns-then-shard_of-at-clause-reclaimed : goal.returns-then-shard_of-at-clause-reclaimed
+returns-then-shard_of-at-clause-reclaimed g c =
     let law = c.shares_law.ensures.stays in
     let took = c.take_cell-whole.ensures in
-    let same = room-still took.carries law c.args.spot.place c.requires.place.0 in
+    let same = room-still took.carries law c.args.at.spot.place c.requires.place.0 in
     let old = ap g.T.Clear.room c.get_mut.ensures.object in (
-      sym c.shard_of.ensures ∙ c.if-shard_of-lane.true,
-      carried-place took.carries law c.args.spot.place c.requires.place.0,
+      sym c.shard_of.ensures ∙ c.if-shard_of-at.true,
+      carried-place took.carries law c.args.at.spot.place c.requires.place.0,
       took.slots,
       c.clear.ensures.empty,
       omega (arith, same, c.requires.room, took.cell.1, old, c.clear.ensures.room_kept),
     )
 
 pub rest_cell-requires-clause-place : goal.rest_cell-requires-clause-place
-rest_cell-requires-clause-place g c = carried-place c.take_cell-whole.ensures.carries c.shares_law.ensures.stays c.args.spot.place c.requires.place.0
+rest_cell-requires-clause-place g c = carried-place c.take_cell-whole.ensures.carries c.shares_law.ensures.stays c.args.at.spot.place c.requires.place.0
 
 pub give_home-requires-clause-place : goal.give_home-requires-clause-place
 give_home-requires-clause-place g c =
     let law = c.shares_law.ensures.stays in
-    let place : ℕ = c.args.spot.place in
+    let place : ℕ = c.args.at.spot.place in
     carried-place c.rest_cell.ensures.carries law place (carried-place c.take_cell-whole.ensures.carries law place c.requires.place.0)
 
 pub give_home-requires-clause-rests : goal.give_home-requires-clause-rests
 give_home-requires-clause-rests g c =
     let law = c.shares_law.ensures.stays in
-    let place : ℕ = c.args.spot.place in
+    let place : ℕ = c.args.at.spot.place in
     let took = c.take_cell-whole.ensures in
     let rests = c.rest_cell.ensures in
     let first = room-still took.carries law place c.requires.place.0 in
@@ -78,4 +78,4 @@ returns-clause-tails g c leave claim is claimed =
     let lane_is = rests.elsewhere.lane ∙ took.elsewhere.lane in
     goes-moves (leave ∷ claim ∷ []) (caller-still rests ∙ caller-still took) (did-carries (carries-more took rests) few)
     (c.give_home.ensures.gives leave claim (ap (λ n. is_claimed n claim.before) is ∙ claimed) (λ last. c.if-generation-grid.false (sym is ∙ last))
-    (λ own. c.if-shard_of-lane.false (c.shard_of.ensures ∙ (own ∙ (lane_is ∙ sym c.requires.lane.0)))))
+    (λ own. c.if-shard_of-at.false (c.shard_of.ensures ∙ (own ∙ (lane_is ∙ sym c.requires.at.lane)))))

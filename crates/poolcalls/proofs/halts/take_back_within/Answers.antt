@@ -7,23 +7,23 @@ use Rattle.poolcalls.proofs.Doing.{did-carries}
 use Rattle.poolcalls.proofs.Ending.{caller-still, room-still, ends-at-last, ends-at-own}
 use Rattle.poolcalls.proofs.Within.{within-none, within-moves}
 use Rattle.poolcalls.proofs.halts.take_back_within.Goals as goal
-use Rattle.poolcalls.proofs.halts.take_back_within.Goals.{then-generation-grid-via-then-generation-grid, then-generation-grid-via-else-generation-grid+then-shard_of-lane}
+use Rattle.poolcalls.proofs.halts.take_back_within.Goals.{then-generation-grid-via-then-generation-grid, then-generation-grid-via-else-generation-grid+then-shard_of-at}
 
 pub returns-then-generation-grid-clause-tails : goal.returns-then-generation-grid-clause-tails
 returns-then-generation-grid-clause-tails g c leave claim is claimed =
     let caller = caller_of c.args.grid.now.shape c.args.hand.now.me.0 in
-    let place : ℕ = c.args.spot.place in
+    let place : ℕ = c.args.at.spot.place in
     within-none (leave ∷ claim ∷ []) c.args.limit c.requires.hand.1 c.requires.seen
     (elim c.then-generation-grid.branch [
       | then-generation-grid-via-then-generation-grid w ↦ ends-at-last caller place leave claim (is ∙ w.if-generation-grid.true)
-      | then-generation-grid-via-else-generation-grid+then-shard_of-lane w ↦
-          ends-at-own caller place leave claim (sym w.shard_of.ensures ∙ (w.if-shard_of-lane.true ∙ c.requires.lane.0))
+      | then-generation-grid-via-else-generation-grid+then-shard_of-at w ↦
+          ends-at-own caller place leave claim (sym w.shard_of.ensures ∙ (w.if-shard_of-at.true ∙ c.requires.at.lane))
     ])
 
 pub give_home_within-requires-clause-rests : goal.give_home_within-requires-clause-rests
 give_home_within-requires-clause-rests g c =
     let law = c.shares_law.ensures.stays in
-    let place : ℕ = c.args.spot.place in
+    let place : ℕ = c.args.at.spot.place in
     let took = c.take_cell-whole.ensures in
     let rests = c.rest_cell.ensures in
     let first = room-still took.carries law place c.requires.place.0 in
@@ -44,4 +44,4 @@ returns-clause-tails g c leave claim is claimed =
     let lane_is = rests.elsewhere.lane ∙ took.elsewhere.lane in
     within-moves (leave ∷ claim ∷ []) (caller-still rests ∙ caller-still took) (did-carries (carries-more took rests) few)
     (c.give_home_within.ensures.gives leave claim (ap (λ n. is_claimed n claim.before) is ∙ claimed) (λ last. c.if-generation-grid.false (sym is ∙ last))
-    (λ own. c.if-shard_of-lane.false (c.shard_of.ensures ∙ (own ∙ (lane_is ∙ sym c.requires.lane.0)))))
+    (λ own. c.if-shard_of-at.false (c.shard_of.ensures ∙ (own ∙ (lane_is ∙ sym c.requires.at.lane)))))

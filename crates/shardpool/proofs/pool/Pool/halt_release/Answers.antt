@@ -1,14 +1,10 @@
 -- The share goes back in front of the call.
-use Rattle.std.proofs.Common.{◌≡◌, ◌≢◌, ◌<◌, ℕ, slice_index, sym, ap, ◌∙◌, subst, arith}
+use Rattle.std.proofs.Common.{ap, refl, subst, arith}
 use Rattle.keybits.specs.declared.shape.Shape.{Shape}
-use Rattle.keybits.specs.Keys.{place_of}
-use Rattle.keybits.specs.Places.{shard_of}
-use Rattle.sharelaws.specs.declared.stored.Status.TheVariants.{Untouched}
 use Rattle.steplaws.specs.Calls.Call.{Releasing}
-use Rattle.poolsteps.specs.Views.{the_lane, status_of}
-use Rattle.poolsteps.specs.Told.{references_seen}
+use Rattle.poolsteps.specs.Grids.{IsSpot}
 use Rattle.poolcalls.specs.Halted.{CalledWithin}
-use Rattle.shardpool.proofs.Releasing.{lent-some, lent-share, lent-top}
+use Rattle.shardpool.proofs.Releasing.{lent-some, lent-share, lent-at}
 use Rattle.shardpool.proofs.Halting.{halts-behind, refers-parts}
 use Rattle.shardpool.proofs.pool.Pool.halt_release.Goals as goal
 
@@ -26,17 +22,13 @@ release_within-requires-clause-held g c =
 
 pub release_within-requires-clause-share : goal.release_within-requires-clause-share
 release_within-requires-clause-share g c below =
-    let refers = refers-parts c.self.view_is c.requires.parts c.requires.held in
-    let lane = the_lane c.lend_home.new.hand.me.0 in
-    let same : c.args.shelf.now.number ≡ c.lend_home.new.shelf.number = sym (ap (λ s. s.number) c.lend_home.ensures.lends.rest) in
-    subst (λ (n : ℕ). status_of lane (place_of c.args.key) n ≢ Untouched → 1 < references_seen c.self.inside.grid.shape c.lend_home.new.hand.me.0 c.args.key) same
-    (lent-share refers c.lend_home.ensures.lends)
+    lent-share (refers-parts c.self.view_is c.requires.parts c.requires.held) c.lend_home.ensures.lends
 
-pub release_within-requires-clause-top : goal.release_within-requires-clause-top
-release_within-requires-clause-top g c =
+pub release_within-requires-clause-at : goal.release_within-requires-clause-at
+release_within-requires-clause-at g c =
     let refers = refers-parts c.self.view_is c.requires.parts c.requires.held in
-    c.top-top.ensures ∙ (ap (λ s. slice_index s.tops.items (shard_of c.spot-spot.result.place)) c.lend_home.ensures.lends.rest
-    ∙ lent-top refers c.lend_home.ensures.lends c.spot-spot.result.place (c.spot-spot.ensures.place_is ∙ c.place_of.ensures.place))
+    let spot = subst (IsSpot c.self.inside.grid.shape c.spot-spot.result) c.place_of.ensures.place c.spot-spot.ensures in
+    lent-at refers c.lend_home.ensures.lends _ spot refl c.top-top.ensures
 
 pub returns-clause-called : goal.returns-clause-called
 returns-clause-called g c =

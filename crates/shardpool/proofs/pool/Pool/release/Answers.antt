@@ -1,5 +1,5 @@
 -- A release: the share of its reference is lent home, and its row has one reference less.
-use Rattle.std.proofs.Common.{◌≡◌, ◌<◌, ℕ, length, slice_get, sym, ap, ◌∙◌, subst, arith}
+use Rattle.std.proofs.Common.{◌≡◌, ◌<◌, ℕ, length, slice_get, refl, sym, ap, ◌∙◌, subst, arith}
 use Rattle.keybits.specs.declared.shape.Shape.{Shape}
 use Rattle.keybits.specs.Shapes.{IsShape}
 use Rattle.freelists.specs.Queues.{IsAway}
@@ -11,7 +11,7 @@ use Rattle.shardpool.specs.Stores.{Keeps}
 use Rattle.shardpool.specs.Shelves.{Fits}
 use Rattle.shardpool.specs.Lanes.{Made, Calls}
 use Rattle.shardpool.proofs.Calling.{calls-more, calls-behind}
-use Rattle.shardpool.proofs.Releasing.{EndsAt, Released, refers-held, lent-some, lent-share, lent-top, end-low, end-more, end-within, beside, released-away, released}
+use Rattle.shardpool.proofs.Releasing.{EndsAt, Released, refers-held, lent-some, lent-share, lent-at, end-low, end-more, end-within, beside, released-away, released}
 use Rattle.shardpool.proofs.Holding.{release-holds}
 use Rattle.shardpool.proofs.pool.Pool.release.Given.{Over}
 use Rattle.shardpool.proofs.pool.Pool.release.Goals as goal
@@ -35,10 +35,11 @@ release-reclaimed-requires-clause-share g c =
     let refers = refers-held c.lane.view_is c.requires.owns.1 c.self.view_is c.lane.invariant.1 c.requires.held c.spend-key.ensures in
     lent-share refers c.lend_home.ensures.lends
 
-pub release-reclaimed-requires-clause-top : goal.release-reclaimed-requires-clause-top
-release-reclaimed-requires-clause-top g c =
+pub release-reclaimed-requires-clause-at : goal.release-reclaimed-requires-clause-at
+release-reclaimed-requires-clause-at g c =
     let refers = refers-held c.lane.view_is c.requires.owns.1 c.self.view_is c.lane.invariant.1 c.requires.held c.spend-key.ensures in
-    c.top-top.ensures ∙ lent-top refers c.lend_home.ensures.lends c.spot-spot.result.place (c.spot-spot.ensures.place_is ∙ c.place_of.ensures.place)
+    let spot = subst (IsSpot c.self.inside.grid.shape c.spot-spot.result) c.place_of.ensures.place c.spot-spot.ensures in
+    lent-at refers c.lend_home.ensures.lends _ spot refl c.top-top.ensures
 
 pub end-requires-clause-at : goal.end-requires-clause-at
 end-requires-clause-at g c =
