@@ -6,6 +6,7 @@ pub mod Words
 pub mod Links
 pub mod Steps
 pub mod ShapeFaults
+pub mod FaultNames
 pub mod Homes
 pub mod HomeLaws
 pub mod SameShapes

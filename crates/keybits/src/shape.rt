@@ -50,6 +50,7 @@ pub enum ShapeFault {
 impl ShapeFault {
     ghost use Rattle.std.specs.Prelude.{◌≡◌};
     ghost use Rattle.keybits.specs.ShapeFaults.{fault_number};
+    ghost use Rattle.keybits.specs.FaultNames.{fault_name};
 
     /// The fault's number: 1 for the lanes, 2 for the first page, 3 for the pages, 4 for the last
     /// generation and 6 for the tag.
@@ -62,6 +63,19 @@ impl ShapeFault {
             ShapeFault::Pages => 3,
             ShapeFault::Generation => 4,
             ShapeFault::Tag => 6,
+        }
+    }
+
+    /// The fault's name.
+    pub fn name(&self) -> &'static str
+        ensures { result.now ≡ fault_name self.now }
+    {
+        match self {
+            ShapeFault::Lanes => "Lanes",
+            ShapeFault::FirstPage => "FirstPage",
+            ShapeFault::Pages => "Pages",
+            ShapeFault::Generation => "Generation",
+            ShapeFault::Tag => "Tag",
         }
     }
 }

@@ -2,6 +2,7 @@ pub mod Pool
 pub mod Histories
 pub mod Laws
 pub mod Refusals
+pub mod FaultNames
 pub mod Rows
 pub mod Checker
 pub mod ActsText

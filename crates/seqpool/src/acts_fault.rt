@@ -19,6 +19,7 @@ pub enum ActsFault {
 
 impl ActsFault {
     ghost use Rattle.seqpool.specs.Refusals.{acts_fault_number};
+    ghost use Rattle.seqpool.specs.FaultNames.{acts_fault_name};
 
     /// The fault's number: 19 for a line, the shape fault's own number, and 18 for want of memory.
     pub fn number(&self) -> u32
@@ -28,6 +29,17 @@ impl ActsFault {
             ActsFault::ActsLine => 19,
             ActsFault::Shape(fault) => fault.number(),
             ActsFault::Memory => 18,
+        }
+    }
+
+    /// The fault's name; a shape's fault keeps its own.
+    pub fn name(&self) -> &'static str
+        ensures { result.now ≡ acts_fault_name self.now }
+    {
+        match self {
+            ActsFault::ActsLine => "ActsLine",
+            ActsFault::Shape(fault) => fault.name(),
+            ActsFault::Memory => "Memory",
         }
     }
 }

@@ -32,10 +32,11 @@ pub fn check(alloc: Global, shape: Shape, acts: &[Act]) -> Result<Summary, Check
         Ok(pool) => pool,
         Err(fault) => return Err(fault),
     };
+    let (published, reclaimed) = published_and_reclaimed(acts);
     Ok(Summary {
         acts: acts.len(),
-        published: published_in(acts),
-        reclaimed: reclaimed_in(acts),
+        published,
+        reclaimed,
         present: pool.count(Group::Present),
         marked: pool.count(Group::Marked),
         home: pool.count(Group::Home),
@@ -70,30 +71,21 @@ fn refusal(index: usize, fault: ApplyFault) -> CheckFault
     }
 }
 
-/// How many of the acts publish.
-fn published_in(acts: &[Act]) -> usize
-    ensures { result ≡ count_by is_publish acts.now }
+/// How many of the acts publish, and how many reclaim.
+fn published_and_reclaimed(acts: &[Act]) -> (usize, usize)
+    ensures published { result.0 ≡ count_by is_publish acts.now }
+    ensures reclaimed { result.1 ≡ count_by is_reclaim acts.now }
 {
-    acts.iter().filter(|act| is_publish(act)).count()
-}
-
-/// How many of the acts reclaim.
-fn reclaimed_in(acts: &[Act]) -> usize
-    ensures { result ≡ count_by is_reclaim acts.now }
-{
-    acts.iter().filter(|act| is_reclaim(act)).count()
-}
-
-fn is_publish(act: &Act) -> bool
-    ensures { result ≡ is_publish act.now }
-{
-    matches!(act, Act::Publish { .. })
-}
-
-fn is_reclaim(act: &Act) -> bool
-    ensures { result ≡ is_reclaim act.now }
-{
-    matches!(act, Act::Reclaim { .. })
+    let mut published = 0;
+    let mut reclaimed = 0;
+    for act in acts {
+        match act {
+            Act::Publish { .. } => published += 1,
+            Act::Reclaim { .. } => reclaimed += 1,
+            _ => {}
+        }
+    }
+    (published, reclaimed)
 }
 
 impl Row {

@@ -71,6 +71,7 @@ impl Error for Memory {}
 
 impl ApplyFault {
     ghost use Rattle.seqpool.specs.Refusals.{fault_number};
+    ghost use Rattle.seqpool.specs.FaultNames.{fault_name};
 
     /// The fault's number: 11 to 17 in the order of the variants, and 18 for want of memory.
     pub fn number(&self) -> u32
@@ -85,6 +86,22 @@ impl ApplyFault {
             ApplyFault::NotMarked => 16,
             ApplyFault::NotHome => 17,
             ApplyFault::Memory => 18,
+        }
+    }
+
+    /// The fault's name.
+    pub fn name(&self) -> &'static str
+        ensures { result.now ≡ fault_name self.now }
+    {
+        match self {
+            ApplyFault::NotWithLane => "NotWithLane",
+            ApplyFault::WrongGeneration => "WrongGeneration",
+            ApplyFault::WrongReply => "WrongReply",
+            ApplyFault::NotHeld => "NotHeld",
+            ApplyFault::StillHeld => "StillHeld",
+            ApplyFault::NotMarked => "NotMarked",
+            ApplyFault::NotHome => "NotHome",
+            ApplyFault::Memory => "Memory",
         }
     }
 }

@@ -13,7 +13,7 @@ use std::alloc::{AllocError, Global};
 /// The pool of one thread, to which acts are applied one after another.
 ///
 /// It keeps a row for each place of its shape, so an act costs about a look-up.
-#[derive(Drop, Debug)]
+#[derive(Drop)]
 pub struct SeqPool {
     alloc: Global,
     pub(crate) shape: Shape,

@@ -10,7 +10,7 @@ use std::array;
 const LANES: usize = MOST_LANES as usize;
 
 /// Where a place stands.
-#[derive(Drop, Debug)]
+#[derive(Drop)]
 pub(crate) enum Standing {
     /// It is with a lane.
     With {
@@ -27,7 +27,7 @@ pub(crate) enum Standing {
 }
 
 /// What the pool keeps of a place.
-#[derive(Drop, Debug)]
+#[derive(Drop)]
 pub(crate) struct Row {
     pub(crate) generation: u32,
     pub(crate) standing: Standing,

@@ -6,7 +6,7 @@ use std::marker::Model;
 /// How many references a lane has to a key.
 ///
 /// It holds a unit for each of them, so one more is refused only where memory is.
-#[derive(Drop, Debug)]
+#[derive(Drop)]
 pub(crate) struct Tally {
     units: Vec<u8>,
 }

@@ -22,8 +22,8 @@ returns-clause-counts c =
     let group = count-at c.args.shape c.in-Ok.pool.shape (pool_in c.in-Ok.pool) c.args.acts.now found.shape found.pool in
     record {
       acts = refl;
-      published = c.published_in.ensures;
-      reclaimed = c.reclaimed_in.ensures;
+      published = c.published_and_reclaimed-published.ensures.published;
+      reclaimed = c.published_and_reclaimed-published.ensures.reclaimed;
       present = group groups.Present c.count.result c.count.ensures;
       marked = group groups.Marked c.count-2.result c.count-2.ensures;
       home = group groups.Home c.count-3.result c.count-3.ensures;
