@@ -1,9 +1,8 @@
 -- Which faults a script file's value may have, and how the bytes of a script file are refused.
-use Rattle.std.proofs.Common.{◌≡◌, ◌==◌, ◌<◌, ◌⊎◌, ℕ, List, [], ◌∷◌, length, Bool, true, false, Option, Some, None, Result, Ok, Err, IfOk, IfErr, codes, cond, ok_or, unwrap_or, option_map, refl, subst, ⊎_elim, inr, arith}
+use Rattle.std.proofs.Common.{◌≡◌, ◌==◌, ◌<◌, ℕ, List, [], ◌∷◌, length, Bool, true, false, Option, Some, None, Result, Ok, Err, IfOk, IfErr, codes, cond, ok_or, unwrap_or, option_map, refl, subst, ⊎_elim, inr, arith}
 use Rattle.std.specs.Option.{option_or}
 use Rattle.keybits.specs.declared.shape.Shape.{Shape}
 use Rattle.keybits.specs.Shapes.{IsShape}
-use Rattle.traces.specs.declared.script.Operand.{Operand}
 use Rattle.traces.specs.declared.script.Operand.TheVariants as operands
 use Rattle.serde_json.specs.Data.{Data}
 use Rattle.serde_json.specs.Find.{get, as_str}

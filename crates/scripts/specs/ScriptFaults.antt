@@ -1,18 +1,9 @@
 -- The numbers and the names of a script file's faults.
 use Rattle.std.specs.Prelude.{ℕ, List, codes}
-use Rattle.keybits.specs.declared.shape.ShapeFault.{ShapeFault}
-use Rattle.keybits.specs.declared.shape.ShapeFault.TheVariants.{Lanes, FirstPage, Pages, Generation, Tag}
-use Rattle.keybits.specs.ShapeFaults.{fault_number}
+use Rattle.keybits.specs.FaultNames.{fault_name as shape_fault_name}
+use Rattle.keybits.specs.ShapeFaults.{fault_number as shape_fault_number}
 use Rattle.scripts.specs.declared.script_fault.ScriptFault.{ScriptFault}
 use Rattle.scripts.specs.declared.script_fault.ScriptFault.TheVariants.{NotJson, Field, Act, Register, Number, Shape, Memory}
-
--- the name of a shape's fault
-abbrev pub shape_fault_name : ShapeFault → List ℕ
-shape_fault_name Lanes = codes "Lanes"
-shape_fault_name FirstPage = codes "FirstPage"
-shape_fault_name Pages = codes "Pages"
-shape_fault_name Generation = codes "Generation"
-shape_fault_name Tag = codes "Tag"
 
 -- the number of a script file's fault
 abbrev pub script_fault_number : ScriptFault → ℕ
@@ -21,7 +12,7 @@ script_fault_number Field = 32
 script_fault_number Act = 33
 script_fault_number Register = 34
 script_fault_number Number = 35
-script_fault_number (Shape fault) = fault_number fault
+script_fault_number (Shape fault) = shape_fault_number fault
 script_fault_number Memory = 36
 
 -- the name of a script file's fault

@@ -12,4 +12,4 @@ mod script_fault;
 pub use plan::{Plan, Scripts};
 pub use reading::parse;
 pub use schedules::{Memory, draw, stop_after};
-pub use script_fault::{ScriptFault, shape_fault_name};
+pub use script_fault::ScriptFault;

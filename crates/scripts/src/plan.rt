@@ -5,7 +5,7 @@ use std::marker::Model;
 use traces::Script;
 
 /// The scripts of a plan: one for each lane, by rising number.
-#[derive(Drop, Debug)]
+#[derive(Drop)]
 pub struct Scripts {
     scripts: Vec<Script>,
 }
@@ -44,7 +44,7 @@ impl Scripts {
 }
 
 /// What a script file says: the shape of a pool, and a script for each of its lanes.
-#[derive(Drop, Debug)]
+#[derive(Drop)]
 pub struct Plan {
     pub shape: Shape,
     pub scripts: Scripts,

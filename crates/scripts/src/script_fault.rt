@@ -1,5 +1,4 @@
 ghost use Rattle.std.specs.Prelude.{◌≡◌};
-ghost use Rattle.scripts.specs.ScriptFaults.{shape_fault_name};
 ghost use Rattle.scripts.specs.declared.script_fault.ScriptFault.TheVariants.{Memory};
 
 use keybits::ShapeFault;
@@ -26,19 +25,6 @@ pub enum ScriptFault {
     Memory,
 }
 
-/// The name of a shape's fault.
-pub fn shape_fault_name(fault: &ShapeFault) -> &'static str
-    ensures { result.now ≡ shape_fault_name fault.now }
-{
-    match fault {
-        ShapeFault::Lanes => "Lanes",
-        ShapeFault::FirstPage => "FirstPage",
-        ShapeFault::Pages => "Pages",
-        ShapeFault::Generation => "Generation",
-        ShapeFault::Tag => "Tag",
-    }
-}
-
 impl ScriptFault {
     ghost use Rattle.std.specs.Prelude.{◌≡◌};
     ghost use Rattle.scripts.specs.ScriptFaults.{script_fault_number, script_fault_name};
@@ -58,7 +44,7 @@ impl ScriptFault {
         }
     }
 
-    /// The fault's name.
+    /// The fault's name; a shape's fault keeps its own.
     pub fn name(&self) -> &'static str
         ensures { result.now ≡ script_fault_name self.now }
     {
@@ -68,7 +54,7 @@ impl ScriptFault {
             ScriptFault::Act => "Act",
             ScriptFault::Register => "Register",
             ScriptFault::Number => "Number",
-            ScriptFault::Shape(fault) => shape_fault_name(fault),
+            ScriptFault::Shape(fault) => fault.name(),
             ScriptFault::Memory => "Memory",
         }
     }
@@ -77,13 +63,13 @@ impl ScriptFault {
 impl fmt::Display for ScriptFault {
     fn fmt<W: fmt::Write>(&self, f: &mut fmt::Formatter<W>) -> fmt::Result {
         match self {
-            ScriptFault::NotJson => write!(f, "the file is no JSON"),
-            ScriptFault::Field => write!(f, "a field, an array or a line of the file is wrong"),
-            ScriptFault::Act => write!(f, "a line of the file names no command"),
-            ScriptFault::Register => write!(f, "an operand of the file is no register"),
-            ScriptFault::Number => write!(f, "a number or bytes of the file are wrong"),
+            ScriptFault::NotJson => f.write_str("the file is no JSON"),
+            ScriptFault::Field => f.write_str("a field, an array or a line of the file is wrong"),
+            ScriptFault::Act => f.write_str("a line of the file names no command"),
+            ScriptFault::Register => f.write_str("an operand of the file is no register"),
+            ScriptFault::Number => f.write_str("a number or bytes of the file are wrong"),
             ScriptFault::Shape(fault) => write!(f, "{fault}"),
-            ScriptFault::Memory => write!(f, "out of memory"),
+            ScriptFault::Memory => f.write_str("out of memory"),
         }
     }
 }
