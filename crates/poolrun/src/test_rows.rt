@@ -5,7 +5,7 @@ use std::test::Fail;
 // Scripts, schedules and the traces that they have.
 type Row = (&'static str, &'static [u32], &'static str);
 
-const ROWS: [Row; 13] = [
+const ROWS: [Row; 16] = [
     // a whole life of an object
     (
         "{\"shape\":{\"lanes\":1,\"first_page\":2,\"pages\":1,\"last_generation\":4294967295},\"scripts\":[[[\"create\",0],[\"write\",0,\"6869\"],[\"publish\",0],[\"get\",1,16777216],[\"read\",1],[\"release\",1],[\"clear\",16777216]]]}",
@@ -17,6 +17,24 @@ const ROWS: [Row; 13] = [
         "{\"shape\":{\"lanes\":2,\"first_page\":2,\"pages\":1,\"last_generation\":4294967295},\"scripts\":[[],[]]}",
         &[0, 1, 0, 1, 1],
         "",
+    ),
+    // a get of what is filling
+    (
+        "{\"shape\":{\"lanes\":1,\"first_page\":2,\"pages\":1,\"last_generation\":4294967295},\"scripts\":[[[\"create\",0],[\"get\",1,16777216]]]}",
+        &[0, 0],
+        "0 = filling 16777216\n0 ENTER 0 4294967296 4294967300\n0 LEAVE 0 4294967300 4294967296\n0 = none\n",
+    ),
+    // a life as far as the read
+    (
+        "{\"shape\":{\"lanes\":1,\"first_page\":2,\"pages\":1,\"last_generation\":4294967295},\"scripts\":[[[\"create\",0],[\"write\",0,\"6869\"],[\"publish\",0],[\"get\",1,16777216],[\"read\",1]]]}",
+        &[0, 0],
+        "0 = filling 16777216\n0 = ok\n0 PUBLISH 0 4294967296 4294967297\n0 = key 16777216\n0 ENTER 0 4294967297 4294967301\n0 = some 6869\n0 = 6869\n",
+    ),
+    // a full pool
+    (
+        "{\"shape\":{\"lanes\":1,\"first_page\":1,\"pages\":1,\"last_generation\":4294967295},\"scripts\":[[[\"create\",0],[\"create\",1]]]}",
+        &[0],
+        "0 = filling 16777216\n0 = full\n",
     ),
     // a get of an earlier generation
     (
@@ -187,6 +205,17 @@ fn acts_with_stopped_lanes_are_legal(rt: HostRuntime) -> Result<(), Fail> {
     Ok(())
 }
 
+#[test]
+fn stops_a_lane_after_a_turn(rt: HostRuntime) -> Result<(), Fail> {
+    let whole = [0, 0, 1, 0, 0, 0, 0, 0, 0, 1, 1, 1, 1, 1, 1];
+    let rest = stop_after(rt.alloc(), &whole, 1, 1).map_err(|_| "memory")?;
+    assert_eq!(rt;
+        rest.as_slice(),
+        [0, 0, 1, 0, 0, 0, 0, 0, 0].as_slice()
+    );
+    Ok(())
+}
+
 // Scripts, schedules and what is said of their acts.
 const CHECKED: [Row; 4] = [
     // a whole life of an object
@@ -233,4 +262,10 @@ fn writes_acts_of_a_whole_life(rt: HostRuntime) -> Result<(), Fail> {
         "shape 1 2 1 4294967295\n0 publish 16777216 6869 0\n0 get 16777216 some 6869\n0 release 16777216\n0 clear 16777216 true\n0 reclaim 16777216\n";
     assert_eq!(rt; text.as_slice(), acts.as_bytes());
     Ok(())
+}
+
+#[test]
+fn refuses_a_list(rt: HostRuntime) {
+    let fault = text_of(rt.alloc(), "[]", &[0], false);
+    assert!(rt; fault.is_err_and(|fault| fault.number() == 32 && fault.name() == "Field"));
 }

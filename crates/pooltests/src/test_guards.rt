@@ -51,7 +51,7 @@ fn filled(
     requires { Owns pool.now lane.old }
     ensures { Owns pool.now lane.new × (refs lane.new ≡ refs lane.old) }
 {
-    let mut guard = FillGuard::create(lane, pool)?;
+    let mut guard = FillGuard::new(lane, pool)?;
     let number = number.ok_or(CreateFault::Memory)?;
     guard.value_mut().push(number);
     Ok(guard.key())
@@ -62,7 +62,7 @@ fn first_of(pool: &Pool<Record>, lane: &mut Lane<Record>, key: u64) -> Option<u6
     requires { Owns pool.now lane.old × (refs lane.old ≡ 0) }
     ensures { Owns pool.now lane.new × (refs lane.new ≡ 0) }
 {
-    let guard = ReadGuard::get(lane, pool, key)?;
+    let guard = ReadGuard::new(lane, pool, key)?;
     let first = guard.value().as_slice().first()?;
     Some(*first)
 }
@@ -91,13 +91,13 @@ fn closures_run_between_the_calls(rt: HostRuntime) -> Result<(), Fail> {
 fn guards_end_by_themselves(rt: HostRuntime) -> Result<(), Fail> {
     let (pool, mut lane) = open_one::<ByteBuf>(rt.alloc(), ONE_PLACE)?;
     {
-        let mut guard = FillGuard::new(&pool, &mut lane)?;
+        let mut guard = FillGuard::new(&mut lane, &pool)?;
         assert_eq!(rt; guard.key(), 16777216);
         guard.value_mut().append(b"hi")?;
         assert_eq!(rt; guard.value().len(), 2);
     }
     {
-        let Some(guard) = ReadGuard::new(&pool, &mut lane, 16777216) else {
+        let Some(guard) = ReadGuard::new(&mut lane, &pool, 16777216) else {
             panic!(rt; "the drop did not publish")
         };
         assert_eq!(rt; guard.key(), 16777216);
@@ -105,7 +105,7 @@ fn guards_end_by_themselves(rt: HostRuntime) -> Result<(), Fail> {
     }
     assert_eq!(rt; lane.refs(), 0);
     assert!(rt; pool.clear(&mut lane, 16777216));
-    let guard = FillGuard::new(&pool, &mut lane)?;
+    let guard = FillGuard::new(&mut lane, &pool)?;
     assert_eq!(rt; guard.key(), 33554432);
     let guard = guard.downgrade();
     assert_eq!(rt; guard.key(), 33554432);

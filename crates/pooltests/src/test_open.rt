@@ -2,7 +2,7 @@ ghost use Rattle.shardpool.specs.Lanes.{Owns};
 
 use crate::test_calls::{open_pair, shape_of};
 use keybits::{Shape, ShapeFault};
-use shardpool::{Lane, OpenFault, Pool, open};
+use shardpool::{CreateFault, Lane, OpenFault, Pool, open};
 use slotcell::{ByteBuf, Clear, Record};
 use std::process::Abort;
 use std::test::Fail;
@@ -53,6 +53,9 @@ fn refuses_shapes(rt: HostRuntime) {
     };
     assert_eq!(rt; fault, OpenFault::Shape(ShapeFault::Lanes));
     assert_eq!(rt; fault.number(), 1);
+    assert_eq!(rt; OpenFault::Memory.number(), 5);
+    assert_eq!(rt; CreateFault::Full.number(), 21);
+    assert_eq!(rt; CreateFault::Memory.number(), 22);
 }
 
 #[test]

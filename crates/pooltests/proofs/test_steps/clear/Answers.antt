@@ -1,6 +1,6 @@
 use Rattle.std.proofs.Common.{◌≡◌, true, refl, ap, ◌∙◌, arith}
 use Rattle.steplaws.specs.Calls.{is_hit}
-use Rattle.poolsteps.specs.declared.tests.TheConstants.{KEY}
+use Rattle.pooltests.specs.declared.test_steps.TheConstants.{KEY}
 use Rattle.poolsteps.proofs.HandSteps.{under-after, references-after}
 use Rattle.pooltests.proofs.test_steps.clear.Goals as goal
 

@@ -4,7 +4,7 @@ use Rattle.keybits.specs.declared.shape.Shape.{Shape}
 use Rattle.slotcell.specs.Share.{Share}
 use Rattle.steplaws.specs.Calls.{is_hit}
 use Rattle.poolsteps.specs.declared.view.View.{View}
-use Rattle.poolsteps.specs.declared.tests.TheConstants.{KEY}
+use Rattle.pooltests.specs.declared.test_steps.TheConstants.{KEY}
 use Rattle.poolsteps.specs.Views.{the_lane}
 use Rattle.poolsteps.specs.Told.{MayTouch}
 use Rattle.poolsteps.proofs.HandSteps.{lane-after, none-at-first, one-after-get}

@@ -2,7 +2,7 @@ use Rattle.std.proofs.Common.{◌≡◌, ℕ, ◌-◌, ◌<◌, List, refl, ap, 
 use Rattle.sharelaws.specs.declared.stored.Status.TheVariants.{Untouched}
 use Rattle.poolsteps.specs.declared.view.LaneRecord.{LaneRecord}
 use Rattle.poolsteps.specs.declared.view.View.{View}
-use Rattle.poolsteps.specs.declared.tests.TheConstants.{KEY}
+use Rattle.pooltests.specs.declared.test_steps.TheConstants.{KEY}
 use Rattle.poolsteps.specs.Views.{head_record, the_lane, status_of}
 use Rattle.poolsteps.proofs.HandSteps.{references-after, may-leave}
 use Rattle.poolsteps.proofs.OwnShares.{left-after}
