@@ -49,37 +49,7 @@ use Rattle.shardpool.proofs.Laning.{lane_of, made-passes, did-lane}
 
 -- ---- one call
 
--- a call is one call, whatever the hand holds
-pub calls-more : {S : Type 0} {z : Shape} {call : Call} {n : ℕ} {a b : Me S View} → Called z call n a b → n ≤ 64 → Calls z call a.0 b.0
-calls-more called few =
-    let did = called.did in
-    let looked = did.looked in record {
-      steps = called.steps;
-      made = called.made;
-      are = called.are;
-      all = called.all;
-      make = called.make;
-      did = record {
-        one = did.one;
-        lane = did.lane;
-        mine = did.mine;
-        seen = did.seen;
-        rooms = did.rooms;
-        legal = did.legal;
-        quiet = did.quiet;
-        own = did.own;
-        held = refl;
-        stepped = did.stepped;
-        looked = omega (arith, looked, few);
-        chain = did.chain;
-        deeds = did.deeds;
-        cells = did.cells;
-      };
-      few = called.few;
-      idle = called.idle;
-    }
-
--- and so it is with moves of its place behind it
+-- a call with moves of its place behind it is one call
 pub called-then : {S : Type 0} {z : Shape} {call : Call} {n m : ℕ} {a b c : Me S View} → Called z call n a b → Carries z (place_of (key_in call)) m b c → Called z call (n + m) a c
 called-then {z = z} {call = call} {n = n} {m = m} {a = a} {c = c} called carries =
     let place : ℕ = place_of (key_in call) in
@@ -126,6 +96,14 @@ module _ {S : Type 0} {z : Shape} {key n : ℕ} {a b : Me S View} (called : Call
       let same = carries.elsewhere in
       record { passes = passes-more hit-wider (passes-carries carries); idle = same.under ∙ called.idle; pushed = same.pushed ∙ one.1; chain = same.chain ∙ called.did.chain }
 
+-- what a get that hits leaves of a lane: it fits as before, has the reference, and its fillings are still its
+pub record Gained {T : Type 0} (content : T → List ℕ) (room : T → ℕ) (z : Shape) (key : ℕ) (bytes : List ℕ) (v w : View) (s t : Shelf T) : Type 0 where
+  pub fits : Fits content room z w t
+  pub holds : 1 ≤ references_seen t.shape w key
+  pub did : (table table_now : TableId) → table_now ≡ table → Did (acts.Get s.number key (Some bytes) ∷ []) (lane_of table v s) (lane_of table_now w t)
+  pub refs : held_after (the_lane w).mine 0 ≡ held_after (the_lane v).mine 0 + 1
+  pub fillings : (table table_now : TableId) → table_now ≡ table → (filling : FillingOf T) → Made (lane_of table v s) filling → Made (lane_of table_now w t) filling
+
 module _ {T : Type 0} {content : T → List ℕ} {room : T → ℕ} {z : Shape} {v : View} {s : Shelf T} (fits : Fits content room z v s) where
   -- ---- before
 
@@ -171,7 +149,7 @@ module _ {T : Type 0} {content : T → List ℕ} {room : T → ℕ} {z : Shape} 
         let bad : published told.0 told.1 told.2 ≡ with (the_lane w).lane
         = sym told.3 ∙ still-with hit.passes fits.seat.paired fits.seat.own (place_of key) is (keeps (place_of key)) in cc bad
 
-    pub hit-refs : held_after (the_lane w).mine 0 ≡ held_after (the_lane v).mine 0 + 1
+    hit-refs : held_after (the_lane w).mine 0 ≡ held_after (the_lane v).mine 0 + 1
     hit-refs =
         ap (λ (xs : List Act). held_after xs 0) hit.passes.mine ∙ held-append (the_lane v).mine (acts.Get (the_lane v).lane key (Some bytes) ∷ []) 0
 
@@ -184,7 +162,7 @@ module _ {T : Type 0} {content : T → List ℕ} {room : T → ℕ} {z : Shape} 
       shape_now : t.shape ≡ z
       shape_now = ap (λ (x : Shelf T). x.shape) rest ∙ fits.shape_is
 
-      pub hit-fits : FitsRows content room z w t.rows.items (s.references + 1) → Fits content room z w t
+      hit-fits : FitsRows content room z w t.rows.items (s.references + 1) → Fits content room z w t
       hit-fits rows =
           let apart = elsewhere-apart fits.stores (place_of key) hit-away in
           let stores = stores-apart fits.stores fits.seat.paired fits.seat.own hit.chain (onlyat-get (the_lane v).lane key (Some bytes)) hit.passes apart in
@@ -199,16 +177,16 @@ module _ {T : Type 0} {content : T → List ℕ} {room : T → ℕ} {z : Shape} 
       list_now : t.free ≡ record s.free { own = s.free.own ++ [] }
       list_now = ap (λ (x : Shelf T). x.free) rest ∙ sym (ap (λ xs. record s.free { own = xs }) (append-nil s.free.own))
 
-      pub hit-did : (table table_now : TableId) → table_now ≡ table → Did (acts.Get s.number key (Some bytes) ∷ []) (lane_of table v s) (lane_of table_now w t)
+      hit-did : (table table_now : TableId) → table_now ≡ table → Did (acts.Get s.number key (Some bytes) ∷ []) (lane_of table v s) (lane_of table_now w t)
       hit-did table table_now same =
           subst (λ (l : ℕ). Did (acts.Get l key (Some bytes) ∷ []) (lane_of table v s) (lane_of table_now w t)) (sym fits.seat.number_is)
           (did-lane z (lane_of table v s) (lane_of table_now w t) fits.shape_is shape_now (ap (λ (x : Shelf T). x.number) rest) same hit.passes fits.seat.own list_now
           (ap (λ (x : Shelf T). x.pages) rest))
 
-      pub hit-holds : 1 ≤ references_seen t.shape w key
+      hit-holds : 1 ≤ references_seen t.shape w key
       hit-holds = subst (λ (y : Shape). 1 ≤ references_seen y w key) (sym shape_now) (let one = hit-one in omega (arith, one))
 
-      pub hit-fillings : (table table_now : TableId) → table_now ≡ table → (filling : FillingOf T) → Made (lane_of table v s) filling → Made (lane_of table_now w t) filling
+      hit-fillings : (table table_now : TableId) → table_now ≡ table → (filling : FillingOf T) → Made (lane_of table v s) filling → Made (lane_of table_now w t) filling
       hit-fillings table table_now same filling was =
           let p : ℕ = place_of filling.key in
           let mine : (pool_after z v.seen p).phase ≡ with (the_lane v).lane
@@ -217,6 +195,9 @@ module _ {T : Type 0} {content : T → List ℕ} {room : T → ℕ} {z : Shape} 
           (λ here. hit-away (subst (λ (q : ℕ). (pool_after z v.seen q).phase ≡ with (the_lane v).lane) here mine)) in
           made-passes z (lane_of table v s) (lane_of table_now w t) filling fits.shape_is shape_now (sym fits.seat.number_is) (ap (λ (x : Shelf T). x.number) rest) same
           hit.passes fits.seat.paired fits.seat.own hit.idle hit.chain list_now (ap (λ (x : Shelf T). x.pages) rest) off (keeps p) was
+
+      pub gained : FitsRows content room z w t.rows.items (s.references + 1) → Gained content room z key bytes v w s t
+      gained rows = record { fits = hit-fits rows; holds = hit-holds; did = hit-did; refs = hit-refs; fillings = hit-fillings }
 
 -- ---- the rows after a hit
 

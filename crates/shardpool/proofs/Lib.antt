@@ -22,6 +22,7 @@ pub mod Paging
 pub mod Popping
 pub mod Taking
 pub mod Calling
+pub mod Ready
 pub mod Publishing
 pub mod Releasing
 pub mod Halting
