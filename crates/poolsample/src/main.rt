@@ -7,11 +7,17 @@ ghost use Rattle.steplaws.specs.Facts.{most_references};
 ghost use Rattle.shardpool.specs.Lanes.{Owns, SameLane, refs};
 
 mod lanes;
+mod relay;
+mod spans;
 
 use crate::lanes::{close_two, open_two};
+use crate::relay::relay;
+use crate::spans::{Registry, Summary};
 use guards::{FillGuard, create_with, with};
 use shardpool::{CreateFault, Lane, Pool};
 use slotcell::ByteBuf;
+use std::alloc::Global;
+use std::marker::Brand;
 use std::thread;
 
 /// How often each thread publishes a buffer, reads it and clears it.
@@ -131,7 +137,31 @@ fn main(rt: HostRuntime) -> anyhow::Result<()> {
     let found = measure(&pool, &mut first, key);
     println!(rt; "by a closure: {found:?}")?;
 
+    let (first, second, found) = relay::<Brand, _>(
+        &rt,
+        rt.alloc(),
+        &pool,
+        first,
+        second,
+        b"by a channel",
+    )?;
+    println!(rt; "by a message: {found:?}")?;
+
     let census = close_two(rt.alloc(), pool, first, second)?;
     println!(rt; "closed: {census:?}")?;
+
+    let (found, after) = trace(rt.alloc())?;
+    println!(rt; "a span: {found:?}; cleared, and then: {after:?}")?;
     Ok(())
+}
+
+/// Records a span, looks at it, clears it and looks again.
+fn trace(alloc: Global) -> anyhow::Result<(Option<Summary>, Option<Summary>)> {
+    let mut registry = Registry::open(alloc)?;
+    let key = registry.record(7, Some(3), &[11, 12])?;
+    let found = registry.look(key);
+    registry.clear(key);
+    let after = registry.look(key);
+    registry.close(alloc)?;
+    Ok((found, after))
 }
