@@ -37,7 +37,7 @@ use Rattle.shardpool.specs.declared.shelf.Shelf.{Shelf}
 use Rattle.shardpool.specs.Places.{held_after}
 use Rattle.shardpool.specs.Tokens.{FillingOf}
 use Rattle.shardpool.specs.Shelves.{FitsRow, FitsRows, Fits}
-use Rattle.shardpool.specs.Lanes.{Made, Calls, Did}
+use Rattle.shardpool.specs.Lanes.{Made, Did}
 use Rattle.shardpool.proofs.Abroad.{abroad-one}
 use Rattle.shardpool.proofs.Passes.{Passes}
 use Rattle.shardpool.proofs.Passing.{passes-still, passes-carries, passes-more, passes-wider, onlyat-get}

@@ -27,7 +27,7 @@ use Rattle.poolcalls.specs.Carried.{ShowsCell}
 use Rattle.poolcalls.specs.Taken.{Went, IsCollected, Collects, FollowsOut}
 use Rattle.shardpool.specs.declared.shelf.Row.{Row}
 use Rattle.shardpool.specs.declared.shelf.Shelf.{Shelf}
-use Rattle.shardpool.specs.Tokens.{LaneOf, FillingOf}
+use Rattle.shardpool.specs.Tokens.{PoolOf, LaneOf, FillingOf}
 use Rattle.shardpool.specs.Lanes.{Made}
 use Rattle.shardpool.specs.Places.{IsResting}
 use Rattle.shardpool.specs.Shelves.{IsFirst, FitsRow, FitsStores, Fits}
@@ -41,7 +41,7 @@ use Rattle.shardpool.proofs.Storing.{own-inside, numbered, blank-wider, stores-s
 use Rattle.shardpool.proofs.Hanging.{rest-unlisted, uncollected, collected-away, stores-hung, taken-deeds, taken-cells, taken-rests, stores-followed, followed-blank, link-goes-on, followed-first, first-rests}
 use Rattle.shardpool.proofs.Rowing.{rows-pass}
 use Rattle.shardpool.proofs.Laning.{lane_of}
-use Rattle.shardpool.proofs.Seeing.{made-passes, made-still}
+use Rattle.shardpool.proofs.Seeing.{same-shape, made-passes, made-still}
 
 -- ---- rows
 
@@ -68,7 +68,7 @@ unheld {row = row} fits none some =
 
 -- ---- what is told without what the hand holds
 
-pub bare-follows : {S : Type 0} {z : Shape} {place link : ℕ} {a b : Me S View} → FollowsOut z place link a b → FollowsOut {S = Unit {0}} z place link (a.0, []) (b.0, [])
+bare-follows : {S : Type 0} {z : Shape} {place link : ℕ} {a b : Me S View} → FollowsOut z place link a b → FollowsOut {S = Unit {0}} z place link (a.0, []) (b.0, [])
 bare-follows f = record {
   went = f.went;
   changes = f.changes;
@@ -82,6 +82,12 @@ bare-follows f = record {
   looked = f.looked;
 }
 
+-- and so by the shape of its lane
+pub follows-here : {S : Type 0} {view lane : LaneOf} {grid pool : PoolOf} {place link : ℕ} {a b : Me S View} → view ≡ lane → lane.shape ≡ pool.shape → grid ≡ pool
+    → FollowsOut grid.shape place link a b → FollowsOut {S = Unit {0}} view.shape place link (a.0, []) (b.0, [])
+follows-here {place = place} {link = link} {a = a} {b = b} seen owned of_pool follows =
+    subst (λ (z : Shape). FollowsOut {S = Unit {0}} z place link (a.0, []) (b.0, [])) (same-shape seen owned of_pool) (bare-follows follows)
+
 -- a word that leads to places is one of a place
 word-of : (z : Shape) (shard word : ℕ) (places : List ℕ) → 0 < length places → LeadsTo z shard word places → (1 ≤ word) × (word ≤ 65536)
 word-of z shard word [] some leads = absurd (omega (arith, some))
@@ -92,7 +98,7 @@ pub found-word : {S : Type 0} {z : Shape} {opened found : ℕ} {a b : Me S View}
 found-word {z = z} {found = found} {a = a} isnt collects =
     let some = collects.some isnt in word-of z (the_lane a.0).lane found some.0 some.3 some.5
 
-pub bare-collects : {S : Type 0} {z : Shape} {opened found : ℕ} {a b : Me S View} → Collects z opened found a b → Collects {S = Unit {0}} z opened found (a.0, []) (b.0, [])
+bare-collects : {S : Type 0} {z : Shape} {opened found : ℕ} {a b : Me S View} → Collects z opened found a b → Collects {S = Unit {0}} z opened found (a.0, []) (b.0, [])
 bare-collects c = record {
   steps = c.steps;
   made = c.made;
@@ -107,6 +113,12 @@ bare-collects c = record {
   none = c.none;
   some = c.some;
 }
+
+-- and so by the shape of its lane
+pub collects-here : {S : Type 0} {view lane : LaneOf} {grid pool : PoolOf} {opened found : ℕ} {a b : Me S View} → view ≡ lane → lane.shape ≡ pool.shape → grid ≡ pool
+    → Collects grid.shape opened found a b → Collects {S = Unit {0}} view.shape opened found (a.0, []) (b.0, [])
+collects-here {opened = opened} {found = found} {a = a} {b = b} seen owned of_pool collects =
+    subst (λ (z : Shape). Collects {S = Unit {0}} z opened found (a.0, []) (b.0, [])) (same-shape seen owned of_pool) (bare-collects collects)
 
 went-passes : {z : Shape} {at : ℕ → Bool} {made : List Act} {v w : View} → Went z made v w
     → ((p number : ℕ) → at p ≡ false → status_of (the_lane w) p number ≡ status_of (the_lane v) p number)

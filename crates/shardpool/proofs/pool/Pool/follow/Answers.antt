@@ -1,13 +1,10 @@
 -- The chain's first place is followed.
-use Rattle.std.proofs.Common.{◌≡◌, [], Some, sym, ◌∙◌, subst}
-use Rattle.keybits.specs.declared.shape.Shape.{Shape}
-use Rattle.poolcalls.specs.Taken.{FollowsOut}
+use Rattle.std.proofs.Common.{◌≡◌, Some, sym, ◌∙◌, subst}
 use Rattle.shardpool.specs.Tokens.{LaneOf}
 use Rattle.shardpool.specs.Lanes.{Made}
 use Rattle.shardpool.specs.Creates.{FollowsChain}
 use Rattle.shardpool.proofs.Laning.{lane_of}
-use Rattle.shardpool.proofs.Seeing.{same-shape}
-use Rattle.shardpool.proofs.Taking.{bare-follows, hung-inside, follow-goes, followed-fits, followed-chain, followed-fillings}
+use Rattle.shardpool.proofs.Taking.{follows-here, hung-inside, follow-goes, followed-fits, followed-chain, followed-fillings}
 use Rattle.shardpool.proofs.pool.Pool.follow.Goals as goal
 
 pub number-requires-clause-page : goal.number-requires-clause-page
@@ -27,9 +24,7 @@ follow-requires-clause-link g c =
     let fits = c.lane.invariant.1 in
     let hung : c.lane.inside.shelf.free.chain ≡ Some c.in_ok-first.first = sym c.chain.ensures.first ∙ c.in_ok-first.was in
     let at = c.spot-spot.ensures.place_is ∙ c.number.ensures in
-    let shape = same-shape c.lane.view_is c.requires.owns.1 c.self.view_is in
-    let follows = subst (λ (z : Shape). FollowsOut {S = Unit {0}} z c.spot-spot.result.place c.follow-link.result.0 (c.lane.inside.hand.me.0, []) (c.follow-link.new.hand.me.0, []))
-    shape (bare-follows c.follow-link.ensures.follows) in
+    let follows = follows-here c.lane.view_is c.requires.owns.1 c.self.view_is c.follow-link.ensures.follows in
     follow-goes fits hung at follows
 
 pub invariant_of-lane : goal.invariant_of-lane
@@ -37,9 +32,7 @@ invariant_of-lane g c =
     let fits = c.lane.invariant.1 in
     let hung : c.lane.inside.shelf.free.chain ≡ Some c.in_ok-first.first = sym c.chain.ensures.first ∙ c.in_ok-first.was in
     let at = c.spot-spot.ensures.place_is ∙ c.number.ensures in
-    let shape = same-shape c.lane.view_is c.requires.owns.1 c.self.view_is in
-    let follows = subst (λ (z : Shape). FollowsOut {S = Unit {0}} z c.spot-spot.result.place c.follow-link.result.0 (c.lane.inside.hand.me.0, []) (c.follow-link.new.hand.me.0, []))
-    shape (bare-follows c.follow-link.ensures.follows) in
+    let follows = follows-here c.lane.view_is c.requires.owns.1 c.self.view_is c.follow-link.ensures.follows in
     (c.follow-link.ensures.follows.held ∙ c.lane.invariant.0, followed-fits fits hung at follows c.follow.ensures.rest c.follow.ensures.ends c.follow.ensures.goes_on)
 
 pub returns-clause-some : goal.returns-clause-some
@@ -47,9 +40,7 @@ returns-clause-some g c =
     let fits = c.lane.invariant.1 in
     let hung : c.lane.inside.shelf.free.chain ≡ Some c.in_ok-first.first = sym c.chain.ensures.first ∙ c.in_ok-first.was in
     let at = c.spot-spot.ensures.place_is ∙ c.number.ensures in
-    let shape = same-shape c.lane.view_is c.requires.owns.1 c.self.view_is in
-    let follows = subst (λ (z : Shape). FollowsOut {S = Unit {0}} z c.spot-spot.result.place c.follow-link.result.0 (c.lane.inside.hand.me.0, []) (c.follow-link.new.hand.me.0, []))
-    shape (bare-follows c.follow-link.ensures.follows) in
+    let follows = follows-here c.lane.view_is c.requires.owns.1 c.self.view_is c.follow-link.ensures.follows in
     let new : LaneOf = lane_of c.follow-link.new.hand.table_id c.follow-link.new.hand.me.0 (record c.lane.inside.shelf { free = c.follow.new.self }) in
     subst (λ (lane : LaneOf). FollowsChain g.T.Clear.content g.T.Clear.room lane new c.spot-spot.result.place c.follow-link.result.1) c.lane.view_is
     (followed-chain fits hung at follows c.follow.ensures.rest c.lane.inside.hand.table_id c.follow-link.new.hand.table_id c.follow-link.ensures.hand.0 c.follow-link.ensures.cell)
@@ -59,8 +50,6 @@ returns-clause-fillings g c = λ filling made.
     let fits = c.lane.invariant.1 in
     let hung : c.lane.inside.shelf.free.chain ≡ Some c.in_ok-first.first = sym c.chain.ensures.first ∙ c.in_ok-first.was in
     let at = c.spot-spot.ensures.place_is ∙ c.number.ensures in
-    let shape = same-shape c.lane.view_is c.requires.owns.1 c.self.view_is in
-    let follows = subst (λ (z : Shape). FollowsOut {S = Unit {0}} z c.spot-spot.result.place c.follow-link.result.0 (c.lane.inside.hand.me.0, []) (c.follow-link.new.hand.me.0, []))
-    shape (bare-follows c.follow-link.ensures.follows) in
+    let follows = follows-here c.lane.view_is c.requires.owns.1 c.self.view_is c.follow-link.ensures.follows in
     followed-fillings fits hung at follows c.follow.ensures.rest c.lane.inside.hand.table_id c.follow-link.new.hand.table_id c.follow-link.ensures.hand.0 filling
     (subst (λ (lane : LaneOf). Made lane filling) (sym c.lane.view_is) made)

@@ -1,5 +1,5 @@
 -- A get: what a miss leaves of the lane, and what a hit does whose key the lane has already, or not yet.
-use Rattle.std.proofs.Common.{◌≡◌, ℕ, refl, sym, ap, ◌∙◌, subst, arith}
+use Rattle.std.proofs.Common.{◌≡◌, ℕ, refl, ◌∙◌, subst, arith}
 use Rattle.sharelaws.specs.declared.stored.Status.TheVariants.{Untouched}
 use Rattle.poolsteps.specs.Moved.{Outs}
 use Rattle.poolcalls.proofs.Moves.{carries-out}

@@ -1,13 +1,10 @@
 -- What is taken hangs, or all is as before.
-use Rattle.std.proofs.Common.{rules, ◌≡◌, ◌<◌, [], None, sym, ◌∙◌, subst, arith}
-use Rattle.keybits.specs.declared.shape.Shape.{Shape}
-use Rattle.poolcalls.specs.Taken.{Collects}
+use Rattle.std.proofs.Common.{rules, ◌≡◌, ◌<◌, None, sym, ◌∙◌, subst, arith}
 use Rattle.shardpool.specs.Tokens.{LaneOf}
 use Rattle.shardpool.specs.Lanes.{Made}
 use Rattle.shardpool.specs.Creates.{TakesReturned}
 use Rattle.shardpool.proofs.Laning.{lane_of}
-use Rattle.shardpool.proofs.Seeing.{same-shape}
-use Rattle.shardpool.proofs.Taking.{bare-collects, found-word, took-away, took-fits, took-takes, took-fillings, none-fits, none-takes, none-fillings}
+use Rattle.shardpool.proofs.Taking.{collects-here, found-word, took-away, took-fits, took-takes, took-fillings, none-fits, none-takes, none-fillings}
 use Rattle.shardpool.proofs.pool.Pool.take_returned.Goals as goal
 
 pub hang-requires-clause-word : goal.hang-requires-clause-word
@@ -23,9 +20,7 @@ hang-requires-clause-away g c =
     let opened = c.opened.ensures.opened in
     let isnt = c.if-opened-eq0.false in
     let low : 0 < c.lane.inside.shelf.pages.opened = omega (arith, opened, isnt) in
-    let shape = same-shape c.lane.view_is c.requires.owns.1 c.self.view_is in
-    let collects = subst (λ (z : Shape). Collects {S = Unit {0}} z c.lane.inside.shelf.pages.opened c.collect-found.result (c.lane.inside.hand.me.0, []) (c.collect-found.new.hand.me.0, []))
-    shape (bare-collects (c.collect-found.ensures.collects c.lane.inside.shelf.pages.opened low)) in
+    let collects = collects-here c.lane.view_is c.requires.owns.1 c.self.view_is (c.collect-found.ensures.collects c.lane.inside.shelf.pages.opened low) in
     let none : c.lane.inside.shelf.free.chain ≡ None = search rules in
     took-away fits c.if-found-ne0.true none collects
 
@@ -35,9 +30,7 @@ invariant_of-lane g c =
     let opened = c.opened.ensures.opened in
     let isnt = c.if-opened-eq0.false in
     let low : 0 < c.lane.inside.shelf.pages.opened = omega (arith, opened, isnt) in
-    let shape = same-shape c.lane.view_is c.requires.owns.1 c.self.view_is in
-    let collects = subst (λ (z : Shape). Collects {S = Unit {0}} z c.lane.inside.shelf.pages.opened c.collect-found.result (c.lane.inside.hand.me.0, []) (c.collect-found.new.hand.me.0, []))
-    shape (bare-collects (c.collect-found.ensures.collects c.lane.inside.shelf.pages.opened low)) in
+    let collects = collects-here c.lane.view_is c.requires.owns.1 c.self.view_is (c.collect-found.ensures.collects c.lane.inside.shelf.pages.opened low) in
     let none : c.lane.inside.shelf.free.chain ≡ None = search rules in
     ((c.collect-found.ensures.collects c.lane.inside.shelf.pages.opened low).held ∙ c.lane.invariant.0, took-fits fits c.if-found-ne0.true none collects c.hang.ensures)
 
@@ -47,9 +40,7 @@ invariant_of-lane-else-found-ne0 g c =
     let opened = c.opened.ensures.opened in
     let isnt = c.if-opened-eq0.false in
     let low : 0 < c.lane.inside.shelf.pages.opened = omega (arith, opened, isnt) in
-    let shape = same-shape c.lane.view_is c.requires.owns.1 c.self.view_is in
-    let collects = subst (λ (z : Shape). Collects {S = Unit {0}} z c.lane.inside.shelf.pages.opened c.collect-found.result (c.lane.inside.hand.me.0, []) (c.collect-found.new.hand.me.0, []))
-    shape (bare-collects (c.collect-found.ensures.collects c.lane.inside.shelf.pages.opened low)) in
+    let collects = collects-here c.lane.view_is c.requires.owns.1 c.self.view_is (c.collect-found.ensures.collects c.lane.inside.shelf.pages.opened low) in
     ((c.collect-found.ensures.collects c.lane.inside.shelf.pages.opened low).held ∙ c.lane.invariant.0, none-fits fits c.if-found-ne0.false collects)
 
 pub returns-then-found-ne0-clause-takes : goal.returns-then-found-ne0-clause-takes
@@ -58,9 +49,7 @@ returns-then-found-ne0-clause-takes g c =
     let opened = c.opened.ensures.opened in
     let isnt = c.if-opened-eq0.false in
     let low : 0 < c.lane.inside.shelf.pages.opened = omega (arith, opened, isnt) in
-    let shape = same-shape c.lane.view_is c.requires.owns.1 c.self.view_is in
-    let collects = subst (λ (z : Shape). Collects {S = Unit {0}} z c.lane.inside.shelf.pages.opened c.collect-found.result (c.lane.inside.hand.me.0, []) (c.collect-found.new.hand.me.0, []))
-    shape (bare-collects (c.collect-found.ensures.collects c.lane.inside.shelf.pages.opened low)) in
+    let collects = collects-here c.lane.view_is c.requires.owns.1 c.self.view_is (c.collect-found.ensures.collects c.lane.inside.shelf.pages.opened low) in
     let none : c.lane.inside.shelf.free.chain ≡ None = search rules in
     let new : LaneOf = lane_of c.collect-found.new.hand.table_id c.collect-found.new.hand.me.0 c.hang.new.shelf in
     subst (λ (lane : LaneOf). TakesReturned lane new) c.lane.view_is
@@ -72,9 +61,7 @@ returns-then-found-ne0-clause-fillings g c = λ filling made.
     let opened = c.opened.ensures.opened in
     let isnt = c.if-opened-eq0.false in
     let low : 0 < c.lane.inside.shelf.pages.opened = omega (arith, opened, isnt) in
-    let shape = same-shape c.lane.view_is c.requires.owns.1 c.self.view_is in
-    let collects = subst (λ (z : Shape). Collects {S = Unit {0}} z c.lane.inside.shelf.pages.opened c.collect-found.result (c.lane.inside.hand.me.0, []) (c.collect-found.new.hand.me.0, []))
-    shape (bare-collects (c.collect-found.ensures.collects c.lane.inside.shelf.pages.opened low)) in
+    let collects = collects-here c.lane.view_is c.requires.owns.1 c.self.view_is (c.collect-found.ensures.collects c.lane.inside.shelf.pages.opened low) in
     let none : c.lane.inside.shelf.free.chain ≡ None = search rules in
     took-fillings fits c.if-found-ne0.true none collects c.hang.ensures c.lane.inside.hand.table_id c.collect-found.new.hand.table_id c.collect-found.ensures.hand.0 filling
     (subst (λ (lane : LaneOf). Made lane filling) (sym c.lane.view_is) made)
@@ -85,9 +72,7 @@ returns-else-found-ne0-clause-takes g c =
     let opened = c.opened.ensures.opened in
     let isnt = c.if-opened-eq0.false in
     let low : 0 < c.lane.inside.shelf.pages.opened = omega (arith, opened, isnt) in
-    let shape = same-shape c.lane.view_is c.requires.owns.1 c.self.view_is in
-    let collects = subst (λ (z : Shape). Collects {S = Unit {0}} z c.lane.inside.shelf.pages.opened c.collect-found.result (c.lane.inside.hand.me.0, []) (c.collect-found.new.hand.me.0, []))
-    shape (bare-collects (c.collect-found.ensures.collects c.lane.inside.shelf.pages.opened low)) in
+    let collects = collects-here c.lane.view_is c.requires.owns.1 c.self.view_is (c.collect-found.ensures.collects c.lane.inside.shelf.pages.opened low) in
     let none : c.lane.inside.shelf.free.chain ≡ None = search rules in
     let new : LaneOf = lane_of c.collect-found.new.hand.table_id c.collect-found.new.hand.me.0 c.lane.inside.shelf in
     subst (λ (lane : LaneOf). TakesReturned lane new) c.lane.view_is
@@ -99,8 +84,6 @@ returns-else-found-ne0-clause-fillings g c = λ filling made.
     let opened = c.opened.ensures.opened in
     let isnt = c.if-opened-eq0.false in
     let low : 0 < c.lane.inside.shelf.pages.opened = omega (arith, opened, isnt) in
-    let shape = same-shape c.lane.view_is c.requires.owns.1 c.self.view_is in
-    let collects = subst (λ (z : Shape). Collects {S = Unit {0}} z c.lane.inside.shelf.pages.opened c.collect-found.result (c.lane.inside.hand.me.0, []) (c.collect-found.new.hand.me.0, []))
-    shape (bare-collects (c.collect-found.ensures.collects c.lane.inside.shelf.pages.opened low)) in
+    let collects = collects-here c.lane.view_is c.requires.owns.1 c.self.view_is (c.collect-found.ensures.collects c.lane.inside.shelf.pages.opened low) in
     none-fillings fits c.if-found-ne0.false collects c.lane.inside.hand.table_id c.collect-found.new.hand.table_id c.collect-found.ensures.hand.0 filling
     (subst (λ (lane : LaneOf). Made lane filling) (sym c.lane.view_is) made)
