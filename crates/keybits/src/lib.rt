@@ -16,7 +16,7 @@ pub use fields::{generation_of, place_of, tag_of};
 pub use fit::fits;
 pub use home_laws::{home_law, push_law, take_law, unchanged_law};
 pub use key::Key;
-pub use life::{Life, State};
+pub use life::{Life, MARK_BIT, ONE_COUNT, ONE_GENERATION, PUBLISHED_BIT, State};
 pub use link::{link_to, linked_place};
 pub use place::{GREATEST_PLACE, PAGE_NUMBERS, Place, SHARD_NUMBERS, shard_of};
 pub use shape::{GREATEST_TAG, LARGEST_FIRST_PAGE, MOST_LANES, MOST_PAGES, Shape, ShapeFault};

@@ -1,8 +1,14 @@
+/// What a publish adds to an idle lifecycle word, which is then present.
+pub const PUBLISHED_BIT: u64 = 1;
+
+/// The bit that a mark sets in a present lifecycle word, which is then marked.
+pub const MARK_BIT: u64 = 2;
+
 /// What a reference adds to a lifecycle word, whose count has the bits 2 to 31.
-pub(crate) const ONE_COUNT: u64 = 1 << 2;
+pub const ONE_COUNT: u64 = 1 << 2;
 
 /// What a generation adds to a lifecycle word, which has it in the bits 32 to 63.
-pub(crate) const ONE_GENERATION: u64 = 1 << 32;
+pub const ONE_GENERATION: u64 = 1 << 32;
 
 /// Whether a place's object can be got.
 #[derive(Clone, Copy, Debug, PartialEq, Eq)]

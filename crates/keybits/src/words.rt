@@ -4,7 +4,7 @@ ghost use Rattle.keybits.specs.Steps.{Changes};
 ghost use Rattle.keybits.specs.declared.step.Kind.TheVariants.{Enter, Leave, Publish, Mark, Claim};
 
 use crate::fields::generation_of;
-use crate::life::{Life, ONE_COUNT, ONE_GENERATION, State};
+use crate::life::{Life, MARK_BIT, ONE_COUNT, ONE_GENERATION, PUBLISHED_BIT, State};
 
 /// Whether the step of a get or a clear that counts itself, and finds this word, hits the key: the
 /// key's generation, and PRESENT.
@@ -83,9 +83,9 @@ pub fn published(word: u64, with_ref: bool) -> u64
     ensures generation { generation_in result ≡ generation_in word }
 {
     if with_ref {
-        word + 1 + ONE_COUNT
+        word + PUBLISHED_BIT + ONE_COUNT
     } else {
-        word + 1
+        word + PUBLISHED_BIT
     }
 }
 
@@ -101,7 +101,7 @@ pub fn marked(word: u64) -> u64
     ensures count { count_in result ≡ count_in word }
     ensures generation { generation_in result ≡ generation_in word }
 {
-    word | 2
+    word | MARK_BIT
 }
 
 /// The lifecycle word after a marked place with count 0 was claimed: idle at the next generation, or

@@ -11,18 +11,9 @@ ghost use Rattle.poolsteps.specs.Moved.{stored_of};
 
 use crate::grid::{Grid, Hand, Spot};
 use crate::plays::{Aim, Claim, Enter, Leave, Mark, Publish, Purpose};
-use keybits::{claimable, claimed};
+use keybits::{MARK_BIT, ONE_COUNT, PUBLISHED_BIT, claimable, claimed};
 use slotcell::{Clear, Share};
 use std::marker::Brand;
-
-/// What a reference adds to a lifecycle word, whose count has the bits 2 to 31.
-const ONE_COUNT: u64 = 1 << 2;
-
-/// What a publish adds to an idle lifecycle word, which is then present.
-const PRESENT: u64 = 1;
-
-/// The bit that a mark sets in a present lifecycle word, which is then marked.
-const MARK: u64 = 2;
 
 impl<T: Clear> Grid<T> {
     /// ENTER of a get or of a clear of a key: one is added to the count of its place. Answers the word that was found; the
@@ -150,9 +141,9 @@ impl<T: Clear> Grid<T> {
     {
         let _ = key;
         let added = if with_ref {
-            PRESENT + ONE_COUNT
+            PUBLISHED_BIT + ONE_COUNT
         } else {
-            PRESENT
+            PUBLISHED_BIT
         };
         self.table
             .shared
@@ -182,7 +173,9 @@ impl<T: Clear> Grid<T> {
         ensures marks { Marks self.now.shape key hand.old.me result hand.new.me }
     {
         let _ = key;
-        self.table.shared.fetch_or::<Mark<J>>(hand, spot.life, MARK)
+        self.table
+            .shared
+            .fetch_or::<Mark<J>>(hand, spot.life, MARK_BIT)
     }
 
     /// CLAIM of the place and generation that the lane owes: it succeeds where the word found is (generation, MARKED, count
