@@ -2,3 +2,4 @@ pub mod Refusing
 pub mod Verdicts
 pub mod Writing
 mod Running
+mod Replaying

@@ -6,24 +6,13 @@ use Rattle.seqpool.specs.declared.act.Act.{Act}
 use Rattle.seqpool.specs.declared.summary.Summary.{Summary}
 use Rattle.seqpool.specs.declared.acts_fault.ActsFault.TheVariants as acts
 use Rattle.seqpool.specs.declared.fault.ApplyFault.{ApplyFault}
-use Rattle.seqpool.specs.declared.fault.ApplyFault.TheVariants.{NotWithLane, WrongGeneration, WrongReply, NotHeld, StillHeld, NotMarked, NotHome, Memory}
 use Rattle.seqpool.specs.Checker.{IsSummary, IsIllegalAt}
 use Rattle.seqpool.specs.Pool.{IsLegal}
 use Rattle.seqpool.specs.ActsText.{StandsFor, HasShape, HasShapeFault, StandsForNothing}
+use Rattle.seqpool.specs.FaultNames.{fault_name}
 use Rattle.seqpool.specs.Refusals.{fault_number}
 use Rattle.poolprogram.specs.declared.run_fault.RunFault.{RunFault}
 use Rattle.poolprogram.specs.declared.run_fault.RunFault.TheVariants as runs
-
--- the name of a refusal
-abbrev pub refusal_name : ApplyFault → List ℕ
-refusal_name NotWithLane = codes "NotWithLane"
-refusal_name WrongGeneration = codes "WrongGeneration"
-refusal_name WrongReply = codes "WrongReply"
-refusal_name NotHeld = codes "NotHeld"
-refusal_name StillHeld = codes "StillHeld"
-refusal_name NotMarked = codes "NotMarked"
-refusal_name NotHome = codes "NotHome"
-refusal_name Memory = codes "Memory"
 
 -- the line of a legal history
 abbrev pub summary_text : Summary → List ℕ
@@ -34,7 +23,7 @@ summary_text s =
 
 -- the line of a history whose act at this index, counted from 0, is the first that is refused
 abbrev pub illegal_text : ℕ → ApplyFault → List ℕ
-illegal_text index fault = codes "illegal " ++ decimal index ++ codes " " ++ decimal (fault_number fault) ++ codes " " ++ refusal_name fault ++ codes "\n"
+illegal_text index fault = codes "illegal " ++ decimal index ++ codes " " ++ decimal (fault_number fault) ++ codes " " ++ fault_name fault ++ codes "\n"
 
 -- the bytes stand for a legal history, and the text is the line of its summary
 pub record IsLegalLine (bytes text : List ℕ) : Type 0 where

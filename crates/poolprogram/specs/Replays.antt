@@ -24,6 +24,18 @@ abbrev pub IsText : Shape → List Turn → Bool → List ℕ → Type 0
 IsText z trace false text = text ≡ trace_text trace
 IsText z trace true text = IsTextOf z (all_acts trace) text
 
+-- the text of a lawful trace of the plan over the schedule, or of its acts
+pub record IsReplayOf (plan : Plan) (schedule : List ℕ) (acts : Bool) (text : List ℕ) : Type 0 where
+  pub trace : List Turn
+  pub lawful : IsLawful plan.shape plan.scripts schedule trace
+  pub is : IsText plan.shape trace acts text
+
+-- known bytes grow by such a text
+pub record WritesReplayOf (plan : Plan) (schedule : List ℕ) (acts : Bool) (old new : Option (List ℕ)) : Type 0 where
+  pub text : List ℕ
+  pub replay : IsReplayOf plan schedule acts text
+  pub appended : Appends old new text
+
 -- a lawful trace of the plan that the file's bytes stand for, which has this shape, and of the schedule
 pub record IsTraceOf (file schedule : List ℕ) (z : Shape) (trace : List Turn) : Type 0 where
   pub plan : Plan
@@ -50,9 +62,8 @@ pub record HasReplay (file schedule : List ℕ) : Type 0 where
   pub trace : List Turn
   pub replayed : IsTraceOf file schedule shape trace
 
--- the schedule that is drawn from this seed for the lanes of the plan that the file's bytes stand for
-pub record IsDrawnFor (file : List ℕ) (seed turns : ℕ) (schedule : List ℕ) : Type 0 where
-  pub plan : Plan
+-- the file's bytes stand for the plan, and the schedule is drawn from this seed for its lanes
+pub record IsDrawnFor (file : List ℕ) (seed turns : ℕ) (plan : Plan) (schedule : List ℕ) : Type 0 where
   pub stands : StandsFor file plan
   pub is : schedule ≡ drawn seed plan.shape.lanes turns
 
@@ -75,6 +86,16 @@ IsCoreFault runs.Open = ⊥
 IsCoreFault runs.File = ⊥
 IsCoreFault runs.Output = ⊥
 IsCoreFault runs.Memory = ⊥
+
+-- the plan is refused with this fault: the core was refused memory for it; or memory was refused for the text of a trace
+abbrev pub RefusesReplayOf : Plan → List ℕ → RunFault → Type 0
+RefusesReplayOf plan schedule (runs.Core fault) = Unit {0}
+RefusesReplayOf plan schedule runs.Memory = (trace : List Turn) × IsLawful plan.shape plan.scripts schedule trace
+RefusesReplayOf plan schedule (runs.Read fault) = ⊥
+RefusesReplayOf plan schedule (runs.Acts fault) = ⊥
+RefusesReplayOf plan schedule runs.Open = ⊥
+RefusesReplayOf plan schedule runs.File = ⊥
+RefusesReplayOf plan schedule runs.Output = ⊥
 
 -- the file is refused with this fault: as a script file; or the core was refused memory for the plan that it stands for; or memory was refused for the text of a trace
 abbrev pub RefusesReplay : List ℕ → List ℕ → RunFault → Type 0

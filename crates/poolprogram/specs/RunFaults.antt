@@ -1,17 +1,10 @@
 -- The numbers and the names of faults.
 use Rattle.std.specs.Prelude.{ℕ, List, codes}
+use Rattle.seqpool.specs.FaultNames.{acts_fault_name}
 use Rattle.seqpool.specs.Refusals.{acts_fault_number}
-use Rattle.seqpool.specs.declared.acts_fault.ActsFault.{ActsFault}
-use Rattle.seqpool.specs.declared.acts_fault.ActsFault.TheVariants as acts
-use Rattle.scripts.specs.ScriptFaults.{shape_fault_name, script_fault_number, script_fault_name}
+use Rattle.scripts.specs.ScriptFaults.{script_fault_number, script_fault_name}
 use Rattle.poolprogram.specs.declared.run_fault.RunFault.{RunFault}
 use Rattle.poolprogram.specs.declared.run_fault.RunFault.TheVariants as runs
-
--- the name of a fault of acts
-abbrev pub acts_fault_name : ActsFault → List ℕ
-acts_fault_name acts.ActsLine = codes "ActsLine"
-acts_fault_name (acts.Shape fault) = shape_fault_name fault
-acts_fault_name acts.Memory = codes "Memory"
 
 -- the number of a fault; the core's only one is want of memory
 abbrev pub run_fault_number : RunFault → ℕ

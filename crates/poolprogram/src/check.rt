@@ -1,5 +1,5 @@
 ghost use Rattle.std.specs.Prelude.{◌≡◌, ◌≢◌, ◌↔◌, true, false, ◌++◌, IfOk, IfErr, OnOk, IsErrOf, string_bytes};
-ghost use Rattle.poolprogram.specs.Checks.{refusal_name, summary_text, illegal_text, IsVerdict, WritesVerdict, RefusesActs};
+ghost use Rattle.poolprogram.specs.Checks.{summary_text, illegal_text, IsVerdict, WritesVerdict, RefusesActs};
 ghost use Rattle.seqpool.specs.ActsText.{StandsFor};
 
 use crate::output::write_and_flush;
@@ -17,22 +17,6 @@ struct Verdict {
     legal: bool,
     /// The line that says so.
     line: String,
-}
-
-/// The name of a refusal.
-fn refusal_name(fault: ApplyFault) -> &'static str
-    ensures { result.now ≡ refusal_name fault }
-{
-    match fault {
-        ApplyFault::NotWithLane => "NotWithLane",
-        ApplyFault::WrongGeneration => "WrongGeneration",
-        ApplyFault::WrongReply => "WrongReply",
-        ApplyFault::NotHeld => "NotHeld",
-        ApplyFault::StillHeld => "StillHeld",
-        ApplyFault::NotMarked => "NotMarked",
-        ApplyFault::NotHome => "NotHome",
-        ApplyFault::Memory => "Memory",
-    }
 }
 
 /// Appends the line of a legal history.
@@ -68,7 +52,7 @@ fn illegal_line(alloc: Global, index: usize, fault: ApplyFault) -> Result<String
     ensures { IfOk result (λ line. string_bytes line ≡ illegal_text index fault) }
 {
     let number = fault.number();
-    let name = refusal_name(fault);
+    let name = fault.name();
     let mut line = String::new(alloc);
     write!(line, "illegal {index} {number} {name}\n")?;
     Ok(line)

@@ -18,7 +18,7 @@ pub use check::check_text;
 pub use files::load;
 pub use key::key_text;
 pub use output::write_and_flush;
-pub use replay::{draw_turns, replay_text};
+pub use replay::{draw_turns, replay_plan, replay_text};
 pub use run::run_text;
 pub use run_fault::RunFault;
 pub use schedules::{read_schedule, stop_after};

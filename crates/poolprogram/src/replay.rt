@@ -5,7 +5,7 @@ ghost use Rattle.seqpool.specs.ActsText.{IsTextOf};
 ghost use Rattle.traces.specs.Text.{trace_text};
 ghost use Rattle.traces.specs.TurnLaws.{all_acts};
 ghost use Rattle.scripts.specs.Readings.{StandsFor};
-ghost use Rattle.poolprogram.specs.Replays.{IsText, IsCoreFault, IsTraceOf, IsReplay, RefusesReplay, WritesReplay, IsDrawnFor, RefusesDraw};
+ghost use Rattle.poolprogram.specs.Replays.{IsText, IsCoreFault, IsReplayOf, RefusesReplayOf, WritesReplayOf, RefusesReplay, WritesReplay, IsDrawnFor, RefusesDraw};
 
 use crate::output::write_and_flush;
 use crate::run_fault::RunFault;
@@ -28,17 +28,6 @@ fn run_plan(alloc: Global, plan: Plan, schedule: &[u32]) -> Result<Trace, RunFau
 {
     let Plan { shape, scripts } = plan;
     run(alloc, shape, scripts.into_vec(), schedule).map_err(RunFault::Core)
-}
-
-/// The trace of a script file over a schedule, and the shape that it is of.
-fn trace_of(alloc: Global, file: &[u8], schedule: &[u32]) -> Result<(Shape, Trace), RunFault>
-    ensures ok { IfOk result (λ found. IsTraceOf file.now schedule.now found.0 found.1) }
-    ensures err { IfErr result (RefusesReplay file.now schedule.now) }
-{
-    let plan = parse(alloc, file).map_err(RunFault::Read)?;
-    let shape = plan.shape;
-    let trace = run_plan(alloc, plan, schedule)?;
-    Ok((shape, trace))
 }
 
 /// The acts of a trace, once more.
@@ -92,20 +81,45 @@ fn text_of(alloc: Global, shape: &Shape, trace: &Trace, acts: bool) -> Result<Ve
     }
 }
 
-/// The text of the trace of a script file over a schedule, or of its acts.
-fn replayed(alloc: Global, file: &[u8], schedule: &[u32], acts: bool) -> Result<Vec<u8>, RunFault>
-    ensures ok { IfOk result (λ text. IsReplay file.now schedule.now acts text.items) }
-    ensures err { IfErr result (RefusesReplay file.now schedule.now) }
+/// The text of the trace of a plan over a schedule, or of its acts.
+fn replayed(alloc: Global, plan: Plan, schedule: &[u32], acts: bool) -> Result<Vec<u8>, RunFault>
+    requires shape { IsShape plan.shape }
+    requires count { length plan.scripts ≡ plan.shape.lanes }
+    ensures ok { IfOk result (λ text. IsReplayOf plan schedule.now acts text.items) }
+    ensures err { IfErr result (RefusesReplayOf plan schedule.now) }
 {
-    let (shape, trace) = trace_of(alloc, file, schedule)?;
+    let shape = plan.shape;
+    let trace = run_plan(alloc, plan, schedule)?;
     text_of(alloc, &shape, &trace, acts)
 }
 
-/// Replays a script file over a schedule, whose entries are numbers of lanes, and writes the text of
-/// the trace, or where `acts` holds the text of its acts. The errors: `Read` as `parse` answers it; `Core`
-/// where the core was refused memory for the plan, and `Memory` where it was refused for the text of a
-/// trace. These come before the first byte; `Output` comes exactly where `out` failed, and then it
-/// isn't said how much went out.
+/// Replays a plan over a schedule, whose entries are numbers of lanes, and writes the text of the
+/// trace, or where `acts` holds the text of its acts. The errors: `Core` where the core was refused
+/// memory for the plan, and `Memory` where it was refused for the text of a trace. These come before
+/// the first byte; `Output` comes exactly where `out` failed, and then it isn't said how much went out.
+pub fn replay_plan<W: Write>(
+    alloc: Global,
+    plan: Plan,
+    schedule: &[u32],
+    acts: bool,
+    out: &mut Watched<W>,
+) -> Result<(), RunFault>
+    requires shape { IsShape plan.shape }
+    requires count { length plan.scripts ≡ plan.shape.lanes }
+    requires watched { out.old.failed ≡ false }
+    ensures ok { OnOk result (WritesReplayOf plan schedule.now acts
+        (W.contents out.old.inner) (W.contents out.new.inner)) }
+    ensures output { IsErrOf result RunFault.Output ↔ (out.new.failed ≡ true) }
+    ensures refused { IfErr result (λ fault. fault ≢ RunFault.Output
+        → (out.new ≡ out.old) × RefusesReplayOf plan schedule.now fault) }
+{
+    let text = replayed(alloc, plan, schedule, acts)?;
+    write_and_flush(text.as_slice(), out)?;
+    Ok(())
+}
+
+/// Replays a script file over a schedule, as `replay_plan` does the plan that it stands for. The errors
+/// are those of `replay_plan`, and before these `Read` as `parse` answers it.
 pub fn replay_text<W: Write>(
     alloc: Global,
     file: &[u8],
@@ -120,20 +134,26 @@ pub fn replay_text<W: Write>(
     ensures refused { IfErr result (λ fault. fault ≢ RunFault.Output
         → (out.new ≡ out.old) × RefusesReplay file.now schedule.now fault) }
 {
-    let text = replayed(alloc, file, schedule, acts)?;
-    write_and_flush(text.as_slice(), out)?;
-    Ok(())
+    let plan = parse(alloc, file).map_err(RunFault::Read)?;
+    replay_plan(alloc, plan, schedule, acts, out)
 }
 
-/// Draws a schedule of so many turns for the lanes of a script file. The errors: `Read` as `parse`
-/// answers it, and with `Memory` where it was refused for the schedule.
-pub fn draw_turns(alloc: Global, file: &[u8], seed: u64, turns: u32) -> Result<Vec<u32>, RunFault>
-    ensures ok { IfOk result (λ schedule. IsDrawnFor file.now seed turns schedule.items) }
+/// The plan of a script file, and a schedule of so many turns that is drawn for its lanes. The errors:
+/// `Read` as `parse` answers it, and with `Memory` where it was refused for the schedule.
+pub fn draw_turns(
+    alloc: Global,
+    file: &[u8],
+    seed: u64,
+    turns: u32,
+) -> Result<(Plan, Vec<u32>), RunFault>
+    ensures ok { IfOk result (λ drawn. IsDrawnFor file.now seed turns drawn.0 drawn.1.items) }
+    ensures shape { IfOk result (λ drawn. IsShape drawn.0.shape) }
+    ensures count { IfOk result (λ drawn. length drawn.0.scripts ≡ drawn.0.shape.lanes) }
     ensures err { IfErr result (RefusesDraw file.now) }
 {
     let plan = parse(alloc, file).map_err(RunFault::Read)?;
     match draw(alloc, seed, plan.shape.lanes, turns) {
-        Ok(schedule) => Ok(schedule),
+        Ok(schedule) => Ok((plan, schedule)),
         Err(_) => Err(RunFault::Read(ScriptFault::Memory)),
     }
 }

@@ -1,10 +1,9 @@
 ghost use Rattle.std.specs.Prelude.{◌≡◌};
-ghost use Rattle.poolprogram.specs.RunFaults.{acts_fault_name};
 ghost use Rattle.poolprogram.specs.declared.run_fault.RunFault.TheVariants as runs;
 
 use crate::write_failed::WriteFailed;
 use coresteps::CoreFault;
-use scripts::{ScriptFault, shape_fault_name};
+use scripts::ScriptFault;
 use seqpool::ActsFault;
 use std::alloc::AllocError;
 use thiserror::Error;
@@ -12,7 +11,8 @@ use thiserror::Error;
 /// Why the program could not do what it was told.
 #[derive(Debug, Drop, Error)]
 pub enum RunFault {
-    /// The script file is no plan (1, 2, 3, 4, 6, 31 to 36), or one that isn't replayed so far (32).
+    /// The script file is no plan (1, 2, 3, 4, 6, 31 to 36), or memory was refused for a schedule or a
+    /// worker's report (36).
     #[error(transparent)]
     Read(ScriptFault),
     /// The text of acts stands for none: a line is wrong (19), the shape is refused (1, 2, 3, 4, 6) or
@@ -34,17 +34,6 @@ pub enum RunFault {
     /// Memory was refused (43).
     #[error("out of memory")]
     Memory,
-}
-
-/// The name of a fault of a text of acts.
-fn acts_fault_name(fault: &ActsFault) -> &'static str
-    ensures { result.now ≡ acts_fault_name fault.now }
-{
-    match fault {
-        ActsFault::ActsLine => "ActsLine",
-        ActsFault::Shape(fault) => shape_fault_name(fault),
-        ActsFault::Memory => "Memory",
-    }
 }
 
 impl RunFault {
@@ -72,7 +61,7 @@ impl RunFault {
     {
         match self {
             RunFault::Read(fault) => fault.name(),
-            RunFault::Acts(fault) => acts_fault_name(fault),
+            RunFault::Acts(fault) => fault.name(),
             RunFault::Core(_) => "Memory",
             RunFault::Open => "Memory",
             RunFault::File => "File",

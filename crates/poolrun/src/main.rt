@@ -13,7 +13,8 @@ use clap::Error as ClapError;
 use clap::error::ErrorKind;
 use commandline::{Stop, Task, TaskFault, Turns, task};
 use poolprogram::{
-    RunFault, Watched, check_text, draw_turns, key_text, load, replay_text, run_text, stop_after,
+    RunFault, Watched, check_text, draw_turns, key_text, load, replay_plan, replay_text, run_text,
+    stop_after,
 };
 use scripts::ScriptFault;
 use std::alloc::AllocError;
@@ -22,17 +23,8 @@ use std::sync::Wait;
 use std::thread::Threads;
 use std::{env, io};
 
-/// The schedule of a replay, without what comes after a lane's stop.
-fn schedule_of(
-    rt: &HostRuntime,
-    script: &[u8],
-    turns: Turns,
-    stop: Option<Stop>,
-) -> Result<Vec<u32>, RunFault> {
-    let schedule = match turns {
-        Turns::Listed(lanes) => lanes,
-        Turns::Drawn { seed, turns } => draw_turns(rt.alloc(), script, seed, turns)?,
-    };
+/// The schedule without what comes after a lane's stop.
+fn stopped(rt: &HostRuntime, schedule: Vec<u32>, stop: Option<Stop>) -> Result<Vec<u32>, RunFault> {
     match stop {
         Some(Stop { lane, after }) => stop_after(
             rt.alloc(),
@@ -53,15 +45,24 @@ fn replay(
     acts: bool,
 ) -> Result<(), RunFault> {
     let script = load(rt, file)?;
-    let schedule = schedule_of(rt, script.as_slice(), turns, stop)?;
     let mut out = Watched::new(rt.stdout());
-    replay_text(
-        rt.alloc(),
-        script.as_slice(),
-        schedule.as_slice(),
-        acts,
-        &mut out,
-    )
+    match turns {
+        Turns::Listed(lanes) => {
+            let schedule = stopped(rt, lanes, stop)?;
+            replay_text(
+                rt.alloc(),
+                script.as_slice(),
+                schedule.as_slice(),
+                acts,
+                &mut out,
+            )
+        }
+        Turns::Drawn { seed, turns } => {
+            let (plan, schedule) = draw_turns(rt.alloc(), script.as_slice(), seed, turns)?;
+            let schedule = stopped(rt, schedule, stop)?;
+            replay_plan(rt.alloc(), plan, schedule.as_slice(), acts, &mut out)
+        }
+    }
 }
 
 /// Does a task, with its output on standard output. The answer is false where acts were found illegal

@@ -1,5 +1,5 @@
 use crate::fake_writers::{Clogged, Deaf, Halting};
-use poolprogram::{RunFault, Watched, draw_turns, load, read_schedule, replay_text};
+use poolprogram::{RunFault, Watched, draw_turns, load, read_schedule, replay_plan, replay_text};
 use std::alloc::{AllocError, Global};
 use std::test::Fail;
 
@@ -94,8 +94,12 @@ fn writes_acts(rt: HostRuntime) -> Result<(), Fail> {
 
 #[test]
 fn draws_for_a_file(rt: HostRuntime) -> Result<(), Fail> {
-    let schedule = draw_turns(rt.alloc(), ROW.as_bytes(), 1, 5)?;
+    let (plan, schedule) = draw_turns(rt.alloc(), ROW.as_bytes(), 1, 5)?;
     assert_eq!(rt; schedule.as_slice(), [0, 0, 0, 0, 0].as_slice());
+    let mut out = Watched::new(Vec::new(rt.alloc()));
+    replay_plan(rt.alloc(), plan, schedule.as_slice(), false, &mut out)?;
+    let text = out.into_inner();
+    assert_eq!(rt; text.as_slice(), TRACE.as_bytes());
     let fault = draw_turns(rt.alloc(), b"[]", 1, 5);
     assert!(rt; fault.is_err_and(|fault| fault.number() == 32));
     Ok(())
@@ -107,10 +111,10 @@ fn draws_for_empty_scripts(rt: HostRuntime) -> Result<(), Fail> {
     let file =
         b"{\"shape\":{\"lanes\":2,\"first_page\":1,\"pages\":1,\"last_generation\":1},\"scripts\":[[],[]]}";
     for turns in [0u32, 5] {
-        let schedule = draw_turns(rt.alloc(), file, 1, turns)?;
+        let (plan, schedule) = draw_turns(rt.alloc(), file, 1, turns)?;
         assert_eq!(rt; schedule.len(), turns as usize);
         let mut out = Watched::new(Vec::new(rt.alloc()));
-        replay_text(rt.alloc(), file, schedule.as_slice(), false, &mut out)?;
+        replay_plan(rt.alloc(), plan, schedule.as_slice(), false, &mut out)?;
         assert!(rt; !out.failed());
         assert!(rt; out.into_inner().is_empty());
     }
