@@ -1,5 +1,5 @@
 //! Two threads share a pool of buffers, each with a lane of its own; then one lane reads and clears what the other published; a
-//! guard and closures do so by themselves; and the pool is closed.
+//! guard and closures do so by themselves; a channel passes a key on; and the pool is closed. A registry then does so with spans.
 #![tactic(auto)]
 
 ghost use Rattle.std.specs.Prelude.{◌≡◌, ◌<◌};
@@ -137,19 +137,11 @@ fn main(rt: HostRuntime) -> anyhow::Result<()> {
     let found = measure(&pool, &mut first, key);
     println!(rt; "by a closure: {found:?}")?;
 
-    let (first, second, found) = relay::<Brand, _>(
-        &rt,
-        rt.alloc(),
-        &pool,
-        first,
-        second,
-        b"by a channel",
-    )?;
+    let (first, second, found) = relay::<Brand, _>(&rt, rt.alloc(), &pool, first, second, b"sent")?;
     println!(rt; "by a message: {found:?}")?;
 
     let census = close_two(rt.alloc(), pool, first, second)?;
     println!(rt; "closed: {census:?}")?;
-
     let (found, after) = trace(rt.alloc())?;
     println!(rt; "a span: {found:?}; cleared, and then: {after:?}")?;
     Ok(())
