@@ -11,7 +11,7 @@ use Rattle.sharelaws.specs.Shares.{room_of}
 use Rattle.shardpool.specs.Tokens.{PoolOf, LaneOf, FillingOf, RefOf}
 use Rattle.shardpool.specs.Lanes.{Owns, IsFilling, Made, Did, Gets}
 use Rattle.shardpool.specs.Creates.{Gives}
-use Rattle.shardpool.proofs.Holding.{got-held}
+use Rattle.shardpool.proofs.references.Holdings.{got-held}
 use Rattle.guards.specs.Guarded.{CreatesWith, MayRelease, MayPublish}
 
 -- ---- histories

@@ -7,7 +7,7 @@ use Rattle.shardpool.specs.Places.{held_after}
 use Rattle.shardpool.specs.Lanes.{Owns, refs}
 use Rattle.shardpool.specs.Opened.{AreFirstLanes}
 use Rattle.shardpool.specs.Creates.{HandsOut, Gives}
-use Rattle.shardpool.proofs.Rowing.{held-append}
+use Rattle.shardpool.proofs.references.Rows.{held-append}
 
 -- each is a lane of the pool and has no reference
 abbrev pub AreFresh : PoolOf → List LaneOf → Type 0

@@ -12,7 +12,7 @@ ghost use Rattle.poolcalls.specs.AtPlace.{IsAt};
 ghost use Rattle.poolcalls.specs.Called.{Called, EndsWithActs, IsReclaimed, HasGot};
 
 use crate::at_place::At;
-use crate::ends::settle;
+use crate::ends::finish_leave;
 use crate::reclaimed::{Got, Reclaimed};
 use keybits::{is_hit, is_present};
 use poolsteps::{Grid, Hand, Purpose};
@@ -41,7 +41,7 @@ pub fn get<T: Clear + Drop>(
         return Got::Hit;
     }
     let left = grid.leave(hand, at.spot, key);
-    Got::Miss(settle(alloc, grid, hand, at, left))
+    Got::Miss(finish_leave(alloc, grid, hand, at, left))
 }
 
 /// A release of a key to which the lane has a reference; its share is back in its slot where that is the last. It takes no
@@ -64,7 +64,7 @@ pub fn release<T: Clear + Drop>(
     ensures reclaimed { IfSome result (IsReclaimed T.content T.room grid.now.shape (place_of key) at.lane hand.new.me.0) }
 {
     let left = grid.leave(hand, at.spot, key);
-    settle(alloc, grid, hand, at, left)
+    finish_leave(alloc, grid, hand, at, left)
 }
 
 /// A clear of a key. Answers whether it is the one that marked it, and what became of its place where that was reclaimed. It
@@ -88,5 +88,5 @@ pub fn clear<T: Clear + Drop>(
     let found = grid.enter(hand, at.spot, key, Purpose::ToClear);
     let marked = is_hit(key, found) && is_present(grid.mark(hand, at.spot, key));
     let left = grid.leave(hand, at.spot, key);
-    (marked, settle(alloc, grid, hand, at, left))
+    (marked, finish_leave(alloc, grid, hand, at, left))
 }

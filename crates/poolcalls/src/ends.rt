@@ -22,7 +22,7 @@ use std::alloc::Global;
 /// place's object is cleared in place, and a place of another shard returned. None where no place was reclaimed. It takes no
 /// memory.
 #[inline(always)]
-pub(crate) fn settle<T: Clear + Drop>(
+pub(crate) fn finish_leave<T: Clear + Drop>(
     alloc: Global,
     grid: &Grid<T>,
     hand: &mut Hand<T>,
@@ -43,7 +43,7 @@ pub(crate) fn settle<T: Clear + Drop>(
     if word != claimable(generation) {
         return None;
     }
-    Some(take_back(alloc, grid, hand, at, generation))
+    Some(reclaim_place(alloc, grid, hand, at, generation))
 }
 
 /// The generation whose claim a LEAVE that found this word owes, where it owes one.
@@ -60,7 +60,7 @@ pub(crate) fn owed_by(found: u64) -> Option<u32>
 
 /// What follows a CLAIM of this generation that succeeded.
 #[inline(always)]
-fn take_back<T: Clear + Drop>(
+fn reclaim_place<T: Clear + Drop>(
     alloc: Global,
     grid: &Grid<T>,
     hand: &mut Hand<T>,

@@ -166,11 +166,11 @@ fn leave_within<T: Clear + Drop>(
         return;
     }
     let found = grid.leave(hand, at.spot, key);
-    settle_within(alloc, grid, hand, at, found, limit - 1);
+    finish_leave_within(alloc, grid, hand, at, found, limit - 1);
 }
 
 /// What follows a LEAVE that found this word, up to so many steps.
-fn settle_within<T: Clear + Drop>(
+fn finish_leave_within<T: Clear + Drop>(
     alloc: Global,
     grid: &Grid<T>,
     hand: &mut Hand<T>,
@@ -196,12 +196,12 @@ fn settle_within<T: Clear + Drop>(
         return;
     }
     if limit > 1 {
-        take_back_within(alloc, grid, hand, at, generation, limit - 1);
+        reclaim_place_within(alloc, grid, hand, at, generation, limit - 1);
     }
 }
 
 /// What follows a CLAIM of this generation that succeeded, up to so many steps. A place that isn't returned stays as it is.
-fn take_back_within<T: Clear + Drop>(
+fn reclaim_place_within<T: Clear + Drop>(
     alloc: Global,
     grid: &Grid<T>,
     hand: &mut Hand<T>,

@@ -15,10 +15,10 @@ use Rattle.poolsteps.specs.Views.{the_lane}
 use Rattle.shardpool.specs.declared.census.Census.{Census}
 use Rattle.shardpool.specs.declared.census.Part.{Part}
 use Rattle.shardpool.specs.declared.census.Part.TheVariants.{Free, Unopened, Filling, Present, Marked, Retired}
-use Rattle.shardpool.specs.declared.shelf.Shelf.{Shelf}
+use Rattle.shardpool.specs.declared.state.LaneState.{LaneState}
 use Rattle.shardpool.specs.Tokens.{PoolOf, LaneOf}
 use Rattle.shardpool.specs.Lanes.{Owns}
-use Rattle.shardpool.specs.Shelves.{IsFirst}
+use Rattle.shardpool.specs.LaneStates.{IsFirst}
 
 -- these are all the lanes of the pool: as many as it has, and each number is one's
 pub record AreLanes (pool : PoolOf) (lanes : List LaneOf) : Type 0 where
@@ -105,12 +105,12 @@ pub record IsKept (z : Shape) (history : List Act) (lane : LaneOf) (place : ℕ)
   pub with_lane : (pool_after z history place).phase ≡ with lane.number
 
 -- what a lane keeps, beside the last words of the pool and its history
-pub record IsLast {T : Type 0} (z : Shape) (history : List Act) (words : Words) (lane : LaneOf) (shelf : Shelf T) : Type 0 where
-  pub shape_is : (lane.shape ≡ z) × (shelf.shape ≡ z)
-  pub number_is : shelf.number ≡ lane.number
+pub record IsLast {T : Type 0} (z : Shape) (history : List Act) (words : Words) (lane : LaneOf) (state : LaneState T) : Type 0 where
+  pub shape_is : (lane.shape ≡ z) × (state.shape ≡ z)
+  pub number_is : state.number ≡ lane.number
   pub below : lane.number < z.lanes
-  pub free_is : shelf.free ≡ lane.free
-  pub pages_is : shelf.pages ≡ lane.pages
+  pub free_is : state.free ≡ lane.free
+  pub pages_is : state.pages ≡ lane.pages
   pub listed : (place : Place) → Contains lane.free.own place → IsKept z history lane (number_of place)
   pub chained : (place : ℕ) → has (the_lane lane.book).chain place ≡ true → IsKept z history lane place
   pub unopened : (place : ℕ) → is_place z place ≡ true → shard_of place ≡ lane.number → lane.pages.opened ≤ page_of place → (pool_after z history place).phase ≡ with lane.number
@@ -118,14 +118,14 @@ pub record IsLast {T : Type 0} (z : Shape) (history : List Act) (words : Words) 
   pub leads : (word : ℕ) × Leads words.link lane.number word (the_lane lane.book).chain
 
 -- what the lanes keep, the last words of the pool and a history tell of each other
-pub record AreLast {T : Type 0} (z : Shape) (history : List Act) (lanes : List LaneOf) (shelves : List (Shelf T)) (words : Words) : Type 0 where
+pub record AreLast {T : Type 0} (z : Shape) (history : List Act) (lanes : List LaneOf) (states : List (LaneState T)) (words : Words) : Type 0 where
   pub legal : IsLegal z history
   pub state : State z words history
   pub homes : (shard : ℕ) → shard < z.lanes → AreHome z shard words.link (words.stack shard) (home_in z history shard)
   pub alone : (place owner : ℕ) → is_place z place ≡ true → (pool_after z history place).phase ≡ with owner → shard_of place ≡ owner
-  pub count : (length lanes ≡ z.lanes) × (length shelves ≡ z.lanes)
+  pub count : (length lanes ≡ z.lanes) × (length states ≡ z.lanes)
   pub all : (number : ℕ) → number < z.lanes → (index : ℕ) × (lane : LaneOf) × (slice_get lanes index ≡ Some lane) × (lane.number ≡ number)
-  pub each : (index : ℕ) (lane : LaneOf) (shelf : Shelf T) → slice_get lanes index ≡ Some lane → slice_get shelves index ≡ Some shelf → IsLast z history words lane shelf
+  pub each : (index : ℕ) (lane : LaneOf) (state : LaneState T) → slice_get lanes index ≡ Some lane → slice_get states index ≡ Some state → IsLast z history words lane state
 
 -- ---- a place is one thing alone
 

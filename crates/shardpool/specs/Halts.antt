@@ -12,11 +12,11 @@ use Rattle.poolsteps.specs.declared.view.View.{View}
 use Rattle.poolcalls.specs.Halted.{CalledWithin}
 use Rattle.shardpool.specs.declared.halt.LastCall.{LastCall}
 use Rattle.shardpool.specs.declared.halt.LastCall.TheVariants.{Get, Clear, Release, Create}
-use Rattle.shardpool.specs.declared.shelf.Shelf.{Shelf}
+use Rattle.shardpool.specs.declared.state.LaneState.{LaneState}
 use Rattle.shardpool.specs.Tokens.{PoolOf, LaneOf}
 use Rattle.shardpool.specs.Lanes.{refs, holds}
 use Rattle.shardpool.specs.Creates.{creating}
-use Rattle.shardpool.specs.Shelves.{Fits}
+use Rattle.shardpool.specs.LaneStates.{Fits}
 
 -- a lane whose last call was ended: the table and the shape of its pool, its number, and the view of its seat
 pub record HaltedOf : Type 0 where
@@ -53,8 +53,8 @@ pub record HaltsIn {T : Type 0} (lane : LaneOf) (call : LastCall T) (limit : ℕ
 
 -- ---- the parts of a halt
 
--- the hand and the shelf are those of a lane of the pool
-pub record AreParts {T : Type 0} (content : T → List ℕ) (room : T → ℕ) (pool : PoolOf) (hand : Seat (Option (Share T)) View) (shelf : Shelf T) : Type 0 where
+-- the hand and the state are those of a lane of the pool
+pub record AreParts {T : Type 0} (content : T → List ℕ) (room : T → ℕ) (pool : PoolOf) (hand : Seat (Option (Share T)) View) (state : LaneState T) : Type 0 where
   pub table : hand.table_id ≡ pool.table
   pub bare : hand.me.1 ≡ []
-  pub fits : Fits content room pool.shape hand.me.0 shelf
+  pub fits : Fits content room pool.shape hand.me.0 state

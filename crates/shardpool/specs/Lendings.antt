@@ -10,12 +10,12 @@ use Rattle.poolsteps.specs.declared.view.View.{View}
 use Rattle.poolsteps.specs.Views.{the_lane, status_of}
 use Rattle.poolsteps.specs.Told.{IsIdle}
 use Rattle.poolcalls.specs.Called.{Did, IsUnmoved}
-use Rattle.shardpool.specs.declared.shelf.Row.{Row}
-use Rattle.shardpool.specs.declared.shelf.Shelf.{Shelf}
+use Rattle.shardpool.specs.declared.state.HeldKey.{HeldKey}
+use Rattle.shardpool.specs.declared.state.LaneState.{LaneState}
 
--- where the row of the key's place counts one reference, its share is back in the lane's slot, and where it counts more, nothing is moved; nothing else of the shelf is changed
-pub record LendsHome {T : Type 0} (z : Shape) (key : ℕ) (before after : Me (Option (Share T)) View) (old new : Shelf T) : Type 0 where
-  pub row : Row T
+-- where the row of the key's place counts one reference, its share is back in the lane's slot, and where it counts more, nothing is moved; nothing else of the state is changed
+pub record LendsHome {T : Type 0} (z : Shape) (key : ℕ) (before after : Me (Option (Share T)) View) (old new : LaneState T) : Type 0 where
+  pub row : HeldKey T
   pub stands : slice_get old.rows.items (position_of z (place_of key)) ≡ Some row
   pub did : Did z (place_of key) [] 0 2 before after
   pub pushed : (the_lane after.0).pushed ≡ (the_lane before.0).pushed

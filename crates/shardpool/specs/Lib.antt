@@ -1,7 +1,7 @@
 pub mod Tokens
 pub mod Places
 pub mod Remains
-pub mod Shelves
+pub mod LaneStates
 pub mod Lanes
 pub mod Fillings
 pub mod Stores

@@ -16,7 +16,7 @@ use Rattle.shardpool.specs.declared.census.Census.{Census}
 use Rattle.shardpool.specs.declared.census.Part.{Part}
 use Rattle.shardpool.specs.declared.census.Part.TheVariants.{Free, Unopened, Filling, Present, Marked, Retired}
 use Rattle.shardpool.specs.Closings.{all_counted}
-use Rattle.shardpool.specs.Shelves.{IsFirst}
+use Rattle.shardpool.specs.LaneStates.{IsFirst}
 
 -- a full row of a pool's words
 abbrev pub IsRow : Shape → Slots ℕ → Type 0

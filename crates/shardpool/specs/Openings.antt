@@ -2,12 +2,12 @@
 use Rattle.std.specs.Prelude.{◌≡◌, ℕ, ◌+◌, List}
 use Rattle.keybits.specs.Shapes.{page_size}
 use Rattle.poolsteps.specs.declared.view.View.{View}
-use Rattle.shardpool.specs.declared.shelf.Shelf.{Shelf}
-use Rattle.shardpool.specs.Shelves.{FitsStores}
+use Rattle.shardpool.specs.declared.state.LaneState.{LaneState}
+use Rattle.shardpool.specs.LaneStates.{FitsStores}
 use Rattle.shardpool.specs.Creates.{page_slots}
 
 -- the next page is opened, and its places are the list; nothing else is changed but objects, and what the lane has of its free places fits as before
-pub record OpensNext {T : Type 0} (content : T → List ℕ) (room : T → ℕ) (old new : Shelf T) : Type 0 where
+pub record OpensNext {T : Type 0} (content : T → List ℕ) (room : T → ℕ) (old new : LaneState T) : Type 0 where
   pub list : new.free ≡ record old.free { own = page_slots old.number old.pages.opened 0 (page_size old.shape old.pages.opened) }
   pub pages : new.pages ≡ record old.pages { opened = old.pages.opened + 1 }
   pub rest : new ≡ record old { free = new.free; pages = new.pages; objects = new.objects }

@@ -11,13 +11,13 @@ use Rattle.slotcell.specs.Share.{Share}
 use Rattle.poolsteps.specs.Views.{the_lane}
 use Rattle.poolsteps.specs.Layout.{slot_index}
 use Rattle.poolsteps.specs.Joins.{IsSlotRow, IsSpread, IsResting, IsUnspread, IsUnrested, HasNoCell}
-use Rattle.shardpool.specs.declared.shelf.Row.{Row}
-use Rattle.shardpool.specs.declared.shelf.Shelf.{Shelf}
+use Rattle.shardpool.specs.declared.state.HeldKey.{HeldKey}
+use Rattle.shardpool.specs.declared.state.LaneState.{LaneState}
 use Rattle.shardpool.specs.Tokens.{LaneOf}
 
 module _ {T : Type 0} where
   -- where the row counts a reference its share is at this index of the slots, and nothing else is changed
-  pub record GivesRow (index : ℕ) (row : Row T) (old new : Slots (Option (Share T))) : Type 0 where
+  pub record GivesRow (index : ℕ) (row : HeldKey T) (old new : Slots (Option (Share T))) : Type 0 where
     pub here : (s : Share T) → 0 < row.count → row.share ≡ Some s → slice_get (slots_items new) index ≡ Some (Some s)
     pub still : row.count ≡ 0 → slice_get (slots_items new) index ≡ slice_get (slots_items old) index
     pub kept : (other : ℕ) → other ≢ index → slice_get (slots_items new) other ≡ slice_get (slots_items old) other
@@ -26,40 +26,40 @@ module _ {T : Type 0} where
     pub start : slots_ptr new ≡ slots_ptr old
 
   -- the share under a lane's references to a place is in the lane's slot of it
-  abbrev pub IsBack : Shape → ℕ → List (Row T) → List (Option (Share T)) → Type 0
-  IsBack z number rows slots = (place : ℕ) → is_place z place ≡ true → (row : Row T) (s : Share T) → slice_get rows (position_of z place) ≡ Some row → 0 < row.count → row.share ≡ Some s
+  abbrev pub IsBack : Shape → ℕ → List (HeldKey T) → List (Option (Share T)) → Type 0
+  IsBack z number rows slots = (place : ℕ) → is_place z place ≡ true → (row : HeldKey T) (s : Share T) → slice_get rows (position_of z place) ≡ Some row → 0 < row.count → row.share ≡ Some s
       → slice_get slots (slot_index z place number) ≡ Some (Some s)
 
   -- no row of the lane that counts a reference has its slot at this index
-  abbrev pub IsOff : Shape → ℕ → List (Row T) → ℕ → Type 0
-  IsOff z number rows index = (place : ℕ) → is_place z place ≡ true → (row : Row T) → slice_get rows (position_of z place) ≡ Some row → 0 < row.count → index ≢ slot_index z place number
+  abbrev pub IsOff : Shape → ℕ → List (HeldKey T) → ℕ → Type 0
+  IsOff z number rows index = (place : ℕ) → is_place z place ≡ true → (row : HeldKey T) → slice_get rows (position_of z place) ≡ Some row → 0 < row.count → index ≢ slot_index z place number
 
   -- the shares of a lane's rows are in the lane's slots, and every other slot is as before
-  pub record GivesBack (z : Shape) (number : ℕ) (rows : List (Row T)) (old new : Slots (Option (Share T))) : Type 0 where
+  pub record GivesBack (z : Shape) (number : ℕ) (rows : List (HeldKey T)) (old new : Slots (Option (Share T))) : Type 0 where
     pub back : IsBack z number rows (slots_items new)
     pub kept : (index : ℕ) → IsOff z number rows index → slice_get (slots_items new) index ≡ slice_get (slots_items old) index
     pub row : IsSlotRow z new
     pub start : slots_ptr new ≡ slots_ptr old
 
-  -- the shelves are those of different lanes of the pool, and each has a row for each place
-  pub record MayHandBack (z : Shape) (shelves : List (Shelf T)) : Type 0 where
-    pub below : (i : ℕ) (shelf : Shelf T) → slice_get shelves i ≡ Some shelf → shelf.number < z.lanes
-    pub wide : (i : ℕ) (shelf : Shelf T) → slice_get shelves i ≡ Some shelf → length shelf.rows.items ≡ all_places z
-    pub once : (i j : ℕ) (one other : Shelf T) → slice_get shelves i ≡ Some one → slice_get shelves j ≡ Some other → one.number ≡ other.number → i ≡ j
+  -- the states are those of different lanes of the pool, and each has a row for each place
+  pub record MayHandBack (z : Shape) (states : List (LaneState T)) : Type 0 where
+    pub below : (i : ℕ) (state : LaneState T) → slice_get states i ≡ Some state → state.number < z.lanes
+    pub wide : (i : ℕ) (state : LaneState T) → slice_get states i ≡ Some state → length state.rows.items ≡ all_places z
+    pub once : (i j : ℕ) (one other : LaneState T) → slice_get states i ≡ Some one → slice_get states j ≡ Some other → one.number ≡ other.number → i ≡ j
 
-  -- it is the shelf without its rows
-  abbrev pub IsStripped : Shelf T → Shelf T → Type 0
-  IsStripped shelf left = left ≡ record shelf { rows = left.rows }
+  -- it is the state without its rows
+  abbrev pub IsStripped : LaneState T → LaneState T → Type 0
+  IsStripped state left = left ≡ record state { rows = left.rows }
 
-  -- each of these is a shelf of those, but for its rows
-  abbrev pub AreStripped : List (Shelf T) → List (Shelf T) → Type 0
-  AreStripped shelves left = (length left ≡ length shelves)
-      × ((i : ℕ) (one : Shelf T) → slice_get left i ≡ Some one → (shelf : Shelf T) × (slice_get shelves i ≡ Some shelf) × IsStripped shelf one)
+  -- each of these is a state of those, but for its rows
+  abbrev pub AreStripped : List (LaneState T) → List (LaneState T) → Type 0
+  AreStripped states left = (length left ≡ length states)
+      × ((i : ℕ) (one : LaneState T) → slice_get left i ≡ Some one → (state : LaneState T) × (slice_get states i ≡ Some state) × IsStripped state one)
 
   -- so the shares of all rows are in their slots, and every other slot is as before
-  pub record HandsBack (z : Shape) (shelves : List (Shelf T)) (old new : Slots (Option (Share T))) : Type 0 where
-    pub back : (i : ℕ) (shelf : Shelf T) → slice_get shelves i ≡ Some shelf → IsBack z shelf.number shelf.rows.items (slots_items new)
-    pub kept : (index : ℕ) → ((i : ℕ) (shelf : Shelf T) → slice_get shelves i ≡ Some shelf → IsOff z shelf.number shelf.rows.items index)
+  pub record HandsBack (z : Shape) (states : List (LaneState T)) (old new : Slots (Option (Share T))) : Type 0 where
+    pub back : (i : ℕ) (state : LaneState T) → slice_get states i ≡ Some state → IsBack z state.number state.rows.items (slots_items new)
+    pub kept : (index : ℕ) → ((i : ℕ) (state : LaneState T) → slice_get states i ≡ Some state → IsOff z state.number state.rows.items index)
         → slice_get (slots_items new) index ≡ slice_get (slots_items old) index
     pub row : IsSlotRow z new
     pub start : slots_ptr new ≡ slots_ptr old

@@ -8,29 +8,29 @@ use Rattle.freelists.specs.Shards.{place_numbered}
 use Rattle.freelists.specs.Queues.{AreFree, IsAway}
 use Rattle.poolcalls.specs.declared.reclaimed.Reclaimed.{Reclaimed}
 use Rattle.poolcalls.specs.declared.reclaimed.Reclaimed.TheVariants.{Own, Returned, Retired}
-use Rattle.shardpool.specs.declared.shelf.Shelf.{Shelf}
+use Rattle.shardpool.specs.declared.state.LaneState.{LaneState}
 
 -- the place went to the end of the lane's list, and its object to its index; nothing else is changed
-pub record KeepsOwn {T : Type 0} (place : ℕ) (object : T) (old new : Shelf T) : Type 0 where
+pub record KeepsOwn {T : Type 0} (place : ℕ) (object : T) (old new : LaneState T) : Type 0 where
   pub objects : new.objects.items ≡ slice_set old.objects.items (index_of old.shape place) (Some object)
   pub list : new.free ≡ record old.free { own = old.free.own ++ place_numbered place ∷ [] }
   pub free : AreFree new.free
   pub rest : new ≡ record old { objects = new.objects; free = new.free }
 
 -- the word of this place is the one that the lane pushed last for its shard; nothing else is changed
-pub record KeepsTop {T : Type 0} (place : ℕ) (old new : Shelf T) : Type 0 where
-  pub tops : new.tops.items ≡ slice_set old.tops.items (shard_of place) (link_to place)
-  pub rest : new ≡ record old { tops = new.tops }
+pub record KeepsTop {T : Type 0} (place : ℕ) (old new : LaneState T) : Type 0 where
+  pub last_pushed : new.last_pushed.items ≡ slice_set old.last_pushed.items (shard_of place) (link_to place)
+  pub rest : new ≡ record old { last_pushed = new.last_pushed }
 
--- the shelf after a place was reclaimed or not: the object of an own place is kept, and of a returned place the word
-abbrev pub Keeps : {T : Type 0} → ℕ → Option (Reclaimed T) → Shelf T → Shelf T → Type 0
+-- the state after a place was reclaimed or not: the object of an own place is kept, and of a returned place the word
+abbrev pub Keeps : {T : Type 0} → ℕ → Option (Reclaimed T) → LaneState T → LaneState T → Type 0
 Keeps place None old new = new ≡ old
 Keeps place (Some (Own whole)) old new = KeepsOwn place whole old new
 Keeps place (Some Returned) old new = KeepsTop place old new
 Keeps place (Some Retired) old new = new ≡ old
 
 -- the first place of the lane's list came off it, and its object out of its index; nothing else is changed
-pub record TakesOwn {T : Type 0} (place : Place) (object : T) (old new : Shelf T) : Type 0 where
+pub record TakesOwn {T : Type 0} (place : Place) (object : T) (old new : LaneState T) : Type 0 where
   pub list : old.free.own ≡ place ∷ new.free.own
   pub stood : slice_get old.objects.items (index_of old.shape (number_of place)) ≡ Some (Some object)
   pub objects : new.objects.items ≡ slice_set old.objects.items (index_of old.shape (number_of place)) None
@@ -40,6 +40,6 @@ pub record TakesOwn {T : Type 0} (place : Place) (object : T) (old new : Shelf T
   pub rest : new ≡ record old { objects = new.objects; free = new.free }
 
 -- the place that this word leads to is the first of the taken chain; nothing else is changed
-pub record Hangs {T : Type 0} (found : ℕ) (old new : Shelf T) : Type 0 where
+pub record Hangs {T : Type 0} (found : ℕ) (old new : LaneState T) : Type 0 where
   pub list : new.free ≡ record old.free { chain = Some (place_numbered (linked_place old.number found)) }
   pub rest : new ≡ record old { free = new.free }

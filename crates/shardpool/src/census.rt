@@ -14,7 +14,7 @@ ghost use Rattle.shardpool.specs.Tokens.{LaneOf};
 ghost use Rattle.shardpool.specs.Closings.{none_counted, counted, places_counted, IsCensus, AreLast};
 ghost use Rattle.shardpool.specs.Marks.{IsRow, Blanks, IsThread, AreThreads, stacked, AreFreePlaces, returned_places, part_in, Counts};
 
-use crate::shelf::Shelf;
+use crate::state::LaneState;
 use core::slots::Slots;
 use freelists::LocalFree;
 use keybits::{Life, Place, Shape, State, link_to, linked_place};
@@ -84,32 +84,32 @@ impl Census {
 /// The census of a pool, by its last words and what its lanes keep. The cells in the slots are dropped, with their objects.
 pub(crate) fn take_census<T: Drop>(
     shape: &Shape,
-    shelves: Vec<Shelf<T>>,
+    states: Vec<LaneState<T>>,
     words: &mut Slots<u64>,
     slots: &mut Slots<Slot<T>>,
 ) -> Census
     requires shape { IsShape shape.now }
     requires words { IsFull words.old × (slots_len words.old ≡ word_count shape.now) }
     requires slots { IsSlotRow shape.now slots.old }
-    requires last { (history : List Act) × (lanes : List LaneOf) × AreLast shape.now history lanes shelves.items (words_in shape.now (slots_items words.old))
+    requires last { (history : List Act) × (lanes : List LaneOf) × AreLast shape.now history lanes states.items (words_in shape.now (slots_items words.old))
         × HasCells shape.now history lanes (slots_items slots.old) }
-    ensures census { (history : List Act) (lanes : List LaneOf) → AreLast shape.now history lanes shelves.items (words_in shape.now (slots_items words.old))
+    ensures census { (history : List Act) (lanes : List LaneOf) → AreLast shape.now history lanes states.items (words_in shape.now (slots_items words.old))
         → IsCensus shape.now history lanes result }
     ensures adds { places_counted result ≡ all_places shape.now }
     ensures words { IsFull words.new × (slots_len words.new ≡ slots_len words.old) × (slots_ptr words.new ≡ slots_ptr words.old) }
     ensures slots { IsSlotRow shape.now slots.new × (slots_ptr slots.new ≡ slots_ptr slots.old) }
-    ensures gone { (history : List Act) (lanes : List LaneOf) → AreLast shape.now history lanes shelves.items (words_in shape.now (slots_items words.old))
+    ensures gone { (history : List Act) (lanes : List LaneOf) → AreLast shape.now history lanes states.items (words_in shape.now (slots_items words.old))
         → (place : ℕ) → is_place shape.now place ≡ true → IsDrained shape.now history lanes (slots_items slots.new) place }
 {
     let mut census = Census::none();
-    for mut shelf in shelves {
-        mark_returned(shape, shelf.number, &shelf.free, words);
-        drop_cells(shelf.alloc, shape, shelf.number, words, slots);
-        mark_list(shape, &mut shelf.free, words);
+    for mut state in states {
+        mark_returned(shape, state.number, &state.free, words);
+        drop_cells(state.alloc, shape, state.number, words, slots);
+        mark_list(shape, &mut state.free, words);
         count_shard(
             shape,
-            shelf.number,
-            shelf.pages.opened(),
+            state.number,
+            state.pages.opened(),
             words,
             &mut census,
         );

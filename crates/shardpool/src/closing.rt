@@ -10,8 +10,8 @@ ghost use Rattle.shardpool.specs.Partings.{IsParted, AreParted};
 use crate::census::{Census, take_census};
 use crate::lane::Lane;
 use crate::pool::Pool;
-use crate::remains::hand_back;
-use crate::shelf::Shelf;
+use crate::returned_shares::hand_back;
+use crate::state::LaneState;
 use atomic_table::Closed;
 use keybits::MOST_LANES;
 use poolsteps::Hand;
@@ -43,51 +43,51 @@ pub fn close<T: Clear + Drop>(pool: Pool<T>, lanes: Vec<Lane<T>>) -> Census
     ensures closes { Closes pool lanes.items result }
     ensures adds { places_counted result ≡ all_places pool.shape }
 {
-    let Pool { grid, shelves } = pool;
+    let Pool { grid, states } = pool;
     let shape = grid.shape;
-    let (hands, mut shelves) = parted(lanes, shelves);
+    let (hands, mut states) = take_apart(lanes, states);
     let mut closed = grid.end(hands);
     let mut words = closed.words;
     let mut slots = closed.slots;
-    hand_back(&shape, &mut shelves, &mut slots);
-    let census = take_census(&shape, shelves, &mut words, &mut slots);
+    hand_back(&shape, &mut states, &mut slots);
+    let census = take_census(&shape, states, &mut words, &mut slots);
     closed.words = words;
     closed.slots = slots;
     free(closed);
     census
 }
 
-/// The hands of these lanes, and their shelves in a row with room for all.
-fn parted<T: Clear + Drop>(
+/// The hands of these lanes, and their states in a row with room for all.
+fn take_apart<T: Clear + Drop>(
     mut lanes: Vec<Lane<T>>,
-    mut shelves: Vec<Shelf<T>>,
-) -> (Vec<Hand<T>>, Vec<Shelf<T>>)
+    mut states: Vec<LaneState<T>>,
+) -> (Vec<Hand<T>>, Vec<LaneState<T>>)
     requires lanes { (0 < length lanes.items) × (length lanes.items ≤ MOST_LANES) }
-    requires shelves { (shelves.items ≡ []) × (length lanes.items ≤ vec_capacity shelves) }
+    requires states { (states.items ≡ []) × (length lanes.items ≤ vec_capacity states) }
     ensures { AreParted T.content T.room lanes.items result.0.items result.1.items }
 {
     let Some(last) = lanes.pop() else {
         unreachable!()
     };
-    let (hand, shelf, HandRow { mut hands }) = taken_apart(last);
+    let (hand, state, HandRow { mut hands }) = taken_apart(last);
     for lane in lanes {
-        let (hand, shelf, _) = taken_apart(lane);
+        let (hand, state, _) = taken_apart(lane);
         hands.push_reserved(hand);
-        shelves.push_reserved(shelf);
+        states.push_reserved(state);
     }
     hands.push_reserved(hand);
-    shelves.push_reserved(shelf);
-    (hands, shelves)
+    states.push_reserved(state);
+    (hands, states)
 }
 
-/// The hand of a lane, its shelf and its row.
-fn taken_apart<T: Clear>(lane: Lane<T>) -> (Hand<T>, Shelf<T>, HandRow<T>)
+/// The hand of a lane, its state and its row.
+fn taken_apart<T: Clear>(lane: Lane<T>) -> (Hand<T>, LaneState<T>, HandRow<T>)
     ensures { IsParted T.content T.room lane result.0 result.1 }
 {
-    let Lane { hand, shelf, row } = lane;
+    let Lane { hand, state, row } = lane;
     // A look at the list tells that its places are the lane's.
-    let _ = shelf.free.len();
-    (hand, shelf, row)
+    let _ = state.free.len();
+    (hand, state, row)
 }
 
 /// Drops each slot of a table, and frees its memory.

@@ -70,7 +70,7 @@ impl<T: Clear + Drop> Pool<T> {
         ensures fillings { (filling : FillingOf T) → Made lane.old filling → Made lane.new filling }
     {
         // A proof knows the invariant of a lane once a field of it is seen.
-        let _ = &lane.shelf;
+        let _ = &lane.state;
         if let Some((place, object)) = pop(lane) {
             return Ok(self.fill(lane, place, object));
         }
@@ -92,12 +92,12 @@ impl<T: Clear + Drop> Pool<T> {
         ensures takes { TakesReturned lane.old lane.new }
         ensures fillings { (filling : FillingOf T) → Made lane.old filling → Made lane.new filling }
     {
-        if lane.shelf.free.chain().is_some() || lane.shelf.pages.opened() == 0 {
+        if lane.state.free.chain().is_some() || lane.state.pages.opened() == 0 {
             return;
         }
-        let found = collect(&self.grid, &mut lane.hand, lane.shelf.number);
+        let found = collect(&self.grid, &mut lane.hand, lane.state.number);
         if found != 0 {
-            hang(&mut lane.shelf, found);
+            hang(&mut lane.state, found);
         }
     }
 
@@ -108,11 +108,11 @@ impl<T: Clear + Drop> Pool<T> {
         ensures some { IfSome result (λ taken. FollowsChain T.content T.room lane.old lane.new taken.0 taken.1) }
         ensures fillings { (filling : FillingOf T) → Made lane.old filling → Made lane.new filling }
     {
-        let first = lane.shelf.free.chain()?;
+        let first = lane.state.free.chain()?;
         let spot = self.grid.spot(first.number());
-        let number = lane.shelf.number;
-        let (link, object) = follow(lane.shelf.alloc, &self.grid, &mut lane.hand, spot, number);
-        lane.shelf.free.follow(link);
+        let number = lane.state.number;
+        let (link, object) = follow(lane.state.alloc, &self.grid, &mut lane.hand, spot, number);
+        lane.state.free.follow(link);
         Some((spot.place, object))
     }
 
@@ -135,7 +135,7 @@ fn pop<T: Clear + Drop>(lane: &mut Lane<T>) -> Option<(u32, Whole<T>)>
     ensures some { IfSome result (λ taken. Pops T.content T.room lane.old lane.new taken.0 taken.1) }
     ensures fillings { (filling : FillingOf T) → Made lane.old filling → Made lane.new filling }
 {
-    let (place, object) = take_own(&mut lane.shelf)?;
+    let (place, object) = take_own(&mut lane.state)?;
     Some((place.number(), object))
 }
 
@@ -149,13 +149,13 @@ fn open_page<T: Clear + Drop>(lane: &mut Lane<T>) -> Result<(), CreateFault>
     ensures memory { IsErrOf result Memory → lane.old.pages.opened < lane.old.shape.pages }
     ensures fillings { (filling : FillingOf T) → Made lane.old filling → Made lane.new filling }
 {
-    let page = lane.shelf.pages.opened();
-    if page == lane.shelf.shape.pages {
+    let page = lane.state.pages.opened();
+    if page == lane.state.shape.pages {
         return Err(CreateFault::Full);
     }
-    let size = lane.shelf.shape.page_size(page);
-    let objects = fresh_objects(lane.shelf.alloc, size).ok_or(CreateFault::Memory)?;
-    open_next(&mut lane.shelf, objects);
+    let size = lane.state.shape.page_size(page);
+    let objects = fresh_objects(lane.state.alloc, size).ok_or(CreateFault::Memory)?;
+    open_next(&mut lane.state, objects);
     Ok(())
 }
 

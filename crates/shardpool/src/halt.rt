@@ -12,8 +12,8 @@ ghost use Rattle.shardpool.specs.Halts.{MayMakeLast, HaltsIn, AreParts};
 
 use crate::lane::Lane;
 use crate::pool::Pool;
-use crate::rows::lend_home;
-use crate::shelf::Shelf;
+use crate::rows::return_last_share;
+use crate::state::LaneState;
 use crate::token::Ref;
 use keybits::place_of;
 use poolcalls::{At, clear_within, collect_within, follow_within, get_within, release_within};
@@ -36,7 +36,7 @@ pub enum LastCall<T> {
 /// A lane whose last call was ended for good. It must be left.
 pub struct Halted<T: Clear> {
     pub(crate) hand: Hand<T>,
-    pub(crate) shelf: Shelf<T>,
+    pub(crate) state: LaneState<T>,
 }
 
 impl<T: Clear> Model for Halted<T> {
@@ -44,15 +44,15 @@ impl<T: Clear> Model for Halted<T> {
 
     ghost Value = { HaltedOf };
 
-    ghost view = { λ h. record { table = h.hand.table_id; shape = h.shelf.shape; number = h.shelf.number; book = h.hand.me.0 } };
+    ghost view = { λ h. record { table = h.hand.table_id; shape = h.state.shape; number = h.state.number; book = h.hand.me.0 } };
 }
 
 impl<T: Clear + Drop> Halted<T> {
     /// The lane ends, and the pool isn't told: what it had under way stays so, and so do its references and its places.
     pub fn leave(self) {
-        let Halted { hand, shelf } = self;
+        let Halted { hand, state } = self;
         drop(hand);
-        drop(shelf);
+        drop(state);
     }
 }
 
@@ -69,25 +69,25 @@ impl<T: Clear + Drop> Pool<T> {
     {
         let Lane {
             mut hand,
-            mut shelf,
+            mut state,
             row,
         } = lane;
         drop(row);
         match call {
-            LastCall::Get(key) => self.halt_get(&mut hand, &shelf, key, limit),
-            LastCall::Clear(key) => self.halt_clear(&mut hand, &shelf, key, limit),
+            LastCall::Get(key) => self.halt_get(&mut hand, &state, key, limit),
+            LastCall::Clear(key) => self.halt_clear(&mut hand, &state, key, limit),
             LastCall::Release(reference) => {
-                self.halt_release(&mut hand, &mut shelf, reference.spend(), limit);
+                self.halt_release(&mut hand, &mut state, reference.spend(), limit);
             }
-            LastCall::Create => self.halt_create(&mut hand, &shelf, limit),
+            LastCall::Create => self.halt_create(&mut hand, &state, limit),
         }
-        Halted { hand, shelf }
+        Halted { hand, state }
     }
 
     /// A get that ends after so many steps.
-    fn halt_get(&self, hand: &mut Hand<T>, shelf: &Shelf<T>, key: u64, limit: u32)
-        requires parts { AreParts T.content T.room self.now hand.old shelf.now }
-        requires room { shelf.now.references < most_references }
+    fn halt_get(&self, hand: &mut Hand<T>, state: &LaneState<T>, key: u64, limit: u32)
+        requires parts { AreParts T.content T.room self.now hand.old state.now }
+        requires room { state.now.references < most_references }
         ensures table { hand.new.table_id ≡ hand.old.table_id }
         ensures outside { is_key self.now.shape key ≡ false → hand.new.me ≡ hand.old.me }
         ensures called { CalledWithin self.now.shape (Getting key) limit hand.old.me hand.new.me }
@@ -95,18 +95,18 @@ impl<T: Clear + Drop> Pool<T> {
         let Some(spot) = self.find(key) else {
             return;
         };
-        let top = shelf.top(spot.place);
+        let top = state.top(spot.place);
         let at = At {
             spot,
-            lane: shelf.number,
+            lane: state.number,
             top,
         };
-        get_within(shelf.alloc, &self.grid, hand, at, key, limit);
+        get_within(state.alloc, &self.grid, hand, at, key, limit);
     }
 
     /// A clear that ends after so many steps.
-    fn halt_clear(&self, hand: &mut Hand<T>, shelf: &Shelf<T>, key: u64, limit: u32)
-        requires parts { AreParts T.content T.room self.now hand.old shelf.now }
+    fn halt_clear(&self, hand: &mut Hand<T>, state: &LaneState<T>, key: u64, limit: u32)
+        requires parts { AreParts T.content T.room self.now hand.old state.now }
         ensures table { hand.new.table_id ≡ hand.old.table_id }
         ensures outside { is_key self.now.shape key ≡ false → hand.new.me ≡ hand.old.me }
         ensures called { CalledWithin self.now.shape (Clearing key) limit hand.old.me hand.new.me }
@@ -114,54 +114,54 @@ impl<T: Clear + Drop> Pool<T> {
         let Some(spot) = self.find(key) else {
             return;
         };
-        let top = shelf.top(spot.place);
+        let top = state.top(spot.place);
         let at = At {
             spot,
-            lane: shelf.number,
+            lane: state.number,
             top,
         };
-        clear_within(shelf.alloc, &self.grid, hand, at, key, limit);
+        clear_within(state.alloc, &self.grid, hand, at, key, limit);
     }
 
     /// A release that ends after so many steps.
-    fn halt_release(&self, hand: &mut Hand<T>, shelf: &mut Shelf<T>, key: u64, limit: u32)
-        requires parts { AreParts T.content T.room self.now hand.old shelf.old }
+    fn halt_release(&self, hand: &mut Hand<T>, state: &mut LaneState<T>, key: u64, limit: u32)
+        requires parts { AreParts T.content T.room self.now hand.old state.old }
         requires held { 1 ≤ references_seen self.now.shape hand.old.me.0 key }
         ensures table { hand.new.table_id ≡ hand.old.table_id }
-        ensures shelf { shelf.new ≡ record shelf.old { rows = shelf.new.rows } }
+        ensures state { state.new ≡ record state.old { rows = state.new.rows } }
         ensures called { CalledWithin self.now.shape (Releasing key) limit hand.old.me hand.new.me }
     {
         if limit == 0 {
             return;
         }
         let spot = self.grid.spot(place_of(key));
-        let top = shelf.top(spot.place);
+        let top = state.top(spot.place);
         let at = At {
             spot,
-            lane: shelf.number,
+            lane: state.number,
             top,
         };
-        lend_home(&self.grid, hand, shelf, spot, key);
-        release_within(shelf.alloc, &self.grid, hand, at, key, limit);
+        return_last_share(&self.grid, hand, state, spot, key);
+        release_within(state.alloc, &self.grid, hand, at, key, limit);
     }
 
     /// A create that ends after so many steps. It makes none where the lane's own list has a place, and none where nothing hangs and
     /// no page is opened.
-    fn halt_create(&self, hand: &mut Hand<T>, shelf: &Shelf<T>, limit: u32)
-        requires parts { AreParts T.content T.room self.now hand.old shelf.now }
+    fn halt_create(&self, hand: &mut Hand<T>, state: &LaneState<T>, limit: u32)
+        requires parts { AreParts T.content T.room self.now hand.old state.now }
         ensures table { hand.new.table_id ≡ hand.old.table_id }
-        ensures called { CalledWithin self.now.shape (Creating (map number_of shelf.now.free.own) (the_lane hand.old.me.0).chain shelf.now.pages.opened) limit hand.old.me hand.new.me }
+        ensures called { CalledWithin self.now.shape (Creating (map number_of state.now.free.own) (the_lane hand.old.me.0).chain state.now.pages.opened) limit hand.old.me hand.new.me }
     {
-        if shelf.free.len() > 0 {
+        if state.free.len() > 0 {
             return;
         }
-        if let Some(first) = shelf.free.chain() {
+        if let Some(first) = state.free.chain() {
             let spot = self.grid.spot(first.number());
             follow_within(&self.grid, hand, spot, limit);
             return;
         }
-        if shelf.pages.opened() > 0 {
-            collect_within(&self.grid, hand, shelf.number, limit);
+        if state.pages.opened() > 0 {
+            collect_within(&self.grid, hand, state.number, limit);
         }
     }
 }

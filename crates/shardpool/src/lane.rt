@@ -1,6 +1,6 @@
 //! Lanes: each owns a shard of a pool.
 use crate::closing::HandRow;
-use crate::shelf::Shelf;
+use crate::state::LaneState;
 use crate::token::Ref;
 use keybits::place_of;
 use poolsteps::Hand;
@@ -11,27 +11,27 @@ use std::marker::Model;
 #[derive(Drop)]
 pub struct Lane<T: Clear> {
     pub(crate) hand: Hand<T>,
-    pub(crate) shelf: Shelf<T>,
+    pub(crate) state: LaneState<T>,
     pub(crate) row: HandRow<T>,
 }
 
 impl<T: Clear> Model for Lane<T> {
     ghost use Rattle.std.specs.Prelude.{◌≡◌, []};
     ghost use Rattle.shardpool.specs.Tokens.{LaneOf};
-    ghost use Rattle.shardpool.specs.Shelves.{Fits};
+    ghost use Rattle.shardpool.specs.LaneStates.{Fits};
 
     ghost Value = { LaneOf };
 
     ghost view = { λ l. record {
       table = l.hand.table_id;
-      shape = l.shelf.shape;
-      number = l.shelf.number;
+      shape = l.state.shape;
+      number = l.state.number;
       book = l.hand.me.0;
-      free = l.shelf.free;
-      pages = l.shelf.pages;
+      free = l.state.free;
+      pages = l.state.pages;
     } };
 
-    ghost invariant = { λ l. (l.hand.me.1 ≡ []) × Fits T.content T.room l.shelf.shape l.hand.me.0 l.shelf };
+    ghost invariant = { λ l. (l.hand.me.1 ≡ []) × Fits T.content T.room l.state.shape l.hand.me.0 l.state };
 }
 
 impl<T: Clear> Lane<T> {
@@ -45,31 +45,31 @@ impl<T: Clear> Lane<T> {
     pub fn number(&self) -> u32
         ensures { result ≡ self.now.number }
     {
-        self.shelf.number
+        self.state.number
     }
 
     /// How many references the lane has.
     pub fn refs(&self) -> u32
         ensures { result ≡ refs self.now }
     {
-        self.shelf.references
+        self.state.references
     }
 
     /// Whether the lane's own list has a place, or a taken place is still to be followed. A create then succeeds.
     pub fn has_free(&self) -> bool
         ensures { IsTrue result ↔ ((self.now.free.own ≢ []) ⊎ IsSome self.now.free.chain) }
     {
-        self.shelf.free.len() > 0 || self.shelf.free.chain().is_some()
+        self.state.free.len() > 0 || self.state.free.chain().is_some()
     }
 
     /// How many references the lane has to a key. A number that is no key of the pool has none.
     pub fn holds(&self, key: u64) -> u32
         ensures { result ≡ holds self.now key }
     {
-        if !keybits::fits(key, &self.shelf.shape) {
+        if !keybits::fits(key, &self.state.shape) {
             return 0;
         }
-        let row = &self.shelf.rows[self.shelf.shape.position(place_of(key))];
+        let row = &self.state.rows[self.state.shape.position(place_of(key))];
         if row.generation == keybits::generation_of(key) {
             row.count
         } else {
@@ -87,7 +87,7 @@ impl<T: Clear> Lane<T> {
         ensures held { self.now.shape.lanes ≡ 1 → AreHeld self.now }
     {
         // A proof knows the invariant of a lane once a field of it is seen.
-        let _ = &self.shelf;
+        let _ = &self.state;
     }
 
     /// The object of a key to which the lane has a reference: its content is that with which the key was published.
@@ -95,8 +95,8 @@ impl<T: Clear> Lane<T> {
         requires { 1 ≤ holds self.now reference.now.key }
         ensures { (j : ℕ) × PublishedAt self.now.book.seen j reference.now.key (T.content result.now) }
     {
-        let at = self.shelf.shape.position(place_of(reference.key));
-        match &self.shelf.rows[at].share {
+        let at = self.state.shape.position(place_of(reference.key));
+        match &self.state.rows[at].share {
             Some(share) => share.read(),
             None => unreachable!(),
         }

@@ -12,9 +12,9 @@ mod laws;
 mod notes;
 mod opening;
 mod pool;
-mod remains;
+mod returned_shares;
 mod rows;
-mod shelf;
+mod state;
 mod stores;
 mod token;
 

@@ -34,7 +34,7 @@ impl<T: Clear + Drop> Pool<T> {
         ensures held { (key : ℕ) → holds lane.new key ≡ holds lane.old key }
         ensures fillings { (filling : FillingOf T) → Made lane.old filling → Made lane.new filling }
     {
-        let number = lane.shelf.number;
+        let number = lane.state.number;
         self.grid.heard(&mut lane.hand, number, note.hand);
     }
 
@@ -74,7 +74,7 @@ impl<T: Clear + Drop> Pool<T> {
         ensures held { (key : ℕ) → holds lane.new key ≡ holds lane.old key }
         ensures fillings { (filling : FillingOf T) → Made lane.old filling → Made lane.new filling }
     {
-        let number = lane.shelf.number;
+        let number = lane.state.number;
         self.grid.met(&mut lane.hand, number, note.hand);
     }
 }

@@ -10,7 +10,7 @@ use crate::closing::HandRow;
 use crate::fault::OpenFault;
 use crate::lane::Lane;
 use crate::pool::Pool;
-use crate::shelf::{Row, Shelf};
+use crate::state::{HeldKey, LaneState};
 use freelists::{LocalFree, Pages};
 use keybits::Shape;
 use poolsteps::{Grid, Hand};
@@ -32,24 +32,24 @@ pub fn open<T: Clear + Drop>(
     ensures lanes { IfOk result (λ made. AreFirstLanes made.0 made.1.items) }
 {
     shape.check()?;
-    opened(alloc, shape).ok_or(OpenFault::Memory)
+    try_open(alloc, shape).ok_or(OpenFault::Memory)
 }
 
 /// The pool of a shape within its limits, and its lanes. None where memory was refused.
-fn opened<T: Clear + Drop>(alloc: Global, shape: Shape) -> Option<(Pool<T>, Vec<Lane<T>>)>
+fn try_open<T: Clear + Drop>(alloc: Global, shape: Shape) -> Option<(Pool<T>, Vec<Lane<T>>)>
     requires { IsShape shape }
     ensures pool { IfSome result (λ made. made.0.shape ≡ shape) }
     ensures lanes { IfSome result (λ made. AreFirstLanes made.0 made.1.items) }
 {
     let count = shape.lanes as usize;
     let mut lanes = Vec::with_capacity(alloc, count).ok()?;
-    let shelves = Vec::with_capacity(alloc, count).ok()?;
+    let states = Vec::with_capacity(alloc, count).ok()?;
     let (grid, hands) = Grid::new(alloc, &shape)?;
     for hand in hands {
         let number = lanes.len() as u32;
         lanes.push_reserved(lane_of(alloc, &shape, number, hand)?);
     }
-    Some((Pool { grid, shelves }, lanes))
+    Some((Pool { grid, states }, lanes))
 }
 
 /// The lane of this number of a pool of this shape, with its hand. None where memory was refused.
@@ -65,28 +65,28 @@ fn lane_of<T: Clear + Drop>(
     ensures { IfSome result (IsFirstLane (record { table = hand.table_id; shape = shape.now }) number) }
 {
     let shard = number as u8;
-    let shelf = Shelf {
+    let state = LaneState {
         shape: *shape,
         number,
         references: 0,
         rows: first_rows(alloc, shape.all_places())?,
-        tops: vec![in alloc; 0; shape.lanes as usize].ok()?,
+        last_pushed: vec![in alloc; 0; shape.lanes as usize].ok()?,
         free: LocalFree::new(alloc, shard, shape.first_page, shape.pages)?,
         pages: Pages::new(shard, shape.first_page, shape.pages),
         objects: no_objects(alloc, shape.shard_places() as usize)?,
         alloc,
     };
     let row = HandRow::new(alloc)?;
-    Some(Lane { hand, shelf, row })
+    Some(Lane { hand, state, row })
 }
 
 /// So many rows, each without a reference. None where memory was refused.
-fn first_rows<T: Drop>(alloc: Global, count: usize) -> Option<Vec<Row<T>>>
+fn first_rows<T: Drop>(alloc: Global, count: usize) -> Option<Vec<HeldKey<T>>>
     ensures { IfSome result (λ rows. rows.items ≡ replicate count (record { generation = 1; count = 0; share = None })) }
 {
     let mut rows = Vec::with_capacity(alloc, count).ok()?;
     for _ in 0..count {
-        rows.push_reserved(Row {
+        rows.push_reserved(HeldKey {
             generation: 1,
             count: 0,
             share: None,

@@ -11,8 +11,8 @@ ghost use Rattle.shardpool.specs.Tokens.{FillingOf};
 ghost use Rattle.shardpool.specs.Lanes.{Owns, Made, SameLane, Calls, Did, Gets, holds, refs};
 
 use crate::lane::Lane;
-use crate::rows::{begin, end, go_on, lend_home};
-use crate::shelf::Shelf;
+use crate::rows::{add_first_reference, add_reference, drop_reference, return_last_share};
+use crate::state::LaneState;
 use crate::stores::keep_reclaimed;
 use crate::token::{Filling, Ref};
 use keybits::{Shape, generation_of, place_of, tag_of};
@@ -25,8 +25,8 @@ use std::marker::Model;
 #[derive(Drop)]
 pub struct Pool<T: Clear> {
     pub(crate) grid: Grid<T>,
-    /// Where the shelves of all lanes go when the pool is closed.
-    pub(crate) shelves: Vec<Shelf<T>>,
+    /// Where the states of all lanes go when the pool is closed.
+    pub(crate) states: Vec<LaneState<T>>,
 }
 
 impl<T: Clear> Model for Pool<T> {
@@ -38,7 +38,7 @@ impl<T: Clear> Model for Pool<T> {
 
     ghost view = { λ p. record { table = p.grid.table.shared.table_id; shape = p.grid.shape } };
 
-    ghost invariant = { λ p. (p.shelves.items ≡ []) × (p.grid.shape.lanes ≤ vec_capacity p.shelves) };
+    ghost invariant = { λ p. (p.states.items ≡ []) × (p.grid.shape.lanes ≤ vec_capacity p.states) };
 }
 
 impl<T: Clear + Drop> Pool<T> {
@@ -67,27 +67,27 @@ impl<T: Clear + Drop> Pool<T> {
     {
         shares_law();
         let spot = self.find(key)?;
-        let number = lane.shelf.number;
-        let top = lane.shelf.top(spot.place);
+        let number = lane.state.number;
+        let top = lane.state.top(spot.place);
         let at = At {
             spot,
             lane: number,
             top,
         };
-        let got = get(lane.shelf.alloc, &self.grid, &mut lane.hand, at, key);
+        let got = get(lane.state.alloc, &self.grid, &mut lane.hand, at, key);
         match got {
             Got::Miss(reclaimed) => {
-                keep_reclaimed(&mut lane.shelf, spot.place, reclaimed);
+                keep_reclaimed(&mut lane.state, spot.place, reclaimed);
                 return None;
             }
             Got::Hit => {}
         }
-        if lane.shelf.rows[spot.position].count > 0 {
-            go_on(&mut lane.shelf, spot.position);
+        if lane.state.rows[spot.position].count > 0 {
+            add_reference(&mut lane.state, spot.position);
             return Some(Ref::to(key));
         }
         let share = self.grid.out(&mut lane.hand, spot, number, number);
-        begin(&mut lane.shelf, spot.position, key, share);
+        add_first_reference(&mut lane.state, spot.position, key, share);
         Some(Ref::to(key))
     }
 
@@ -104,16 +104,16 @@ impl<T: Clear + Drop> Pool<T> {
     {
         let key = reference.spend();
         let spot = self.grid.spot(place_of(key));
-        let top = lane.shelf.top(spot.place);
+        let top = lane.state.top(spot.place);
         let at = At {
             spot,
-            lane: lane.shelf.number,
+            lane: lane.state.number,
             top,
         };
-        lend_home(&self.grid, &mut lane.hand, &mut lane.shelf, spot, key);
-        let reclaimed = release(lane.shelf.alloc, &self.grid, &mut lane.hand, at, key);
-        end(&mut lane.shelf, spot.position);
-        keep_reclaimed(&mut lane.shelf, spot.place, reclaimed);
+        return_last_share(&self.grid, &mut lane.hand, &mut lane.state, spot, key);
+        let reclaimed = release(lane.state.alloc, &self.grid, &mut lane.hand, at, key);
+        drop_reference(&mut lane.state, spot.position);
+        keep_reclaimed(&mut lane.state, spot.place, reclaimed);
     }
 
     /// Clears the object of a key: true where it is this call that marked the key, which a get then finds no more. The last
@@ -133,14 +133,14 @@ impl<T: Clear + Drop> Pool<T> {
         let Some(spot) = self.find(key) else {
             return false;
         };
-        let top = lane.shelf.top(spot.place);
+        let top = lane.state.top(spot.place);
         let at = At {
             spot,
-            lane: lane.shelf.number,
+            lane: lane.state.number,
             top,
         };
-        let (marked, reclaimed) = clear(lane.shelf.alloc, &self.grid, &mut lane.hand, at, key);
-        keep_reclaimed(&mut lane.shelf, spot.place, reclaimed);
+        let (marked, reclaimed) = clear(lane.state.alloc, &self.grid, &mut lane.hand, at, key);
+        keep_reclaimed(&mut lane.state, spot.place, reclaimed);
         marked
     }
 
@@ -163,7 +163,7 @@ impl<T: Clear + Drop> Pool<T> {
             &self.grid,
             &mut lane.hand,
             spot,
-            lane.shelf.number,
+            lane.state.number,
             key,
             object,
         );
@@ -190,11 +190,11 @@ impl<T: Clear + Drop> Pool<T> {
             &self.grid,
             &mut lane.hand,
             spot,
-            lane.shelf.number,
+            lane.state.number,
             key,
             object,
         );
-        begin(&mut lane.shelf, spot.position, key, share);
+        add_first_reference(&mut lane.state, spot.position, key, share);
         Ref::to(key)
     }
 

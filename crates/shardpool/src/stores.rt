@@ -12,97 +12,97 @@ ghost use Rattle.poolcalls.specs.declared.reclaimed.Reclaimed.TheVariants.{Own};
 ghost use Rattle.shardpool.specs.Stores.{KeepsOwn, Keeps, TakesOwn, Hangs};
 ghost use Rattle.shardpool.specs.Openings.{OpensNext};
 
-use crate::shelf::Shelf;
+use crate::state::LaneState;
 use keybits::{Place, link_to, linked_place, shard_of};
 use poolcalls::Reclaimed;
 use slotcell::{Clear, Whole};
 
 /// An emptied object of an own place rests with the lane, and the place goes to the end of the lane's list.
 #[inline(always)]
-pub(crate) fn keep<T: Drop>(shelf: &mut Shelf<T>, place: u32, whole: Whole<T>)
-    requires shape { IsShape shelf.old.shape }
-    requires place { is_place shelf.old.shape place ≡ true }
-    requires narrow { length shelf.old.objects.items ≡ shard_places shelf.old.shape }
-    requires away { IsAway shelf.old.free (place_numbered place) }
-    ensures { KeepsOwn place whole shelf.old shelf.new }
+pub(crate) fn keep<T: Drop>(state: &mut LaneState<T>, place: u32, whole: Whole<T>)
+    requires shape { IsShape state.old.shape }
+    requires place { is_place state.old.shape place ≡ true }
+    requires narrow { length state.old.objects.items ≡ shard_places state.old.shape }
+    requires away { IsAway state.old.free (place_numbered place) }
+    ensures { KeepsOwn place whole state.old state.new }
 {
-    let index = shelf.shape.index(place);
-    shelf.objects[index] = Some(whole);
-    shelf.free.push(Place::of_number(place));
+    let index = state.shape.index(place);
+    state.objects[index] = Some(whole);
+    state.free.push(Place::of_number(place));
 }
 
 /// What became of a place that was reclaimed is kept: the object of an own place, and of a place that was returned its word.
 #[inline(always)]
 pub(crate) fn keep_reclaimed<T: Drop>(
-    shelf: &mut Shelf<T>,
+    state: &mut LaneState<T>,
     place: u32,
     reclaimed: Option<Reclaimed<T>>,
 )
-    requires shape { IsShape shelf.old.shape }
-    requires place { is_place shelf.old.shape place ≡ true }
-    requires narrow { length shelf.old.objects.items ≡ shard_places shelf.old.shape }
-    requires wide { length shelf.old.tops.items ≡ shelf.old.shape.lanes }
-    requires away { (whole : T) → reclaimed ≡ Some (Own whole) → IsAway shelf.old.free (place_numbered place) }
-    ensures { Keeps place reclaimed shelf.old shelf.new }
+    requires shape { IsShape state.old.shape }
+    requires place { is_place state.old.shape place ≡ true }
+    requires narrow { length state.old.objects.items ≡ shard_places state.old.shape }
+    requires wide { length state.old.last_pushed.items ≡ state.old.shape.lanes }
+    requires away { (whole : T) → reclaimed ≡ Some (Own whole) → IsAway state.old.free (place_numbered place) }
+    ensures { Keeps place reclaimed state.old state.new }
 {
     match reclaimed {
-        Some(Reclaimed::Own(whole)) => keep(shelf, place, whole),
-        Some(Reclaimed::Returned) => shelf.tops[shard_of(place) as usize] = link_to(place),
+        Some(Reclaimed::Own(whole)) => keep(state, place, whole),
+        Some(Reclaimed::Returned) => state.last_pushed[shard_of(place) as usize] = link_to(place),
         Some(Reclaimed::Retired) | None => {}
     }
 }
 
 /// The first place of the lane's list, with its object. None where the list is empty, which changes nothing.
-pub(crate) fn take_own<T: Drop>(shelf: &mut Shelf<T>) -> Option<(Place, Whole<T>)>
-    requires shape { IsShape shelf.old.shape }
-    requires lane { shelf.old.free.shard < shelf.old.shape.lanes }
-    requires lists { shelf.old.free.shape ≡ shape_of shelf.old.shape.first_page shelf.old.shape.pages }
-    requires objects { (place : Shown) → Contains shelf.old.free.own place
-        → (object : T) × (slice_get shelf.old.objects.items (index_of shelf.old.shape (number_of place)) ≡ Some (Some object)) }
-    ensures { MatchOption result ((shelf.old.free.own ≡ []) × (shelf.new ≡ shelf.old)) (λ taken. TakesOwn taken.0 taken.1 shelf.old shelf.new) }
+pub(crate) fn take_own<T: Drop>(state: &mut LaneState<T>) -> Option<(Place, Whole<T>)>
+    requires shape { IsShape state.old.shape }
+    requires lane { state.old.free.shard < state.old.shape.lanes }
+    requires lists { state.old.free.shape ≡ shape_of state.old.shape.first_page state.old.shape.pages }
+    requires objects { (place : Shown) → Contains state.old.free.own place
+        → (object : T) × (slice_get state.old.objects.items (index_of state.old.shape (number_of place)) ≡ Some (Some object)) }
+    ensures { MatchOption result ((state.old.free.own ≡ []) × (state.new ≡ state.old)) (λ taken. TakesOwn taken.0 taken.1 state.old state.new) }
 {
-    let place = shelf.free.pop()?;
-    let index = shelf.shape.index(place.number());
-    match shelf.objects[index].take() {
+    let place = state.free.pop()?;
+    let index = state.shape.index(place.number());
+    match state.objects[index].take() {
         Some(whole) => Some((place, whole)),
         None => unreachable!(),
     }
 }
 
 /// The place that a word leads to becomes the first of the taken chain.
-pub(crate) fn hang<T: Drop>(shelf: &mut Shelf<T>, found: u64)
-    requires shard { shelf.old.number < MOST_LANES }
+pub(crate) fn hang<T: Drop>(state: &mut LaneState<T>, found: u64)
+    requires shard { state.old.number < MOST_LANES }
     requires word { (1 ≤ found) × (found ≤ SHARD_NUMBERS) }
-    requires free { shelf.old.free.chain ≡ None }
-    requires away { IsAway shelf.old.free (place_numbered (linked_place shelf.old.number found)) }
-    ensures { Hangs found shelf.old shelf.new }
+    requires free { state.old.free.chain ≡ None }
+    requires away { IsAway state.old.free (place_numbered (linked_place state.old.number found)) }
+    ensures { Hangs found state.old state.new }
 {
-    let first = linked_place(shelf.number, found);
-    shelf.free.hang(Place::of_number(first));
+    let first = linked_place(state.number, found);
+    state.free.hang(Place::of_number(first));
 }
 
 /// The next page is opened: its places, each with the object given for it, are the lane's list.
-pub(crate) fn open_next<T: Clear + Drop>(shelf: &mut Shelf<T>, objects: Vec<Whole<T>>)
-    requires shape { IsShape shelf.old.shape }
-    requires lane { shelf.old.number < shelf.old.shape.lanes }
-    requires lists { (shelf.old.free.shard ≡ shelf.old.number) × (shelf.old.free.shape ≡ shape_of shelf.old.shape.first_page shelf.old.shape.pages) }
-    requires paged { shelf.old.pages.shape ≡ shape_of shelf.old.shape.first_page shelf.old.shape.pages }
-    requires narrow { length shelf.old.objects.items ≡ shard_places shelf.old.shape }
-    requires unopened { shelf.old.pages.opened < shelf.old.shape.pages }
-    requires own { shelf.old.free.own ≡ [] }
-    requires chain { shelf.old.free.chain ≡ None }
-    requires count { length objects.items ≡ page_size shelf.old.shape shelf.old.pages.opened }
+pub(crate) fn open_next<T: Clear + Drop>(state: &mut LaneState<T>, objects: Vec<Whole<T>>)
+    requires shape { IsShape state.old.shape }
+    requires lane { state.old.number < state.old.shape.lanes }
+    requires lists { (state.old.free.shard ≡ state.old.number) × (state.old.free.shape ≡ shape_of state.old.shape.first_page state.old.shape.pages) }
+    requires paged { state.old.pages.shape ≡ shape_of state.old.shape.first_page state.old.shape.pages }
+    requires narrow { length state.old.objects.items ≡ shard_places state.old.shape }
+    requires unopened { state.old.pages.opened < state.old.shape.pages }
+    requires own { state.old.free.own ≡ [] }
+    requires chain { state.old.free.chain ≡ None }
+    requires count { length objects.items ≡ page_size state.old.shape state.old.pages.opened }
     requires empty { All (λ object. T.content object ≡ []) objects.items }
-    ensures { OpensNext T.content T.room shelf.old shelf.new }
+    ensures { OpensNext T.content T.room state.old state.new }
 {
-    let page = shelf.pages.opened();
-    shelf.pages.open_next();
+    let page = state.pages.opened();
+    state.pages.open_next();
     for object in objects {
         let place = Place {
-            shard: shelf.number as u8,
+            shard: state.number as u8,
             page: page as u8,
-            slot: shelf.free.len() as u16,
+            slot: state.free.len() as u16,
         };
-        keep(shelf, place.number(), object);
+        keep(state, place.number(), object);
     }
 }

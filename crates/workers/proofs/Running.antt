@@ -23,7 +23,7 @@ use Rattle.poolsteps.proofs.ViewLemmas.{prefix-self}
 use Rattle.shardpool.specs.Tokens.{PoolOf, LaneOf, FillingOf, RefOf}
 use Rattle.shardpool.specs.Lanes.{Owns, IsFilling, Made, SameLane, Calls, Did, Gets, holds, refs}
 use Rattle.shardpool.specs.Creates.{Gives}
-use Rattle.shardpool.proofs.Holding.{gives-refs}
+use Rattle.shardpool.proofs.references.Holdings.{gives-refs}
 use Rattle.workers.specs.declared.registers.Register.{Register}
 use Rattle.workers.specs.declared.registers.Held.{Held}
 use Rattle.workers.specs.declared.registers.Held.TheVariants.{Empty, Filling, Reference}

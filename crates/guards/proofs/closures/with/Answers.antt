@@ -1,6 +1,6 @@
 use Rattle.std.proofs.Common.{ℕ, refl, subst}
 use Rattle.seqpool.specs.Histories.{PublishedAt}
-use Rattle.shardpool.proofs.Holding.{got-inside}
+use Rattle.shardpool.proofs.references.Holdings.{got-inside}
 use Rattle.guards.proofs.Guarding.{published-later, given-back}
 use Rattle.guards.proofs.closures.with.Goals as goal
 

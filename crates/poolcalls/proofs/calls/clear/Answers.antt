@@ -7,7 +7,7 @@ use Rattle.poolcalls.proofs.calls.clear.Goals as goal
 use Rattle.poolcalls.proofs.calls.clear.Goals.{then-is_hit, else-is_hit}
 
 -- the call up to its LEAVE
-opened : (g : Over) (c : goal.After-settle g)
+opened : (g : Over) (c : goal.After-finish_leave g)
     → Opened c.args.grid.now.shape (Clearing c.args.key) (acts.Clear c.args.at.lane c.args.key c.if-is_hit.marked) c.args.hand.now.me c.if-is_hit.hand.me
 opened g c = elim c.if-is_hit.branch [
   | then-is_hit w ↦
@@ -19,8 +19,8 @@ opened g c = elim c.if-is_hit.branch [
 ]
 
 pub returns-clause-called : goal.returns-clause-called
-returns-clause-called g c = called-after (opened g c) refl c.leave-left.ensures.leaves c.requires.at.spot.place_is c.settle.ensures.ends
+returns-clause-called g c = called-after (opened g c) refl c.leave-left.ensures.leaves c.requires.at.spot.place_is c.finish_leave.ensures.ends
 
 pub returns-clause-acts : goal.returns-clause-acts
 returns-clause-acts g c = rw (sym c.requires.at.spot.place_is)
-    (acts-behind (opened g c) refl c.leave-left.ensures.leaves c.requires.at.spot.place_is c.settle.ensures.ends c.settle.result c.settle.ensures.acts)
+    (acts-behind (opened g c) refl c.leave-left.ensures.leaves c.requires.at.spot.place_is c.finish_leave.ensures.ends c.finish_leave.result c.finish_leave.ensures.acts)

@@ -3,7 +3,7 @@ use Rattle.std.proofs.Common.{◌≡◌, List, ◌∷◌, [], ◌++◌, subst}
 use Rattle.std.specs.List.{All}
 use Rattle.shardpool.specs.Tokens.{LaneOf}
 use Rattle.shardpool.specs.Lanes.{Owns, refs}
-use Rattle.shardpool.proofs.Holding.{all-last}
+use Rattle.shardpool.proofs.references.Holdings.{all-last}
 use Rattle.pooltests.proofs.test_calls.last_of.Goals as goal
 
 pub returns-clause-last : goal.returns-clause-last

@@ -1,4 +1,4 @@
-use Rattle.shardpool.proofs.Holding.{first-lanes}
+use Rattle.shardpool.proofs.references.Holdings.{first-lanes}
 use Rattle.pooltests.proofs.test_calls.open_all.Goals as goal
 
 pub returns : goal.returns

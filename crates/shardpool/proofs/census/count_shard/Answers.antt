@@ -5,8 +5,8 @@ use Rattle.keybits.specs.declared.step.Word.TheVariants.{Life}
 use Rattle.keybits.specs.Places.{page_of}
 use Rattle.keybits.specs.Shapes.{all_places, shard_places}
 use Rattle.shardpool.specs.Marks.{part_in}
-use Rattle.shardpool.proofs.CensusMarks.{read-word}
-use Rattle.shardpool.proofs.CensusCounts.{CountsTo, counts-more, counts-all, counts-room, position-below, at-position}
+use Rattle.shardpool.proofs.count.Marks.{read-word}
+use Rattle.shardpool.proofs.count.Counts.{CountsTo, counts-more, counts-all, counts-room, position-below, at-position}
 use Rattle.shardpool.proofs.census.count_shard.Goals as goal
 
 pub place_at-place-requires-clause-position : goal.place_at-place-requires-clause-position

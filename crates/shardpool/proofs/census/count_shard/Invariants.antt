@@ -1,6 +1,6 @@
 -- The places before this index are counted.
 use Rattle.core.specs.Mem.Slots.{slots_items}
-use Rattle.shardpool.proofs.CensusCounts.{CountsTo}
+use Rattle.shardpool.proofs.count.Counts.{CountsTo}
 use Rattle.shardpool.proofs.census.count_shard.Given as goal
 
 abbrev pub invariant-loop-index : goal.invariant-loop-index

@@ -6,9 +6,9 @@ use Rattle.keybits.specs.Places.{shard_of}
 use Rattle.keybits.specs.Shapes.{all_places, index_of}
 use Rattle.poolsteps.specs.Layout.{words_in}
 use Rattle.poolsteps.specs.Joins.{HasCell, HasNoCell}
-use Rattle.shardpool.proofs.CensusMarks.{read-word}
-use Rattle.shardpool.proofs.CensusCounts.{position-below, at-position}
-use Rattle.shardpool.proofs.Draining.{drains-none, drains-more, drains-all, cell-stays}
+use Rattle.shardpool.proofs.count.Marks.{read-word}
+use Rattle.shardpool.proofs.count.Counts.{position-below, at-position}
+use Rattle.shardpool.proofs.at_close.DroppedCells.{drains-none, drains-more, drains-all, cell-stays}
 use Rattle.shardpool.proofs.census.drop_cells.Given.{Over}
 use Rattle.shardpool.proofs.census.drop_cells.Goals as goal
 use Rattle.shardpool.proofs.census.drop_cells.Goals.{After-get-word}

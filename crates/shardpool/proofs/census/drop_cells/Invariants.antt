@@ -1,7 +1,7 @@
 -- The places before this index are gone over.
 use Rattle.core.specs.Mem.Slots.{slots_items}
 use Rattle.poolsteps.specs.Layout.{words_in}
-use Rattle.shardpool.proofs.Draining.{DrainsTo}
+use Rattle.shardpool.proofs.at_close.DroppedCells.{DrainsTo}
 use Rattle.shardpool.proofs.census.drop_cells.Given as goal
 
 abbrev pub invariant-loop-index : goal.invariant-loop-index

@@ -3,7 +3,7 @@ use Rattle.std.proofs.Common.{◌++◌, ◌∷◌, [], ap, ◌∙◌, arith}
 use Rattle.keybits.specs.Shapes.{is_place}
 use Rattle.keybits.proofs.ShapeLemmas.{page_size-le}
 use Rattle.freelists.specs.Queues.{FreePlaces}
-use Rattle.shardpool.proofs.CensusLists.{list-split, list-holds, list-blanks}
+use Rattle.shardpool.proofs.count.Lists.{list-split, list-holds, list-blanks}
 use Rattle.shardpool.proofs.census.mark_list.Goals as goal
 
 pub number-requires-clause-slot : goal.number-requires-clause-slot

@@ -5,8 +5,8 @@ use Rattle.core.specs.Mem.Slots.{slots_items}
 use Rattle.shardpool.specs.Marks.{Blanks, IsThread, AreFreePlaces, stacked}
 use Rattle.core.specs.declared.slots.Slots.{Slots}
 use Rattle.keybits.specs.Links.{link_to}
-use Rattle.shardpool.proofs.CensusMarks.{blanks-then}
-use Rattle.shardpool.proofs.CensusLists.{chain-hangs, chain-marked, no-chain, stacks-stand}
+use Rattle.shardpool.proofs.count.Marks.{blanks-then}
+use Rattle.shardpool.proofs.count.Lists.{chain-hangs, chain-marked, no-chain, stacks-stand}
 use Rattle.shardpool.proofs.census.mark_returned.Goals as goal
 use Rattle.shardpool.proofs.census.mark_returned.Goals.{in-Some, in_default, Joined-chain}
 

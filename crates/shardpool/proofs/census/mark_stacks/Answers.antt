@@ -2,8 +2,8 @@
 use Rattle.std.proofs.Common.{◌≡◌, ℕ, ◌+◌, List, sym, subst, arith}
 use Rattle.core.specs.declared.slots.Slots.{Slots}
 use Rattle.shardpool.specs.Marks.{Blanks, stacked}
-use Rattle.shardpool.proofs.CensusMarks.{blanks-then, is-full}
-use Rattle.shardpool.proofs.CensusLists.{stacked-other, stacked-own, next-thread}
+use Rattle.shardpool.proofs.count.Marks.{blanks-then, is-full}
+use Rattle.shardpool.proofs.count.Lists.{stacked-other, stacked-own, next-thread}
 use Rattle.shardpool.proofs.census.mark_stacks.Goals as goal
 use Rattle.shardpool.proofs.census.mark_stacks.Goals.{then-lane-shard, else-lane-shard}
 

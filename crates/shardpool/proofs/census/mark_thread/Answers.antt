@@ -5,7 +5,7 @@ use Rattle.keybits.specs.Shapes.{is_place}
 use Rattle.keybits.specs.Links.{linked_place}
 use Rattle.poolsteps.specs.Layout.{words_in}
 use Rattle.shardpool.specs.Marks.{Blanks, IsThread}
-use Rattle.shardpool.proofs.CensusWalks.{Walks, walk_length, walks, walk-reads, walk-goes, walk-ends}
+use Rattle.shardpool.proofs.count.Walks.{Walks, walk_length, walks, walk-reads, walk-goes, walk-ends}
 use Rattle.shardpool.proofs.census.mark_thread.Goals as goal
 use Rattle.shardpool.proofs.census.mark_thread.Goals.{In-loop-word, After-get-word}
 

@@ -3,7 +3,7 @@ use Rattle.std.proofs.Common.{ℕ, List}
 use Rattle.core.specs.Mem.Slots.{slots_items}
 use Rattle.poolsteps.specs.Layout.{words_in}
 use Rattle.shardpool.specs.Marks.{IsThread}
-use Rattle.shardpool.proofs.CensusWalks.{walk_length, Walked}
+use Rattle.shardpool.proofs.count.Walks.{walk_length, Walked}
 use Rattle.shardpool.proofs.census.mark_thread.Given as goal
 
 abbrev pub invariant-loop-word : goal.invariant-loop-word

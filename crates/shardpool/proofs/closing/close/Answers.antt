@@ -3,18 +3,18 @@ use Rattle.std.proofs.Common.{refl, sym, subst}
 use Rattle.poolsteps.specs.Rule.{World}
 use Rattle.shardpool.specs.Tokens.{PoolOf}
 use Rattle.shardpool.specs.Closings.{AreLanes}
-use Rattle.shardpool.proofs.ClosingGrid.{are-hands, ends-may, ends-last, ends-history, ends-cells}
+use Rattle.shardpool.proofs.at_close.GridEnd.{are-hands, ends-may, ends-last, ends-history, ends-cells}
 use Rattle.shardpool.proofs.closing.close.Goals as goal
 
 pub end-closed-requires : goal.end-closed-requires
 end-closed-requires g c =
     let are = subst (λ (pool : PoolOf). AreLanes pool c.args.lanes.items) (sym c.pool.view_is) c.requires.lanes in
-    are-hands c.pool.inside.grid are c.parted-hands.ensures
+    are-hands c.pool.inside.grid are c.take_apart-hands.ensures
 
-pub hand_back-requires-clause-shelves : goal.hand_back-requires-clause-shelves
-hand_back-requires-clause-shelves g c =
+pub hand_back-requires-clause-states : goal.hand_back-requires-clause-states
+hand_back-requires-clause-states g c =
     let are = subst (λ (pool : PoolOf). AreLanes pool c.args.lanes.items) (sym c.pool.view_is) c.requires.lanes in
-    ends-may c.pool.inside.grid are c.parted-hands.ensures c.end-closed.ensures.world.1
+    ends-may c.pool.inside.grid are c.take_apart-hands.ensures c.end-closed.ensures.world.1
 
 pub take_census-census-requires-clause-last : goal.take_census-census-requires-clause-last
 take_census-census-requires-clause-last g c =
@@ -24,8 +24,8 @@ take_census-census-requires-clause-last g c =
     let grid = c.pool.inside.grid in (
       w.history,
       c.args.lanes.items,
-      ends-last grid are c.parted-hands.ensures ends c.hand_back.ensures.shelves,
-      ends-cells grid are c.parted-hands.ensures ends refl c.hand_back.ensures.slots,
+      ends-last grid are c.take_apart-hands.ensures ends c.hand_back.ensures.states,
+      ends-cells grid are c.take_apart-hands.ensures ends refl c.hand_back.ensures.slots,
     )
 
 pub returns-clause-closes : goal.returns-clause-closes
@@ -35,7 +35,7 @@ returns-clause-closes g c =
     let ends = c.end-closed.ensures.world.1 in
     rw (← c.pool.view_is) (record {
       history = w.history;
-      last = ends-history c.pool.inside.grid are c.parted-hands.ensures ends;
+      last = ends-history c.pool.inside.grid are c.take_apart-hands.ensures ends;
       census_is = c.take_census-census.ensures.census w.history c.args.lanes.items
-          (ends-last c.pool.inside.grid are c.parted-hands.ensures ends c.hand_back.ensures.shelves);
+          (ends-last c.pool.inside.grid are c.take_apart-hands.ensures ends c.hand_back.ensures.states);
     })

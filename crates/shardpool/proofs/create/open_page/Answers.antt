@@ -3,7 +3,7 @@ use Rattle.std.proofs.Common.{sym, ap, subst, arith}
 use Rattle.keybits.specs.declared.shape.Shape.{Shape}
 use Rattle.shardpool.specs.Tokens.{LaneOf}
 use Rattle.shardpool.specs.Lanes.{Made}
-use Rattle.shardpool.proofs.Popping.{opened-fillings}
+use Rattle.shardpool.proofs.free.OwnLists.{opened-fillings}
 use Rattle.shardpool.proofs.create.open_page.Goals as goal
 
 pub returns-clause-fillings : goal.returns-clause-fillings

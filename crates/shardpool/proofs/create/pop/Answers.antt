@@ -3,8 +3,8 @@ use Rattle.std.proofs.Common.{ℕ, sym, subst}
 use Rattle.shardpool.specs.Tokens.{LaneOf}
 use Rattle.shardpool.specs.Creates.{Pops}
 use Rattle.shardpool.specs.Lanes.{Made}
-use Rattle.shardpool.proofs.Laning.{lane_of}
-use Rattle.shardpool.proofs.Popping.{listed-object, popped-inside, popped-fits, popped, popped-fillings}
+use Rattle.shardpool.proofs.frame.LaneFacts.{lane_of}
+use Rattle.shardpool.proofs.free.OwnLists.{listed-object, popped-inside, popped-fits, popped, popped-fillings}
 use Rattle.shardpool.proofs.create.pop.Goals as goal
 
 pub take_own-requires-clause-objects : goal.take_own-requires-clause-objects
@@ -20,9 +20,9 @@ pub returns-clause-some : goal.returns-clause-some
 returns-clause-some g c =
     let content = g.T.Clear.content in
     let room = g.T.Clear.room in
-    let new : LaneOf = lane_of c.lane.inside.hand.table_id c.lane.inside.hand.me.0 c.take_own.new.shelf in
+    let new : LaneOf = lane_of c.lane.inside.hand.table_id c.lane.inside.hand.me.0 c.take_own.new.state in
     subst (λ (lane : LaneOf). Pops content room lane new c.number.result c.in_ok-place.object) c.lane.view_is
-    (subst (λ (n : ℕ). Pops content room (lane_of c.lane.inside.hand.table_id c.lane.inside.hand.me.0 c.lane.inside.shelf) new n c.in_ok-place.object) (sym c.number.ensures)
+    (subst (λ (n : ℕ). Pops content room (lane_of c.lane.inside.hand.table_id c.lane.inside.hand.me.0 c.lane.inside.state) new n c.in_ok-place.object) (sym c.number.ensures)
     (popped c.lane.invariant.1 c.in_ok-place.ensures c.lane.inside.hand.table_id))
 
 pub returns-clause-fillings : goal.returns-clause-fillings

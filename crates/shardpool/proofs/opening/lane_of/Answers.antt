@@ -1,6 +1,6 @@
 -- What the lane keeps fits that it has seen and done nothing.
 use Rattle.std.proofs.Common.{rules, ℕ, replicate, None, refl, ap, ◌∙◌}
-use Rattle.shardpool.proofs.Starting.{first_row, first-fits}
+use Rattle.shardpool.proofs.calls.Openings.{first_row, first-fits}
 use Rattle.shardpool.proofs.opening.lane_of.Goals as goal
 
 pub invariant_of-result : goal.invariant_of-result
@@ -13,7 +13,7 @@ invariant_of-result g c =
             number = c.args.number;
             references = 0;
             rows = c.in_ok-first_rows.field-0;
-            tops = c.in_ok-ok.field-0;
+            last_pushed = c.in_ok-ok.field-0;
             free = c.in_ok-new.field-0;
             pages = c.new-2.result;
             objects = c.in_ok-no_objects.field-0;

@@ -9,12 +9,12 @@ use Rattle.keybits.specs.Shapes.{IsShape, is_place, shard_places}
 use Rattle.freelists.specs.Queues.{IsAway}
 use Rattle.freelists.specs.Shards.{place_numbered}
 use Rattle.shardpool.specs.Stores.{KeepsOwn}
-use Rattle.shardpool.proofs.Paging.{MayOpen, OpensSlots, page-opened, none-on, all-on, one-on, same-number, same-shape, low-shard, small-slot, slot-is, inside, slot-away}
+use Rattle.shardpool.proofs.free.Pages.{MayOpen, OpensSlots, page-opened, none-on, all-on, one-on, same-number, same-shape, low-shard, small-slot, slot-is, inside, slot-away}
 use Rattle.shardpool.proofs.stores.open_next.Goals as goal
 
 pub loop-object-init : goal.loop-object-init
 loop-object-init g c =
-    let old = c.args.shelf.now in
+    let old = c.args.state.now in
     let content = g.T.Clear.content in
     let paged = ap (λ (z : Shape). z.pages) c.requires.paged in
     let low = c.requires.unopened in
@@ -29,7 +29,7 @@ loop-object-init g c =
 
 pub overflow_cast-place : goal.overflow_cast-place
 overflow_cast-place g c =
-    let old = c.args.shelf.now in
+    let old = c.args.state.now in
     let content = g.T.Clear.content in
     let room = g.T.Clear.room in
     let may : MayOpen old = record {
@@ -40,7 +40,7 @@ overflow_cast-place g c =
       unopened = c.requires.unopened;
       chain = c.requires.chain;
     } in
-    let now = c.loop-object.shelf in
+    let now = c.loop-object.state in
     let on = subst (λ (left : List g.row.T.Denot). OpensSlots content room old left now) c.in-Some.ensures.steps.0 c.loop-object.invariant.on in
     let same = same-number content room old may now on in
     let low = low-shard content room old may now on in
@@ -48,7 +48,7 @@ overflow_cast-place g c =
 
 pub number-requires-clause-slot : goal.number-requires-clause-slot
 number-requires-clause-slot g c =
-    let old = c.args.shelf.now in
+    let old = c.args.state.now in
     let content = g.T.Clear.content in
     let room = g.T.Clear.room in
     let may : MayOpen old = record {
@@ -59,7 +59,7 @@ number-requires-clause-slot g c =
       unopened = c.requires.unopened;
       chain = c.requires.chain;
     } in
-    let now = c.loop-object.shelf in
+    let now = c.loop-object.state in
     let on = subst (λ (left : List g.row.T.Denot). OpensSlots content room old left now) c.in-Some.ensures.steps.0 c.loop-object.invariant.on in
     let slot = c.len.ensures.len ∙ slot-is content room old may now on in
     let small = small-slot content room old may now on in
@@ -67,7 +67,7 @@ number-requires-clause-slot g c =
 
 pub keep-requires-clause-shape : goal.keep-requires-clause-shape
 keep-requires-clause-shape g c =
-    let old = c.args.shelf.now in
+    let old = c.args.state.now in
     let content = g.T.Clear.content in
     let room = g.T.Clear.room in
     let may : MayOpen old = record {
@@ -78,13 +78,13 @@ keep-requires-clause-shape g c =
       unopened = c.requires.unopened;
       chain = c.requires.chain;
     } in
-    let now = c.loop-object.shelf in
+    let now = c.loop-object.state in
     let on = subst (λ (left : List g.row.T.Denot). OpensSlots content room old left now) c.in-Some.ensures.steps.0 c.loop-object.invariant.on in
     subst IsShape (sym (same-shape content room old may now on)) c.requires.shape
 
 pub keep-requires-clause-place : goal.keep-requires-clause-place
 keep-requires-clause-place g c =
-    let old = c.args.shelf.now in
+    let old = c.args.state.now in
     let content = g.T.Clear.content in
     let room = g.T.Clear.room in
     let may : MayOpen old = record {
@@ -95,7 +95,7 @@ keep-requires-clause-place g c =
       unopened = c.requires.unopened;
       chain = c.requires.chain;
     } in
-    let now = c.loop-object.shelf in
+    let now = c.loop-object.state in
     let on = subst (λ (left : List g.row.T.Denot). OpensSlots content room old left now) c.in-Some.ensures.steps.0 c.loop-object.invariant.on in
     let at : c.number.result ≡ place_at old.number old.pages.opened on.slots
     = c.number.ensures ∙ (λ i. place_at (same-number content room old may now on i) (c.opened-page.ensures.opened i) ((c.len.ensures.len ∙ slot-is content room old may now on) i)) in
@@ -104,7 +104,7 @@ keep-requires-clause-place g c =
 
 pub keep-requires-clause-narrow : goal.keep-requires-clause-narrow
 keep-requires-clause-narrow g c =
-    let old = c.args.shelf.now in
+    let old = c.args.state.now in
     let content = g.T.Clear.content in
     let room = g.T.Clear.room in
     let may : MayOpen old = record {
@@ -115,13 +115,13 @@ keep-requires-clause-narrow g c =
       unopened = c.requires.unopened;
       chain = c.requires.chain;
     } in
-    let now = c.loop-object.shelf in
+    let now = c.loop-object.state in
     let on = subst (λ (left : List g.row.T.Denot). OpensSlots content room old left now) c.in-Some.ensures.steps.0 c.loop-object.invariant.on in
     on.narrow ∙ ap shard_places (sym (same-shape content room old may now on))
 
 pub keep-requires-clause-away : goal.keep-requires-clause-away
 keep-requires-clause-away g c =
-    let old = c.args.shelf.now in
+    let old = c.args.state.now in
     let content = g.T.Clear.content in
     let room = g.T.Clear.room in
     let may : MayOpen old = record {
@@ -132,7 +132,7 @@ keep-requires-clause-away g c =
       unopened = c.requires.unopened;
       chain = c.requires.chain;
     } in
-    let now = c.loop-object.shelf in
+    let now = c.loop-object.state in
     let on = subst (λ (left : List g.row.T.Denot). OpensSlots content room old left now) c.in-Some.ensures.steps.0 c.loop-object.invariant.on in
     let at : c.number.result ≡ place_at old.number old.pages.opened on.slots
     = c.number.ensures ∙ (λ i. place_at (same-number content room old may now on i) (c.opened-page.ensures.opened i) ((c.len.ensures.len ∙ slot-is content room old may now on) i)) in
@@ -140,7 +140,7 @@ keep-requires-clause-away g c =
 
 pub loop-object-preserved : goal.loop-object-preserved
 loop-object-preserved g c =
-    let old = c.args.shelf.now in
+    let old = c.args.state.now in
     let content = g.T.Clear.content in
     let room = g.T.Clear.room in
     let may : MayOpen old = record {
@@ -151,20 +151,20 @@ loop-object-preserved g c =
       unopened = c.requires.unopened;
       chain = c.requires.chain;
     } in
-    let now = c.loop-object.shelf in
+    let now = c.loop-object.state in
     let on = subst (λ (left : List g.row.T.Denot). OpensSlots content room old left now) c.in-Some.ensures.steps.0 c.loop-object.invariant.on in
     let at : c.number.result ≡ place_at old.number old.pages.opened on.slots
     = c.number.ensures ∙ (λ i. place_at (same-number content room old may now on i) (c.opened-page.ensures.opened i) ((c.len.ensures.len ∙ slot-is content room old may now on) i)) in
     record {
-      on = one-on content room old may now on c.keep.new.shelf (subst (λ (n : ℕ). KeepsOwn n c.in-Some.object now c.keep.new.shelf) at c.keep.ensures);
+      on = one-on content room old may now on c.keep.new.state (subst (λ (n : ℕ). KeepsOwn n c.in-Some.object now c.keep.new.state) at c.keep.ensures);
       rest = let was = c.loop-object.invariant.rest in let gone = c.in-Some.ensures.steps.1 in let shorter = ap length c.in-Some.ensures.steps.0 in omega arith;
     }
 
 pub returns : goal.returns
 returns g c =
-    let old = c.args.shelf.now in
+    let old = c.args.state.now in
     let content = g.T.Clear.content in
     let room = g.T.Clear.room in
     let last = c.loop-object in
     let none : into_iter_items last.object-iterator ≡ [] = nil_from_length (into_iter_items last.object-iterator) (sym last.invariant.rest ∙ c.in-None.ensures.steps.0) in
-    all-on content room old last.shelf (subst (λ (left : List g.row.T.Denot). OpensSlots content room old left last.shelf) none last.invariant.on)
+    all-on content room old last.state (subst (λ (left : List g.row.T.Denot). OpensSlots content room old left last.state) none last.invariant.on)

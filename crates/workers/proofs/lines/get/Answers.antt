@@ -1,7 +1,7 @@
 use Rattle.std.proofs.Common.{refl, sym, arith}
 use Rattle.workers.specs.Lines.{register_at}
 use Rattle.workers.proofs.Keeping.{empty-light, tidy-room}
-use Rattle.shardpool.proofs.Holding.{got-inside}
+use Rattle.shardpool.proofs.references.Holdings.{got-inside}
 use Rattle.workers.proofs.Running.{runs-missed, runs-found}
 use Rattle.workers.proofs.lines.get.Goals as goal
 

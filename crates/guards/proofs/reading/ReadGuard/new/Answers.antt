@@ -2,7 +2,7 @@ use Rattle.std.proofs.Common.{refl, sym, ap, ◌∙◌, subst}
 use mathlib.Core.Option.{some}
 use Rattle.shardpool.specs.Tokens.{LaneOf}
 use Rattle.shardpool.specs.Lanes.{Made, SameLane, refs}
-use Rattle.shardpool.proofs.Holding.{got-inside}
+use Rattle.shardpool.proofs.references.Holdings.{got-inside}
 use Rattle.guards.proofs.Guarding.{guard-may, guard-gets}
 use Rattle.guards.proofs.reading.ReadGuard.new.Goals as goal
 

@@ -1,7 +1,7 @@
 -- The lane's invariant has the law.
 use Rattle.std.proofs.Common.{ap, ◌∙◌, sym}
 use Rattle.seqpool.specs.Histories.{acts_of}
-use Rattle.shardpool.proofs.Solo.{solo, solo-held}
+use Rattle.shardpool.proofs.frame.OneLane.{solo, solo-held}
 use Rattle.shardpool.proofs.lane.Lane.seen_law.Goals as goal
 
 pub returns-clause-legal : goal.returns-clause-legal
@@ -13,7 +13,7 @@ returns-clause-own g c =
     rw (← c.self.view_is) (seat.own ∙ ap (λ l. acts_of l c.self.inside.hand.me.0.seen) (sym seat.number_is))
 
 pub returns-clause-alone : goal.returns-clause-alone
-returns-clause-alone g c = rw (← c.self.view_is) (solo c.self.inside.shelf.shape c.self.inside.hand.me.0 c.self.inside.shelf.number c.self.invariant.1.seat)
+returns-clause-alone g c = rw (← c.self.view_is) (solo c.self.inside.state.shape c.self.inside.hand.me.0 c.self.inside.state.number c.self.invariant.1.seat)
 
 pub returns-clause-held : goal.returns-clause-held
-returns-clause-held g c = rw (← c.self.view_is) (solo-held c.self.inside.shelf.shape c.self.inside.hand.me.0 c.self.inside.shelf.number c.self.invariant.1.seat)
+returns-clause-held g c = rw (← c.self.view_is) (solo-held c.self.inside.state.shape c.self.inside.hand.me.0 c.self.inside.state.number c.self.invariant.1.seat)

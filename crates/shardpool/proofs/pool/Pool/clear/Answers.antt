@@ -1,9 +1,9 @@
 -- A clear: what it leaves of the lane.
 use Rattle.std.proofs.Common.{refl, ap, ◌∙◌, arith}
-use Rattle.shardpool.proofs.Calling.{calls-more}
-use Rattle.shardpool.proofs.Halting.{fits-own}
-use Rattle.shardpool.proofs.Holding.{clear-holds}
-use Rattle.shardpool.proofs.Ready.{ready, cleared-away, cleared}
+use Rattle.shardpool.proofs.calls.CallParts.{calls-more}
+use Rattle.shardpool.proofs.calls.Halts.{fits-own}
+use Rattle.shardpool.proofs.references.Holdings.{clear-holds}
+use Rattle.shardpool.proofs.calls.KeyCalls.{ready, cleared-away, cleared}
 use Rattle.shardpool.proofs.pool.Pool.clear.Goals as goal
 
 pub keep_reclaimed-requires-clause-away : goal.keep_reclaimed-requires-clause-away
@@ -15,35 +15,35 @@ pub invariant_of-lane : goal.invariant_of-lane
 invariant_of-lane g c =
     let before = ready c.lane.view_is c.requires.owns.1 c.self.view_is c.lane.invariant.1 c.in-Some.ensures.spot in
     let told = c.clear-marked.ensures in
-    let left = cleared before c.clear-marked.result.1 c.keep_reclaimed.new.shelf c.keep_reclaimed.ensures c.clear-marked.result.0 told.called told.acts told.reclaimed in
+    let left = cleared before c.clear-marked.result.1 c.keep_reclaimed.new.state c.keep_reclaimed.ensures c.clear-marked.result.0 told.called told.acts told.reclaimed in
     (told.called.did.held ∙ c.lane.invariant.0, fits-own left.fits)
 
 pub returns-clause-clears : goal.returns-clause-clears
 returns-clause-clears g c key =
     let before = ready c.lane.view_is c.requires.owns.1 c.self.view_is c.lane.invariant.1 c.in-Some.ensures.spot in
     let told = c.clear-marked.ensures in
-    let left = cleared before c.clear-marked.result.1 c.keep_reclaimed.new.shelf c.keep_reclaimed.ensures c.clear-marked.result.0 told.called told.acts told.reclaimed in
+    let left = cleared before c.clear-marked.result.1 c.keep_reclaimed.new.state c.keep_reclaimed.ensures c.clear-marked.result.0 told.called told.acts told.reclaimed in
     rw (← c.lane.view_is) (left.did c.lane.inside.hand.table_id c.clear-marked.new.hand.table_id told.hand.0)
 
 pub returns-clause-refs : goal.returns-clause-refs
 returns-clause-refs g c =
     let before = ready c.lane.view_is c.requires.owns.1 c.self.view_is c.lane.invariant.1 c.in-Some.ensures.spot in
     let told = c.clear-marked.ensures in
-    let left = cleared before c.clear-marked.result.1 c.keep_reclaimed.new.shelf c.keep_reclaimed.ensures c.clear-marked.result.0 told.called told.acts told.reclaimed in
+    let left = cleared before c.clear-marked.result.1 c.keep_reclaimed.new.state c.keep_reclaimed.ensures c.clear-marked.result.0 told.called told.acts told.reclaimed in
     rw (← c.lane.view_is) left.refs
 
 pub returns-clause-fillings : goal.returns-clause-fillings
 returns-clause-fillings g c filling =
     let before = ready c.lane.view_is c.requires.owns.1 c.self.view_is c.lane.invariant.1 c.in-Some.ensures.spot in
     let told = c.clear-marked.ensures in
-    let left = cleared before c.clear-marked.result.1 c.keep_reclaimed.new.shelf c.keep_reclaimed.ensures c.clear-marked.result.0 told.called told.acts told.reclaimed in
+    let left = cleared before c.clear-marked.result.1 c.keep_reclaimed.new.state c.keep_reclaimed.ensures c.clear-marked.result.0 told.called told.acts told.reclaimed in
     rw (← c.lane.view_is) (left.fillings c.lane.inside.hand.table_id c.clear-marked.new.hand.table_id told.hand.0 filling)
 
 pub returns-clause-owns : goal.returns-clause-owns
 returns-clause-owns g c =
     let before = ready c.lane.view_is c.requires.owns.1 c.self.view_is c.lane.invariant.1 c.in-Some.ensures.spot in
     let told = c.clear-marked.ensures in
-    let left = cleared before c.clear-marked.result.1 c.keep_reclaimed.new.shelf c.keep_reclaimed.ensures c.clear-marked.result.0 told.called told.acts told.reclaimed in
+    let left = cleared before c.clear-marked.result.1 c.keep_reclaimed.new.state c.keep_reclaimed.ensures c.clear-marked.result.0 told.called told.acts told.reclaimed in
     let same = (left.did c.lane.inside.hand.table_id c.clear-marked.new.hand.table_id told.hand.0).1.same in
     (same.0 ∙ (ap (λ l. l.table) c.lane.view_is ∙ c.requires.owns.0), same.1 ∙ (ap (λ l. l.shape) c.lane.view_is ∙ c.requires.owns.1))
 

@@ -3,22 +3,22 @@ use Rattle.std.proofs.Common.{◌≢◌, ⊎_elim, [], refl, sym, ap, ◌∙◌,
 use Rattle.std.proofs.lemmas.Result.{err_from_is_err_and}
 use Rattle.shardpool.specs.Tokens.{LaneOf}
 use Rattle.shardpool.specs.Creates.{TakesReturned, OpensPage, GivesNone}
-use Rattle.shardpool.proofs.Creating.{IsSound, sound-fits, list-gives, taken-gives, none-gives, page-gives, none-hangs, opened-some}
-use Rattle.shardpool.proofs.Holding.{gives-refs, none-refs}
+use Rattle.shardpool.proofs.calls.Creates.{IsSound, sound-fits, list-gives, taken-gives, none-gives, page-gives, none-hangs, opened-some}
+use Rattle.shardpool.proofs.references.Holdings.{gives-refs, none-refs}
 use Rattle.shardpool.proofs.pool.Pool.create.Goals as goal
 
 -- the place comes from the own list
 pub returns-in-Some-clause-gives : goal.returns-in-Some-clause-gives
 returns-in-Some-clause-gives g c =
     let sound : IsSound c.args.lane.now
-    = subst IsSound c.lane.view_is (sound-fits g.T.Clear.content g.T.Clear.room c.lane.inside.hand.table_id c.lane.inside.hand.me.0 c.lane.inside.shelf c.lane.invariant.1) in
+    = subst IsSound c.lane.view_is (sound-fits g.T.Clear.content g.T.Clear.room c.lane.inside.hand.table_id c.lane.inside.hand.me.0 c.lane.inside.state c.lane.invariant.1) in
     list-gives g.T.Clear.content g.T.Clear.room c.args.lane.now c.pop.new.lane c.fill.new.lane sound c.in-Some.ensures.some c.fill.ensures.fills
 
 -- the place comes from the chain
 pub returns-in-Some-follow-clause-gives : goal.returns-in-Some-follow-clause-gives
 returns-in-Some-follow-clause-gives g c =
     let sound : IsSound c.args.lane.now
-    = subst IsSound c.lane.view_is (sound-fits g.T.Clear.content g.T.Clear.room c.lane.inside.hand.table_id c.lane.inside.hand.me.0 c.lane.inside.shelf c.lane.invariant.1) in
+    = subst IsSound c.lane.view_is (sound-fits g.T.Clear.content g.T.Clear.room c.lane.inside.hand.table_id c.lane.inside.hand.me.0 c.lane.inside.state c.lane.invariant.1) in
     let none = c.in_default.ensures.none refl in
     taken-gives g.T.Clear.content g.T.Clear.room c.args.lane.now c.take_returned.new.lane c.follow.new.lane c.fill-in-Some-follow.new.lane sound none.1
     (subst (λ (lane : LaneOf). TakesReturned lane c.take_returned.new.lane) none.0 c.take_returned.ensures.takes)
@@ -28,7 +28,7 @@ returns-in-Some-follow-clause-gives g c =
 pub returns-in_err-open_page-clause-none : goal.returns-in_err-open_page-clause-none
 returns-in_err-open_page-clause-none g c = λ err.
     let sound : IsSound c.args.lane.now
-    = subst IsSound c.lane.view_is (sound-fits g.T.Clear.content g.T.Clear.room c.lane.inside.hand.table_id c.lane.inside.hand.me.0 c.lane.inside.shelf c.lane.invariant.1) in
+    = subst IsSound c.lane.view_is (sound-fits g.T.Clear.content g.T.Clear.room c.lane.inside.hand.table_id c.lane.inside.hand.me.0 c.lane.inside.state c.lane.invariant.1) in
     let none = c.in_default.ensures.none refl in
     let unfollowed = c.in_default-follow.ensures.none refl in
     let takes : TakesReturned c.args.lane.now c.take_returned.new.lane
@@ -39,7 +39,7 @@ returns-in_err-open_page-clause-none g c = λ err.
 pub returns-in_err-open_page-clause-succeeds : goal.returns-in_err-open_page-clause-succeeds
 returns-in_err-open_page-clause-succeeds g c = λ some.
     let sound : IsSound c.args.lane.now
-    = subst IsSound c.lane.view_is (sound-fits g.T.Clear.content g.T.Clear.room c.lane.inside.hand.table_id c.lane.inside.hand.me.0 c.lane.inside.shelf c.lane.invariant.1) in
+    = subst IsSound c.lane.view_is (sound-fits g.T.Clear.content g.T.Clear.room c.lane.inside.hand.table_id c.lane.inside.hand.me.0 c.lane.inside.state c.lane.invariant.1) in
     let none = c.in_default.ensures.none refl in
     let unfollowed = c.in_default-follow.ensures.none refl in
     let takes : TakesReturned c.args.lane.now c.take_returned.new.lane
@@ -52,7 +52,7 @@ returns-in_err-open_page-clause-succeeds g c = λ some.
 pub unreachable-requires : goal.unreachable-requires
 unreachable-requires g c =
     let sound : IsSound c.args.lane.now
-    = subst IsSound c.lane.view_is (sound-fits g.T.Clear.content g.T.Clear.room c.lane.inside.hand.table_id c.lane.inside.hand.me.0 c.lane.inside.shelf c.lane.invariant.1) in
+    = subst IsSound c.lane.view_is (sound-fits g.T.Clear.content g.T.Clear.room c.lane.inside.hand.table_id c.lane.inside.hand.me.0 c.lane.inside.state c.lane.invariant.1) in
     let none = c.in_default.ensures.none refl in
     let unfollowed = c.in_default-follow.ensures.none refl in
     let takes : TakesReturned c.args.lane.now c.take_returned.new.lane
@@ -65,7 +65,7 @@ unreachable-requires g c =
 pub returns-clause-gives : goal.returns-clause-gives
 returns-clause-gives g c =
     let sound : IsSound c.args.lane.now
-    = subst IsSound c.lane.view_is (sound-fits g.T.Clear.content g.T.Clear.room c.lane.inside.hand.table_id c.lane.inside.hand.me.0 c.lane.inside.shelf c.lane.invariant.1) in
+    = subst IsSound c.lane.view_is (sound-fits g.T.Clear.content g.T.Clear.room c.lane.inside.hand.table_id c.lane.inside.hand.me.0 c.lane.inside.state c.lane.invariant.1) in
     let none = c.in_default.ensures.none refl in
     let unfollowed = c.in_default-follow.ensures.none refl in
     let takes : TakesReturned c.args.lane.now c.take_returned.new.lane

@@ -5,28 +5,28 @@ use Rattle.keybits.specs.Keys.{place_of, generation_of}
 use Rattle.seqpool.specs.declared.act.Act.{Act}
 use Rattle.seqpool.specs.declared.act.Act.TheVariants as acts
 use Rattle.steplaws.specs.Calls.Call.{Publishing}
-use Rattle.shardpool.specs.declared.shelf.Row.{Row}
+use Rattle.shardpool.specs.declared.state.HeldKey.{HeldKey}
 use Rattle.shardpool.specs.Tokens.{LaneOf, FillingOf}
-use Rattle.shardpool.specs.Shelves.{Fits}
+use Rattle.shardpool.specs.LaneStates.{Fits}
 use Rattle.shardpool.specs.Lanes.{Made, Did, Calls}
-use Rattle.shardpool.proofs.Calling.{calls-more}
-use Rattle.shardpool.proofs.RowSteps.{rows-low}
-use Rattle.shardpool.proofs.Publishing.{published-did, published-held, published-one, published-others, published-held-with}
-use Rattle.shardpool.proofs.Laning.{lane_of}
+use Rattle.shardpool.proofs.calls.CallParts.{calls-more}
+use Rattle.shardpool.proofs.references.RowChanges.{rows-low}
+use Rattle.shardpool.proofs.calls.Publishes.{published-did, published-held, published-one, published-others, published-held-with}
+use Rattle.shardpool.proofs.frame.LaneFacts.{lane_of}
 use Rattle.shardpool.proofs.pool.Pool.downgrade.Given.{Over}
-use Rattle.shardpool.proofs.Holding.{publish-holds}
+use Rattle.shardpool.proofs.references.Holdings.{publish-holds}
 use Rattle.shardpool.proofs.pool.Pool.downgrade.Goals as goal
 
 module _ (g : Over) (c : goal.After-to g) where
   abbrev before : LaneOf
-  before = lane_of c.lane.inside.hand.table_id c.lane.inside.hand.me.0 c.lane.inside.shelf
+  before = lane_of c.lane.inside.hand.table_id c.lane.inside.hand.me.0 c.lane.inside.state
 
   -- the lane's shape is the pool's
-  shape : c.lane.inside.shelf.shape ≡ c.self.inside.grid.shape
+  shape : c.lane.inside.state.shape ≡ c.self.inside.grid.shape
   shape = ap (λ l. l.shape) c.lane.view_is ∙ (c.requires.owns.1 ∙ sym (ap (λ p. p.shape) c.self.view_is))
 
-  fits : Fits g.T.Clear.content g.T.Clear.room c.self.inside.grid.shape c.lane.inside.hand.me.0 c.lane.inside.shelf
-  fits = subst (λ (y : Shape). Fits g.T.Clear.content g.T.Clear.room y c.lane.inside.hand.me.0 c.lane.inside.shelf) shape c.lane.invariant.1
+  fits : Fits g.T.Clear.content g.T.Clear.room c.self.inside.grid.shape c.lane.inside.hand.me.0 c.lane.inside.state
+  fits = subst (λ (y : Shape). Fits g.T.Clear.content g.T.Clear.room y c.lane.inside.hand.me.0 c.lane.inside.state) shape c.lane.invariant.1
 
   -- the filling by its parts
   abbrev filling : FillingOf g.row.T.Denot
@@ -38,9 +38,9 @@ module _ (g : Over) (c : goal.After-to g) where
   was : Made before filling
   was = subst (λ (f : FillingOf g.row.T.Denot). Made before f) (sym same) (subst (λ (l : LaneOf). Made l c.args.filling) (sym c.lane.view_is) c.requires.made)
 
-pub begin-requires-clause-at : goal.begin-requires-clause-at
-begin-requires-clause-at g c =
-    let s = c.lane.inside.shelf in
+pub add_first_reference-requires-clause-at : goal.add_first_reference-requires-clause-at
+add_first_reference-requires-clause-at g c =
+    let s = c.lane.inside.state in
     let shape : s.shape ≡ c.self.inside.grid.shape = ap (λ l. l.shape) c.lane.view_is ∙ (c.requires.owns.1 ∙ sym (ap (λ p. p.shape) c.self.view_is)) in
     let fits = subst (λ (y : Shape). Fits g.T.Clear.content g.T.Clear.room y c.lane.inside.hand.me.0 s) shape c.lane.invariant.1 in
     let spot = c.spot-spot.ensures in
@@ -49,22 +49,22 @@ begin-requires-clause-at g c =
 pub invariant_of-lane : goal.invariant_of-lane
 invariant_of-lane g c =
     let z : Shape = c.self.inside.grid.shape in
-    let s = c.lane.inside.shelf in
+    let s = c.lane.inside.state in
     let told = c.downgrade-share.ensures in
     let share = c.downgrade-share.result in
-    let row : Row g.row.T.Denot = record { generation = generation_of c.spend-key.result.0; count = 1; share = Some share } in
+    let row : HeldKey g.row.T.Denot = record { generation = generation_of c.spend-key.result.0; count = 1; share = Some share } in
     let at : c.spot-spot.result.position ≡ position_of z (place_of c.spend-key.result.0) = c.spot-spot.ensures.position ∙ ap (position_of z) c.place_of.ensures.place in
-    let now = published-held-with s c.begin.new.shelf c.lane.inside.hand.table_id (filling g c) (g.T.Clear.content c.spend-key.result.1) true (fits g c) told.called.did told.called.idle told.acts (was g c)
-    c.begin.ensures.rest share refl told.share.0 told.share.1 (ap g.T.Clear.content told.share.2) told.slot told.cell
-    (c.begin.ensures.rows ∙ ap (λ (n : ℕ). slice_set s.rows.items n row) at) (ap (λ x. x.references) c.begin.ensures.rest) in
-    (told.called.did.held ∙ c.lane.invariant.0, subst (λ (y : Shape). Fits g.T.Clear.content g.T.Clear.room y c.downgrade-share.new.hand.me.0 c.begin.new.shelf) (sym now.shape_is) now)
+    let now = published-held-with s c.add_first_reference.new.state c.lane.inside.hand.table_id (filling g c) (g.T.Clear.content c.spend-key.result.1) true (fits g c) told.called.did told.called.idle told.acts (was g c)
+    c.add_first_reference.ensures.rest share refl told.share.0 told.share.1 (ap g.T.Clear.content told.share.2) told.slot told.cell
+    (c.add_first_reference.ensures.rows ∙ ap (λ (n : ℕ). slice_set s.rows.items n row) at) (ap (λ x. x.references) c.add_first_reference.ensures.rest) in
+    (told.called.did.held ∙ c.lane.invariant.0, subst (λ (y : Shape). Fits g.T.Clear.content g.T.Clear.room y c.downgrade-share.new.hand.me.0 c.add_first_reference.new.state) (sym now.shape_is) now)
 
 pub returns-clause-key : goal.returns-clause-key
 returns-clause-key g c =
-    let s = c.lane.inside.shelf in
+    let s = c.lane.inside.state in
     let told = c.downgrade-share.ensures in
-    let one = published-one s c.begin.new.shelf c.lane.inside.hand.table_id (filling g c) (g.T.Clear.content c.spend-key.result.1) true (fits g c) told.called.did told.called.idle told.acts (was g c)
-    c.begin.ensures.rest refl in
+    let one = published-one s c.add_first_reference.new.state c.lane.inside.hand.table_id (filling g c) (g.T.Clear.content c.spend-key.result.1) true (fits g c) told.called.did told.called.idle told.acts (was g c)
+    c.add_first_reference.ensures.rest refl in
     (c.to.ensures ∙ c.spend-key.ensures.0, rw (← c.spend-key.ensures.0) (omega (arith, one)))
 
 pub returns-clause-called : goal.returns-clause-called
@@ -76,27 +76,27 @@ returns-clause-called g c =
 
 pub returns-clause-publishes : goal.returns-clause-publishes
 returns-clause-publishes g c =
-    let s = c.lane.inside.shelf in
+    let s = c.lane.inside.state in
     let told = c.downgrade-share.ensures in
-    let did = published-did s c.begin.new.shelf c.lane.inside.hand.table_id (filling g c) (g.T.Clear.content c.spend-key.result.1) true (fits g c) told.called.did told.called.idle told.acts (was g c)
-    c.begin.ensures.rest c.downgrade-share.new.hand.table_id told.hand.0 in
+    let did = published-did s c.add_first_reference.new.state c.lane.inside.hand.table_id (filling g c) (g.T.Clear.content c.spend-key.result.1) true (fits g c) told.called.did told.called.idle told.acts (was g c)
+    c.add_first_reference.ensures.rest c.downgrade-share.new.hand.table_id told.hand.0 in
     let one : acts.Publish s.number c.spend-key.result.0 (g.T.Clear.content c.spend-key.result.1) true ≡ acts.Publish s.number c.args.filling.key (g.T.Clear.content c.args.filling.object) true
     = ap (λ (f : FillingOf g.row.T.Denot). acts.Publish s.number f.key (g.T.Clear.content f.object) true) (same g c) in
-    rw (← c.lane.view_is) (subst (λ (x : Act). Did (x ∷ []) (before g c) (lane_of c.downgrade-share.new.hand.table_id c.downgrade-share.new.hand.me.0 c.begin.new.shelf)) one did)
+    rw (← c.lane.view_is) (subst (λ (x : Act). Did (x ∷ []) (before g c) (lane_of c.downgrade-share.new.hand.table_id c.downgrade-share.new.hand.me.0 c.add_first_reference.new.state)) one did)
 
 pub returns-clause-refs : goal.returns-clause-refs
 returns-clause-refs g c =
-    let s = c.lane.inside.shelf in
+    let s = c.lane.inside.state in
     let told = c.downgrade-share.ensures in
-    rw (← c.lane.view_is) (published-held s c.begin.new.shelf c.lane.inside.hand.table_id (filling g c) (g.T.Clear.content c.spend-key.result.1) true (fits g c) told.called.did told.called.idle told.acts (was g c)
-    c.begin.ensures.rest)
+    rw (← c.lane.view_is) (published-held s c.add_first_reference.new.state c.lane.inside.hand.table_id (filling g c) (g.T.Clear.content c.spend-key.result.1) true (fits g c) told.called.did told.called.idle told.acts (was g c)
+    c.add_first_reference.ensures.rest)
 
 pub returns-clause-fillings : goal.returns-clause-fillings
 returns-clause-fillings g c other differs is =
-    let s = c.lane.inside.shelf in
+    let s = c.lane.inside.state in
     let told = c.downgrade-share.ensures in
-    published-others s c.begin.new.shelf c.lane.inside.hand.table_id (filling g c) (g.T.Clear.content c.spend-key.result.1) true (fits g c) told.called.did told.called.idle told.acts (was g c)
-    c.begin.ensures.rest c.downgrade-share.new.hand.table_id told.hand.0 other (λ e. differs (e ∙ c.spend-key.ensures.0)) (subst (λ (l : LaneOf). Made l other) (sym c.lane.view_is) is)
+    published-others s c.add_first_reference.new.state c.lane.inside.hand.table_id (filling g c) (g.T.Clear.content c.spend-key.result.1) true (fits g c) told.called.did told.called.idle told.acts (was g c)
+    c.add_first_reference.ensures.rest c.downgrade-share.new.hand.table_id told.hand.0 other (λ e. differs (e ∙ c.spend-key.ensures.0)) (subst (λ (l : LaneOf). Made l other) (sym c.lane.view_is) is)
 
 pub returns-clause-one_more : goal.returns-clause-one_more
 returns-clause-one_more g c = publish-holds c.requires.made.place (returns-clause-publishes g c)

@@ -10,9 +10,9 @@ use Rattle.poolsteps.specs.Views.{the_lane}
 use Rattle.poolsteps.specs.Told.{Sees, MayPublish}
 use Rattle.shardpool.specs.Tokens.{LaneOf, FillingOf}
 use Rattle.shardpool.specs.Creates.{IsLoose, Fills}
-use Rattle.shardpool.proofs.Passing.{passes-sees}
-use Rattle.shardpool.proofs.Seeing.{has-not, made-still, same-shape, same-chain, still-idle, fits-sees}
-use Rattle.shardpool.proofs.Looking.{bare-sees, filled}
+use Rattle.shardpool.proofs.frame.LaneFrames.{passes-sees}
+use Rattle.shardpool.proofs.frame.SeenHistories.{has-not, made-still, same-shape, same-chain, still-idle, fits-sees}
+use Rattle.shardpool.proofs.frame.Looks.{bare-sees, filled}
 use Rattle.shardpool.proofs.pool.Pool.fill.Goals as goal
 
 pub next_key-key-requires-clause-unchained : goal.next_key-key-requires-clause-unchained
@@ -38,11 +38,11 @@ returns-clause-fills g c =
     let may = subst (λ (z : Shape). MayPublish z c.next_key-key.new.hand.me.0 c.next_key-key.result) shape c.next_key-key.ensures.may in
     let was : LaneOf = record {
       table = c.lane.inside.hand.table_id;
-      shape = c.lane.inside.shelf.shape;
-      number = c.lane.inside.shelf.number;
+      shape = c.lane.inside.state.shape;
+      number = c.lane.inside.state.number;
       book = c.lane.inside.hand.me.0;
-      free = c.lane.inside.shelf.free;
-      pages = c.lane.inside.shelf.pages;
+      free = c.lane.inside.state.free;
+      pages = c.lane.inside.state.pages;
     } in
     let new : LaneOf = record was { table = c.next_key-key.new.hand.table_id; book = c.next_key-key.new.hand.me.0 } in
     let loose = subst (λ (lane : LaneOf). IsLoose content room lane c.args.place c.args.object) (sym c.lane.view_is) c.requires.loose in

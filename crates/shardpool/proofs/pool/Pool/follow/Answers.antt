@@ -3,26 +3,26 @@ use Rattle.std.proofs.Common.{◌≡◌, Some, sym, ◌∙◌, subst}
 use Rattle.shardpool.specs.Tokens.{LaneOf}
 use Rattle.shardpool.specs.Lanes.{Made}
 use Rattle.shardpool.specs.Creates.{FollowsChain}
-use Rattle.shardpool.proofs.Laning.{lane_of}
-use Rattle.shardpool.proofs.Taking.{follows-here, hung-inside, follow-goes, followed-fits, followed-chain, followed-fillings}
+use Rattle.shardpool.proofs.frame.LaneFacts.{lane_of}
+use Rattle.shardpool.proofs.free.Takes.{follows-here, hung-inside, follow-goes, followed-fits, followed-chain, followed-fillings}
 use Rattle.shardpool.proofs.pool.Pool.follow.Goals as goal
 
 pub number-requires-clause-page : goal.number-requires-clause-page
 number-requires-clause-page g c =
     let fits = c.lane.invariant.1 in
-    let hung : c.lane.inside.shelf.free.chain ≡ Some c.in_ok-first.first = sym c.chain.ensures.first ∙ c.in_ok-first.was in
+    let hung : c.lane.inside.state.free.chain ≡ Some c.in_ok-first.first = sym c.chain.ensures.first ∙ c.in_ok-first.was in
     (hung-inside fits hung c.chain.ensures.places).low_page
 
 pub number-requires-clause-slot : goal.number-requires-clause-slot
 number-requires-clause-slot g c =
     let fits = c.lane.invariant.1 in
-    let hung : c.lane.inside.shelf.free.chain ≡ Some c.in_ok-first.first = sym c.chain.ensures.first ∙ c.in_ok-first.was in
+    let hung : c.lane.inside.state.free.chain ≡ Some c.in_ok-first.first = sym c.chain.ensures.first ∙ c.in_ok-first.was in
     (hung-inside fits hung c.chain.ensures.places).low_slot
 
 pub follow-requires-clause-link : goal.follow-requires-clause-link
 follow-requires-clause-link g c =
     let fits = c.lane.invariant.1 in
-    let hung : c.lane.inside.shelf.free.chain ≡ Some c.in_ok-first.first = sym c.chain.ensures.first ∙ c.in_ok-first.was in
+    let hung : c.lane.inside.state.free.chain ≡ Some c.in_ok-first.first = sym c.chain.ensures.first ∙ c.in_ok-first.was in
     let at = c.spot-spot.ensures.place_is ∙ c.number.ensures in
     let follows = follows-here c.lane.view_is c.requires.owns.1 c.self.view_is c.follow-link.ensures.follows in
     follow-goes fits hung at follows
@@ -30,7 +30,7 @@ follow-requires-clause-link g c =
 pub invariant_of-lane : goal.invariant_of-lane
 invariant_of-lane g c =
     let fits = c.lane.invariant.1 in
-    let hung : c.lane.inside.shelf.free.chain ≡ Some c.in_ok-first.first = sym c.chain.ensures.first ∙ c.in_ok-first.was in
+    let hung : c.lane.inside.state.free.chain ≡ Some c.in_ok-first.first = sym c.chain.ensures.first ∙ c.in_ok-first.was in
     let at = c.spot-spot.ensures.place_is ∙ c.number.ensures in
     let follows = follows-here c.lane.view_is c.requires.owns.1 c.self.view_is c.follow-link.ensures.follows in
     (c.follow-link.ensures.follows.held ∙ c.lane.invariant.0, followed-fits fits hung at follows c.follow.ensures.rest c.follow.ensures.ends c.follow.ensures.goes_on)
@@ -38,17 +38,17 @@ invariant_of-lane g c =
 pub returns-clause-some : goal.returns-clause-some
 returns-clause-some g c =
     let fits = c.lane.invariant.1 in
-    let hung : c.lane.inside.shelf.free.chain ≡ Some c.in_ok-first.first = sym c.chain.ensures.first ∙ c.in_ok-first.was in
+    let hung : c.lane.inside.state.free.chain ≡ Some c.in_ok-first.first = sym c.chain.ensures.first ∙ c.in_ok-first.was in
     let at = c.spot-spot.ensures.place_is ∙ c.number.ensures in
     let follows = follows-here c.lane.view_is c.requires.owns.1 c.self.view_is c.follow-link.ensures.follows in
-    let new : LaneOf = lane_of c.follow-link.new.hand.table_id c.follow-link.new.hand.me.0 (record c.lane.inside.shelf { free = c.follow.new.self }) in
+    let new : LaneOf = lane_of c.follow-link.new.hand.table_id c.follow-link.new.hand.me.0 (record c.lane.inside.state { free = c.follow.new.self }) in
     subst (λ (lane : LaneOf). FollowsChain g.T.Clear.content g.T.Clear.room lane new c.spot-spot.result.place c.follow-link.result.1) c.lane.view_is
     (followed-chain fits hung at follows c.follow.ensures.rest c.lane.inside.hand.table_id c.follow-link.new.hand.table_id c.follow-link.ensures.hand.0 c.follow-link.ensures.cell)
 
 pub returns-clause-fillings : goal.returns-clause-fillings
 returns-clause-fillings g c = λ filling made.
     let fits = c.lane.invariant.1 in
-    let hung : c.lane.inside.shelf.free.chain ≡ Some c.in_ok-first.first = sym c.chain.ensures.first ∙ c.in_ok-first.was in
+    let hung : c.lane.inside.state.free.chain ≡ Some c.in_ok-first.first = sym c.chain.ensures.first ∙ c.in_ok-first.was in
     let at = c.spot-spot.ensures.place_is ∙ c.number.ensures in
     let follows = follows-here c.lane.view_is c.requires.owns.1 c.self.view_is c.follow-link.ensures.follows in
     followed-fillings fits hung at follows c.follow.ensures.rest c.lane.inside.hand.table_id c.follow-link.new.hand.table_id c.follow-link.ensures.hand.0 filling

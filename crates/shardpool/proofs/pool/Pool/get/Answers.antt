@@ -3,12 +3,12 @@ use Rattle.std.proofs.Common.{◌≡◌, ℕ, refl, ◌∙◌, subst, arith}
 use Rattle.sharelaws.specs.declared.stored.Status.TheVariants.{Untouched}
 use Rattle.poolsteps.specs.Moved.{Outs}
 use Rattle.poolcalls.proofs.Moves.{carries-out}
-use Rattle.shardpool.proofs.Calling.{calls-more}
-use Rattle.shardpool.proofs.Getting.{called-then, seen-within}
-use Rattle.shardpool.proofs.Halting.{fits-own}
-use Rattle.shardpool.proofs.Holding.{get-holds, got-held}
-use Rattle.shardpool.proofs.Ready.{ready, ready-low, missed-away, missed, hit-touches, hit-untouched, gained-again, gained-first}
-use Rattle.shardpool.proofs.RowSteps.{rows-count-le}
+use Rattle.shardpool.proofs.calls.CallParts.{calls-more}
+use Rattle.shardpool.proofs.calls.Gets.{called-then, seen-within}
+use Rattle.shardpool.proofs.calls.Halts.{fits-own}
+use Rattle.shardpool.proofs.references.Holdings.{get-holds, got-held}
+use Rattle.shardpool.proofs.calls.KeyCalls.{ready, ready-low, missed-away, missed, hit-touches, hit-untouched, gained-again, gained-first}
+use Rattle.shardpool.proofs.references.RowChanges.{rows-count-le}
 use Rattle.shardpool.proofs.pool.Pool.get.Goals as goal
 
 pub get-got-requires-clause-room : goal.get-got-requires-clause-room
@@ -28,7 +28,7 @@ keep_reclaimed-requires-clause-away g c =
 pub invariant_of-lane : goal.invariant_of-lane
 invariant_of-lane g c =
     let before = ready c.lane.view_is c.requires.owns.1 c.self.view_is c.lane.invariant.1 c.in_ok-spot.ensures.spot in
-    let left = missed before c.in-Miss.reclaimed c.keep_reclaimed.new.shelf c.keep_reclaimed.ensures c.in-Miss.ensures.called c.in-Miss.ensures.got in
+    let left = missed before c.in-Miss.reclaimed c.keep_reclaimed.new.state c.keep_reclaimed.ensures c.in-Miss.ensures.called c.in-Miss.ensures.got in
     (c.in-Miss.ensures.called.did.held ∙ c.lane.invariant.0, fits-own left.fits)
 
 pub returns-in-Miss-clause-called : goal.returns-in-Miss-clause-called
@@ -38,19 +38,19 @@ returns-in-Miss-clause-called g c key =
 pub returns-in-Miss-clause-gets : goal.returns-in-Miss-clause-gets
 returns-in-Miss-clause-gets g c key =
     let before = ready c.lane.view_is c.requires.owns.1 c.self.view_is c.lane.invariant.1 c.in_ok-spot.ensures.spot in
-    let left = missed before c.in-Miss.reclaimed c.keep_reclaimed.new.shelf c.keep_reclaimed.ensures c.in-Miss.ensures.called c.in-Miss.ensures.got in
+    let left = missed before c.in-Miss.reclaimed c.keep_reclaimed.new.state c.keep_reclaimed.ensures c.in-Miss.ensures.called c.in-Miss.ensures.got in
     rw (← c.lane.view_is) (left.did c.lane.inside.hand.table_id c.get-got.new.hand.table_id c.in-Miss.ensures.hand.0)
 
 pub returns-in-Miss-clause-refs : goal.returns-in-Miss-clause-refs
 returns-in-Miss-clause-refs g c =
     let before = ready c.lane.view_is c.requires.owns.1 c.self.view_is c.lane.invariant.1 c.in_ok-spot.ensures.spot in
-    let left = missed before c.in-Miss.reclaimed c.keep_reclaimed.new.shelf c.keep_reclaimed.ensures c.in-Miss.ensures.called c.in-Miss.ensures.got in
+    let left = missed before c.in-Miss.reclaimed c.keep_reclaimed.new.state c.keep_reclaimed.ensures c.in-Miss.ensures.called c.in-Miss.ensures.got in
     let same = left.refs in rw (← c.lane.view_is) (omega (arith, same))
 
 pub returns-in-Miss-clause-fillings : goal.returns-in-Miss-clause-fillings
 returns-in-Miss-clause-fillings g c filling =
     let before = ready c.lane.view_is c.requires.owns.1 c.self.view_is c.lane.invariant.1 c.in_ok-spot.ensures.spot in
-    let left = missed before c.in-Miss.reclaimed c.keep_reclaimed.new.shelf c.keep_reclaimed.ensures c.in-Miss.ensures.called c.in-Miss.ensures.got in
+    let left = missed before c.in-Miss.reclaimed c.keep_reclaimed.new.state c.keep_reclaimed.ensures c.in-Miss.ensures.called c.in-Miss.ensures.got in
     rw (← c.lane.view_is) (left.fillings c.lane.inside.hand.table_id c.get-got.new.hand.table_id c.in-Miss.ensures.hand.0 filling)
 
 -- ---- a hit, of a key that the lane has
@@ -60,21 +60,21 @@ index-requires g c =
     let before = ready c.lane.view_is c.requires.owns.1 c.self.view_is c.lane.invariant.1 c.in_ok-spot.ensures.spot in
     let low = ready-low before in omega (arith, low)
 
-pub go_on-requires-clause-at : goal.go_on-requires-clause-at
-go_on-requires-clause-at g c =
+pub add_reference-requires-clause-at : goal.add_reference-requires-clause-at
+add_reference-requires-clause-at g c =
     let before = ready c.lane.view_is c.requires.owns.1 c.self.view_is c.lane.invariant.1 c.in_ok-spot.ensures.spot in
     ready-low before
 
-pub go_on-requires-clause-within : goal.go_on-requires-clause-within
-go_on-requires-clause-within g c row stands =
+pub add_reference-requires-clause-within : goal.add_reference-requires-clause-within
+add_reference-requires-clause-within g c row stands =
     let before = ready c.lane.view_is c.requires.owns.1 c.self.view_is c.lane.invariant.1 c.in_ok-spot.ensures.spot in
     rows-count-le c.in_ok-spot.spot.position row before.fits.rows stands
 
 pub invariant_of-lane-then-index-gt0 : goal.invariant_of-lane-then-index-gt0
 invariant_of-lane-then-index-gt0 g c =
     let before = ready c.lane.view_is c.requires.owns.1 c.self.view_is c.lane.invariant.1 c.in_ok-spot.ensures.spot in
-    let left = gained-again before c.in-Hit.ensures.called c.in-Hit.ensures.got c.index.result.now c.index.ensures c.go_on.new.shelf c.go_on.ensures.rest c.if-index-gt0.true
-    c.go_on.ensures.rows in
+    let left = gained-again before c.in-Hit.ensures.called c.in-Hit.ensures.got c.index.result.now c.index.ensures c.add_reference.new.state c.add_reference.ensures.rest c.if-index-gt0.true
+    c.add_reference.ensures.rows in
     (c.in-Hit.ensures.called.did.held ∙ c.lane.invariant.0, fits-own left.fits)
 
 pub returns-then-index-gt0-clause-called : goal.returns-then-index-gt0-clause-called
@@ -84,22 +84,22 @@ returns-then-index-gt0-clause-called g c key =
 pub returns-then-index-gt0-clause-gets : goal.returns-then-index-gt0-clause-gets
 returns-then-index-gt0-clause-gets g c key =
     let before = ready c.lane.view_is c.requires.owns.1 c.self.view_is c.lane.invariant.1 c.in_ok-spot.ensures.spot in
-    let left = gained-again before c.in-Hit.ensures.called c.in-Hit.ensures.got c.index.result.now c.index.ensures c.go_on.new.shelf c.go_on.ensures.rest c.if-index-gt0.true
-    c.go_on.ensures.rows in
+    let left = gained-again before c.in-Hit.ensures.called c.in-Hit.ensures.got c.index.result.now c.index.ensures c.add_reference.new.state c.add_reference.ensures.rest c.if-index-gt0.true
+    c.add_reference.ensures.rows in
     rw (← c.lane.view_is) (c.to.ensures, left.holds, c.in-Hit.ensures.got.0, left.did c.lane.inside.hand.table_id c.get-got.new.hand.table_id c.in-Hit.ensures.hand.0)
 
 pub returns-then-index-gt0-clause-refs : goal.returns-then-index-gt0-clause-refs
 returns-then-index-gt0-clause-refs g c =
     let before = ready c.lane.view_is c.requires.owns.1 c.self.view_is c.lane.invariant.1 c.in_ok-spot.ensures.spot in
-    let left = gained-again before c.in-Hit.ensures.called c.in-Hit.ensures.got c.index.result.now c.index.ensures c.go_on.new.shelf c.go_on.ensures.rest c.if-index-gt0.true
-    c.go_on.ensures.rows in
+    let left = gained-again before c.in-Hit.ensures.called c.in-Hit.ensures.got c.index.result.now c.index.ensures c.add_reference.new.state c.add_reference.ensures.rest c.if-index-gt0.true
+    c.add_reference.ensures.rows in
     rw (← c.lane.view_is) left.refs
 
 pub returns-then-index-gt0-clause-fillings : goal.returns-then-index-gt0-clause-fillings
 returns-then-index-gt0-clause-fillings g c filling =
     let before = ready c.lane.view_is c.requires.owns.1 c.self.view_is c.lane.invariant.1 c.in_ok-spot.ensures.spot in
-    let left = gained-again before c.in-Hit.ensures.called c.in-Hit.ensures.got c.index.result.now c.index.ensures c.go_on.new.shelf c.go_on.ensures.rest c.if-index-gt0.true
-    c.go_on.ensures.rows in
+    let left = gained-again before c.in-Hit.ensures.called c.in-Hit.ensures.got c.index.result.now c.index.ensures c.add_reference.new.state c.add_reference.ensures.rest c.if-index-gt0.true
+    c.add_reference.ensures.rows in
     rw (← c.lane.view_is) (left.fillings c.lane.inside.hand.table_id c.get-got.new.hand.table_id c.in-Hit.ensures.hand.0 filling)
 
 -- ---- a hit, of a key that the lane has not yet
@@ -116,8 +116,8 @@ out-share-requires-clause-left g c =
     let none : c.index.result.now.count ≡ 0 = omega (arith, some) in
     hit-untouched before c.in-Hit.ensures.called c.in-Hit.ensures.got c.index.result.now c.index.ensures none
 
-pub begin-requires-clause-at : goal.begin-requires-clause-at
-begin-requires-clause-at g c =
+pub add_first_reference-requires-clause-at : goal.add_first_reference-requires-clause-at
+add_first_reference-requires-clause-at g c =
     let before = ready c.lane.view_is c.requires.owns.1 c.self.view_is c.lane.invariant.1 c.in_ok-spot.ensures.spot in
     ready-low before
 
@@ -126,14 +126,14 @@ invariant_of-lane-2 g c =
     let before = ready c.lane.view_is c.requires.owns.1 c.self.view_is c.lane.invariant.1 c.in_ok-spot.ensures.spot in
     let some = c.if-index-gt0.false in
     let none : c.index.result.now.count ≡ 0 = omega (arith, some) in
-    let left = gained-first before c.in-Hit.ensures.called c.in-Hit.ensures.got c.index.result.now c.index.ensures c.begin.new.shelf c.begin.ensures.rest none c.out-share.ensures.outs
-    c.begin.ensures.rows in
+    let left = gained-first before c.in-Hit.ensures.called c.in-Hit.ensures.got c.index.result.now c.index.ensures c.add_first_reference.new.state c.add_first_reference.ensures.rest none c.out-share.ensures.outs
+    c.add_first_reference.ensures.rows in
     (c.out-share.ensures.outs.held ∙ (c.in-Hit.ensures.called.did.held ∙ c.lane.invariant.0), fits-own left.fits)
 
 pub returns-clause-called : goal.returns-clause-called
 returns-clause-called g c key =
     let there = c.in_ok-spot.ensures.spot in
-    let outs = subst (λ (p : ℕ). Outs g.T.Clear.content g.T.Clear.room c.self.inside.grid.shape p c.lane.inside.shelf.number Untouched c.get-got.new.hand.me c.out-share.result c.out-share.new.hand.me)
+    let outs = subst (λ (p : ℕ). Outs g.T.Clear.content g.T.Clear.room c.self.inside.grid.shape p c.lane.inside.state.number Untouched c.get-got.new.hand.me c.out-share.result c.out-share.new.hand.me)
     there.place_is c.out-share.ensures.outs in
     rw (← c.self.view_is, ← c.lane.view_is) (calls-more (called-then c.in-Hit.ensures.called (carries-out outs)) (omega arith))
 
@@ -142,8 +142,8 @@ returns-clause-gets g c key =
     let before = ready c.lane.view_is c.requires.owns.1 c.self.view_is c.lane.invariant.1 c.in_ok-spot.ensures.spot in
     let some = c.if-index-gt0.false in
     let none : c.index.result.now.count ≡ 0 = omega (arith, some) in
-    let left = gained-first before c.in-Hit.ensures.called c.in-Hit.ensures.got c.index.result.now c.index.ensures c.begin.new.shelf c.begin.ensures.rest none c.out-share.ensures.outs
-    c.begin.ensures.rows in
+    let left = gained-first before c.in-Hit.ensures.called c.in-Hit.ensures.got c.index.result.now c.index.ensures c.add_first_reference.new.state c.add_first_reference.ensures.rest none c.out-share.ensures.outs
+    c.add_first_reference.ensures.rows in
     rw (← c.lane.view_is)
     (c.to-2.ensures, left.holds, c.in-Hit.ensures.got.0, left.did c.lane.inside.hand.table_id c.out-share.new.hand.table_id (c.out-share.ensures.hand.0 ∙ c.in-Hit.ensures.hand.0))
 
@@ -152,8 +152,8 @@ returns-clause-refs g c =
     let before = ready c.lane.view_is c.requires.owns.1 c.self.view_is c.lane.invariant.1 c.in_ok-spot.ensures.spot in
     let some = c.if-index-gt0.false in
     let none : c.index.result.now.count ≡ 0 = omega (arith, some) in
-    let left = gained-first before c.in-Hit.ensures.called c.in-Hit.ensures.got c.index.result.now c.index.ensures c.begin.new.shelf c.begin.ensures.rest none c.out-share.ensures.outs
-    c.begin.ensures.rows in
+    let left = gained-first before c.in-Hit.ensures.called c.in-Hit.ensures.got c.index.result.now c.index.ensures c.add_first_reference.new.state c.add_first_reference.ensures.rest none c.out-share.ensures.outs
+    c.add_first_reference.ensures.rows in
     rw (← c.lane.view_is) left.refs
 
 pub returns-clause-fillings : goal.returns-clause-fillings
@@ -161,8 +161,8 @@ returns-clause-fillings g c filling =
     let before = ready c.lane.view_is c.requires.owns.1 c.self.view_is c.lane.invariant.1 c.in_ok-spot.ensures.spot in
     let some = c.if-index-gt0.false in
     let none : c.index.result.now.count ≡ 0 = omega (arith, some) in
-    let left = gained-first before c.in-Hit.ensures.called c.in-Hit.ensures.got c.index.result.now c.index.ensures c.begin.new.shelf c.begin.ensures.rest none c.out-share.ensures.outs
-    c.begin.ensures.rows in
+    let left = gained-first before c.in-Hit.ensures.called c.in-Hit.ensures.got c.index.result.now c.index.ensures c.add_first_reference.new.state c.add_first_reference.ensures.rest none c.out-share.ensures.outs
+    c.add_first_reference.ensures.rows in
     rw (← c.lane.view_is)
     (left.fillings c.lane.inside.hand.table_id c.out-share.new.hand.table_id (c.out-share.ensures.hand.0 ∙ c.in-Hit.ensures.hand.0) filling)
 

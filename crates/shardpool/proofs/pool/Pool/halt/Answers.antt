@@ -7,7 +7,7 @@ use Rattle.shardpool.specs.declared.halt.LastCall.{LastCall}
 use Rattle.shardpool.specs.declared.halt.LastCall.TheVariants.{Get, Clear, Release, Create}
 use Rattle.shardpool.specs.Creates.{creating}
 use Rattle.shardpool.specs.Halts.{HaltedOf, HaltsIn}
-use Rattle.shardpool.proofs.Halting.{halts-by}
+use Rattle.shardpool.proofs.calls.Halts.{halts-by}
 use Rattle.shardpool.proofs.pool.Pool.halt.Goals.{in-Get, in-Clear, in-Release, in-Create}
 use Rattle.shardpool.proofs.pool.Pool.halt.Goals as goal
 
@@ -17,7 +17,7 @@ returns-clause-halts g c =
     let z = c.args.self.now.shape in
     let limit : ℕ = c.args.limit in
     let last = c.match-call.hand.me.0 in
-    let halted : HaltedOf = record { table = c.match-call.hand.table_id; shape = c.match-call.shelf.shape; number = c.match-call.shelf.number; book = last } in
+    let halted : HaltedOf = record { table = c.match-call.hand.table_id; shape = c.match-call.state.shape; number = c.match-call.state.number; book = last } in
     let before = ap (λ l. l.book) c.lane.view_is in
     let shape = c.requires.owns.1 in elim c.match-call.branch [
       | in-Get w ↦

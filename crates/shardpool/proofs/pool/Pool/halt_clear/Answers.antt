@@ -2,7 +2,7 @@
 use Rattle.std.proofs.Common.{false, true, ◌≡◌}
 use Rattle.steplaws.specs.Calls.Call.{Clearing}
 use Rattle.poolcalls.specs.Called.{caller_of}
-use Rattle.shardpool.proofs.Halting.{halts-none, outside-none}
+use Rattle.shardpool.proofs.calls.Halts.{halts-none, outside-none}
 use Rattle.shardpool.proofs.pool.Pool.halt_clear.Goals as goal
 
 pub returns-in_default-clause-called : goal.returns-in_default-clause-called

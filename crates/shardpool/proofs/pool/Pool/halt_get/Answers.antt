@@ -5,8 +5,8 @@ use Rattle.steplaws.specs.Calls.Call.{Getting}
 use Rattle.steplaws.specs.Facts.{most_references}
 use Rattle.poolsteps.specs.Told.{references_seen}
 use Rattle.poolcalls.specs.Called.{caller_of}
-use Rattle.shardpool.proofs.Getting.{seen-within}
-use Rattle.shardpool.proofs.Halting.{halts-none, outside-none}
+use Rattle.shardpool.proofs.calls.Gets.{seen-within}
+use Rattle.shardpool.proofs.calls.Halts.{halts-none, outside-none}
 use Rattle.shardpool.proofs.pool.Pool.halt_get.Goals as goal
 
 pub returns-in_default-clause-called : goal.returns-in_default-clause-called

@@ -4,34 +4,34 @@ use Rattle.keybits.specs.declared.shape.Shape.{Shape}
 use Rattle.steplaws.specs.Calls.Call.{Releasing}
 use Rattle.poolsteps.specs.Grids.{IsSpot}
 use Rattle.poolcalls.specs.Halted.{CalledWithin}
-use Rattle.shardpool.proofs.Releasing.{lent-some, lent-share, lent-at}
-use Rattle.shardpool.proofs.Halting.{halts-behind, refers-parts}
+use Rattle.shardpool.proofs.calls.Releases.{lent-some, lent-share, lent-at}
+use Rattle.shardpool.proofs.calls.Halts.{halts-behind, refers-parts}
 use Rattle.shardpool.proofs.pool.Pool.halt_release.Goals as goal
 
-pub lend_home-requires-clause-fits : goal.lend_home-requires-clause-fits
-lend_home-requires-clause-fits g c = (refers-parts c.self.view_is c.requires.parts c.requires.held).fits
+pub return_last_share-requires-clause-fits : goal.return_last_share-requires-clause-fits
+return_last_share-requires-clause-fits g c = (refers-parts c.self.view_is c.requires.parts c.requires.held).fits
 
-pub lend_home-requires-clause-held : goal.lend_home-requires-clause-held
-lend_home-requires-clause-held g c = (refers-parts c.self.view_is c.requires.parts c.requires.held).some
+pub return_last_share-requires-clause-held : goal.return_last_share-requires-clause-held
+return_last_share-requires-clause-held g c = (refers-parts c.self.view_is c.requires.parts c.requires.held).some
 
 pub release_within-requires-clause-held : goal.release_within-requires-clause-held
 release_within-requires-clause-held g c =
     let refers = refers-parts c.self.view_is c.requires.parts c.requires.held in
     let some = refers.some in
-    let same = lent-some refers c.lend_home.ensures.lends in omega (arith, same, some)
+    let same = lent-some refers c.return_last_share.ensures.lends in omega (arith, same, some)
 
 pub release_within-requires-clause-share : goal.release_within-requires-clause-share
 release_within-requires-clause-share g c below =
-    lent-share (refers-parts c.self.view_is c.requires.parts c.requires.held) c.lend_home.ensures.lends
+    lent-share (refers-parts c.self.view_is c.requires.parts c.requires.held) c.return_last_share.ensures.lends
 
 pub release_within-requires-clause-at : goal.release_within-requires-clause-at
 release_within-requires-clause-at g c =
     let refers = refers-parts c.self.view_is c.requires.parts c.requires.held in
     let spot = subst (IsSpot c.self.inside.grid.shape c.spot-spot.result) c.place_of.ensures.place c.spot-spot.ensures in
-    lent-at refers c.lend_home.ensures.lends _ spot refl c.top-top.ensures
+    lent-at refers c.return_last_share.ensures.lends _ spot refl c.top-top.ensures
 
 pub returns-clause-called : goal.returns-clause-called
 returns-clause-called g c =
-    let lends = c.lend_home.ensures.lends in
+    let lends = c.return_last_share.ensures.lends in
     subst (λ (z : Shape). CalledWithin z (Releasing c.args.key) c.args.limit c.args.hand.now.me c.release_within.new.hand.me) (ap (λ p. p.shape) c.self.view_is)
     (halts-behind lends.did lends.pushed c.release_within.ensures.called)

@@ -2,9 +2,9 @@
 use Rattle.std.proofs.Common.{refl, ◌∙◌, subst}
 use Rattle.keybits.specs.declared.shape.Shape.{Shape}
 use Rattle.poolsteps.specs.Told.{Sees}
-use Rattle.shardpool.proofs.Passing.{passes-sees}
-use Rattle.shardpool.proofs.Seeing.{same-shape, fits-sees, did-none, made-still, still-idle, same-chain}
-use Rattle.shardpool.proofs.Holding.{did-none-refs}
+use Rattle.shardpool.proofs.frame.LaneFrames.{passes-sees}
+use Rattle.shardpool.proofs.frame.SeenHistories.{same-shape, fits-sees, did-none, made-still, still-idle, same-chain}
+use Rattle.shardpool.proofs.references.Holdings.{did-none-refs}
 use Rattle.shardpool.proofs.pool.Pool.hear.Goals as goal
 
 pub invariant_of-lane : goal.invariant_of-lane

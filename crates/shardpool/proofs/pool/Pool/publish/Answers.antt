@@ -3,24 +3,24 @@ use Rattle.keybits.specs.declared.shape.Shape.{Shape}
 use Rattle.seqpool.specs.declared.act.Act.{Act}
 use Rattle.seqpool.specs.declared.act.Act.TheVariants as acts
 use Rattle.shardpool.specs.Tokens.{LaneOf, FillingOf}
-use Rattle.shardpool.specs.Shelves.{Fits}
+use Rattle.shardpool.specs.LaneStates.{Fits}
 use Rattle.shardpool.specs.Lanes.{Made, Did}
-use Rattle.shardpool.proofs.Publishing.{published-did, published-held, published-others, published-alone}
-use Rattle.shardpool.proofs.Laning.{lane_of}
+use Rattle.shardpool.proofs.calls.Publishes.{published-did, published-held, published-others, published-alone}
+use Rattle.shardpool.proofs.frame.LaneFacts.{lane_of}
 use Rattle.shardpool.proofs.pool.Pool.publish.Given.{Over}
-use Rattle.shardpool.proofs.Holding.{publish-alone}
+use Rattle.shardpool.proofs.references.Holdings.{publish-alone}
 use Rattle.shardpool.proofs.pool.Pool.publish.Goals as goal
 
 module _ (g : Over) (c : goal.After-publish g) where
   abbrev before : LaneOf
-  before = lane_of c.lane.inside.hand.table_id c.lane.inside.hand.me.0 c.lane.inside.shelf
+  before = lane_of c.lane.inside.hand.table_id c.lane.inside.hand.me.0 c.lane.inside.state
 
   -- the lane's shape is the pool's
-  shape : c.lane.inside.shelf.shape ≡ c.self.inside.grid.shape
+  shape : c.lane.inside.state.shape ≡ c.self.inside.grid.shape
   shape = ap (λ l. l.shape) c.lane.view_is ∙ (c.requires.owns.1 ∙ sym (ap (λ p. p.shape) c.self.view_is))
 
-  fits : Fits g.T.Clear.content g.T.Clear.room c.self.inside.grid.shape c.lane.inside.hand.me.0 c.lane.inside.shelf
-  fits = subst (λ (y : Shape). Fits g.T.Clear.content g.T.Clear.room y c.lane.inside.hand.me.0 c.lane.inside.shelf) shape c.lane.invariant.1
+  fits : Fits g.T.Clear.content g.T.Clear.room c.self.inside.grid.shape c.lane.inside.hand.me.0 c.lane.inside.state
+  fits = subst (λ (y : Shape). Fits g.T.Clear.content g.T.Clear.room y c.lane.inside.hand.me.0 c.lane.inside.state) shape c.lane.invariant.1
 
   -- the filling by its parts
   abbrev filling : FillingOf g.row.T.Denot
@@ -34,14 +34,14 @@ module _ (g : Over) (c : goal.After-publish g) where
 
 pub invariant_of-lane : goal.invariant_of-lane
 invariant_of-lane g c =
-    let s = c.lane.inside.shelf in
+    let s = c.lane.inside.state in
     let told = c.publish.ensures in
     let now = published-alone s s c.lane.inside.hand.table_id (filling g c) (g.T.Clear.content c.spend-key.result.1) false (fits g c) told.called.did told.called.idle told.acts (was g c) refl refl refl refl in
     (told.called.did.held ∙ c.lane.invariant.0, subst (λ (y : Shape). Fits g.T.Clear.content g.T.Clear.room y c.publish.new.hand.me.0 s) (sym (shape g c)) now)
 
 pub returns-clause-publishes : goal.returns-clause-publishes
 returns-clause-publishes g c =
-    let s = c.lane.inside.shelf in
+    let s = c.lane.inside.state in
     let told = c.publish.ensures in
     let did = published-did s s c.lane.inside.hand.table_id (filling g c) (g.T.Clear.content c.spend-key.result.1) false (fits g c) told.called.did told.called.idle told.acts (was g c) refl
     c.publish.new.hand.table_id told.hand.0 in
@@ -51,13 +51,13 @@ returns-clause-publishes g c =
 
 pub returns-clause-refs : goal.returns-clause-refs
 returns-clause-refs g c =
-    let s = c.lane.inside.shelf in
+    let s = c.lane.inside.state in
     let told = c.publish.ensures in
     rw (← c.lane.view_is) (published-held s s c.lane.inside.hand.table_id (filling g c) (g.T.Clear.content c.spend-key.result.1) false (fits g c) told.called.did told.called.idle told.acts (was g c) refl)
 
 pub returns-clause-fillings : goal.returns-clause-fillings
 returns-clause-fillings g c other differs is =
-    let s = c.lane.inside.shelf in
+    let s = c.lane.inside.state in
     let told = c.publish.ensures in
     published-others s s c.lane.inside.hand.table_id (filling g c) (g.T.Clear.content c.spend-key.result.1) false (fits g c) told.called.did told.called.idle told.acts (was g c) refl
     c.publish.new.hand.table_id told.hand.0 other (λ e. differs (e ∙ c.spend-key.ensures.0)) (subst (λ (l : LaneOf). Made l other) (sym c.lane.view_is) is)

@@ -8,97 +8,97 @@ use Rattle.steplaws.specs.Calls.Call.{Releasing}
 use Rattle.poolsteps.specs.Grids.{IsSpot}
 use Rattle.shardpool.specs.Tokens.{LaneOf}
 use Rattle.shardpool.specs.Stores.{Keeps}
-use Rattle.shardpool.specs.Shelves.{Fits}
+use Rattle.shardpool.specs.LaneStates.{Fits}
 use Rattle.shardpool.specs.Lanes.{Made, Calls}
-use Rattle.shardpool.proofs.Calling.{calls-more, calls-behind}
-use Rattle.shardpool.proofs.Releasing.{EndsAt, Released, refers-held, lent-some, lent-share, lent-at, end-low, end-more, end-within, beside, released-away, released}
-use Rattle.shardpool.proofs.Holding.{release-holds}
+use Rattle.shardpool.proofs.calls.CallParts.{calls-more, calls-behind}
+use Rattle.shardpool.proofs.calls.Releases.{EndsAt, Released, refers-held, lent-some, lent-share, lent-at, end-low, end-more, end-within, beside, released-away, released}
+use Rattle.shardpool.proofs.references.Holdings.{release-holds}
 use Rattle.shardpool.proofs.pool.Pool.release.Given.{Over}
 use Rattle.shardpool.proofs.pool.Pool.release.Goals as goal
 
-pub lend_home-requires-clause-fits : goal.lend_home-requires-clause-fits
-lend_home-requires-clause-fits g c =
+pub return_last_share-requires-clause-fits : goal.return_last_share-requires-clause-fits
+return_last_share-requires-clause-fits g c =
     (refers-held c.lane.view_is c.requires.owns.1 c.self.view_is c.lane.invariant.1 c.requires.held c.spend-key.ensures).fits
 
-pub lend_home-requires-clause-held : goal.lend_home-requires-clause-held
-lend_home-requires-clause-held g c =
+pub return_last_share-requires-clause-held : goal.return_last_share-requires-clause-held
+return_last_share-requires-clause-held g c =
     (refers-held c.lane.view_is c.requires.owns.1 c.self.view_is c.lane.invariant.1 c.requires.held c.spend-key.ensures).some
 
 pub release-reclaimed-requires-clause-held : goal.release-reclaimed-requires-clause-held
 release-reclaimed-requires-clause-held g c =
     let refers = refers-held c.lane.view_is c.requires.owns.1 c.self.view_is c.lane.invariant.1 c.requires.held c.spend-key.ensures in
     let some = refers.some in
-    let same = lent-some refers c.lend_home.ensures.lends in omega (arith, same, some)
+    let same = lent-some refers c.return_last_share.ensures.lends in omega (arith, same, some)
 
 pub release-reclaimed-requires-clause-share : goal.release-reclaimed-requires-clause-share
 release-reclaimed-requires-clause-share g c =
     let refers = refers-held c.lane.view_is c.requires.owns.1 c.self.view_is c.lane.invariant.1 c.requires.held c.spend-key.ensures in
-    lent-share refers c.lend_home.ensures.lends
+    lent-share refers c.return_last_share.ensures.lends
 
 pub release-reclaimed-requires-clause-at : goal.release-reclaimed-requires-clause-at
 release-reclaimed-requires-clause-at g c =
     let refers = refers-held c.lane.view_is c.requires.owns.1 c.self.view_is c.lane.invariant.1 c.requires.held c.spend-key.ensures in
     let spot = subst (IsSpot c.self.inside.grid.shape c.spot-spot.result) c.place_of.ensures.place c.spot-spot.ensures in
-    lent-at refers c.lend_home.ensures.lends _ spot refl c.top-top.ensures
+    lent-at refers c.return_last_share.ensures.lends _ spot refl c.top-top.ensures
 
-pub end-requires-clause-at : goal.end-requires-clause-at
-end-requires-clause-at g c =
+pub drop_reference-requires-clause-at : goal.drop_reference-requires-clause-at
+drop_reference-requires-clause-at g c =
     let refers = refers-held c.lane.view_is c.requires.owns.1 c.self.view_is c.lane.invariant.1 c.requires.held c.spend-key.ensures in
     let spot = subst (IsSpot c.self.inside.grid.shape c.spot-spot.result) c.place_of.ensures.place c.spot-spot.ensures in
-    subst (λ (n : ℕ). n < length c.lend_home.new.shelf.rows.items) (sym spot.position) (end-low refers c.lend_home.ensures.lends)
+    subst (λ (n : ℕ). n < length c.return_last_share.new.state.rows.items) (sym spot.position) (end-low refers c.return_last_share.ensures.lends)
 
-pub end-requires-clause-more : goal.end-requires-clause-more
-end-requires-clause-more g c row stands =
+pub drop_reference-requires-clause-more : goal.drop_reference-requires-clause-more
+drop_reference-requires-clause-more g c row stands =
     let refers = refers-held c.lane.view_is c.requires.owns.1 c.self.view_is c.lane.invariant.1 c.requires.held c.spend-key.ensures in
     let spot = subst (IsSpot c.self.inside.grid.shape c.spot-spot.result) c.place_of.ensures.place c.spot-spot.ensures in
-    end-more refers c.lend_home.ensures.lends row (ap (slice_get c.lend_home.new.shelf.rows.items) (sym spot.position) ∙ stands)
+    end-more refers c.return_last_share.ensures.lends row (ap (slice_get c.return_last_share.new.state.rows.items) (sym spot.position) ∙ stands)
 
-pub end-requires-clause-within : goal.end-requires-clause-within
-end-requires-clause-within g c =
-    end-within (refers-held c.lane.view_is c.requires.owns.1 c.self.view_is c.lane.invariant.1 c.requires.held c.spend-key.ensures) c.lend_home.ensures.lends
+pub drop_reference-requires-clause-within : goal.drop_reference-requires-clause-within
+drop_reference-requires-clause-within g c =
+    end-within (refers-held c.lane.view_is c.requires.owns.1 c.self.view_is c.lane.invariant.1 c.requires.held c.spend-key.ensures) c.return_last_share.ensures.lends
 
 pub keep_reclaimed-requires-clause-shape : goal.keep_reclaimed-requires-clause-shape
 keep_reclaimed-requires-clause-shape g c =
     let refers = refers-held c.lane.view_is c.requires.owns.1 c.self.view_is c.lane.invariant.1 c.requires.held c.spend-key.ensures in
     let spot = subst (IsSpot c.self.inside.grid.shape c.spot-spot.result) c.place_of.ensures.place c.spot-spot.ensures in
-    let ends = subst (λ (n : ℕ). EndsAt n c.lend_home.new.shelf c.end.new.shelf) spot.position (c.end.ensures.rows, c.end.ensures.rest) in
-    let so = beside refers c.lend_home.ensures.lends c.end.new.shelf ends in
+    let ends = subst (λ (n : ℕ). EndsAt n c.return_last_share.new.state c.drop_reference.new.state) spot.position (c.drop_reference.ensures.rows, c.drop_reference.ensures.rest) in
+    let so = beside refers c.return_last_share.ensures.lends c.drop_reference.new.state ends in
     subst IsShape (sym so.shape_is) so.seat.shape
 
 pub keep_reclaimed-requires-clause-away : goal.keep_reclaimed-requires-clause-away
 keep_reclaimed-requires-clause-away g c =
     let refers = refers-held c.lane.view_is c.requires.owns.1 c.self.view_is c.lane.invariant.1 c.requires.held c.spend-key.ensures in
     let spot = subst (IsSpot c.self.inside.grid.shape c.spot-spot.result) c.place_of.ensures.place c.spot-spot.ensures in
-    let ends = subst (λ (n : ℕ). EndsAt n c.lend_home.new.shelf c.end.new.shelf) spot.position (c.end.ensures.rows, c.end.ensures.rest) in
+    let ends = subst (λ (n : ℕ). EndsAt n c.return_last_share.new.state c.drop_reference.new.state) spot.position (c.drop_reference.ensures.rows, c.drop_reference.ensures.rest) in
     let told = c.release-reclaimed.ensures in
-    λ whole is. subst (λ (p : ℕ). IsAway c.end.new.shelf.free (place_numbered p)) (sym spot.place_is)
-    (released-away refers c.lend_home.ensures.lends c.end.new.shelf ends c.release-reclaimed.result told.called.did told.acts told.reclaimed whole is)
+    λ whole is. subst (λ (p : ℕ). IsAway c.drop_reference.new.state.free (place_numbered p)) (sym spot.place_is)
+    (released-away refers c.return_last_share.ensures.lends c.drop_reference.new.state ends c.release-reclaimed.result told.called.did told.acts told.reclaimed whole is)
 
 module _ (g : Over) (c : goal.After-keep_reclaimed g) where
   -- what the call leaves of the lane
-  leaves : Released g.T.Clear.content g.T.Clear.room c.self.inside.grid.shape c.spend-key.result c.lane.inside.hand.me.0 c.release-reclaimed.new.hand.me.0 c.lane.inside.shelf
-      c.keep_reclaimed.new.shelf
+  leaves : Released g.T.Clear.content g.T.Clear.room c.self.inside.grid.shape c.spend-key.result c.lane.inside.hand.me.0 c.release-reclaimed.new.hand.me.0 c.lane.inside.state
+      c.keep_reclaimed.new.state
   leaves =
       let refers = refers-held c.lane.view_is c.requires.owns.1 c.self.view_is c.lane.invariant.1 c.requires.held c.spend-key.ensures in
       let spot = subst (IsSpot c.self.inside.grid.shape c.spot-spot.result) c.place_of.ensures.place c.spot-spot.ensures in
-      let ends = subst (λ (n : ℕ). EndsAt n c.lend_home.new.shelf c.end.new.shelf) spot.position (c.end.ensures.rows, c.end.ensures.rest) in
+      let ends = subst (λ (n : ℕ). EndsAt n c.return_last_share.new.state c.drop_reference.new.state) spot.position (c.drop_reference.ensures.rows, c.drop_reference.ensures.rest) in
       let told = c.release-reclaimed.ensures in
-      released refers c.lend_home.ensures.lends c.end.new.shelf ends c.release-reclaimed.result told.called.did told.acts told.reclaimed told.called.idle c.keep_reclaimed.new.shelf
-      (subst (λ (p : ℕ). Keeps p c.release-reclaimed.result c.end.new.shelf c.keep_reclaimed.new.shelf) spot.place_is c.keep_reclaimed.ensures)
+      released refers c.return_last_share.ensures.lends c.drop_reference.new.state ends c.release-reclaimed.result told.called.did told.acts told.reclaimed told.called.idle c.keep_reclaimed.new.state
+      (subst (λ (p : ℕ). Keeps p c.release-reclaimed.result c.drop_reference.new.state c.keep_reclaimed.new.state) spot.place_is c.keep_reclaimed.ensures)
 
   table : c.release-reclaimed.new.hand.table_id ≡ c.lane.inside.hand.table_id
-  table = c.release-reclaimed.ensures.hand.0 ∙ c.lend_home.ensures.hand.0
+  table = c.release-reclaimed.ensures.hand.0 ∙ c.return_last_share.ensures.hand.0
 
 pub invariant_of-lane : goal.invariant_of-lane
 invariant_of-lane g c =
     let now = (leaves g c).fits in (
-      c.release-reclaimed.ensures.called.did.held ∙ (c.lend_home.ensures.lends.did.held ∙ c.lane.invariant.0),
-      subst (λ (z : Shape). Fits g.T.Clear.content g.T.Clear.room z c.release-reclaimed.new.hand.me.0 c.keep_reclaimed.new.shelf) (sym now.shape_is) now,
+      c.release-reclaimed.ensures.called.did.held ∙ (c.return_last_share.ensures.lends.did.held ∙ c.lane.invariant.0),
+      subst (λ (z : Shape). Fits g.T.Clear.content g.T.Clear.room z c.release-reclaimed.new.hand.me.0 c.keep_reclaimed.new.state) (sym now.shape_is) now,
     )
 
 pub returns-clause-called : goal.returns-clause-called
 returns-clause-called g c =
-    let lends = c.lend_home.ensures.lends in
+    let lends = c.return_last_share.ensures.lends in
     rw (← c.self.view_is, ← c.lane.view_is)
     (subst (λ (k : ℕ). Calls c.self.inside.grid.shape (Releasing k) c.lane.inside.hand.me.0 c.release-reclaimed.new.hand.me.0) c.spend-key.ensures
     (calls-more (calls-behind lends.did lends.pushed c.release-reclaimed.ensures.called) (omega arith)))

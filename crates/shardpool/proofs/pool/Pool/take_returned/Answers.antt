@@ -3,25 +3,25 @@ use Rattle.std.proofs.Common.{rules, ◌≡◌, ◌<◌, None, sym, ◌∙◌, s
 use Rattle.shardpool.specs.Tokens.{LaneOf}
 use Rattle.shardpool.specs.Lanes.{Made}
 use Rattle.shardpool.specs.Creates.{TakesReturned}
-use Rattle.shardpool.proofs.Laning.{lane_of}
-use Rattle.shardpool.proofs.Taking.{collects-here, found-word, took-away, took-fits, took-takes, took-fillings, none-fits, none-takes, none-fillings}
+use Rattle.shardpool.proofs.frame.LaneFacts.{lane_of}
+use Rattle.shardpool.proofs.free.Takes.{collects-here, found-word, took-away, took-fits, took-takes, took-fillings, none-fits, none-takes, none-fillings}
 use Rattle.shardpool.proofs.pool.Pool.take_returned.Goals as goal
 
 pub hang-requires-clause-word : goal.hang-requires-clause-word
 hang-requires-clause-word g c =
     let opened = c.opened.ensures.opened in
     let isnt = c.if-opened-eq0.false in
-    let low : 0 < c.lane.inside.shelf.pages.opened = omega (arith, opened, isnt) in
-    found-word c.if-found-ne0.true (c.collect-found.ensures.collects c.lane.inside.shelf.pages.opened low)
+    let low : 0 < c.lane.inside.state.pages.opened = omega (arith, opened, isnt) in
+    found-word c.if-found-ne0.true (c.collect-found.ensures.collects c.lane.inside.state.pages.opened low)
 
 pub hang-requires-clause-away : goal.hang-requires-clause-away
 hang-requires-clause-away g c =
     let fits = c.lane.invariant.1 in
     let opened = c.opened.ensures.opened in
     let isnt = c.if-opened-eq0.false in
-    let low : 0 < c.lane.inside.shelf.pages.opened = omega (arith, opened, isnt) in
-    let collects = collects-here c.lane.view_is c.requires.owns.1 c.self.view_is (c.collect-found.ensures.collects c.lane.inside.shelf.pages.opened low) in
-    let none : c.lane.inside.shelf.free.chain ≡ None = search rules in
+    let low : 0 < c.lane.inside.state.pages.opened = omega (arith, opened, isnt) in
+    let collects = collects-here c.lane.view_is c.requires.owns.1 c.self.view_is (c.collect-found.ensures.collects c.lane.inside.state.pages.opened low) in
+    let none : c.lane.inside.state.free.chain ≡ None = search rules in
     took-away fits c.if-found-ne0.true none collects
 
 pub invariant_of-lane : goal.invariant_of-lane
@@ -29,29 +29,29 @@ invariant_of-lane g c =
     let fits = c.lane.invariant.1 in
     let opened = c.opened.ensures.opened in
     let isnt = c.if-opened-eq0.false in
-    let low : 0 < c.lane.inside.shelf.pages.opened = omega (arith, opened, isnt) in
-    let collects = collects-here c.lane.view_is c.requires.owns.1 c.self.view_is (c.collect-found.ensures.collects c.lane.inside.shelf.pages.opened low) in
-    let none : c.lane.inside.shelf.free.chain ≡ None = search rules in
-    ((c.collect-found.ensures.collects c.lane.inside.shelf.pages.opened low).held ∙ c.lane.invariant.0, took-fits fits c.if-found-ne0.true none collects c.hang.ensures)
+    let low : 0 < c.lane.inside.state.pages.opened = omega (arith, opened, isnt) in
+    let collects = collects-here c.lane.view_is c.requires.owns.1 c.self.view_is (c.collect-found.ensures.collects c.lane.inside.state.pages.opened low) in
+    let none : c.lane.inside.state.free.chain ≡ None = search rules in
+    ((c.collect-found.ensures.collects c.lane.inside.state.pages.opened low).held ∙ c.lane.invariant.0, took-fits fits c.if-found-ne0.true none collects c.hang.ensures)
 
 pub invariant_of-lane-else-found-ne0 : goal.invariant_of-lane-else-found-ne0
 invariant_of-lane-else-found-ne0 g c =
     let fits = c.lane.invariant.1 in
     let opened = c.opened.ensures.opened in
     let isnt = c.if-opened-eq0.false in
-    let low : 0 < c.lane.inside.shelf.pages.opened = omega (arith, opened, isnt) in
-    let collects = collects-here c.lane.view_is c.requires.owns.1 c.self.view_is (c.collect-found.ensures.collects c.lane.inside.shelf.pages.opened low) in
-    ((c.collect-found.ensures.collects c.lane.inside.shelf.pages.opened low).held ∙ c.lane.invariant.0, none-fits fits c.if-found-ne0.false collects)
+    let low : 0 < c.lane.inside.state.pages.opened = omega (arith, opened, isnt) in
+    let collects = collects-here c.lane.view_is c.requires.owns.1 c.self.view_is (c.collect-found.ensures.collects c.lane.inside.state.pages.opened low) in
+    ((c.collect-found.ensures.collects c.lane.inside.state.pages.opened low).held ∙ c.lane.invariant.0, none-fits fits c.if-found-ne0.false collects)
 
 pub returns-then-found-ne0-clause-takes : goal.returns-then-found-ne0-clause-takes
 returns-then-found-ne0-clause-takes g c =
     let fits = c.lane.invariant.1 in
     let opened = c.opened.ensures.opened in
     let isnt = c.if-opened-eq0.false in
-    let low : 0 < c.lane.inside.shelf.pages.opened = omega (arith, opened, isnt) in
-    let collects = collects-here c.lane.view_is c.requires.owns.1 c.self.view_is (c.collect-found.ensures.collects c.lane.inside.shelf.pages.opened low) in
-    let none : c.lane.inside.shelf.free.chain ≡ None = search rules in
-    let new : LaneOf = lane_of c.collect-found.new.hand.table_id c.collect-found.new.hand.me.0 c.hang.new.shelf in
+    let low : 0 < c.lane.inside.state.pages.opened = omega (arith, opened, isnt) in
+    let collects = collects-here c.lane.view_is c.requires.owns.1 c.self.view_is (c.collect-found.ensures.collects c.lane.inside.state.pages.opened low) in
+    let none : c.lane.inside.state.free.chain ≡ None = search rules in
+    let new : LaneOf = lane_of c.collect-found.new.hand.table_id c.collect-found.new.hand.me.0 c.hang.new.state in
     subst (λ (lane : LaneOf). TakesReturned lane new) c.lane.view_is
     (took-takes fits c.if-found-ne0.true none collects c.hang.ensures c.lane.inside.hand.table_id c.collect-found.new.hand.table_id c.collect-found.ensures.hand.0 low)
 
@@ -60,9 +60,9 @@ returns-then-found-ne0-clause-fillings g c = λ filling made.
     let fits = c.lane.invariant.1 in
     let opened = c.opened.ensures.opened in
     let isnt = c.if-opened-eq0.false in
-    let low : 0 < c.lane.inside.shelf.pages.opened = omega (arith, opened, isnt) in
-    let collects = collects-here c.lane.view_is c.requires.owns.1 c.self.view_is (c.collect-found.ensures.collects c.lane.inside.shelf.pages.opened low) in
-    let none : c.lane.inside.shelf.free.chain ≡ None = search rules in
+    let low : 0 < c.lane.inside.state.pages.opened = omega (arith, opened, isnt) in
+    let collects = collects-here c.lane.view_is c.requires.owns.1 c.self.view_is (c.collect-found.ensures.collects c.lane.inside.state.pages.opened low) in
+    let none : c.lane.inside.state.free.chain ≡ None = search rules in
     took-fillings fits c.if-found-ne0.true none collects c.hang.ensures c.lane.inside.hand.table_id c.collect-found.new.hand.table_id c.collect-found.ensures.hand.0 filling
     (subst (λ (lane : LaneOf). Made lane filling) (sym c.lane.view_is) made)
 
@@ -71,10 +71,10 @@ returns-else-found-ne0-clause-takes g c =
     let fits = c.lane.invariant.1 in
     let opened = c.opened.ensures.opened in
     let isnt = c.if-opened-eq0.false in
-    let low : 0 < c.lane.inside.shelf.pages.opened = omega (arith, opened, isnt) in
-    let collects = collects-here c.lane.view_is c.requires.owns.1 c.self.view_is (c.collect-found.ensures.collects c.lane.inside.shelf.pages.opened low) in
-    let none : c.lane.inside.shelf.free.chain ≡ None = search rules in
-    let new : LaneOf = lane_of c.collect-found.new.hand.table_id c.collect-found.new.hand.me.0 c.lane.inside.shelf in
+    let low : 0 < c.lane.inside.state.pages.opened = omega (arith, opened, isnt) in
+    let collects = collects-here c.lane.view_is c.requires.owns.1 c.self.view_is (c.collect-found.ensures.collects c.lane.inside.state.pages.opened low) in
+    let none : c.lane.inside.state.free.chain ≡ None = search rules in
+    let new : LaneOf = lane_of c.collect-found.new.hand.table_id c.collect-found.new.hand.me.0 c.lane.inside.state in
     subst (λ (lane : LaneOf). TakesReturned lane new) c.lane.view_is
     (none-takes fits c.if-found-ne0.false collects c.lane.inside.hand.table_id c.collect-found.new.hand.table_id c.collect-found.ensures.hand.0 none low)
 
@@ -83,7 +83,7 @@ returns-else-found-ne0-clause-fillings g c = λ filling made.
     let fits = c.lane.invariant.1 in
     let opened = c.opened.ensures.opened in
     let isnt = c.if-opened-eq0.false in
-    let low : 0 < c.lane.inside.shelf.pages.opened = omega (arith, opened, isnt) in
-    let collects = collects-here c.lane.view_is c.requires.owns.1 c.self.view_is (c.collect-found.ensures.collects c.lane.inside.shelf.pages.opened low) in
+    let low : 0 < c.lane.inside.state.pages.opened = omega (arith, opened, isnt) in
+    let collects = collects-here c.lane.view_is c.requires.owns.1 c.self.view_is (c.collect-found.ensures.collects c.lane.inside.state.pages.opened low) in
     none-fillings fits c.if-found-ne0.false collects c.lane.inside.hand.table_id c.collect-found.new.hand.table_id c.collect-found.ensures.hand.0 filling
     (subst (λ (lane : LaneOf). Made lane filling) (sym c.lane.view_is) made)

@@ -1,0 +1,47 @@
+use Rattle.std.proofs.Common.{◌≤◌, ◌+◌, ◌*◌, ◌∷◌, [], ℕ, sym, ap, ◌∙◌, arith}
+use Rattle.keybits.specs.declared.shape.Shape.{Shape}
+use Rattle.steplaws.specs.Calls.{is_claimed}
+use Rattle.poolcalls.proofs.Moves.{carried-place, carries-more}
+use Rattle.poolcalls.specs.Called.{caller_of}
+use Rattle.poolcalls.proofs.Doing.{did-carries}
+use Rattle.poolcalls.proofs.Ending.{caller-still, room-still, ends-at-last, ends-at-own}
+use Rattle.poolcalls.proofs.Within.{within-none, within-moves}
+use Rattle.poolcalls.proofs.halts.reclaim_place_within.Goals as goal
+use Rattle.poolcalls.proofs.halts.reclaim_place_within.Goals.{then-generation-grid-via-then-generation-grid, then-generation-grid-via-else-generation-grid+then-shard_of-at}
+
+pub returns-then-generation-grid-clause-tails : goal.returns-then-generation-grid-clause-tails
+returns-then-generation-grid-clause-tails g c leave claim is claimed =
+    let caller = caller_of c.args.grid.now.shape c.args.hand.now.me.0 in
+    let place : ℕ = c.args.at.spot.place in
+    within-none (leave ∷ claim ∷ []) c.args.limit c.requires.hand.1 c.requires.seen
+    (elim c.then-generation-grid.branch [
+      | then-generation-grid-via-then-generation-grid w ↦ ends-at-last caller place leave claim (is ∙ w.if-generation-grid.true)
+      | then-generation-grid-via-else-generation-grid+then-shard_of-at w ↦
+          ends-at-own caller place leave claim (sym w.shard_of.ensures ∙ (w.if-shard_of-at.true ∙ c.requires.at.lane))
+    ])
+
+pub give_home_within-requires-clause-rests : goal.give_home_within-requires-clause-rests
+give_home_within-requires-clause-rests g c =
+    let law = c.shares_law.ensures.stays in
+    let place : ℕ = c.args.at.spot.place in
+    let took = c.take_cell-whole.ensures in
+    let rests = c.rest_cell.ensures in
+    let first = room-still took.carries law place c.requires.place.0 in
+    let last = room-still rests.carries law place (carried-place took.carries law place c.requires.place.0) in
+    let old = ap g.T.Clear.room c.get_mut.ensures.object in
+    record {
+      slots = rests.slots;
+      empty = sym rests.cell.0 ∙ c.clear.ensures.empty;
+      room = omega (arith, first, last, c.requires.room, took.cell.1, old, c.clear.ensures.room_kept, rests.cell.1);
+    }
+
+pub returns-clause-tails : goal.returns-clause-tails
+returns-clause-tails g c leave claim is claimed =
+    let z : Shape = c.args.grid.now.shape in
+    let took = c.take_cell-whole.ensures.carries in
+    let rests = c.rest_cell.ensures.carries in
+    let few : 2 * z.lanes + 2 ≤ 2 * z.lanes + 2 = omega arith in
+    let lane_is = rests.elsewhere.lane ∙ took.elsewhere.lane in
+    within-moves (leave ∷ claim ∷ []) (caller-still rests ∙ caller-still took) (did-carries (carries-more took rests) few)
+    (c.give_home_within.ensures.gives leave claim (ap (λ n. is_claimed n claim.before) is ∙ claimed) (λ last. c.if-generation-grid.false (sym is ∙ last))
+    (λ own. c.if-shard_of-at.false (c.shard_of.ensures ∙ (own ∙ (lane_is ∙ sym c.requires.at.lane)))))

@@ -1,0 +1,265 @@
+-- What the slots of a closed pool have, when all shares are back: each published place its shares, and each place that is home or on a taken chain its cell.
+use Rattle.std.proofs.Common.{◌≡◌, ℕ, zero, suc, ◌<◌, Bool, true, false, cond, eqb, List, [], ◌∷◌, length, refl, sym, ap, ◌∙◌, subst, arith, eq-eqb}
+use Rattle.std.specs.Prelude.{Option, Some, slice_get}
+use Rattle.std.proofs.lemmas.Option.{slice_get_within}
+use mathlib.Core.Logic.{dite}
+use native.Mathlib.Decide.{ℕ_discrete}
+use mathlib.Core.Option as maybe
+use mathlib.Core.Option.{some-injective, some-ne-none}
+use lib.ListN.{get_elem?}
+use Rattle.atomic_table.specs.Seated.{TableId}
+use Rattle.core.specs.declared.slots.Slots.{Slots}
+use Rattle.core.specs.Mem.Slots.{slots_items}
+use Rattle.keybits.specs.declared.shape.Shape.{Shape}
+use Rattle.keybits.specs.Keys.{key_number, place_of, generation_of, is_key}
+use Rattle.keybits.specs.Places.{shard_of}
+use Rattle.keybits.specs.Shapes.{IsShape, is_place, position_of}
+use Rattle.keybits.proofs.ShapeLemmas.{is_place-parts, position_of-lt}
+use Rattle.seqpool.specs.Pool.{Phase, with, published, home, retired, has, references_in, is_current, references, pool_after}
+use Rattle.seqpool.proofs.Ranks.{current-from}
+use Rattle.steplaws.specs.Facts.{Words, Rule, moment, is_home}
+use Rattle.steplaws.proofs.Generations.{key_now}
+use Rattle.sharelaws.specs.declared.stored.Stored.{Stored}
+use Rattle.sharelaws.specs.declared.stored.Status.TheVariants.{Untouched, Emptied, Whole}
+use Rattle.sharelaws.specs.Shares.{Slots as Cells, HasShare, StandsAs, RestsAs, MayHave, reclaimer, Shared}
+use Rattle.sharelaws.proofs.Cases.{untouched-is}
+use Rattle.slotcell.specs.Share.{Share}
+use Rattle.poolsteps.specs.Views.{the_lane, known_of}
+use Rattle.poolsteps.specs.Layout.{slot_index, slots_in}
+use Rattle.poolsteps.specs.Rule.{World}
+use Rattle.poolsteps.proofs.SlotLemmas.{slot-is, slot-apart}
+use Rattle.poolsteps.specs.Joins.{HasPart, IsSpread, IsResting}
+use Rattle.shardpool.specs.declared.state.HeldKey.{HeldKey}
+use Rattle.shardpool.specs.declared.state.LaneState.{LaneState}
+use Rattle.shardpool.specs.LaneStates.{FitsRow}
+use Rattle.shardpool.specs.Tokens.{LaneOf}
+use Rattle.shardpool.specs.Closings.{AreLanes}
+use Rattle.shardpool.specs.Remains.{MayHandBack, HandsBack, HasCells}
+use Rattle.shardpool.proofs.count.Rounds.{same-index}
+use Rattle.shardpool.proofs.at_close.LaneParts.{still-refs, lane-last}
+use Rattle.shardpool.proofs.at_close.LastHistory.{IsEnded, entry-at}
+
+-- ---- phases and numbers
+
+referred-published : (phase : Phase) (lane : ℕ) → 0 < references_in phase lane → (content : List ℕ) × (references : ℕ → ℕ) × (mark : Bool) × (phase ≡ published content references mark)
+referred-published (with k) lane some = absurd (omega (arith, some))
+referred-published (published content references mark) lane some = (content, references, mark, refl)
+referred-published home lane some = absurd (omega (arith, some))
+referred-published retired lane some = absurd (omega (arith, some))
+
+count-zero : (b : Bool) (n : ℕ) → n ≡ 0 → cond b n 0 ≡ 0
+count-zero true n none = none
+count-zero false n none = refl
+
+current-some : (b : Bool) (n : ℕ) → 0 < cond b n 0 → 0 < n
+current-some true n some = some
+current-some false n some = absurd (omega (arith, some))
+
+found-at : {X : Type 0} (xs : List X) (i : ℕ) (x : X) → get_elem? xs i ≡ maybe.some x → slice_get xs i ≡ Some x
+found-at [] i x at = absurd (some-ne-none x (sym at))
+found-at (y ∷ ys) zero x at = ap Some (some-injective y x at)
+found-at (y ∷ ys) (suc i) x at = found-at ys i x at
+
+-- ---- one lane and a place
+
+-- the phase of a place at the end
+abbrev phase-at : Shape → World → ℕ → Phase
+phase-at z w place = (pool_after z w.history place).phase
+
+-- the key that it has then
+abbrev key-at : Shape → World → ℕ → ℕ
+key-at z w place = key_number z.tag place (pool_after z w.history place).generation
+
+module _ {z : Shape} (w : World) {words : Words} (rule : Rule z (moment words w.history w.lanes)) (place : ℕ) (inside : is_place z place ≡ true) where
+  key-is : (is_key z (key-at z w place) ≡ true) × (place_of (key-at z w place) ≡ place) × (generation_of (key-at z w place) ≡ (pool_after z w.history place).generation)
+  key-is = key_now z rule.limits rule.wide w.history place inside
+
+  key-current : is_current z (pool_after z w.history) (key-at z w place) ≡ true
+  key-current =
+      let k = key-is in
+      current-from z (pool_after z w.history) (key-at z w place) k.0 (ap (λ (p : ℕ). (pool_after z w.history p).generation) k.1 ∙ sym k.2)
+
+  refs-here : (lane : ℕ) → references z (pool_after z w.history) lane (key-at z w place) ≡ references_in (phase-at z w place) lane
+  refs-here lane =
+      ap (λ (b : Bool). cond b (references_in (pool_after z w.history (place_of (key-at z w place))).phase lane) 0) key-current
+      ∙ ap (λ (p : ℕ). references_in (pool_after z w.history p).phase lane) key-is.1
+
+module _ {T : Type 0} {content : T → List ℕ} {room : T → ℕ} {z : Shape} {w : World} {words : Words} (rule : Rule z (moment words w.history w.lanes))
+    (place : ℕ) (inside : is_place z place ≡ true) where
+  module _ {lane : LaneOf} {s : LaneState T} (e : IsEnded content room z w lane s) (row : HeldKey T) (stands : slice_get s.rows.items (position_of z place) ≡ Some row) where
+    fit : FitsRow content room z lane.book place row
+    fit = e.fits.rows.each place row inside stands
+
+    -- a row without references: the lane has none
+    none-referred : row.count ≡ 0 → references_in (phase-at z w place) s.number ≡ 0
+    none-referred none =
+        let k = key-is w rule place inside in
+        ap (references_in (phase-at z w place)) e.fits.seat.number_is
+        ∙ (sym (refs-here w rule place inside (the_lane lane.book).lane) ∙ (still-refs rule lane.table e.fits e.seen e.record_is (key-at z w place)
+        ∙ (fit.counts (key-at z w place) k.0 k.1 ∙ count-zero (eqb (generation_of (key-at z w place)) row.generation) row.count none)))
+
+    -- a row with references: the place is published
+    some-referred : 0 < row.count → 0 < references_in (phase-at z w place) s.number
+    some-referred some =
+        let k = fit.keyed some in
+        let counted = fit.counts k.0 k.1 k.2 ∙ ap (λ (b : Bool). cond b row.count 0) (eq-eqb (generation_of k.0) row.generation k.3) in
+        let still = still-refs rule lane.table e.fits e.seen e.record_is k.0 in
+        let there = current-some (is_current z (pool_after z w.history) k.0) (references_in (pool_after z w.history (place_of k.0)).phase (the_lane lane.book).lane)
+        (subst (λ (n : ℕ). 0 < n) (sym (still ∙ counted)) some) in
+        subst (λ (p : ℕ). 0 < references_in (pool_after z w.history p).phase s.number) k.2
+        (subst (λ (l : ℕ). 0 < references_in (pool_after z w.history (place_of k.0)).phase l) (sym e.fits.seat.number_is) there)
+
+    module _ {slots : Cells T} (shared : Shared content room z w.history w.kept slots w.stock) where
+      -- the cell of the place
+      abbrev stored : Stored
+      stored = w.stock.stored place
+
+      -- no lane touched the slot of a lane without references
+      left-alone : (bytes : List ℕ) (references : ℕ → ℕ) (mark : Bool) → phase-at z w place ≡ published bytes references mark → row.count ≡ 0
+          → HasShare content room slots place s.number stored s.number z.lanes
+      left-alone bytes references mark is none =
+          subst (StandsAs content room z slots place s.number stored) (ap is_home is)
+          (shared.untouched place s.number inside e.fits.seat.below (λ l low. untouched-is (w.stock.status l place s.number)
+          (λ touched.
+          let may = subst (MayHave (reclaimer w.history place) l s.number) is (shared.touched l place s.number low e.fits.seat.below touched).0 in
+          let refs : references_in (phase-at z w place) s.number ≡ references l = ap (λ (f : Phase). references_in f s.number) is ∙ ap references may.0 in
+          let zero_refs = none-referred none in
+          let some = may.1 in
+          absurd (omega (arith, refs, zero_refs, some)))))
+
+      -- the share under the references is one of the cell
+      share-of-cell : (some : 0 < row.count) → (s' : Share T) × (row.share ≡ Some s') × (s'.cell ≡ stored.cell) × (s'.number ≡ s.number) × (s'.of ≡ z.lanes)
+      share-of-cell some =
+          let h = fit.held some in
+          let held = h.2 in
+          let l : ℕ = (the_lane lane.book).lane in
+          let low : l < z.lanes = subst (λ (n : ℕ). n < z.lanes) e.fits.seat.number_is e.fits.seat.below in
+          let status : w.stock.status l place l ≡ Emptied = sym (e.record_is.deeds place l) ∙ held.emptied in
+          let knows = (shared.touched l place l low low (λ none. let bad : Emptied ≡ Untouched = sym status ∙ none in cc bad)).1 in
+          let known : known_of (the_lane lane.book) place ≡ stored = e.record_is.cells place ∙ knows in
+          (h.0, h.1, ap (λ (c : Stored). c.cell) (sym held.known ∙ known), held.number_is ∙ sym e.fits.seat.number_is, held.of_is)
+
+-- ---- all lanes
+
+module _ {T : Type 0} {content : T → List ℕ} {room : T → ℕ} {z : Shape} {w : World} {words : Words} (rule : Rule z (moment words w.history w.lanes))
+    (table : TableId) (lanes : List LaneOf) (states : List (LaneState T)) (are : AreLanes (record { table = table; shape = z }) lanes) (wide : length states ≡ length lanes)
+    (each : (index : ℕ) (lane : LaneOf) (s : LaneState T) → slice_get lanes index ≡ Some lane → slice_get states index ≡ Some s → IsEnded content room z w lane s) where
+  -- the lane of a state
+  lane-of : (index : ℕ) (s : LaneState T) → slice_get states index ≡ Some s → (lane : LaneOf) × (slice_get lanes index ≡ Some lane) × IsEnded content room z w lane s
+  lane-of index s at =
+      let low = slice_get_within states index s at in
+      let there = entry-at lanes index (omega (arith, low, wide)) in
+      (there.0, there.1, each index there.0 s there.1 at)
+
+  -- the state of a number
+  state-of-number : (number : ℕ) → number < z.lanes
+      → (index : ℕ) × (lane : LaneOf) × (s : LaneState T) × (slice_get states index ≡ Some s) × IsEnded content room z w lane s × (s.number ≡ number)
+  state-of-number number low =
+      let there = are.all number low in
+      let within = slice_get_within lanes there.0 there.1 there.2 in
+      let state = entry-at states there.0 (omega (arith, within, wide)) in
+      let e = each there.0 there.1 state.0 there.2 state.1 in
+      (there.0, there.1, state.0, state.1, e, sym (ap (λ (x : LaneOf). x.number) e.lane_is) ∙ there.3)
+
+  pub may-hand-back : MayHandBack z states
+  may-hand-back = record {
+    below = λ i s at. (lane-of i s at).2.fits.seat.below;
+    wide = λ i s at. (lane-of i s at).2.fits.rows.wide;
+    once = λ i j one other at_i at_j same.
+        let a = lane-of i one at_i in
+        let b = lane-of j other at_j in
+        let a_is = ap (λ (x : LaneOf). x.number) a.2.lane_is in
+        let b_is = ap (λ (x : LaneOf). x.number) b.2.lane_is in
+        same-index lanes z.lanes are.count (λ number low. let l = are.all number low in (l.0, (l.1, l.2, l.3))) i j a.0 b.0 a.1 b.1 (a_is ∙ (same ∙ sym b_is)) (subst (λ (n : ℕ). n < z.lanes) (sym a_is) a.2.fits.seat.below);
+  }
+
+  module _ (ok : IsShape z) (homes : List (maybe.Option (Option (Share T)))) {old new : Slots (Option (Share T))} (shared : Shared content room z w.history w.kept (slots_in z homes) w.stock)
+      (stood : (index : ℕ) (value : Option (Share T)) → get_elem? homes index ≡ maybe.some (maybe.some value) → get_elem? (slots_items old) index ≡ maybe.some value)
+      (hands : HandsBack z states old new) where
+    module _ (place : ℕ) (inside : is_place z place ≡ true) where
+      -- the slot of a lane without references stays
+      slot-stays : (number : ℕ) → references_in (phase-at z w place) number ≡ 0
+          → slice_get (slots_items new) (slot_index z place number) ≡ slice_get (slots_items old) (slot_index z place number)
+      slot-stays number none = hands.kept (slot_index z place number) (λ j other at q q_inside row there some same.
+          let l = lane-of j other at in
+          let both = slot-apart z ok place number q other.number inside q_inside same in
+          let refs = some-referred rule place inside l.2 row (ap (λ (p : ℕ). slice_get other.rows.items (position_of z p)) both.0 ∙ there) some in
+          let zero_refs = subst (λ (n : ℕ). references_in (phase-at z w place) n ≡ 0) both.1 none in
+          absurd (omega (arith, refs, zero_refs)))
+
+      -- what a slot had, it still has
+      part-now : (number label of : ℕ) → number < z.lanes → references_in (phase-at z w place) number ≡ 0 → HasShare content room (slots_in z homes) place number (w.stock.stored place) label of
+          → HasPart (slots_items new) (slot_index z place number) (w.stock.stored place).cell label of
+      part-now number label of low none has =
+          let share : Share T = has.0 in
+          let home_is = sym (slot-is z homes place number inside low) ∙ has.1 in
+          record {
+            share = share;
+            stands = slot-stays number none ∙ found-at (slots_items old) (slot_index z place number) (Some share) (stood (slot_index z place number) (Some share) home_is);
+            cell_is = has.2.cell;
+            number_is = has.2.number_is;
+            of_is = has.2.of_is;
+          }
+
+      -- a published place has the share of each lane
+      spread-now : (bytes : List ℕ) (references : ℕ → ℕ) (mark : Bool) → phase-at z w place ≡ published bytes references mark → IsSpread z (slots_items new) place
+      spread-now bytes references mark is = record { cell = (w.stock.stored place).cell; each = part }
+        where
+          part : (number : ℕ) → number < z.lanes → HasPart (slots_items new) (slot_index z place number) (w.stock.stored place).cell number z.lanes
+          part number low =
+              let f = state-of-number number low in
+              let s : LaneState T = f.2 in
+              let e = f.4 in
+              let p_low = position_of-lt z place inside in
+              let rows_wide = e.fits.rows.wide in
+              let row = entry-at s.rows.items (position_of z place) (omega (arith, p_low, rows_wide)) in
+              subst (λ (n : ℕ). HasPart (slots_items new) (slot_index z place n) (w.stock.stored place).cell n z.lanes) f.5
+              (dite (ℕ_discrete row.0.count 0)
+              (λ none. part-now s.number s.number z.lanes e.fits.seat.below (none-referred rule place inside e row.0 row.1 none)
+              (left-alone rule place inside e row.0 row.1 shared bytes references mark is none))
+              (λ some.
+              let more : 0 < row.0.count = omega (arith, some) in
+              let h = share-of-cell rule place inside e row.0 row.1 shared more in
+              record {
+                share = h.0;
+                stands = hands.back f.0 s f.3 place inside row.0 h.0 row.1 more h.1;
+                cell_is = h.2;
+                number_is = h.3;
+                of_is = h.4;
+              }))
+
+      shard-low : shard_of place < z.lanes
+      shard-low = (is_place-parts z place inside).0
+
+      -- a home place has its cell in its shard's slot
+      home-now : phase-at z w place ≡ home → IsResting z (slots_items new) place
+      home-now is =
+          let stands = subst (StandsAs content room z (slots_in z homes) place (shard_of place) (w.stock.stored place)) (ap is_home is)
+          (shared.untouched place (shard_of place) inside shard-low (λ l low. untouched-is (w.stock.status l place (shard_of place))
+          (λ touched. absurd (subst (MayHave (reclaimer w.history place) l (shard_of place)) is (shared.touched l place (shard_of place) low shard-low touched).0)))) in
+          let rests = subst (RestsAs content room (slots_in z homes) place (shard_of place) (w.stock.stored place)) (eq-eqb (shard_of place) (shard_of place) refl) stands in
+          record { cell = (w.stock.stored place).cell; part = part-now (shard_of place) 0 1 shard-low (ap (λ (f : Phase). references_in f (shard_of place)) is) rests }
+
+      -- and so has one of a taken chain
+      chained-now : (index : ℕ) (lane : LaneOf) → slice_get lanes index ≡ Some lane → has (the_lane lane.book).chain place ≡ true → IsResting z (slots_items new) place
+      chained-now index lane at among =
+          let within = slice_get_within lanes index lane at in
+          let state = entry-at states index (omega (arith, within, wide)) in
+          let e = each index lane state.0 at state.1 in
+          let l : ℕ = (the_lane lane.book).lane in
+          let low : l < z.lanes = subst (λ (n : ℕ). n < z.lanes) e.fits.seat.number_is e.fits.seat.below in
+          let rests = (e.fits.stores.chained place among).0 in
+          let kept = (lane-last rule lane.table e.fits e.seen e.record_is e.free).chained place among in
+          let status : w.stock.status l place (shard_of place) ≡ Whole =
+          sym (e.record_is.deeds place (shard_of place)) ∙ (rests.rests (shard_of place) shard-low ∙ ap (λ (b : Bool). cond b Whole Emptied) (eq-eqb (shard_of place) (shard_of place) refl)) in
+          record {
+            cell = (w.stock.stored place).cell;
+            part = part-now (shard_of place) 0 1 shard-low (ap (λ (f : Phase). references_in f (shard_of place)) kept.with_lane) (shared.whole l place (shard_of place) low inside shard-low status);
+          }
+
+    pub has-cells : HasCells z w.history lanes (slots_items new)
+    has-cells = record {
+      spread = spread-now;
+      returned = home-now;
+      taken = λ index lane place inside at among. chained-now place inside index lane at among;
+    }

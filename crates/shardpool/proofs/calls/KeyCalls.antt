@@ -1,0 +1,130 @@
+-- What a call of a key finds before it, and what it then leaves of its lane.
+use Rattle.std.proofs.Common.{◌≡◌, ℕ, ◌+◌, ◌<◌, Bool, List, [], ◌∷◌, length, Option, Some, None, IfSome, sym, ap, ◌∙◌, subst, slice_get, slice_index_or, slice_set}
+use Rattle.atomic_table.specs.Table.{Me}
+use Rattle.slotcell.specs.Share.{Share}
+use Rattle.keybits.specs.declared.shape.Shape.{Shape}
+use Rattle.keybits.specs.Shapes.{position_of}
+use Rattle.keybits.specs.Keys.{place_of, generation_of}
+use Rattle.freelists.specs.Queues.{IsAway}
+use Rattle.freelists.specs.Shards.{place_numbered}
+use Rattle.seqpool.specs.declared.act.Act.{Act}
+use Rattle.seqpool.specs.declared.act.Act.TheVariants as acts
+use Rattle.sharelaws.specs.declared.stored.Status.TheVariants.{Untouched}
+use Rattle.steplaws.specs.Calls.Call.{Getting, Clearing}
+use Rattle.poolsteps.specs.declared.grid.Spot.{Spot}
+use Rattle.poolsteps.specs.declared.view.View.{View}
+use Rattle.poolsteps.specs.Views.{the_lane, status_of}
+use Rattle.poolsteps.specs.Grids.{IsSpot}
+use Rattle.poolsteps.specs.Told.{MayTouch}
+use Rattle.poolsteps.specs.Moved.{Outs}
+use Rattle.poolsteps.specs.ViewLaws.{HeldLaw}
+use Rattle.poolcalls.specs.declared.reclaimed.Got.TheVariants.{Hit, Miss}
+use Rattle.poolcalls.specs.declared.reclaimed.Reclaimed.{Reclaimed}
+use Rattle.poolcalls.specs.declared.reclaimed.Reclaimed.TheVariants.{Own}
+use Rattle.poolcalls.specs.Called.{Called, HasGot, IsReclaimed, EndsWithActs}
+use Rattle.poolcalls.proofs.Moves.{carries-out}
+use Rattle.shardpool.specs.declared.state.HeldKey.{HeldKey}
+use Rattle.shardpool.specs.declared.state.LaneState.{LaneState}
+use Rattle.shardpool.specs.Tokens.{PoolOf, LaneOf}
+use Rattle.shardpool.specs.Stores.{Keeps}
+use Rattle.shardpool.specs.LaneStates.{FitsRows, Fits}
+use Rattle.shardpool.proofs.calls.Ends.{own-away}
+use Rattle.shardpool.proofs.calls.Gets.{Gained, gained, hit-again, hit-moved, hit-may, none-seen, rows-again, rows-begun, miss-told}
+use Rattle.shardpool.proofs.calls.QuietEnds.{Quieted, quieted, quiet-clear, quiet-miss}
+use Rattle.shardpool.proofs.references.RowChanges.{rows-low, rows-stand}
+use Rattle.shardpool.proofs.frame.SeenHistories.{same-shape}
+
+-- what the lane keeps fits, at the shape of the grid, and the spot is that of the key's place
+pub record Ready {T : Type 0} (content : T → List ℕ) (room : T → ℕ) (z : Shape) (key : ℕ) (spot : Spot) (v : View) (s : LaneState T) : Type 0 where
+  pub fits : Fits content room z v s
+  pub there : IsSpot z spot (place_of key)
+
+-- so it is for a lane of a pool
+pub ready : {T : Type 0} {content : T → List ℕ} {room : T → ℕ} {view lane : LaneOf} {grid pool : PoolOf} {s : LaneState T} {key : ℕ} {spot : Spot} → view ≡ lane
+    → lane.shape ≡ pool.shape → grid ≡ pool → Fits content room view.shape view.book s → IsSpot pool.shape spot (place_of key)
+    → Ready content room grid.shape key spot view.book s
+ready {content = content} {room = room} {view = view} {s = s} {key = key} {spot = spot} seen owned of_pool fits there = record {
+  fits = subst (λ (z : Shape). Fits content room z view.book s) (sym (same-shape seen owned of_pool)) fits;
+  there = subst (λ (p : PoolOf). IsSpot p.shape spot (place_of key)) (sym of_pool) there;
+}
+
+module _ {T : Type 0} {content : T → List ℕ} {room : T → ℕ} {z : Shape} {key : ℕ} {spot : Spot} {v : View} {s : LaneState T} (before : Ready content room z key spot v s) where
+  -- the place has a row
+  pub ready-low : spot.position < length s.rows.items
+  ready-low = subst (λ (i : ℕ). i < length s.rows.items) (sym before.there.position) (rows-low (place_of key) before.fits.rows before.there.inside)
+
+  -- an object that a call answers may be kept
+  away-after : (w : View) (first : List Act) (reclaimed : Option (Reclaimed T)) → EndsWithActs z (place_of key) first v w reclaimed
+      → IfSome reclaimed (IsReclaimed content room z (place_of key) s.number w) → (whole : T) → reclaimed ≡ Some (Own whole) → IsAway s.free (place_numbered spot.place)
+  away-after w first reclaimed acts_so told whole is = subst (λ (p : ℕ). IsAway s.free (place_numbered p)) (sym before.there.place_is)
+      (own-away before.fits w (place_of key) reclaimed before.there.inside acts_so.2 told whole is)
+
+  kept-there : (reclaimed : Option (Reclaimed T)) (t : LaneState T) → Keeps spot.place reclaimed s t → Keeps (place_of key) reclaimed s t
+  kept-there reclaimed t kept = subst (λ (p : ℕ). Keeps p reclaimed s t) before.there.place_is kept
+
+-- ---- a call that makes no reference and gives none back
+
+module _ {T : Type 0} {content : T → List ℕ} {room : T → ℕ} {z : Shape} {key looks : ℕ} {spot : Spot} {a b : Me (Option (Share T)) View} {s : LaneState T}
+    (before : Ready content room z key spot a.0 s) (reclaimed : Option (Reclaimed T)) where
+  pub missed-away : Called z (Getting key) looks a b → HasGot content room z key a b (Miss reclaimed) → (whole : T) → reclaimed ≡ Some (Own whole)
+      → IsAway s.free (place_numbered spot.place)
+  missed-away called got = let told = miss-told reclaimed before.fits called got in away-after before b.0 (acts.Get s.number key None ∷ []) reclaimed told.0 told.1
+
+  -- a get that misses
+  pub missed : (t : LaneState T) → Keeps spot.place reclaimed s t → Called z (Getting key) looks a b → HasGot content room z key a b (Miss reclaimed)
+      → Quieted content room z (acts.Get s.number key None ∷ []) a.0 b.0 s t
+  missed t kept called got =
+      let told = miss-told reclaimed before.fits called got in
+      quieted s t (acts.Get s.number key None ∷ []) reclaimed before.fits called.did called.idle told.0 told.1 before.there.inside (quiet-miss z s.number s.number key)
+      (kept-there before reclaimed t kept)
+
+  pub cleared-away : (reply : Bool) → Called z (Clearing key) looks a b → EndsWithActs z (place_of key) (acts.Clear s.number key reply ∷ []) a.0 b.0 reclaimed
+      → IfSome reclaimed (IsReclaimed content room z (place_of key) s.number b.0) → (whole : T) → reclaimed ≡ Some (Own whole) → IsAway s.free (place_numbered spot.place)
+  cleared-away reply called acts_so told = away-after before b.0 (acts.Clear s.number key reply ∷ []) reclaimed acts_so told
+
+  -- a clear
+  pub cleared : (t : LaneState T) → Keeps spot.place reclaimed s t → (reply : Bool) → Called z (Clearing key) looks a b
+      → EndsWithActs z (place_of key) (acts.Clear s.number key reply ∷ []) a.0 b.0 reclaimed → IfSome reclaimed (IsReclaimed content room z (place_of key) s.number b.0)
+      → Quieted content room z (acts.Clear s.number key reply ∷ []) a.0 b.0 s t
+  cleared t kept reply called acts_so told =
+      quieted s t (acts.Clear s.number key reply ∷ []) reclaimed before.fits called.did called.idle acts_so told before.there.inside (quiet-clear z s.number s.number key reply)
+      (kept-there before reclaimed t kept)
+
+-- ---- a get that hits
+
+module _ {T : Type 0} {content : T → List ℕ} {room : T → ℕ} {z : Shape} {key looks : ℕ} {spot : Spot} {a b : Me (Option (Share T)) View} {s : LaneState T}
+    (before : Ready content room z key spot a.0 s) (called : Called z (Getting key) looks a b) (got : HasGot content room z key a b Hit) where
+  -- the lane may have its share
+  pub hit-touches : HeldLaw → MayTouch z b.0 spot.place s.number
+  hit-touches law = subst (λ (p : ℕ). MayTouch z b.0 p s.number) (sym before.there.place_is) (hit-may before.fits (hit-again called got.0 got.1 got.2) law)
+
+  module _ (row : HeldKey T) (read : row ≡ slice_index_or s.rows.items spot.position row) where
+    stood : slice_get s.rows.items (position_of z (place_of key)) ≡ Some row
+    stood = rows-stand (place_of key) spot.position row before.fits.rows before.there.inside before.there.position read
+
+    -- and left it in its slot, where it had no reference
+    pub hit-untouched : row.count ≡ 0 → status_of (the_lane b.0) spot.place s.number ≡ Untouched
+    hit-untouched none =
+        rw (before.there.place_is, before.fits.seat.number_is) (got.3 (none-seen before.fits key row (before.fits.rows.each (place_of key) row before.there.inside stood) none))
+
+    module _ (t : LaneState T) (rest : t ≡ record s { rows = t.rows; references = s.references + 1 }) where
+      -- its row has one more
+      pub gained-again : 0 < row.count → ((r : HeldKey T) → slice_get s.rows.items spot.position ≡ Some r → t.rows.items ≡ slice_set s.rows.items spot.position (record r { count = r.count + 1 }))
+          → Gained content room z key got.0 a.0 b.0 s t
+      gained-again some written =
+          let there = before.there.position in
+          let more : HeldKey T = record row { count = row.count + 1 } in
+          let items : t.rows.items ≡ slice_set s.rows.items (position_of z (place_of key)) more
+          = written row (ap (slice_get s.rows.items) there ∙ stood) ∙ ap (λ (i : ℕ). slice_set s.rows.items i more) there in
+          gained before.fits (hit-again called got.0 got.1 got.2) t rest
+          (subst (λ xs. FitsRows content room z b.0 xs (s.references + 1)) (sym items) (rows-again before.fits called got.0 got.1 got.2 row stood some))
+
+      -- or its first, with the share that was taken out
+      pub gained-first : {share : Share T} {c : Me (Option (Share T)) View} → row.count ≡ 0 → Outs content room z spot.place s.number Untouched b share c
+          → t.rows.items ≡ slice_set s.rows.items spot.position (record { generation = generation_of key; count = 1; share = Some share }) → Gained content room z key got.0 a.0 c.0 s t
+      gained-first {share = share} {c = c} none taken written =
+          let outs = subst (λ (p : ℕ). Outs content room z p s.number Untouched b share c) before.there.place_is taken in
+          let first : HeldKey T = record { generation = generation_of key; count = 1; share = Some share } in
+          let items : t.rows.items ≡ slice_set s.rows.items (position_of z (place_of key)) first = written ∙ ap (λ (i : ℕ). slice_set s.rows.items i first) before.there.position in
+          gained before.fits (hit-moved called got.0 got.1 got.2 (carries-out outs)) t rest
+          (subst (λ xs. FitsRows content room z c.0 xs (s.references + 1)) (sym items) (rows-begun before.fits called got.0 got.1 got.2 row stood outs none))

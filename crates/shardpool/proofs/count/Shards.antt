@@ -1,0 +1,186 @@
+-- What a place is, by the last words, of which those of the free places are 0.
+use Rattle.std.proofs.Common.{◌≡◌, ◌≢◌, ⊎_elim, ℕ, ◌<◌, ◌≤◌, Bool, true, false, cond, eqb, List, ◌++◌, map, refl, ap, sym, ◌∙◌, subst, arith, eq-eqb, ne_eqb, inl, inr}
+use Rattle.std.proofs.lemmas.Bool.{le-leb, lt-leb, cases_lt}
+use Rattle.std.specs.List.{Contains}
+use mathlib.Core.Logic.{dite}
+use native.Mathlib.Decide.{ℕ_discrete}
+use Rattle.keybits.specs.declared.shape.Shape.{Shape}
+use Rattle.keybits.specs.Places.{shard_of, page_of, number_of}
+use Rattle.keybits.specs.Shapes.{is_place}
+use Rattle.keybits.specs.Counts.{times}
+use Rattle.keybits.specs.Words.{state_in, generation_in}
+use Rattle.keybits.specs.Homes.{times_stacked, AreHomeBy}
+use Rattle.keybits.proofs.CountLemmas.{count_if, sum-some, times-append}
+use Rattle.keybits.proofs.HomeLemmas.{home_on}
+use Rattle.freelists.specs.Queues.{FreePlaces}
+use Rattle.freelists.specs.Shards.{ShardPages}
+use Rattle.seqpool.specs.declared.act.Act.{Act}
+use Rattle.seqpool.specs.Pool.{Phase, with, published, home, retired, fresh, pool_after}
+use Rattle.seqpool.proofs.Ranks.{level-le, rank-rises}
+use Rattle.steplaws.specs.Facts.{bits_of, home_in}
+use Rattle.steplaws.proofs.HomePlaces.{has-some, has-none, home-parts, home-from}
+use Rattle.poolsteps.specs.Views.{the_lane}
+use Rattle.poolsteps.specs.Layout.{words_in}
+use Rattle.shardpool.specs.declared.census.Part.TheVariants.{Free, Unopened}
+use Rattle.shardpool.specs.declared.state.LaneState.{LaneState}
+use Rattle.shardpool.specs.LaneStates.{IsFirst}
+use Rattle.shardpool.specs.Tokens.{LaneOf}
+use Rattle.shardpool.specs.Closings.{phase_at, IsPart, IsKept, IsLast, AreLast}
+use Rattle.shardpool.specs.Marks.{stacked, AreFreePlaces, free_places, part_by, part_in}
+use Rattle.shardpool.proofs.count.Lists.{number-among, among-number, stands-on, on-stacks}
+
+-- ---- the tests, one after another
+
+pub part-unopened : (opened page word : ℕ) → opened ≤ page → part_in opened page word ≡ Unopened
+part-unopened opened page word h = ap (λ (b : Bool). cond b Unopened (cond (eqb word 0) Free (part_by (state_in word)))) (le-leb opened page h)
+
+pub part-free : (opened page word : ℕ) → page < opened → word ≡ 0 → part_in opened page word ≡ Free
+part-free opened page word h none =
+    ap (λ (b : Bool). cond b Unopened (cond (eqb word 0) Free (part_by (state_in word)))) (lt-leb opened page h)
+    ∙ ap (λ (b : Bool). cond b Free (part_by (state_in word))) (eq-eqb word 0 none)
+
+pub part-else : (opened page word : ℕ) → page < opened → word ≢ 0 → part_in opened page word ≡ part_by (state_in word)
+part-else opened page word h some =
+    ap (λ (b : Bool). cond b Unopened (cond (eqb word 0) Free (part_by (state_in word)))) (lt-leb opened page h)
+    ∙ ap (λ (b : Bool). cond b Free (part_by (state_in word))) (ne_eqb word 0 some)
+
+-- ---- one lane
+
+module _ {T : Type 0} (z : Shape) (history : List Act) (lanes : List LaneOf) (states : List (LaneState T)) (words : List ℕ)
+    (last : AreLast z history lanes states (words_in z words)) (lane : LaneOf) (state : LaneState T) (own : IsLast z history (words_in z words) lane state) where
+  -- the places on the stacks of the lane's shard
+  abbrev pub threads_of : ℕ → List ℕ
+  threads_of = (last.homes lane.number own.below).0
+
+  homes : AreHomeBy threads_of z lane.number (words_in z words).link ((words_in z words).stack lane.number) (home_in z history lane.number)
+  homes = (last.homes lane.number own.below).1
+
+  -- the lane's free places, as they stand
+  pub free-stand : AreFreePlaces z words lane.number state.free (the_lane lane.book).chain threads_of
+  free-stand = record {
+    listed = λ place within. (own.listed place (subst (λ (f : FreePlaces). Contains f.own place) own.free_is within)).inside;
+    first = subst (λ (f : FreePlaces). IsFirst f.chain (the_lane lane.book).chain) (sym own.free_is) own.first;
+    chained = (
+      own.leads.0,
+      record {
+        leads = own.leads.1;
+        inside = λ place some. let kept = own.chained place (has-some place (the_lane lane.book).chain some) in (kept.inside, kept.own);
+      },
+    );
+    returned = λ other below apart. record {
+      leads = homes.leads other below apart;
+      inside = λ place some. homes.inside place (home_on threads_of z lane.number (words_in z words).link ((words_in z words).stack lane.number) (home_in z history lane.number) homes
+          other place below apart some);
+    };
+  }
+
+  -- a phase, as the lane's shape tells it
+  lane-phase : (place : ℕ) (phase : Phase) → (pool_after z history place).phase ≡ phase → phase_at history lane place ≡ phase
+  lane-phase place phase is = ap (λ (s : Shape). (pool_after s history place).phase) own.shape_is.0 ∙ is
+
+  kept-phase : (place : ℕ) → IsKept z history lane place → phase_at history lane place ≡ with lane.number
+  kept-phase place kept = lane-phase place (with lane.number) kept.with_lane
+
+  -- all free places of the shard
+  abbrev pub all_free : List ℕ
+  all_free = free_places z lane.number state.free (the_lane lane.book).chain threads_of
+
+  listed-free : (place : ℕ) → 0 < times place (map number_of state.free.own) → IsPart history lane place Free
+  listed-free place some =
+      let on = among-number state.free.own place some in
+      let within = subst (λ (f : FreePlaces). Contains f.own on.at) own.free_is on.within in
+      let kept = subst (IsKept z history lane) on.is (own.listed on.at within) in
+      inr (kept-phase place kept, kept.opened, inl (on.at, within, on.is))
+
+  chained-free : (place : ℕ) → 0 < times place (the_lane lane.book).chain → IsPart history lane place Free
+  chained-free place some =
+      let on = has-some place (the_lane lane.book).chain some in
+      let kept = own.chained place on in
+      inr (kept-phase place kept, kept.opened, inr on)
+
+  pub stacked-home : (place : ℕ) → 0 < times place (stacked lane.number threads_of z.lanes) → (pool_after z history place).phase ≡ home
+  stacked-home place some =
+      let on = stands-on lane.number z.lanes threads_of place some in
+      (home-parts z history lane.number place (home_on threads_of z lane.number (words_in z words).link ((words_in z words).stack lane.number) (home_in z history lane.number) homes
+      on.lane place on.below on.apart on.among)).home
+
+  -- a place of the lists is free
+  pub listed-part : (place : ℕ) → 0 < times place all_free → IsPart history lane place Free
+  listed-part place some =
+      let front = times-append place (the_lane lane.book).chain (stacked lane.number threads_of z.lanes) in
+      let whole = times-append place ((the_lane lane.book).chain ++ stacked lane.number threads_of z.lanes) (map number_of state.free.own) in
+      dite (ℕ_discrete (times place (map number_of state.free.own)) 0)
+      (λ unlisted. dite (ℕ_discrete (times place (the_lane lane.book).chain) 0)
+      (λ unchained. inl (lane-phase place home (stacked-home place (omega arith))))
+      (λ chained. chained-free place (omega arith)))
+      (λ listed. listed-free place (omega arith))
+
+  -- a home place of the shard stands on a stack
+  pub home-stacked : (place : ℕ) → is_place z place ≡ true → shard_of place ≡ lane.number → (pool_after z history place).phase ≡ home
+      → 0 < times place (stacked lane.number threads_of z.lanes)
+  home-stacked place inside of_shard is =
+      let one : times_stacked z.lanes lane.number threads_of place ≡ 1
+      = homes.each_once place ∙ ap count_if (home-from z history lane.number place inside of_shard is) in
+      let some = sum-some z.lanes (λ other. cond (eqb other lane.number) 0 (times place (threads_of other))) (omega arith) in
+      dite (ℕ_discrete some.0 lane.number)
+      (λ same.
+      let none : cond (eqb some.0 lane.number) 0 (times place (threads_of some.0)) ≡ 0 = ap (λ (b : Bool). cond b 0 (times place (threads_of some.0))) (eq-eqb some.0 lane.number same) in
+      let bad = some.2 in absurd (omega arith))
+      (λ apart.
+      let same : cond (eqb some.0 lane.number) 0 (times place (threads_of some.0)) ≡ times place (threads_of some.0)
+      = ap (λ (b : Bool). cond b 0 (times place (threads_of some.0))) (ne_eqb some.0 lane.number apart) in
+      let more = some.2 in
+      on-stacks lane.number z.lanes some.0 threads_of place some.1 apart (omega arith))
+
+  -- no word of a place is 0
+  pub word-some : (place : ℕ) → is_place z place ≡ true → (words_in z words).life place ≢ 0
+  word-some place inside none =
+      let rises = rank-rises z fresh history place last.legal in
+      let most = level-le (pool_after z history place).phase in
+      let generation = (last.state place inside).1 in
+      let zero_generation = ap generation_in none in
+      absurd (omega arith)
+
+  -- by the phase of a place that isn't free
+  by-phase : (place : ℕ) (phase : Phase) → is_place z place ≡ true → shard_of place ≡ lane.number → page_of place < lane.pages.opened → times place all_free ≡ 0
+      → (pool_after z history place).phase ≡ phase → IsPart history lane place (part_by (bits_of phase))
+  by-phase place (with owner) inside of_shard opened none is =
+      let front = times-append place (the_lane lane.book).chain (stacked lane.number threads_of z.lanes) in
+      let whole = times-append place ((the_lane lane.book).chain ++ stacked lane.number threads_of z.lanes) (map number_of state.free.own) in
+      let mine : owner ≡ lane.number = sym (last.alone place owner inside is) ∙ of_shard in (
+        lane-phase place (with lane.number) (is ∙ ap with mine),
+        opened,
+        λ listed.
+            let within = subst (λ (f : FreePlaces). Contains f.own listed.0) (sym own.free_is) listed.1 in
+            let among = subst (λ (n : ℕ). 0 < times n (map number_of state.free.own)) listed.2 (number-among state.free.own listed.0 within) in
+            absurd (omega arith),
+        λ chained. dite (ℕ_discrete (times place (the_lane lane.book).chain) 0)
+            (λ unchained. absurd (cc (sym chained ∙ has-none place (the_lane lane.book).chain unchained)))
+            (λ more. absurd (omega arith)),
+      )
+  by-phase place (published content references false) inside of_shard opened none is = (content, references, lane-phase place (published content references false) is)
+  by-phase place (published content references true) inside of_shard opened none is = (content, references, lane-phase place (published content references true) is)
+  by-phase place home inside of_shard opened none is =
+      let on = home-stacked place inside of_shard is in
+      let front = times-append place (the_lane lane.book).chain (stacked lane.number threads_of z.lanes) in
+      let whole = times-append place ((the_lane lane.book).chain ++ stacked lane.number threads_of z.lanes) (map number_of state.free.own) in
+      absurd (omega arith)
+  by-phase place retired inside of_shard opened none is = lane-phase place retired is
+
+  -- what a place of the shard is by its word, which is 0 where the place is free, and else the last
+  pub part-is : (place word : ℕ) → is_place z place ≡ true → shard_of place ≡ lane.number → (0 < times place all_free → word ≡ 0)
+      → (times place all_free ≡ 0 → word ≡ (words_in z words).life place) → IsPart history lane place (part_in state.pages.opened (page_of place) word)
+  part-is place word inside of_shard marked unmarked =
+      let same : state.pages.opened ≡ lane.pages.opened = ap (λ (p : ShardPages). p.opened) own.pages_is in
+      ⊎_elim
+      (λ (opened : page_of place < state.pages.opened). dite (ℕ_discrete (times place all_free) 0)
+      (λ none.
+      let is : word ≡ (words_in z words).life place = unmarked none in
+      let state_bits_are = (last.state place inside).0 in
+      subst (IsPart history lane place)
+      (sym (part-else state.pages.opened (page_of place) word opened (λ e. word-some place inside (sym is ∙ e)) ∙ ap part_by (ap state_in is ∙ state_bits_are)))
+      (by-phase place (pool_after z history place).phase inside of_shard (omega arith) none refl))
+      (λ some. subst (IsPart history lane place) (sym (part-free state.pages.opened (page_of place) word opened (marked (omega arith)))) (listed-part place (omega arith))))
+      (λ (unopened : state.pages.opened ≤ page_of place). subst (IsPart history lane place) (sym (part-unopened state.pages.opened (page_of place) word unopened))
+      (lane-phase place (with lane.number) (own.unopened place inside of_shard (omega arith)), omega arith))
+      (cases_lt (page_of place) state.pages.opened)

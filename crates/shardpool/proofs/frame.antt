@@ -1,0 +1,10 @@
+-- What a call leaves alone: what of a lane, its places and its history stays while it or others act.
+pub mod OtherShards
+pub mod Frames
+pub mod LaneFrames
+pub mod KeptPlaces
+pub mod BlankPlaces
+pub mod LaneFacts
+pub mod SeenHistories
+pub mod Looks
+pub mod OneLane

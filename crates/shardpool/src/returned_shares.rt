@@ -1,0 +1,73 @@
+//! How the shares under references go back into their slots when a pool is closed.
+ghost use Rattle.std.specs.Prelude.{◌≡◌, ◌<◌, Some, length, slice_get, slice_set};
+ghost use Rattle.core.specs.Mem.Slots.{slots_len, IsFull};
+ghost use Rattle.keybits.specs.Shapes.{IsShape, all_places};
+ghost use Rattle.poolsteps.specs.Joins.{IsSlotRow};
+ghost use Rattle.shardpool.specs.declared.state.LaneState.{LaneState as Shown};
+ghost use Rattle.shardpool.specs.Remains.{GivesRow, GivesBack, MayHandBack, IsStripped, HandsBack, AreStripped};
+
+use crate::state::{HeldKey, LaneState};
+use core::slots::Slots;
+use keybits::Shape;
+use poolsteps::{lay, slot_at};
+use slotcell::Slot;
+use std::mem;
+
+/// The shares under all references go back into their slots. The rows of the lanes then are gone.
+pub(crate) fn hand_back<T: Drop>(
+    shape: &Shape,
+    states: &mut Vec<LaneState<T>>,
+    slots: &mut Slots<Slot<T>>,
+)
+    requires shape { IsShape shape.now }
+    requires states { MayHandBack shape.now states.old.items }
+    requires row { IsSlotRow shape.now slots.old }
+    ensures states { AreStripped states.old.items states.new.items }
+    ensures slots { HandsBack shape.now states.old.items slots.old slots.new }
+{
+    for index in 0..states.len() {
+        let (number, rows) = take_rows(states, index);
+        give_back(shape, number, rows, slots);
+    }
+}
+
+/// The number of a lane, and its rows, which are taken out of its state.
+fn take_rows<T: Drop>(states: &mut Vec<LaneState<T>>, index: usize) -> (u32, Vec<HeldKey<T>>)
+    requires { index < length states.old.items }
+    ensures taken { (state : Shown T) → slice_get states.old.items index ≡ Some state → (result.0 ≡ state.number) × (result.1.items ≡ state.rows.items) }
+    ensures left { (state : Shown T) → slice_get states.old.items index ≡ Some state
+        → (left : Shown T) × IsStripped state left × (states.new.items ≡ slice_set states.old.items index left) }
+{
+    let state = &mut states[index];
+    let none = Vec::new(state.alloc);
+    (state.number, mem::replace(&mut state.rows, none))
+}
+
+/// The shares under a lane's references go back into the lane's slots.
+fn give_back<T: Drop>(shape: &Shape, number: u32, rows: Vec<HeldKey<T>>, slots: &mut Slots<Slot<T>>)
+    requires shape { IsShape shape.now }
+    requires number { number < shape.now.lanes }
+    requires wide { length rows.items ≡ all_places shape.now }
+    requires row { IsSlotRow shape.now slots.old }
+    ensures { GivesBack shape.now number rows.items slots.old slots.new }
+{
+    let mut position = 0;
+    for row in rows {
+        let place = shape.place_at(position);
+        give_row(slot_at(shape, place, position, number), row, slots);
+        position += 1;
+    }
+}
+
+/// The share of a row that counts a reference goes into the slot at this index.
+fn give_row<T: Drop>(index: usize, row: HeldKey<T>, slots: &mut Slots<Slot<T>>)
+    requires full { IsFull slots.old }
+    requires index { index < slots_len slots.old }
+    ensures { GivesRow index row slots.old slots.new }
+{
+    if row.count > 0 {
+        if let Some(share) = row.share {
+            lay(index, share, slots);
+        }
+    }
+}
