@@ -1,5 +1,5 @@
 -- The note has seen what its lane saw after the publish.
-use Rattle.std.proofs.Common.{ℕ, List, false, sym, ◌∙◌, subst}
+use Rattle.std.proofs.Common.{List, false, sym, ◌∙◌, subst}
 use Rattle.seqpool.specs.declared.act.Act.{Act}
 use Rattle.seqpool.specs.Histories.{PublishedAt}
 use Rattle.poolsteps.specs.Views.{the_lane}

@@ -1,4 +1,3 @@
-use Rattle.std.proofs.Common.{ℕ}
 use Rattle.poolsample.proofs.Standing.{published-later}
 use Rattle.poolsample.proofs.relay.take_in.Goals as goal
 

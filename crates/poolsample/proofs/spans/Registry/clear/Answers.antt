@@ -1,4 +1,3 @@
-use Rattle.std.proofs.Common.{ℕ}
 use Rattle.keybits.specs.Keys.{is_key}
 use Rattle.poolsteps.specs.Views.{the_lane}
 use Rattle.poolsample.proofs.Standing.{cleared-in}

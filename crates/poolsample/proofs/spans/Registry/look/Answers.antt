@@ -1,5 +1,5 @@
 -- What is read was published under the key, and what is then seen begins with what was seen at the read.
-use Rattle.std.proofs.Common.{◌≡◌, ℕ, List, length, ap, ◌∙◌, subst}
+use Rattle.std.proofs.Common.{ℕ, List, length, ap, ◌∙◌, subst}
 use Rattle.seqpool.specs.Histories.{PublishedAt}
 use Rattle.poolsample.proofs.Standing.{published-later}
 use Rattle.poolsample.specs.declared.spans.Summary.{Summary}

@@ -1,5 +1,5 @@
 -- The lane that the pool is opened with has seen and done nothing.
-use Rattle.std.proofs.Common.{◌≡◌, ℕ, List, slice_get, ap}
+use Rattle.std.proofs.Common.{List, slice_get, ap}
 use Rattle.poolsteps.specs.declared.view.View.{View}
 use Rattle.poolsteps.specs.Views.{the_lane}
 use Rattle.shardpool.specs.Places.{held_after}

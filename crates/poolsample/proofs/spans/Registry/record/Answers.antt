@@ -1,4 +1,4 @@
-use Rattle.std.proofs.Common.{◌≡◌, ℕ, List, false, sym, subst}
+use Rattle.std.proofs.Common.{ℕ, List, false, sym, subst}
 use Rattle.seqpool.specs.Histories.{PublishedAt}
 use Rattle.poolsteps.specs.Views.{the_lane}
 use Rattle.poolsample.specs.Spans.{content_of, span_numbers}
