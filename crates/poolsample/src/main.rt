@@ -116,7 +116,7 @@ fn main(rt: HostRuntime) -> anyhow::Result<()> {
     );
     println!(rt; "all rounds went well: {one} and {other}")?;
 
-    // The second lane is told what the first has seen, finds the buffer, and clears it.
+    // The key alone finds the buffer. By the note the prover knows that it is there.
     let key = publish(&pool, &mut first, b"hello")?;
     let note = pool.tell(&mut first);
     pool.hear(&mut second, note);
