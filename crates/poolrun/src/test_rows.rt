@@ -209,10 +209,7 @@ fn acts_with_stopped_lanes_are_legal(rt: HostRuntime) -> Result<(), Fail> {
 fn stops_a_lane_after_a_turn(rt: HostRuntime) -> Result<(), Fail> {
     let whole = [0, 0, 1, 0, 0, 0, 0, 0, 0, 1, 1, 1, 1, 1, 1];
     let rest = stop_after(rt.alloc(), &whole, 1, 1).map_err(|_| "memory")?;
-    assert_eq!(rt;
-        rest.as_slice(),
-        [0, 0, 1, 0, 0, 0, 0, 0, 0].as_slice()
-    );
+    assert_eq!(rt; rest.as_slice(), [0, 0, 1, 0, 0, 0, 0, 0, 0].as_slice());
     Ok(())
 }
 
