@@ -1,6 +1,5 @@
 -- Commands that grow by an argument or a subcommand.
-use Rattle.std.proofs.Common.{◌≡◌, ◌||◌, false, refl, ap, ap₂, ◌∙◌}
-use Rattle.clap.specs.Simple.{app_of_fields}
+use Rattle.std.proofs.Common.{◌≡◌, false, refl, ap₂, ◌∙◌}
 use Rattle.clap.specs.Words.{App, Rule, AddsArg, AddsSubcommand, app_of, rule_of, with_rule, with_subcommand}
 use Rattle.clap.specs.declared.builder.arg.Arg.{Arg}
 use Rattle.clap.specs.declared.builder.command.Command.{Command}

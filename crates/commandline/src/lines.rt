@@ -44,24 +44,19 @@ fn replay_command<'a>(alloc: Global) -> Result<Command<'a>, AllocError>
     ensures { IfOk result
         (λ c. (app_of c ≡ replay_line) × ((fields_of c).has_globals ≡ false)) }
 {
-    let file = positional(alloc, "file", "FILE", "The script file");
-    let schedule = option_named(
-        alloc,
-        "schedule",
-        "LANES",
-        "The lanes that take turns, as 0,1,1",
-    );
-    let seed = option_named(alloc, "seed", "N", "The seed that the turns are drawn from");
-    let turns = option_named(alloc, "turns", "M", "How many turns are drawn");
-    let stop = option_named(alloc, "stop", "L:K", "Lane L has no turn after its K-th");
-    let acts = flag_named(alloc, "acts", "Prints the acts in place of the trace");
+    // Each argument is made where it is added, so that a refusal finds no other to drop.
     let replay = Command::new(alloc, "replay")
-        .arg(file)?
-        .arg(schedule)?
-        .arg(seed)?
-        .arg(turns)?
-        .arg(stop)?
-        .arg(acts)?;
+        .arg(positional(alloc, "file", "FILE", "The script file"))?
+        .arg(option_named(
+            alloc,
+            "schedule",
+            "LANES",
+            "The lanes that take turns, as 0,1,1",
+        ))?
+        .arg(option_named(alloc, "seed", "N", "The seed that the turns are drawn from"))?
+        .arg(option_named(alloc, "turns", "M", "How many turns are drawn"))?
+        .arg(option_named(alloc, "stop", "L:K", "Lane L has no turn after its K-th"))?
+        .arg(flag_named(alloc, "acts", "Prints the acts in place of the trace"))?;
     Ok(
         replay
             .about("Replays a script file and prints the trace")
@@ -114,16 +109,15 @@ pub(crate) fn program_command<'a>(alloc: Global) -> Result<Command<'a>, AllocErr
     ensures { IfOk result (λ c. app_of c ≡ command_line) }
 {
     let replay = replay_command(alloc)?;
-    let check = check_command(alloc)?;
-    let run = run_command(alloc)?;
-    let key = key_command(alloc)?;
     let program = Command::new(alloc, "poolrun")
         .about("A pool of objects that are cleared and used again in place")
         .after_help("Example: poolrun replay first.json --schedule 0,0")
-        .subcommand_required(true);
-    program
-        .subcommand(replay)?
-        .subcommand(check)?
-        .subcommand(run)?
-        .subcommand(key)
+        .subcommand_required(true)
+        .subcommand(replay)?;
+    let check = check_command(alloc)?;
+    let program = program.subcommand(check)?;
+    let run = run_command(alloc)?;
+    let program = program.subcommand(run)?;
+    let key = key_command(alloc)?;
+    program.subcommand(key)
 }
