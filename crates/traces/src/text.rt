@@ -1,4 +1,4 @@
-ghost use Rattle.std.specs.Prelude.{◌≡◌, ◌++◌, OnOk, OnErr, flat_map};
+ghost use Rattle.std.specs.Prelude.{◌≡◌, ◌++◌, OnOk, OnErr, codes, flat_map};
 ghost use Rattle.std.specs.Fmt.{decimal};
 ghost use Rattle.seqpool.specs.ActsText.{content_text};
 ghost use Rattle.traces.specs.Text.{reply_text, reply_line, kind_text, word_text, step_line, turn_text, trace_text};
@@ -100,16 +100,33 @@ fn write_step(lane: u32, step: &Step, out: &mut Vec<u8>) -> Result<(), AllocErro
     ensures err { OnErr result (IsPrefix out.old.items out.new.items) }
 {
     write_number(u64::from(lane), out)?;
-    write_text(" ", out)?;
-    write_text(kind_name(step.kind), out)?;
+    write_field(kind_name(step.kind), out)?;
     write_text(" ", out)?;
     write_word(step.word, out)?;
-    write_text(" ", out)?;
-    write_number(step.before, out)?;
-    write_text(" ", out)?;
-    write_number(step.after, out)?;
-    write_text("\n", out)?;
+    write_values(step.before, step.after, out)?;
     Ok(())
+}
+
+/// A text after a space.
+fn write_field(text: &str, out: &mut Vec<u8>) -> Result<(), AllocError>
+    ensures ok { OnOk result (out.new.items ≡ out.old.items ++ codes " " ++ text.now) }
+    ensures err { OnErr result (IsPrefix out.old.items out.new.items) }
+{
+    write_text(" ", out)?;
+    write_text(text, out)
+}
+
+/// The values of a step's word, which end its line.
+fn write_values(before: u64, after: u64, out: &mut Vec<u8>) -> Result<(), AllocError>
+    ensures ok { OnOk result (out.new.items
+        ≡ out.old.items ++ codes " " ++ decimal before ++ codes " " ++ decimal after ++ codes "\n") }
+    ensures err { OnErr result (IsPrefix out.old.items out.new.items) }
+{
+    write_text(" ", out)?;
+    write_number(before, out)?;
+    write_text(" ", out)?;
+    write_number(after, out)?;
+    write_text("\n", out)
 }
 
 fn kind_name(kind: Kind) -> &'static str
