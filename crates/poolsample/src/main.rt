@@ -107,6 +107,99 @@ fn serve(pool: &Pool<ByteBuf>, mut lane: Lane<ByteBuf>, bytes: &[u8]) -> (Lane<B
     (lane, well)
 }
 
+/// What one lane found of buffers that another published.
+#[derive(Clone, Copy)]
+struct Findings {
+    /// How long the first buffer was; whether the other lane's clear marked its key, and whether the publisher's then did.
+    told: (Option<usize>, bool, bool),
+    /// How long a buffer was that a guard published; whether it was cleared, and how long it was then.
+    guarded: (Option<usize>, bool, Option<usize>),
+    /// How long a buffer was that a closure filled.
+    filled: Option<usize>,
+}
+
+/// The second lane finds and clears what the first published. The key alone finds the buffer; by the note the prover knows that
+/// it is there.
+fn clear_for_another(
+    pool: &Pool<ByteBuf>,
+    first: &mut Lane<ByteBuf>,
+    second: &mut Lane<ByteBuf>,
+) -> anyhow::Result<(Option<usize>, bool, bool)>
+    requires first { Owns pool.now first.old × (refs first.old ≡ 0) }
+    requires second { Owns pool.now second.old × (refs second.old ≡ 0) }
+    ensures first { SameLane first.old first.new × (refs first.new ≡ 0) }
+    ensures second { SameLane second.old second.new × (refs second.new ≡ 0) }
+{
+    let key = publish(pool, first, b"hello")?;
+    let note = pool.tell(first);
+    pool.hear(second, note);
+    let found = length(pool, second, key);
+    let cleared = pool.clear(second, key);
+    let again = pool.clear(first, key);
+    Ok((found, cleared, again))
+}
+
+/// A lane publishes by a guard, and finds and clears the buffer.
+fn clear_guarded(
+    pool: &Pool<ByteBuf>,
+    lane: &mut Lane<ByteBuf>,
+) -> anyhow::Result<(Option<usize>, bool, Option<usize>)>
+    requires { Owns pool.now lane.old × (refs lane.old ≡ 0) }
+    ensures { SameLane lane.old lane.new × (refs lane.new ≡ 0) }
+{
+    let key = publish_guarded(pool, lane, b"by a guard")?;
+    let found = measure(pool, lane, key);
+    let cleared = pool.clear(lane, key);
+    let after = measure(pool, lane, key);
+    Ok((found, cleared, after))
+}
+
+/// A lane publishes what a closure fills, and finds it.
+fn find_filled(pool: &Pool<ByteBuf>, lane: &mut Lane<ByteBuf>) -> anyhow::Result<Option<usize>>
+    requires { Owns pool.now lane.old × (refs lane.old ≡ 0) }
+    ensures { SameLane lane.old lane.new × (refs lane.new ≡ 0) }
+{
+    let key = create_with(pool, lane, |buffer: &mut ByteBuf| {
+        let _ = buffer.append(b"by a closure");
+    })?;
+    Ok(measure(pool, lane, key))
+}
+
+/// What two lanes find of each other's buffers and of their own.
+fn find_each(
+    pool: &Pool<ByteBuf>,
+    first: &mut Lane<ByteBuf>,
+    second: &mut Lane<ByteBuf>,
+) -> anyhow::Result<Findings>
+    requires first { Owns pool.now first.old × (refs first.old ≡ 0) }
+    requires second { Owns pool.now second.old × (refs second.old ≡ 0) }
+    ensures first { SameLane first.old first.new × (refs first.new ≡ 0) }
+    ensures second { SameLane second.old second.new × (refs second.new ≡ 0) }
+{
+    let told = clear_for_another(pool, first, second)?;
+    let guarded = clear_guarded(pool, first)?;
+    let filled = find_filled(pool, first)?;
+    Ok(Findings {
+        told,
+        guarded,
+        filled,
+    })
+}
+
+/// Prints what lanes found.
+fn print(rt: &HostRuntime, findings: Findings) -> anyhow::Result<()> {
+    let Findings {
+        told: (found, cleared, again),
+        guarded: (by_guard, marked, after),
+        filled,
+    } = findings;
+    println!(rt; "bytes found: {found:?}; cleared: {cleared}, and again: {again}")?;
+    println!(rt; "by a guard: {by_guard:?}; cleared: {marked}, and then: {after:?}")?;
+    println!(rt; "by a closure: {filled:?}")?;
+    Ok(())
+}
+
+// Nothing is printed before the pool is closed: a failed print that ends main would leave the lanes to be dropped.
 fn main(rt: HostRuntime) -> anyhow::Result<()> {
     let (pool, first, second) = open_two(rt.alloc())?;
     let ((mut first, one), (mut second, other)) = thread::join(
@@ -114,33 +207,13 @@ fn main(rt: HostRuntime) -> anyhow::Result<()> {
         || serve(&pool, first, b"first".as_slice()),
         || serve(&pool, second, b"the second".as_slice()),
     );
-    println!(rt; "all rounds went well: {one} and {other}")?;
-
-    // The key alone finds the buffer. By the note the prover knows that it is there.
-    let key = publish(&pool, &mut first, b"hello")?;
-    let note = pool.tell(&mut first);
-    pool.hear(&mut second, note);
-    let found = length(&pool, &mut second, key);
-    let cleared = pool.clear(&mut second, key);
-    let again = pool.clear(&mut first, key);
-    println!(rt; "bytes found: {found:?}; cleared: {cleared}, and again: {again}")?;
-
-    let key = publish_guarded(&pool, &mut first, b"by a guard")?;
-    let found = measure(&pool, &mut first, key);
-    let cleared = pool.clear(&mut first, key);
-    let after = measure(&pool, &mut first, key);
-    println!(rt; "by a guard: {found:?}; cleared: {cleared}, and then: {after:?}")?;
-
-    let key = create_with(&pool, &mut first, |buffer: &mut ByteBuf| {
-        let _ = buffer.append(b"by a closure");
-    })?;
-    let found = measure(&pool, &mut first, key);
-    println!(rt; "by a closure: {found:?}")?;
-
-    let (first, second, found) = relay::<Brand, _>(&rt, rt.alloc(), &pool, first, second, b"sent")?;
-    println!(rt; "by a message: {found:?}")?;
-
+    let findings = find_each(&pool, &mut first, &mut second);
+    let (first, second, sent) = relay::<Brand, _>(&rt, rt.alloc(), &pool, first, second, b"sent")?;
     let census = close_two(rt.alloc(), pool, first, second)?;
+
+    println!(rt; "all rounds went well: {one} and {other}")?;
+    print(&rt, findings?)?;
+    println!(rt; "by a message: {sent:?}")?;
     println!(rt; "closed: {census:?}")?;
     let (found, after) = trace(rt.alloc())?;
     println!(rt; "a span: {found:?}; cleared, and then: {after:?}")?;
