@@ -9,7 +9,7 @@ use std::marker::Model;
 /// The own list goes through one link number for each place of the shard, so that nothing but `new` takes memory: a
 /// contract sees the room for links beside the places, and no call changes it. The order and the chain are this project's
 /// profile.
-#[derive(Debug, Drop)]
+#[derive(Drop)]
 pub struct LocalFree {
     shard: Shard,
     // The link to the place after each place of the list, at the place's index; 0 at the last place.

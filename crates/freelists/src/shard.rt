@@ -6,7 +6,7 @@ ghost use Rattle.freelists.specs.Shards.{place_numbered};
 use keybits::{MOST_LANES, Place, SHARD_NUMBERS, Shape, linked_place};
 
 /// A shard, with a shape that tells the sizes of its pages.
-#[derive(Clone, Copy, Debug)]
+#[derive(Clone, Copy)]
 pub(crate) struct Shard {
     /// The shard's number, 0 to 15.
     pub(crate) number: u8,

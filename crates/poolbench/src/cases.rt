@@ -97,9 +97,9 @@ pub const CASES: [(&str, Case); 18] = [
 
 /// The case of this word.
 fn case_of(word: &str) -> Option<Case> {
-    for (name, case) in CASES {
-        if name == word {
-            return Some(case);
+    for (name, case) in &CASES {
+        if *name == word {
+            return Some(*case);
         }
     }
     None

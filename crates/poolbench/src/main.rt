@@ -2,6 +2,8 @@
 //! reads no clock, so it is timed from outside.
 #![tactic(auto)]
 
+ghost use Rattle.std.specs.Prelude.{◌≤◌};
+
 mod arcs;
 mod cases;
 mod fault;
@@ -12,7 +14,7 @@ mod slabs;
 mod store;
 mod work;
 
-use crate::cases::{CASES, Plan, run_plan};
+use crate::cases::{CASES, Case, Plan, run_plan};
 use crate::fault::Fault;
 use std::alloc::Global;
 use std::env;
@@ -35,18 +37,30 @@ fn read_words(rt: &HostRuntime) -> Result<Vec<String>, Fault> {
 
 /// Does each case a few rounds, on one thread and on two, and prints its lines.
 fn show_all<R: Threads + Wait + Print + Sync>(rt: &R, alloc: Global) -> Result<(), Fault> {
-    for (name, case) in CASES {
-        for threads in 1..=2 {
-            let plan = Plan {
-                case,
-                threads,
-                rounds: FEW_ROUNDS,
-            };
-            let count = run_plan(rt, alloc, plan)?;
-            println!(rt; "{name} on {threads}: {count}").map_err(|_| Fault::Output)?;
-        }
+    for (name, case) in &CASES {
+        show(rt, alloc, name, *case, 1)?;
+        show(rt, alloc, name, *case, 2)?;
     }
     Ok(())
+}
+
+/// Does a case a few rounds, and prints its line.
+fn show<R: Threads + Wait + Print + Sync>(
+    rt: &R,
+    alloc: Global,
+    name: &str,
+    case: Case,
+    threads: u32,
+) -> Result<(), Fault>
+    requires { (1 ≤ threads) × (threads ≤ 16) }
+{
+    let plan = Plan {
+        case,
+        threads,
+        rounds: FEW_ROUNDS,
+    };
+    let count = run_plan(rt, alloc, plan)?;
+    println!(rt; "{name} on {threads}: {count}").map_err(|_| Fault::Output)
 }
 
 /// Does what the words name, and prints what was counted.

@@ -2,7 +2,7 @@
 use poolsteps::Spot;
 
 /// The place at which a call acts, and the lane that makes it.
-#[derive(Clone, Copy, Debug, PartialEq, Eq)]
+#[derive(Clone, Copy)]
 pub struct At {
     /// Where the words and the slots of the place stand.
     pub spot: Spot,

@@ -1,5 +1,5 @@
 /// What a lane has under way between two steps of a call. Keys and places go by their numbers.
-#[derive(Clone, Copy, Debug, PartialEq, Eq)]
+#[derive(Clone, Copy)]
 pub enum Pending {
     /// Nothing.
     Nothing,
