@@ -1,5 +1,5 @@
 //! Calls of a pool as tests make them: with what they ask of a lane, and what they leave of it.
-ghost use Rattle.std.specs.Prelude.{◌≡◌, ◌==◌, ◌+◌, ◌<◌, ◌≤◌, ℕ, All, IfOk};
+ghost use Rattle.std.specs.Prelude.{◌≡◌, ◌==◌, ◌+◌, ◌<◌, ◌≤◌, ℕ, All};
 ghost use Rattle.steplaws.specs.Facts.{most_references};
 ghost use Rattle.shardpool.specs.Tokens.{LaneOf, FillingOf};
 ghost use Rattle.shardpool.specs.Lanes.{Owns, Made, holds, refs};
@@ -9,7 +9,6 @@ use shardpool::{Census, CreateFault, Filling, Lane, Pool, Ref, close, open};
 use slotcell::{ByteBuf, Clear};
 use std::alloc::Global;
 use std::process::Abort;
-use std::test::Fail;
 
 /// The largest generation of a place.
 pub(crate) const LAST: u32 = 4294967295;
@@ -35,54 +34,61 @@ pub(crate) const fn shape_of(lanes: u32, first_page: u32, pages: u32) -> Shape {
 }
 
 /// A pool of this shape, and its lanes.
-pub(crate) fn open_all<T: Clear + Drop>(
+pub(crate) fn open_all<T: Clear + Drop, R: Abort>(
+    rt: &R,
     alloc: Global,
     shape: Shape,
-) -> Result<(Pool<T>, Vec<Lane<T>>), Fail>
-    ensures { IfOk result (λ made. All (λ lane. Owns made.0 lane × (refs lane ≡ 0)) made.1.items) }
+) -> (Pool<T>, Vec<Lane<T>>)
+    ensures { All (λ lane. Owns result.0 lane × (refs lane ≡ 0)) result.1.items }
 {
-    Ok(open(alloc, shape)?)
+    let Ok(made) = open(alloc, shape) else {
+        panic!(rt; "no pool")
+    };
+    made
 }
 
 /// The last of the lanes.
-pub(crate) fn last_of<T: Clear + Drop>(
+pub(crate) fn last_of<T: Clear + Drop, R: Abort>(
+    rt: &R,
     pool: &Pool<T>,
     lanes: &mut Vec<Lane<T>>,
-) -> Result<Lane<T>, Fail>
+) -> Lane<T>
     requires { All (λ lane. Owns pool.now lane × (refs lane ≡ 0)) lanes.old.items }
     ensures rest { All (λ lane. Owns pool.now lane × (refs lane ≡ 0)) lanes.new.items }
-    ensures last { IfOk result (λ lane. Owns pool.now lane × (refs lane ≡ 0)) }
+    ensures last { Owns pool.now result × (refs result ≡ 0) }
 {
     let Some(lane) = lanes.pop() else {
-        return Err(Fail::from("no lane"));
+        panic!(rt; "no lane")
     };
-    Ok(lane)
+    lane
 }
 
 /// A pool of this shape, and the last of its lanes.
-pub(crate) fn open_last<T: Clear + Drop>(
+pub(crate) fn open_last<T: Clear + Drop, R: Abort>(
+    rt: &R,
     alloc: Global,
     shape: Shape,
-) -> Result<(Pool<T>, Lane<T>), Fail>
-    ensures { IfOk result (λ made. Owns made.0 made.1 × (refs made.1 ≡ 0)) }
+) -> (Pool<T>, Lane<T>)
+    ensures { Owns result.0 result.1 × (refs result.1 ≡ 0) }
 {
-    let (pool, mut lanes) = open_all(alloc, shape)?;
-    let lane = last_of(&pool, &mut lanes)?;
-    Ok((pool, lane))
+    let (pool, mut lanes) = open_all(rt, alloc, shape);
+    let lane = last_of(rt, &pool, &mut lanes);
+    (pool, lane)
 }
 
 /// A pool of this shape, and the last two of its lanes.
-pub(crate) fn open_pair<T: Clear + Drop>(
+pub(crate) fn open_pair<T: Clear + Drop, R: Abort>(
+    rt: &R,
     alloc: Global,
     shape: Shape,
-) -> Result<(Pool<T>, Lane<T>, Lane<T>), Fail>
-    ensures first { IfOk result (λ made. Owns made.0 made.1 × (refs made.1 ≡ 0)) }
-    ensures second { IfOk result (λ made. Owns made.0 made.2 × (refs made.2 ≡ 0)) }
+) -> (Pool<T>, Lane<T>, Lane<T>)
+    ensures first { Owns result.0 result.1 × (refs result.1 ≡ 0) }
+    ensures second { Owns result.0 result.2 × (refs result.2 ≡ 0) }
 {
-    let (pool, mut lanes) = open_all(alloc, shape)?;
-    let second = last_of(&pool, &mut lanes)?;
-    let first = last_of(&pool, &mut lanes)?;
-    Ok((pool, first, second))
+    let (pool, mut lanes) = open_all(rt, alloc, shape);
+    let second = last_of(rt, &pool, &mut lanes);
+    let first = last_of(rt, &pool, &mut lanes);
+    (pool, first, second)
 }
 
 /// Closes a pool with its lanes, of which the last comes first.
@@ -107,12 +113,12 @@ pub(crate) fn close_one<T: Clear + Drop, R: Abort>(
     alloc: Global,
     pool: Pool<T>,
     lane: Lane<T>,
-) -> Result<Census, Fail>
+) -> Census
     requires { Owns pool lane }
 {
-    let mut lanes = Vec::with_capacity(alloc, 1)?;
+    let mut lanes = Vec::with_capacity(alloc, 1).expect(rt, "memory for a lane");
     lanes.push_reserved(lane);
-    Ok(close_all(rt, pool, lanes))
+    close_all(rt, pool, lanes)
 }
 
 /// Closes a pool of two lanes.
@@ -122,14 +128,14 @@ pub(crate) fn close_two<T: Clear + Drop, R: Abort>(
     pool: Pool<T>,
     first: Lane<T>,
     second: Lane<T>,
-) -> Result<Census, Fail>
+) -> Census
     requires first { Owns pool first }
     requires second { Owns pool second }
 {
-    let mut lanes = Vec::with_capacity(alloc, 2)?;
+    let mut lanes = Vec::with_capacity(alloc, 2).expect(rt, "memory for two lanes");
     lanes.push_reserved(second);
     lanes.push_reserved(first);
-    Ok(close_all(rt, pool, lanes))
+    close_all(rt, pool, lanes)
 }
 
 /// A filling. Where the memory of a page is refused, the page stays unopened, and the call is made again.

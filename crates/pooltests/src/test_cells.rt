@@ -8,6 +8,7 @@ use poolcalls::{rest_cell, spread_cell, spread_others, take_cell, take_resting};
 use poolsteps::{Grid, Hand, Spot};
 use slotcell::{ByteBuf, Clear, Share, Whole};
 use std::alloc::Global;
+use std::process::Abort;
 use std::test::Fail;
 
 const ONE_LANE: Shape = Shape {
@@ -65,10 +66,20 @@ fn move_about<T: Clear + Drop>(
 }
 
 /// An object of this byte, in a cell.
-fn object_of(alloc: Global, byte: u8) -> Result<Whole<ByteBuf>, Fail> {
+pub(crate) fn object_of<R: Abort>(rt: &R, alloc: Global, byte: u8) -> Whole<ByteBuf> {
     let mut object = ByteBuf::fresh(alloc);
-    object.append(&[byte]).ok().ok_or("no memory")?;
-    Ok(Whole::new(alloc, object).ok().ok_or("no memory")?)
+    object.append(&[byte]).expect(rt, "memory for a byte");
+    Whole::new(alloc, object)
+        .ok()
+        .expect(rt, "memory for a cell")
+}
+
+/// The first place of a lane.
+fn first_place<T: Clear, R: Abort>(rt: &R, grid: &Grid<T>, lane: u32) -> Spot
+    requires { lane < grid.now.shape.lanes }
+    ensures { IsSpot grid.now.shape result (65536 * lane) }
+{
+    grid.find(lane << 16).expect(rt, "a place")
 }
 
 #[test]
@@ -80,8 +91,8 @@ fn moves_whole_cells(rt: HostRuntime) -> Result<(), Fail> {
         (THREE_LANES, 1),
     ] {
         let (grid, mut hand) = grid_of(rt.alloc(), &shape, lane)?;
-        let spot = grid.find(lane << 16).ok_or("no place")?;
-        let whole = object_of(rt.alloc(), 7)?;
+        let spot = first_place(&rt, &grid, lane);
+        let whole = object_of(&rt, rt.alloc(), 7);
         let share = move_about(rt.alloc(), &grid, &mut hand, spot, lane, whole);
         assert_eq!(rt; share.read().as_slice(), [7].as_slice());
     }

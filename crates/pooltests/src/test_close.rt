@@ -2,106 +2,99 @@
 ghost use Rattle.shardpool.specs.Lanes.{Owns};
 
 use crate::test_calls::{
-    NO_PLACE, close_one, close_two, finds_full, open_last, open_pair, shape_of,
+    NO_PLACE, clear, close_one, close_two, create, finds_full, open_last, open_pair, shape_of,
 };
 use keybits::Shape;
 use shardpool::{Census, Lane, Pool};
 use slotcell::{ByteBuf, Clear, Record};
 use std::alloc::Global;
 use std::process::Abort;
-use std::test::Fail;
 
 /// The one place is published and cleared at its last generation. Nothing is free then.
-fn use_up<T: Clear + Drop, R: Abort>(rt: &R, pool: &Pool<T>, lane: &mut Lane<T>) -> Result<(), Fail>
+fn use_up<T: Clear + Drop, R: Abort>(rt: &R, pool: &Pool<T>, lane: &mut Lane<T>)
     requires { Owns pool.now lane.old }
     ensures { Owns pool.now lane.new }
 {
-    let filling = pool.create(lane)?;
+    let filling = create(rt, pool, lane);
     let key = pool.publish(lane, filling);
-    assert!(rt; pool.clear(lane, key));
+    clear(rt, pool, lane, key, true);
     finds_full(rt, pool, lane);
-    Ok(())
 }
 
-fn close_used_up<T: Clear + Drop, R: Abort>(rt: &R, alloc: Global) -> Result<Census, Fail> {
+fn close_used_up<T: Clear + Drop, R: Abort>(rt: &R, alloc: Global) -> Census {
     let shape = Shape {
         last_generation: 1,
         ..shape_of(1, 1, 1)
     };
-    let (pool, mut lane) = open_last::<T>(alloc, shape)?;
-    use_up(rt, &pool, &mut lane)?;
+    let (pool, mut lane) = open_last::<T, _>(rt, alloc, shape);
+    use_up(rt, &pool, &mut lane);
     close_one(rt, alloc, pool, lane)
 }
 
 /// A place is published with a reference, which is left, and cleared.
-fn close_marked<T: Clear + Drop, R: Abort>(rt: &R, alloc: Global) -> Result<Census, Fail> {
-    let (pool, mut first, second) = open_pair::<T>(alloc, shape_of(2, 1, 1))?;
-    let filling = pool.create(&mut first)?;
+fn close_marked<T: Clear + Drop, R: Abort>(rt: &R, alloc: Global) -> Census {
+    let (pool, mut first, second) = open_pair::<T, _>(rt, alloc, shape_of(2, 1, 1));
+    let filling = create(rt, &pool, &mut first);
     let reference = pool.downgrade(&mut first, filling);
-    assert!(rt; pool.clear(&mut first, reference.key()));
+    clear(rt, &pool, &mut first, reference.key(), true);
     reference.leave();
     close_two(rt, alloc, pool, first, second)
 }
 
 /// The first lane publishes, and the second clears, which returns the place.
-fn close_returned<T: Clear + Drop, R: Abort>(rt: &R, alloc: Global) -> Result<Census, Fail> {
-    let (pool, mut first, mut second) = open_pair::<T>(alloc, shape_of(2, 1, 1))?;
-    let filling = pool.create(&mut first)?;
+fn close_returned<T: Clear + Drop, R: Abort>(rt: &R, alloc: Global) -> Census {
+    let (pool, mut first, mut second) = open_pair::<T, _>(rt, alloc, shape_of(2, 1, 1));
+    let filling = create(rt, &pool, &mut first);
     let key = pool.publish(&mut first, filling);
-    assert!(rt; pool.clear(&mut second, key));
+    clear(rt, &pool, &mut second, key, true);
     close_two(rt, alloc, pool, first, second)
 }
 
 /// A filling is left.
-fn close_filling<T: Clear + Drop, R: Abort>(rt: &R, alloc: Global) -> Result<Census, Fail> {
-    let (pool, mut lane) = open_last::<T>(alloc, shape_of(1, 1, 1))?;
-    let filling = pool.create(&mut lane)?;
-    filling.leave();
+fn close_filling<T: Clear + Drop, R: Abort>(rt: &R, alloc: Global) -> Census {
+    let (pool, mut lane) = open_last::<T, _>(rt, alloc, shape_of(1, 1, 1));
+    create(rt, &pool, &mut lane).leave();
     close_one(rt, alloc, pool, lane)
 }
 
 #[test]
-fn counts_a_retired_place(rt: HostRuntime) -> Result<(), Fail> {
+fn counts_a_retired_place(rt: HostRuntime) {
     let census = Census {
         retired: 1,
         ..NO_PLACE
     };
-    assert_eq!(rt; close_used_up::<ByteBuf, _>(&rt, rt.alloc())?, census);
-    assert_eq!(rt; close_used_up::<Record, _>(&rt, rt.alloc())?, census);
-    Ok(())
+    assert_eq!(rt; close_used_up::<ByteBuf, _>(&rt, rt.alloc()), census);
+    assert_eq!(rt; close_used_up::<Record, _>(&rt, rt.alloc()), census);
 }
 
 #[test]
-fn counts_a_marked_place(rt: HostRuntime) -> Result<(), Fail> {
+fn counts_a_marked_place(rt: HostRuntime) {
     let census = Census {
         unopened: 1,
         marked: 1,
         ..NO_PLACE
     };
-    assert_eq!(rt; close_marked::<ByteBuf, _>(&rt, rt.alloc())?, census);
-    assert_eq!(rt; close_marked::<Record, _>(&rt, rt.alloc())?, census);
-    Ok(())
+    assert_eq!(rt; close_marked::<ByteBuf, _>(&rt, rt.alloc()), census);
+    assert_eq!(rt; close_marked::<Record, _>(&rt, rt.alloc()), census);
 }
 
 #[test]
-fn counts_a_returned_place(rt: HostRuntime) -> Result<(), Fail> {
+fn counts_a_returned_place(rt: HostRuntime) {
     let census = Census {
         free: 1,
         unopened: 1,
         ..NO_PLACE
     };
-    assert_eq!(rt; close_returned::<ByteBuf, _>(&rt, rt.alloc())?, census);
-    assert_eq!(rt; close_returned::<Record, _>(&rt, rt.alloc())?, census);
-    Ok(())
+    assert_eq!(rt; close_returned::<ByteBuf, _>(&rt, rt.alloc()), census);
+    assert_eq!(rt; close_returned::<Record, _>(&rt, rt.alloc()), census);
 }
 
 #[test]
-fn counts_a_filling(rt: HostRuntime) -> Result<(), Fail> {
+fn counts_a_filling(rt: HostRuntime) {
     let census = Census {
         filling: 1,
         ..NO_PLACE
     };
-    assert_eq!(rt; close_filling::<ByteBuf, _>(&rt, rt.alloc())?, census);
-    assert_eq!(rt; close_filling::<Record, _>(&rt, rt.alloc())?, census);
-    Ok(())
+    assert_eq!(rt; close_filling::<ByteBuf, _>(&rt, rt.alloc()), census);
+    assert_eq!(rt; close_filling::<Record, _>(&rt, rt.alloc()), census);
 }

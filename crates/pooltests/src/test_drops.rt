@@ -1,5 +1,5 @@
 //! A close drops each object of its pool, wherever it is, and drops it once.
-ghost use Rattle.std.specs.Prelude.{◌≡◌, ◌+◌, [], IfOk, IfSome, ℕ};
+ghost use Rattle.std.specs.Prelude.{◌≡◌, ◌+◌, [], IfSome, ℕ};
 ghost use Rattle.shardpool.specs.Tokens.{LaneOf};
 ghost use Rattle.shardpool.specs.Lanes.{Owns, Made, refs};
 
@@ -9,11 +9,10 @@ use crate::test_calls::{
 use keybits::Shape;
 use shardpool::{Census, Filling, Lane, Pool};
 use slotcell::Clear;
-use std::alloc::{AllocError, Global};
+use std::alloc::Global;
 use std::process::Abort;
 use std::sync::Arc;
 use std::sync::atomic::{AtomicU64, Ordering};
-use std::test::Fail;
 
 /// A count that threads share.
 type Count = Arc<AtomicU64, Global>;
@@ -49,37 +48,44 @@ impl Clear for Probe {
     }
 }
 
+/// A count of 0.
+fn new_count<R: Abort>(rt: &R, alloc: Global) -> Count {
+    Arc::new(alloc, AtomicU64::new(0)).expect(rt, "memory for a count")
+}
+
+/// The object of a filling is handed a count.
+fn hand_over<R: Abort>(rt: &R, filling: &mut Filling<Probe>, drops: &Count)
+    ensures { (lane : LaneOf) → Made lane filling.old → Made lane filling.new }
+{
+    let count = Arc::try_clone(drops).expect(rt, "a count of fewer owners");
+    filling.value_mut().drops = Some(count);
+}
+
 /// A filling whose object counts its drop.
 fn fill<R: Abort>(
     rt: &R,
     pool: &Pool<Probe>,
     lane: &mut Lane<Probe>,
     drops: &Count,
-) -> Result<Filling<Probe>, AllocError>
+) -> Filling<Probe>
     requires { Owns pool.now lane.old }
     ensures owns { Owns pool.now lane.new }
     ensures refs { refs lane.new ≡ refs lane.old }
-    ensures made { IfOk result (λ filling. Made lane.new filling) }
+    ensures made { Made lane.new result }
 {
-    let count = Arc::try_clone(drops)?;
     let mut filling = create(rt, pool, lane);
-    filling.value_mut().drops = Some(count);
-    Ok(filling)
+    hand_over(rt, &mut filling, drops);
+    filling
 }
 
 /// An object that counts its drop is published.
-fn publish<R: Abort>(
-    rt: &R,
-    pool: &Pool<Probe>,
-    lane: &mut Lane<Probe>,
-    drops: &Count,
-) -> Result<u64, AllocError>
+fn publish<R: Abort>(rt: &R, pool: &Pool<Probe>, lane: &mut Lane<Probe>, drops: &Count) -> u64
     requires { Owns pool.now lane.old }
     ensures owns { Owns pool.now lane.new }
     ensures refs { refs lane.new ≡ refs lane.old }
 {
-    let filling = fill(rt, pool, lane, drops)?;
-    Ok(pool.publish(lane, filling))
+    let filling = fill(rt, pool, lane, drops);
+    pool.publish(lane, filling)
 }
 
 /// The first lane publishes an object, and the second clears it, so that its place is returned.
@@ -89,15 +95,14 @@ fn give_back<R: Abort>(
     first: &mut Lane<Probe>,
     second: &mut Lane<Probe>,
     drops: &Count,
-) -> Result<(), AllocError>
+)
     requires first { Owns pool.now first.old }
     requires second { Owns pool.now second.old }
     ensures first { Owns pool.now first.new × (refs first.new ≡ refs first.old) }
     ensures second { Owns pool.now second.new × (refs second.new ≡ refs second.old) }
 {
-    let key = publish(rt, pool, first, drops)?;
+    let key = publish(rt, pool, first, drops);
     clear(rt, pool, second, key, true);
-    Ok(())
 }
 
 /// Objects of the first lane that are present without a reference, present with one, marked with one, and under a filling.
@@ -107,43 +112,55 @@ fn keep_some<R: Abort>(
     first: &mut Lane<Probe>,
     second: &mut Lane<Probe>,
     drops: &Count,
-) -> Result<(), AllocError>
+)
     requires first { Owns pool.now first.old }
     requires second { Owns pool.now second.old × (refs second.old ≡ 0) }
     ensures first { Owns pool.now first.new }
     ensures second { Owns pool.now second.new }
 {
-    publish(rt, pool, first, drops)?;
-    let present = publish(rt, pool, first, drops)?;
-    let marked = publish(rt, pool, first, drops)?;
+    publish(rt, pool, first, drops);
+    let present = publish(rt, pool, first, drops);
+    let marked = publish(rt, pool, first, drops);
     get(rt, pool, second, present).leave();
     get(rt, pool, second, marked).leave();
     clear(rt, pool, first, marked, true);
-    fill(rt, pool, first, drops)?.leave();
-    Ok(())
+    fill(rt, pool, first, drops).leave();
+}
+
+/// Objects wherever one can be in a pool of two lanes with 8 places each. The two fillings take theirs with them.
+fn use_places<R: Abort>(
+    rt: &R,
+    pool: &Pool<Probe>,
+    first: &mut Lane<Probe>,
+    second: &mut Lane<Probe>,
+    drops: &Count,
+)
+    requires first { Owns pool.now first.old }
+    requires second { Owns pool.now second.old × (refs second.old ≡ 0) }
+    ensures first { Owns pool.now first.new }
+    ensures second { Owns pool.now second.new }
+{
+    // Of the first lane's 8 places 4 are returned. A create takes 3 of them as a chain, of which it hands out one.
+    give_back(rt, pool, first, second, drops);
+    give_back(rt, pool, first, second, drops);
+    give_back(rt, pool, first, second, drops);
+    let last = publish(rt, pool, first, drops);
+    keep_some(rt, pool, first, second, drops);
+    create(rt, pool, first).leave();
+    clear(rt, pool, second, last, true);
+
+    // Of the second lane's own one was used.
+    let own = publish(rt, pool, second, drops);
+    clear(rt, pool, second, own, true);
 }
 
 #[test]
-fn drops_each_object_once(rt: HostRuntime) -> Result<(), Fail> {
-    let drops = Arc::new(rt.alloc(), AtomicU64::new(0))?;
-    let (pool, mut first, mut second) = open_pair::<Probe>(rt.alloc(), shape_of(2, 8, 1))?;
-
-    // Of the first lane's 8 places 4 are returned. A create takes 3 of them as a chain, of which it hands out one.
-    give_back(&rt, &pool, &mut first, &mut second, &drops)?;
-    give_back(&rt, &pool, &mut first, &mut second, &drops)?;
-    give_back(&rt, &pool, &mut first, &mut second, &drops)?;
-    let last = publish(&rt, &pool, &mut first, &drops)?;
-    keep_some(&rt, &pool, &mut first, &mut second, &drops)?;
-    create(&rt, &pool, &mut first).leave();
-    clear(&rt, &pool, &mut second, last, true);
-
-    // Of the second lane's own one was used.
-    let own = publish(&rt, &pool, &mut second, &drops)?;
-    clear(&rt, &pool, &mut second, own, true);
-    // The two fillings that were left took their objects with them.
+fn drops_each_object_once(rt: HostRuntime) {
+    let drops = new_count(&rt, rt.alloc());
+    let (pool, mut first, mut second) = open_pair(&rt, rt.alloc(), shape_of(2, 8, 1));
+    use_places(&rt, &pool, &mut first, &mut second, &drops);
     assert_eq!(rt; drops.load(Ordering::SeqCst), 2);
-
-    let census = close_two(&rt, rt.alloc(), pool, first, second)?;
+    let census = close_two(&rt, rt.alloc(), pool, first, second);
     assert_eq!(rt; drops.load(Ordering::SeqCst), 9);
     assert_eq!(rt;
         census,
@@ -155,20 +172,18 @@ fn drops_each_object_once(rt: HostRuntime) -> Result<(), Fail> {
             ..NO_PLACE
         }
     );
-    Ok(())
 }
 
 #[test]
-fn drops_a_retired_object_once(rt: HostRuntime) -> Result<(), Fail> {
-    let drops = Arc::new(rt.alloc(), AtomicU64::new(0))?;
+fn drops_a_retired_object_once(rt: HostRuntime) {
+    let drops = new_count(&rt, rt.alloc());
     let shape = Shape {
         last_generation: 1,
         ..shape_of(1, 1, 1)
     };
-    let (pool, mut lane) = open_last::<Probe>(rt.alloc(), shape)?;
-    let key = publish(&rt, &pool, &mut lane, &drops)?;
+    let (pool, mut lane) = open_last(&rt, rt.alloc(), shape);
+    let key = publish(&rt, &pool, &mut lane, &drops);
     clear(&rt, &pool, &mut lane, key, true);
-    close_one(&rt, rt.alloc(), pool, lane)?;
+    close_one(&rt, rt.alloc(), pool, lane);
     assert_eq!(rt; drops.load(Ordering::SeqCst), 1);
-    Ok(())
 }

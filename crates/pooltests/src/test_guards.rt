@@ -6,6 +6,7 @@ use keybits::Shape;
 use shardpool::{CreateFault, Lane, Pool, open};
 use slotcell::{ByteBuf, Clear, Record};
 use std::alloc::Global;
+use std::process::Abort;
 use std::test::Fail;
 
 const TWO_PLACES: Shape = Shape {
@@ -67,60 +68,102 @@ fn first_of(pool: &Pool<Record>, lane: &mut Lane<Record>, key: u64) -> Option<u6
     Some(*first)
 }
 
+/// The key of a new object, which a closure fills.
+fn create_two_bytes(pool: &Pool<ByteBuf>, lane: &mut Lane<ByteBuf>) -> Result<u64, CreateFault>
+    requires { Owns pool.now lane.old }
+    ensures { Owns pool.now lane.new × (refs lane.new ≡ refs lane.old) }
+{
+    create_with(pool, lane, |bytes: &mut ByteBuf| {
+        let _ = bytes.append(b"hi");
+    })
+}
+
+/// The length of a key's object, if a closure is called with it.
+fn length_of(pool: &Pool<ByteBuf>, lane: &mut Lane<ByteBuf>, key: u64) -> Option<usize>
+    requires { Owns pool.now lane.old × (refs lane.old ≡ 0) }
+    ensures { Owns pool.now lane.new × (refs lane.new ≡ 0) }
+{
+    with(pool, lane, key, |bytes: &ByteBuf| bytes.len())
+}
+
+/// Whether a closure is called with a key's object.
+fn is_called(pool: &Pool<ByteBuf>, lane: &mut Lane<ByteBuf>, key: u64) -> bool
+    requires { Owns pool.now lane.old × (refs lane.old ≡ 0) }
+{
+    let mut called = false;
+    with(pool, lane, key, |_bytes: &ByteBuf| {
+        called = true;
+    });
+    called
+}
+
 #[test]
 fn closures_run_between_the_calls(rt: HostRuntime) -> Result<(), Fail> {
     let (pool, mut lane) = open_one::<ByteBuf>(rt.alloc(), TWO_PLACES)?;
-    let key = create_with(&pool, &mut lane, |bytes: &mut ByteBuf| {
-        let _ = bytes.append(b"hi");
-    })?;
-    assert_eq!(rt; key, 16777216);
-    let length = with(&pool, &mut lane, key, |bytes: &ByteBuf| bytes.len());
-    assert_eq!(rt; length, Some(2));
-    assert!(rt; pool.clear(&mut lane, key));
-    let mut called = false;
-    let length = with(&pool, &mut lane, key, |bytes: &ByteBuf| {
-        called = true;
-        bytes.len()
-    });
-    assert_eq!(rt; length, None);
-    assert!(rt; !called);
+    assert_eq!(rt; create_two_bytes(&pool, &mut lane), Ok(16777216));
+    assert_eq!(rt; length_of(&pool, &mut lane, 16777216), Some(2));
+    assert!(rt; pool.clear(&mut lane, 16777216));
+    assert_eq!(rt; length_of(&pool, &mut lane, 16777216), None);
+    assert!(rt; !is_called(&pool, &mut lane, 16777216));
     Ok(())
+}
+
+/// A guard fills a place, and publishes it when it is dropped.
+fn fill_by_guard<R: Abort>(rt: &R, pool: &Pool<ByteBuf>, lane: &mut Lane<ByteBuf>)
+    requires { Owns pool.now lane.old × (refs lane.old ≡ 0) }
+    ensures { Owns pool.now lane.new × (refs lane.new ≡ 0) }
+{
+    let mut guard = FillGuard::new(lane, pool).ok().expect(rt, "a place");
+    assert_eq!(rt; guard.key(), 16777216);
+    let _ = guard.value_mut().append(b"hi");
+    assert_eq!(rt; guard.value().len(), 2);
+}
+
+/// A guard reads what was published, and gives its reference back when it is dropped.
+fn read_by_guard<R: Abort>(rt: &R, pool: &Pool<ByteBuf>, lane: &mut Lane<ByteBuf>)
+    requires { Owns pool.now lane.old × (refs lane.old ≡ 0) }
+    ensures { Owns pool.now lane.new × (refs lane.new ≡ 0) }
+{
+    let guard = ReadGuard::new(lane, pool, 16777216).expect(rt, "a published key");
+    assert_eq!(rt; guard.key(), 16777216);
+    assert_eq!(rt; guard.value().as_slice(), b"hi".as_slice());
+}
+
+/// A guard that fills becomes one that reads.
+fn downgrade_guard<R: Abort>(rt: &R, pool: &Pool<ByteBuf>, lane: &mut Lane<ByteBuf>)
+    requires { Owns pool.now lane.old × (refs lane.old ≡ 0) }
+{
+    let guard = FillGuard::new(lane, pool).ok().expect(rt, "a place");
+    assert_eq!(rt; guard.key(), 33554432);
+    let guard = guard.downgrade();
+    assert_eq!(rt; guard.key(), 33554432);
+    assert!(rt; guard.value().is_empty());
 }
 
 #[test]
 fn guards_end_by_themselves(rt: HostRuntime) -> Result<(), Fail> {
     let (pool, mut lane) = open_one::<ByteBuf>(rt.alloc(), ONE_PLACE)?;
-    {
-        let mut guard = FillGuard::new(&mut lane, &pool)?;
-        assert_eq!(rt; guard.key(), 16777216);
-        guard.value_mut().append(b"hi")?;
-        assert_eq!(rt; guard.value().len(), 2);
-    }
-    {
-        let Some(guard) = ReadGuard::new(&mut lane, &pool, 16777216) else {
-            panic!(rt; "the drop did not publish")
-        };
-        assert_eq!(rt; guard.key(), 16777216);
-        assert_eq!(rt; guard.value().as_slice(), b"hi".as_slice());
-    }
+    fill_by_guard(&rt, &pool, &mut lane);
+    read_by_guard(&rt, &pool, &mut lane);
     assert_eq!(rt; lane.refs(), 0);
     assert!(rt; pool.clear(&mut lane, 16777216));
-    let guard = FillGuard::new(&mut lane, &pool)?;
-    assert_eq!(rt; guard.key(), 33554432);
-    let guard = guard.downgrade();
-    assert_eq!(rt; guard.key(), 33554432);
-    assert!(rt; guard.value().is_empty());
+    downgrade_guard(&rt, &pool, &mut lane);
     Ok(())
+}
+
+/// How many numbers a key's record has.
+fn numbers_of(pool: &Pool<Record>, lane: &mut Lane<Record>, key: u64) -> Option<usize>
+    requires { Owns pool.now lane.old × (refs lane.old ≡ 0) }
+    ensures { Owns pool.now lane.new × (refs lane.new ≡ 0) }
+{
+    with(pool, lane, key, |record: &Record| record.as_slice().len())
 }
 
 #[test]
 fn guards_end_in_the_middle(rt: HostRuntime) -> Result<(), Fail> {
     let (pool, mut lane) = open_one::<Record>(rt.alloc(), ONE_PLACE)?;
     assert_eq!(rt; filled(&pool, &mut lane, None), Err(CreateFault::Memory));
-    let length = with(&pool, &mut lane, 16777216, |record: &Record| {
-        record.as_slice().len()
-    });
-    assert_eq!(rt; length, Some(0));
+    assert_eq!(rt; numbers_of(&pool, &mut lane, 16777216), Some(0));
     assert_eq!(rt; first_of(&pool, &mut lane, 16777216), None);
     assert!(rt; pool.clear(&mut lane, 16777216));
     assert_eq!(rt; filled(&pool, &mut lane, Some(7)), Ok(33554432));

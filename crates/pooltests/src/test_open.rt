@@ -1,11 +1,11 @@
 ghost use Rattle.shardpool.specs.Lanes.{Owns};
 
-use crate::test_calls::{open_pair, shape_of};
+use crate::test_calls::{open_all, open_pair, shape_of};
 use keybits::{Shape, ShapeFault};
 use shardpool::{CreateFault, Lane, OpenFault, Pool, open};
 use slotcell::{ByteBuf, Clear, Record};
+use std::alloc::Global;
 use std::process::Abort;
-use std::test::Fail;
 
 const LARGEST: Shape = Shape {
     lanes: 16,
@@ -27,19 +27,26 @@ fn clear_of_nothing<T: Clear + Drop, R: Abort>(rt: &R, pool: &Pool<T>, lane: &mu
     assert_eq!(rt; lane.holds(16777216), 0);
 }
 
-#[test]
-fn opens_pools_of_each_size(rt: HostRuntime) -> Result<(), Fail> {
-    let (pool, lanes) = open::<ByteBuf>(rt.alloc(), LARGEST)?;
-    assert_eq!(rt; pool.shape(), LARGEST);
-    assert_eq!(rt; lanes.len(), 16);
-    for (number, lane) in lanes.into_iter().enumerate() {
+/// The lanes of a pool stand by their numbers, and none has a free place yet.
+fn are_first<T: Clear + Drop, R: Abort>(rt: &R, lanes: &[Lane<T>]) {
+    for (number, lane) in lanes.iter().enumerate() {
         assert_eq!(rt; lane.number() as usize, number);
         assert!(rt; !lane.has_free());
     }
-    let (pool, lanes) = open::<Record>(rt.alloc(), shape_of(2, 1, 1))?;
-    assert_eq!(rt; pool.shape().lanes, 2);
-    assert_eq!(rt; lanes.len(), 2);
-    Ok(())
+}
+
+/// A pool of this shape has so many lanes.
+fn opens<T: Clear + Drop, R: Abort>(rt: &R, alloc: Global, shape: Shape) {
+    let (pool, lanes) = open_all::<T, _>(rt, alloc, shape);
+    assert_eq!(rt; pool.shape(), shape);
+    assert_eq!(rt; lanes.len(), shape.lanes as usize);
+    are_first(rt, lanes.as_slice());
+}
+
+#[test]
+fn opens_pools_of_each_size(rt: HostRuntime) {
+    opens::<ByteBuf, _>(&rt, rt.alloc(), LARGEST);
+    opens::<Record, _>(&rt, rt.alloc(), shape_of(2, 1, 1));
 }
 
 #[test]
@@ -59,12 +66,11 @@ fn refuses_shapes(rt: HostRuntime) {
 }
 
 #[test]
-fn clears_what_is_not_published(rt: HostRuntime) -> Result<(), Fail> {
-    let (pool, mut first, mut second) = open_pair::<ByteBuf>(rt.alloc(), shape_of(2, 1, 1))?;
+fn clears_what_is_not_published(rt: HostRuntime) {
+    let (pool, mut first, mut second) = open_pair::<ByteBuf, _>(&rt, rt.alloc(), shape_of(2, 1, 1));
     clear_of_nothing(&rt, &pool, &mut first);
     clear_of_nothing(&rt, &pool, &mut second);
     let note = pool.tell(&mut first);
     pool.hear(&mut second, note);
     pool.meet(&mut first, &mut second);
-    Ok(())
 }

@@ -1,17 +1,16 @@
 //! What calls of one thread answer, one after another.
-ghost use Rattle.std.specs.Prelude.{◌≡◌, ◌<◌};
+ghost use Rattle.std.specs.Prelude.{◌≡◌, ◌<◌, ◌≤◌};
 ghost use Rattle.shardpool.specs.Tokens.{LaneOf};
-ghost use Rattle.shardpool.specs.Lanes.{Owns, Made, refs};
+ghost use Rattle.shardpool.specs.Lanes.{Owns, Made, holds, refs};
 
 use crate::test_calls::{
     LAST, clear, create, fill, finds_full, get, misses, open_last, open_pair, publish, reads,
     shape_of, tell, write,
 };
 use keybits::Shape;
-use shardpool::{Filling, Lane, Pool};
+use shardpool::{Filling, Lane, Pool, Ref};
 use slotcell::{ByteBuf, Clear, Record};
 use std::process::Abort;
-use std::test::Fail;
 
 // Keys of place 0 of shard 0, at its first and its second generation, and of the next place.
 const FIRST: u64 = 16777216;
@@ -35,10 +34,9 @@ fn publish_read_clear<R: Abort>(rt: &R, pool: &Pool<ByteBuf>, lane: &mut Lane<By
 }
 
 #[test]
-fn reads_what_was_published(rt: HostRuntime) -> Result<(), Fail> {
-    let (pool, mut lane) = open_last(rt.alloc(), shape_of(1, 2, 1))?;
+fn reads_what_was_published(rt: HostRuntime) {
+    let (pool, mut lane) = open_last(&rt, rt.alloc(), shape_of(1, 2, 1));
     publish_read_clear(&rt, &pool, &mut lane);
-    Ok(())
 }
 
 fn get_of_a_filling<R: Abort>(rt: &R, pool: &Pool<ByteBuf>, lane: &mut Lane<ByteBuf>)
@@ -51,10 +49,9 @@ fn get_of_a_filling<R: Abort>(rt: &R, pool: &Pool<ByteBuf>, lane: &mut Lane<Byte
 }
 
 #[test]
-fn finds_no_filling(rt: HostRuntime) -> Result<(), Fail> {
-    let (pool, mut lane) = open_last(rt.alloc(), shape_of(1, 2, 1))?;
+fn finds_no_filling(rt: HostRuntime) {
+    let (pool, mut lane) = open_last(&rt, rt.alloc(), shape_of(1, 2, 1));
     get_of_a_filling(&rt, &pool, &mut lane);
-    Ok(())
 }
 
 fn publish_again<R: Abort>(rt: &R, pool: &Pool<ByteBuf>, lane: &mut Lane<ByteBuf>)
@@ -71,10 +68,9 @@ fn publish_again<R: Abort>(rt: &R, pool: &Pool<ByteBuf>, lane: &mut Lane<ByteBuf
 }
 
 #[test]
-fn finds_no_newer_object_by_an_old_key(rt: HostRuntime) -> Result<(), Fail> {
-    let (pool, mut lane) = open_last(rt.alloc(), shape_of(1, 1, 1))?;
+fn finds_no_newer_object_by_an_old_key(rt: HostRuntime) {
+    let (pool, mut lane) = open_last(&rt, rt.alloc(), shape_of(1, 1, 1));
     publish_again(&rt, &pool, &mut lane);
-    Ok(())
 }
 
 fn clear_while_held<R: Abort>(rt: &R, pool: &Pool<ByteBuf>, lane: &mut Lane<ByteBuf>)
@@ -90,10 +86,32 @@ fn clear_while_held<R: Abort>(rt: &R, pool: &Pool<ByteBuf>, lane: &mut Lane<Byte
 }
 
 #[test]
-fn marks_a_key_once(rt: HostRuntime) -> Result<(), Fail> {
-    let (pool, mut lane) = open_last(rt.alloc(), shape_of(1, 1, 1))?;
+fn marks_a_key_once(rt: HostRuntime) {
+    let (pool, mut lane) = open_last(&rt, rt.alloc(), shape_of(1, 1, 1));
     clear_while_held(&rt, &pool, &mut lane);
-    Ok(())
+}
+
+/// Both lanes read on after a clear, until each gives its reference back.
+fn read_on<R: Abort>(
+    rt: &R,
+    pool: &Pool<ByteBuf>,
+    first: &mut Lane<ByteBuf>,
+    second: &mut Lane<ByteBuf>,
+    one: Ref<ByteBuf>,
+    other: Ref<ByteBuf>,
+)
+    requires first { Owns pool.now first.old × (refs first.old < 2000) × (1 ≤ holds first.old one.key) }
+    requires second { Owns pool.now second.old × (1 ≤ holds second.old other.key) }
+{
+    clear(rt, pool, first, FIRST, true);
+    misses(rt, pool, first, FIRST);
+    reads(rt, first, &one, b"a");
+    pool.release(first, one);
+    clear(rt, pool, second, FIRST, false);
+    reads(rt, second, &other, b"a");
+    pool.release(second, other);
+    let filling = fill(rt, pool, first, AGAIN, b"");
+    filling.leave();
 }
 
 fn clear_under_two<R: Abort>(
@@ -110,22 +128,13 @@ fn clear_under_two<R: Abort>(
     let other = get(rt, pool, second, FIRST);
     reads(rt, first, &one, b"a");
     reads(rt, second, &other, b"a");
-    clear(rt, pool, first, FIRST, true);
-    misses(rt, pool, first, FIRST);
-    reads(rt, first, &one, b"a");
-    pool.release(first, one);
-    clear(rt, pool, second, FIRST, false);
-    reads(rt, second, &other, b"a");
-    pool.release(second, other);
-    let filling = fill(rt, pool, first, AGAIN, b"");
-    filling.leave();
+    read_on(rt, pool, first, second, one, other);
 }
 
 #[test]
-fn reads_on_after_a_clear_of_another_lane(rt: HostRuntime) -> Result<(), Fail> {
-    let (pool, mut first, mut second) = open_pair(rt.alloc(), shape_of(2, 1, 1))?;
+fn reads_on_after_a_clear_of_another_lane(rt: HostRuntime) {
+    let (pool, mut first, mut second) = open_pair(&rt, rt.alloc(), shape_of(2, 1, 1));
     clear_under_two(&rt, &pool, &mut first, &mut second);
-    Ok(())
 }
 
 fn return_and_publish<R: Abort>(
@@ -145,10 +154,9 @@ fn return_and_publish<R: Abort>(
 }
 
 #[test]
-fn publishes_a_returned_place(rt: HostRuntime) -> Result<(), Fail> {
-    let (pool, mut first, mut second) = open_pair(rt.alloc(), shape_of(2, 1, 1))?;
+fn publishes_a_returned_place(rt: HostRuntime) {
+    let (pool, mut first, mut second) = open_pair(&rt, rt.alloc(), shape_of(2, 1, 1));
     return_and_publish(&rt, &pool, &mut first, &mut second);
-    Ok(())
 }
 
 fn clear_of_a_held_key<R: Abort>(
@@ -169,10 +177,9 @@ fn clear_of_a_held_key<R: Abort>(
 }
 
 #[test]
-fn reads_what_another_lane_cleared(rt: HostRuntime) -> Result<(), Fail> {
-    let (pool, mut first, mut second) = open_pair(rt.alloc(), shape_of(2, 1, 1))?;
+fn reads_what_another_lane_cleared(rt: HostRuntime) {
+    let (pool, mut first, mut second) = open_pair(&rt, rt.alloc(), shape_of(2, 1, 1));
     clear_of_a_held_key(&rt, &pool, &mut first, &mut second);
-    Ok(())
 }
 
 fn calls_of_no_key<R: Abort>(rt: &R, pool: &Pool<ByteBuf>, lane: &mut Lane<ByteBuf>)
@@ -187,10 +194,9 @@ fn calls_of_no_key<R: Abort>(rt: &R, pool: &Pool<ByteBuf>, lane: &mut Lane<ByteB
 }
 
 #[test]
-fn finds_nothing_outside_the_shape(rt: HostRuntime) -> Result<(), Fail> {
-    let (pool, mut lane) = open_last(rt.alloc(), shape_of(1, 2, 1))?;
+fn finds_nothing_outside_the_shape(rt: HostRuntime) {
+    let (pool, mut lane) = open_last(&rt, rt.alloc(), shape_of(1, 2, 1));
     calls_of_no_key(&rt, &pool, &mut lane);
-    Ok(())
 }
 
 fn hear_and_get<R: Abort>(
@@ -210,10 +216,9 @@ fn hear_and_get<R: Abort>(
 }
 
 #[test]
-fn finds_a_key_that_it_heard_of(rt: HostRuntime) -> Result<(), Fail> {
-    let (pool, mut first, mut second) = open_pair(rt.alloc(), shape_of(2, 1, 1))?;
+fn finds_a_key_that_it_heard_of(rt: HostRuntime) {
+    let (pool, mut first, mut second) = open_pair(&rt, rt.alloc(), shape_of(2, 1, 1));
     hear_and_get(&rt, &pool, &mut first, &mut second);
-    Ok(())
 }
 
 fn hear_and_create<R: Abort>(
@@ -235,10 +240,9 @@ fn hear_and_create<R: Abort>(
 }
 
 #[test]
-fn creates_what_it_heard_was_returned(rt: HostRuntime) -> Result<(), Fail> {
-    let (pool, mut first, mut second) = open_pair(rt.alloc(), shape_of(2, 1, 1))?;
+fn creates_what_it_heard_was_returned(rt: HostRuntime) {
+    let (pool, mut first, mut second) = open_pair(&rt, rt.alloc(), shape_of(2, 1, 1));
     hear_and_create(&rt, &pool, &mut first, &mut second);
-    Ok(())
 }
 
 fn refill<R: Abort>(rt: &R, pool: &Pool<ByteBuf>, lane: &mut Lane<ByteBuf>, bytes: &[u8])
@@ -255,10 +259,9 @@ fn refill<R: Abort>(rt: &R, pool: &Pool<ByteBuf>, lane: &mut Lane<ByteBuf>, byte
 }
 
 #[test]
-fn keeps_the_memory_of_an_object(rt: HostRuntime) -> Result<(), Fail> {
-    let (pool, mut lane) = open_last(rt.alloc(), shape_of(1, 1, 1))?;
+fn keeps_the_memory_of_an_object(rt: HostRuntime) {
+    let (pool, mut lane) = open_last(&rt, rt.alloc(), shape_of(1, 1, 1));
     refill(&rt, &pool, &mut lane, [7; 4096].as_slice());
-    Ok(())
 }
 
 fn clear_at_the_last_generation<R: Abort>(rt: &R, pool: &Pool<ByteBuf>, lane: &mut Lane<ByteBuf>)
@@ -270,14 +273,13 @@ fn clear_at_the_last_generation<R: Abort>(rt: &R, pool: &Pool<ByteBuf>, lane: &m
 }
 
 #[test]
-fn retires_a_place_at_its_last_generation(rt: HostRuntime) -> Result<(), Fail> {
+fn retires_a_place_at_its_last_generation(rt: HostRuntime) {
     let shape = Shape {
         last_generation: 1,
         ..shape_of(1, 1, 1)
     };
-    let (pool, mut lane) = open_last(rt.alloc(), shape)?;
+    let (pool, mut lane) = open_last(&rt, rt.alloc(), shape);
     clear_at_the_last_generation(&rt, &pool, &mut lane);
-    Ok(())
 }
 
 fn fill_two_pages<R: Abort>(rt: &R, pool: &Pool<ByteBuf>, lane: &mut Lane<ByteBuf>)
@@ -290,10 +292,9 @@ fn fill_two_pages<R: Abort>(rt: &R, pool: &Pool<ByteBuf>, lane: &mut Lane<ByteBu
 }
 
 #[test]
-fn opens_the_next_page(rt: HostRuntime) -> Result<(), Fail> {
-    let (pool, mut lane) = open_last(rt.alloc(), shape_of(1, 2, 2))?;
+fn opens_the_next_page(rt: HostRuntime) {
+    let (pool, mut lane) = open_last(&rt, rt.alloc(), shape_of(1, 2, 2));
     fill_two_pages(&rt, &pool, &mut lane);
-    Ok(())
 }
 
 /// The key at this number, where one stands there.
@@ -316,8 +317,8 @@ fn fill_all<R: Abort>(rt: &R, pool: &Pool<ByteBuf>, lane: &mut Lane<ByteBuf>, ke
 }
 
 #[test]
-fn fills_all_places_of_a_lane(rt: HostRuntime) -> Result<(), Fail> {
-    let (pool, mut lane) = open_last(rt.alloc(), shape_of(1, 64, 6))?;
+fn fills_all_places_of_a_lane(rt: HostRuntime) {
+    let (pool, mut lane) = open_last(&rt, rt.alloc(), shape_of(1, 64, 6));
     let keys = [
         (1, 16777216),
         (64, 16777279),
@@ -327,12 +328,11 @@ fn fills_all_places_of_a_lane(rt: HostRuntime) -> Result<(), Fail> {
         (4032, 16799743),
     ];
     fill_all(&rt, &pool, &mut lane, &keys);
-    Ok(())
 }
 
 #[test]
-fn fills_all_places_of_the_last_lane(rt: HostRuntime) -> Result<(), Fail> {
-    let (pool, mut lane) = open_last(rt.alloc(), shape_of(16, 64, 6))?;
+fn fills_all_places_of_the_last_lane(rt: HostRuntime) {
+    let (pool, mut lane) = open_last(&rt, rt.alloc(), shape_of(16, 64, 6));
     let keys = [
         (1, 17760256),
         (64, 17760319),
@@ -342,7 +342,6 @@ fn fills_all_places_of_the_last_lane(rt: HostRuntime) -> Result<(), Fail> {
         (4032, 17782783),
     ];
     fill_all(&rt, &pool, &mut lane, &keys);
-    Ok(())
 }
 
 fn publish_two_and_clear<R: Abort>(rt: &R, pool: &Pool<ByteBuf>, lane: &mut Lane<ByteBuf>)
@@ -368,12 +367,11 @@ fn publish_one_and_clear<R: Abort>(rt: &R, pool: &Pool<ByteBuf>, lane: &mut Lane
 }
 
 #[test]
-fn fills_the_place_first_that_is_free_longest(rt: HostRuntime) -> Result<(), Fail> {
-    let (pool, mut lane) = open_last(rt.alloc(), shape_of(1, 2, 1))?;
+fn fills_the_place_first_that_is_free_longest(rt: HostRuntime) {
+    let (pool, mut lane) = open_last(&rt, rt.alloc(), shape_of(1, 2, 1));
     publish_two_and_clear(&rt, &pool, &mut lane);
-    let (pool, mut lane) = open_last(rt.alloc(), shape_of(1, 4, 1))?;
+    let (pool, mut lane) = open_last(&rt, rt.alloc(), shape_of(1, 4, 1));
     publish_one_and_clear(&rt, &pool, &mut lane);
-    Ok(())
 }
 
 /// A pool of one lane with a place, of this tag.
@@ -410,18 +408,18 @@ fn find_one_of_two<R: Abort>(
     reference.leave();
 }
 
+// The keys of place 0 at its first generation, with the tags 1, 2 and 5.
 #[test]
-fn finds_no_key_of_another_pool(rt: HostRuntime) -> Result<(), Fail> {
-    let (pool, mut lane) = open_last(rt.alloc(), tagged(1))?;
-    let (other_pool, mut other_lane) = open_last(rt.alloc(), tagged(2))?;
-    let key = publish_empty(&rt, &pool, &mut lane);
-    let other = publish_empty(&rt, &other_pool, &mut other_lane);
-    find_one_of_two(&rt, &pool, &mut lane, key, other);
-    find_one_of_two(&rt, &other_pool, &mut other_lane, other, key);
-    let (pool, mut lane) = open_last(rt.alloc(), tagged(5))?;
-    assert_eq!(rt; publish_empty(&rt, &pool, &mut lane), 360287970206416896);
-    find_one_of_two(&rt, &pool, &mut lane, 360287970206416896, FIRST);
-    Ok(())
+fn finds_no_key_of_another_pool(rt: HostRuntime) {
+    for (tag, own, other) in [
+        (1, 72057594054705152, 144115188092633088),
+        (2, 144115188092633088, 72057594054705152),
+        (5, 360287970206416896, FIRST),
+    ] {
+        let (pool, mut lane) = open_last(&rt, rt.alloc(), tagged(tag));
+        assert_eq!(rt; publish_empty(&rt, &pool, &mut lane), own);
+        find_one_of_two(&rt, &pool, &mut lane, own, other);
+    }
 }
 
 /// The object of a filling is emptied.
@@ -430,6 +428,19 @@ fn empty<T: Clear>(filling: &mut Filling<T>)
     ensures made { (lane : LaneOf) → Made lane filling.old → Made lane filling.new }
 {
     filling.value_mut().clear();
+}
+
+/// The first place of a pool that was just opened is filled and published. Answers the room of its object.
+fn publish_first<T: Clear + Drop, R: Abort>(rt: &R, pool: &Pool<T>, lane: &mut Lane<T>) -> usize
+    requires { Owns pool.now lane.old }
+    ensures { Owns pool.now lane.new × (refs lane.new ≡ refs lane.old) }
+{
+    let mut filling = create(rt, pool, lane);
+    assert_eq!(rt; filling.key(), FIRST);
+    empty(&mut filling);
+    let room = filling.value().room();
+    assert_eq!(rt; pool.publish(lane, filling), FIRST);
+    room
 }
 
 /// Two lanes of a pool that was just opened have one place.
@@ -444,11 +455,7 @@ fn share_one_place<T: Clear + Drop, R: Abort>(
     ensures first { Owns pool.now first.new × (refs first.new ≡ refs first.old) }
     ensures second { Owns pool.now second.new × (refs second.new ≡ refs second.old) }
 {
-    let mut filling = create(rt, pool, first);
-    assert_eq!(rt; filling.key(), FIRST);
-    empty(&mut filling);
-    let room = filling.value().room();
-    assert_eq!(rt; pool.publish(first, filling), FIRST);
+    let room = publish_first(rt, pool, first);
     let one = get(rt, pool, first, FIRST);
     let other = get(rt, pool, second, FIRST);
     assert_eq!(rt; first.holds(FIRST), 1);
@@ -507,10 +514,9 @@ fn call_each<T: Clear + Drop, R: Abort>(
 }
 
 #[test]
-fn calls_pools_of_buffers_and_of_records(rt: HostRuntime) -> Result<(), Fail> {
-    let (pool, mut first, mut second) = open_pair::<ByteBuf>(rt.alloc(), shape_of(2, 1, 1))?;
+fn calls_pools_of_buffers_and_of_records(rt: HostRuntime) {
+    let (pool, mut first, mut second) = open_pair::<ByteBuf, _>(&rt, rt.alloc(), shape_of(2, 1, 1));
     call_each(&rt, &pool, &mut first, &mut second);
-    let (pool, mut first, mut second) = open_pair::<Record>(rt.alloc(), shape_of(2, 1, 1))?;
+    let (pool, mut first, mut second) = open_pair::<Record, _>(&rt, rt.alloc(), shape_of(2, 1, 1));
     call_each(&rt, &pool, &mut first, &mut second);
-    Ok(())
 }

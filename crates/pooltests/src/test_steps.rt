@@ -1,4 +1,4 @@
-ghost use Rattle.std.specs.Prelude.{◌≡◌, ◌≤◌, true, [], ◌∷◌, length, IfOk, IfSome};
+ghost use Rattle.std.specs.Prelude.{◌≡◌, ◌≤◌, true, [], ◌∷◌, None, length, IfOk, IfSome};
 ghost use Rattle.std.specs.Mem.Slots.{IsFull};
 ghost use Rattle.keybits.specs.Keys.{place_of, is_key};
 ghost use Rattle.sharelaws.specs.declared.stored.Status.TheVariants.{Emptied};
@@ -8,7 +8,9 @@ ghost use Rattle.poolsteps.specs.Views.{the_lane, status_of, known_of, IsOne};
 ghost use Rattle.poolsteps.specs.Grids.{IsSpot, IsOf, IsFirstHand};
 ghost use Rattle.poolsteps.specs.Told.{IsIdle, HasPlace, LeftAlone, references_seen};
 ghost use Rattle.poolsteps.specs.Moved.{stored_of};
+ghost use Rattle.poolsteps.specs.Returned.{IsToReturn, AimsAt};
 
+use crate::test_cells::object_of;
 use atomic_table::Closed;
 use keybits::{Shape, owes_claim};
 use poolsteps::{Grid, Hand, Purpose, Spot, references_law, shares_law};
@@ -19,7 +21,7 @@ use std::test::Fail;
 use std::thread;
 use std::thread::Threads;
 
-const TWO_LANES: Shape = Shape {
+pub(crate) const TWO_LANES: Shape = Shape {
     lanes: 2,
     first_page: 1,
     pages: 1,
@@ -43,7 +45,7 @@ const LARGEST: Shape = Shape {
 };
 
 // The key of place 0 at generation 1.
-const KEY: u64 = 16777216;
+pub(crate) const KEY: u64 = 16777216;
 
 /// The hands, of which there are two.
 fn pair_of<T>(mut hands: Vec<Hand<T>>) -> (Hand<T>, Hand<T>)
@@ -56,7 +58,7 @@ fn pair_of<T>(mut hands: Vec<Hand<T>>) -> (Hand<T>, Hand<T>)
 }
 
 /// The grid of two lanes with a place each, and their hands.
-fn grid_of_two<T: Clear>(alloc: Global) -> Result<(Grid<T>, Hand<T>, Hand<T>), Fail>
+pub(crate) fn grid_of_two<T: Clear>(alloc: Global) -> Result<(Grid<T>, Hand<T>, Hand<T>), Fail>
     ensures shape { IfOk result (λ made. made.0.shape ≡ TWO_LANES) }
     ensures hands { IfOk result (λ made. IsFirstHand made.0 0 made.1 × IsFirstHand made.0 1 made.2) }
 {
@@ -267,20 +269,18 @@ fn publish_alone<T: Clear + Drop>(
     assert_eq!(rt; found, 4294967296);
 }
 
-/// A clear of lane 1 alone hits, marks and claims the place of lane 0, clears its object in place, and returns it.
-fn clear_and_return<T: Clear + Drop, R: Abort>(
-    rt: &R,
-    alloc: Global,
-    grid: &Grid<T>,
-    hand: &mut Hand<T>,
-    spot: Spot,
-)
+/// A clear of lane 1 alone hits, marks and claims the place of lane 0.
+fn clear_and_claim<T: Clear>(rt: &impl Abort, grid: &Grid<T>, hand: &mut Hand<T>, spot: Spot)
     requires shape { grid.now.shape ≡ TWO_LANES }
     requires spot { IsSpot grid.now.shape spot 0 }
     requires hand { IsFirstHand grid.now 1 hand.old }
-    ensures { IsOf grid.now hand.new × IsOne hand.new.me.0 × (hand.new.me.1 ≡ []) }
+    ensures hand { IsOf grid.now hand.new × IsOne hand.new.me.0 × (hand.new.me.1 ≡ []) }
+    ensures lane { (the_lane hand.new.me.0).lane ≡ 1 }
+    ensures place { HasPlace grid.now.shape hand.new.me.0 0 × LeftAlone grid.now.shape (the_lane hand.new.me.0) 0 }
+    ensures room { room_of hand.new.me.0.seen hand.new.me.0.rooms 0 ≡ (known_of (the_lane hand.new.me.0) 0).room }
+    ensures returns { IsToReturn hand.new.me.0 0 None }
+    ensures aims { AimsAt (the_lane hand.new.me.0) 0 0 }
 {
-    shares_law();
     let entered = grid.enter(hand, spot, KEY, Purpose::ToClear);
     assert_eq!(rt; entered, 4294967297);
     let marked = grid.mark(hand, spot, KEY);
@@ -289,6 +289,27 @@ fn clear_and_return<T: Clear + Drop, R: Abort>(
     assert_eq!(rt; left, 4294967303);
     let claimed = grid.claim(hand, spot, 1);
     assert_eq!(rt; claimed, 4294967299);
+}
+
+/// Lane 1, which has the place of lane 0, clears its object in place, and returns it.
+fn return_place<T: Clear + Drop, R: Abort>(
+    rt: &R,
+    alloc: Global,
+    grid: &Grid<T>,
+    hand: &mut Hand<T>,
+    spot: Spot,
+)
+    requires shape { grid.now.shape ≡ TWO_LANES }
+    requires spot { IsSpot grid.now.shape spot 0 }
+    requires hand { IsOf grid.now hand.old × IsOne hand.old.me.0 × (hand.old.me.1 ≡ []) }
+    requires lane { (the_lane hand.old.me.0).lane ≡ 1 }
+    requires place { HasPlace grid.now.shape hand.old.me.0 0 × LeftAlone grid.now.shape (the_lane hand.old.me.0) 0 }
+    requires room { room_of hand.old.me.0.seen hand.old.me.0.rooms 0 ≡ (known_of (the_lane hand.old.me.0) 0).room }
+    requires returns { IsToReturn hand.old.me.0 0 None }
+    requires aims { AimsAt (the_lane hand.old.me.0) 0 0 }
+    ensures { IsOf grid.now hand.new × IsOne hand.new.me.0 × (hand.new.me.1 ≡ []) }
+{
+    shares_law();
     let mut whole = take_shares(alloc, grid, hand, spot, 1);
     whole.get_mut().clear();
     grid.back_whole(hand, spot, 1, whole.lend(1).into_share());
@@ -331,18 +352,11 @@ fn free<T>(mut closed: Closed<Slot<T>, Global>)
     closed.free();
 }
 
-/// An object of this byte, in a cell.
-fn object_of(alloc: Global, byte: u8) -> Result<Whole<ByteBuf>, Fail> {
-    let mut object = ByteBuf::fresh(alloc);
-    object.append(&[byte]).ok().ok_or("no memory")?;
-    Ok(Whole::new(alloc, object).ok().ok_or("no memory")?)
-}
-
 #[test]
 fn makes_each_step(rt: HostRuntime) -> Result<(), Fail> {
     let (grid, mut first, mut second) = grid_of_two(rt.alloc())?;
     let spot = grid.spot(0);
-    let whole = object_of(rt.alloc(), 7)?;
+    let whole = object_of(&rt, rt.alloc(), 7);
     let share = publish(&rt, &grid, &mut first, spot, whole);
     assert_eq!(rt; share.read().as_slice(), [7].as_slice());
     let other = get(&rt, &grid, &mut second, spot);
@@ -360,9 +374,10 @@ fn makes_each_step(rt: HostRuntime) -> Result<(), Fail> {
 fn returns_and_takes_a_place(rt: HostRuntime) -> Result<(), Fail> {
     let (grid, mut first, mut second) = grid_of_two(rt.alloc())?;
     let spot = grid.spot(0);
-    let whole = object_of(rt.alloc(), 7)?;
+    let whole = object_of(&rt, rt.alloc(), 7);
     publish_alone(&rt, &grid, &mut first, spot, whole);
-    clear_and_return(&rt, rt.alloc(), &grid, &mut second, spot);
+    clear_and_claim(&rt, &grid, &mut second, spot);
+    return_place(&rt, rt.alloc(), &grid, &mut second, spot);
     let whole = take_and_follow(&rt, rt.alloc(), &grid, &mut first, spot);
     assert!(rt; whole.get().is_empty());
     let generation = grid.generation(&mut first, spot);
@@ -371,7 +386,7 @@ fn returns_and_takes_a_place(rt: HostRuntime) -> Result<(), Fail> {
     grid.heard(&mut first, 0, note);
     let note = grid.note(&mut first);
     grid.met(&mut second, 1, note);
-    let mut hands = Vec::with_capacity(rt.alloc(), 2)?;
+    let mut hands = Vec::with_capacity(rt.alloc(), 2).expect(&rt, "memory for two hands");
     hands.push_reserved(first);
     hands.push_reserved(second);
     let closed = grid.end(hands);

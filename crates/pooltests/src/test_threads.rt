@@ -12,7 +12,6 @@ use slotcell::ByteBuf;
 use std::alloc::Global;
 use std::process::Abort;
 use std::sync::atomic::{AtomicU64, Ordering};
-use std::test::Fail;
 use std::thread;
 use std::thread::Threads;
 
@@ -166,11 +165,10 @@ fn counts_free<R: Abort>(rt: &R, census: Census, places: u64) {
 }
 
 #[test]
-fn rounds_on_two_threads(rt: HostRuntime) -> Result<(), Fail> {
-    let (pool, first, second) = open_pair(rt.alloc(), shape_of(2, 64, 6))?;
+fn rounds_on_two_threads(rt: HostRuntime) {
+    let (pool, first, second) = open_pair(&rt, rt.alloc(), shape_of(2, 64, 6));
     let (first, second) = on_two_threads(&rt, &pool, first, second);
-    counts_free(&rt, close_two(&rt, rt.alloc(), pool, first, second)?, 8064);
-    Ok(())
+    counts_free(&rt, close_two(&rt, rt.alloc(), pool, first, second), 8064);
 }
 
 /// A key is cleared, if there is one.
@@ -277,27 +275,29 @@ fn close_pairs<R: Abort>(
     pool: Pool<ByteBuf>,
     front: (Lane<ByteBuf>, Lane<ByteBuf>),
     back: (Lane<ByteBuf>, Lane<ByteBuf>),
-) -> Result<Census, Fail>
+) -> Census
     requires front { Owns pool front.0 × Owns pool front.1 }
     requires back { Owns pool back.0 × Owns pool back.1 }
 {
     let (first, second) = front;
     let (third, fourth) = back;
-    let mut lanes = Vec::with_capacity(alloc, 4)?;
+    let Ok(mut lanes) = Vec::with_capacity(alloc, 4) else {
+        panic!(rt; "no memory for four lanes")
+    };
     lanes.push_reserved(fourth);
     lanes.push_reserved(third);
     lanes.push_reserved(second);
     lanes.push_reserved(first);
-    Ok(close_all(rt, pool, lanes))
+    close_all(rt, pool, lanes)
 }
 
 #[test]
-fn passes_keys_round_four_threads(rt: HostRuntime) -> Result<(), Fail> {
-    let (pool, mut lanes) = open_all(rt.alloc(), shape_of(4, 4, 1))?;
-    let fourth = last_of(&pool, &mut lanes)?;
-    let third = last_of(&pool, &mut lanes)?;
-    let second = last_of(&pool, &mut lanes)?;
-    let first = last_of(&pool, &mut lanes)?;
+fn passes_keys_round_four_threads(rt: HostRuntime) {
+    let (pool, mut lanes) = open_all(&rt, rt.alloc(), shape_of(4, 4, 1));
+    let fourth = last_of(&rt, &pool, &mut lanes);
+    let third = last_of(&rt, &pool, &mut lanes);
+    let second = last_of(&rt, &pool, &mut lanes);
+    let first = last_of(&rt, &pool, &mut lanes);
     let words = [
         AtomicU64::new(0),
         AtomicU64::new(0),
@@ -314,8 +314,7 @@ fn passes_keys_round_four_threads(rt: HostRuntime) -> Result<(), Fail> {
     clear_all(&rt, &pool, &mut first, &words);
     counts_free(
         &rt,
-        close_pairs(&rt, rt.alloc(), pool, (first, second), back)?,
+        close_pairs(&rt, rt.alloc(), pool, (first, second), back),
         16,
     );
-    Ok(())
 }

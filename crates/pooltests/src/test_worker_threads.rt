@@ -1,8 +1,8 @@
 //! Workers on threads.
-ghost use Rattle.std.specs.Prelude.{◌≡◌, IfOk, vec_len};
+ghost use Rattle.std.specs.Prelude.{◌≡◌, vec_len};
 
+use crate::test_workers::{Open, Row, command_of};
 use keybits::Shape;
-use seqpool::Bytes;
 use shardpool::{Census, close, open};
 use std::alloc::{AllocError, Global};
 use std::process::Abort;
@@ -10,20 +10,8 @@ use std::sync::Wait;
 use std::sync::atomic::{AtomicBool, Ordering};
 use std::test::Fail;
 use std::thread::Threads;
-use traces::{Command, Operand, Register, Reply, Script};
+use traces::{Reply, Script};
 use workers::{Gate, Report, jobs_of, parts_of, run_workers};
-
-/// A line of a script. A line that names a key names the last of a register.
-#[derive(Clone, Copy)]
-enum Row<'a> {
-    Create(u8),
-    Write(u8, &'a [u8]),
-    Publish(u8),
-    Get(u8, u8),
-    Read(u8),
-    Release(u8),
-    Clear(u8),
-}
 
 const TWO_LANES: Shape = Shape {
     lanes: 2,
@@ -44,27 +32,13 @@ const ROUND: [Row<'static>; 7] = [
     Row::Create(0),
     Row::Write(0, b"ab"),
     Row::Publish(0),
-    Row::Get(1, 0),
+    Row::GetLast(1, 0),
     Row::Read(1),
     Row::Release(1),
-    Row::Clear(0),
+    Row::ClearLast(0),
 ];
 
 const LINES: usize = 1000;
-
-/// Lets every line pass.
-#[derive(Drop)]
-struct Open;
-
-impl Gate for Open {
-    ghost use Rattle.std.specs.Prelude.{◌≡◌, true};
-
-    ghost says = { λ gate worker line answer. answer ≡ true };
-
-    fn pass(&self, _worker: u32, _line: u32) -> bool {
-        true
-    }
-}
 
 /// Where two workers wait for each other before each line.
 #[derive(Drop)]
@@ -97,83 +71,73 @@ fn sees(flag: &AtomicBool) -> bool {
     false
 }
 
-fn register_of(number: u8) -> Result<Register, Fail> {
-    if number > 15 {
-        return Err(Fail::from("no register has this number"));
-    }
-    Ok(Register { number })
-}
-
-fn command_of(alloc: Global, row: Row<'_>) -> Result<Command, Fail> {
-    Ok(match row {
-        Row::Create(register) => Command::Create(register_of(register)?),
-        Row::Write(register, bytes) => {
-            let bytes = Bytes::from_vec(Vec::from_slice(alloc, bytes)?);
-            Command::Write(register_of(register)?, bytes)
-        }
-        Row::Publish(register) => Command::Publish(register_of(register)?),
-        Row::Get(register, last) => {
-            Command::Get(register_of(register)?, Operand::LastOf(register_of(last)?))
-        }
-        Row::Read(register) => Command::Read(register_of(register)?),
-        Row::Release(register) => Command::Release(register_of(register)?),
-        Row::Clear(last) => Command::Clear(Operand::LastOf(register_of(last)?)),
-    })
-}
-
 /// The script of so many lines, which are these from the first to the last, and again from the first.
-fn script_of(alloc: Global, rows: &[Row<'_>], lines: usize) -> Result<Script, Fail> {
+fn script_of<R: Abort>(rt: &R, alloc: Global, rows: &[Row<'_>], lines: usize) -> Script {
     let mut commands = Vec::new(alloc);
     for row in rows.iter().cycle().take(lines) {
-        commands.push(command_of(alloc, *row)?)?;
+        let command = command_of(rt, alloc, *row);
+        commands.push(command).expect(rt, "memory for a command");
     }
-    Ok(Script::from_vec(commands))
+    Script::from_vec(commands)
 }
 
 /// So many scripts, each of so many lines.
-fn scripts_of(
+fn scripts_of<R: Abort>(
+    rt: &R,
     alloc: Global,
     count: usize,
     rows: &[Row<'_>],
     lines: usize,
-) -> Result<Vec<Script>, Fail>
-    ensures { IfOk result (λ scripts. vec_len scripts ≡ count) }
+) -> Vec<Script>
+    ensures { vec_len result ≡ count }
 {
     let mut scripts = Vec::new(alloc);
     for _ in 0..count {
-        scripts.push(script_of(alloc, rows, lines)?)?;
+        let script = script_of(rt, alloc, rows, lines);
+        scripts.push(script).expect(rt, "memory for a script");
     }
-    Ok(scripts)
+    scripts
 }
 
 /// The reports, of which none was refused.
-fn all_told(alloc: Global, reports: Vec<Result<Report, AllocError>>) -> Result<Vec<Report>, Fail> {
-    let mut told = Vec::with_capacity(alloc, reports.len())?;
+fn all_told<R: Abort>(
+    rt: &R,
+    alloc: Global,
+    reports: Vec<Result<Report, AllocError>>,
+) -> Vec<Report> {
+    let mut told = Vec::new(alloc);
     for report in reports {
-        told.push(report?)?;
+        let report = report.expect(rt, "memory for the replies");
+        told.push(report).expect(rt, "memory for a report");
     }
-    Ok(told)
+    told
 }
 
 /// What workers reported, one on each lane of a pool of this shape, which all had so many of these lines; and what the places
 /// of the pool were in the end.
-fn run_all<R: Threads + Wait + Sync, G: Gate + Sync>(
+fn run_all<R: Threads + Wait + Abort + Sync, G: Gate + Sync>(
     rt: &R,
     alloc: Global,
     shape: Shape,
     rows: &[Row<'_>],
     lines: usize,
     gate: &G,
-) -> Result<(Vec<Report>, Census), Fail> {
-    let (pool, lanes) = open(alloc, shape)?;
-    let scripts = scripts_of(alloc, lanes.len(), rows, lines)?;
-    let jobs = jobs_of(alloc, lanes, scripts)?;
-    let Ok(dones) = run_workers(rt, alloc, &pool, jobs, gate) else {
-        return Err(Fail::from("no memory for the workers"));
+) -> (Vec<Report>, Census) {
+    let Ok((pool, lanes)) = open(alloc, shape) else {
+        panic!(rt; "no pool")
     };
-    let (lanes, reports) = parts_of(alloc, dones)?;
+    let scripts = scripts_of(rt, alloc, lanes.len(), rows, lines);
+    let Ok(jobs) = jobs_of(alloc, lanes, scripts) else {
+        panic!(rt; "no memory for the jobs")
+    };
+    let Ok(dones) = run_workers(rt, alloc, &pool, jobs, gate) else {
+        panic!(rt; "no memory for the workers")
+    };
+    let Ok((lanes, reports)) = parts_of(alloc, dones) else {
+        panic!(rt; "no memory for the parts")
+    };
     let census = close(pool, lanes);
-    Ok((all_told(alloc, reports)?, census))
+    (all_told(rt, alloc, reports), census)
 }
 
 /// Whether the reply is this line's, where each line of a round does what it says.
@@ -182,11 +146,12 @@ fn is_reply_of(row: Row<'_>, reply: &Reply) -> bool {
         Row::Create(_) => matches!(reply, Reply::Filling(_)),
         Row::Write(_, _) | Row::Release(_) => matches!(reply, Reply::Done),
         Row::Publish(_) => matches!(reply, Reply::Key(_)),
-        Row::Get(_, _) =>
+        Row::GetLast(_, _) =>
             matches!(reply, Reply::Found(content) if content.as_slice() == b"ab".as_slice()),
         Row::Read(_) =>
             matches!(reply, Reply::Content(content) if content.as_slice() == b"ab".as_slice()),
-        Row::Clear(_) => matches!(reply, Reply::Cleared(true)),
+        Row::ClearLast(_) => matches!(reply, Reply::Cleared(true)),
+        _ => false,
     }
 }
 
@@ -216,7 +181,7 @@ fn workers_run_one_beside_another(rt: HostRuntime) -> Result<(), Fail> {
         first: AtomicBool::new(false),
         second: AtomicBool::new(false),
     };
-    let (reports, _) = run_all(&rt, alloc, TWO_LANES, &[Row::Create(0)], 1, &gate)?;
+    let (reports, _) = run_all(&rt, alloc, TWO_LANES, &[Row::Create(0)], 1, &gate);
     assert_eq!(rt; reports.len(), 2);
     let (first, second) = texts_of(alloc, reports.as_slice())?;
     assert_eq!(rt;
@@ -234,7 +199,7 @@ fn workers_run_one_beside_another(rt: HostRuntime) -> Result<(), Fail> {
 fn workers_answer_in_the_order_of_their_jobs(rt: HostRuntime) -> Result<(), Fail> {
     let alloc = rt.alloc();
     let rows = [Row::Create(0), Row::Publish(0)];
-    let (reports, census) = run_all(&rt, alloc, TWO_LANES, &rows, 2, &Open)?;
+    let (reports, census) = run_all(&rt, alloc, TWO_LANES, &rows, 2, &Open);
     assert_eq!(rt; reports.len(), 2);
     let (first, second) = texts_of(alloc, reports.as_slice())?;
     assert_eq!(rt;
@@ -261,7 +226,7 @@ fn workers_answer_in_the_order_of_their_jobs(rt: HostRuntime) -> Result<(), Fail
 
 #[test]
 fn sixteen_workers_run_a_thousand_lines(rt: HostRuntime) -> Result<(), Fail> {
-    let (reports, census) = run_all(&rt, rt.alloc(), LARGEST, &ROUND, LINES, &Open)?;
+    let (reports, census) = run_all(&rt, rt.alloc(), LARGEST, &ROUND, LINES, &Open);
     assert_eq!(rt; reports.len(), 16);
     for report in reports.as_slice() {
         has_rounds(&rt, report);

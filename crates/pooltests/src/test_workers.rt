@@ -1,19 +1,20 @@
 //! Worked rows: scripts on one thread, and what they reply.
-ghost use Rattle.std.specs.Prelude.{◌≡◌, All, IfOk};
+ghost use Rattle.std.specs.Prelude.{◌≡◌};
 ghost use Rattle.shardpool.specs.Lanes.{Owns, refs};
 
+use crate::test_calls::{open_last, open_pair};
 use keybits::Shape;
 use seqpool::Bytes;
-use shardpool::{Lane, Pool, open};
+use shardpool::{Lane, Pool};
 use slotcell::ByteBuf;
-use std::alloc::Global;
-use std::test::Fail;
+use std::alloc::{AllocError, Global};
+use std::process::Abort;
 use traces::{Command, Operand, Register, Reply, Script};
-use workers::{Done, Gate, work};
+use workers::{Done, Gate, Report, work};
 
 /// A command as a row of a table gives it.
 #[derive(Clone, Copy)]
-enum Row<'a> {
+pub(crate) enum Row<'a> {
     Create(u8),
     Write(u8, &'a [u8]),
     Publish(u8),
@@ -58,7 +59,7 @@ impl Gate for StopsAt {
 
 /// Lets every line pass.
 #[derive(Drop)]
-struct Open;
+pub(crate) struct Open;
 
 impl Gate for Open {
     ghost use Rattle.std.specs.Prelude.{◌≡◌, true};
@@ -153,40 +154,41 @@ const SKIPS_REPLY: [Wanted<'static>; 18] = [
     Wanted::Cleared(true),
 ];
 
-fn register_of(number: u8) -> Result<Register, Fail> {
-    if number > 15 {
-        return Err(Fail::from("no register has this number"));
-    }
-    Ok(Register { number })
+fn register_of<R: Abort>(rt: &R, number: u8) -> Register {
+    assert!(rt; number <= 15);
+    Register { number }
 }
 
-fn command_of(alloc: Global, row: Row<'_>) -> Result<Command, Fail> {
-    Ok(match row {
-        Row::Create(register) => Command::Create(register_of(register)?),
+pub(crate) fn command_of<R: Abort>(rt: &R, alloc: Global, row: Row<'_>) -> Command {
+    match row {
+        Row::Create(register) => Command::Create(register_of(rt, register)),
         Row::Write(register, bytes) => {
-            let bytes = Bytes::from_vec(Vec::from_slice(alloc, bytes)?);
-            Command::Write(register_of(register)?, bytes)
+            let bytes = Vec::from_slice(alloc, bytes).expect(rt, "memory for the bytes");
+            Command::Write(register_of(rt, register), Bytes::from_vec(bytes))
         }
-        Row::Publish(register) => Command::Publish(register_of(register)?),
-        Row::Downgrade(register) => Command::Downgrade(register_of(register)?),
-        Row::Get(register, key) => Command::Get(register_of(register)?, Operand::Number(key)),
+        Row::Publish(register) => Command::Publish(register_of(rt, register)),
+        Row::Downgrade(register) => Command::Downgrade(register_of(rt, register)),
+        Row::Get(register, key) => Command::Get(register_of(rt, register), Operand::Number(key)),
         Row::GetLast(register, last) => {
-            Command::Get(register_of(register)?, Operand::LastOf(register_of(last)?))
+            Command::Get(
+                register_of(rt, register),
+                Operand::LastOf(register_of(rt, last)),
+            )
         }
-        Row::Read(register) => Command::Read(register_of(register)?),
-        Row::Release(register) => Command::Release(register_of(register)?),
+        Row::Read(register) => Command::Read(register_of(rt, register)),
+        Row::Release(register) => Command::Release(register_of(rt, register)),
         Row::Clear(key) => Command::Clear(Operand::Number(key)),
-        Row::ClearLast(last) => Command::Clear(Operand::LastOf(register_of(last)?)),
-    })
+        Row::ClearLast(last) => Command::Clear(Operand::LastOf(register_of(rt, last))),
+    }
 }
 
-fn script_of(alloc: Global, rows: &[Row<'_>]) -> Result<Script, Fail> {
+fn script_of<R: Abort>(rt: &R, alloc: Global, rows: &[Row<'_>]) -> Script {
     let mut commands = Vec::new(alloc);
     for row in rows {
-        let command = command_of(alloc, *row)?;
-        commands.push(command)?;
+        let command = command_of(rt, alloc, *row);
+        commands.push(command).expect(rt, "memory for a command");
     }
-    Ok(Script::from_vec(commands))
+    Script::from_vec(commands)
 }
 
 fn is_wanted(reply: &Reply, wanted: Wanted<'_>) -> bool {
@@ -218,27 +220,23 @@ fn are_wanted(replies: &[Reply], wanted: &[Wanted<'_>]) -> bool {
     true
 }
 
-/// A pool of this shape, and its lanes.
-fn open_all(alloc: Global, shape: Shape) -> Result<(Pool<ByteBuf>, Vec<Lane<ByteBuf>>), Fail>
-    ensures { IfOk result (λ made. All (λ lane. Owns made.0 lane × (refs lane ≡ 0)) made.1.items) }
+/// What a script on a lane reports.
+fn report_of<G: Gate>(
+    alloc: Global,
+    pool: &Pool<ByteBuf>,
+    lane: Lane<ByteBuf>,
+    script: Script,
+    gate: &G,
+) -> Result<Report, AllocError>
+    requires { Owns pool.now lane × (refs lane ≡ 0) }
 {
-    Ok(open(alloc, shape)?)
+    let Done { lane: _, report } = work(alloc, pool, lane, script, gate);
+    report
 }
 
-/// The last of the lanes.
-fn last_of(pool: &Pool<ByteBuf>, lanes: &mut Vec<Lane<ByteBuf>>) -> Result<Lane<ByteBuf>, Fail>
-    requires { All (λ lane. Owns pool.now lane × (refs lane ≡ 0)) lanes.old.items }
-    ensures rest { All (λ lane. Owns pool.now lane × (refs lane ≡ 0)) lanes.new.items }
-    ensures last { IfOk result (λ lane. Owns pool.now lane × (refs lane ≡ 0)) }
-{
-    let Some(lane) = lanes.pop() else {
-        return Err(Fail::from("no lane"));
-    };
-    Ok(lane)
-}
-
-/// Whether a script on a lane replies this, and stops there.
-fn replies<G: Gate>(
+/// A script on a lane replies this, and stops there.
+fn replies<G: Gate, R: Abort>(
+    rt: &R,
     alloc: Global,
     pool: &Pool<ByteBuf>,
     lane: Lane<ByteBuf>,
@@ -246,78 +244,61 @@ fn replies<G: Gate>(
     gate: &G,
     wanted: &[Wanted<'_>],
     stopped_at: Option<u32>,
-) -> Result<bool, Fail>
+)
     requires { Owns pool.now lane × (refs lane ≡ 0) }
 {
-    let script = script_of(alloc, rows)?;
-    let Done { lane: _, report } = work(alloc, pool, lane, script, gate);
-    let report = report?;
-    Ok(report.stopped_at == stopped_at && are_wanted(report.replies.as_slice(), wanted))
+    let script = script_of(rt, alloc, rows);
+    let report = report_of(alloc, pool, lane, script, gate).expect(rt, "memory for the replies");
+    assert_eq!(rt; report.stopped_at, stopped_at);
+    assert!(rt; are_wanted(report.replies.as_slice(), wanted));
 }
 
 #[test]
-fn makes_each_call(rt: HostRuntime) -> Result<(), Fail> {
+fn makes_each_call(rt: HostRuntime) {
     let alloc = rt.alloc();
-    let (pool, mut lanes) = open_all(alloc, TWO_PLACES)?;
-    let lane = last_of(&pool, &mut lanes)?;
-    let agrees = replies(alloc, &pool, lane, &CALLS, &Open, &CALLS_REPLY, None)?;
-    assert!(rt; agrees);
-    Ok(())
+    let (pool, lane) = open_last(&rt, alloc, TWO_PLACES);
+    replies(&rt, alloc, &pool, lane, &CALLS, &Open, &CALLS_REPLY, None);
 }
 
 #[test]
-fn works_on_each_lane(rt: HostRuntime) -> Result<(), Fail> {
+fn works_on_each_lane(rt: HostRuntime) {
     let alloc = rt.alloc();
-    let (pool, mut lanes) = open_all(alloc, TWO_LANES)?;
-    let second = last_of(&pool, &mut lanes)?;
-    let first = last_of(&pool, &mut lanes)?;
+    let (pool, first, second) = open_pair(&rt, alloc, TWO_LANES);
     let rows = [Row::Create(0), Row::Publish(0), Row::Read(3)];
     let wanted = [
         Wanted::Filling(16777216),
         Wanted::Key(16777216),
         Wanted::Skip,
     ];
-    let agrees = replies(alloc, &pool, first, &rows, &Open, &wanted, None)?;
-    assert!(rt; agrees);
+    replies(&rt, alloc, &pool, first, &rows, &Open, &wanted, None);
     let rows = [Row::Create(0), Row::Publish(0)];
     let wanted = [Wanted::Filling(16842752), Wanted::Key(16842752)];
-    let agrees = replies(alloc, &pool, second, &rows, &Open, &wanted, None)?;
-    assert!(rt; agrees);
-    Ok(())
+    replies(&rt, alloc, &pool, second, &rows, &Open, &wanted, None);
 }
 
 #[test]
-fn stops_where_the_gate_says_so(rt: HostRuntime) -> Result<(), Fail> {
+fn stops_where_the_gate_says_so(rt: HostRuntime) {
     let alloc = rt.alloc();
-    let (pool, mut lanes) = open_all(alloc, TWO_LANES)?;
-    let second = last_of(&pool, &mut lanes)?;
-    let first = last_of(&pool, &mut lanes)?;
+    let (pool, first, second) = open_pair(&rt, alloc, TWO_LANES);
     let rows = [Row::Create(0), Row::Publish(0), Row::Read(3)];
     let gate = StopsAt { worker: 1, line: 2 };
     let wanted = [Wanted::Filling(16842752), Wanted::Key(16842752)];
-    let agrees = replies(alloc, &pool, second, &rows, &gate, &wanted, Some(2))?;
-    assert!(rt; agrees);
+    replies(&rt, alloc, &pool, second, &rows, &gate, &wanted, Some(2));
     let never = StopsAt { worker: 0, line: 0 };
-    let agrees = replies(alloc, &pool, first, &rows, &never, &[], Some(0))?;
-    assert!(rt; agrees);
-    Ok(())
+    replies(&rt, alloc, &pool, first, &rows, &never, &[], Some(0));
 }
 
 #[test]
-fn skips_what_does_nothing(rt: HostRuntime) -> Result<(), Fail> {
+fn skips_what_does_nothing(rt: HostRuntime) {
     let alloc = rt.alloc();
-    let (pool, mut lanes) = open_all(alloc, TWO_PLACES)?;
-    let lane = last_of(&pool, &mut lanes)?;
-    let agrees = replies(alloc, &pool, lane, &SKIPS, &Open, &SKIPS_REPLY, None)?;
-    assert!(rt; agrees);
-    Ok(())
+    let (pool, lane) = open_last(&rt, alloc, TWO_PLACES);
+    replies(&rt, alloc, &pool, lane, &SKIPS, &Open, &SKIPS_REPLY, None);
 }
 
 #[test]
-fn finds_no_place_past_the_last_generation(rt: HostRuntime) -> Result<(), Fail> {
+fn finds_no_place_past_the_last_generation(rt: HostRuntime) {
     let alloc = rt.alloc();
-    let (pool, mut lanes) = open_all(alloc, ONE_GENERATION)?;
-    let lane = last_of(&pool, &mut lanes)?;
+    let (pool, lane) = open_last(&rt, alloc, ONE_GENERATION);
     let rows = [
         Row::Create(0),
         Row::Publish(0),
@@ -330,7 +311,5 @@ fn finds_no_place_past_the_last_generation(rt: HostRuntime) -> Result<(), Fail> 
         Wanted::Cleared(true),
         Wanted::Full,
     ];
-    let agrees = replies(alloc, &pool, lane, &rows, &Open, &wanted, None)?;
-    assert!(rt; agrees);
-    Ok(())
+    replies(&rt, alloc, &pool, lane, &rows, &Open, &wanted, None);
 }

@@ -2,4 +2,4 @@ use Rattle.shardpool.proofs.references.Holdings.{first-lanes}
 use Rattle.pooltests.proofs.test_calls.open_all.Goals as goal
 
 pub returns : goal.returns
-returns g c = first-lanes c.in_ok-open.field-0.0 c.in_ok-open.field-0.1.items c.in_ok-open.ensures.lanes
+returns g c = first-lanes c.in-Ok.made.0 c.in-Ok.made.1.items c.in-Ok.ensures.lanes

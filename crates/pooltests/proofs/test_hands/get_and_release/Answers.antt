@@ -5,7 +5,7 @@ use Rattle.slotcell.specs.Share.{Share}
 use Rattle.seqpool.specs.Histories.{acts_of}
 use Rattle.poolsteps.specs.declared.view.View.{View}
 use Rattle.poolsteps.specs.Views.{the_lane}
-use Rattle.pooltests.specs.declared.test_hands.TheConstants.{KEY}
+use Rattle.pooltests.specs.declared.test_steps.TheConstants.{KEY}
 use Rattle.poolcalls.proofs.Having.{has-one}
 use Rattle.pooltests.proofs.test_hands.get_and_release.Goals as goal
 

@@ -15,5 +15,5 @@ close_all-requires g c =
     one-more own _ _ _ c.push_reserved-4.ensures.items
     (one-more own _ _ _ c.push_reserved-3.ensures.items
     (one-more own _ _ _ c.push_reserved-2.ensures.items
-    (one-more own _ _ _ c.push_reserved.ensures.items (subst (All own) (sym c.in_ok-lanes.ensures.items) (All-nil own)) c.requires.back.1) c.requires.back.0) c.requires.front.1)
+    (one-more own _ _ _ c.push_reserved.ensures.items (subst (All own) (sym c.in-Ok.ensures.items) (All-nil own)) c.requires.back.1) c.requires.back.0) c.requires.front.1)
     c.requires.front.0

@@ -7,11 +7,11 @@ use Rattle.pooltests.proofs.test_worker_threads.run_all.Goals as goal
 
 pub run_workers-requires-clause-may : goal.run_workers-requires-clause-may
 run_workers-requires-clause-may g c lifetimes within =
-    may-begin c.in_ok-pool.pool c.in_ok-pool.lanes.items c.in_ok-jobs.jobs.items c.in_ok-pool.ensures.lanes c.in_ok-jobs.ensures.lanes
+    may-begin c.in-Ok.pool c.in-Ok.lanes.items c.in-Ok-jobs_of.jobs.items c.in-Ok.ensures.lanes c.in-Ok-jobs_of.ensures.lanes
 
 pub close-census-requires : goal.close-census-requires
 close-census-requires g c = record {
-  lanes = subst (λ (lanes : List LaneOf). AreLanes c.in_ok-pool.pool lanes) (sym c.in_ok-lanes.ensures.lanes)
-      (are-lanes c.in_ok-pool.pool c.in_ok-pool.lanes.items c.in_ok-jobs.jobs.items c.in-Ok.dones.items c.in_ok-pool.ensures.lanes
-      c.in_ok-jobs.ensures.lanes c.in-Ok.ensures.answers);
+  lanes = subst (λ (lanes : List LaneOf). AreLanes c.in-Ok.pool lanes) (sym c.in-Ok-parts_of.ensures.lanes)
+      (are-lanes c.in-Ok.pool c.in-Ok.lanes.items c.in-Ok-jobs_of.jobs.items c.in-Ok-run_workers.dones.items c.in-Ok.ensures.lanes
+      c.in-Ok-jobs_of.ensures.lanes c.in-Ok-run_workers.ensures.answers);
 }

@@ -3,4 +3,4 @@ use Rattle.std.proofs.Common.{◌≡◌, vec_len}
 use Rattle.pooltests.proofs.test_worker_threads.scripts_of.Given as goal
 
 abbrev pub invariant-loop : goal.invariant-loop
-invariant-loop l = vec_len l.scripts ≡ l.counter
+invariant-loop g l = vec_len l.scripts ≡ l.counter

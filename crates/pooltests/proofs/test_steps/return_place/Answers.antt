@@ -1,13 +1,12 @@
 use Rattle.std.proofs.Common.{◌≡◌, ℕ, ◌<◌, ◌≤◌, [], sym, ap, ◌∙◌, subst, arith}
 use Rattle.keybits.specs.declared.shape.Shape.{Shape}
-use Rattle.keybits.specs.Words.{claimable}
 use Rattle.sharelaws.specs.declared.stored.Status.TheVariants.{Emptied}
 use Rattle.sharelaws.specs.Shares.{room_of}
 use Rattle.poolsteps.specs.declared.view.View.{View}
 use Rattle.poolsteps.specs.Views.{the_lane, status_of, known_of}
 use Rattle.poolsteps.specs.Told.{HasPlace}
-use Rattle.poolsteps.proofs.HandReturns.{claimed-room, is-at-rest, at-two}
-use Rattle.pooltests.proofs.test_steps.clear_and_return.Goals as goal
+use Rattle.poolsteps.proofs.HandReturns.{is-at-rest, at-two}
+use Rattle.pooltests.proofs.test_steps.return_place.Goals as goal
 
 pub push-top-requires-clause-rests : goal.push-top-requires-clause-rests
 push-top-requires-clause-rests g c =
@@ -18,16 +17,11 @@ push-top-requires-clause-rests g c =
     let all : HasPlace z v place = subst (HasPlace z v) here c.take_shares-whole.ensures.place in
     let object = ap (λ s. s.object) c.into_share.ensures ∙ c.lend.ensures.2 in
     let none : g.T.Clear.content c.into_share.result.object ≡ [] = ap g.T.Clear.content object ∙ c.clear.ensures.empty in
-    let found : c.claim-claimed.result ≡ claimable 1 = omega arith in
-    let w : View = c.claim-claimed.new.hand.me.0 in
-    let claimed : room_of w.seen w.rooms 0 ≡ (known_of (the_lane w) 0).room
-    = subst (λ p. room_of w.seen w.rooms p ≡ (known_of (the_lane w) p).room) c.requires.spot.place_is
-    (claimed-room z place 1 c.claim-claimed.result c.leave-left.new.hand.me c.claim-claimed.new.hand.me c.claim-claimed.ensures.claims found) in
     let old = ap g.T.Clear.room c.get_mut.ensures.object in
     let new = ap g.T.Clear.room object in
     let room : room_of v.seen v.rooms place ≤ g.T.Clear.room c.into_share.result.object
     = subst (λ p. room_of v.seen v.rooms p ≤ g.T.Clear.room c.into_share.result.object) here
-    (omega (arith, c.take_shares-whole.ensures.kept, c.take_shares-whole.ensures.room, claimed, old, c.clear.ensures.room_kept, new)) in
+    (omega (arith, c.take_shares-whole.ensures.kept, c.take_shares-whole.ensures.room, c.requires.room, old, c.clear.ensures.room_kept, new)) in
     let slots = c.take_shares-whole.ensures.slots in
     let empty : (number : ℕ) → number < z.lanes → status_of (the_lane v) place number ≡ Emptied
     = at-two (λ number. status_of (the_lane v) place number ≡ Emptied) (subst (λ p. status_of (the_lane v) p 0 ≡ Emptied) here slots.0)
