@@ -42,7 +42,7 @@ use Rattle.coresteps.specs.declared.aims.Aim.{Aim}
 use Rattle.coresteps.specs.declared.lane.Lane.{Lane}
 use Rattle.coresteps.specs.declared.progress.Held.{Held}
 use Rattle.coresteps.specs.declared.progress.Held.TheVariants.{Empty, Filling, Reference}
-use Rattle.coresteps.specs.declared.progress.Slot.{Slot}
+use Rattle.coresteps.specs.declared.progress.KeptRegister.{KeptRegister}
 use Rattle.coresteps.specs.declared.progress.Progress.{Progress}
 use Rattle.coresteps.specs.declared.shared.Made.{Made}
 use Rattle.coresteps.specs.declared.shared.Shared.{Shared}
@@ -304,7 +304,7 @@ module _ (shared : Shared) (w : World) (made : Option Made) (number : ℕ) (lane
       out_generation place is = (generation_within the_shape w draft.kept.holds place (out_place place is).0).0
 
       old_slots : AreSlots lane.script old.done new.slots the_book.registers
-      old_slots = subst (λ (s : List Slot). AreSlots lane.script old.done s the_book.registers) (sym (ap (λ (p : Progress). p.slots) given.rest)) at.slots
+      old_slots = subst (λ (s : List KeptRegister). AreSlots lane.script old.done s the_book.registers) (sym (ap (λ (p : Progress). p.slots) given.rest)) at.slots
 
       new_slots : AreSlots lane.script (old.done + 1) new.slots the_book.registers
       new_slots = slots_stay lane.script old.done (commands.Create r) more script_left new.slots the_book.registers old_slots (λ n. refl)
@@ -331,7 +331,7 @@ module _ (shared : Shared) (w : World) (made : Option Made) (number : ℕ) (lane
           )
 
       -- the slot of the new filling
-      abbrev new_slot : ℕ → Slot
+      abbrev new_slot : ℕ → KeptRegister
       new_slot key = record { held = Filling key new.done; last_key = Some key }
 
       fresh_slot : (key : ℕ) → IsSlot lane.script (old.done + 1) r.number (new_slot key) (register_with (holdings.Filling key []) (Some key))

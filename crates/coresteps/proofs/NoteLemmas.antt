@@ -36,7 +36,7 @@ use Rattle.coresteps.specs.declared.progress.Progress.{Progress}
 use Rattle.coresteps.specs.declared.shared.Made.{Made}
 use Rattle.coresteps.specs.declared.shared.Shared.{Shared}
 use Rattle.coresteps.specs.OwnLists.{IsOwnList, unused_places, ring_places, added_places, own_places}
-use Rattle.coresteps.specs.declared.progress.Slot.{Slot}
+use Rattle.coresteps.specs.declared.progress.KeptRegister.{KeptRegister}
 use Rattle.traces.specs.declared.script.Command.{Command}
 use Rattle.coresteps.specs.Lanes.{AreSlots, last_step, AreChained, IsChained, counted}
 use Rattle.coresteps.specs.Kept.{IsWordOf, index_of_publish, IsPublished, IsDraft, IsLaneAt}
@@ -635,7 +635,7 @@ module _ (z : Shape) (w : World) (number : ℕ) (k : IsKept z w) (below : number
       with_act p made done slots stacks last count same list own chain opened mark = record {
         left = ap (λ (n : ℕ). drop n lane.script) done ∙ l.left;
         within = subst (λ (n : ℕ). n ≤ length lane.script) (sym done) l.within;
-        slots = subst (λ (t : ℕ × List Slot). AreSlots lane.script t.0 t.1 before.registers) (λ i. (sym done i, sym slots i)) l.slots;
+        slots = subst (λ (t : ℕ × List KeptRegister). AreSlots lane.script t.0 t.1 before.registers) (λ i. (sym done i, sym slots i)) l.slots;
         list = list;
         own = own ∙ ap (λ (xs : List Act). before.own ++ of_shard number (reclaimed z.last_generation (before.acts ++ xs))) same;
         chain = subst (λ (xs : List Act). IsChained (w.history ++ xs) p.chain (before.chain ++ taken (before.acts ++ xs))) same chain;

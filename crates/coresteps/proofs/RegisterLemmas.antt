@@ -41,7 +41,7 @@ use Rattle.traces.proofs.TurnLawsRegisters.{register_at-same, register_at-other}
 use Rattle.coresteps.specs.declared.lane.Lane.{Lane}
 use Rattle.coresteps.specs.declared.progress.Held.{Held}
 use Rattle.coresteps.specs.declared.progress.Held.TheVariants as held
-use Rattle.coresteps.specs.declared.progress.Slot.{Slot}
+use Rattle.coresteps.specs.declared.progress.KeptRegister.{KeptRegister}
 use Rattle.coresteps.specs.declared.progress.Progress.{Progress}
 use Rattle.coresteps.specs.Lanes.{written_by, written_since, slot_at, IsHeld, IsSlot, AreSlots, last_step, IsChained}
 use Rattle.coresteps.specs.Kept.{IsLaneAt, IsReplied}
@@ -49,12 +49,12 @@ use Rattle.coresteps.specs.Kept.{IsLaneAt, IsReplied}
 -- ---- lists
 
 -- one slot is set
-pub slot_at-same : (xs : List Slot) (i : ℕ) (y : Slot) → i < length xs → slot_at (set xs i y) i ≡ y
+pub slot_at-same : (xs : List KeptRegister) (i : ℕ) (y : KeptRegister) → i < length xs → slot_at (set xs i y) i ≡ y
 slot_at-same [] i y inside = absurd (omega arith)
 slot_at-same (x ∷ xs) zero y inside = refl
 slot_at-same (x ∷ xs) (suc i) y inside = slot_at-same xs i y (omega arith)
 
-pub slot_at-other : (xs : List Slot) (i j : ℕ) (y : Slot) → j ≢ i → slot_at (set xs i y) j ≡ slot_at xs j
+pub slot_at-other : (xs : List KeptRegister) (i j : ℕ) (y : KeptRegister) → j ≢ i → slot_at (set xs i y) j ≡ slot_at xs j
 slot_at-other [] zero j y other = refl
 slot_at-other [] (suc i) j y other = refl
 slot_at-other (x ∷ xs) zero zero y other = absurd (other refl)
@@ -113,7 +113,7 @@ module _ (script : List Command) (done : ℕ) (command : Command) (more : List C
   )
   held_next number (held.Reference key) holding is = (is.0, ap (written (written_by number command)) is.1)
 
-  module _ (slots : List Slot) (registers : List RegisterState) (are : AreSlots script done slots registers) where
+  module _ (slots : List KeptRegister) (registers : List RegisterState) (are : AreSlots script done slots registers) where
     -- the slots stand for the registers, in each of which the command's bytes for it are written
     pub slots_next : (after : List RegisterState) → length after ≡ 16
         → ((number : ℕ) → number < 16 → ((register_at after number).last_key ≡ (register_at registers number).last_key)
@@ -138,7 +138,7 @@ module _ (script : List Command) (done : ℕ) (command : Command) (more : List C
     ))
 
     -- one that writes nothing may set one of them
-    pub slots_set : ((number : ℕ) → written_by number command ≡ []) → (i : ℕ) → i < 16 → (slot : Slot) (register : RegisterState)
+    pub slots_set : ((number : ℕ) → written_by number command ≡ []) → (i : ℕ) → i < 16 → (slot : KeptRegister) (register : RegisterState)
         → IsSlot script (done + 1) i slot register → AreSlots script (done + 1) (set slots i slot) (set registers i register)
     slots_set none i small slot register is = record {
       sixteen = length-set slots i slot ∙ are.sixteen;
@@ -149,9 +149,9 @@ module _ (script : List Command) (done : ℕ) (command : Command) (more : List C
           let b : register_at (set registers i register) number ≡ register
           = ap (register_at (set registers i register)) same ∙ register_at-same registers i register (omega arith) in
           subst (λ (k : ℕ). IsSlot script (done + 1) k (slot_at (set slots i slot) number) (register_at (set registers i register) number)) (sym same)
-          (subst (λ (s : Slot). IsSlot script (done + 1) i s (register_at (set registers i register) number)) (sym a)
+          (subst (λ (s : KeptRegister). IsSlot script (done + 1) i s (register_at (set registers i register) number)) (sym a)
           (subst (IsSlot script (done + 1) i slot) (sym b) is)))
-          (λ other. subst (λ (s : Slot). IsSlot script (done + 1) number s (register_at (set registers i register) number))
+          (λ other. subst (λ (s : KeptRegister). IsSlot script (done + 1) number s (register_at (set registers i register) number))
           (sym (slot_at-other slots i number slot other))
           (subst (IsSlot script (done + 1) number (slot_at slots number)) (sym (register_at-other registers i number register other))
           ((slots_stay none).each number below)));
@@ -167,7 +167,7 @@ written_by-other : (number : ℕ) (register : Register) (bytes : List ℕ) → r
 written_by-other number register bytes other = ap (λ (b : Bool). cond b bytes []) (ne_eqb register.number number other)
 
 module _ (script : List Command) (done : ℕ) (register : Register) (bytes : List ℕ) (more : List Command)
-    (next : drop done script ≡ commands.Write register bytes ∷ more) (slots : List Slot) (registers : List RegisterState)
+    (next : drop done script ≡ commands.Write register bytes ∷ more) (slots : List KeptRegister) (registers : List RegisterState)
     (are : AreSlots script done slots registers) (small : register.number < 16) where
   abbrev was : RegisterState
   was = register_at registers register.number
@@ -414,7 +414,7 @@ module _ (z : Shape) (w : World) (number : ℕ) (lane : Lane) (more : List Comma
   becomes command reply set_one new same = subst (Replies command reply) (sym same)
 
   -- the lists stay
-  replied : (command : Command) → IsNoCreate command → the_book.left ≡ command ∷ more → (reply : Reply) (slots : List Slot)
+  replied : (command : Command) → IsNoCreate command → the_book.left ≡ command ∷ more → (reply : Reply) (slots : List KeptRegister)
       → AreSlots lane.script (p.done + 1) slots (registers_after the_book command reply)
       → IsReplied z w.history number lane the_book command reply p (record p { slots = slots })
   replied command isnt left reply slots are =
@@ -443,7 +443,7 @@ module _ (z : Shape) (w : World) (number : ℕ) (lane : Lane) (more : List Comma
       (slots_stay lane.script p.done command more (at.left ∙ left) p.slots the_book.registers at.slots (writes_none command writes)))
 
   module _ (register : Register) where
-    abbrev mine : Slot
+    abbrev mine : KeptRegister
     mine = slot_at p.slots register.number
 
     abbrev theirs : RegisterState
@@ -451,7 +451,7 @@ module _ (z : Shape) (w : World) (number : ℕ) (lane : Lane) (more : List Comma
 
     -- a register is set, and the others stay
     sets : (command : Command) → IsNoCreate command → IsNoWrite command → the_book.left ≡ command ∷ more → register.number < 16
-        → (reply : Reply) (slot : Slot) (state : RegisterState) → registers_after the_book command reply ≡ set the_book.registers register.number state
+        → (reply : Reply) (slot : KeptRegister) (state : RegisterState) → registers_after the_book command reply ≡ set the_book.registers register.number state
         → IsSlot lane.script (p.done + 1) register.number slot state
         → IsReplied z w.history number lane the_book command reply p (record p { slots = set p.slots register.number slot })
     sets command isnt writes left small reply slot state same is = replied command isnt left reply (set p.slots register.number slot)
@@ -460,21 +460,21 @@ module _ (z : Shape) (w : World) (number : ℕ) (lane : Lane) (more : List Comma
         register.number small slot state is))
 
     -- what the register holds, where the slot holds this
-    holds : register.number < 16 → (slot : Slot) → slot ≡ mine → (h : Held) → slot.held ≡ h
+    holds : register.number < 16 → (slot : KeptRegister) → slot ≡ mine → (h : Held) → slot.held ≡ h
         → IsHeld lane.script p.done register.number h (holding_at the_book register.number)
     holds small slot same h e = subst (λ (x : Held). IsHeld lane.script p.done register.number x (holding_at the_book register.number))
-        (sym (ap (λ (s : Slot). s.held) same) ∙ e) (at.slots.each register.number small).1
+        (sym (ap (λ (s : KeptRegister). s.held) same) ∙ e) (at.slots.each register.number small).1
 
-    holds_own : register.number < 16 → (slot : Slot) → slot ≡ mine
+    holds_own : register.number < 16 → (slot : KeptRegister) → slot ≡ mine
         → IsHeld lane.script p.done register.number slot.held (holding_at the_book register.number)
     holds_own small slot same = holds small slot same slot.held refl
 
-    last_key : register.number < 16 → (slot : Slot) → slot ≡ mine → slot.last_key ≡ theirs.last_key
-    last_key small slot same = ap (λ (s : Slot). s.last_key) same ∙ (at.slots.each register.number small).0
+    last_key : register.number < 16 → (slot : KeptRegister) → slot ≡ mine → slot.last_key ≡ theirs.last_key
+    last_key small slot same = ap (λ (s : KeptRegister). s.last_key) same ∙ (at.slots.each register.number small).0
 
     -- ---- of each command
 
-    module _ (small : register.number < 16) (slot : Slot) (same : slot ≡ mine) where
+    module _ (small : register.number < 16) (slot : KeptRegister) (same : slot ≡ mine) where
       pub write_done : (bytes : List ℕ) (key created : ℕ) → slot.held ≡ held.Filling key created
           → the_book.left ≡ commands.Write register bytes ∷ more → Replies (commands.Write register bytes) replies.Done p
       write_done bytes key created e left = (
@@ -491,7 +491,7 @@ module _ (z : Shape) (w : World) (number : ℕ) (lane : Lane) (more : List Comma
             (λ key. replies.Skip ≡ replies.Done) none (holds_own small slot same),
         replied (commands.Write register bytes) tt left replies.Skip p.slots
             (slots_unwritten lane.script p.done register bytes more (at.left ∙ left) p.slots the_book.registers at.slots small
-            (subst (λ (s : Slot). NoFilling s.held) same none)),
+            (subst (λ (s : KeptRegister). NoFilling s.held) same none)),
       )
 
       pub publish_done : (key created : ℕ) → slot.held ≡ held.Filling key created → the_book.left ≡ commands.Publish register ∷ more

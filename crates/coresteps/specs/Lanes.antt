@@ -17,7 +17,7 @@ use Rattle.keybits.specs.declared.shape.Shape.{Shape}
 use Rattle.coresteps.specs.declared.aims.Aim.{Aim}
 use Rattle.coresteps.specs.declared.progress.Held.{Held}
 use Rattle.coresteps.specs.declared.progress.Held.TheVariants.{Empty, Filling, Reference}
-use Rattle.coresteps.specs.declared.progress.Slot.{Slot}
+use Rattle.coresteps.specs.declared.progress.KeptRegister.{KeptRegister}
 use Rattle.coresteps.specs.declared.progress.Call.{Call}
 use Rattle.coresteps.specs.declared.progress.Call.TheVariants.{Publish, Get, Release, Clear, Create}
 use Rattle.coresteps.specs.declared.progress.Chain.{Chain}
@@ -36,16 +36,16 @@ abbrev pub written_since : List Command → ℕ → ℕ → ℕ → List ℕ
 written_since script created done number = flat_map (written_by number) (take (done - created) (drop created script))
 
 -- a slot that had nothing yet
-abbrev pub empty_slot : Slot
+abbrev pub empty_slot : KeptRegister
 empty_slot = record { held = Empty; last_key = None }
 
 -- the slot, or an empty one where there is none
-abbrev pub slot_or_empty : Option Slot → Slot
+abbrev pub slot_or_empty : Option KeptRegister → KeptRegister
 slot_or_empty (Some slot) = slot
 slot_or_empty None = empty_slot
 
 -- the slot of this number
-abbrev pub slot_at : List Slot → ℕ → Slot
+abbrev pub slot_at : List KeptRegister → ℕ → KeptRegister
 slot_at slots number = slot_or_empty (slice_get slots number)
 
 -- what a slot holds stands for what the register holds: of a filling the bytes stand in the script, and of a reference its key is kept
@@ -56,11 +56,11 @@ IsHeld script done number (Filling key created) holding =
 IsHeld script done number (Reference key) holding = (content : List ℕ) × (holding ≡ holdings.Reference key content)
 
 -- a slot stands for the register of this number, where so many commands are done
-abbrev pub IsSlot : List Command → ℕ → ℕ → Slot → RegisterState → Type 0
+abbrev pub IsSlot : List Command → ℕ → ℕ → KeptRegister → RegisterState → Type 0
 IsSlot script done number slot register = (slot.last_key ≡ register.last_key) × IsHeld script done number slot.held register.holding
 
 -- sixteen slots stand for the sixteen registers
-pub record AreSlots (script : List Command) (done : ℕ) (slots : List Slot) (registers : List RegisterState) : Type 0 where
+pub record AreSlots (script : List Command) (done : ℕ) (slots : List KeptRegister) (registers : List RegisterState) : Type 0 where
   pub sixteen : length slots ≡ 16
   pub registers_sixteen : length registers ≡ 16
   pub each : (number : ℕ) → number < 16 → IsSlot script done number (slot_at slots number) (register_at registers number)

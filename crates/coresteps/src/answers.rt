@@ -17,7 +17,7 @@ ghost use Rattle.coresteps.specs.Kept.{made_acts, IsDraft, IsLaneAt, IsReplied, 
 
 use crate::fault::CoreFault;
 use crate::lane::Lane;
-use crate::progress::{Held, Progress, Slot};
+use crate::progress::{Held, KeptRegister, Progress};
 use crate::shared::{Made, Shared};
 use keybits::{Kind, Life, Word, generation_of, place_of};
 use traces::{Command, Operand, Register, Replies, Reply};
@@ -140,7 +140,7 @@ impl Shared {
         };
         progress.set_slot(
             register,
-            Slot {
+            KeptRegister {
                 held,
                 last_key: Some(key),
             },
@@ -236,7 +236,7 @@ impl Shared {
                 let held = Held::Reference { key };
                 progress.set_slot(
                     register,
-                    Slot {
+                    KeptRegister {
                         held,
                         last_key: Some(key),
                     },
@@ -305,7 +305,7 @@ impl Progress {
         };
         self.set_slot(
             register,
-            Slot {
+            KeptRegister {
                 held: Held::Empty,
                 last_key: slot.last_key,
             },
@@ -326,7 +326,7 @@ impl Progress {
         };
         self.set_slot(
             register,
-            Slot {
+            KeptRegister {
                 held: Held::Reference { key },
                 last_key: slot.last_key,
             },
@@ -347,7 +347,7 @@ impl Progress {
         };
         self.set_slot(
             register,
-            Slot {
+            KeptRegister {
                 held: Held::Empty,
                 last_key: slot.last_key,
             },

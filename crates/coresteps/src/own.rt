@@ -115,7 +115,7 @@ impl OwnList {
         Some(place_number(lane, page, 0))
     }
 
-    /// Adds a place at the end, where none was added since the list was settled.
+    /// Adds a place at the end, where none was added since the last one was put into the ring.
     pub(crate) fn add(&mut self, place: u32)
         ensures { self.new ≡ record self.old { added = Some place } }
     {
@@ -123,7 +123,7 @@ impl OwnList {
     }
 
     /// Puts the place that was added into the ring.
-    pub(crate) fn settle(&mut self, ring: &mut [u32])
+    pub(crate) fn put_added(&mut self, ring: &mut [u32])
         requires length { (place : ℕ) → self.old.added ≡ Some place → self.old.length < length ring.old }
         requires first { self.old.first < length ring.old }
         ensures places { (z : Shape) (lane : ℕ) → own_places z lane ring.new self.new ≡ own_places z lane ring.old self.old }

@@ -22,7 +22,7 @@ pub(crate) enum Held {
 
 /// A register: what it holds, and the last key that it had.
 #[derive(Clone, Copy)]
-pub(crate) struct Slot {
+pub(crate) struct KeptRegister {
     pub(crate) held: Held,
     pub(crate) last_key: Option<u64>,
 }
@@ -70,7 +70,7 @@ pub(crate) struct Most {
 pub(crate) struct Progress {
     /// How many commands have their reply.
     pub(crate) done: usize,
-    pub(crate) slots: [Slot; 16],
+    pub(crate) slots: [KeptRegister; 16],
     pub(crate) own: OwnList,
     pub(crate) chain: Chain,
     /// For each shard the word that it last pushed on its stack there.
@@ -89,7 +89,7 @@ impl Progress {
     pub(crate) fn new() -> Progress
         ensures { result ≡ first_progress }
     {
-        let empty = Slot {
+        let empty = KeptRegister {
             held: Held::Empty,
             last_key: None,
         };
@@ -113,14 +113,14 @@ impl Progress {
     }
 
     /// A register.
-    pub(crate) fn slot(&self, register: Register) -> Slot
+    pub(crate) fn slot(&self, register: Register) -> KeptRegister
         ensures { result ≡ slot_at self.now.slots register.number }
     {
         self.slots[register.number as usize]
     }
 
     /// Sets a register.
-    pub(crate) fn set_slot(&mut self, register: Register, slot: Slot)
+    pub(crate) fn set_slot(&mut self, register: Register, slot: KeptRegister)
         ensures { self.new ≡ record self.old { slots = slice_set self.old.slots register.number slot } }
     {
         self.slots[register.number as usize] = slot;

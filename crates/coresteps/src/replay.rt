@@ -174,7 +174,7 @@ fn next_turn(shared: &mut Shared, lanes: &mut Vec<Lane>, lane: u32) -> Result<Tu
     let of = &lanes[index];
     let mut progress = of.progress;
     let turn = advance(shared, of, lane, &mut progress)?;
-    settle(&mut lanes[index], progress);
+    keep_progress(&mut lanes[index], progress);
     Ok(turn)
 }
 
@@ -212,7 +212,7 @@ fn advance(
     let command = &of.script.as_slice()[progress.done];
     progress.note(&shared.shape, lane, command, &made, index);
     let after = shared.work(of, lane, progress, Some(&made))?;
-    let act = told(shared.alloc, &made.act)?;
+    let act = copy_of(shared.alloc, &made.act)?;
     let step = made.step;
     shared.keep(made)?;
     Ok(Turn {
@@ -225,7 +225,7 @@ fn advance(
 }
 
 /// Keeps how far a lane has come.
-fn settle(of: &mut Lane, progress: Progress)
+fn keep_progress(of: &mut Lane, progress: Progress)
     requires length { (place : ℕ) → progress.own.added ≡ Some place → progress.own.length < length of.old.ring.items }
     requires first { progress.own.first < length of.old.ring.items }
     ensures lane { (z : Shape) (history : List Act) (number : ℕ) (b : Book) → IsLaneAt z history number of.old progress b
@@ -234,11 +234,11 @@ fn settle(of: &mut Lane, progress: Progress)
     ensures most { of.new.progress.most ≡ progress.most }
 {
     of.progress = progress;
-    of.progress.own.settle(&mut of.ring);
+    of.progress.own.put_added(&mut of.ring);
 }
 
-/// An act once more.
-fn told(alloc: Global, act: &Option<Act>) -> Result<Option<Act>, CoreFault>
+/// A copy of an act.
+fn copy_of(alloc: Global, act: &Option<Act>) -> Result<Option<Act>, CoreFault>
     ensures { IfOk result (λ copy. copy ≡ act.now) }
 {
     match act {

@@ -46,8 +46,8 @@ pub returns-in_err-turn-clause-err : goal.returns-in_err-turn-clause-err
 returns-in_err-turn-clause-err c = on_err c.from_residual.result _
     (λ w most k. same_core c.args.shared.now c.advance.new.shared w most c.args.lanes.now.items k c.in_err-turn.ensures.shape (c.in_err-turn.ensures.err w k.draft))
 
-pub settle-requires-clause-length : goal.settle-requires-clause-length
-settle-requires-clause-length c = λ place added.
+pub keep_progress-requires-clause-length : goal.keep_progress-requires-clause-length
+keep_progress-requires-clause-length c = λ place added.
     let w = c.requires.0 in
     let k = c.requires.2 in
     let unfinished = c.requires.3 in
@@ -67,8 +67,8 @@ settle-requires-clause-length c = λ place added.
     subst (λ (l : Lane). p.own.length < length l.ring.items) same
     (room_for_added old.shape (world_after old.shape w t) n of p kept below (at_world old.shape w t n of p turn.0 turn.3) place added)
 
-pub settle-requires-clause-first : goal.settle-requires-clause-first
-settle-requires-clause-first c =
+pub keep_progress-requires-clause-first : goal.keep_progress-requires-clause-first
+keep_progress-requires-clause-first c =
     let w = c.requires.0 in
     let k = c.requires.2 in
     let unfinished = c.requires.3 in
@@ -100,7 +100,7 @@ returns-clause-ok c = λ w most k unfinished.
     let t = c.in_ok-turn.turn in
     let turn = c.in_ok-turn.ensures.ok w k.draft (k.lane n of got) unfinished in
     let same : of ≡ c.index_mut.result.now = read_twice lanes n of c.index_mut.result.now c.index-of.ensures c.index_mut.ensures.value (omega arith) in
-    let settled = c.settle.new.of in
-    let at = c.settle.ensures.lane old.shape (world_after old.shape w t).history n (book_after old.shape w t)
+    let settled = c.keep_progress.new.of in
+    let at = c.keep_progress.ensures.lane old.shape (world_after old.shape w t).history n (book_after old.shape w t)
     (subst (λ (l : Lane). IsLaneAt old.shape (world_after old.shape w t).history n l p (book_after old.shape w t)) same turn.3) in
-    turn_made old new w most lanes of settled t n k c.in_ok-turn.ensures.shape turn.0 turn.1 turn.2 got at c.settle.ensures.added (c.settle.ensures.most ∙ turn.4)
+    turn_made old new w most lanes of settled t n k c.in_ok-turn.ensures.shape turn.0 turn.1 turn.2 got at c.keep_progress.ensures.added (c.keep_progress.ensures.most ∙ turn.4)

@@ -6,7 +6,7 @@ use Rattle.traces.specs.declared.script.Command.TheVariants as commands
 use Rattle.traces.specs.declared.reply.Reply.TheVariants as replies
 use Rattle.traces.specs.Following.{CommandReplies}
 use Rattle.coresteps.specs.declared.progress.Held.TheVariants.{Empty}
-use Rattle.coresteps.specs.declared.progress.Slot.{Slot}
+use Rattle.coresteps.specs.declared.progress.KeptRegister.{KeptRegister}
 use Rattle.coresteps.specs.declared.progress.Progress.{Progress}
 use Rattle.coresteps.specs.Lanes.{slot_at}
 use Rattle.coresteps.specs.Kept.{IsReplied}
@@ -16,7 +16,7 @@ use Rattle.coresteps.proofs.shared.Shared.create.Goals as goal
 pub returns-in_default : goal.returns-in_default
 returns-in_default c = λ w more draft at over left.
     create_skips c.args.self.now w (option_copied c.args.made) c.args.number c.args.lane.now c.args.progress.now c.args.register more draft
-    c.requires.lane at left (λ e. c.in_default.not-Empty (ap (λ (s : Slot). s.held) c.slot.ensures ∙ e))
+    c.requires.lane at left (λ e. c.in_default.not-Empty (ap (λ (s : KeptRegister). s.held) c.slot.ensures ∙ e))
 
 pub hand_out-requires-clause-chain : goal.hand_out-requires-clause-chain
 hand_out-requires-clause-chain c =
@@ -37,7 +37,7 @@ returns-in_default-hand_out c = λ w more draft at over left.
       settled = c.hand_out.ensures.settled;
     } in
     create_fills c.args.self.now w (option_copied c.args.made) c.args.number c.args.lane.now c.args.progress.now c.args.register more draft
-    c.requires.lane at left (ap (λ (s : Slot). s.held) (sym c.slot.ensures) ∙ c.in-Empty.is) c.hand_out.result c.hand_out.new.progress given
+    c.requires.lane at left (ap (λ (s : KeptRegister). s.held) (sym c.slot.ensures) ∙ c.in-Empty.is) c.hand_out.result c.hand_out.new.progress given
     c.in_default-hand_out.is
 
 pub life-requires-clause-place : goal.life-requires-clause-place
@@ -52,7 +52,7 @@ life-requires-clause-place c =
       settled = c.hand_out.ensures.settled;
     } in
     (out_place c.args.self.now d.0 (option_copied c.args.made) c.args.number c.args.lane.now c.args.progress.now c.args.register d.1 d.2
-    c.requires.lane d.3 d.5 (ap (λ (s : Slot). s.held) (sym c.slot.ensures) ∙ c.in-Empty.is) c.hand_out.result c.hand_out.new.progress given
+    c.requires.lane d.3 d.5 (ap (λ (s : KeptRegister). s.held) (sym c.slot.ensures) ∙ c.in-Empty.is) c.hand_out.result c.hand_out.new.progress given
     c.in-Some.place c.in-Some.is).0
 
 pub key_of-key-requires-clause-place : goal.key_of-key-requires-clause-place
@@ -67,7 +67,7 @@ key_of-key-requires-clause-place c =
       settled = c.hand_out.ensures.settled;
     } in
     (out_place c.args.self.now d.0 (option_copied c.args.made) c.args.number c.args.lane.now c.args.progress.now c.args.register d.1 d.2
-    c.requires.lane d.3 d.5 (ap (λ (s : Slot). s.held) (sym c.slot.ensures) ∙ c.in-Empty.is) c.hand_out.result c.hand_out.new.progress given
+    c.requires.lane d.3 d.5 (ap (λ (s : KeptRegister). s.held) (sym c.slot.ensures) ∙ c.in-Empty.is) c.hand_out.result c.hand_out.new.progress given
     c.in-Some.place c.in-Some.is).0
 
 pub key_of-key-requires-clause-generation : goal.key_of-key-requires-clause-generation
@@ -82,7 +82,7 @@ key_of-key-requires-clause-generation c =
       settled = c.hand_out.ensures.settled;
     } in
     let held : (slot_at c.args.progress.now.slots c.args.register.number).held ≡ Empty =
-    ap (λ (s : Slot). s.held) (sym c.slot.ensures) ∙ c.in-Empty.is in
+    ap (λ (s : KeptRegister). s.held) (sym c.slot.ensures) ∙ c.in-Empty.is in
     let is = (out_place c.args.self.now d.0 (option_copied c.args.made) c.args.number c.args.lane.now c.args.progress.now c.args.register d.1 d.2
     c.requires.lane d.3 d.5 held c.hand_out.result c.hand_out.new.progress given c.in-Some.place c.in-Some.is).0 in
     subst (λ (n : ℕ). 1 ≤ n)
@@ -108,7 +108,7 @@ returns c = λ w more draft at over left.
       settled = c.hand_out.ensures.settled;
     } in
     let held : (slot_at old.slots c.args.register.number).held ≡ Empty =
-    ap (λ (s : Slot). s.held) (sym c.slot.ensures) ∙ c.in-Empty.is in
+    ap (λ (s : KeptRegister). s.held) (sym c.slot.ensures) ∙ c.in-Empty.is in
     let is = (out_place shared w made c.args.number lane old c.args.register more draft c.requires.lane at left held c.hand_out.result new given
     place c.in-Some.is).0 in
     let generation = life_generation shared w made draft place c.life.result c.of_word-generation.result.generation is

@@ -2,8 +2,8 @@
 use Rattle.std.proofs.Common.{◌≡◌, ◌<◌, length, Some, inl, inr, sym, ◌∙◌, arith}
 use Rattle.coresteps.specs.OwnLists.{unused_places}
 use Rattle.coresteps.proofs.OwnLemmas.{settled_places, IsEnd}
-use Rattle.coresteps.proofs.own.OwnList.settle.Goals as goal
-use Rattle.coresteps.proofs.own.OwnList.settle.Goals.{then-end-ring, else-end-ring}
+use Rattle.coresteps.proofs.own.OwnList.put_added.Goals as goal
+use Rattle.coresteps.proofs.own.OwnList.put_added.Goals.{then-end-ring, else-end-ring}
 
 pub returns-clause-places : goal.returns-clause-places
 returns-clause-places c = λ z lane.
