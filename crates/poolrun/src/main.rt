@@ -25,15 +25,41 @@ use std::{env, io};
 
 /// The schedule without what comes after a lane's stop.
 fn stopped(rt: &HostRuntime, schedule: Vec<u32>, stop: Option<Stop>) -> Result<Vec<u32>, RunFault> {
-    match stop {
-        Some(Stop { lane, after }) => stop_after(
-            rt.alloc(),
-            schedule.as_slice(),
-            lane,
-            after,
-        ).map_err(|_| RunFault::Read(ScriptFault::Memory)),
-        None => Ok(schedule),
+    let Some(Stop { lane, after }) = stop else {
+        return Ok(schedule);
+    };
+    match stop_after(rt.alloc(), schedule.as_slice(), lane, after) {
+        Ok(rest) => Ok(rest),
+        Err(_) => Err(RunFault::Read(ScriptFault::Memory)),
     }
+}
+
+/// Replays a script over a schedule, with the text of the trace, or of its acts, on standard output.
+fn replay_listed(
+    rt: &HostRuntime,
+    script: &[u8],
+    lanes: Vec<u32>,
+    stop: Option<Stop>,
+    acts: bool,
+) -> Result<(), RunFault> {
+    let schedule = stopped(rt, lanes, stop)?;
+    let mut out = Watched::new(rt.stdout());
+    replay_text(rt.alloc(), script, schedule.as_slice(), acts, &mut out)
+}
+
+/// Replays a script over turns that are drawn for its lanes, with the text of the trace, or of its acts, on standard output.
+fn replay_drawn(
+    rt: &HostRuntime,
+    script: &[u8],
+    seed: u64,
+    turns: u32,
+    stop: Option<Stop>,
+    acts: bool,
+) -> Result<(), RunFault> {
+    let (plan, schedule) = draw_turns(rt.alloc(), script, seed, turns)?;
+    let schedule = stopped(rt, schedule, stop)?;
+    let mut out = Watched::new(rt.stdout());
+    replay_plan(rt.alloc(), plan, schedule.as_slice(), acts, &mut out)
 }
 
 /// Replays a script file, with the text of the trace, or of its acts, on standard output.
@@ -45,24 +71,41 @@ fn replay(
     acts: bool,
 ) -> Result<(), RunFault> {
     let script = load(rt, file)?;
-    let mut out = Watched::new(rt.stdout());
     match turns {
-        Turns::Listed(lanes) => {
-            let schedule = stopped(rt, lanes, stop)?;
-            replay_text(
-                rt.alloc(),
-                script.as_slice(),
-                schedule.as_slice(),
-                acts,
-                &mut out,
-            )
-        }
-        Turns::Drawn { seed, turns } => {
-            let (plan, schedule) = draw_turns(rt.alloc(), script.as_slice(), seed, turns)?;
-            let schedule = stopped(rt, schedule, stop)?;
-            replay_plan(rt.alloc(), plan, schedule.as_slice(), acts, &mut out)
-        }
+        Turns::Listed(lanes) => replay_listed(rt, script.as_slice(), lanes, stop, acts),
+        Turns::Drawn { seed, turns } => replay_drawn(
+            rt,
+            script.as_slice(),
+            seed,
+            turns,
+            stop,
+            acts,
+        ),
     }
+}
+
+/// Checks the acts in a file. The answer is false where they are illegal.
+fn check(rt: &HostRuntime, file: &str) -> Result<bool, RunFault> {
+    let acts = load(rt, file)?;
+    let mut out = Watched::new(rt.stdout());
+    check_text(rt.alloc(), acts.as_slice(), &mut out)
+}
+
+/// Runs a script file on the threads of a handle of their own.
+fn run_file<R: Threads + Wait + Sync>(
+    rt: &HostRuntime,
+    threads: &R,
+    file: &str,
+) -> Result<(), RunFault> {
+    let script = load(rt, file)?;
+    let mut out = Watched::new(rt.stdout());
+    run_text(threads, rt.alloc(), script.as_slice(), &mut out)
+}
+
+/// Says what a number names as a key. The answer is false where it is no key's.
+fn key(rt: &HostRuntime, number: u64) -> Result<bool, RunFault> {
+    let mut out = Watched::new(rt.stdout());
+    key_text(rt.alloc(), number, &mut out)
 }
 
 /// Does a task, with its output on standard output. The answer is false where acts were found illegal
@@ -82,21 +125,12 @@ fn work<R: Threads + Wait + Sync>(
             replay(rt, file.as_str(), turns, stop, acts)?;
             Ok(true)
         }
-        Task::Check { file } => {
-            let acts = load(rt, file.as_str())?;
-            let mut out = Watched::new(rt.stdout());
-            check_text(rt.alloc(), acts.as_slice(), &mut out)
-        }
+        Task::Check { file } => check(rt, file.as_str()),
         Task::Run { file } => {
-            let script = load(rt, file.as_str())?;
-            let mut out = Watched::new(rt.stdout());
-            run_text(threads, rt.alloc(), script.as_slice(), &mut out)?;
+            run_file(rt, threads, file.as_str())?;
             Ok(true)
         }
-        Task::Key { number } => {
-            let mut out = Watched::new(rt.stdout());
-            key_text(rt.alloc(), number, &mut out)
-        }
+        Task::Key { number } => key(rt, number),
     }
 }
 
@@ -193,6 +227,8 @@ fn main(rt: HostRuntime) -> ExitCode {
 
 #[cfg(test)]
 mod fake_writers;
+#[cfg(test)]
+mod test_calls;
 #[cfg(test)]
 mod test_checks;
 #[cfg(test)]

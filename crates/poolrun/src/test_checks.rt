@@ -1,11 +1,13 @@
 use crate::fake_writers::{Clogged, Deaf, Halting};
+use crate::test_calls::{fault_of, is_fault, says_output, wrote};
 use coresteps::CoreFault;
 use keybits::ShapeFault;
 use poolprogram::{RunFault, Watched, check_text};
 use scripts::ScriptFault;
 use seqpool::ActsFault;
+use std::alloc::AllocGlobal;
 use std::io::Write;
-use std::test::Fail;
+use std::process::Abort;
 
 // Texts of acts, and the answers and the lines that their checks give.
 const CHECKS: [(&str, bool, &str); 14] = [
@@ -98,113 +100,114 @@ const NO_ACTS: [(&str, u32, &str); 9] = [
     ("shape 1 1 1 4294967295 256\n", 6, "Tag"),
 ];
 
+// Faults of script files, with their numbers and names.
+const READ_FAULTS: [(ScriptFault, u32, &str); 11] = [
+    (ScriptFault::NotJson, 31, "NotJson"),
+    (ScriptFault::Field, 32, "Field"),
+    (ScriptFault::Act, 33, "Act"),
+    (ScriptFault::Register, 34, "Register"),
+    (ScriptFault::Number, 35, "Number"),
+    (ScriptFault::Shape(ShapeFault::Lanes), 1, "Lanes"),
+    (ScriptFault::Shape(ShapeFault::FirstPage), 2, "FirstPage"),
+    (ScriptFault::Shape(ShapeFault::Pages), 3, "Pages"),
+    (ScriptFault::Shape(ShapeFault::Generation), 4, "Generation"),
+    (ScriptFault::Shape(ShapeFault::Tag), 6, "Tag"),
+    (ScriptFault::Memory, 36, "Memory"),
+];
+
+// Faults of texts of acts, with their numbers and names.
+const ACTS_FAULTS: [(ActsFault, u32, &str); 3] = [
+    (ActsFault::ActsLine, 19, "ActsLine"),
+    (ActsFault::Shape(ShapeFault::Tag), 6, "Tag"),
+    (ActsFault::Memory, 18, "Memory"),
+];
+
+/// What is said of a text of acts, and whether they are legal.
+fn says<R: Abort + AllocGlobal>(rt: &R, acts: &str, legal: bool, line: &str) {
+    let mut out = Watched::new(Vec::new(rt.alloc()));
+    let answer = check_text(rt.alloc(), acts.as_bytes(), &mut out).expect(rt, "acts");
+    assert_eq!(rt; answer, legal, "{acts}");
+    wrote(rt, out, line, acts);
+}
+
+/// A check of a text has this fault, and says nothing.
+fn refuses<R: Abort + AllocGlobal>(rt: &R, acts: &str, number: u32, name: &'static str) {
+    let mut out = Watched::new(Vec::new(rt.alloc()));
+    let answer = check_text(rt.alloc(), acts.as_bytes(), &mut out);
+    is_fault(rt, fault_of(&answer), number, name, acts);
+    wrote(rt, out, "", acts);
+}
+
+/// What is said of a text of acts doesn't get out.
+fn fails<W: Write + Drop, R: Abort + AllocGlobal>(rt: &R, acts: &str, writer: W) {
+    let mut out = Watched::new(writer);
+    let answer = check_text(rt.alloc(), acts.as_bytes(), &mut out);
+    says_output(rt, &answer, &out);
+}
+
+/// Whether a write succeeds, and whether one failed so far.
+fn write_to<W: Write>(out: &mut Watched<W>, bytes: &[u8]) -> (bool, bool) {
+    let succeeds = out.write(bytes).is_ok();
+    (succeeds, out.failed())
+}
+
+/// A fault has this number and name.
+fn is_named<R: Abort>(rt: &R, fault: &RunFault, number: u32, name: &'static str) {
+    assert_eq!(rt; (fault.number(), fault.name()), (number, name));
+}
+
 #[test]
-fn checks(rt: HostRuntime) -> Result<(), Fail> {
-    for (acts, legal, line) in CHECKS {
-        let mut out = Watched::new(Vec::new(rt.alloc()));
-        assert_eq!(rt;
-            check_text(rt.alloc(), acts.as_bytes(), &mut out)?,
-            legal,
-            "{acts}"
-        );
-        assert!(rt; !out.failed());
-        let text = out.into_inner();
-        assert_eq!(rt; text.as_slice(), line.as_bytes());
+fn checks(rt: HostRuntime) {
+    for (acts, legal, line) in &CHECKS {
+        says(&rt, acts, *legal, line);
     }
-    Ok(())
 }
 
 #[test]
 fn refuses_acts(rt: HostRuntime) {
-    for (acts, number, name) in NO_ACTS {
-        let mut out = Watched::new(Vec::new(rt.alloc()));
-        let fault = check_text(rt.alloc(), acts.as_bytes(), &mut out);
-        assert!(rt;
-            fault.is_err_and(|fault| fault.number() == number && fault.name() == name),
-            "{acts}"
-        );
-        assert!(rt; !out.failed());
-        assert!(rt; out.into_inner().is_empty());
+    for (acts, number, name) in &NO_ACTS {
+        refuses(&rt, acts, *number, name);
     }
 }
 
 #[test]
 fn check_fails_with_its_writer(rt: HostRuntime) {
-    for (acts, _, _) in CHECKS {
-        let mut out = Watched::new(Halting { room: 10 });
-        let fault = check_text(rt.alloc(), acts.as_bytes(), &mut out);
-        assert!(rt; fault.is_err_and(|fault| fault.number() == 42));
-        assert!(rt; out.failed());
+    for (acts, _, _) in &CHECKS {
+        fails(&rt, acts, Halting { room: 10 });
     }
-    let mut out = Watched::new(Deaf);
-    let fault = check_text(rt.alloc(), b"shape 1 1 1 1\n", &mut out);
-    assert!(rt; fault.is_err_and(|fault| fault.number() == 42));
-    assert!(rt; out.failed());
-    let mut out = Watched::new(Clogged);
-    let fault = check_text(rt.alloc(), b"shape 1 1 1 1\n", &mut out);
-    assert!(rt; fault.is_err_and(|fault| fault.number() == 42));
-    assert!(rt; out.failed());
+    fails(&rt, "shape 1 1 1 1\n", Deaf);
+    fails(&rt, "shape 1 1 1 1\n", Clogged);
+}
+
+#[test]
+fn watches_one_that_halts(rt: HostRuntime) {
+    let mut out = Watched::new(Halting { room: 3 });
+    assert_eq!(rt; write_to(&mut out, b"ab"), (true, false));
+    assert_eq!(rt; write_to(&mut out, b"cd"), (true, false));
+    assert_eq!(rt; write_to(&mut out, b""), (false, true));
 }
 
 #[test]
 fn watches(rt: HostRuntime) {
-    let mut out = Watched::new(Halting { room: 3 });
-    assert!(rt; out.write(b"ab").is_ok() && !out.failed());
-    assert!(rt; out.write(b"cd").is_ok() && !out.failed());
-    assert!(rt; out.write(b"").is_err() && out.failed());
     let mut out = Watched::new(Deaf);
-    assert!(rt; out.write(b"").is_ok() && !out.failed());
-    assert!(rt; out.write(b"a").is_ok() && out.failed());
+    assert_eq!(rt; write_to(&mut out, b""), (true, false));
+    assert_eq!(rt; write_to(&mut out, b"a"), (true, true));
     let mut out = Watched::new(Clogged);
-    assert!(rt; out.write(b"a").is_ok() && !out.failed());
+    assert_eq!(rt; write_to(&mut out, b"a"), (true, false));
     assert!(rt; out.flush().is_err() && out.failed());
 }
 
 #[test]
 fn names_faults(rt: HostRuntime) {
-    let faults = [
-        (RunFault::Read(ScriptFault::NotJson), 31, "NotJson"),
-        (RunFault::Read(ScriptFault::Field), 32, "Field"),
-        (RunFault::Read(ScriptFault::Act), 33, "Act"),
-        (RunFault::Read(ScriptFault::Register), 34, "Register"),
-        (RunFault::Read(ScriptFault::Number), 35, "Number"),
-        (
-            RunFault::Read(ScriptFault::Shape(ShapeFault::Lanes)),
-            1,
-            "Lanes",
-        ),
-        (
-            RunFault::Read(ScriptFault::Shape(ShapeFault::FirstPage)),
-            2,
-            "FirstPage",
-        ),
-        (
-            RunFault::Read(ScriptFault::Shape(ShapeFault::Pages)),
-            3,
-            "Pages",
-        ),
-        (
-            RunFault::Read(ScriptFault::Shape(ShapeFault::Generation)),
-            4,
-            "Generation",
-        ),
-        (
-            RunFault::Read(ScriptFault::Shape(ShapeFault::Tag)),
-            6,
-            "Tag",
-        ),
-        (RunFault::Read(ScriptFault::Memory), 36, "Memory"),
-        (RunFault::Acts(ActsFault::ActsLine), 19, "ActsLine"),
-        (RunFault::Acts(ActsFault::Shape(ShapeFault::Tag)), 6, "Tag"),
-        (RunFault::Acts(ActsFault::Memory), 18, "Memory"),
-        (RunFault::Core(CoreFault::Memory), 25, "Memory"),
-        (RunFault::Open, 5, "Memory"),
-        (RunFault::File, 41, "File"),
-        (RunFault::Output, 42, "Output"),
-        (RunFault::Memory, 43, "Memory"),
-    ];
-    for (fault, number, name) in &faults {
-        assert_eq!(rt; fault.number(), *number);
-        assert!(rt; fault.name() == *name);
+    for (fault, number, name) in &READ_FAULTS {
+        is_named(&rt, &RunFault::Read(*fault), *number, name);
     }
+    for (fault, number, name) in &ACTS_FAULTS {
+        is_named(&rt, &RunFault::Acts(*fault), *number, name);
+    }
+    is_named(&rt, &RunFault::Core(CoreFault::Memory), 25, "Memory");
+    is_named(&rt, &RunFault::Open, 5, "Memory");
+    is_named(&rt, &RunFault::File, 41, "File");
+    is_named(&rt, &RunFault::Output, 42, "Output");
+    is_named(&rt, &RunFault::Memory, 43, "Memory");
 }

@@ -1,6 +1,9 @@
 use crate::fake_writers::{Clogged, Deaf, Halting};
+use crate::test_calls::{says_output, wrote};
 use poolprogram::{Watched, key_text};
-use std::test::Fail;
+use std::alloc::AllocGlobal;
+use std::io::Write;
+use std::process::Abort;
 
 // Numbers, and the lines of the keys that have them.
 const KEYS: [(u64, &str); 16] = [
@@ -48,44 +51,39 @@ const NO_KEYS: [u64; 8] = [
     0, 11_407_875, 14_707_804, 15_959_156, 27_852, 3_657_653, 5_751_877, 833_554,
 ];
 
-#[test]
-fn names_keys(rt: HostRuntime) -> Result<(), Fail> {
-    for (number, line) in KEYS {
-        let mut out = Watched::new(Vec::new(rt.alloc()));
-        assert!(rt; key_text(rt.alloc(), number, &mut out)?, "{number}");
-        assert!(rt; !out.failed());
-        let text = out.into_inner();
-        assert_eq!(rt; text.as_slice(), line.as_bytes());
-    }
-    Ok(())
+/// What is said of a number, and whether it is a key's.
+fn names<R: Abort + AllocGlobal>(rt: &R, number: u64, known: bool, line: &str) {
+    let mut out = Watched::new(Vec::new(rt.alloc()));
+    let answer = key_text(rt.alloc(), number, &mut out).expect(rt, "a line");
+    assert_eq!(rt; answer, known, "{number}");
+    wrote(rt, out, line, line);
+}
+
+/// What is said of a number doesn't get out.
+fn fails<W: Write + Drop, R: Abort + AllocGlobal>(rt: &R, number: u64, writer: W) {
+    let mut out = Watched::new(writer);
+    let answer = key_text(rt.alloc(), number, &mut out);
+    says_output(rt, &answer, &out);
 }
 
 #[test]
-fn names_no_keys(rt: HostRuntime) -> Result<(), Fail> {
-    for number in NO_KEYS {
-        let mut out = Watched::new(Vec::new(rt.alloc()));
-        assert!(rt; !key_text(rt.alloc(), number, &mut out)?, "{number}");
-        assert!(rt; !out.failed());
-        let text = out.into_inner();
-        assert_eq!(rt; text.as_slice(), b"no key\n".as_slice());
+fn names_keys(rt: HostRuntime) {
+    for (number, line) in &KEYS {
+        names(&rt, *number, true, line);
     }
-    Ok(())
+}
+
+#[test]
+fn names_no_keys(rt: HostRuntime) {
+    for number in &NO_KEYS {
+        names(&rt, *number, false, "no key\n");
+    }
 }
 
 #[test]
 fn key_fails_with_its_writer(rt: HostRuntime) {
-    for number in [0, 16_842_752] {
-        let mut out = Watched::new(Halting { room: 3 });
-        let fault = key_text(rt.alloc(), number, &mut out);
-        assert!(rt; fault.is_err_and(|fault| fault.number() == 42));
-        assert!(rt; out.failed());
-    }
-    let mut out = Watched::new(Deaf);
-    let fault = key_text(rt.alloc(), 0, &mut out);
-    assert!(rt; fault.is_err_and(|fault| fault.number() == 42));
-    assert!(rt; out.failed());
-    let mut out = Watched::new(Clogged);
-    let fault = key_text(rt.alloc(), 0, &mut out);
-    assert!(rt; fault.is_err_and(|fault| fault.number() == 42));
-    assert!(rt; out.failed());
+    fails(&rt, 0, Halting { room: 3 });
+    fails(&rt, 16_842_752, Halting { room: 3 });
+    fails(&rt, 0, Deaf);
+    fails(&rt, 0, Clogged);
 }

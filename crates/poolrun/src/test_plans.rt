@@ -1,13 +1,23 @@
-use poolprogram::{Watched, replay_text};
-use scripts::{ScriptFault, parse};
-use std::alloc::{AllocError, Global};
-use std::test::Fail;
+use crate::test_calls::{Fault, is_fault, replay_fault_of};
+use keybits::Shape;
+use scripts::{Plan, parse};
+use std::alloc::AllocGlobal;
+use std::process::Abort;
 use traces::{Command, Operand};
 
 const FIRST_ROW: &str =
     "{\"shape\":{\"lanes\":1,\"first_page\":2,\"pages\":1,\"last_generation\":4294967295},\n \"scripts\":[[[\"create\",0],[\"write\",0,\"6869\"],[\"publish\",0],\n [\"get\",1,16777216],[\"read\",1],[\"release\",1],[\"clear\",16777216]]]}";
 
 const SHAPE: &str = "{\"lanes\":1,\"first_page\":2,\"pages\":1,\"last_generation\":4294967295}";
+
+// The shape of these texts.
+const TWO_PLACES: Shape = Shape {
+    lanes: 1,
+    first_page: 2,
+    pages: 1,
+    last_generation: 4_294_967_295,
+    tag: 0,
+};
 
 const SCRIPTS: &str =
     "[[[\"create\",0],[\"write\",0,\"6869\"],[\"publish\",0],[\"get\",1,16777216],[\"read\",1],[\"release\",1],[\"clear\",16777216]]]";
@@ -191,138 +201,149 @@ const ORDER: [Row; 18] = [
     (SHAPE, "[[[\"get\",16,-1]]]", 34, "Register"),
 ];
 
-// The file of a shape and of scripts.
-fn file_of(alloc: Global, shape: &str, scripts: &str) -> Result<String, AllocError> {
-    format!(in alloc; "{{\"shape\":{shape},\"scripts\":{scripts}}}")
+/// The file of a shape and of scripts.
+fn file_of<R: Abort + AllocGlobal>(rt: &R, shape: &str, scripts: &str) -> String {
+    format!(in rt.alloc(); "{{\"shape\":{shape},\"scripts\":{scripts}}}").expect(
+        rt,
+        "memory for a file",
+    )
 }
 
-// The fault of a reading, which must have one.
-fn fault_of(alloc: Global, file: &[u8]) -> Option<(u32, &'static str)> {
-    match parse(alloc, file) {
+/// The fault of a reading.
+fn reading_fault_of<R: Abort + AllocGlobal>(rt: &R, file: &[u8]) -> Fault {
+    match parse(rt.alloc(), file) {
         Ok(_) => None,
         Err(fault) => Some((fault.number(), fault.name())),
     }
 }
 
-// The fault of a replay, which must have one.
-fn replay_fault_of(alloc: Global, file: &[u8]) -> Option<(u32, &'static str)> {
-    let mut out = Watched::new(Vec::new(alloc));
-    match replay_text(alloc, file, &[0], false, &mut out) {
-        Ok(()) => None,
-        Err(fault) => Some((fault.number(), fault.name())),
-    }
-}
-
-// Whether both answer this fault of the file of a row.
-fn has_fault(alloc: Global, row: Row) -> Result<bool, AllocError> {
+/// Both answer this fault of the file of a row.
+fn refuses<R: Abort + AllocGlobal>(rt: &R, row: &Row) {
     let (shape, scripts, number, name) = row;
-    let file = file_of(alloc, shape, scripts)?;
-    let fault = Some((number, name));
-    Ok(
-        fault_of(alloc, file.as_bytes()) == fault
-            && replay_fault_of(alloc, file.as_bytes()) == fault,
-    )
+    let file = file_of(rt, shape, scripts);
+    let read = reading_fault_of(rt, file.as_bytes());
+    is_fault(rt, read, *number, name, file.as_str());
+    let replayed = replay_fault_of(rt, file.as_bytes());
+    is_fault(rt, replayed, *number, name, file.as_str());
+}
+
+/// The bytes are no JSON.
+fn is_no_json<R: Abort + AllocGlobal>(rt: &R, file: &[u8]) {
+    let fault = replay_fault_of(rt, file);
+    assert!(rt; fault == Some((31, "NotJson")), "at {file:?}");
+}
+
+/// The fields of a file are no plan's.
+fn lacks_fields<R: Abort + AllocGlobal>(rt: &R, file: &str) {
+    is_fault(rt, reading_fault_of(rt, file.as_bytes()), 32, "Field", file);
+}
+
+/// The plan of a file, which has this shape.
+fn plan_of<R: Abort + AllocGlobal>(rt: &R, file: &str, shape: Shape) -> Plan {
+    let plan = parse(rt.alloc(), file.as_bytes()).expect(rt, "a plan");
+    assert_eq!(rt; plan.shape, shape);
+    plan
+}
+
+/// The scripts of a plan have so many commands.
+fn have_lengths<R: Abort>(rt: &R, plan: &Plan, lengths: &[usize]) {
+    let scripts = plan.scripts.as_slice();
+    assert!(rt; scripts.len() == lengths.len());
+    for at in 0..lengths.len() {
+        assert!(rt; scripts[at].as_slice().len() == lengths[at]);
+    }
 }
 
 #[test]
-fn refuses_files(rt: HostRuntime) -> Result<(), Fail> {
-    for row in FAULTS {
-        assert!(rt; has_fault(rt.alloc(), row)?, "{} {}", row.0, row.1);
+fn refuses_files(rt: HostRuntime) {
+    for row in &FAULTS {
+        refuses(&rt, row);
     }
-    Ok(())
 }
 
 #[test]
-fn answers_the_first_of_two_faults(rt: HostRuntime) -> Result<(), Fail> {
-    for row in ORDER {
-        assert!(rt; has_fault(rt.alloc(), row)?, "{} {}", row.0, row.1);
+fn answers_the_first_of_two_faults(rt: HostRuntime) {
+    for row in &ORDER {
+        refuses(&rt, row);
     }
-    Ok(())
 }
 
 #[test]
 fn refuses_what_is_no_json(rt: HostRuntime) {
     let row = FIRST_ROW.as_bytes();
     for n in 0..row.len() {
-        assert!(rt;
-            replay_fault_of(rt.alloc(), &row[..n]) == Some((31, "NotJson")),
-            "the first {n} bytes"
-        );
+        is_no_json(&rt, &row[..n]);
     }
     let mut deep = [b'['; 400];
     for byte in &mut deep[200..] {
         *byte = b']';
     }
-    assert!(rt; replay_fault_of(rt.alloc(), &deep) == Some((31, "NotJson")));
-    assert!(rt; replay_fault_of(rt.alloc(), b"\xff") == Some((31, "NotJson")));
-    assert!(rt; replay_fault_of(rt.alloc(), b"1e999") == Some((31, "NotJson")));
+    is_no_json(&rt, &deep);
+    is_no_json(&rt, b"\xff");
+    is_no_json(&rt, b"1e999");
 }
 
 #[test]
-fn refuses_other_fields(rt: HostRuntime) -> Result<(), Fail> {
-    let alloc = rt.alloc();
-    let more = format!(in alloc; "{{\"shape\":{SHAPE},\"scripts\":{SCRIPTS},\"more\":0}}")?;
-    let other = format!(in alloc; "{{\"shape\":{SHAPE},\"script\":{SCRIPTS}}}")?;
-    for file in ["[]", "0", "{}", more.as_str(), other.as_str()] {
-        assert!(rt;
-            fault_of(alloc, file.as_bytes()) == Some((32, "Field")),
-            "{file}"
-        );
+fn refuses_other_fields(rt: HostRuntime) {
+    lacks_fields(&rt, "[]");
+    lacks_fields(&rt, "0");
+    lacks_fields(&rt, "{}");
+    let more = format!(in rt.alloc(); "{{\"shape\":{SHAPE},\"scripts\":{SCRIPTS},\"more\":0}}");
+    lacks_fields(&rt, more.expect(&rt, "memory for a file").as_str());
+    let other = format!(in rt.alloc(); "{{\"shape\":{SHAPE},\"script\":{SCRIPTS}}}");
+    lacks_fields(&rt, other.expect(&rt, "memory for a file").as_str());
+}
+
+#[test]
+fn reads_the_last_of_repeated_fields(rt: HostRuntime) {
+    let file = format!(in rt.alloc(); "{{\"shape\":0,\"shape\":{SHAPE},\"scripts\":[[]]}}");
+    let file = file.expect(&rt, "memory for a file");
+    let plan = plan_of(&rt, file.as_str(), TWO_PLACES);
+    have_lengths(&rt, &plan, &[0]);
+}
+
+#[test]
+fn reads_the_first_row(rt: HostRuntime) {
+    let plan = plan_of(&rt, FIRST_ROW, TWO_PLACES);
+    have_lengths(&rt, &plan, &[7]);
+}
+
+/// Whether a command of the second lane is the one at this place.
+fn is_command_at(at: usize, command: &Command) -> bool {
+    match (at, command) {
+        (0, Command::Create(register)) => register.number == 15,
+        (1, Command::Downgrade(register)) => register.number == 15,
+        (2, Command::Release(register)) => register.number == 9,
+        (3, Command::Clear(Operand::LastOf(register))) => register.number == 15,
+        (4, Command::Get(_, Operand::Number(18_446_744_073_709_551_615))) => true,
+        _ => false,
     }
-    Ok(())
+}
+
+/// The commands of a plan's scripts are those of the second lane.
+fn have_commands<R: Abort>(rt: &R, plan: &Plan) {
+    for script in plan.scripts.as_slice() {
+        for (at, command) in script.as_slice().iter().enumerate() {
+            assert!(rt; is_command_at(at, command));
+        }
+    }
 }
 
 #[test]
-fn reads_the_last_of_repeated_fields(rt: HostRuntime) -> Result<(), Fail> {
-    let alloc = rt.alloc();
-    let file = format!(in alloc; "{{\"shape\":0,\"shape\":{SHAPE},\"scripts\":[[]]}}")?;
-    let plan = parse(alloc, file.as_bytes())?;
-    assert_eq!(rt; plan.shape.first_page, 2);
-    assert_eq!(rt; plan.scripts.as_slice().len(), 1);
-    assert!(rt; plan.scripts.as_slice()[0].as_slice().is_empty());
-    Ok(())
-}
-
-#[test]
-fn reads_the_first_row(rt: HostRuntime) -> Result<(), Fail> {
-    let plan = parse(rt.alloc(), FIRST_ROW.as_bytes())?;
-    assert_eq!(rt; plan.shape.lanes, 1);
-    assert_eq!(rt; plan.shape.last_generation, 4_294_967_295);
-    assert_eq!(rt; plan.shape.tag, 0);
-    assert_eq!(rt; plan.scripts.as_slice().len(), 1);
-    let script = &plan.scripts.as_slice()[0];
-    assert_eq!(rt; script.as_slice().len(), 7);
-    Ok(())
-}
-
-#[test]
-fn reads_two_lanes_and_a_tag(rt: HostRuntime) -> Result<(), Fail> {
-    let alloc = rt.alloc();
+fn reads_two_lanes_and_a_tag(rt: HostRuntime) {
     let file = file_of(
-        alloc,
+        &rt,
         "{\"tag\":255,\"last_generation\":1,\"pages\":6,\"first_page\":64,\"lanes\":2}",
         "[[],[[\"create\",15],[\"downgrade\",15],[\"release\",9],[\"clear\",\"@15\"],[\"get\",3,18446744073709551615]]]",
-    )?;
-    let plan = parse(alloc, file.as_bytes())?;
-    assert_eq!(rt; plan.shape.lanes, 2);
-    assert_eq!(rt; plan.shape.first_page, 64);
-    assert_eq!(rt; plan.shape.pages, 6);
-    assert_eq!(rt; plan.shape.tag, 255);
-    assert_eq!(rt; plan.scripts.as_slice().len(), 2);
-    assert!(rt; plan.scripts.as_slice()[0].as_slice().is_empty());
-    let script = plan.scripts.as_slice()[1].as_slice();
-    assert_eq!(rt; script.len(), 5);
-    assert!(rt; matches!(&script[0], Command::Create(register) if register.number == 15));
-    assert!(rt; matches!(&script[1], Command::Downgrade(register) if register.number == 15));
-    assert!(rt; matches!(&script[2], Command::Release(register) if register.number == 9));
-    assert!(rt;
-        matches!(&script[3], Command::Clear(Operand::LastOf(register)) if register.number == 15)
     );
-    assert!(rt;
-        matches!(
-            &script[4],
-            Command::Get(_, Operand::Number(18_446_744_073_709_551_615))
-        )
-    );
-    Ok(())
+    let shape = Shape {
+        lanes: 2,
+        first_page: 64,
+        pages: 6,
+        last_generation: 1,
+        tag: 255,
+    };
+    let plan = plan_of(&rt, file.as_str(), shape);
+    have_lengths(&rt, &plan, &[0, 5]);
+    have_commands(&rt, &plan);
 }

@@ -1,9 +1,9 @@
 ghost use Rattle.std.specs.Prelude.{◌<◌, ◌≤◌};
 
-use poolprogram::{Watched, check_text, replay_text};
+use crate::test_calls::check_of;
 use schedules::draw;
-use std::alloc::{AllocError, Global};
-use std::test::Fail;
+use std::alloc::{AllocError, AllocGlobal};
+use std::process::Abort;
 
 /// Numbers below a thousand, from the last to the first.
 #[derive(Drop)]
@@ -37,30 +37,36 @@ fn push_key(text: &mut String, numbers: &mut Numbers, lanes: u32) -> Result<(), 
     write!(text, "{key}")
 }
 
+/// The first text of a command that has a register alone.
+const fn name_of(kind: u32) -> &'static str {
+    match kind {
+        0 | 1 => "create",
+        3 | 4 => "publish",
+        5 => "downgrade",
+        6 => "read",
+        _ => "release",
+    }
+}
+
 /// A command of a script.
 fn push_command(text: &mut String, numbers: &mut Numbers, lanes: u32) -> Result<(), AllocError>
     requires { 1 ≤ lanes }
 {
     let kind = numbers.below(12);
     let register = numbers.below(3);
-    match kind {
-        0 | 1 => write!(text, "[\"create\",{register}]"),
-        2 => write!(text, "[\"write\",{register},\"0{register}\"]"),
-        3 | 4 => write!(text, "[\"publish\",{register}]"),
-        5 => write!(text, "[\"downgrade\",{register}]"),
-        6 => write!(text, "[\"read\",{register}]"),
-        7 => write!(text, "[\"release\",{register}]"),
-        8 | 9 => {
-            write!(text, "[\"get\",{register},")?;
-            push_key(text, numbers, lanes)?;
-            text.push_str("]")
-        }
-        _ => {
-            text.push_str("[\"clear\",")?;
-            push_key(text, numbers, lanes)?;
-            text.push_str("]")
-        }
+    if kind == 2 {
+        return write!(text, "[\"write\",{register},\"0{register}\"]");
     }
+    if kind < 8 {
+        return write!(text, "[\"{}\",{register}]", name_of(kind));
+    }
+    if kind < 10 {
+        write!(text, "[\"get\",{register},")?;
+    } else {
+        text.push_str("[\"clear\",")?;
+    }
+    push_key(text, numbers, lanes)?;
+    text.push_str("]")
 }
 
 /// A script of one lane.
@@ -78,11 +84,23 @@ fn push_script(text: &mut String, numbers: &mut Numbers, lanes: u32) -> Result<(
     text.push_str("]")
 }
 
-/// A script file of some lanes.
-fn file_of(alloc: Global, numbers: &mut Numbers, lanes: u32) -> Result<String, AllocError>
+/// The scripts of some lanes.
+fn push_scripts(text: &mut String, numbers: &mut Numbers, lanes: u32) -> Result<(), AllocError>
     requires { 1 ≤ lanes }
 {
-    let mut text = String::new(alloc);
+    for lane in 0..lanes {
+        if lane > 0 {
+            text.push_str(",")?;
+        }
+        push_script(text, numbers, lanes)?;
+    }
+    Ok(())
+}
+
+/// A script file of some lanes.
+fn push_file(text: &mut String, numbers: &mut Numbers, lanes: u32) -> Result<(), AllocError>
+    requires { 1 ≤ lanes }
+{
     let first_page = 1 + numbers.below(2);
     let pages = 1 + numbers.below(2);
     let last = 1 + numbers.below(3);
@@ -90,32 +108,35 @@ fn file_of(alloc: Global, numbers: &mut Numbers, lanes: u32) -> Result<String, A
         text,
         "{{\"shape\":{{\"lanes\":{lanes},\"first_page\":{first_page},\"pages\":{pages},\"last_generation\":{last}}},\"scripts\":["
     )?;
-    for lane in 0..lanes {
-        if lane > 0 {
-            text.push_str(",")?;
-        }
-        push_script(&mut text, numbers, lanes)?;
-    }
-    text.push_str("]}")?;
-    Ok(text)
+    push_scripts(text, numbers, lanes)?;
+    text.push_str("]}")
+}
+
+/// So many numbers below a limit, drawn from a seed.
+fn drawn<R: Abort + AllocGlobal>(rt: &R, seed: u64, limit: u32, count: u32) -> Vec<u32>
+    requires { 1 ≤ limit }
+{
+    draw(rt.alloc(), seed, limit, count)
+        .ok()
+        .expect(rt, "memory for the numbers")
+}
+
+/// The acts of the scripts and of the schedule of a seed are legal.
+fn acts_are_legal<R: Abort + AllocGlobal>(rt: &R, seed: u64) {
+    let mut numbers = Numbers {
+        drawn: drawn(rt, seed, 1000, 800),
+    };
+    let lanes = 1 + numbers.below(6);
+    let mut file = String::new(rt.alloc());
+    push_file(&mut file, &mut numbers, lanes).expect(rt, "memory for a file");
+    let schedule = drawn(rt, seed, lanes, 150);
+    check_of(rt, file.as_str(), schedule.as_slice());
 }
 
 // The acts of drawn scripts over drawn schedules are legal histories.
 #[test]
-fn acts_of_drawn_scripts_are_legal(rt: HostRuntime) -> Result<(), Fail> {
-    let alloc = rt.alloc();
+fn acts_of_drawn_scripts_are_legal(rt: HostRuntime) {
     for seed in 0..2000u64 {
-        let drawn = draw(alloc, seed, 1000, 800).map_err(|_| "memory")?;
-        let mut numbers = Numbers { drawn };
-        let lanes = 1 + numbers.below(6);
-        let file = file_of(alloc, &mut numbers, lanes)?;
-        let schedule = draw(alloc, seed, lanes, 150).map_err(|_| "memory")?;
-        let mut acts = Watched::new(Vec::new(alloc));
-        replay_text(alloc, file.as_bytes(), schedule.as_slice(), true, &mut acts)?;
-        let acts = acts.into_inner();
-        let mut out = Watched::new(Vec::new(alloc));
-        let legal = check_text(alloc, acts.as_slice(), &mut out)?;
-        assert!(rt; legal, "seed {seed}");
+        acts_are_legal(&rt, seed);
     }
-    Ok(())
 }

@@ -1,7 +1,9 @@
-use crate::fake_writers::{Clogged, Deaf, Halting};
-use poolprogram::{RunFault, Watched, draw_turns, load, read_schedule, replay_plan, replay_text};
-use std::alloc::{AllocError, Global};
-use std::test::Fail;
+use crate::fake_writers::{Deaf, Halting};
+use crate::test_calls::{around, fault_of, is_fault, replays_as, says_output, schedule_of, wrote};
+use poolprogram::{Watched, draw_turns, load, replay_plan, replay_text};
+use std::alloc::AllocGlobal;
+use std::io::Write;
+use std::process::Abort;
 
 const ROW: &str =
     "{\"shape\":{\"lanes\":1,\"first_page\":2,\"pages\":1,\"last_generation\":4294967295},\"scripts\":[[[\"create\",0],[\"write\",0,\"6869\"],[\"publish\",0],[\"get\",1,16777216],[\"read\",1]]]}";
@@ -54,15 +56,10 @@ const REPLAYS: [(&str, &[u32], &str); 10] = [
 ];
 
 #[test]
-fn replays(rt: HostRuntime) -> Result<(), Fail> {
-    for (file, schedule, trace) in REPLAYS {
-        let mut out = Watched::new(Vec::new(rt.alloc()));
-        replay_text(rt.alloc(), file.as_bytes(), schedule, false, &mut out)?;
-        assert!(rt; !out.failed());
-        let text = out.into_inner();
-        assert_eq!(rt; text.as_slice(), trace.as_bytes());
+fn replays(rt: HostRuntime) {
+    for (file, schedule, trace) in &REPLAYS {
+        replays_as(&rt, file, schedule, false, trace);
     }
-    Ok(())
 }
 
 // Scripts, schedules and the texts of the acts that come of them.
@@ -82,101 +79,82 @@ const ACTS: [(&str, &[u32], &str); 3] = [
 ];
 
 #[test]
-fn writes_acts(rt: HostRuntime) -> Result<(), Fail> {
-    for (file, schedule, acts) in ACTS {
-        let mut out = Watched::new(Vec::new(rt.alloc()));
-        replay_text(rt.alloc(), file.as_bytes(), schedule, true, &mut out)?;
-        let text = out.into_inner();
-        assert_eq!(rt; text.as_slice(), acts.as_bytes());
+fn writes_acts(rt: HostRuntime) {
+    for (file, schedule, acts) in &ACTS {
+        replays_as(&rt, file, schedule, true, acts);
     }
-    Ok(())
+}
+
+/// So many turns that are drawn for a file, over which it has this trace.
+fn draws<R: Abort + AllocGlobal>(rt: &R, file: &str, turns: u32, trace: &str) -> Vec<u32> {
+    let (plan, schedule) = draw_turns(rt.alloc(), file.as_bytes(), 1, turns).expect(rt, "turns");
+    assert_eq!(rt; schedule.len(), turns as usize);
+    let mut out = Watched::new(Vec::new(rt.alloc()));
+    replay_plan(rt.alloc(), plan, schedule.as_slice(), false, &mut out).expect(rt, "a replay");
+    wrote(rt, out, trace, file);
+    schedule
 }
 
 #[test]
-fn draws_for_a_file(rt: HostRuntime) -> Result<(), Fail> {
-    let (plan, schedule) = draw_turns(rt.alloc(), ROW.as_bytes(), 1, 5)?;
+fn draws_for_a_file(rt: HostRuntime) {
+    let schedule = draws(&rt, ROW, 5, TRACE);
     assert_eq!(rt; schedule.as_slice(), [0, 0, 0, 0, 0].as_slice());
-    let mut out = Watched::new(Vec::new(rt.alloc()));
-    replay_plan(rt.alloc(), plan, schedule.as_slice(), false, &mut out)?;
-    let text = out.into_inner();
-    assert_eq!(rt; text.as_slice(), TRACE.as_bytes());
-    let fault = draw_turns(rt.alloc(), b"[]", 1, 5);
-    assert!(rt; fault.is_err_and(|fault| fault.number() == 32));
-    Ok(())
+    let answer = draw_turns(rt.alloc(), b"[]", 1, 5);
+    is_fault(&rt, fault_of(&answer), 32, "Field", "[]");
 }
 
 // Whatever is drawn, scripts without a command do nothing.
 #[test]
-fn draws_for_empty_scripts(rt: HostRuntime) -> Result<(), Fail> {
+fn draws_for_empty_scripts(rt: HostRuntime) {
     let file =
-        b"{\"shape\":{\"lanes\":2,\"first_page\":1,\"pages\":1,\"last_generation\":1},\"scripts\":[[],[]]}";
-    for turns in [0u32, 5] {
-        let (plan, schedule) = draw_turns(rt.alloc(), file, 1, turns)?;
-        assert_eq!(rt; schedule.len(), turns as usize);
-        let mut out = Watched::new(Vec::new(rt.alloc()));
-        replay_plan(rt.alloc(), plan, schedule.as_slice(), false, &mut out)?;
-        assert!(rt; !out.failed());
-        assert!(rt; out.into_inner().is_empty());
-    }
-    Ok(())
-}
-
-// A text, then another so many times, then a third.
-fn around(
-    alloc: Global,
-    first: &str,
-    middle: &str,
-    times: u32,
-    last: &str,
-) -> Result<String, AllocError> {
-    let mut text = String::from_str(alloc, first)?;
-    for _ in 0..times {
-        text.push_str(middle)?;
-    }
-    text.push_str(last)?;
-    Ok(text)
+        "{\"shape\":{\"lanes\":2,\"first_page\":1,\"pages\":1,\"last_generation\":1},\"scripts\":[[],[]]}";
+    draws(&rt, file, 0, "");
+    draws(&rt, file, 5, "");
 }
 
 // Five hundred gets that miss make a thousand steps.
 #[test]
-fn replays_a_long_script(rt: HostRuntime) -> Result<(), Fail> {
-    let alloc = rt.alloc();
+fn replays_a_long_script(rt: HostRuntime) {
     let file = around(
-        alloc,
+        &rt,
         "{\"shape\":{\"lanes\":1,\"first_page\":2,\"pages\":1,\"last_generation\":4294967295},\"scripts\":[[[\"create\",0]",
         ",[\"get\",1,16777216]",
         500,
         "]]}",
-    )?;
-    let words = around(alloc, "0", ",0", 999, "")?;
+    );
     let trace = around(
-        alloc,
+        &rt,
         "0 = filling 16777216\n",
         "0 ENTER 0 4294967296 4294967300\n0 LEAVE 0 4294967300 4294967296\n0 = none\n",
         500,
         "",
-    )?;
-    let schedule = read_schedule(alloc, words.as_bytes())?.ok_or("a schedule")?;
-    let mut out = Watched::new(Vec::new(alloc));
-    replay_text(alloc, file.as_bytes(), schedule.as_slice(), false, &mut out)?;
-    let text = out.into_inner();
-    assert_eq!(rt; text.as_slice(), trace.as_bytes());
-    Ok(())
+    );
+    let words = around(&rt, "0", ",0", 999, "");
+    let schedule = schedule_of(&rt, words.as_str());
+    replays_as(
+        &rt,
+        file.as_str(),
+        schedule.as_slice(),
+        false,
+        trace.as_str(),
+    );
+}
+
+/// What a replay writes doesn't get out.
+fn fails<W: Write + Drop, R: Abort + AllocGlobal>(rt: &R, writer: W) {
+    let mut out = Watched::new(writer);
+    let answer = replay_text(rt.alloc(), ROW.as_bytes(), &[0, 0], false, &mut out);
+    says_output(rt, &answer, &out);
 }
 
 #[test]
 fn fails_with_its_writer(rt: HostRuntime) {
-    let mut out = Watched::new(Halting { room: 30 });
-    let fault = replay_text(rt.alloc(), ROW.as_bytes(), &[0, 0], false, &mut out);
-    assert!(rt; fault.is_err_and(|fault| fault.number() == 42));
-    assert!(rt; out.failed());
-    let mut out = Watched::new(Deaf);
-    let fault = replay_text(rt.alloc(), ROW.as_bytes(), &[0, 0], false, &mut out);
-    assert!(rt; fault.is_err_and(|fault| fault.number() == 42));
-    assert!(rt; out.failed());
+    fails(&rt, Halting { room: 30 });
+    fails(&rt, Deaf);
 }
 
 #[test]
 fn finds_no_file(rt: HostRuntime) {
-    assert!(rt; load(&rt, "no such file").is_err_and(|fault| fault.number() == 41));
+    let answer = load(&rt, "no such file");
+    is_fault(&rt, fault_of(&answer), 41, "File", "no such file");
 }

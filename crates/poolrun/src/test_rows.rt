@@ -1,17 +1,20 @@
-use poolprogram::{RunFault, Watched, check_text, replay_text, stop_after};
-use std::alloc::Global;
-use std::test::Fail;
+use crate::test_calls::{check_of, is_fault, is_text, replay_fault_of, replay_of, replays_as};
+use poolprogram::stop_after;
+use std::alloc::AllocGlobal;
+use std::process::Abort;
 
 // Scripts, schedules and the traces that they have.
 type Row = (&'static str, &'static [u32], &'static str);
 
+// A whole life of an object.
+const WHOLE_LIFE: Row = (
+    "{\"shape\":{\"lanes\":1,\"first_page\":2,\"pages\":1,\"last_generation\":4294967295},\"scripts\":[[[\"create\",0],[\"write\",0,\"6869\"],[\"publish\",0],[\"get\",1,16777216],[\"read\",1],[\"release\",1],[\"clear\",16777216]]]}",
+    &[0, 0, 0, 0, 0, 0, 0],
+    "0 = filling 16777216\n0 = ok\n0 PUBLISH 0 4294967296 4294967297\n0 = key 16777216\n0 ENTER 0 4294967297 4294967301\n0 = some 6869\n0 = 6869\n0 LEAVE 0 4294967301 4294967297\n0 = ok\n0 ENTER 0 4294967297 4294967301\n0 MARK 0 4294967301 4294967303\n0 LEAVE 0 4294967303 4294967299\n0 CLAIM 0 4294967299 8589934592\n0 = true\n",
+);
+
 const ROWS: [Row; 16] = [
-    // a whole life of an object
-    (
-        "{\"shape\":{\"lanes\":1,\"first_page\":2,\"pages\":1,\"last_generation\":4294967295},\"scripts\":[[[\"create\",0],[\"write\",0,\"6869\"],[\"publish\",0],[\"get\",1,16777216],[\"read\",1],[\"release\",1],[\"clear\",16777216]]]}",
-        &[0, 0, 0, 0, 0, 0, 0],
-        "0 = filling 16777216\n0 = ok\n0 PUBLISH 0 4294967296 4294967297\n0 = key 16777216\n0 ENTER 0 4294967297 4294967301\n0 = some 6869\n0 = 6869\n0 LEAVE 0 4294967301 4294967297\n0 = ok\n0 ENTER 0 4294967297 4294967301\n0 MARK 0 4294967301 4294967303\n0 LEAVE 0 4294967303 4294967299\n0 CLAIM 0 4294967299 8589934592\n0 = true\n",
-    ),
+    WHOLE_LIFE,
     // empty scripts
     (
         "{\"shape\":{\"lanes\":2,\"first_page\":2,\"pages\":1,\"last_generation\":4294967295},\"scripts\":[[],[]]}",
@@ -128,41 +131,33 @@ const ENDS: [Row; 3] = [
     ),
 ];
 
-/// The text of a replay, or of its acts.
-fn text_of(alloc: Global, file: &str, schedule: &[u32], acts: bool) -> Result<Vec<u8>, RunFault> {
-    let mut out = Watched::new(Vec::new(alloc));
-    replay_text(alloc, file.as_bytes(), schedule, acts, &mut out)?;
-    Ok(out.into_inner())
-}
-
-/// What `check` says of the acts of a replay.
-fn check_of(alloc: Global, file: &str, schedule: &[u32]) -> Result<(bool, Vec<u8>), RunFault> {
-    let acts = text_of(alloc, file, schedule, true)?;
-    let mut out = Watched::new(Vec::new(alloc));
-    let legal = check_text(alloc, acts.as_slice(), &mut out)?;
-    Ok((legal, out.into_inner()))
+/// The text of a replay ends thus.
+fn ends<R: Abort + AllocGlobal>(rt: &R, file: &str, schedule: &[u32], end: &str) {
+    let text = replay_of(rt, file, schedule, false);
+    assert!(rt; text.as_slice().ends_with(end.as_bytes()), "at {file}");
 }
 
 #[test]
-fn replays_rows(rt: HostRuntime) -> Result<(), Fail> {
-    for (file, schedule, trace) in ROWS {
-        let text = text_of(rt.alloc(), file, schedule, false)?;
-        assert_eq!(rt; text.as_slice(), trace.as_bytes(), "at {file}");
+fn replays_rows(rt: HostRuntime) {
+    for (file, schedule, trace) in &ROWS {
+        replays_as(&rt, file, schedule, false, trace);
     }
-    for (file, schedule, end) in ENDS {
-        let text = text_of(rt.alloc(), file, schedule, false)?;
-        assert!(rt; text.as_slice().ends_with(end.as_bytes()), "at {file}");
+    for (file, schedule, end) in &ENDS {
+        ends(&rt, file, schedule, end);
     }
-    Ok(())
+}
+
+/// The acts of rows are legal.
+fn are_legal<R: Abort + AllocGlobal>(rt: &R, rows: &[Row]) {
+    for (file, schedule, _) in rows {
+        check_of(rt, file, schedule);
+    }
 }
 
 #[test]
-fn acts_of_rows_are_legal(rt: HostRuntime) -> Result<(), Fail> {
-    for (file, schedule, _) in ROWS.iter().chain(ENDS.iter()) {
-        let (legal, _) = check_of(rt.alloc(), file, schedule)?;
-        assert!(rt; legal, "at {file}");
-    }
-    Ok(())
+fn acts_of_rows_are_legal(rt: HostRuntime) {
+    are_legal(&rt, &ROWS);
+    are_legal(&rt, &ENDS);
 }
 
 // Scripts and schedules, with each lane stopped after each of its turns.
@@ -191,26 +186,34 @@ const STOPPED: [(&str, &[u32]); 4] = [
     ),
 ];
 
-#[test]
-fn acts_with_stopped_lanes_are_legal(rt: HostRuntime) -> Result<(), Fail> {
-    for (file, schedule) in STOPPED {
-        for lane in 0..2u32 {
-            for after in 0..20u32 {
-                let schedule = stop_after(rt.alloc(), schedule, lane, after).map_err(|_| "memory")?;
-                let (legal, _) = check_of(rt.alloc(), file, schedule.as_slice())?;
-                assert!(rt; legal, "lane {lane} after {after} of {file}");
-            }
-        }
+/// The schedule without a lane's turns after so many.
+fn stopped<R: Abort + AllocGlobal>(rt: &R, schedule: &[u32], lane: u32, after: u32) -> Vec<u32> {
+    stop_after(rt.alloc(), schedule, lane, after)
+        .ok()
+        .expect(rt, "memory for a schedule")
+}
+
+/// The acts are legal after however many turns a lane stops.
+fn stay_legal<R: Abort + AllocGlobal>(rt: &R, file: &str, schedule: &[u32], lane: u32) {
+    for after in 0..20u32 {
+        let rest = stopped(rt, schedule, lane, after);
+        check_of(rt, file, rest.as_slice());
     }
-    Ok(())
 }
 
 #[test]
-fn stops_a_lane_after_a_turn(rt: HostRuntime) -> Result<(), Fail> {
+fn acts_with_stopped_lanes_are_legal(rt: HostRuntime) {
+    for (file, schedule) in &STOPPED {
+        stay_legal(&rt, file, schedule, 0);
+        stay_legal(&rt, file, schedule, 1);
+    }
+}
+
+#[test]
+fn stops_a_lane_after_a_turn(rt: HostRuntime) {
     let whole = [0, 0, 1, 0, 0, 0, 0, 0, 0, 1, 1, 1, 1, 1, 1];
-    let rest = stop_after(rt.alloc(), &whole, 1, 1).map_err(|_| "memory")?;
+    let rest = stopped(&rt, &whole, 1, 1);
     assert_eq!(rt; rest.as_slice(), [0, 0, 1, 0, 0, 0, 0, 0, 0].as_slice());
-    Ok(())
 }
 
 // Scripts, schedules and what is said of their acts.
@@ -242,27 +245,22 @@ const CHECKED: [Row; 4] = [
 ];
 
 #[test]
-fn checks_acts_of_rows(rt: HostRuntime) -> Result<(), Fail> {
-    for (file, schedule, line) in CHECKED {
-        let (legal, text) = check_of(rt.alloc(), file, schedule)?;
-        assert!(rt; legal, "at {file}");
-        assert_eq!(rt; text.as_slice(), line.as_bytes(), "at {file}");
+fn checks_acts_of_rows(rt: HostRuntime) {
+    for (file, schedule, line) in &CHECKED {
+        let text = check_of(&rt, file, schedule);
+        is_text(&rt, text.as_slice(), line, file);
     }
-    Ok(())
 }
 
 #[test]
-fn writes_acts_of_a_whole_life(rt: HostRuntime) -> Result<(), Fail> {
-    let (file, schedule, _) = ROWS[0];
-    let text = text_of(rt.alloc(), file, schedule, true)?;
+fn writes_acts_of_a_whole_life(rt: HostRuntime) {
+    let (file, schedule, _) = WHOLE_LIFE;
     let acts =
         "shape 1 2 1 4294967295\n0 publish 16777216 6869 0\n0 get 16777216 some 6869\n0 release 16777216\n0 clear 16777216 true\n0 reclaim 16777216\n";
-    assert_eq!(rt; text.as_slice(), acts.as_bytes());
-    Ok(())
+    replays_as(&rt, file, schedule, true, acts);
 }
 
 #[test]
 fn refuses_a_list(rt: HostRuntime) {
-    let fault = text_of(rt.alloc(), "[]", &[0], false);
-    assert!(rt; fault.is_err_and(|fault| fault.number() == 32 && fault.name() == "Field"));
+    is_fault(&rt, replay_fault_of(&rt, b"[]"), 32, "Field", "[]");
 }

@@ -1,6 +1,11 @@
 use crate::fake_writers::{Clogged, Deaf, Halting};
+use crate::test_calls::{fault_of, is_fault, says_output, wrote};
 use poolprogram::{Watched, run_text};
-use std::test::Fail;
+use std::alloc::AllocGlobal;
+use std::io::Write;
+use std::process::Abort;
+use std::sync::Wait;
+use std::thread::Threads;
 
 const WHOLE_LIFE: &str =
     "{\"shape\":{\"lanes\":1,\"first_page\":2,\"pages\":1,\"last_generation\":4294967295},\"scripts\":[[[\"create\",0],[\"write\",0,\"6869\"],[\"publish\",0],[\"get\",1,16777216],[\"read\",1],[\"release\",1],[\"clear\",16777216]]]}";
@@ -44,51 +49,61 @@ const NO_RUNS: [(&str, u32, &str); 3] = [
     ),
 ];
 
+/// A run of a file writes this.
+fn writes<R: Abort + AllocGlobal + Threads + Wait + Sync>(rt: &R, file: &str, wanted: &str) {
+    let mut out = Watched::new(Vec::new(rt.alloc()));
+    run_text(rt, rt.alloc(), file.as_bytes(), &mut out).expect(rt, "a run");
+    wrote(rt, out, wanted, file);
+}
+
+/// A run of a file has this fault, and writes nothing.
+fn refuses<R: Abort + AllocGlobal + Threads + Wait + Sync>(
+    rt: &R,
+    file: &str,
+    number: u32,
+    name: &'static str,
+) {
+    let mut out = Watched::new(Vec::new(rt.alloc()));
+    let answer = run_text(rt, rt.alloc(), file.as_bytes(), &mut out);
+    is_fault(rt, fault_of(&answer), number, name, file);
+    wrote(rt, out, "", file);
+}
+
+/// What a run writes doesn't get out.
+fn fails<W: Write + Drop, R: Abort + AllocGlobal + Threads + Wait + Sync>(rt: &R, writer: W) {
+    let mut out = Watched::new(writer);
+    let answer = run_text(rt, rt.alloc(), WHOLE_LIFE.as_bytes(), &mut out);
+    says_output(rt, &answer, &out);
+}
+
+/// What a run writes gets out where there is just the room for it.
+fn fits<R: Abort + AllocGlobal + Threads + Wait + Sync>(rt: &R) {
+    let room = WHOLE_LIFE_TEXT.len();
+    let mut out = Watched::new(Halting { room });
+    run_text(rt, rt.alloc(), WHOLE_LIFE.as_bytes(), &mut out).expect(rt, "a run");
+    assert!(rt; !out.failed());
+}
+
 #[test]
-fn runs(rt: HostRuntime) -> Result<(), Fail> {
-    for (file, wanted) in RUNS {
-        let mut out = Watched::new(Vec::new(rt.alloc()));
-        run_text(&rt, rt.alloc(), file.as_bytes(), &mut out)?;
-        assert!(rt; !out.failed());
-        let text = out.into_inner();
-        assert_eq!(rt; text.as_slice(), wanted.as_bytes());
+fn runs(rt: HostRuntime) {
+    for (file, wanted) in &RUNS {
+        writes(&rt, file, wanted);
     }
-    Ok(())
 }
 
 #[test]
 fn refuses_files(rt: HostRuntime) {
-    for (file, number, name) in NO_RUNS {
-        let mut out = Watched::new(Vec::new(rt.alloc()));
-        let fault = run_text(&rt, rt.alloc(), file.as_bytes(), &mut out);
-        assert!(rt;
-            fault.is_err_and(|fault| fault.number() == number && fault.name() == name),
-            "{file}"
-        );
-        assert!(rt; !out.failed());
-        assert!(rt; out.into_inner().is_empty());
+    for (file, number, name) in &NO_RUNS {
+        refuses(&rt, file, *number, name);
     }
 }
 
 #[test]
 fn run_fails_with_its_writer(rt: HostRuntime) {
     for room in 0..WHOLE_LIFE_TEXT.len() {
-        let mut out = Watched::new(Halting { room });
-        let fault = run_text(&rt, rt.alloc(), WHOLE_LIFE.as_bytes(), &mut out);
-        assert!(rt; fault.is_err_and(|fault| fault.number() == 42));
-        assert!(rt; out.failed());
+        fails(&rt, Halting { room });
     }
-    let mut out = Watched::new(Halting {
-        room: WHOLE_LIFE_TEXT.len(),
-    });
-    assert!(rt; run_text(&rt, rt.alloc(), WHOLE_LIFE.as_bytes(), &mut out).is_ok());
-    assert!(rt; !out.failed());
-    let mut out = Watched::new(Deaf);
-    let fault = run_text(&rt, rt.alloc(), WHOLE_LIFE.as_bytes(), &mut out);
-    assert!(rt; fault.is_err_and(|fault| fault.number() == 42));
-    assert!(rt; out.failed());
-    let mut out = Watched::new(Clogged);
-    let fault = run_text(&rt, rt.alloc(), WHOLE_LIFE.as_bytes(), &mut out);
-    assert!(rt; fault.is_err_and(|fault| fault.number() == 42));
-    assert!(rt; out.failed());
+    fits(&rt);
+    fails(&rt, Deaf);
+    fails(&rt, Clogged);
 }

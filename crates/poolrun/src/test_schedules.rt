@@ -1,70 +1,95 @@
+ghost use Rattle.std.specs.Prelude.{◌≤◌};
+
+use crate::test_calls::schedule_of;
 use poolprogram::read_schedule;
 use scripts::{Memory, draw, stop_after};
-use std::test::Fail;
+use std::alloc::AllocGlobal;
+use std::process::Abort;
+
+// Texts that stand for no schedule.
+const NO_SCHEDULES: [&str; 10] = ["", ",", "0,", ",0", "0,,0", "256", "0000", "+1", "0 1", "a"];
+
+/// These are the entries of a schedule.
+fn are_entries<R: Abort>(rt: &R, schedule: &[u32], entries: &[u32]) {
+    assert_eq!(rt; schedule, entries);
+}
+
+/// A text stands for this schedule.
+fn reads<R: Abort + AllocGlobal>(rt: &R, text: &str, lanes: &[u32]) {
+    let schedule = schedule_of(rt, text);
+    are_entries(rt, schedule.as_slice(), lanes);
+}
+
+/// A text stands for no schedule.
+fn refuses<R: Abort + AllocGlobal>(rt: &R, text: &str) {
+    let schedule = read_schedule(rt.alloc(), text.as_bytes()).expect(rt, "memory for a schedule");
+    assert!(rt; schedule.is_none(), "{text}");
+}
 
 #[test]
-fn reads_schedules(rt: HostRuntime) -> Result<(), Fail> {
-    let good: [(&str, &[u32]); 4] = [
-        ("0", &[0]),
-        ("0,1,15", &[0, 1, 15]),
-        ("255,000,07", &[255, 0, 7]),
-        ("0,0", &[0, 0]),
-    ];
-    for (text, lanes) in good {
-        let schedule = read_schedule(rt.alloc(), text.as_bytes())?.ok_or("a schedule")?;
-        assert_eq!(rt; schedule.as_slice(), lanes, "{text}");
+fn reads_schedules(rt: HostRuntime) {
+    reads(&rt, "0", &[0]);
+    reads(&rt, "0,1,15", &[0, 1, 15]);
+    reads(&rt, "255,000,07", &[255, 0, 7]);
+    reads(&rt, "0,0", &[0, 0]);
+    for text in &NO_SCHEDULES {
+        refuses(&rt, text);
     }
-    for text in ["", ",", "0,", ",0", "0,,0", "256", "0000", "+1", "0 1", "a"] {
-        assert!(rt;
-            read_schedule(rt.alloc(), text.as_bytes())?.is_none(),
-            "{text}"
-        );
-    }
-    Ok(())
+}
+
+/// These are drawn from a seed for so many lanes.
+fn draws_these<R: Abort + AllocGlobal>(rt: &R, seed: u64, lanes: u32, entries: &[u32])
+    requires { 1 ≤ lanes }
+{
+    let count = u32::try_from(entries.len()).ok().expect(rt, "few entries");
+    let schedule = draw(rt.alloc(), seed, lanes, count)
+        .ok()
+        .expect(rt, "memory for a schedule");
+    are_entries(rt, schedule.as_slice(), entries);
 }
 
 // The first words of the generator of 0 are those of upstream's table; the others were computed apart.
 #[test]
-fn draws(rt: HostRuntime) -> Result<(), Fail> {
-    let drawn: [(u64, u32, &[u32]); 5] = [
-        (0, 4_294_967_295, &[298_703_107, 4_236_525_527]),
-        (1, 3, &[0, 2, 1, 2, 2, 2, 0, 1, 2, 1, 1, 2]),
-        (
-            18_446_744_073_709_551_615,
-            16,
-            &[14, 6, 12, 13, 10, 0, 13, 13, 10, 8],
-        ),
-        (7, 1, &[0, 0, 0]),
-        (7, 16, &[]),
-    ];
-    for (seed, lanes, entries) in drawn {
-        let schedule = draw(rt.alloc(), seed, lanes, entries.len() as u32)?;
-        assert_eq!(rt; schedule.as_slice(), entries, "{seed}");
-    }
-    Ok(())
+fn draws(rt: HostRuntime) {
+    draws_these(&rt, 0, 4_294_967_295, &[298_703_107, 4_236_525_527]);
+    draws_these(&rt, 1, 3, &[0, 2, 1, 2, 2, 2, 0, 1, 2, 1, 1, 2]);
+    draws_these(
+        &rt,
+        18_446_744_073_709_551_615,
+        16,
+        &[14, 6, 12, 13, 10, 0, 13, 13, 10, 8],
+    );
+    draws_these(&rt, 7, 1, &[0, 0, 0]);
+    draws_these(&rt, 7, 16, &[]);
+}
+
+/// A lane stops after so many of its entries, and these are left.
+fn leaves<R: Abort + AllocGlobal>(
+    rt: &R,
+    schedule: &[u32],
+    lane: u32,
+    after: u32,
+    entries: &[u32],
+) {
+    let rest = stop_after(rt.alloc(), schedule, lane, after)
+        .ok()
+        .expect(rt, "memory for a schedule");
+    are_entries(rt, rest.as_slice(), entries);
 }
 
 #[test]
-fn stops(rt: HostRuntime) -> Result<(), Fail> {
+fn stops(rt: HostRuntime) {
     let schedule = [0, 1, 0, 7, 0, 1];
-    let stopped: [(u32, u32, &[u32]); 6] = [
-        (0, 0, &[1, 7, 1]),
-        (0, 1, &[0, 1, 7, 1]),
-        (0, 2, &[0, 1, 0, 7, 1]),
-        (0, 3, &[0, 1, 0, 7, 0, 1]),
-        (1, 4_294_967_295, &[0, 1, 0, 7, 0, 1]),
-        (2, 0, &[0, 1, 0, 7, 0, 1]),
-    ];
-    for (lane, k, entries) in stopped {
-        let rest = stop_after(rt.alloc(), &schedule, lane, k)?;
-        assert_eq!(rt; rest.as_slice(), entries, "{lane}:{k}");
-    }
-    assert!(rt; stop_after(rt.alloc(), &[], 0, 0)?.is_empty());
-    Ok(())
+    leaves(&rt, &schedule, 0, 0, &[1, 7, 1]);
+    leaves(&rt, &schedule, 0, 1, &[0, 1, 7, 1]);
+    leaves(&rt, &schedule, 0, 2, &[0, 1, 0, 7, 1]);
+    leaves(&rt, &schedule, 0, 3, &schedule);
+    leaves(&rt, &schedule, 1, 4_294_967_295, &schedule);
+    leaves(&rt, &schedule, 2, 0, &schedule);
+    leaves(&rt, &[], 0, 0, &[]);
 }
 
 #[test]
 fn names_the_want_of_memory(rt: HostRuntime) {
-    assert_eq!(rt; Memory.number(), 36);
-    assert_eq!(rt; Memory.name(), "Memory");
+    assert_eq!(rt; (Memory.number(), Memory.name()), (36, "Memory"));
 }

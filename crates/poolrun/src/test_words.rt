@@ -1,46 +1,56 @@
+use crate::test_calls::{around, schedule_of};
 use commandline::{Task, TaskFault, task};
-use poolprogram::read_schedule;
-use std::alloc::{AllocError, Global};
-use std::test::Fail;
-
-// A schedule of a thousand turns of lane 0.
-fn thousand_entries(alloc: Global) -> Result<String, AllocError> {
-    let mut text = String::from_str(alloc, "0")?;
-    for _ in 0..999 {
-        text.push_str(",0")?;
-    }
-    Ok(text)
-}
+use std::alloc::AllocGlobal;
+use std::process::Abort;
 
 #[test]
-fn reads_a_thousand_entries(rt: HostRuntime) -> Result<(), Fail> {
-    let text = thousand_entries(rt.alloc())?;
-    let schedule = read_schedule(rt.alloc(), text.as_bytes())?.ok_or("a schedule")?;
+fn reads_a_thousand_entries(rt: HostRuntime) {
+    let text = around(&rt, "0", ",0", 999, "");
+    let schedule = schedule_of(&rt, text.as_str());
     assert_eq!(rt; schedule.len(), 1000);
-    assert!(rt; schedule.iter().all(|lane| *lane == 0));
-    Ok(())
+    for lane in schedule.as_slice() {
+        assert_eq!(rt; *lane, 0);
+    }
 }
 
-// The task of some words.
-fn task_of(alloc: Global, words: &[&str]) -> Result<Task, TaskFault> {
-    let mut list = Vec::new(alloc);
+/// The task of some words.
+fn task_of<R: Abort + AllocGlobal>(rt: &R, words: &[&str]) -> Result<Task, TaskFault> {
+    let mut list = Vec::new(rt.alloc());
     for word in words {
-        let word = String::from_str(alloc, word)?;
-        list.push(word).map_err(|_| AllocError)?;
+        let word = String::from_str(rt.alloc(), word).expect(rt, "memory for a word");
+        list.push(word).expect(rt, "memory for a word");
     }
-    task(alloc, list.as_slice())
+    task(rt.alloc(), list.as_slice())
 }
 
-// What comes of some words: the task, what `clap` says or `words`.
-fn outcome_of(alloc: Global, words: &[&str]) -> Result<String, AllocError> {
-    match task_of(alloc, words) {
-        Ok(task) => format!(in alloc; "{task:?}"),
-        Err(TaskFault::Clap(error)) => {
-            String::from_str(alloc, if error.use_stderr() { "clap" } else { "help" })
-        }
-        Err(TaskFault::Words) => String::from_str(alloc, "words"),
-        Err(TaskFault::Memory(_)) => String::from_str(alloc, "memory"),
+/// The text of a task.
+fn task_text<R: Abort + AllocGlobal>(rt: &R, task: &Task) -> String {
+    format!(in rt.alloc(); "{task:?}").expect(rt, "memory for a task")
+}
+
+/// The name of a fault: whether `clap` refuses the words or helps, or else.
+fn fault_name(fault: &TaskFault) -> &'static str {
+    match fault {
+        TaskFault::Clap(error) => if error.use_stderr() { "clap" } else { "help" },
+        TaskFault::Words => "words",
+        TaskFault::Memory(_) => "memory",
     }
+}
+
+/// What comes of some words: the task, what `clap` says or `words`.
+fn outcome_of<R: Abort + AllocGlobal>(rt: &R, words: &[&str]) -> String {
+    match task_of(rt, words) {
+        Ok(task) => task_text(rt, &task),
+        Err(fault) => {
+            String::from_str(rt.alloc(), fault_name(&fault)).expect(rt, "memory for a name")
+        }
+    }
+}
+
+/// This comes of some words.
+fn comes_to<R: Abort + AllocGlobal>(rt: &R, words: &[&str], wanted: &str) {
+    let outcome = outcome_of(rt, words);
+    assert_eq!(rt; outcome.as_str(), wanted, "{words:?}");
 }
 
 // Words, and their tasks.
@@ -430,51 +440,44 @@ const HELPS: [(&[&str], &str); 7] = [
 ];
 
 #[test]
-fn reads_tasks(rt: HostRuntime) -> Result<(), Fail> {
-    for (words, wanted) in TASKS {
-        let outcome = outcome_of(rt.alloc(), words)?;
-        assert_eq!(rt; outcome.as_str(), wanted, "{words:?}");
+fn reads_tasks(rt: HostRuntime) {
+    for (words, wanted) in &TASKS {
+        comes_to(&rt, words, wanted);
     }
-    Ok(())
 }
 
-// Whether this comes of each list of words.
-fn all_are(alloc: Global, lists: &[&[&str]], wanted: &str) -> Result<bool, AllocError> {
+/// This comes of each list of words.
+fn all_come_to<R: Abort + AllocGlobal>(rt: &R, lists: &[&[&str]], wanted: &str) {
     for words in lists {
-        let outcome = outcome_of(alloc, words)?;
-        if outcome.as_str() != wanted {
-            return Ok(false);
-        }
-    }
-    Ok(true)
-}
-
-#[test]
-fn refuses_words(rt: HostRuntime) -> Result<(), Fail> {
-    assert!(rt; all_are(rt.alloc(), &WRONG_TURNS, "words")?);
-    assert!(rt; all_are(rt.alloc(), &WRONG_STOPS, "words")?);
-    assert!(rt; all_are(rt.alloc(), &WRONG_KEYS, "words")?);
-    assert!(rt; all_are(rt.alloc(), &REFUSED, "clap")?);
-    Ok(())
-}
-
-// The help that some words ask for.
-fn help_of(alloc: Global, words: &[&str]) -> Result<String, AllocError> {
-    match task_of(alloc, words) {
-        Err(TaskFault::Clap(error)) => format!(in alloc; "{error}"),
-        _ => Ok(String::new(alloc)),
+        comes_to(rt, words, wanted);
     }
 }
 
 #[test]
-fn helps(rt: HostRuntime) -> Result<(), Fail> {
-    for (words, part) in HELPS {
-        assert_eq!(rt;
-            outcome_of(rt.alloc(), words)?.as_str(),
-            "help",
-            "{words:?}"
-        );
-        assert!(rt; help_of(rt.alloc(), words)?.contains(part), "{words:?}");
+fn refuses_words(rt: HostRuntime) {
+    all_come_to(&rt, &WRONG_TURNS, "words");
+    all_come_to(&rt, &WRONG_STOPS, "words");
+    all_come_to(&rt, &WRONG_KEYS, "words");
+    all_come_to(&rt, &REFUSED, "clap");
+}
+
+/// The help that some words ask for.
+fn help_of<R: Abort + AllocGlobal>(rt: &R, words: &[&str]) -> String {
+    let Err(TaskFault::Clap(error)) = task_of(rt, words) else {
+        panic!(rt; "no help")
+    };
+    format!(in rt.alloc(); "{error}").expect(rt, "memory for the help")
+}
+
+/// Some words ask for help, which has this part.
+fn helps_with<R: Abort + AllocGlobal>(rt: &R, words: &[&str], part: &str) {
+    comes_to(rt, words, "help");
+    assert!(rt; help_of(rt, words).contains(part), "{words:?}");
+}
+
+#[test]
+fn helps(rt: HostRuntime) {
+    for (words, part) in &HELPS {
+        helps_with(&rt, words, part);
     }
-    Ok(())
 }
