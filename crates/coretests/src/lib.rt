@@ -15,4 +15,6 @@ mod test_free_places;
 #[cfg(test)]
 mod test_keys;
 #[cfg(test)]
+mod test_texts;
+#[cfg(test)]
 mod test_trace_texts;

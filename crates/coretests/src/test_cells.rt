@@ -1,5 +1,6 @@
 ghost use Rattle.std.specs.Prelude.{◌≡◌, ◌<◌, ◌≤◌, [], ◌∷◌, ◌++◌, length, All, Some, IsSome, IsTrue};
 
+use crate::test_texts;
 use arrayvec::ArrayVec;
 use slotcell::{ByteBuf, Clear, Memory, Record, Rest, Share, Slot, Whole, join};
 use std::alloc::Global;
@@ -126,43 +127,62 @@ fn cell_of<T: Drop>(rt: &impl Abort, alloc: Global, object: T) -> Whole<T>
     }
 }
 
+/// The buffer has these bytes.
+fn has_bytes<R: Abort>(rt: &R, buffer: &ByteBuf, bytes: &[u8]) {
+    assert_eq!(rt; buffer.len(), bytes.len());
+    assert_eq!(rt; buffer.as_slice(), bytes);
+}
+
+/// The record has these numbers.
+fn has_numbers<R: Abort>(rt: &R, record: &Record, numbers: &[u64]) {
+    assert_eq!(rt; record.as_slice(), numbers);
+}
+
+/// A buffer that had these bytes, or more, is cleared, and takes them again without more memory.
+fn take_again<R: Abort>(rt: &R, buffer: &mut ByteBuf, bytes: &[u8]) {
+    let room = emptied(buffer);
+    assert_eq!(rt; buffer.len(), 0);
+    assert!(rt; room >= bytes.len());
+    buffer.append(bytes).unwrap();
+    assert_eq!(rt; buffer.room(), room);
+}
+
 #[test]
 fn a_cleared_buffer_keeps_its_room(rt: HostRuntime) {
     let bytes = [5u8; 4096];
     let mut buffer = ByteBuf::fresh(rt.alloc());
     assert!(rt; buffer.is_empty());
     assert_eq!(rt; buffer.room(), 0);
-    assert_eq!(rt; buffer.append(&bytes), Ok(()));
-    assert_eq!(rt; buffer.len(), 4096);
-    assert_eq!(rt; buffer.as_slice(), bytes.as_slice());
+    buffer.append(&bytes).expect(&rt, "memory for the bytes");
+    has_bytes(&rt, &buffer, &bytes);
+    take_again(&rt, &mut buffer, &bytes);
+    has_bytes(&rt, &buffer, &bytes);
+}
 
-    let room = emptied(&mut buffer);
-    assert_eq!(rt; buffer.len(), 0);
-    assert!(rt; room >= 4096);
-    buffer.append(&bytes).unwrap();
-    assert_eq!(rt; buffer.as_slice(), bytes.as_slice());
-    assert_eq!(rt; buffer.room(), room);
+/// An empty record takes the numbers from 0 to 7, and no more.
+fn take_eight<R: Abort>(rt: &R, record: &mut Record) {
+    for number in 0..8 {
+        assert!(rt; record.push(number));
+    }
+    assert!(rt; !record.push(8));
+    has_numbers(rt, record, &[0, 1, 2, 3, 4, 5, 6, 7]);
 }
 
 #[test]
 fn a_record_takes_eight_numbers(rt: HostRuntime) {
     let mut record = Record::fresh(rt.alloc());
     assert_eq!(rt; record.room(), 8);
-    for number in 0..8 {
-        assert!(rt; record.push(number));
-    }
-    assert!(rt; !record.push(8));
-    assert_eq!(rt; record.as_slice(), [0, 1, 2, 3, 4, 5, 6, 7].as_slice());
+    take_eight(&rt, &mut record);
     assert_eq!(rt; emptied(&mut record), 8);
-    assert_eq!(rt; record.as_slice(), [].as_slice());
+    has_numbers(&rt, &record, &[]);
     assert!(rt; record.push(9));
-    assert_eq!(rt; record.as_slice(), [9].as_slice());
+    has_numbers(&rt, &record, &[9]);
 }
 
 fn each_shows(rt: &impl Abort, shares: &[Option<Share<Record>>], numbers: &[u64]) {
     for share in shares {
         let share = share.as_ref().expect(rt, "a share");
-        assert_eq!(rt; share.read().as_slice(), numbers);
+        has_numbers(rt, share.read(), numbers);
     }
 }
 
@@ -189,10 +209,10 @@ fn each_share_of_a_record_shows_its_numbers(rt: HostRuntime) {
         let mut whole = cell_of(&rt, rt.alloc(), Record::fresh(rt.alloc()));
         assert!(rt; whole.get_mut().push(7));
         let mut whole = read_apart(&rt, rt.alloc(), whole, n, &[7]);
-        assert_eq!(rt; whole.get().as_slice(), [7].as_slice());
+        has_numbers(&rt, whole.get(), &[7]);
         assert!(rt; whole.get_mut().push(8));
         let whole = read_apart(&rt, rt.alloc(), whole, n, &[7, 8]);
-        assert_eq!(rt; whole.into_inner().as_slice(), [7, 8].as_slice());
+        has_numbers(&rt, &whole.into_inner(), &[7, 8]);
     }
 }
 
@@ -202,17 +222,17 @@ fn a_cell_that_was_lent_is_whole_again(rt: HostRuntime) {
     assert!(rt; whole.get_mut().push(7));
     let mut whole = lent_in_three(rt.alloc(), whole);
     assert!(rt; whole.get_mut().push(8));
-    assert_eq!(rt; whole.into_inner().as_slice(), [7, 8].as_slice());
+    has_numbers(&rt, &whole.into_inner(), &[7, 8]);
 }
 
 #[test]
 fn a_slot_gives_back_its_share(rt: HostRuntime) {
     let whole = cell_of(&rt, rt.alloc(), Record::fresh(rt.alloc()));
     let share = kept_in_a_slot(whole.lend(1).into_share());
-    assert_eq!(rt; share.read().as_slice(), [].as_slice());
+    has_numbers(&rt, share.read(), &[]);
     let mut whole = Rest::of_last(share).into_whole(rt.alloc());
     assert!(rt; whole.get_mut().push(9));
-    assert_eq!(rt; whole.get().as_slice(), [9].as_slice());
+    has_numbers(&rt, whole.get(), &[9]);
     assert_eq!(rt; mem::size_of::<Slot<Record>>(), mem::size_of::<usize>());
 }
 
@@ -295,12 +315,17 @@ fn a_cell_is_written_again_once_two_threads_have_read_it(rt: HostRuntime) {
     append_to(&rt, whole.get_mut(), b"abc");
     let mut whole = read_by_two_threads(&rt, rt.alloc(), whole, b"abc");
     append_to(&rt, whole.get_mut(), b"de");
-    let mut whole = read_by_two_threads(&rt, rt.alloc(), whole, b"abcde");
-    assert_eq!(rt; whole.get().as_slice(), b"abcde".as_slice());
+    let whole = read_by_two_threads(&rt, rt.alloc(), whole, b"abcde");
+    has_bytes(&rt, whole.get(), b"abcde");
+    is_refilled(&rt, rt.alloc(), whole);
+}
 
-    put(&mut whole, ByteBuf::fresh(rt.alloc()));
-    append_to(&rt, whole.get_mut(), b"f");
-    let whole = refilled(rt.alloc(), whole, 3);
+/// Another object of a cell that is split and joined is emptied, and has room.
+fn is_refilled<R: Abort>(rt: &R, alloc: Global, whole: Whole<ByteBuf>) {
+    let mut whole = whole;
+    put(&mut whole, ByteBuf::fresh(alloc));
+    append_to(rt, whole.get_mut(), b"f");
+    let whole = refilled(alloc, whole, 3);
     assert!(rt; whole.get().room() >= 1);
     assert!(rt; whole.into_inner().is_empty());
 }
@@ -317,25 +342,34 @@ impl Drop for Probe<'_> {
     }
 }
 
+/// A probe of the count, in a cell.
+fn probed<'a, R: Abort>(rt: &R, alloc: Global, drops: &'a Cell<u32>) -> Whole<Probe<'a>> {
+    cell_of(rt, alloc, Probe { drops })
+}
+
+/// So many probes of the count were dropped.
+fn were_dropped<R: Abort>(rt: &R, drops: &Cell<u32>, count: u32) {
+    assert_eq!(rt; drops.get(), count);
+}
+
 #[test]
 fn a_whole_drops_its_object_and_a_share_drops_nothing(rt: HostRuntime) {
     let drops = Cell::new(0);
-    drop(cell_of(&rt, rt.alloc(), Probe { drops: &drops }));
-    assert_eq!(rt; drops.get(), 1);
-    drop(cell_of(&rt, rt.alloc(), Probe { drops: &drops }).into_inner());
-    assert_eq!(rt; drops.get(), 2);
+    drop(probed(&rt, rt.alloc(), &drops));
+    were_dropped(&rt, &drops, 1);
+    drop(probed(&rt, rt.alloc(), &drops).into_inner());
+    were_dropped(&rt, &drops, 2);
 
-    let mut shares = cell_of(&rt, rt.alloc(), Probe { drops: &drops }).split(2);
+    let mut shares = probed(&rt, rt.alloc(), &drops).split(2);
     drop(take_last(&mut shares));
-    assert_eq!(rt; drops.get(), 2);
+    were_dropped(&rt, &drops, 2);
     let left = take_last(&mut shares);
-    assert_eq!(rt; left.read().drops.get(), 2);
+    were_dropped(&rt, left.read().drops, 2);
     drop(left);
-    assert_eq!(rt; drops.get(), 2);
+    were_dropped(&rt, &drops, 2);
 }
 
 #[test]
 fn memory_is_printed(rt: HostRuntime) {
-    let text = format!(in rt.alloc(); "{Memory}").expect(&rt, "memory for the text");
-    assert_eq!(rt; text.as_str(), "out of memory");
+    test_texts::shows(&rt, rt.alloc(), &Memory, "out of memory");
 }

@@ -1,13 +1,13 @@
-ghost use Rattle.std.specs.Prelude.{IfOk};
 ghost use Rattle.keybits.specs.Shapes.{IsShape};
 
+use crate::test_texts::{reads, shows};
 use keybits::{Shape, ShapeFault};
 use seqpool::{
     Act, ActsFault, ApplyFault, Bytes, CheckFault, Memory, Places, SeqPool, Summary, check,
     write_acts,
 };
-use std::alloc::{AllocError, Global};
-use std::test::Fail;
+use std::alloc::Global;
+use std::process::Abort;
 
 /// An act as a row of a table gives it.
 #[derive(Clone, Copy)]
@@ -30,6 +30,18 @@ const TWO_LANES: Shape = Shape {
     tag: 0,
 };
 
+const ONE_LANE: Shape = Shape {
+    lanes: 1,
+    first_page: 2,
+    ..TWO_LANES
+};
+
+const TAGGED: Shape = Shape {
+    lanes: 1,
+    tag: 5,
+    ..TWO_LANES
+};
+
 const LARGEST: Shape = Shape {
     lanes: 16,
     first_page: 64,
@@ -38,22 +50,29 @@ const LARGEST: Shape = Shape {
     tag: 255,
 };
 
-fn act_of(alloc: Global, row: Row<'_>) -> Result<Act, AllocError> {
-    Ok(match row {
+fn content_of<R: Abort>(rt: &R, alloc: Global, bytes: &[u8]) -> Bytes {
+    let bytes = Vec::from_slice(alloc, bytes).expect(rt, "memory for the bytes");
+    Bytes::from_vec(bytes)
+}
+
+fn places_of<R: Abort>(rt: &R, alloc: Global, places: &[u32]) -> Places {
+    let places = Vec::from_slice(alloc, places).expect(rt, "memory for the places");
+    Places::from_vec(places)
+}
+
+fn act_of<R: Abort>(rt: &R, alloc: Global, row: Row<'_>) -> Act {
+    match row {
         Row::Publish(lane, key, content, with_ref) => Act::Publish {
             lane,
             key,
-            content: Bytes::from_vec(Vec::from_slice(alloc, content)?),
+            content: content_of(rt, alloc, content),
             with_ref,
         },
-        Row::Some(lane, key, content) => {
-            let content = Bytes::from_vec(Vec::from_slice(alloc, content)?);
-            Act::Get {
-                lane,
-                key,
-                reply: Some(content),
-            }
-        }
+        Row::Some(lane, key, content) => Act::Get {
+            lane,
+            key,
+            reply: Some(content_of(rt, alloc, content)),
+        },
         Row::None(lane, key) => Act::Get {
             lane,
             key,
@@ -65,45 +84,69 @@ fn act_of(alloc: Global, row: Row<'_>) -> Result<Act, AllocError> {
         Row::Home(lane, place) => Act::Home { lane, place },
         Row::Collect(lane, places) => Act::Collect {
             lane,
-            places: Places::from_vec(Vec::from_slice(alloc, places)?),
+            places: places_of(rt, alloc, places),
         },
-    })
+    }
 }
 
-fn acts_of(alloc: Global, rows: &[Row<'_>]) -> Result<Vec<Act>, AllocError> {
+fn acts_of<R: Abort>(rt: &R, alloc: Global, rows: &[Row<'_>]) -> Vec<Act> {
     let mut acts = Vec::new(alloc);
     for row in rows {
-        acts.push(act_of(alloc, *row)?)?;
+        let act = act_of(rt, alloc, *row);
+        acts.push(act).expect(rt, "memory for an act");
     }
-    Ok(acts)
+    acts
 }
 
-/// The shape, once it is checked.
-fn checked(shape: Shape) -> Result<Shape, Fail>
-    ensures { IfOk result (λ z. IsShape z) }
+/// The first act that `apply` refuses, one after another.
+fn first_refused<R: Abort>(
+    rt: &R,
+    alloc: Global,
+    shape: Shape,
+    acts: &[Act],
+) -> Option<(usize, ApplyFault)>
+    requires { IsShape shape }
 {
-    match shape.check() {
-        Ok(()) => Ok(shape),
-        Err(_) => Err(Fail::from("the shape is refused")),
+    let mut pool = SeqPool::new(alloc, shape).expect(rt, "memory for a pool");
+    for (index, act) in acts.iter().enumerate() {
+        if let Err(fault) = pool.apply(act) {
+            return Some((index, fault));
+        }
     }
+    None
 }
 
-/// What `check` answers of the rows, and what `apply` answers of them one after another.
-fn both(
+/// `check` answers this of the rows, and `apply` refuses none or this act of them, one after another.
+fn is_checked<R: Abort>(
+    rt: &R,
     alloc: Global,
     shape: Shape,
     rows: &[Row<'_>],
-) -> Result<(Result<Summary, CheckFault>, Option<(usize, ApplyFault)>), Fail> {
-    let shape = checked(shape)?;
-    let acts = acts_of(alloc, rows)?;
-    let whole = check(alloc, shape, acts.as_slice());
-    let mut pool = SeqPool::new(alloc, shape).map_err(|_| "no memory")?;
-    for (index, act) in acts.iter().enumerate() {
-        if let Err(fault) = pool.apply(act) {
-            return Ok((whole, Some((index, fault))));
-        }
-    }
-    Ok((whole, None))
+    want: Result<Summary, CheckFault>,
+    refused: Option<(usize, ApplyFault)>,
+) {
+    assert!(rt; shape.check().is_ok());
+    let acts = acts_of(rt, alloc, rows);
+    assert_eq!(rt; check(alloc, shape, acts.as_slice()), want);
+    assert_eq!(rt; first_refused(rt, alloc, shape, acts.as_slice()), refused);
+}
+
+/// The rows are legal, with these counts.
+fn is_legal<R: Abort>(rt: &R, alloc: Global, shape: Shape, rows: &[Row<'_>], want: Summary) {
+    is_checked(rt, alloc, shape, rows, Ok(want), None);
+}
+
+/// The act of this index is the first of the rows that is refused.
+fn is_illegal<R: Abort>(
+    rt: &R,
+    alloc: Global,
+    shape: Shape,
+    rows: &[Row<'_>],
+    index: usize,
+    fault: ApplyFault,
+) {
+    let want = Err(CheckFault::Illegal { index, fault });
+    is_checked(rt, alloc, shape, rows, want, Some((index, fault)));
 }
 
 fn summary(
@@ -168,17 +211,7 @@ const LEGAL_TAKEN: &[Row<'static>] = &[
 ];
 
 #[test]
-fn legal_histories_have_their_counts(rt: HostRuntime) -> Result<(), Fail> {
-    let one_lane = Shape {
-        lanes: 1,
-        first_page: 2,
-        ..TWO_LANES
-    };
-    let tagged = Shape {
-        lanes: 1,
-        tag: 5,
-        ..TWO_LANES
-    };
+fn legal_histories_have_their_counts(rt: HostRuntime) {
     let last = Shape {
         lanes: 1,
         last_generation: 1,
@@ -187,16 +220,13 @@ fn legal_histories_have_their_counts(rt: HostRuntime) -> Result<(), Fail> {
     for (shape, rows, want) in [
         (TWO_LANES, LEGAL_STRANGER, summary(6, 1, 1, 0, 0, 1, 0)),
         (TWO_LANES, &[], summary(0, 0, 0, 0, 0, 0, 0)),
-        (one_lane, LEGAL_ONCE, summary(5, 1, 1, 0, 0, 0, 0)),
-        (tagged, LEGAL_TAGS, summary(2, 1, 0, 1, 0, 0, 0)),
+        (ONE_LANE, LEGAL_ONCE, summary(5, 1, 1, 0, 0, 0, 0)),
+        (TAGGED, LEGAL_TAGS, summary(2, 1, 0, 1, 0, 0, 0)),
         (last, LEGAL_RETIRES, summary(3, 1, 1, 0, 0, 0, 1)),
         (TWO_LANES, LEGAL_TAKEN, summary(10, 2, 1, 0, 1, 0, 0)),
     ] {
-        let (whole, refused) = both(rt.alloc(), shape, rows)?;
-        assert_eq!(rt; whole, Ok(want));
-        assert_eq!(rt; refused, None);
+        is_legal(&rt, rt.alloc(), shape, rows, want);
     }
-    Ok(())
 }
 
 // Of tag 255: the keys of place 983040 (shard 15, page 0, slot 0) and the generations 1 and 2 are 18374686479689383936 and
@@ -246,7 +276,7 @@ const LARGEST_FOREIGN: &[Row<'static>] = &[Row::Publish(15, 18302628885651478527
 const LARGEST_NO_LANE: &[Row<'static>] = &[Row::Clear(16, 18374686479689383936, false)];
 
 #[test]
-fn the_largest_shape_has_a_pool(rt: HostRuntime) -> Result<(), Fail> {
+fn the_largest_shape_has_a_pool(rt: HostRuntime) {
     let short = Shape {
         last_generation: 2,
         ..LARGEST
@@ -260,9 +290,7 @@ fn the_largest_shape_has_a_pool(rt: HostRuntime) -> Result<(), Fail> {
             summary(11, 2, 2, 0, 0, 0, 1),
         ),
     ] {
-        let (whole, refused) = both(rt.alloc(), shape, rows)?;
-        assert_eq!(rt; whole, Ok(want));
-        assert_eq!(rt; refused, None);
+        is_legal(&rt, rt.alloc(), shape, rows, want);
     }
     // The last generation of a key, a slot past the last, another tag, and a lane past the last.
     for (shape, rows, fault) in [
@@ -272,54 +300,66 @@ fn the_largest_shape_has_a_pool(rt: HostRuntime) -> Result<(), Fail> {
         (LARGEST, LARGEST_FOREIGN, ApplyFault::NotWithLane),
         (LARGEST, LARGEST_NO_LANE, ApplyFault::NotWithLane),
     ] {
-        let (whole, refused) = both(rt.alloc(), shape, rows)?;
-        assert_eq!(rt; whole, Err(CheckFault::Illegal { index: 0, fault }));
-        assert_eq!(rt; refused, Some((0, fault)));
+        is_illegal(&rt, rt.alloc(), shape, rows, 0, fault);
     }
-    Ok(())
+}
+
+/// A place of lane 15 is published, and comes home by lane 0.
+fn come_home<R: Abort>(rt: &R, rows: &mut Vec<Row<'_>>, place: u32) {
+    // Generation 1, tag 255.
+    let key = 18374686479688400896 + u64::from(place);
+    rows.extend_from_slice(&[
+        Row::Publish(15, key, b"", false),
+        Row::Clear(0, key, true),
+        Row::Reclaim(0, key),
+        Row::Home(0, place),
+    ])
+    .expect(rt, "memory for rows");
 }
 
 /// A thousand places of lane 15 are published and come home by lane 0, and lane 15 takes them by one act: 4,001 acts.
 #[test]
-fn long_histories_are_checked(rt: HostRuntime) -> Result<(), Fail> {
-    let mut places = Vec::new(rt.alloc());
+fn long_histories_are_checked(rt: HostRuntime) {
+    let mut places = [0; 1000];
     let mut rows = Vec::new(rt.alloc());
-    for slot in 0..1000 {
-        // Shard 15, page 5; generation 1, tag 255.
+    for slot in 0..1000u32 {
+        // Shard 15, page 5.
         let place = 1003520 + slot;
-        let key = 18374686479688400896 + u64::from(place);
-        places.push(place)?;
-        rows.push(Row::Publish(15, key, b"", false))?;
-        rows.push(Row::Clear(0, key, true))?;
-        rows.push(Row::Reclaim(0, key))?;
-        rows.push(Row::Home(0, place))?;
+        places[slot as usize] = place;
+        come_home(&rt, &mut rows, place);
     }
-    let (whole, refused) = both(rt.alloc(), LARGEST, rows.as_slice())?;
-    assert_eq!(rt; whole, Ok(summary(4000, 1000, 1000, 0, 0, 1000, 0)));
-    assert_eq!(rt; refused, None);
-    rows.push(Row::Collect(15, places.as_slice()))?;
-    let (whole, refused) = both(rt.alloc(), LARGEST, rows.as_slice())?;
-    assert_eq!(rt; whole, Ok(summary(4001, 1000, 1000, 0, 0, 0, 0)));
-    assert_eq!(rt; refused, None);
-    rows.push(Row::Collect(15, &[1004519]))?;
-    let (whole, refused) = both(rt.alloc(), LARGEST, rows.as_slice())?;
+    let want = summary(4000, 1000, 1000, 0, 0, 1000, 0);
+    is_legal(&rt, rt.alloc(), LARGEST, rows.as_slice(), want);
+    add_row(&rt, &mut rows, Row::Collect(15, &places));
+    let want = summary(4001, 1000, 1000, 0, 0, 0, 0);
+    is_legal(&rt, rt.alloc(), LARGEST, rows.as_slice(), want);
+    add_row(&rt, &mut rows, Row::Collect(15, &[1004519]));
     let fault = ApplyFault::NotHome;
-    assert_eq!(rt; whole, Err(CheckFault::Illegal { index: 4001, fault }));
-    assert_eq!(rt; refused, Some((4001, fault)));
-    Ok(())
+    is_illegal(&rt, rt.alloc(), LARGEST, rows.as_slice(), 4001, fault);
+}
+
+fn add_row<'a, R: Abort>(rt: &R, rows: &mut Vec<Row<'a>>, row: Row<'a>) {
+    rows.push(row).expect(rt, "memory for a row");
+}
+
+/// A content gives back its bytes.
+fn gives_bytes<R: Abort>(rt: &R, alloc: Global, bytes: &[u8]) {
+    let content = content_of(rt, alloc, bytes);
+    assert_eq!(rt; content.into_vec().as_slice(), bytes);
+}
+
+/// Places give back their numbers.
+fn gives_numbers<R: Abort>(rt: &R, alloc: Global, numbers: &[u32]) {
+    let places = places_of(rt, alloc, numbers);
+    assert_eq!(rt; places.into_vec().as_slice(), numbers);
 }
 
 #[test]
-fn contents_and_places_give_their_vectors_back(rt: HostRuntime) -> Result<(), Fail> {
-    for bytes in [&b""[..], b"\x00\xffhi"] {
-        let content = Bytes::from_vec(Vec::from_slice(rt.alloc(), bytes)?);
-        assert_eq!(rt; content.into_vec().as_slice(), bytes);
-    }
-    for numbers in [&[][..], &[7, 0, 16777215]] {
-        let places = Places::from_vec(Vec::from_slice(rt.alloc(), numbers)?);
-        assert_eq!(rt; places.into_vec().as_slice(), numbers);
-    }
-    Ok(())
+fn contents_and_places_give_their_vectors_back(rt: HostRuntime) {
+    gives_bytes(&rt, rt.alloc(), b"");
+    gives_bytes(&rt, rt.alloc(), b"\x00\xffhi");
+    gives_numbers(&rt, rt.alloc(), &[]);
+    gives_numbers(&rt, rt.alloc(), &[7, 0, 16777215]);
 }
 
 const REFUSED_WRONG_REPLY: &[Row<'static>] = &[
@@ -353,37 +393,26 @@ const REFUSED_NOT_HOME: &[Row<'static>] = &[Row::Collect(0, &[0])];
 
 const REFUSED_UNTAGGED: &[Row<'static>] = &[Row::Publish(0, 16777216, b"", false)];
 
+/// Rows of a shape, the first of them that is refused, and why, with its number.
+const REFUSED: [(Shape, &[Row<'static>], usize, ApplyFault, u32); 9] = [
+    (TWO_LANES, REFUSED_FOREIGN, 0, ApplyFault::NotWithLane, 11),
+    (TWO_LANES, REFUSED_NO_LANE, 0, ApplyFault::NotWithLane, 11),
+    (TWO_LANES, REFUSED_EARLY, 0, ApplyFault::WrongGeneration, 12),
+    (ONE_LANE, REFUSED_WRONG_REPLY, 1, ApplyFault::WrongReply, 13),
+    (TWO_LANES, REFUSED_NOT_HELD, 1, ApplyFault::NotHeld, 14),
+    (TWO_LANES, REFUSED_STILL_HELD, 2, ApplyFault::StillHeld, 15),
+    (TWO_LANES, REFUSED_NOT_MARKED, 1, ApplyFault::NotMarked, 16),
+    (TWO_LANES, REFUSED_NOT_HOME, 0, ApplyFault::NotHome, 17),
+    (TAGGED, REFUSED_UNTAGGED, 0, ApplyFault::NotWithLane, 11),
+];
+
 #[test]
-fn illegal_acts_are_refused(rt: HostRuntime) -> Result<(), Fail> {
-    let one_lane = Shape {
-        lanes: 1,
-        first_page: 2,
-        ..TWO_LANES
-    };
-    let tagged = Shape {
-        lanes: 1,
-        tag: 5,
-        ..TWO_LANES
-    };
-    for (shape, rows, index, fault, number) in [
-        (TWO_LANES, REFUSED_FOREIGN, 0, ApplyFault::NotWithLane, 11),
-        (TWO_LANES, REFUSED_NO_LANE, 0, ApplyFault::NotWithLane, 11),
-        (TWO_LANES, REFUSED_EARLY, 0, ApplyFault::WrongGeneration, 12),
-        (one_lane, REFUSED_WRONG_REPLY, 1, ApplyFault::WrongReply, 13),
-        (TWO_LANES, REFUSED_NOT_HELD, 1, ApplyFault::NotHeld, 14),
-        (TWO_LANES, REFUSED_STILL_HELD, 2, ApplyFault::StillHeld, 15),
-        (TWO_LANES, REFUSED_NOT_MARKED, 1, ApplyFault::NotMarked, 16),
-        (TWO_LANES, REFUSED_NOT_HOME, 0, ApplyFault::NotHome, 17),
-        (tagged, REFUSED_UNTAGGED, 0, ApplyFault::NotWithLane, 11),
-    ] {
-        let (whole, refused) = both(rt.alloc(), shape, rows)?;
-        assert_eq!(rt; whole, Err(CheckFault::Illegal { index, fault }));
-        assert_eq!(rt; refused, Some((index, fault)));
+fn illegal_acts_are_refused(rt: HostRuntime) {
+    for (shape, rows, index, fault, number) in REFUSED {
+        is_illegal(&rt, rt.alloc(), shape, rows, index, fault);
         assert_eq!(rt; fault.number(), number);
     }
-    assert_eq!(rt; Memory.number(), 18);
-    assert_eq!(rt; ApplyFault::Memory.number(), 18);
-    Ok(())
+    assert_eq!(rt; (Memory.number(), ApplyFault::Memory.number()), (18, 18));
 }
 
 const WRITTEN_ONCE: &[Row<'static>] = &[
@@ -403,41 +432,35 @@ const WRITTEN_OTHERS: &[Row<'static>] = &[
     Row::Collect(0, &[12, 3, 7]),
 ];
 
+/// The text of the rows is this, after what was there before.
+fn is_written<R: Abort>(rt: &R, alloc: Global, shape: Shape, rows: &[Row<'_>], want: &str) {
+    let acts = acts_of(rt, alloc, rows);
+    let mut out = Vec::from_slice(alloc, b"kept:").expect(rt, "memory for the text");
+    write_acts(alloc, &shape, acts.as_slice(), &mut out).expect(rt, "memory for the text");
+    reads(rt, out.as_slice(), want);
+}
+
 #[test]
-fn acts_are_written(rt: HostRuntime) -> Result<(), Fail> {
-    let one_lane = Shape {
-        lanes: 1,
-        first_page: 2,
-        ..TWO_LANES
-    };
-    let tagged = Shape {
-        lanes: 1,
-        tag: 5,
-        ..TWO_LANES
-    };
+fn acts_are_written(rt: HostRuntime) {
     for (shape, rows, want) in [
         (
-            one_lane,
+            ONE_LANE,
             WRITTEN_ONCE,
             "kept:shape 1 2 1 4294967295\n0 publish 16777216 6869 0\n0 get 16777216 some 6869\n0 release 16777216\n0 clear 16777216 true\n0 reclaim 16777216\n",
         ),
-        (tagged, &[], "kept:shape 1 1 1 4294967295 5\n"),
+        (TAGGED, &[], "kept:shape 1 1 1 4294967295 5\n"),
         (
             TWO_LANES,
             WRITTEN_OTHERS,
             "kept:shape 2 1 1 4294967295\n0 publish 16777216 0afe 1\n1 get 16777216 some -\n1 get 18446744073709551615 none\n1 clear 16777216 false\n1 home 0\n0 collect 3,7,12\n",
         ),
     ] {
-        let acts = acts_of(rt.alloc(), rows)?;
-        let mut out = Vec::from_slice(rt.alloc(), b"kept:")?;
-        write_acts(rt.alloc(), &shape, acts.as_slice(), &mut out).map_err(|_| "no memory")?;
-        assert_eq!(rt; out.as_slice(), want.as_bytes());
+        is_written(&rt, rt.alloc(), shape, rows, want);
     }
-    Ok(())
 }
 
 #[test]
-fn faults_have_texts(rt: HostRuntime) -> Result<(), Fail> {
+fn faults_have_texts(rt: HostRuntime) {
     for (fault, want) in [
         (ActsFault::ActsLine, "a line is none of a shape or an act"),
         (
@@ -446,9 +469,14 @@ fn faults_have_texts(rt: HostRuntime) -> Result<(), Fail> {
         ),
         (ActsFault::Memory, "no memory was left"),
     ] {
-        let text = format!(in rt.alloc(); "{fault}")?;
-        assert_eq!(rt; text.as_str(), want);
+        shows(&rt, rt.alloc(), &fault, want);
     }
+    shows(&rt, rt.alloc(), &Memory, "no memory was left");
+    shows(&rt, rt.alloc(), &CheckFault::Memory, "no memory was left");
+}
+
+#[test]
+fn refusals_have_texts(rt: HostRuntime) {
     for (fault, want) in [
         (
             ApplyFault::NotWithLane,
@@ -481,10 +509,6 @@ fn faults_have_texts(rt: HostRuntime) -> Result<(), Fail> {
         (ApplyFault::Memory, "act 7 is refused: no memory was left"),
     ] {
         let fault = CheckFault::Illegal { index: 7, fault };
-        let text = format!(in rt.alloc(); "{fault}")?;
-        assert_eq!(rt; text.as_str(), want);
+        shows(&rt, rt.alloc(), &fault, want);
     }
-    let text = format!(in rt.alloc(); "{}, {}", Memory, CheckFault::Memory)?;
-    assert_eq!(rt; text.as_str(), "no memory was left, no memory was left");
-    Ok(())
 }

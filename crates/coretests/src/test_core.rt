@@ -1,11 +1,12 @@
-ghost use Rattle.std.specs.Prelude.{◌≡◌, length, IfOk};
+ghost use Rattle.std.specs.Prelude.{◌≡◌, length};
 ghost use Rattle.keybits.specs.Shapes.{IsShape};
 
+use crate::test_texts::reads;
 use coresteps::{Command, Core, Operand, Register, Reply, Script, Trace, Turn, run, write_trace};
 use keybits::Shape;
 use seqpool::{Act, Bytes};
-use std::alloc::{AllocError, Global};
-use std::test::Fail;
+use std::alloc::Global;
+use std::process::Abort;
 
 /// A command as a row of a table gives it.
 #[derive(Clone, Copy)]
@@ -37,6 +38,14 @@ const ONE_PLACE: Shape = Shape {
 const TWO_LANES: Shape = Shape {
     lanes: 2,
     ..TWO_PLACES
+};
+
+const LARGEST: Shape = Shape {
+    lanes: 16,
+    first_page: 64,
+    pages: 6,
+    last_generation: 4294967295,
+    tag: 255,
 };
 
 const FIRST_ROW: [Row<'static>; 5] = [
@@ -236,86 +245,105 @@ const TRACES: [(Shape, &[&[Row<'static>]], &[u32], &str); 8] = [
     ),
 ];
 
-fn register_of(number: u8) -> Result<Register, Fail> {
-    if number > 15 {
-        return Err(Fail::from("no register has this number"));
-    }
-    Ok(Register { number })
+fn register_of<R: Abort>(rt: &R, number: u8) -> Register {
+    assert!(rt; number <= 15);
+    Register { number }
 }
 
-fn command_of(alloc: Global, row: Row<'_>) -> Result<Command, Fail> {
-    Ok(match row {
-        Row::Create(register) => Command::Create(register_of(register)?),
+fn command_of<R: Abort>(rt: &R, alloc: Global, row: Row<'_>) -> Command {
+    match row {
+        Row::Create(register) => Command::Create(register_of(rt, register)),
         Row::Write(register, bytes) => {
-            let bytes = Bytes::from_vec(Vec::from_slice(alloc, bytes)?);
-            Command::Write(register_of(register)?, bytes)
+            let bytes = Vec::from_slice(alloc, bytes).expect(rt, "memory for the bytes");
+            Command::Write(register_of(rt, register), Bytes::from_vec(bytes))
         }
-        Row::Publish(register) => Command::Publish(register_of(register)?),
-        Row::Downgrade(register) => Command::Downgrade(register_of(register)?),
-        Row::Get(register, key) => Command::Get(register_of(register)?, Operand::Number(key)),
+        Row::Publish(register) => Command::Publish(register_of(rt, register)),
+        Row::Downgrade(register) => Command::Downgrade(register_of(rt, register)),
+        Row::Get(register, key) => Command::Get(register_of(rt, register), Operand::Number(key)),
         Row::GetLast(register, last) => {
-            Command::Get(register_of(register)?, Operand::LastOf(register_of(last)?))
+            Command::Get(
+                register_of(rt, register),
+                Operand::LastOf(register_of(rt, last)),
+            )
         }
-        Row::Read(register) => Command::Read(register_of(register)?),
-        Row::Release(register) => Command::Release(register_of(register)?),
+        Row::Read(register) => Command::Read(register_of(rt, register)),
+        Row::Release(register) => Command::Release(register_of(rt, register)),
         Row::Clear(key) => Command::Clear(Operand::Number(key)),
-    })
+    }
 }
 
-fn script_of(alloc: Global, rows: &[Row<'_>]) -> Result<Script, Fail> {
+fn script_of<R: Abort>(rt: &R, alloc: Global, rows: &[Row<'_>]) -> Script {
     let mut commands = Vec::new(alloc);
     for row in rows {
-        let command = command_of(alloc, *row)?;
-        commands.push(command)?;
+        let command = command_of(rt, alloc, *row);
+        commands.push(command).expect(rt, "memory for a command");
     }
-    Ok(Script::from_vec(commands))
+    Script::from_vec(commands)
+}
+
+fn add_script<R: Abort>(rt: &R, alloc: Global, scripts: &mut Vec<Script>, rows: &[Row<'_>]) {
+    let script = script_of(rt, alloc, rows);
+    scripts.push(script).expect(rt, "memory for a script");
 }
 
 /// The scripts of these rows, one for each lane of a checked shape.
-fn scripts_of(alloc: Global, shape: Shape, rows: &[&[Row<'_>]]) -> Result<Vec<Script>, Fail>
-    ensures shape { IfOk result (λ scripts. IsShape shape) }
-    ensures lanes { IfOk result (λ scripts. length scripts.items ≡ shape.lanes) }
+fn scripts_of<R: Abort>(rt: &R, alloc: Global, shape: Shape, rows: &[&[Row<'_>]]) -> Vec<Script>
+    ensures shape { IsShape shape }
+    ensures lanes { length result.items ≡ shape.lanes }
 {
     let mut scripts = Vec::new(alloc);
-    for script in rows {
-        scripts.push(script_of(alloc, script)?)?;
+    for rows in rows {
+        add_script(rt, alloc, &mut scripts, rows);
     }
-    if shape.check().is_err() || scripts.len() != shape.lanes as usize {
-        return Err(Fail::from("the shape is refused"));
-    }
-    Ok(scripts)
+    assert!(rt; shape.check().is_ok() && scripts.len() == shape.lanes as usize);
+    scripts
 }
 
 /// The core of these scripts, one for each lane of a checked shape.
-fn core_from(alloc: Global, shape: Shape, scripts: Vec<Script>) -> Result<Core, Fail> {
-    if shape.check().is_err() || scripts.len() != shape.lanes as usize {
-        return Err(Fail::from("the shape is refused"));
-    }
-    Ok(Core::new(alloc, shape, scripts)?)
+fn core_from<R: Abort>(rt: &R, alloc: Global, shape: Shape, scripts: Vec<Script>) -> Core {
+    assert!(rt; shape.check().is_ok() && scripts.len() == shape.lanes as usize);
+    Core::new(alloc, shape, scripts).expect(rt, "memory for a core")
 }
 
-fn core_of(alloc: Global, shape: Shape, rows: &[&[Row<'_>]]) -> Result<Core, Fail> {
-    let scripts = scripts_of(alloc, shape, rows)?;
-    core_from(alloc, shape, scripts)
+fn core_of<R: Abort>(rt: &R, alloc: Global, shape: Shape, rows: &[&[Row<'_>]]) -> Core {
+    let scripts = scripts_of(rt, alloc, shape, rows);
+    core_from(rt, alloc, shape, scripts)
 }
 
-fn trace_of(
+fn trace_of<R: Abort>(
+    rt: &R,
     alloc: Global,
     shape: Shape,
     rows: &[&[Row<'_>]],
     schedule: &[u32],
-) -> Result<Trace, Fail> {
-    let scripts = scripts_of(alloc, shape, rows)?;
-    Ok(run(alloc, shape, scripts, schedule)?)
+) -> Trace {
+    let scripts = scripts_of(rt, alloc, shape, rows);
+    run(alloc, shape, scripts, schedule).expect(rt, "memory for a trace")
 }
 
-/// The lines of one turn.
-fn lines_of(alloc: Global, turn: Turn) -> Result<Vec<u8>, AllocError> {
-    let mut trace = Trace::empty(alloc);
-    trace.push(turn)?;
-    let mut lines = Vec::new(alloc);
-    write_trace(&trace, &mut lines)?;
-    Ok(lines)
+/// The text of the trace is this.
+fn is_text<R: Abort>(rt: &R, alloc: Global, trace: &Trace, text: &str) {
+    let mut out = Vec::new(alloc);
+    write_trace(trace, &mut out).expect(rt, "memory for the text");
+    reads(rt, out.as_slice(), text);
+}
+
+fn turn_of<R: Abort>(rt: &R, core: &mut Core, lane: u32) -> Turn {
+    core.turn(lane).expect(rt, "memory for a turn")
+}
+
+/// So many turns of a lane.
+fn take_turns<R: Abort>(rt: &R, core: &mut Core, lane: u32, count: u32) {
+    for _ in 0..count {
+        drop(turn_of(rt, core, lane));
+    }
+}
+
+/// These rows are added, so many times over.
+fn repeat<R: Abort>(rt: &R, rows: &mut Vec<Row<'static>>, more: &[Row<'static>], count: u32) {
+    for _ in 0..count {
+        rows.extend_from_slice(more).expect(rt, "memory for rows");
+    }
 }
 
 /// Whether it is lane 0's publish of a content under a key, without a reference.
@@ -356,10 +384,18 @@ fn is_empty_turn(turn: &Turn, lane: u32) -> bool {
         && turn.after.as_slice().is_empty()
 }
 
+/// The next turn of lane 0 has these lines, and the lane is finished by it or not.
+fn steps<R: Abort>(rt: &R, alloc: Global, core: &mut Core, lines: &str, finished: bool) {
+    let mut trace = Trace::empty(alloc);
+    let turn = turn_of(rt, core, 0);
+    trace.push(turn).expect(rt, "memory for a turn");
+    is_text(rt, alloc, &trace, lines);
+    assert_eq!(rt; core.finished(0), finished);
+}
+
 #[test]
-fn steps_a_core(rt: HostRuntime) -> Result<(), Fail> {
-    let alloc = rt.alloc();
-    let mut core = core_of(alloc, TWO_PLACES, &[&FIRST_ROW])?;
+fn steps_a_core(rt: HostRuntime) {
+    let mut core = core_of(&rt, rt.alloc(), TWO_PLACES, &[&FIRST_ROW]);
     assert!(rt; !core.finished(0));
     for (lines, finished) in [
         (
@@ -371,184 +407,203 @@ fn steps_a_core(rt: HostRuntime) -> Result<(), Fail> {
             true,
         ),
     ] {
-        let turn = core.turn(0)?;
-        assert_eq!(rt; lines_of(alloc, turn)?.as_slice(), lines.as_bytes());
-        assert_eq!(rt; core.finished(0), finished);
+        steps(&rt, rt.alloc(), &mut core, lines, finished);
     }
-    Ok(())
+}
+
+/// The next turn of lane 0 publishes the first row's content.
+fn publishes<R: Abort>(rt: &R, core: &mut Core) {
+    let turn = turn_of(rt, core, 0);
+    assert!(rt; is_publish(turn.act.as_ref(), 16777216, b"hi"));
+}
+
+/// The next turn of lane 0 gets it.
+fn gets<R: Abort>(rt: &R, core: &mut Core) {
+    let turn = turn_of(rt, core, 0);
+    assert!(rt; is_get(turn.act.as_ref(), 16777216, b"hi"));
+}
+
+/// The acts are those two.
+fn publish_and_get<R: Abort>(rt: &R, acts: &[Act]) {
+    assert_eq!(rt; acts.len(), 2);
+    assert!(rt; is_publish(acts.first(), 16777216, b"hi"));
+    assert!(rt; is_get(acts.last(), 16777216, b"hi"));
 }
 
 #[test]
-fn tells_acts(rt: HostRuntime) -> Result<(), Fail> {
-    let mut core = core_of(rt.alloc(), TWO_PLACES, &[&FIRST_ROW])?;
+fn tells_acts(rt: HostRuntime) {
+    let mut core = core_of(&rt, rt.alloc(), TWO_PLACES, &[&FIRST_ROW]);
     assert!(rt; core.acts().is_empty());
-    let published = core.turn(0)?.act;
-    assert!(rt; is_publish(published.as_ref(), 16777216, b"hi"));
+    publishes(&rt, &mut core);
     assert_eq!(rt; core.acts().len(), 1);
-    let got = core.turn(0)?.act;
-    assert!(rt; is_get(got.as_ref(), 16777216, b"hi"));
-    assert_eq!(rt; core.acts().len(), 2);
-    assert!(rt; is_publish(core.acts().first(), 16777216, b"hi"));
-    assert!(rt; is_get(core.acts().last(), 16777216, b"hi"));
-    Ok(())
+    gets(&rt, &mut core);
+    publish_and_get(&rt, core.acts());
+}
+
+/// The next turn of a lane is added to the trace. Nothing is done in it exactly where the lane is finished.
+fn add_turn<R: Abort>(rt: &R, core: &mut Core, lane: u32, trace: &mut Trace) {
+    let finished = core.finished(lane);
+    let turn = turn_of(rt, core, lane);
+    assert_eq!(rt; is_empty_turn(&turn, lane), finished, "lane {lane}");
+    trace.push(turn).expect(rt, "memory for a turn");
 }
 
 #[test]
-fn turns_of_no_lane_do_nothing(rt: HostRuntime) -> Result<(), Fail> {
-    let alloc = rt.alloc();
-    let mut core = core_of(alloc, TWO_PLACES, &[&FIRST_ROW])?;
-    let mut trace = Trace::empty(alloc);
+fn turns_of_no_lane_do_nothing(rt: HostRuntime) {
+    let mut core = core_of(&rt, rt.alloc(), TWO_PLACES, &[&FIRST_ROW]);
+    let mut trace = Trace::empty(rt.alloc());
     for lane in [1, 255, 0, 2, 0, 4294967295, 0] {
-        let finished = core.finished(lane);
-        let turn = core.turn(lane)?;
-        assert_eq!(rt; is_empty_turn(&turn, lane), finished, "lane {lane}");
-        trace.push(turn)?;
+        add_turn(&rt, &mut core, lane, &mut trace);
     }
-    let mut text = Vec::new(alloc);
-    write_trace(&trace, &mut text)?;
-    assert_eq!(rt; text.as_slice(), FIRST_TRACE.as_bytes());
+    is_text(&rt, rt.alloc(), &trace, FIRST_TRACE);
     assert_eq!(rt; core.acts().len(), 2);
-    Ok(())
+}
+
+/// The lane is finished, and nothing is done in a turn of it.
+fn does_nothing<R: Abort>(rt: &R, core: &mut Core, lane: u32) {
+    assert!(rt; core.finished(lane), "lane {lane}");
+    let turn = turn_of(rt, core, lane);
+    assert!(rt; is_empty_turn(&turn, lane), "lane {lane}");
 }
 
 #[test]
-fn finished_lanes_do_nothing(rt: HostRuntime) -> Result<(), Fail> {
-    let mut core = core_of(rt.alloc(), TWO_PLACES, &[&[]])?;
+fn finished_lanes_do_nothing(rt: HostRuntime) {
+    let mut core = core_of(&rt, rt.alloc(), TWO_PLACES, &[&[]]);
     for lane in [0, 1, 4294967295] {
-        assert!(rt; core.finished(lane), "lane {lane}");
-        assert!(rt; is_empty_turn(&core.turn(lane)?, lane), "lane {lane}");
+        does_nothing(&rt, &mut core, lane);
     }
-    Ok(())
+}
+
+/// The text of the trace of these rows by a schedule is this.
+fn runs<R: Abort>(
+    rt: &R,
+    alloc: Global,
+    shape: Shape,
+    rows: &[&[Row<'_>]],
+    schedule: &[u32],
+    text: &str,
+) {
+    let trace = trace_of(rt, alloc, shape, rows, schedule);
+    is_text(rt, alloc, &trace, text);
 }
 
 #[test]
-fn runs_rows(rt: HostRuntime) -> Result<(), Fail> {
+fn runs_rows(rt: HostRuntime) {
     for (shape, rows, schedule, text) in TRACES {
-        let trace = trace_of(rt.alloc(), shape, rows, schedule)?;
-        let mut out = Vec::new(rt.alloc());
-        write_trace(&trace, &mut out)?;
-        assert_eq!(rt; out.as_slice(), text.as_bytes());
+        runs(&rt, rt.alloc(), shape, rows, schedule, text);
     }
-    Ok(())
 }
 
 #[test]
-fn runs_a_thousand_entries(rt: HostRuntime) -> Result<(), Fail> {
-    let alloc = rt.alloc();
-    let mut late = Vec::new(alloc);
+fn runs_a_thousand_entries(rt: HostRuntime) {
+    let mut late = [1; 1000];
+    late[998] = 0;
+    late[999] = 0;
+    let mut mixed = [0; 1000];
     for entry in 0..1000u32 {
-        late.push(if entry < 998 { 1 } else { 0 })?;
+        mixed[entry as usize] = entry % 3;
     }
-    let mut mixed = Vec::new(alloc);
-    for entry in 0..1000u32 {
-        mixed.push(entry % 3)?;
-    }
-    for schedule in [late, mixed] {
-        let trace = trace_of(alloc, TWO_PLACES, &[&FIRST_ROW], schedule.as_slice())?;
-        let mut out = Vec::new(alloc);
-        write_trace(&trace, &mut out)?;
-        assert_eq!(rt; out.as_slice(), FIRST_TRACE.as_bytes());
-    }
-    Ok(())
+    let rows: [&[Row<'_>]; 1] = [&FIRST_ROW];
+    runs(&rt, rt.alloc(), TWO_PLACES, &rows, &late, FIRST_TRACE);
+    runs(&rt, rt.alloc(), TWO_PLACES, &rows, &mixed, FIRST_TRACE);
+}
+
+/// The first reply after the step of this turn is this key.
+fn replies_key<R: Abort>(rt: &R, turns: &[Turn], index: usize, wanted: u64) {
+    let turn = turns.get(index).expect(rt, "a turn");
+    let reply = turn.after.as_slice().first().expect(rt, "a reply");
+    assert!(rt;
+        matches!(reply, Reply::Key(key) if *key == wanted),
+        "turn {index}"
+    );
 }
 
 #[test]
-fn runs_hundreds_of_steps(rt: HostRuntime) -> Result<(), Fail> {
-    let alloc = rt.alloc();
-    let mut rows = Vec::new(alloc);
-    for _ in 0..193u32 {
-        rows.extend_from_slice(&[Row::Create(0), Row::Write(0, b"a"), Row::Publish(0)])?;
-    }
+fn runs_hundreds_of_steps(rt: HostRuntime) {
+    let published = [Row::Create(0), Row::Write(0, b"a"), Row::Publish(0)];
+    let mut rows = Vec::new(rt.alloc());
+    repeat(&rt, &mut rows, &published, 193);
     let shape = Shape {
         first_page: 64,
         pages: 6,
         ..TWO_PLACES
     };
-    let trace = trace_of(alloc, shape, &[rows.as_slice()], &[0; 1000])?;
+    let trace = trace_of(&rt, rt.alloc(), shape, &[rows.as_slice()], &[0; 1000]);
     assert_eq!(rt; trace.as_slice().len(), 193);
-    for (number, wanted) in [
-        (1, 16777216),
-        (64, 16777279),
-        (65, 16781312),
-        (192, 16781439),
-        (193, 16785408),
+    for (index, wanted) in [
+        (0, 16777216),
+        (63, 16777279),
+        (64, 16781312),
+        (191, 16781439),
+        (192, 16785408),
     ] {
-        let turn = trace.as_slice().get(number - 1).ok_or("a turn")?;
-        let reply = turn.after.as_slice().first().ok_or("a reply")?;
-        assert!(rt;
-            matches!(reply, Reply::Key(key) if *key == wanted),
-            "number {number}"
-        );
+        replies_key(&rt, trace.as_slice(), index, wanted);
     }
-    Ok(())
+}
+
+/// The turns of a schedule.
+fn take_all<R: Abort>(rt: &R, core: &mut Core, schedule: &[u32]) {
+    for lane in schedule {
+        drop(turn_of(rt, core, *lane));
+    }
 }
 
 #[test]
-fn tells_the_most_steps(rt: HostRuntime) -> Result<(), Fail> {
-    let mut core = core_of(rt.alloc(), TWO_LANES, &RETURNS)?;
+fn tells_the_most_steps(rt: HostRuntime) {
+    let mut core = core_of(&rt, rt.alloc(), TWO_LANES, &RETURNS);
     assert_eq!(rt; core.most(0), (0, 0));
-    for lane in RETURNS_SCHEDULE {
-        core.turn(lane)?;
-    }
-    assert_eq!(rt; core.most(0), (2, 3));
-    assert_eq!(rt; core.most(1), (0, 6));
-    assert_eq!(rt; core.most(2), (0, 0));
-    assert_eq!(rt; core.most(4294967295), (0, 0));
-    Ok(())
+    take_all(&rt, &mut core, &RETURNS_SCHEDULE);
+    let most = [
+        core.most(0),
+        core.most(1),
+        core.most(2),
+        core.most(4294967295),
+    ];
+    assert_eq!(rt; most, [(2, 3), (0, 6), (0, 0), (0, 0)]);
 }
 
 #[test]
-fn counts_a_call_under_way(rt: HostRuntime) -> Result<(), Fail> {
-    let rows: [&[Row<'_>]; 1] = [&[Row::Create(0), Row::Publish(0), Row::Clear(16777216)]];
-    let mut core = core_of(rt.alloc(), ONE_PLACE, &rows)?;
+fn counts_a_call_under_way(rt: HostRuntime) {
+    let rows = [Row::Create(0), Row::Publish(0), Row::Clear(16777216)];
+    let mut core = core_of(&rt, rt.alloc(), ONE_PLACE, &[&rows]);
     for most in [1, 1, 2, 3, 4] {
-        core.turn(0)?;
+        take_turns(&rt, &mut core, 0, 1);
         assert_eq!(rt; core.most(0), (0, most));
     }
-    Ok(())
+}
+
+/// Lane 15 publishes at the first of its places and at each other, and creates once more. Lane 0 clears the first.
+fn largest_scripts<R: Abort>(rt: &R, alloc: Global) -> Vec<Script> {
+    let mut last = Vec::new(alloc);
+    repeat(rt, &mut last, &[Row::Create(0), Row::Publish(0)], 1);
+    repeat(rt, &mut last, &[Row::Create(1), Row::Publish(1)], 4031);
+    repeat(rt, &mut last, &[Row::Create(2)], 1);
+    let mut scripts = Vec::new(alloc);
+    add_script(rt, alloc, &mut scripts, &[Row::Clear(18374686479689383936)]);
+    for _ in 1..15u32 {
+        add_script(rt, alloc, &mut scripts, &[]);
+    }
+    add_script(rt, alloc, &mut scripts, last.as_slice());
+    scripts
+}
+
+/// How often lane 15 collects.
+fn collects(acts: &[Act]) -> usize {
+    acts.iter()
+        .filter(|act| matches!(act, Act::Collect { lane: 15, .. }))
+        .count()
 }
 
 // Lane 15 of the largest shape publishes, lane 0 clears and returns the place, and lane 15 takes it before it opens a page.
 #[test]
-fn runs_the_largest_shape(rt: HostRuntime) -> Result<(), Fail> {
-    let alloc = rt.alloc();
-    let shape = Shape {
-        lanes: 16,
-        first_page: 64,
-        pages: 6,
-        last_generation: 4294967295,
-        tag: 255,
-    };
-    let key = 18374686479689383936;
-    let mut last = Vec::new(alloc);
-    last.extend_from_slice(&[Row::Create(0), Row::Publish(0)])?;
-    for _ in 0..4031u32 {
-        last.extend_from_slice(&[Row::Create(1), Row::Publish(1)])?;
-    }
-    last.push(Row::Create(2))?;
-    let mut scripts = Vec::new(alloc);
-    scripts.push(script_of(alloc, &[Row::Clear(key)])?)?;
-    for _ in 1..15u32 {
-        scripts.push(script_of(alloc, &[])?)?;
-    }
-    scripts.push(script_of(alloc, last.as_slice())?)?;
-    let mut core = core_from(alloc, shape, scripts)?;
-    core.turn(15)?;
-    for _ in 0..6u32 {
-        core.turn(0)?;
-    }
+fn runs_the_largest_shape(rt: HostRuntime) {
+    let scripts = largest_scripts(&rt, rt.alloc());
+    let mut core = core_from(&rt, rt.alloc(), LARGEST, scripts);
+    take_turns(&rt, &mut core, 15, 1);
+    take_turns(&rt, &mut core, 0, 6);
     assert!(rt; core.finished(0));
-    for _ in 0..5000u32 {
-        core.turn(15)?;
-    }
+    take_turns(&rt, &mut core, 15, 5000);
     assert!(rt; core.finished(15));
-    assert_eq!(rt; core.most(15), (15, 1));
-    assert_eq!(rt; core.most(0), (0, 6));
-    let collects = core
-        .acts()
-        .iter()
-        .filter(|act| matches!(act, Act::Collect { lane: 15, .. }))
-        .count();
-    assert_eq!(rt; collects, 1);
-    Ok(())
+    assert_eq!(rt; (core.most(15), core.most(0)), ((15, 1), (0, 6)));
+    assert_eq!(rt; collects(core.acts()), 1);
 }

@@ -3,7 +3,8 @@ ghost use Rattle.freelists.specs.Shards.{shape_of};
 
 use freelists::{LocalFree, Pages, Returns};
 use keybits::{Place, Shape, Word};
-use std::test::Fail;
+use std::alloc::Global;
+use std::process::Abort;
 
 const LARGEST: Shape = Shape {
     lanes: 16,
@@ -21,42 +22,36 @@ const SMALL: Shape = Shape {
     tag: 0,
 };
 
-#[test]
-fn pages_have_sizes(rt: HostRuntime) -> Result<(), Fail> {
-    LARGEST.check()?;
-    SMALL.check()?;
-    let largest = Pages::new(15, 64, 6);
-    let small = Pages::new(0, 2, 6);
-    for (page, of_largest, of_small) in [
-        (0, 64, 2),
-        (1, 128, 4),
-        (2, 256, 8),
-        (3, 512, 16),
-        (4, 1024, 32),
-        (5, 2048, 64),
-    ] {
-        assert!(rt; page < 6);
-        assert_eq!(rt; largest.size(page), of_largest);
-        assert_eq!(rt; small.size(page), of_small);
+/// The six pages of a shard have these sizes.
+fn has_sizes<R: Abort>(rt: &R, pages: &Pages, sizes: [u32; 6])
+    requires { pages.now.shape.pages ≡ 6 }
+{
+    for page in 0..6 {
+        assert_eq!(rt; pages.size(page), sizes[page as usize], "page {page}");
     }
-    Ok(())
 }
 
 #[test]
-fn places_have_indexes(rt: HostRuntime) -> Result<(), Fail> {
-    LARGEST.check()?;
+fn pages_have_sizes(rt: HostRuntime) {
+    assert!(rt; LARGEST.check().is_ok() && SMALL.check().is_ok());
+    let of_largest = [64, 128, 256, 512, 1024, 2048];
+    has_sizes(&rt, &Pages::new(15, 64, 6), of_largest);
+    has_sizes(&rt, &Pages::new(0, 2, 6), [2, 4, 8, 16, 32, 64]);
+}
+
+#[test]
+fn places_have_indexes(rt: HostRuntime) {
+    assert!(rt; LARGEST.check().is_ok());
     let pages = Pages::new(15, 64, 6);
-    assert_eq!(rt; pages.index(place(15, 0, 0)), 0);
-    assert_eq!(rt; pages.index(place(15, 1, 70)), 134);
-    assert_eq!(rt; pages.index(place(15, 5, 2047)), 4031);
-    assert_eq!(rt; pages.place(134), place(15, 1, 70));
-    assert_eq!(rt; pages.place(4031), place(15, 5, 2047));
-    Ok(())
+    let (first, middle, last) = (place(15, 0, 0), place(15, 1, 70), place(15, 5, 2047));
+    let indexes = [pages.index(first), pages.index(middle), pages.index(last)];
+    assert_eq!(rt; indexes, [0, 134, 4031]);
+    assert_eq!(rt; [pages.place(134), pages.place(4031)], [middle, last]);
 }
 
 #[test]
-fn pages_are_opened_from_the_lowest_on(rt: HostRuntime) -> Result<(), Fail> {
-    SMALL.check()?;
+fn pages_are_opened_from_the_lowest_on(rt: HostRuntime) {
+    assert!(rt; SMALL.check().is_ok());
     let mut pages = Pages::new(3, 2, 6);
     for (opened, page) in [
         (0, Some(0)),
@@ -68,10 +63,8 @@ fn pages_are_opened_from_the_lowest_on(rt: HostRuntime) -> Result<(), Fail> {
         (6, None),
         (6, None),
     ] {
-        assert_eq!(rt; pages.opened(), opened);
-        assert_eq!(rt; pages.open_next(), page);
+        assert_eq!(rt; (pages.opened(), pages.open_next()), (opened, page));
     }
-    Ok(())
 }
 
 const A: Place = Place {
@@ -98,13 +91,19 @@ const D: Place = Place {
     slot: 63,
 };
 
+/// The free places of shard 2, which are none so far.
+fn no_place<R: Abort>(rt: &R, alloc: Global) -> LocalFree
+    ensures { result ≡ record { shard = 2; shape = shape_of 2 6; own = []; chain = None; room = result.room } }
+{
+    assert!(rt; SMALL.check().is_ok());
+    LocalFree::new(alloc, 2, 2, 6).expect(rt, "memory for the places")
+}
+
 #[test]
-fn the_place_pushed_first_is_popped_first(rt: HostRuntime) -> Result<(), Fail> {
-    SMALL.check()?;
-    let mut free = LocalFree::new(rt.alloc(), 2, 2, 6).ok_or("no memory")?;
+fn the_place_pushed_first_is_popped_first(rt: HostRuntime) {
+    let mut free = no_place(&rt, rt.alloc());
     let popped = push_and_pop(&mut free);
     assert_eq!(rt; popped, [Some(A), Some(B), Some(C), Some(A), None]);
-    Ok(())
 }
 
 fn push_and_pop(free: &mut LocalFree) -> [Option<Place>; 5]
@@ -131,16 +130,13 @@ fn pop_and_push(free: &mut LocalFree) -> Option<Place>
 }
 
 #[test]
-fn a_popped_place_is_pushed_again(rt: HostRuntime) -> Result<(), Fail> {
-    SMALL.check()?;
-    let mut free = LocalFree::new(rt.alloc(), 2, 2, 6).ok_or("no memory")?;
+fn a_popped_place_is_pushed_again(rt: HostRuntime) {
+    let mut free = no_place(&rt, rt.alloc());
     push_two(&mut free);
-    assert_eq!(rt; pop_and_push(&mut free), Some(A));
-    assert_eq!(rt; pop_and_push(&mut free), Some(B));
-    assert_eq!(rt; free.pop(), Some(A));
-    assert_eq!(rt; free.pop(), Some(B));
-    assert_eq!(rt; free.pop(), None);
-    Ok(())
+    let pushed_again = [pop_and_push(&mut free), pop_and_push(&mut free)];
+    assert_eq!(rt; pushed_again, [Some(A), Some(B)]);
+    let popped = [free.pop(), free.pop(), free.pop()];
+    assert_eq!(rt; popped, [Some(A), Some(B), None]);
 }
 
 fn push_two(free: &mut LocalFree)
@@ -151,16 +147,12 @@ fn push_two(free: &mut LocalFree)
 }
 
 #[test]
-fn a_chain_is_followed_to_its_end(rt: HostRuntime) -> Result<(), Fail> {
-    SMALL.check()?;
-    let mut free = LocalFree::new(rt.alloc(), 2, 2, 6).ok_or("no memory")?;
+fn a_chain_is_followed_to_its_end(rt: HostRuntime) {
+    let mut free = no_place(&rt, rt.alloc());
     let followed = hang_and_follow(&mut free);
     assert_eq!(rt; followed, [A, B, C]);
-    assert_eq!(rt; free.chain(), None);
-    assert_eq!(rt; free.len(), 2);
-    assert_eq!(rt; free.pop(), Some(D));
-    assert_eq!(rt; free.pop(), Some(A));
-    Ok(())
+    assert_eq!(rt; (free.chain(), free.len()), (None, 2));
+    assert_eq!(rt; [free.pop(), free.pop()], [Some(D), Some(A)]);
 }
 
 fn hang_and_follow(free: &mut LocalFree) -> [Place; 3]
@@ -174,15 +166,21 @@ fn hang_and_follow(free: &mut LocalFree) -> [Place; 3]
     [first, second, free.follow(0)]
 }
 
+/// A place that is returned has this word, and the word is of this place.
+fn has_word<R: Abort>(rt: &R, returns: Returns, place: Place, word: u64) {
+    assert!(rt; place.shard == returns.shard && place.page <= 15 && place.slot <= 4095);
+    assert_eq!(rt; returns.word(place), word);
+    assert!(rt; word <= 65536);
+    assert_eq!(rt; returns.place(word), Some(place));
+}
+
 #[test]
 fn returns_have_words(rt: HostRuntime) {
     let returns = Returns { shard: 2 };
     assert_eq!(rt; returns.stack(1), Word::Stack { shard: 2, lane: 1 });
     assert_eq!(rt; returns.link(C), Word::Link { place: 135168 });
     for (place, word) in [(A, 1), (B, 2), (C, 4097), (D, 20544)] {
-        assert!(rt; place.shard == 2 && place.page <= 15 && place.slot <= 4095 && word <= 65536);
-        assert_eq!(rt; returns.word(place), word);
-        assert_eq!(rt; returns.place(word), Some(place));
+        has_word(&rt, returns, place, word);
     }
     assert_eq!(rt; returns.place(0), None);
 }

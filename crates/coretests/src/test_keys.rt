@@ -1,8 +1,9 @@
+use crate::test_texts::shows;
 use keybits::{
     Key, Life, Place, Shape, ShapeFault, State, claimed, entered, fits, left, link_to,
     linked_place, marked, published,
 };
-use std::test::Fail;
+use std::process::Abort;
 
 const LARGEST: Shape = Shape {
     lanes: 16,
@@ -20,8 +21,15 @@ const SMALL: Shape = Shape {
     tag: 7,
 };
 
+/// The key of a place and a generation is this number.
+fn packs<R: Abort>(rt: &R, place: Place, generation: u32, number: u64) {
+    let key = Key::pack(place, generation).expect(rt, "a key");
+    assert_eq!(rt; key.number(), number);
+    assert_eq!(rt; Key::unpack(number), Some((place, generation)));
+}
+
 #[test]
-fn keys_are_packed_and_unpacked(rt: HostRuntime) -> Result<(), Fail> {
+fn keys_are_packed_and_unpacked(rt: HostRuntime) {
     for (shard, page, slot, generation, number) in [
         (0, 0, 0, 1, 16777216),
         (1, 0, 0, 1, 16842752),
@@ -30,48 +38,52 @@ fn keys_are_packed_and_unpacked(rt: HostRuntime) -> Result<(), Fail> {
         (15, 0, 0, 1, 17760256),
         (15, 5, 2047, 1, 17782783),
     ] {
-        let place = Place { shard, page, slot };
-        let key = Key::pack(place, generation).ok_or("no key")?;
-        assert_eq!(rt; key.number(), number);
-        assert_eq!(rt;
-            Key::unpack(number),
-            Some((place, generation)),
-            "at {number}"
-        );
+        packs(&rt, Place { shard, page, slot }, generation, number);
     }
-    Ok(())
+}
+
+/// The number is of these parts, or of no key.
+fn has_parts<R: Abort>(rt: &R, number: u64, parts: Option<(u8, Place, u32)>) {
+    assert_eq!(rt; Key::unpack_tagged(number), parts);
+}
+
+/// No key without a tag has this number.
+fn is_no_key<R: Abort>(rt: &R, number: u64) {
+    assert_eq!(rt; Key::unpack(number), None, "at {number}");
 }
 
 #[test]
-fn keys_have_tags(rt: HostRuntime) -> Result<(), Fail> {
+fn keys_have_tags(rt: HostRuntime) {
     let place = Place {
         shard: 255,
         page: 15,
         slot: 4095,
     };
-    let key = Key::pack_tagged(255, place, 4294967295).ok_or("no key")?;
+    let key = Key::pack_tagged(255, place, 4294967295).expect(&rt, "a key");
     assert_eq!(rt; key.number(), 18446744073709551615);
-    assert_eq!(rt;
-        Key::unpack_tagged(18446744073709551615),
-        Some((255, place, 4294967295))
-    );
-    assert_eq!(rt; Key::unpack(18446744073709551615), None, "a tagged number");
-    assert_eq!(rt; Key::unpack_tagged(16777215), None, "generation 0");
-    assert_eq!(rt; Key::unpack(0), None, "generation 0");
+    has_parts(&rt, 18446744073709551615, Some((255, place, 4294967295)));
+    is_no_key(&rt, 18446744073709551615);
+    // Those of generation 0.
+    has_parts(&rt, 16777215, None);
+    is_no_key(&rt, 0);
+}
+
+/// The place, or the generation, is one that no key has.
+fn has_no_key<R: Abort>(rt: &R, place: Place, generation: u32) {
+    assert_eq!(rt; Key::pack(place, generation), None);
+    assert_eq!(rt; Key::pack_tagged(9, place, generation), None);
+}
+
+#[test]
+fn places_outside_have_no_keys(rt: HostRuntime) {
     for (page, slot, generation) in [(16, 0, 1), (0, 4096, 1), (0, 0, 0)] {
         let place = Place {
             shard: 0,
             page,
             slot,
         };
-        assert_eq!(rt;
-            Key::pack(place, generation),
-            None,
-            "page {page} slot {slot} generation {generation}"
-        );
-        assert_eq!(rt; Key::pack_tagged(9, place, generation), None);
+        has_no_key(&rt, place, generation);
     }
-    Ok(())
 }
 
 #[test]
@@ -157,7 +169,7 @@ fn shapes_are_checked(rt: HostRuntime) {
 }
 
 #[test]
-fn faults_have_numbers_and_texts(rt: HostRuntime) -> Result<(), Fail> {
+fn faults_have_numbers_and_texts(rt: HostRuntime) {
     for (fault, number, text) in [
         (
             ShapeFault::Lanes,
@@ -178,61 +190,71 @@ fn faults_have_numbers_and_texts(rt: HostRuntime) -> Result<(), Fail> {
         (ShapeFault::Tag, 6, "the tag is over 255"),
     ] {
         assert_eq!(rt; fault.number(), number);
-        assert_eq!(rt; format!(in rt.alloc(); "{fault}")?.as_str(), text);
+        shows(&rt, rt.alloc(), &fault, text);
     }
-    Ok(())
+}
+
+/// The six pages of a shape have these sizes.
+fn has_sizes<R: Abort>(rt: &R, shape: Shape, sizes: [u32; 6]) {
+    assert!(rt; shape.check().is_ok() && shape.pages == 6);
+    for page in 0..6 {
+        assert_eq!(rt; shape.page_size(page), sizes[page as usize], "page {page}");
+    }
+}
+
+/// A shard of the shape, and the shape, have so many places.
+fn has_places<R: Abort>(rt: &R, shape: Shape, of_shard: u32, of_all: usize) {
+    assert!(rt; shape.check().is_ok());
+    assert_eq!(rt; shape.shard_places(), of_shard);
+    assert_eq!(rt; shape.all_places(), of_all);
 }
 
 #[test]
-fn pages_have_sizes(rt: HostRuntime) -> Result<(), Fail> {
+fn pages_have_sizes(rt: HostRuntime) {
     let small = Shape {
         first_page: 2,
         ..LARGEST
     };
-    LARGEST.check()?;
-    small.check()?;
-    for (page, of_largest, of_small) in [
-        (0, 64, 2),
-        (1, 128, 4),
-        (2, 256, 8),
-        (3, 512, 16),
-        (4, 1024, 32),
-        (5, 2048, 64),
-    ] {
-        assert!(rt; page < 6);
-        assert_eq!(rt; LARGEST.page_size(page), of_largest);
-        assert_eq!(rt; small.page_size(page), of_small);
-    }
-    assert_eq!(rt; LARGEST.shard_places(), 4032);
-    assert_eq!(rt; LARGEST.all_places(), 64512);
-    assert_eq!(rt; small.shard_places(), 126);
-    assert_eq!(rt; small.all_places(), 2016);
-    Ok(())
+    has_sizes(&rt, LARGEST, [64, 128, 256, 512, 1024, 2048]);
+    has_sizes(&rt, small, [2, 4, 8, 16, 32, 64]);
+    has_places(&rt, LARGEST, 4032, 64512);
+    has_places(&rt, small, 126, 2016);
+}
+
+/// The number of a place, which is that of no other.
+fn number_of<R: Abort>(rt: &R, place: Place) -> u32 {
+    assert!(rt; place.page <= 15 && place.slot <= 4095);
+    let number = place.number();
+    assert!(rt; number < 16777216);
+    assert_eq!(rt; Place::of_number(number), place);
+    number
+}
+
+/// The place of this number has this index in its shard, and this position in the largest shape.
+fn stands_at<R: Abort>(rt: &R, number: u32, index: usize, position: usize) {
+    assert!(rt; LARGEST.check().is_ok() && LARGEST.is_place(number));
+    assert_eq!(rt;
+        (LARGEST.index(number), LARGEST.position(number)),
+        (index, position)
+    );
+    assert!(rt; position < LARGEST.all_places());
+    assert_eq!(rt; LARGEST.place_at(position), number);
 }
 
 #[test]
-fn places_have_positions(rt: HostRuntime) -> Result<(), Fail> {
-    LARGEST.check()?;
+fn places_have_positions(rt: HostRuntime) {
     for (shard, page, slot, index, position) in [
         (0, 0, 0, 0, 0),
         (0, 1, 70, 134, 134),
         (1, 0, 3, 3, 4035),
         (15, 5, 2047, 4031, 64511),
     ] {
-        let place = Place { shard, page, slot };
-        assert!(rt; page <= 15 && slot <= 4095 && position < LARGEST.all_places());
-        let number = place.number();
-        assert!(rt; number < 16777216);
-        assert_eq!(rt; Place::of_number(number), place);
-        assert!(rt; LARGEST.is_place(number));
-        assert_eq!(rt; LARGEST.index(number), index);
-        assert_eq!(rt; LARGEST.position(number), position);
-        assert_eq!(rt; LARGEST.place_at(position), number);
+        let number = number_of(&rt, Place { shard, page, slot });
+        stands_at(&rt, number, index, position);
     }
     for number in [2 * 65536, 2 * 4096, 2, 4096 + 4] {
         assert!(rt; !SMALL.is_place(number), "at {number}");
     }
-    Ok(())
 }
 
 #[test]
