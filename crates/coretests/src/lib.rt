@@ -18,3 +18,4 @@ mod test_keys;
 mod test_texts;
 #[cfg(test)]
 mod test_trace_texts;
+pub mod texts;

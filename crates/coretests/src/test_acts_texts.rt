@@ -1,7 +1,7 @@
 //! Texts of acts with the answers of an independent checker.
 ghost use Rattle.keybits.specs.Shapes.{IsShape};
 
-use crate::test_texts::reads;
+use crate::texts::reads;
 use keybits::Shape;
 use seqpool::{Act, ActsFault, CheckFault, check, read_acts, write_acts};
 use std::alloc::Global;

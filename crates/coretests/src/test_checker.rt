@@ -1,6 +1,7 @@
 ghost use Rattle.keybits.specs.Shapes.{IsShape};
 
-use crate::test_texts::{reads, shows};
+use crate::test_texts::shows;
+use crate::texts::reads;
 use keybits::{Shape, ShapeFault};
 use seqpool::{
     Act, ActsFault, ApplyFault, Bytes, CheckFault, Memory, Places, SeqPool, Summary, check,

@@ -1,7 +1,7 @@
 ghost use Rattle.std.specs.Prelude.{◌≡◌, length};
 ghost use Rattle.keybits.specs.Shapes.{IsShape};
 
-use crate::test_texts::reads;
+use crate::texts::reads;
 use coresteps::{Command, Core, Operand, Register, Reply, Script, Trace, Turn, run, write_trace};
 use keybits::Shape;
 use seqpool::{Act, Bytes};

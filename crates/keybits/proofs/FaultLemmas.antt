@@ -5,10 +5,10 @@ use Rattle.keybits.specs.declared.shape.Shape.{Shape}
 use Rattle.keybits.specs.declared.shape.ShapeFault.{ShapeFault}
 use Rattle.keybits.specs.declared.shape.ShapeFault.TheVariants.{Lanes, FirstPage, Pages, Generation, Tag}
 use Rattle.keybits.specs.Shapes.{IsShape}
-use Rattle.keybits.specs.ShapeFaults.{fault_number, IsWithin, IsFirstFault}
+use Rattle.keybits.specs.ShapeFaults.{shape_fault_number, IsWithin, IsFirstFault}
 
 -- two faults with one number are one
-pub same_fault : (f g : ShapeFault) → fault_number f ≡ fault_number g → f ≡ g
+pub same_fault : (f g : ShapeFault) → shape_fault_number f ≡ shape_fault_number g → f ≡ g
 same_fault Lanes Lanes e = refl
 same_fault FirstPage FirstPage e = refl
 same_fault Pages Pages e = refl
@@ -26,10 +26,10 @@ same_first_fault z f g first other =
     ⊎_elim
     (λ e. same_fault f g e)
     (λ order. ⊎_elim
-    (λ (lt : fault_number f < fault_number g). absurd (first.0 (other.1 f lt)))
-    (λ (lt : fault_number g < fault_number f). absurd (other.0 (first.1 g lt)))
+    (λ (lt : shape_fault_number f < shape_fault_number g). absurd (first.0 (other.1 f lt)))
+    (λ (lt : shape_fault_number g < shape_fault_number f). absurd (other.0 (first.1 g lt)))
     order)
-    (cases_order (fault_number f) (fault_number g))
+    (cases_order (shape_fault_number f) (shape_fault_number g))
 
 -- where the first fault is answered, just it is
 pub only_first : (z : Shape) (f : ShapeFault) → IsFirstFault z f → (g : ShapeFault) → IsErrOf {T = Unit {0}} {E = ShapeFault} (Err f) g ↔ IsFirstFault z g
@@ -55,14 +55,14 @@ no_fault z ok g = (
 pub first_page_first : (z : Shape) → IsWithin z Lanes → ¬ IsWithin z FirstPage → IsFirstFault z FirstPage
 first_page_first z a wrong = (wrong, go)
   where
-    go : (earlier : ShapeFault) → fault_number earlier < 2 → IsWithin z earlier
+    go : (earlier : ShapeFault) → shape_fault_number earlier < 2 → IsWithin z earlier
     go Lanes h = a
     go g h = absurd (omega arith)
 
 pub pages_first : (z : Shape) → IsWithin z Lanes → IsWithin z FirstPage → ¬ IsWithin z Pages → IsFirstFault z Pages
 pages_first z a b wrong = (wrong, go)
   where
-    go : (earlier : ShapeFault) → fault_number earlier < 3 → IsWithin z earlier
+    go : (earlier : ShapeFault) → shape_fault_number earlier < 3 → IsWithin z earlier
     go Lanes h = a
     go FirstPage h = b
     go g h = absurd (omega arith)
@@ -70,7 +70,7 @@ pages_first z a b wrong = (wrong, go)
 pub generation_first : (z : Shape) → IsWithin z Lanes → IsWithin z FirstPage → IsWithin z Pages → ¬ IsWithin z Generation → IsFirstFault z Generation
 generation_first z a b c wrong = (wrong, go)
   where
-    go : (earlier : ShapeFault) → fault_number earlier < 4 → IsWithin z earlier
+    go : (earlier : ShapeFault) → shape_fault_number earlier < 4 → IsWithin z earlier
     go Lanes h = a
     go FirstPage h = b
     go Pages h = c
@@ -79,7 +79,7 @@ generation_first z a b c wrong = (wrong, go)
 pub tag_first : (z : Shape) → IsWithin z Lanes → IsWithin z FirstPage → IsWithin z Pages → IsWithin z Generation → ¬ IsWithin z Tag → IsFirstFault z Tag
 tag_first z a b c d wrong = (wrong, go)
   where
-    go : (earlier : ShapeFault) → fault_number earlier < 6 → IsWithin z earlier
+    go : (earlier : ShapeFault) → shape_fault_number earlier < 6 → IsWithin z earlier
     go Lanes h = a
     go FirstPage h = b
     go Pages h = c

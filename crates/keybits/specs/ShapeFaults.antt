@@ -7,12 +7,12 @@ use Rattle.keybits.specs.declared.shape.ShapeFault.TheVariants.{Lanes, FirstPage
 use Rattle.keybits.specs.Shapes.{IsFirstPage}
 
 -- the number of a fault; the fields are tested in the order of these numbers
-abbrev pub fault_number : ShapeFault → ℕ
-fault_number Lanes = 1
-fault_number FirstPage = 2
-fault_number Pages = 3
-fault_number Generation = 4
-fault_number Tag = 6
+abbrev pub shape_fault_number : ShapeFault → ℕ
+shape_fault_number Lanes = 1
+shape_fault_number FirstPage = 2
+shape_fault_number Pages = 3
+shape_fault_number Generation = 4
+shape_fault_number Tag = 6
 
 -- the field that a fault speaks of is within its limits
 abbrev pub IsWithin : Shape → ShapeFault → Type 0
@@ -25,4 +25,4 @@ IsWithin z Tag = z.tag ≤ GREATEST_TAG
 -- the field that a fault speaks of is outside its limits, and each field tested before it is within them
 abbrev pub IsFirstFault : Shape → ShapeFault → Type 0
 IsFirstFault z fault =
-    (¬ IsWithin z fault) × ((earlier : ShapeFault) → fault_number earlier < fault_number fault → IsWithin z earlier)
+    (¬ IsWithin z fault) × ((earlier : ShapeFault) → shape_fault_number earlier < shape_fault_number fault → IsWithin z earlier)

@@ -49,13 +49,13 @@ pub enum ShapeFault {
 
 impl ShapeFault {
     ghost use Rattle.std.specs.Prelude.{◌≡◌};
-    ghost use Rattle.keybits.specs.ShapeFaults.{fault_number};
-    ghost use Rattle.keybits.specs.FaultNames.{fault_name};
+    ghost use Rattle.keybits.specs.ShapeFaults.{shape_fault_number};
+    ghost use Rattle.keybits.specs.FaultNames.{shape_fault_name};
 
     /// The fault's number: 1 for the lanes, 2 for the first page, 3 for the pages, 4 for the last
     /// generation and 6 for the tag.
     pub fn number(&self) -> u32
-        ensures { result ≡ fault_number self.now }
+        ensures { result ≡ shape_fault_number self.now }
     {
         match self {
             ShapeFault::Lanes => 1,
@@ -68,7 +68,7 @@ impl ShapeFault {
 
     /// The fault's name.
     pub fn name(&self) -> &'static str
-        ensures { result.now ≡ fault_name self.now }
+        ensures { result.now ≡ shape_fault_name self.now }
     {
         match self {
             ShapeFault::Lanes => "Lanes",

@@ -9,8 +9,8 @@ use Rattle.seqpool.specs.declared.fault.ApplyFault.{ApplyFault}
 use Rattle.seqpool.specs.Checker.{IsSummary, IsIllegalAt}
 use Rattle.seqpool.specs.Pool.{IsLegal}
 use Rattle.seqpool.specs.ActsText.{StandsFor, HasShape, HasShapeFault, StandsForNothing}
-use Rattle.seqpool.specs.FaultNames.{fault_name}
-use Rattle.seqpool.specs.Refusals.{fault_number}
+use Rattle.seqpool.specs.FaultNames.{apply_fault_name}
+use Rattle.seqpool.specs.Refusals.{apply_fault_number}
 use Rattle.poolprogram.specs.declared.run_fault.RunFault.{RunFault}
 use Rattle.poolprogram.specs.declared.run_fault.RunFault.TheVariants as runs
 
@@ -23,7 +23,7 @@ summary_text s =
 
 -- the line of a history whose act at this index, counted from 0, is the first that is refused
 abbrev pub illegal_text : ℕ → ApplyFault → List ℕ
-illegal_text index fault = codes "illegal " ++ decimal index ++ codes " " ++ decimal (fault_number fault) ++ codes " " ++ fault_name fault ++ codes "\n"
+illegal_text index fault = codes "illegal " ++ decimal index ++ codes " " ++ decimal (apply_fault_number fault) ++ codes " " ++ apply_fault_name fault ++ codes "\n"
 
 -- the bytes stand for a legal history, and the text is the line of its summary
 pub record IsLegalLine (bytes text : List ℕ) : Type 0 where

@@ -30,7 +30,7 @@ impl<T: Clear> Grid<T> {
 
     /// Takes in a note: what the lane has then seen begins with what it saw, and with what the note has. It is one look,
     /// and a load before it.
-    pub fn heard(&self, hand: &mut Hand<T>, lane: u32, note: Hand<T>)
+    pub fn hear(&self, hand: &mut Hand<T>, lane: u32, note: Hand<T>)
         requires hand { IsOf self.now hand.old × IsOne hand.old.me.0 }
         requires lane { lane < self.now.shape.lanes }
         requires note { IsOf self.now note × (note.me.1 ≡ []) }
@@ -38,13 +38,13 @@ impl<T: Clear> Grid<T> {
         ensures sees { Sees self.now.shape hand.old.me hand.new.me }
         ensures heard { IsPrefix note.me.0.seen hand.new.me.0.seen }
     {
-        self.told(hand, note);
+        self.join_note(hand, note);
         self.see_told::<Brand>(hand, lane);
     }
 
-    /// Takes in a note as `heard` does, and sees no further: what the lane has then seen is the longer of what it saw and what
+    /// Takes in a note as `hear` does, and sees no further: what the lane has then seen is the longer of what it saw and what
     /// the note has, and begins with both. So two lanes that take in a note of each other, one after the other, have seen one history.
-    pub fn met(&self, hand: &mut Hand<T>, lane: u32, note: Hand<T>)
+    pub fn meet(&self, hand: &mut Hand<T>, lane: u32, note: Hand<T>)
         requires hand { IsOf self.now hand.old × IsOne hand.old.me.0 }
         requires lane { lane < self.now.shape.lanes }
         requires note { IsOf self.now note × (note.me.1 ≡ []) }
@@ -53,7 +53,7 @@ impl<T: Clear> Grid<T> {
         ensures met { hand.new.me.0.seen ≡ longer hand.old.me.0.seen note.me.0.seen }
         ensures heard { IsPrefix note.me.0.seen hand.new.me.0.seen }
     {
-        self.told(hand, note);
+        self.join_note(hand, note);
         self.see_no_further::<Brand>(hand, lane);
     }
 
@@ -70,7 +70,7 @@ impl<T: Clear> Grid<T> {
     }
 
     /// The seat is told what a note has.
-    fn told(&self, hand: &mut Hand<T>, note: Hand<T>)
+    fn join_note(&self, hand: &mut Hand<T>, note: Hand<T>)
         requires hand { IsOf self.now hand.old }
         requires note { IsOf self.now note × (note.me.1 ≡ []) }
         ensures { SameSeat hand.old hand.new × (hand.new.me ≡ (told_by hand.old.me.0 note.me.0, hand.old.me.1)) }

@@ -2,6 +2,7 @@
 //! which proves no function of these libraries again.
 #![tactic(auto)]
 
+pub mod contents;
 #[cfg(test)]
 mod test_calls;
 #[cfg(test)]

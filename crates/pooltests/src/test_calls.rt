@@ -285,13 +285,6 @@ pub(crate) fn clear<T: Clear + Drop, R: Abort>(
     assert_eq!(rt; pool.clear(lane, key), marks, "clear of {key}");
 }
 
-/// What a reference reads.
-pub(crate) fn reads<R: Abort>(rt: &R, lane: &Lane<ByteBuf>, reference: &Ref<ByteBuf>, bytes: &[u8])
-    requires { 1 ≤ holds lane.now reference.now.key }
-{
-    assert_eq!(rt; lane.read(reference).as_slice(), bytes);
-}
-
 /// A lane tells another what it has seen.
 pub(crate) fn tell<T: Clear + Drop>(pool: &Pool<T>, teller: &mut Lane<T>, hearer: &mut Lane<T>)
     requires teller { Owns pool.now teller.old }

@@ -3,9 +3,10 @@ ghost use Rattle.std.specs.Prelude.{◌≡◌, ◌<◌, ◌≤◌};
 ghost use Rattle.shardpool.specs.Tokens.{LaneOf};
 ghost use Rattle.shardpool.specs.Lanes.{Owns, Made, holds, refs};
 
+use crate::contents::reads;
 use crate::test_calls::{
-    LAST, clear, create, fill, finds_full, get, misses, open_last, open_pair, publish, reads,
-    shape_of, tell, write,
+    LAST, clear, create, fill, finds_full, get, misses, open_last, open_pair, publish, shape_of,
+    tell, write,
 };
 use keybits::Shape;
 use shardpool::{Filling, Lane, Pool, Ref};

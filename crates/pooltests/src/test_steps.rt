@@ -383,9 +383,9 @@ fn returns_and_takes_a_place(rt: HostRuntime) -> Result<(), Fail> {
     let generation = grid.generation(&mut first, spot);
     assert_eq!(rt; generation, 2);
     let note = grid.note(&mut second);
-    grid.heard(&mut first, 0, note);
+    grid.hear(&mut first, 0, note);
     let note = grid.note(&mut first);
-    grid.met(&mut second, 1, note);
+    grid.meet(&mut second, 1, note);
     let mut hands = Vec::with_capacity(rt.alloc(), 2).expect(&rt, "memory for two hands");
     hands.push_reserved(first);
     hands.push_reserved(second);

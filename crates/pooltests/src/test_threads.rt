@@ -3,9 +3,10 @@ ghost use Rattle.std.specs.Prelude.{◌≡◌, ◌==◌, ◌+◌, ◌-◌, ◌<�
 ghost use Rattle.steplaws.specs.Facts.{most_references};
 ghost use Rattle.shardpool.specs.Lanes.{Owns, holds, refs};
 
+use crate::contents::reads;
 use crate::test_calls::{
     NO_PLACE, clear, close_all, close_two, create, get, last_of, misses, open_all, open_pair,
-    reads, shape_of, write,
+    shape_of, write,
 };
 use shardpool::{Census, Lane, Pool, Ref};
 use slotcell::ByteBuf;

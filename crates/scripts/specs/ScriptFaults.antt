@@ -1,7 +1,7 @@
 -- The numbers and the names of a script file's faults.
 use Rattle.std.specs.Prelude.{ℕ, List, codes}
-use Rattle.keybits.specs.FaultNames.{fault_name as shape_fault_name}
-use Rattle.keybits.specs.ShapeFaults.{fault_number as shape_fault_number}
+use Rattle.keybits.specs.FaultNames.{shape_fault_name}
+use Rattle.keybits.specs.ShapeFaults.{shape_fault_number}
 use Rattle.scripts.specs.declared.script_fault.ScriptFault.{ScriptFault}
 use Rattle.scripts.specs.declared.script_fault.ScriptFault.TheVariants.{NotJson, Field, Act, Register, Number, Shape, Memory}
 

@@ -7,7 +7,7 @@ use Rattle.keybits.specs.declared.shape.Shape.{Shape}
 use Rattle.keybits.specs.declared.shape.ShapeFault.{ShapeFault}
 use Rattle.keybits.specs.declared.shape.ShapeFault.TheVariants as shapes
 use Rattle.keybits.specs.Shapes.{IsShape}
-use Rattle.keybits.specs.ShapeFaults.{fault_number, IsWithin, IsFirstFault}
+use Rattle.keybits.specs.ShapeFaults.{shape_fault_number, IsWithin, IsFirstFault}
 use Rattle.seqpool.specs.declared.act.Act.{Act}
 use Rattle.seqpool.specs.declared.acts_fault.ActsFault.{ActsFault}
 use Rattle.seqpool.specs.declared.acts_fault.ActsFault.TheVariants as acts_faults
@@ -192,7 +192,7 @@ fault_at n =
     cond (nat_eq n 1) shapes.Lanes (cond (nat_eq n 2) shapes.FirstPage (cond (nat_eq n 3) shapes.Pages
     (cond (nat_eq n 4) shapes.Generation shapes.Tag)))
 
-fault_at-number : (fault : ShapeFault) → fault_at (fault_number fault) ≡ fault
+fault_at-number : (fault : ShapeFault) → fault_at (shape_fault_number fault) ≡ fault
 unfolding fault_at
 fault_at-number shapes.Lanes = refl
 fault_at-number shapes.FirstPage = refl
@@ -202,7 +202,7 @@ fault_at-number shapes.Tag = refl
 
 -- a shape has one first fault
 one-fault : (z : Shape) (f g : ShapeFault) → IsFirstFault z f → IsFirstFault z g → f ≡ g
-one-fault z f g one two = elim (cases_order (fault_number f) (fault_number g)) [
+one-fault z f g one two = elim (cases_order (shape_fault_number f) (shape_fault_number g)) [
   | inl same ↦ sym (fault_at-number f) ∙ (ap fault_at same ∙ fault_at-number g)
   | inr (inl below) ↦ absurd (one.0 (two.1 f below))
   | inr (inr above) ↦ absurd (two.0 (one.1 g above))

@@ -2,7 +2,7 @@
 use Rattle.std.specs.Prelude.{◌≡◌, ◌≢◌, ◌⊎◌, ℕ, ◌<◌, ◌≤◌, true, false, [], Some, None}
 use Rattle.keybits.specs.declared.shape.Shape.{Shape}
 use Rattle.keybits.specs.Places.{shard_of}
-use Rattle.keybits.specs.ShapeFaults.{fault_number as shape_fault_number}
+use Rattle.keybits.specs.ShapeFaults.{shape_fault_number}
 use Rattle.keybits.specs.Shapes.{is_place}
 use Rattle.keybits.specs.Keys.{place_of, generation_of, is_key}
 use Rattle.seqpool.specs.declared.act.Act.{Act}
@@ -14,15 +14,15 @@ use Rattle.seqpool.specs.declared.fault.ApplyFault.TheVariants.{NotWithLane, Wro
 use Rattle.seqpool.specs.Pool.{Pool, with, references_in, is_marked, is_current, found, clears, references, NoRepeats, AllHome, lane_of}
 
 -- the number of a refusal
-abbrev pub fault_number : ApplyFault → ℕ
-fault_number NotWithLane = 11
-fault_number WrongGeneration = 12
-fault_number WrongReply = 13
-fault_number NotHeld = 14
-fault_number StillHeld = 15
-fault_number NotMarked = 16
-fault_number NotHome = 17
-fault_number Memory = 18
+abbrev pub apply_fault_number : ApplyFault → ℕ
+apply_fault_number NotWithLane = 11
+apply_fault_number WrongGeneration = 12
+apply_fault_number WrongReply = 13
+apply_fault_number NotHeld = 14
+apply_fault_number StillHeld = 15
+apply_fault_number NotMarked = 16
+apply_fault_number NotHome = 17
+apply_fault_number Memory = 18
 
 -- what is wrong with an act of a lane of the shape, where this refusal is the first that fits
 abbrev pub Wrong : Shape → Pool → Act → ApplyFault → Type 0

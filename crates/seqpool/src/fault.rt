@@ -70,12 +70,12 @@ impl fmt::Display for Memory {
 impl Error for Memory {}
 
 impl ApplyFault {
-    ghost use Rattle.seqpool.specs.Refusals.{fault_number};
-    ghost use Rattle.seqpool.specs.FaultNames.{fault_name};
+    ghost use Rattle.seqpool.specs.Refusals.{apply_fault_number};
+    ghost use Rattle.seqpool.specs.FaultNames.{apply_fault_name};
 
     /// The fault's number: 11 to 17 in the order of the variants, and 18 for want of memory.
     pub fn number(&self) -> u32
-        ensures { result ≡ fault_number self.now }
+        ensures { result ≡ apply_fault_number self.now }
     {
         match self {
             ApplyFault::NotWithLane => 11,
@@ -91,7 +91,7 @@ impl ApplyFault {
 
     /// The fault's name.
     pub fn name(&self) -> &'static str
-        ensures { result.now ≡ fault_name self.now }
+        ensures { result.now ≡ apply_fault_name self.now }
     {
         match self {
             ApplyFault::NotWithLane => "NotWithLane",

@@ -1,6 +1,6 @@
 -- What a pool is when it is opened.
 use Rattle.std.specs.Prelude.{◌≡◌, ℕ, List, [], ◌∷◌, length, Some, None, slice_get}
-use Rattle.keybits.specs.ShapeFaults.{fault_number}
+use Rattle.keybits.specs.ShapeFaults.{shape_fault_number}
 use Rattle.poolsteps.specs.declared.view.View.{View}
 use Rattle.poolsteps.specs.Views.{first_record}
 use Rattle.shardpool.specs.declared.fault.OpenFault.{OpenFault}
@@ -10,7 +10,7 @@ use Rattle.shardpool.specs.Lanes.{Owns}
 
 -- the number of a fault: that of the shape's fault, and 5 for want of memory
 abbrev pub open_fault_number : OpenFault → ℕ
-open_fault_number (Shape fault) = fault_number fault
+open_fault_number (Shape fault) = shape_fault_number fault
 open_fault_number Memory = 5
 
 -- the view of a lane that has seen and done nothing

@@ -35,7 +35,7 @@ impl<T: Clear + Drop> Pool<T> {
         ensures fillings { (filling : FillingOf T) → Made lane.old filling → Made lane.new filling }
     {
         let number = lane.state.number;
-        self.grid.heard(&mut lane.hand, number, note.hand);
+        self.grid.hear(&mut lane.hand, number, note.hand);
     }
 
     /// Two lanes tell each other what they have seen: it is then one history, which begins with what each saw. They make no step.
@@ -75,6 +75,6 @@ impl<T: Clear + Drop> Pool<T> {
         ensures fillings { (filling : FillingOf T) → Made lane.old filling → Made lane.new filling }
     {
         let number = lane.state.number;
-        self.grid.met(&mut lane.hand, number, note.hand);
+        self.grid.meet(&mut lane.hand, number, note.hand);
     }
 }

@@ -20,7 +20,7 @@ use Rattle.traces.specs.declared.script.Command.{Command}
 use Rattle.traces.specs.Registers.{fillings}
 use Rattle.traces.specs.Books.{Book, caller, call_of_first, call_under_way, next_in, next_aim, taken, reclaimed, returned, pushed_after}
 use Rattle.traces.specs.Lawful.{World, at_end, is_finished, IsAtRest}
-use Rattle.traces.specs.Parts.{count_if, unopened, listed, clearing, is_retired, parts, under_first, under_way, chain_of, moment_of, Stands}
+use Rattle.traces.specs.Parts.{count_if, unopened, listed, under_clear, is_retired, parts, under_first, under_way, chain_of, moment_of, Stands}
 use Rattle.traces.specs.Making.{AreMade, HasMade}
 use Rattle.traces.specs.Keeping.{IsResting}
 use Rattle.traces.specs.Owning.{is_with, publishes, collected, unopened_of, IsOwned, Holds}
@@ -72,7 +72,7 @@ lane_sum closed own chain fill cleared collects is_here home_again out found sum
 
 -- how often a lane has the place, by its book and the call under way
 abbrev had : Shape → ℕ → ℕ → Book → ℕ
-had z place lane b = unopened_of place lane b.opened + listed place b + fillings place b.registers + clearing z place b
+had z place lane b = unopened_of place lane b.opened + listed place b + fillings place b.registers + under_clear z place b
 
 lane_has : (z : Shape) (P : Pool) (lane place : ℕ) (b : Book) → is_place z place ≡ true → IsOwned z P lane b → IsResting z lane b
     → had z place lane b ≡ count_if (is_with lane (P place).phase)
@@ -177,14 +177,14 @@ module _ (z : Shape) (w : World) (h : Holds z w) (rest : (lane : ℕ) → lane <
       let below : shard_of place < z.lanes = (is_place-parts z place is).0 in
       let u = unopened_sum z.lanes place (λ lane. (w.books lane).opened) below in
       let all = sum_four z.lanes (λ lane. unopened_of place lane (w.books lane).opened) (λ lane. listed place (w.books lane))
-      (λ lane. fillings place (w.books lane).registers) (λ lane. clearing z place (w.books lane)) in
+      (λ lane. fillings place (w.books lane).registers) (λ lane. under_clear z place (w.books lane)) in
       parts_sum (unopened w place) (sum_below z.lanes (λ lane. listed place (w.books lane))) (count_if (is_home f))
-      (sum_below z.lanes (λ lane. fillings place (w.books lane).registers)) (sum_below z.lanes (λ lane. clearing z place (w.books lane)))
+      (sum_below z.lanes (λ lane. fillings place (w.books lane).registers)) (sum_below z.lanes (λ lane. under_clear z place (w.books lane)))
       (count_if (is_published f)) (count_if (is_retired f)) (sum_below z.lanes (λ lane. count_if (is_with lane f)))
       (sum_below z.lanes (λ lane. had z place lane (w.books lane)))
       (all ∙ ap (λ (n : ℕ). n + sum_below z.lanes (λ lane. listed place (w.books lane))
       + sum_below z.lanes (λ lane. fillings place (w.books lane).registers)
-      + sum_below z.lanes (λ lane. clearing z place (w.books lane))) u)
+      + sum_below z.lanes (λ lane. under_clear z place (w.books lane))) u)
       (sum-same z.lanes (λ lane. had z place lane (w.books lane)) (λ lane. count_if (is_with lane f))
       (λ lane less. lane_has z P lane place (w.books lane) is (h.owned lane less) (rest lane less)))
       (one_phase z.lanes f (pool_inside z fresh w.history place h.rule.legal below))

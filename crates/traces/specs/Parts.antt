@@ -30,8 +30,8 @@ abbrev pub listed : ℕ → Book → ℕ
 listed place b = times place b.own + times place b.chain + times place (taken b.acts)
 
 -- how often the place is being cleared: from a claim that succeeded below the last generation until the list or the return
-abbrev pub clearing : Shape → ℕ → Book → ℕ
-clearing z place b = times place (reclaimed z.last_generation b.acts) - times place (returned b.acts)
+abbrev pub under_clear : Shape → ℕ → Book → ℕ
+under_clear z place b = times place (reclaimed z.last_generation b.acts) - times place (returned b.acts)
 
 -- the place is retired
 abbrev pub is_retired : Phase → Bool
@@ -45,7 +45,7 @@ abbrev pub parts : Shape → World → ℕ → ℕ
 parts z w place =
     let phase = (pool_after z w.history place).phase in
     unopened w place + sum_below z.lanes (λ lane. listed place (w.books lane)) + count_if (is_home phase)
-    + sum_below z.lanes (λ lane. fillings place (w.books lane).registers) + sum_below z.lanes (λ lane. clearing z place (w.books lane))
+    + sum_below z.lanes (λ lane. fillings place (w.books lane).registers) + sum_below z.lanes (λ lane. under_clear z place (w.books lane))
     + count_if (is_published phase) + count_if (is_retired phase)
 
 -- what is under way in an END at a place, after these of its steps

@@ -1,7 +1,7 @@
 use Rattle.std.proofs.Common.{false}
 use Rattle.sharelaws.specs.Shares.{nothing_stored}
 use Rattle.poolsteps.specs.declared.plays.Purpose.TheVariants.{ToGet}
-use Rattle.poolsteps.proofs.grid.Grid.heard.Given as goal
+use Rattle.poolsteps.proofs.grid.Grid.hear.Given as goal
 
 -- the look is at a grid of this shape
 abbrev pub ghosts-see_told : goal.ghosts-see_told

@@ -2,7 +2,7 @@
 use Rattle.std.proofs.Common.{◌<◌, ℕ, sym, subst}
 use Rattle.poolsteps.proofs.LookWords.{words-some}
 use Rattle.poolsteps.proofs.Telling.{hears}
-use Rattle.poolsteps.proofs.grid.Grid.told.Goals as goal
+use Rattle.poolsteps.proofs.grid.Grid.join_note.Goals as goal
 
 pub join_seat-requires : goal.join_seat-requires
 join_seat-requires g c =

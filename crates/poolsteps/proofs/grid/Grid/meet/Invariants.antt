@@ -1,7 +1,7 @@
 use Rattle.std.proofs.Common.{false}
 use Rattle.sharelaws.specs.Shares.{nothing_stored}
 use Rattle.poolsteps.specs.declared.plays.Purpose.TheVariants.{ToGet}
-use Rattle.poolsteps.proofs.grid.Grid.met.Given as goal
+use Rattle.poolsteps.proofs.grid.Grid.meet.Given as goal
 
 -- the look is at a grid of this shape
 abbrev pub ghosts-see_no_further : goal.ghosts-see_no_further

@@ -1,6 +1,0 @@
-use Rattle.poolsteps.proofs.Telling.{heard-note}
-use Rattle.poolsteps.proofs.grid.Grid.heard.Goals as goal
-
-pub returns-clause-heard : goal.returns-clause-heard
-returns-clause-heard g c =
-    heard-note c.args.self.now.shape c.args.hand.now.me c.told.new.hand.me c.see_told.new.hand.me c.args.note.me.0 c.told.ensures.1 c.see_told.ensures.sees
