@@ -1,30 +1,17 @@
 -- What the calls that take a closure leave of a lane.
-use Rattle.std.proofs.Common.{◌≡◌, ◌≢◌, ◌==◌, ℕ, zero, suc, ◌+◌, ◌-◌, Bool, true, false, cond, List, [], ◌∷◌, ◌++◌, Some, sym, ap, ◌∙◌, subst, arith}
+use Rattle.std.proofs.Common.{◌≡◌, ◌==◌, ℕ, ◌+◌, ◌-◌, Bool, true, false, cond, List, [], ◌∷◌, Some, sym, ap, ◌∙◌, subst, arith}
 use Rattle.std.specs.Fn.{FnOnceReturnsAtMut, Once}
 use Rattle.std.specs.Borrow.{MutBor}
-use mathlib.Core.List.{IsPrefix}
 use Rattle.keybits.specs.Keys.{place_of}
-use Rattle.seqpool.specs.declared.act.Act.{Act}
 use Rattle.seqpool.specs.declared.act.Act.TheVariants as acts
-use Rattle.seqpool.specs.Histories.{At, PublishedAt}
 use Rattle.sharelaws.specs.Shares.{room_of}
 use Rattle.shardpool.specs.Tokens.{PoolOf, LaneOf, FillingOf, RefOf}
-use Rattle.shardpool.specs.Lanes.{Owns, IsFilling, Made, Did, Gets}
+use Rattle.shardpool.specs.Lanes.{Owns, Did, Gets}
 use Rattle.shardpool.specs.Creates.{Gives}
+use Rattle.shardpool.specs.Seen.{PublishedSince}
+use Rattle.shardpool.proofs.frame.Standing.{seen-of, published-earlier}
 use Rattle.shardpool.proofs.references.Holdings.{got-held}
 use Rattle.guards.specs.Guarded.{CreatesWith, MayRelease, MayPublish}
-
--- ---- histories
-
-at-later : (xs rest : List Act) (i : ℕ) (act : Act) → At xs i act → At (xs ++ rest) i act
-at-later [] rest i act is = absurd (cc is)
-at-later (x ∷ xs) rest zero act is = is
-at-later (x ∷ xs) rest (suc i) act is = at-later xs rest i act is
-
--- what is published stays published
-pub published-later : (xs ys : List Act) (i key : ℕ) (content : List ℕ) → IsPrefix xs ys → PublishedAt xs i key content → PublishedAt ys i key content
-published-later xs ys i key content (rest, is) (lane, with_ref, at) =
-    (lane, with_ref, subst (λ (history : List Act). At history i (acts.Publish lane key content with_ref)) is (at-later xs rest i (acts.Publish lane key content with_ref) at))
 
 -- ---- references
 
@@ -40,15 +27,12 @@ given-back key of other before between now is more less =
 -- ---- creates
 
 module _ {T : Type 0} {content : T → List ℕ} {room : T → ℕ} {old between : LaneOf} {filling : FillingOf T} (gives : Gives content room old between filling) where
-  -- its filling is of another key than each that the lane had
-  pub given-other : (other : FillingOf T) → Made old other → other.key ≢ filling.key
-  given-other other made same = gives.unfilled (subst (λ (k : ℕ). IsFilling old (place_of k)) same made.place)
-
   -- with a call on its object and a publish it is a create with a closure
   pub creates : {F : Type 0} (g : Once F (MutBor T × Unit {0}) (Unit {0} × (MutBor T × Unit {0}))) (f : F) (new : LaneOf) (object : T) (key : ℕ)
       → FnOnceReturnsAtMut g f filling.object tt object → key ≡ filling.key → Did (acts.Publish between.number filling.key (content object) false ∷ []) between new
+      → PublishedSince filling.key (content object) between new
       → room_of new.book.seen new.book.rooms (place_of filling.key) ≡ room object → CreatesWith content room g f old new key
-  creates g f new object key ran is published roomy = record {
+  creates g f new object key ran is published since roomy = record {
     between = between;
     filling = filling;
     gives = gives;
@@ -57,6 +41,7 @@ module _ {T : Type 0} {content : T → List ℕ} {room : T → ℕ} {old between
     key_is = is;
     publishes = subst (λ (k : ℕ). Did (acts.Publish old.number k (content object) false ∷ []) between new) (sym is)
         (subst (λ (n : ℕ). Did (acts.Publish n filling.key (content object) false ∷ []) between new) gives.created.same.2 published);
+    published = subst (λ (k : ℕ). PublishedSince k (content object) old new) (sym is) (published-earlier (seen-of gives.created.goes) since);
     room_is = subst (λ (k : ℕ). room_of new.book.seen new.book.rooms (place_of k) ≡ room object) (sym is) roomy;
   }
 

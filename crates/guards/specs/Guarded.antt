@@ -2,12 +2,14 @@
 use Rattle.std.specs.Prelude.{◌≡◌, ℕ, ◌≤◌, true, false, List, [], ◌∷◌, Some, None}
 use Rattle.std.specs.Fn.{FnOnceReturnsAtMut, Once}
 use Rattle.std.specs.Borrow.{MutBor}
+use mathlib.Core.List.{IsPrefix}
 use Rattle.keybits.specs.Keys.{place_of, is_key}
 use Rattle.seqpool.specs.declared.act.Act.{Act}
 use Rattle.seqpool.specs.declared.act.Act.TheVariants as acts
 use Rattle.sharelaws.specs.Shares.{room_of}
 use Rattle.shardpool.specs.Tokens.{PoolOf, LaneOf, FillingOf, RefOf}
-use Rattle.shardpool.specs.Lanes.{Owns, Made, Did, Gets, holds, refs}
+use Rattle.shardpool.specs.Lanes.{Owns, Made, SameLane, Did, Gets, holds, refs}
+use Rattle.shardpool.specs.Seen.{PublishedSince, MissedSince}
 use Rattle.shardpool.specs.Creates.{Gives, GivesNone}
 
 -- a create, a call of f on its object, and a publish of what the call left, under the key of the filling
@@ -19,6 +21,7 @@ pub record CreatesWith {T F : Type 0} (content : T → List ℕ) (room : T → �
   pub ran : FnOnceReturnsAtMut g f filling.object tt object
   pub key_is : key ≡ filling.key
   pub publishes : Did (acts.Publish old.number key (content object) false ∷ []) between new
+  pub published : PublishedSince key (content object) old new
   pub room_is : room_of new.book.seen new.book.rooms (place_of key) ≡ room object
 
 -- a get that found the key, and a release of its reference
@@ -42,6 +45,9 @@ pub record Misses (T : Type 0) (pool : PoolOf) (key : ℕ) (old new : LaneOf) : 
   pub owns : Owns pool new
   pub outside : is_key pool.shape key ≡ false → new ≡ old
   pub gets : is_key pool.shape key ≡ true → Gets key old new None
+  pub same : SameLane old new
+  pub missed : MissedSince key old new
+  pub seen : IsPrefix old.book.seen new.book.seen
   pub refs_are : refs new ≡ refs old
   pub fillings : (filling : FillingOf T) → Made old filling → Made new filling
 

@@ -1,11 +1,13 @@
 //! Calls of a pool that take a closure for what happens in between.
 ghost use Rattle.std.specs.Prelude.{◌≡◌, ◌≢◌, ◌<◌, ◌⊎◌, ℕ, [], true, false, None, IfOk, IsOk, IsErr, IsErrOf, IsNone, IsSome, IfSome, MatchOption};
 ghost use Rattle.std.specs.Fn.{FnOnceReturnsAt, FnOnceTakesAtMut};
+ghost use mathlib.Core.List.{IsPrefix};
 ghost use Rattle.keybits.specs.Keys.{is_key};
 ghost use Rattle.steplaws.specs.Facts.{most_references};
 ghost use Rattle.seqpool.specs.Histories.{PublishedAt};
 ghost use Rattle.shardpool.specs.Tokens.{FillingOf};
 ghost use Rattle.shardpool.specs.Lanes.{Owns, Made, SameLane, Gets, holds, refs};
+ghost use Rattle.shardpool.specs.Seen.{FoundSince, MissedSince};
 ghost use Rattle.shardpool.specs.Creates.{GivesNone};
 ghost use Rattle.shardpool.specs.declared.create.CreateFault.TheVariants.{Full, Memory};
 ghost use Rattle.guards.specs.Guarded.{CreatesWith, Uses};
@@ -28,6 +30,7 @@ pub fn create_with<T: Clear + Drop, F: FnOnce(&mut T)>(
     ensures owns { Owns pool.now lane.new }
     ensures same { SameLane lane.old lane.new }
     ensures creates { IfOk result (CreatesWith T.content T.room F.FnOnce f lane.old lane.new) }
+    ensures seen { IsPrefix lane.old.book.seen lane.new.book.seen }
     ensures none { IsErr result → GivesNone lane.old lane.new }
     ensures full { IsErrOf result Full → lane.old.pages.opened ≡ lane.old.shape.pages }
     ensures memory { IsErrOf result Memory → lane.old.pages.opened < lane.old.shape.pages }
@@ -54,6 +57,9 @@ pub fn with<T: Clear + Drop, R, F: FnOnce(&T) -> R>(
     ensures same { SameLane lane.old lane.new }
     ensures outside { is_key pool.now.shape key ≡ false → IsNone result × (lane.new ≡ lane.old) }
     ensures some { IfSome result (λ r. (x : T) × (j : ℕ) × PublishedAt lane.new.book.seen j key (T.content x) × FnOnceReturnsAt F.FnOnce f x r) }
+    ensures found { IsSome result → FoundSince key lane.old lane.new }
+    ensures missed { IsNone result → MissedSince key lane.old lane.new }
+    ensures seen { IsPrefix lane.old.book.seen lane.new.book.seen }
     ensures gets { is_key pool.now.shape key ≡ true → MatchOption result (Gets key lane.old lane.new None) (λ _. Uses key lane.old lane.new) }
     ensures refs { refs lane.new ≡ refs lane.old }
     ensures holds { (other : ℕ) → holds lane.new other ≡ holds lane.old other }

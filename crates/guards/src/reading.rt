@@ -1,5 +1,6 @@
 //! References that are given back by themselves.
 ghost use Rattle.std.specs.Prelude.{◌≡◌, ◌+◌, ◌<◌, ℕ, true, Some, IsSome, IfSome, List, ◌∷◌};
+ghost use mathlib.Core.List.{IsPrefix};
 ghost use Rattle.keybits.specs.Keys.{is_key};
 ghost use Rattle.seqpool.specs.declared.act.Act.{Act};
 ghost use Rattle.seqpool.specs.declared.act.Act.TheVariants as acts;
@@ -7,6 +8,7 @@ ghost use Rattle.seqpool.specs.Histories.{PublishedAt};
 ghost use Rattle.steplaws.specs.Facts.{most_references};
 ghost use Rattle.shardpool.specs.Tokens.{FillingOf};
 ghost use Rattle.shardpool.specs.Lanes.{Owns, Made, SameLane, Did, Gets, refs};
+ghost use Rattle.shardpool.specs.Seen.{FoundSince};
 ghost use Rattle.std.specs.Borrow.{sem, RestsIfNone};
 ghost use Rattle.shardpool.specs.contracts.lane.Lane.{the_row};
 ghost use Rattle.guards.specs.Guarded.{MayRelease, Misses};
@@ -32,6 +34,7 @@ impl<'a, T: Clear + Drop> ReadGuard<'a, T> {
         ensures may { IfSome result (λ guard. MayRelease guard.pool.now guard.lane.now guard.reference) }
         ensures inside { IsSome result → is_key pool.now.shape key ≡ true }
         ensures gets { IfSome result (λ guard. Gets key lane.old guard.lane.now (Some guard.reference)) }
+        ensures found { IfSome result (λ guard. FoundSince key lane.old guard.lane.now) }
         ensures same { IfSome result (λ guard. SameLane lane.old guard.lane.now) }
         ensures refs { IfSome result (λ guard. refs guard.lane.now ≡ refs lane.old + 1) }
         ensures fillings { IfSome result (λ guard. (filling : FillingOf T) → Made lane.old filling → Made guard.lane.now filling) }
@@ -77,6 +80,7 @@ impl<'a, T: Clear + Drop> Drop for ReadGuard<'a, T> {
         requires may { MayRelease self.pool.now self.lane.now self.reference }
         ensures owns { Owns self.entry.pool.now self.exit.0.now }
         ensures releases { (rest : List Act) × Did (acts.Release self.entry.lane.now.number self.entry.reference.key ∷ rest) self.entry.lane.now self.exit.0.now }
+        ensures seen { IsPrefix self.entry.lane.now.book.seen self.exit.0.now.book.seen }
         ensures same { SameLane self.entry.lane.now self.exit.0.now }
         ensures refs { refs self.exit.0.now + 1 ≡ refs self.entry.lane.now }
         ensures fillings { (filling : FillingOf T) → Made self.entry.lane.now filling → Made self.exit.0.now filling }

@@ -61,7 +61,6 @@ fn publish_told<P: OfPool>(
     let key = create_with(pool, lane, |buffer: &mut ByteBuf| {
         let _ = buffer.append(bytes);
     })?;
-    lane.seen_law();
     let note = pool.tell(lane);
     Ok(Told {
         key,

@@ -146,9 +146,7 @@ impl Registry {
             filling.leave();
             return Err(fault.into());
         }
-        let key = self.pool.publish(&mut self.lane, filling);
-        self.lane.seen_law();
-        Ok(key)
+        Ok(self.pool.publish(&mut self.lane, filling))
     }
 
     /// What the span of a key tells. None where the key isn't published, or was cleared.
@@ -169,9 +167,7 @@ impl Registry {
     pub fn clear(&mut self, key: u64) -> bool
         ensures { IsTrue result → (j : ℕ) × ClearedAt self.new j key }
     {
-        let cleared = self.pool.clear(&mut self.lane, key);
-        self.lane.seen_law();
-        cleared
+        self.pool.clear(&mut self.lane, key)
     }
 
     /// Closes the pool, and counts each of its places.

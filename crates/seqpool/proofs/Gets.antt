@@ -1,5 +1,5 @@
 -- A key that is shown was published, and a published key is shown until it is cleared; no key is published twice, nor at a place that is taken.
-use Rattle.std.proofs.Common.{◌≡◌, ℕ, zero, suc, ◌+◌, ◌*◌, ◌<◌, ◌≤◌, true, cond, List, [], ◌∷◌, take, Option, Some, None, refl, sym, ap, ◌∙◌, subst, arith, leb-true, inl, inr}
+use Rattle.std.proofs.Common.{◌≡◌, ◌↔◌, ℕ, zero, suc, ◌+◌, ◌*◌, ◌<◌, ◌≤◌, true, cond, List, [], ◌∷◌, take, Option, Some, None, refl, sym, ap, ◌∙◌, subst, arith, leb-true, inl, inr}
 use Rattle.std.proofs.lemmas.Bool.{and_parts, cases_Bool, cases_order}
 use mathlib.Core.Logic.{dite}
 use native.Mathlib.Decide.{ℕ_discrete}
@@ -8,7 +8,7 @@ use Rattle.keybits.specs.Keys.{place_of, generation_of, is_key}
 use Rattle.seqpool.specs.declared.act.Act.{Act}
 use Rattle.seqpool.specs.declared.act.Act.TheVariants.{Publish, Get, Clear, Reclaim}
 use Rattle.seqpool.specs.Pool.{Pool, content_in, is_current, found, Allowed, after, fresh, pool_from, LegalFrom}
-use Rattle.seqpool.specs.Histories.{At, PublishedAt, ClearedAt, ReclaimedAt}
+use Rattle.seqpool.specs.Histories.{At, PublishedAt, ClearedAt, IsPresentAt, ReclaimedAt}
 use Rattle.seqpool.specs.Laws.{GetLaw, AloneLaw, OnceLaw, RetiredLaw}
 use Rattle.seqpool.proofs.Growth.{legal-take, legal-at}
 use Rattle.seqpool.proofs.Positions.{at-take, from-take}
@@ -153,19 +153,25 @@ module _ (z : Shape) where
   cleared-into : (history : List Act) (i j key : ℕ) → j < i → ClearedAt history j key → ClearedAt (take i history) j key
   cleared-into history i j key below (lane, at) = (lane, at-take history i j (Clear lane key true) below at)
 
-pub get-law : GetLaw
-get-law z history legal i lane key reply content at =
+-- a key is shown before a position exactly where it was published before it, and not cleared
+pub shown-before : (z : Shape) (history : List Act) (i key : ℕ) (content : List ℕ) → LegalFrom z fresh history
+    → (found z (pool_from z fresh (take i history)) key ≡ Some content) ↔ IsPresentAt history i key content
+shown-before z history i key content legal =
     let front : List Act = take i history in
-    let short = legal-take z fresh history i legal in
-    let ok = legal-at z fresh history i (Get lane key reply) legal at in (
-      λ is. let shows : found z (pool_from z fresh front) key ≡ Some content = sym ok.1 ∙ is in
-          let parts = found-parts z (pool_from z fresh front) key content shows in (
-            publish-within z history i key content (was-published z fresh front key content parts.0 short (fresh-below z key parts.0) parts.1 parts.2),
-            λ j below cleared. unpublished z front key content short shows j (cleared-into z history i j key below cleared),
-          ),
-      λ both. ok.1 ∙ shown-since z fresh front both.0.0 key content short (published-take z history both.0.0 i key content both.0.1 both.0.2)
+    let short = legal-take z fresh history i legal in (
+      λ shows. let parts = found-parts z (pool_from z fresh front) key content shows in (
+        publish-within z history i key content (was-published z fresh front key content parts.0 short (fresh-below z key parts.0) parts.1 parts.2),
+        λ j below cleared. unpublished z front key content short shows j (cleared-into z history i j key below cleared),
+      ),
+      λ both. shown-since z fresh front both.0.0 key content short (published-take z history both.0.0 i key content both.0.1 both.0.2)
           (λ j cleared. let r = cleared-take z history i j key cleared in both.1 j r.0 r.1),
     )
+
+pub get-law : GetLaw
+get-law z history legal i lane key reply content at =
+    let ok = legal-at z fresh history i (Get lane key reply) legal at in
+    let shown = shown-before z history i key content legal in
+    (λ is. shown.0 (sym ok.1 ∙ is), λ both. ok.1 ∙ shown.1 both)
 
 pub once-law : OnceLaw
 once-law z history legal i j key content more first again = elim (cases_order i j) [

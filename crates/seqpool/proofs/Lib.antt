@@ -2,6 +2,7 @@ pub mod Growth
 pub mod Positions
 pub mod Ranks
 pub mod Gets
+pub mod Misses
 pub mod Tallies
 pub mod Owns
 pub mod Rows

@@ -1,5 +1,5 @@
 -- Positions in the front of a history.
-use Rattle.std.proofs.Common.{ℕ, zero, suc, ◌<◌, List, [], ◌∷◌, take, arith}
+use Rattle.std.proofs.Common.{ℕ, zero, suc, ◌<◌, List, [], ◌∷◌, length, take, arith}
 use Rattle.seqpool.specs.declared.act.Act.{Act}
 use Rattle.seqpool.specs.Histories.{At}
 
@@ -14,3 +14,9 @@ from-take history zero j act at = absurd (cc at)
 from-take [] (suc i) j act at = absurd (cc at)
 from-take (x ∷ xs) (suc i) zero act at = (omega arith, at)
 from-take (x ∷ xs) (suc i) (suc j) act at = let r = from-take xs i j act at in (omega arith, r.1)
+
+-- an act stands within its history
+pub at-below : (history : List Act) (i : ℕ) (act : Act) → At history i act → i < length history
+at-below [] i act at = absurd (cc at)
+at-below (x ∷ xs) zero act at = omega arith
+at-below (x ∷ xs) (suc i) act at = let low = at-below xs i act at in omega (arith, low)

@@ -1,5 +1,5 @@
 -- Histories by their positions, counted from 0.
-use Rattle.std.specs.Prelude.{◌≡◌, ◌==◌, ℕ, Bool, true, false, List, [], ◌∷◌, Some, None, slice_get, if◌then◌else◌}
+use Rattle.std.specs.Prelude.{◌≡◌, ◌⊎◌, ◌==◌, ℕ, ◌<◌, Bool, true, false, List, [], ◌∷◌, Some, None, slice_get, if◌then◌else◌}
 use Rattle.seqpool.specs.declared.act.Act.{Act}
 use Rattle.seqpool.specs.declared.act.Act.TheVariants.{Publish, Get, Release, Clear, Reclaim, Home, Collect}
 use Rattle.seqpool.specs.Pool.{lane_of}
@@ -15,6 +15,15 @@ PublishedAt history position key content = (lane : ℕ) × (with_ref : Bool) × 
 -- a Clear of the key with reply true stands at the position
 abbrev pub ClearedAt : List Act → ℕ → ℕ → Type 0
 ClearedAt history position key = (lane : ℕ) × At history position (Clear lane key true)
+
+-- before the position the key was published with this content, and it wasn't cleared
+abbrev pub IsPresentAt : List Act → ℕ → ℕ → List ℕ → Type 0
+IsPresentAt history position key content =
+    ((j : ℕ) × (j < position) × PublishedAt history j key content) × ((j : ℕ) → j < position → ClearedAt history j key → ⊥)
+
+-- a Get of the key without a content stands at the position, or a Clear of it with reply false
+abbrev pub MissedAt : List Act → ℕ → ℕ → Type 0
+MissedAt history position key = (lane : ℕ) × (At history position (Get lane key None) ⊎ At history position (Clear lane key false))
 
 -- a Reclaim of the key stands at the position
 abbrev pub ReclaimedAt : List Act → ℕ → ℕ → Type 0

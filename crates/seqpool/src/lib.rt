@@ -27,6 +27,6 @@ pub use acts_text::{hex_pair, write_acts};
 pub use checker::check;
 pub use contents::{Bytes, Places};
 pub use fault::{ApplyFault, CheckFault, Memory};
-pub use laws::{get_law, once_law, own_law, reclaim_law};
+pub use laws::{clear_law, get_law, later_law, miss_law, once_law, own_law, reclaim_law};
 pub use pool::SeqPool;
 pub use summary::Summary;

@@ -2,6 +2,7 @@
 pub mod OtherShards
 pub mod Frames
 pub mod LaneFrames
+pub mod Standing
 pub mod KeptPlaces
 pub mod BlankPlaces
 pub mod LaneFacts

@@ -1,6 +1,5 @@
 -- What a create does with a lane.
 use Rattle.std.specs.Prelude.{◌≡◌, ◌≢◌, ◌⊎◌, ℕ, zero, suc, None, ◌+◌, ◌<◌, ◌≤◌, List, [], ◌∷◌, ◌++◌, map, length}
-use mathlib.Core.List.{IsPrefix}
 use Rattle.keybits.specs.declared.place.Place.{Place}
 use Rattle.keybits.specs.declared.step.Step.{Step}
 use Rattle.keybits.specs.Places.{number_of}
@@ -18,7 +17,7 @@ use Rattle.poolcalls.specs.Taken.{NoneHome, Collects, FollowsOut}
 use Rattle.shardpool.specs.declared.create.CreateFault.{CreateFault}
 use Rattle.shardpool.specs.declared.create.CreateFault.TheVariants.{Full, Memory}
 use Rattle.shardpool.specs.Tokens.{LaneOf, FillingOf}
-use Rattle.shardpool.specs.Lanes.{IsFilling, Made, SameLane, holds}
+use Rattle.shardpool.specs.Lanes.{IsFilling, Made, SameLane, SeesOn, holds}
 use Rattle.shardpool.specs.Places.{IsBlank}
 
 -- the number of a fault: 21 where no place is free, and 22 for want of memory
@@ -32,13 +31,13 @@ creating lane = Creating (map number_of lane.free.own) (the_lane lane.book).chai
 
 -- the lane made one create, with these acts: its steps, each by the step relation, and nothing more; its references are as before
 pub record Created (made : List Act) (old new : LaneOf) : Type 0 where
+  pub goes : SeesOn made old new
   pub steps : List Step
   pub are : AreSteps (caller_of old.shape old.book) (creating old) [] steps
   pub all : next_step (caller_of old.shape old.book) (creating old) steps ≡ None
   pub make : Make old.shape (caller_of old.shape old.book) (creating old) steps made
   pub same : SameLane old new
   pub mine : (the_lane new.book).mine ≡ (the_lane old.book).mine ++ made
-  pub seen : IsPrefix old.book.seen new.book.seen
   pub held : (key : ℕ) → holds new key ≡ holds old key
   pub idle : IsIdle new.book
   pub stepped : new.book.steps ≡ old.book.steps + length steps

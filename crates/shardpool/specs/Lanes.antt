@@ -1,5 +1,5 @@
 -- What calls do with lanes: the words of the pool's contracts.
-use Rattle.std.specs.Prelude.{◌≡◌, ◌==◌, ◌&&◌, ℕ, ◌<◌, ◌≤◌, true, false, not, List, [], ◌∷◌, ◌++◌, Contains, Option, Some, None, if◌then◌else◌}
+use Rattle.std.specs.Prelude.{◌≡◌, ◌==◌, ◌&&◌, ℕ, ◌<◌, ◌≤◌, true, false, not, List, [], ◌∷◌, ◌++◌, length, Contains, Option, Some, None, if◌then◌else◌}
 use Rattle.keybits.specs.declared.shape.Shape.{Shape}
 use Rattle.keybits.specs.declared.place.Place.{Place}
 use Rattle.keybits.specs.Places.{shard_of, page_of, number_of}
@@ -8,7 +8,8 @@ use Rattle.keybits.specs.Keys.{place_of, generation_of}
 use Rattle.freelists.specs.Shards.{place_numbered}
 use Rattle.seqpool.specs.declared.act.Act.{Act}
 use Rattle.seqpool.specs.declared.act.Act.TheVariants as acts
-use Rattle.seqpool.specs.Pool.{with, has, references_in, is_marked, pool_after}
+use Rattle.seqpool.specs.Pool.{with, has, references_in, is_marked, pool_after, IsLegal}
+use Rattle.seqpool.specs.Histories.{acts_of}
 use Rattle.steplaws.specs.Calls.{Call}
 use Rattle.poolsteps.specs.declared.view.View.{View}
 use Rattle.poolsteps.specs.Views.{the_lane}
@@ -77,8 +78,19 @@ freed z lane (acts.Reclaim l key ∷ more) =
 freed z lane (acts.Home l place ∷ more) = freed z lane more
 freed z lane (acts.Collect l places ∷ more) = freed z lane more
 
+-- what the lane has seen goes on from what it had seen: with these acts of its own, among those of other lanes, and a room beside each
+pub record SeesOn (made : List Act) (old new : LaneOf) : Type 0 where
+  pub more : List Act
+  pub seen : new.book.seen ≡ old.book.seen ++ more
+  pub own : acts_of (the_lane old.book).lane more ≡ made
+  pub kept : List ℕ
+  pub rooms : new.book.rooms ≡ old.book.rooms ++ kept
+  pub paired : length kept ≡ length more
+  pub legal : IsLegal new.shape new.book.seen
+
 -- the lane made these acts, and what it has followed: its references, and its own list; its pages are as before
 pub record Did (made : List Act) (old new : LaneOf) : Type 0 where
+  pub goes : SeesOn made old new
   pub same : SameLane old new
   pub mine : (the_lane new.book).mine ≡ (the_lane old.book).mine ++ made
   pub held : (key : ℕ) → holds new key ≡ references_made made key (holds old key)

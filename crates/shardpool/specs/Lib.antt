@@ -3,6 +3,7 @@ pub mod Places
 pub mod Remains
 pub mod LaneStates
 pub mod Lanes
+pub mod Seen
 pub mod Fillings
 pub mod Stores
 pub mod Lendings

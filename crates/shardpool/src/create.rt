@@ -1,6 +1,7 @@
 //! How a lane gets a place to fill: from its own list, from its taken chain, from the places that were returned to it, or from
 //! its next page.
 ghost use Rattle.std.specs.Prelude.{◌≡◌, ◌≢◌, ◌<◌, ◌≤◌, ◌⊎◌, ℕ, [], ◌∷◌, length, All, IsSome, IfSome, IsNone, IfOk, IsOk, IsErr, IsErrOf};
+ghost use mathlib.Core.List.{IsPrefix};
 ghost use Rattle.shardpool.specs.Tokens.{FillingOf};
 ghost use Rattle.shardpool.specs.Lanes.{Owns, Made, holds, refs};
 ghost use Rattle.poolsteps.specs.Views.{the_lane};
@@ -61,9 +62,11 @@ impl<T: Clear + Drop> Pool<T> {
         requires owns { Owns self.now lane.old }
         ensures owns { Owns self.now lane.new }
         ensures gives { IfOk result (Gives T.content T.room lane.old lane.new) }
+        ensures apart { IfOk result (λ filling. (other : FillingOf T) → Made lane.old other → other.key ≢ filling.key) }
         ensures none { IsErr result → GivesNone lane.old lane.new }
         ensures full { IsErrOf result Full → lane.old.pages.opened ≡ lane.old.shape.pages }
         ensures memory { IsErrOf result Memory → lane.old.pages.opened < lane.old.shape.pages }
+        ensures seen { IsPrefix lane.old.book.seen lane.new.book.seen }
         ensures succeeds { ((lane.old.free.own ≢ []) ⊎ IsSome lane.old.free.chain) → IsOk result }
         ensures refs { refs lane.new ≡ refs lane.old }
         ensures held { (key : ℕ) → holds lane.new key ≡ holds lane.old key }

@@ -35,10 +35,11 @@ impl<T: Clear> Model for Lane<T> {
 }
 
 impl<T: Clear> Lane<T> {
-    ghost use Rattle.std.specs.Prelude.{◌≡◌, ◌≢◌, ◌≤◌, ◌⊎◌, ◌↔◌, ℕ, IsTrue, IsSome, []};
+    ghost use Rattle.std.specs.Prelude.{◌≡◌, ◌≢◌, ◌<◌, ◌≤◌, ◌⊎◌, ◌↔◌, ℕ, IsTrue, IsSome, IfSome, [], length};
     ghost use Rattle.seqpool.specs.Pool.{IsLegal};
     ghost use Rattle.seqpool.specs.Histories.{PublishedAt, acts_of};
     ghost use Rattle.poolsteps.specs.Views.{the_lane};
+    ghost use Rattle.poolsteps.specs.Told.{IsIdle};
     ghost use Rattle.shardpool.specs.Lanes.{AreHeld, holds, refs};
 
     /// The lane's number, which is that of its shard.
@@ -77,12 +78,26 @@ impl<T: Clear> Lane<T> {
         }
     }
 
-    /// As a law: what the lane has seen is a legal history of the pool, and has of the lane's acts just those that it made. In a pool of
-    /// one lane it has no other acts, so that each reply is that of a pool of one thread, and each key that was cleared and not yet reclaimed
+    /// A reference to a key to which the lane has one: so a program may keep keys in place of references. None where it has none.
+    pub fn reference(&self, key: u64) -> Option<Ref<T>>
+        ensures some { IsSome result ↔ 1 ≤ holds self.now key }
+        ensures key { IfSome result (λ reference. reference.key ≡ key) }
+    {
+        if self.holds(key) == 0 {
+            return None;
+        }
+        Some(Ref::to(key))
+    }
+
+    /// As a law: the lane has nothing under way, and what it has seen is a legal history of the pool, with a room beside each act, and with
+    /// just those of the lane's acts that it made. In a pool of one lane it has no other acts, so that each reply is that of a pool of one thread, and each key that was cleared and not yet reclaimed
     /// has a reference.
     pub fn seen_law(&self)
         ensures legal { IsLegal self.now.shape self.now.book.seen }
         ensures own { (the_lane self.now.book).mine ≡ acts_of self.now.number self.now.book.seen }
+        ensures number { ((the_lane self.now.book).lane ≡ self.now.number) × (self.now.number < self.now.shape.lanes) }
+        ensures idle { IsIdle self.now.book }
+        ensures rooms { length self.now.book.rooms ≡ length self.now.book.seen }
         ensures alone { self.now.shape.lanes ≡ 1 → self.now.book.seen ≡ (the_lane self.now.book).mine }
         ensures held { self.now.shape.lanes ≡ 1 → AreHeld self.now }
     {

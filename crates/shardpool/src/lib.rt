@@ -24,7 +24,7 @@ pub use create::CreateFault;
 pub use fault::OpenFault;
 pub use halt::{Halted, LastCall};
 pub use lane::Lane;
-pub use laws::parts_law;
+pub use laws::{parts_law, room_law};
 pub use opening::open;
 pub use pool::Pool;
 pub use token::{Filling, Note, Ref};

@@ -1,5 +1,6 @@
 //! The pool, and the calls of its lanes.
-ghost use Rattle.std.specs.Prelude.{◌≡◌, ◌≢◌, ◌==◌, ℕ, ◌+◌, ◌-◌, ◌<◌, ◌≤◌, ◌↔◌, true, false, is_some, IsNone, IfSome, IsSome, [], ◌∷◌, List, if◌then◌else◌};
+ghost use Rattle.std.specs.Prelude.{◌≡◌, ◌≢◌, ◌==◌, ℕ, ◌+◌, ◌-◌, ◌<◌, ◌≤◌, ◌↔◌, true, false, is_some, IsNone, IfSome, IsSome, IsTrue, IsFalse, [], ◌∷◌, List, if◌then◌else◌};
+ghost use mathlib.Core.List.{IsPrefix};
 ghost use Rattle.keybits.specs.Keys.{is_key, place_of};
 ghost use Rattle.seqpool.specs.declared.act.Act.{Act};
 ghost use Rattle.seqpool.specs.declared.act.Act.TheVariants as acts;
@@ -9,6 +10,7 @@ ghost use Rattle.sharelaws.specs.Shares.{room_of};
 ghost use Rattle.poolsteps.specs.Grids.{IsSpot};
 ghost use Rattle.shardpool.specs.Tokens.{FillingOf};
 ghost use Rattle.shardpool.specs.Lanes.{Owns, Made, SameLane, Calls, Did, Gets, holds, refs};
+ghost use Rattle.shardpool.specs.Seen.{PublishedSince, FoundSince, MissedSince, ClearedSince};
 
 use crate::lane::Lane;
 use crate::rows::{add_first_reference, add_reference, drop_reference, return_last_share};
@@ -59,6 +61,9 @@ impl<T: Clear + Drop> Pool<T> {
         ensures outside { is_key self.now.shape key ≡ false → IsNone result × (lane.new ≡ lane.old) }
         ensures called { is_key self.now.shape key ≡ true → Calls self.now.shape (Getting key) lane.old.book lane.new.book }
         ensures gets { is_key self.now.shape key ≡ true → Gets key lane.old lane.new result }
+        ensures found { IsSome result → FoundSince key lane.old lane.new }
+        ensures missed { IsNone result → MissedSince key lane.old lane.new }
+        ensures seen { IsPrefix lane.old.book.seen lane.new.book.seen }
         ensures refs { refs lane.new ≡ refs lane.old + (if is_some result then 1 else 0) }
         ensures held { IfSome result (λ reference. (reference.key ≡ key) × (1 ≤ holds lane.new reference.key)) }
         ensures one_more { IsSome result → (k : ℕ) → holds lane.new k ≡ (if key == k then holds lane.old k + 1 else holds lane.old k) }
@@ -66,8 +71,8 @@ impl<T: Clear + Drop> Pool<T> {
         ensures fillings { (filling : FillingOf T) → Made lane.old filling → Made lane.new filling }
     {
         shares_law();
-        let spot = self.find(key)?;
         let number = lane.state.number;
+        let spot = self.find(key)?;
         let top = lane.state.top(spot.place);
         let at = At {
             spot,
@@ -98,6 +103,7 @@ impl<T: Clear + Drop> Pool<T> {
         ensures owns { Owns self.now lane.new }
         ensures called { Calls self.now.shape (Releasing reference.key) lane.old.book lane.new.book }
         ensures releases { (rest : List Act) × Did (acts.Release lane.old.number reference.key ∷ rest) lane.old lane.new }
+        ensures seen { IsPrefix lane.old.book.seen lane.new.book.seen }
         ensures refs { refs lane.new + 1 ≡ refs lane.old }
         ensures one_less { (k : ℕ) → holds lane.new k ≡ (if reference.key == k then holds lane.old k - 1 else holds lane.old k) }
         ensures fillings { (filling : FillingOf T) → Made lane.old filling → Made lane.new filling }
@@ -126,17 +132,21 @@ impl<T: Clear + Drop> Pool<T> {
         ensures outside { is_key self.now.shape key ≡ false → (result ≡ false) × (lane.new ≡ lane.old) }
         ensures called { is_key self.now.shape key ≡ true → Calls self.now.shape (Clearing key) lane.old.book lane.new.book }
         ensures clears { is_key self.now.shape key ≡ true → (rest : List Act) × Did (acts.Clear lane.old.number key result ∷ rest) lane.old lane.new }
+        ensures cleared { IsTrue result → ClearedSince key lane.old lane.new }
+        ensures missed { IsFalse result → MissedSince key lane.old lane.new }
+        ensures seen { IsPrefix lane.old.book.seen lane.new.book.seen }
         ensures refs { refs lane.new ≡ refs lane.old }
         ensures held { (k : ℕ) → holds lane.new k ≡ holds lane.old k }
         ensures fillings { (filling : FillingOf T) → Made lane.old filling → Made lane.new filling }
     {
+        let number = lane.state.number;
         let Some(spot) = self.find(key) else {
             return false;
         };
         let top = lane.state.top(spot.place);
         let at = At {
             spot,
-            lane: lane.state.number,
+            lane: number,
             top,
         };
         let (marked, reclaimed) = clear(lane.state.alloc, &self.grid, &mut lane.hand, at, key);
@@ -152,6 +162,8 @@ impl<T: Clear + Drop> Pool<T> {
         ensures owns { Owns self.now lane.new }
         ensures called { Calls self.now.shape (Publishing filling.key (T.content filling.object) false) lane.old.book lane.new.book }
         ensures publishes { Did (acts.Publish lane.old.number filling.key (T.content filling.object) false ∷ []) lane.old lane.new }
+        ensures published { PublishedSince filling.key (T.content filling.object) lane.old lane.new }
+        ensures seen { IsPrefix lane.old.book.seen lane.new.book.seen }
         ensures refs { refs lane.new ≡ refs lane.old }
         ensures held { (k : ℕ) → holds lane.new k ≡ holds lane.old k }
         ensures room { room_of lane.new.book.seen lane.new.book.rooms (place_of filling.key) ≡ T.room filling.object }
@@ -179,6 +191,8 @@ impl<T: Clear + Drop> Pool<T> {
         ensures owns { Owns self.now lane.new }
         ensures called { Calls self.now.shape (Publishing filling.key (T.content filling.object) true) lane.old.book lane.new.book }
         ensures publishes { Did (acts.Publish lane.old.number filling.key (T.content filling.object) true ∷ []) lane.old lane.new }
+        ensures published { PublishedSince filling.key (T.content filling.object) lane.old lane.new }
+        ensures seen { IsPrefix lane.old.book.seen lane.new.book.seen }
         ensures refs { refs lane.new ≡ refs lane.old + 1 }
         ensures one_more { (k : ℕ) → holds lane.new k ≡ (if filling.key == k then holds lane.old k + 1 else holds lane.old k) }
         ensures room { room_of lane.new.book.seen lane.new.book.rooms (place_of filling.key) ≡ T.room filling.object }

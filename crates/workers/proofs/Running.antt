@@ -1,5 +1,5 @@
 -- What each line does, by the clauses of the pool's calls.
-use Rattle.std.proofs.Common.{◌≡◌, ◌≢◌, ◌⊎◌, inl, inr, ⊎_elim, ℕ, ◌+◌, ◌-◌, ◌<◌, ◌≤◌, Bool, true, false, cond, ◌==◌, List, [], ◌∷◌, ◌++◌, length, set, Option, Some, None, IsNone, refl, sym, ap, ◌∙◌, subst, arith, true-eqb, Result, Ok, Err, OnOk, OnErr, is_ok}
+use Rattle.std.proofs.Common.{◌≡◌, ◌≢◌, ◌⊎◌, inl, inr, ⊎_elim, ℕ, ◌+◌, ◌-◌, ◌<◌, ◌≤◌, Bool, true, false, cond, ◌==◌, List, [], ◌∷◌, ◌++◌, length, set, Option, Some, None, refl, sym, ap, ◌∙◌, subst, arith, true-eqb, Result, Ok, Err, OnOk, OnErr, is_ok}
 use Rattle.std.proofs.lemmas.Bool.{cases_Bool}
 use mathlib.Core.List.{IsPrefix}
 use Rattle.keybits.specs.declared.shape.Shape.{Shape}
@@ -109,7 +109,7 @@ module _ {pool : PoolOf} {old new : LaneOf} {rs : List Register} (register : Num
           (λ key. let h = gives.created.held key in let light = (empty-light (register_at rs register.number).held is).1 key in omega (arith, h, light))
           (let light = (empty-light (register_at rs register.number).held is).0 in let same = gives-refs gives in omega (arith, light, same));
       same = gives.created.same;
-      seen = gives.created.seen;
+      seen = (gives.created.goes.more, sym gives.created.goes.seen);
     }
 
     pub runs-create : (key : ℕ) (now : List Register) → key ≡ filling.key → now ≡ with_new rs register.number key (Filling filling)

@@ -14,6 +14,7 @@ use Rattle.keybits.specs.declared.step.Kind.TheVariants as kinds
 use Rattle.keybits.specs.declared.step.Word.{Word}
 use Rattle.keybits.specs.declared.step.Word.TheVariants.{Link, Stack}
 use Rattle.keybits.specs.Places.{shard_of, page_of, number_of}
+use Rattle.keybits.specs.Keys.{place_of}
 use Rattle.keybits.specs.Shapes.{IsShape, page_size, is_place}
 use Rattle.keybits.specs.Links.{linked_place}
 use Rattle.keybits.proofs.ShapeLemmas.{shape_bounds}
@@ -46,11 +47,12 @@ use Rattle.poolcalls.proofs.Calling.{no-links, steps-more}
 use Rattle.poolcalls.specs.Taken.{Went, Collects, FollowsOut, NoneHome}
 use Rattle.poolcalls.proofs.Going.{none-went, went-goes, went-more}
 use Rattle.shardpool.specs.Tokens.{LaneOf, FillingOf}
-use Rattle.shardpool.specs.Lanes.{IsFilling, SameLane, holds}
+use Rattle.shardpool.specs.Lanes.{IsFilling, Made, SameLane, holds}
 use Rattle.shardpool.specs.Places.{IsBlank}
 use Rattle.shardpool.specs.LaneStates.{Fits, FitsSeat, IsFirst}
 use Rattle.shardpool.specs.declared.state.LaneState.{LaneState}
 use Rattle.atomic_table.specs.Seated.{TableId}
+use Rattle.shardpool.proofs.frame.Standing.{sees-on-by}
 use Rattle.shardpool.specs.Creates.{creating, Created, HandsOut, GivesNone, IsLoose, Gives, Pops, TakesReturned, FollowsChain, OpensPage, Fills, page_slots}
 
 -- what a create needs of its lane: the seat is sound, the places of unopened pages are with the lane, and the first place of its chain is known
@@ -153,7 +155,7 @@ module _ (old new : LaneOf) (seat : FitsSeat old.shape old.book old.number) {cal
         make = subst (λ (x : Call). Make old.shape c x steps made) is part.make;
         same = same;
         mine = went.mine;
-        seen = went.seen;
+        goes = sees-on-by old new went.seen went.rooms (subst (λ (z : Shape). IsLegal z new.book.seen) (sym same.1) went.legal) went.lane went.mine seat.own went.own;
         held = λ key. ap (λ (z : Shape). references_seen z new.book key) same.1
             ∙ (acts-law old.shape old.book new.book made went.seen went.legal went.lane (part-acts part) key ∙ keeps key (holds old key));
         idle = went.under ∙ seat.idle;
@@ -161,6 +163,11 @@ module _ (old new : LaneOf) (seat : FitsSeat old.shape old.book old.number) {cal
         few = few;
         looked = let looked = part.looked in omega arith;
       }
+
+-- its key is no other filling's of the lane
+pub gives-apart : {T : Type 0} {content : T → List ℕ} {room : T → ℕ} {old new : LaneOf} {filling : FillingOf T} → Gives content room old new filling
+    → (other : FillingOf T) → Made old other → other.key ≢ filling.key
+gives-apart {old = old} gives other made same = gives.unfilled (subst (λ (key : ℕ). IsFilling old (place_of key)) same made.place)
 
 -- ---- TAKEs
 

@@ -31,6 +31,7 @@ use Rattle.shardpool.specs.Tokens.{LaneOf, FillingOf}
 use Rattle.shardpool.specs.Lanes.{Made, Did, freed}
 use Rattle.shardpool.proofs.frame.Frames.{Passes}
 use Rattle.shardpool.proofs.frame.LaneFrames.{passes-refs, away-elsewhere}
+use Rattle.shardpool.proofs.frame.Standing.{sees-on}
 use Rattle.shardpool.proofs.frame.KeptPlaces.{still-with, none-brings, may-passes}
 use Rattle.shardpool.proofs.free.Stores.{numbered}
 use Rattle.shardpool.proofs.calls.Ends.{touched_by, Ended}
@@ -104,6 +105,7 @@ pub did-lane : {at : ℕ → Bool} {made : List Act} (z : Shape) (old new : Lane
     → Passes z at made old.book new.book → (the_lane old.book).mine ≡ acts_of (the_lane old.book).lane old.book.seen
     → new.free ≡ record old.free { own = old.free.own ++ freed z old.number made } → new.pages ≡ old.pages → Did made old new
 did-lane {made = made} z old new shape shape_now same table passes own list pages = record {
+  goes = sees-on z old new shape_now passes own;
   same = (table, shape_now ∙ sym shape, same);
   mine = passes.mine;
   held = λ key. ap (λ (y : Shape). references_seen y new.book key) shape_now

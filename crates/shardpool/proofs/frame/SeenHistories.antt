@@ -29,6 +29,7 @@ use Rattle.shardpool.specs.Lanes.{SameLane, Made, Did}
 use Rattle.shardpool.specs.LaneStates.{FitsSeat, Fits}
 use Rattle.shardpool.proofs.frame.Frames.{Passes}
 use Rattle.shardpool.proofs.frame.LaneFrames.{passes-sees, passes-refs, onlyat-none}
+use Rattle.shardpool.proofs.frame.Standing.{sees-on}
 use Rattle.shardpool.proofs.frame.KeptPlaces.{seat-passes, last_pushed-same, still-with, may-passes}
 use Rattle.shardpool.proofs.free.Stores.{stores-still}
 use Rattle.shardpool.proofs.references.Rows.{rows-pass}
@@ -75,6 +76,7 @@ module _ {was new : LaneOf} (passes : Passes was.shape (λ p. false) [] was.book
   pub did-none : Did [] old new
   did-none =
       let did : Did [] was new = record {
+        goes = sees-on was.shape was new same.1 passes seat.own;
         same = same;
         mine = passes.mine;
         held = λ key. ap (λ (z : Shape). references_seen z new.book key) same.1 ∙ passes-refs passes seat.own key;

@@ -1,4 +1,4 @@
-use Rattle.poolsample.proofs.Standing.{published-later}
+use Rattle.shardpool.proofs.frame.Standing.{published-later}
 use Rattle.poolsample.proofs.relay.take_in.Goals as goal
 
 pub returns-clause-seen : goal.returns-clause-seen

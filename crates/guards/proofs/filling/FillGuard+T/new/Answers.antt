@@ -1,6 +1,6 @@
 use Rattle.std.proofs.Common.{true, refl, sym, ap, ◌∙◌, subst}
 use mathlib.Core.Option.{some}
-use Rattle.shardpool.specs.Tokens.{LaneOf}
+use Rattle.shardpool.specs.Tokens.{LaneOf, FillingOf}
 use Rattle.shardpool.specs.Lanes.{Made, SameLane, refs}
 use Rattle.guards.proofs.Guarding.{guard-may-publish, guard-gives}
 use Rattle.guards.proofs.filling.FillGuard+T.new.Goals as goal
@@ -17,6 +17,7 @@ returns g c =
         pool = of.1;
         may = guard-may-publish of.0 of.1 got.owns filling c.of.result.filling of.2 got.gives;
         gives = guard-gives of.0 of.1 got.owns filling c.of.result.filling of.2 got.gives;
+        apart = λ other made same. got.apart other made (same ∙ ap (λ (f : FillingOf _). f.key) of.2);
         same = subst (λ (lane : LaneOf). SameLane c.args.lane.now lane) (sym of.0) got.gives.created.same;
         refs = ap refs of.0 ∙ got.refs;
         full = λ e. absurd (cc e);

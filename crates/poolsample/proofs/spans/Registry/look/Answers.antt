@@ -1,7 +1,7 @@
 -- What is read was published under the key, and what is then seen begins with what was seen at the read.
 use Rattle.std.proofs.Common.{ℕ, List, length, ap, ◌∙◌, subst}
 use Rattle.seqpool.specs.Histories.{PublishedAt}
-use Rattle.poolsample.proofs.Standing.{published-later}
+use Rattle.shardpool.proofs.frame.Standing.{published-later}
 use Rattle.poolsample.specs.declared.spans.Summary.{Summary}
 use Rattle.poolsample.specs.Spans.{content_of}
 use Rattle.poolsample.proofs.spans.Registry.look.Goals as goal
@@ -17,6 +17,6 @@ returns c =
       read.0,
       span,
       subst (λ (k : ℕ). PublishedAt seen read.0 k (content_of span)) c.in_ok-reference.ensures.held.0
-          (published-later c.get.new.lane.book.seen seen read.0 c.in_ok-reference.reference.key (content_of span) c.release.ensures.called.did.seen read.1),
+          (published-later c.get.new.lane.book.seen seen read.0 c.in_ok-reference.reference.key (content_of span) c.release.ensures.seen read.1),
       ap (λ (id : ℕ). summary_of id c.events.result.now) c.id.ensures ∙ ap (summary_of span.id) c.events.ensures,
     )

@@ -17,3 +17,12 @@ returns-clause-alone g c = rw (← c.self.view_is) (solo c.self.inside.state.sha
 
 pub returns-clause-held : goal.returns-clause-held
 returns-clause-held g c = rw (← c.self.view_is) (solo-held c.self.inside.state.shape c.self.inside.hand.me.0 c.self.inside.state.number c.self.invariant.1.seat)
+
+pub returns-clause-number : goal.returns-clause-number
+returns-clause-number g c = let seat = c.self.invariant.1.seat in rw (← c.self.view_is) (sym seat.number_is, seat.below)
+
+pub returns-clause-idle : goal.returns-clause-idle
+returns-clause-idle g c = rw (← c.self.view_is) c.self.invariant.1.seat.idle
+
+pub returns-clause-rooms : goal.returns-clause-rooms
+returns-clause-rooms g c = rw (← c.self.view_is) c.self.invariant.1.seat.paired

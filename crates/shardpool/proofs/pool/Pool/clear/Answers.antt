@@ -4,6 +4,7 @@ use Rattle.shardpool.proofs.calls.CallParts.{calls-more}
 use Rattle.shardpool.proofs.calls.Halts.{fits-own}
 use Rattle.shardpool.proofs.references.Holdings.{clear-holds}
 use Rattle.shardpool.proofs.calls.KeyCalls.{ready, cleared-away, cleared}
+use Rattle.shardpool.proofs.frame.Standing.{missed-outside, cleared-since, unmarked-since, seen-of}
 use Rattle.shardpool.proofs.pool.Pool.clear.Goals as goal
 
 pub keep_reclaimed-requires-clause-away : goal.keep_reclaimed-requires-clause-away
@@ -57,3 +58,18 @@ returns-clause-held g c k =
 
 pub returns-clause-same : goal.returns-clause-same
 returns-clause-same g c = (returns-clause-clears g c (c.in-Some.ensures.some.0 refl)).1.same
+
+-- ---- where its act stands
+
+pub returns-clause-cleared : goal.returns-clause-cleared
+returns-clause-cleared g c marked = cleared-since _ _ _ _ _ marked (returns-clause-clears g c (c.in-Some.ensures.some.0 refl)).1
+
+pub returns-clause-missed : goal.returns-clause-missed
+returns-clause-missed g c unmarked = unmarked-since _ _ _ _ _ unmarked (returns-clause-clears g c (c.in-Some.ensures.some.0 refl)).1
+
+pub returns-clause-seen : goal.returns-clause-seen
+returns-clause-seen g c = seen-of (returns-clause-clears g c (c.in-Some.ensures.some.0 refl)).1.goes
+
+pub returns-in_default-clause-missed : goal.returns-in_default-clause-missed
+returns-in_default-clause-missed g c none =
+    missed-outside c.args.self.now.shape c.args.lane.now c.args.key (rw (← c.lane.view_is) c.lane.invariant.1.seat.legal) c.requires.owns.1 (λ is. cc (c.in_default.ensures.some.1 is))

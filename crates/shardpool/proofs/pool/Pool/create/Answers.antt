@@ -3,7 +3,8 @@ use Rattle.std.proofs.Common.{◌≢◌, ⊎_elim, [], refl, sym, ap, ◌∙◌,
 use Rattle.std.proofs.lemmas.Result.{err_from_is_err_and}
 use Rattle.shardpool.specs.Tokens.{LaneOf}
 use Rattle.shardpool.specs.Creates.{TakesReturned, OpensPage, GivesNone}
-use Rattle.shardpool.proofs.calls.Creates.{IsSound, sound-fits, list-gives, taken-gives, none-gives, page-gives, none-hangs, opened-some}
+use Rattle.shardpool.proofs.frame.Standing.{seen-of}
+use Rattle.shardpool.proofs.calls.Creates.{gives-apart, IsSound, sound-fits, list-gives, taken-gives, none-gives, page-gives, none-hangs, opened-some}
 use Rattle.shardpool.proofs.references.Holdings.{gives-refs, none-refs}
 use Rattle.shardpool.proofs.pool.Pool.create.Goals as goal
 
@@ -100,3 +101,26 @@ returns-clause-refs g c = gives-refs (returns-clause-gives g c)
 
 pub returns-clause-held : goal.returns-clause-held
 returns-clause-held g c = (returns-clause-gives g c).created.held
+
+-- ---- its key is no other filling's, and what it sees
+
+pub returns-in-Some-clause-apart : goal.returns-in-Some-clause-apart
+returns-in-Some-clause-apart g c = gives-apart (returns-in-Some-clause-gives g c)
+
+pub returns-in-Some-clause-seen : goal.returns-in-Some-clause-seen
+returns-in-Some-clause-seen g c = seen-of (returns-in-Some-clause-gives g c).created.goes
+
+pub returns-in-Some-follow-clause-apart : goal.returns-in-Some-follow-clause-apart
+returns-in-Some-follow-clause-apart g c = gives-apart (returns-in-Some-follow-clause-gives g c)
+
+pub returns-in-Some-follow-clause-seen : goal.returns-in-Some-follow-clause-seen
+returns-in-Some-follow-clause-seen g c = seen-of (returns-in-Some-follow-clause-gives g c).created.goes
+
+pub returns-clause-apart : goal.returns-clause-apart
+returns-clause-apart g c = gives-apart (returns-clause-gives g c)
+
+pub returns-clause-seen : goal.returns-clause-seen
+returns-clause-seen g c = seen-of (returns-clause-gives g c).created.goes
+
+pub returns-in_err-open_page-clause-seen : goal.returns-in_err-open_page-clause-seen
+returns-in_err-open_page-clause-seen g c = seen-of (returns-in_err-open_page-clause-none g c (let left = err_from_is_err_and c.from_residual.result c.from_residual.ensures.1 in ap is_err left.1)).created.goes

@@ -15,6 +15,7 @@ use Rattle.shardpool.proofs.calls.Publishes.{published-did, published-held, publ
 use Rattle.shardpool.proofs.frame.LaneFacts.{lane_of}
 use Rattle.shardpool.proofs.pool.Pool.downgrade.Given.{Over}
 use Rattle.shardpool.proofs.references.Holdings.{publish-holds}
+use Rattle.shardpool.proofs.frame.Standing.{published-since, seen-of}
 use Rattle.shardpool.proofs.pool.Pool.downgrade.Goals as goal
 
 module _ (g : Over) (c : goal.After-to g) where
@@ -100,3 +101,11 @@ returns-clause-fillings g c other differs is =
 
 pub returns-clause-one_more : goal.returns-clause-one_more
 returns-clause-one_more g c = publish-holds c.requires.made.place (returns-clause-publishes g c)
+
+-- ---- where its act stands
+
+pub returns-clause-published : goal.returns-clause-published
+returns-clause-published g c = published-since _ _ _ _ _ _ (returns-clause-publishes g c)
+
+pub returns-clause-seen : goal.returns-clause-seen
+returns-clause-seen g c = seen-of (returns-clause-publishes g c).goes

@@ -9,6 +9,7 @@ use Rattle.shardpool.proofs.calls.Halts.{fits-own}
 use Rattle.shardpool.proofs.references.Holdings.{get-holds, got-held}
 use Rattle.shardpool.proofs.calls.KeyCalls.{ready, ready-low, missed-away, missed, hit-touches, hit-untouched, gained-again, gained-first}
 use Rattle.shardpool.proofs.references.RowChanges.{rows-count-le}
+use Rattle.shardpool.proofs.frame.Standing.{missed-outside, found-since, missed-since, seen-of}
 use Rattle.shardpool.proofs.pool.Pool.get.Goals as goal
 
 pub get-got-requires-clause-room : goal.get-got-requires-clause-room
@@ -199,3 +200,27 @@ returns-then-index-gt0-clause-held g c =
 pub returns-clause-held : goal.returns-clause-held
 returns-clause-held g c =
     let gets = returns-clause-gets g c (c.in_ok-spot.ensures.some.0 refl) in (gets.0, got-held c.args.key _ _ _ gets)
+
+-- ---- where its act stands
+
+pub returns-in-Miss-clause-missed : goal.returns-in-Miss-clause-missed
+returns-in-Miss-clause-missed g c none = missed-since _ _ _ _ (returns-in-Miss-clause-gets g c (c.in_ok-spot.ensures.some.0 refl)).1
+
+pub returns-in-Miss-clause-seen : goal.returns-in-Miss-clause-seen
+returns-in-Miss-clause-seen g c = seen-of (returns-in-Miss-clause-gets g c (c.in_ok-spot.ensures.some.0 refl)).1.goes
+
+pub returns-then-index-gt0-clause-found : goal.returns-then-index-gt0-clause-found
+returns-then-index-gt0-clause-found g c some = found-since _ _ _ _ (returns-then-index-gt0-clause-gets g c (c.in_ok-spot.ensures.some.0 refl)).3
+
+pub returns-then-index-gt0-clause-seen : goal.returns-then-index-gt0-clause-seen
+returns-then-index-gt0-clause-seen g c = seen-of (returns-then-index-gt0-clause-gets g c (c.in_ok-spot.ensures.some.0 refl)).3.goes
+
+pub returns-clause-found : goal.returns-clause-found
+returns-clause-found g c some = found-since _ _ _ _ (returns-clause-gets g c (c.in_ok-spot.ensures.some.0 refl)).3
+
+pub returns-clause-seen : goal.returns-clause-seen
+returns-clause-seen g c = seen-of (returns-clause-gets g c (c.in_ok-spot.ensures.some.0 refl)).3.goes
+
+pub returns-in_err-spot-clause-missed : goal.returns-in_err-spot-clause-missed
+returns-in_err-spot-clause-missed g c none =
+    missed-outside c.args.self.now.shape c.args.lane.now c.args.key (rw (← c.lane.view_is) c.lane.invariant.1.seat.legal) c.requires.owns.1 (λ is. cc (c.in_err-spot.ensures.some.1 is))

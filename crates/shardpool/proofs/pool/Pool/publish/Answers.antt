@@ -9,6 +9,7 @@ use Rattle.shardpool.proofs.calls.Publishes.{published-did, published-held, publ
 use Rattle.shardpool.proofs.frame.LaneFacts.{lane_of}
 use Rattle.shardpool.proofs.pool.Pool.publish.Given.{Over}
 use Rattle.shardpool.proofs.references.Holdings.{publish-alone}
+use Rattle.shardpool.proofs.frame.Standing.{published-since, seen-of}
 use Rattle.shardpool.proofs.pool.Pool.publish.Goals as goal
 
 module _ (g : Over) (c : goal.After-publish g) where
@@ -64,3 +65,11 @@ returns-clause-fillings g c other differs is =
 
 pub returns-clause-held : goal.returns-clause-held
 returns-clause-held g c = publish-alone c.requires.made.place (returns-clause-publishes g c)
+
+-- ---- where its act stands
+
+pub returns-clause-published : goal.returns-clause-published
+returns-clause-published g c = published-since _ _ _ _ _ _ (returns-clause-publishes g c)
+
+pub returns-clause-seen : goal.returns-clause-seen
+returns-clause-seen g c = seen-of (returns-clause-publishes g c).goes

@@ -14,6 +14,7 @@ use Rattle.shardpool.proofs.calls.CallParts.{calls-more, calls-behind}
 use Rattle.shardpool.proofs.calls.Releases.{EndsAt, Released, refers-held, lent-some, lent-share, lent-at, end-low, end-more, end-within, beside, released-away, released}
 use Rattle.shardpool.proofs.references.Holdings.{release-holds}
 use Rattle.shardpool.proofs.pool.Pool.release.Given.{Over}
+use Rattle.shardpool.proofs.frame.Standing.{seen-of}
 use Rattle.shardpool.proofs.pool.Pool.release.Goals as goal
 
 pub return_last_share-requires-clause-fits : goal.return_last_share-requires-clause-fits
@@ -116,3 +117,8 @@ returns-clause-fillings g c filling was =
 
 pub returns-clause-one_less : goal.returns-clause-one_less
 returns-clause-one_less g c = release-holds (returns-clause-called g c) (returns-clause-releases g c).1
+
+-- ---- what it sees
+
+pub returns-clause-seen : goal.returns-clause-seen
+returns-clause-seen g c = seen-of (returns-clause-releases g c).1.goes
