@@ -1,5 +1,5 @@
 //! Objects of one's own: spans of a trace, in a pool of one lane that a registry owns with its lane.
-ghost use Rattle.std.specs.Prelude.{◌≡◌, ◌<◌, ℕ, [], ◌∷◌, length, IsTrue, IfOk, IfSome, OnOk, OnErr};
+ghost use Rattle.std.specs.Prelude.{◌≡◌, ◌<◌, ℕ, [], ◌∷◌, List, length, IsNone, IsTrue, IsFalse, IfOk, IfSome, OnOk, OnErr};
 ghost use Rattle.poolsample.specs.declared.spans.TheConstants.{ONE_LANE};
 ghost use Rattle.seqpool.specs.Histories.{PublishedAt, ClearedAt};
 ghost use Rattle.keybits.specs.Shapes.{all_places};
@@ -149,9 +149,11 @@ impl Registry {
         Ok(self.pool.publish(&mut self.lane, filling))
     }
 
-    /// What the span of a key tells. None where the key isn't published, or was cleared.
+    /// What the span of a key tells. None where the key isn't published, or was cleared: so for a key that was published, only behind a
+    /// clear of it.
     pub fn look(&mut self, key: u64) -> Option<Summary>
-        ensures { IfSome result (λ summary. (j : ℕ) × (span : SpanOf) × PublishedAt self.new j key (content_of span) × (summary ≡ record { id = span.id; events = length span.events })) }
+        ensures shown { IfSome result (λ summary. (j : ℕ) × (span : SpanOf) × PublishedAt self.new j key (content_of span) × (summary ≡ record { id = span.id; events = length span.events })) }
+        ensures missed { IsNone result → (j : ℕ) (content : List ℕ) → PublishedAt self.old j key content → (k : ℕ) × ClearedAt self.new k key }
     {
         let reference = self.pool.get(&mut self.lane, key)?;
         let span = self.lane.read(&reference);
@@ -163,9 +165,10 @@ impl Registry {
         Some(summary)
     }
 
-    /// Clears a span: true where this call marked its key.
+    /// Clears a span: true where this call marked its key. False for a key that was published only behind another clear of it.
     pub fn clear(&mut self, key: u64) -> bool
-        ensures { IsTrue result → (j : ℕ) × ClearedAt self.new j key }
+        ensures marked { IsTrue result → (k : ℕ) × ClearedAt self.new k key }
+        ensures missed { IsFalse result → (j : ℕ) (content : List ℕ) → PublishedAt self.old j key content → (k : ℕ) × ClearedAt self.new k key }
     {
         self.pool.clear(&mut self.lane, key)
     }

@@ -25,6 +25,10 @@ fn clear_of_nothing<T: Clear + Drop, R: Abort>(rt: &R, pool: &Pool<T>, lane: &mu
     assert!(rt; !pool.clear(lane, 16777216));
     assert_eq!(rt; lane.refs(), 0);
     assert_eq!(rt; lane.holds(16777216), 0);
+    if let Some(reference) = lane.reference(16777216) {
+        reference.leave();
+        panic!(rt; "a reference that no get gave");
+    }
 }
 
 /// The lanes of a pool stand by their numbers, and none has a free place yet.

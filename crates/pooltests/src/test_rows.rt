@@ -1,5 +1,5 @@
 //! What calls of one thread answer, one after another.
-ghost use Rattle.std.specs.Prelude.{◌≡◌, ◌<◌, ◌≤◌};
+ghost use Rattle.std.specs.Prelude.{◌≡◌, ◌+◌, ◌<◌, ◌≤◌};
 ghost use Rattle.shardpool.specs.Tokens.{LaneOf};
 ghost use Rattle.shardpool.specs.Lanes.{Owns, Made, holds, refs};
 
@@ -444,6 +444,18 @@ fn publish_first<T: Clear + Drop, R: Abort>(rt: &R, pool: &Pool<T>, lane: &mut L
     room
 }
 
+/// A reference is had from its key, and given back.
+fn release_by_key<T: Clear + Drop, R: Abort>(rt: &R, pool: &Pool<T>, lane: &mut Lane<T>, key: u64)
+    requires { Owns pool.now lane.old }
+    ensures owns { Owns pool.now lane.new }
+    ensures refs { refs lane.new + 1 ≡ refs lane.old }
+{
+    let Some(reference) = lane.reference(key) else {
+        panic!(rt; "no reference to {key}")
+    };
+    pool.release(lane, reference);
+}
+
 /// Two lanes of a pool that was just opened have one place.
 fn share_one_place<T: Clear + Drop, R: Abort>(
     rt: &R,
@@ -465,7 +477,8 @@ fn share_one_place<T: Clear + Drop, R: Abort>(
     clear(rt, pool, second, FIRST, true);
     misses(rt, pool, first, FIRST);
     assert_eq!(rt; second.read(&other).room(), room);
-    pool.release(first, one);
+    one.leave();
+    release_by_key(rt, pool, first, FIRST);
     pool.release(second, other);
 }
 

@@ -35,7 +35,7 @@ impl<T: Clear> Model for Lane<T> {
 }
 
 impl<T: Clear> Lane<T> {
-    ghost use Rattle.std.specs.Prelude.{◌≡◌, ◌≢◌, ◌<◌, ◌≤◌, ◌⊎◌, ◌↔◌, ℕ, IsTrue, IsSome, IfSome, [], length};
+    ghost use Rattle.std.specs.Prelude.{◌≡◌, ◌≢◌, ◌<◌, ◌≤◌, ◌⊎◌, ◌↔◌, ℕ, IsTrue, IsNone, IsSome, IfSome, [], length};
     ghost use Rattle.seqpool.specs.Pool.{IsLegal};
     ghost use Rattle.seqpool.specs.Histories.{PublishedAt, acts_of};
     ghost use Rattle.poolsteps.specs.Views.{the_lane};
@@ -80,8 +80,8 @@ impl<T: Clear> Lane<T> {
 
     /// A reference to a key to which the lane has one: so a program may keep keys in place of references. None where it has none.
     pub fn reference(&self, key: u64) -> Option<Ref<T>>
-        ensures some { IsSome result ↔ 1 ≤ holds self.now key }
-        ensures key { IfSome result (λ reference. reference.key ≡ key) }
+        ensures held { IfSome result (λ reference. (reference.key ≡ key) × (1 ≤ holds self.now reference.key)) }
+        ensures none { IsNone result → holds self.now key ≡ 0 }
     {
         if self.holds(key) == 0 {
             return None;

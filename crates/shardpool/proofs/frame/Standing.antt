@@ -8,7 +8,7 @@ use Rattle.keybits.specs.Keys.{is_key}
 use Rattle.seqpool.specs.declared.act.Act.{Act}
 use Rattle.seqpool.specs.declared.act.Act.TheVariants as acts
 use Rattle.seqpool.specs.Pool.{lane_of, IsLegal}
-use Rattle.seqpool.specs.Histories.{At, PublishedAt, acts_of}
+use Rattle.seqpool.specs.Histories.{At, PublishedAt, ClearedAt, acts_of}
 use Rattle.seqpool.proofs.Gets.{get-law}
 use Rattle.seqpool.proofs.Misses.{clear-law, miss-law, later-law, at-later}
 use Rattle.seqpool.proofs.Positions.{at-below}
@@ -150,6 +150,15 @@ found-later {key = key} {old = old} {between = between} {new = new} seen found =
         ],
       );
     }
+
+-- what was published before a call that missed it was cleared
+pub missed-cleared : {key : ℕ} {old new : LaneOf} → IsPrefix old.book.seen new.book.seen → MissedSince key old new
+    → (j : ℕ) (content : List ℕ) → PublishedAt old.book.seen j key content → (k : ℕ) × ClearedAt new.book.seen k key
+missed-cleared {key = key} {old = old} {new = new} seen missed j content (lane, with_ref, at) =
+    let low = at-below old.book.seen j (acts.Publish lane key content with_ref) at in
+    let behind = missed.behind in
+    let cleared = missed.cleared j content (published-later old.book.seen new.book.seen j key content seen (lane, with_ref, at)) (omega (arith, low, behind)) in
+    (cleared.0, cleared.2)
 
 -- ---- a number that is no key
 
