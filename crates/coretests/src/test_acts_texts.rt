@@ -1,7 +1,7 @@
 //! Texts of acts with the answers of an independent checker.
 ghost use Rattle.keybits.specs.Shapes.{IsShape};
 
-use crate::texts::reads;
+use crate::test_texts::{reads, same};
 use keybits::Shape;
 use seqpool::{Act, ActsFault, CheckFault, check, read_acts, write_acts};
 use std::alloc::Global;
@@ -127,7 +127,7 @@ fn rows_are_checked(rt: HostRuntime) {
     for (text, want) in ROWS {
         is_checked(&rt, rt.alloc(), text, want);
     }
-    assert_eq!(rt; ActsFault::Memory.number(), 18);
+    same(&rt, &ActsFault::Memory.number(), &18);
 }
 
 /// Texts of one lane, and some that differ from them a little.

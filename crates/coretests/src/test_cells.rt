@@ -1,6 +1,7 @@
 ghost use Rattle.std.specs.Prelude.{◌≡◌, ◌<◌, ◌≤◌, [], ◌∷◌, ◌++◌, length, All, Some, IsSome, IsTrue};
 
 use crate::test_texts;
+use crate::test_texts::same;
 use arrayvec::ArrayVec;
 use slotcell::{ByteBuf, Clear, Memory, Record, Rest, Share, Slot, Whole, join};
 use std::alloc::Global;
@@ -111,8 +112,8 @@ fn append_to(rt: &impl Abort, buffer: &mut ByteBuf, more: &[u8])
 {
     let (len, room) = (buffer.len(), buffer.room());
     if buffer.append(more).is_err() {
-        assert_eq!(rt; buffer.len(), len);
-        assert_eq!(rt; buffer.room(), room);
+        same(rt, &buffer.len(), &len);
+        same(rt, &buffer.room(), &room);
         buffer.append(more).expect(rt, "memory for the bytes");
     }
 }
@@ -129,7 +130,7 @@ fn cell_of<T: Drop>(rt: &impl Abort, alloc: Global, object: T) -> Whole<T>
 
 /// The buffer has these bytes.
 fn has_bytes<R: Abort>(rt: &R, buffer: &ByteBuf, bytes: &[u8]) {
-    assert_eq!(rt; buffer.len(), bytes.len());
+    same(rt, &buffer.len(), &bytes.len());
     assert_eq!(rt; buffer.as_slice(), bytes);
 }
 
@@ -141,10 +142,10 @@ fn has_numbers<R: Abort>(rt: &R, record: &Record, numbers: &[u64]) {
 /// A buffer that had these bytes, or more, is cleared, and takes them again without more memory.
 fn take_again<R: Abort>(rt: &R, buffer: &mut ByteBuf, bytes: &[u8]) {
     let room = emptied(buffer);
-    assert_eq!(rt; buffer.len(), 0);
+    same(rt, &buffer.len(), &0);
     assert!(rt; room >= bytes.len());
     buffer.append(bytes).unwrap();
-    assert_eq!(rt; buffer.room(), room);
+    same(rt, &buffer.room(), &room);
 }
 
 #[test]
@@ -152,7 +153,7 @@ fn a_cleared_buffer_keeps_its_room(rt: HostRuntime) {
     let bytes = [5u8; 4096];
     let mut buffer = ByteBuf::fresh(rt.alloc());
     assert!(rt; buffer.is_empty());
-    assert_eq!(rt; buffer.room(), 0);
+    same(&rt, &buffer.room(), &0);
     buffer.append(&bytes).expect(&rt, "memory for the bytes");
     has_bytes(&rt, &buffer, &bytes);
     take_again(&rt, &mut buffer, &bytes);
@@ -171,9 +172,9 @@ fn take_eight<R: Abort>(rt: &R, record: &mut Record) {
 #[test]
 fn a_record_takes_eight_numbers(rt: HostRuntime) {
     let mut record = Record::fresh(rt.alloc());
-    assert_eq!(rt; record.room(), 8);
+    same(&rt, &record.room(), &8);
     take_eight(&rt, &mut record);
-    assert_eq!(rt; emptied(&mut record), 8);
+    same(&rt, &emptied(&mut record), &8);
     has_numbers(&rt, &record, &[]);
     assert!(rt; record.push(9));
     has_numbers(&rt, &record, &[9]);
@@ -198,7 +199,7 @@ fn read_apart(
     ensures { result ≡ whole }
 {
     let shares = whole.split(n);
-    assert_eq!(rt; shares.len(), n);
+    same(rt, &shares.len(), &n);
     each_shows(rt, shares.as_slice(), numbers);
     join(alloc, shares)
 }
@@ -233,7 +234,11 @@ fn a_slot_gives_back_its_share(rt: HostRuntime) {
     let mut whole = Rest::of_last(share).into_whole(rt.alloc());
     assert!(rt; whole.get_mut().push(9));
     has_numbers(&rt, whole.get(), &[9]);
-    assert_eq!(rt; mem::size_of::<Slot<Record>>(), mem::size_of::<usize>());
+    same(
+        &rt,
+        &mem::size_of::<Slot<Record>>(),
+        &mem::size_of::<usize>(),
+    );
 }
 
 // Who reads a share hands on the very share.
@@ -349,7 +354,7 @@ fn probed<'a, R: Abort>(rt: &R, alloc: Global, drops: &'a Cell<u32>) -> Whole<Pr
 
 /// So many probes of the count were dropped.
 fn were_dropped<R: Abort>(rt: &R, drops: &Cell<u32>, count: u32) {
-    assert_eq!(rt; drops.get(), count);
+    same(rt, &drops.get(), &count);
 }
 
 #[test]

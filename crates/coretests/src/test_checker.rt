@@ -1,7 +1,6 @@
 ghost use Rattle.keybits.specs.Shapes.{IsShape};
 
-use crate::test_texts::shows;
-use crate::texts::reads;
+use crate::test_texts::{reads, same, shows};
 use keybits::{Shape, ShapeFault};
 use seqpool::{
     Act, ActsFault, ApplyFault, Bytes, CheckFault, Memory, Places, SeqPool, Summary, check,
@@ -411,9 +410,13 @@ const REFUSED: [(Shape, &[Row<'static>], usize, ApplyFault, u32); 9] = [
 fn illegal_acts_are_refused(rt: HostRuntime) {
     for (shape, rows, index, fault, number) in REFUSED {
         is_illegal(&rt, rt.alloc(), shape, rows, index, fault);
-        assert_eq!(rt; fault.number(), number);
+        same(&rt, &fault.number(), &number);
     }
-    assert_eq!(rt; (Memory.number(), ApplyFault::Memory.number()), (18, 18));
+    same(
+        &rt,
+        &(Memory.number(), ApplyFault::Memory.number()),
+        &(18, 18),
+    );
 }
 
 const WRITTEN_ONCE: &[Row<'static>] = &[

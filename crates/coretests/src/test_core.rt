@@ -1,7 +1,7 @@
 ghost use Rattle.std.specs.Prelude.{◌≡◌, length};
 ghost use Rattle.keybits.specs.Shapes.{IsShape};
 
-use crate::texts::reads;
+use crate::test_texts::{reads, same};
 use coresteps::{Command, Core, Operand, Register, Reply, Script, Trace, Turn, run, write_trace};
 use keybits::Shape;
 use seqpool::{Act, Bytes};
@@ -390,7 +390,7 @@ fn steps<R: Abort>(rt: &R, alloc: Global, core: &mut Core, lines: &str, finished
     let turn = turn_of(rt, core, 0);
     trace.push(turn).expect(rt, "memory for a turn");
     is_text(rt, alloc, &trace, lines);
-    assert_eq!(rt; core.finished(0), finished);
+    same(rt, &core.finished(0), &finished);
 }
 
 #[test]
@@ -425,7 +425,7 @@ fn gets<R: Abort>(rt: &R, core: &mut Core) {
 
 /// The acts are those two.
 fn publish_and_get<R: Abort>(rt: &R, acts: &[Act]) {
-    assert_eq!(rt; acts.len(), 2);
+    same(rt, &acts.len(), &2);
     assert!(rt; is_publish(acts.first(), 16777216, b"hi"));
     assert!(rt; is_get(acts.last(), 16777216, b"hi"));
 }
@@ -435,7 +435,7 @@ fn tells_acts(rt: HostRuntime) {
     let mut core = core_of(&rt, rt.alloc(), TWO_PLACES, &[&FIRST_ROW]);
     assert!(rt; core.acts().is_empty());
     publishes(&rt, &mut core);
-    assert_eq!(rt; core.acts().len(), 1);
+    same(&rt, &core.acts().len(), &1);
     gets(&rt, &mut core);
     publish_and_get(&rt, core.acts());
 }
@@ -456,7 +456,7 @@ fn turns_of_no_lane_do_nothing(rt: HostRuntime) {
         add_turn(&rt, &mut core, lane, &mut trace);
     }
     is_text(&rt, rt.alloc(), &trace, FIRST_TRACE);
-    assert_eq!(rt; core.acts().len(), 2);
+    same(&rt, &core.acts().len(), &2);
 }
 
 /// The lane is finished, and nothing is done in a turn of it.
@@ -551,7 +551,7 @@ fn take_all<R: Abort>(rt: &R, core: &mut Core, schedule: &[u32]) {
 #[test]
 fn tells_the_most_steps(rt: HostRuntime) {
     let mut core = core_of(&rt, rt.alloc(), TWO_LANES, &RETURNS);
-    assert_eq!(rt; core.most(0), (0, 0));
+    same(&rt, &core.most(0), &(0, 0));
     take_all(&rt, &mut core, &RETURNS_SCHEDULE);
     let most = [
         core.most(0),
@@ -559,7 +559,7 @@ fn tells_the_most_steps(rt: HostRuntime) {
         core.most(2),
         core.most(4294967295),
     ];
-    assert_eq!(rt; most, [(2, 3), (0, 6), (0, 0), (0, 0)]);
+    same(&rt, &most, &[(2, 3), (0, 6), (0, 0), (0, 0)]);
 }
 
 #[test]
@@ -568,7 +568,7 @@ fn counts_a_call_under_way(rt: HostRuntime) {
     let mut core = core_of(&rt, rt.alloc(), ONE_PLACE, &[&rows]);
     for most in [1, 1, 2, 3, 4] {
         take_turns(&rt, &mut core, 0, 1);
-        assert_eq!(rt; core.most(0), (0, most));
+        same(&rt, &core.most(0), &(0, most));
     }
 }
 
@@ -604,6 +604,6 @@ fn runs_the_largest_shape(rt: HostRuntime) {
     assert!(rt; core.finished(0));
     take_turns(&rt, &mut core, 15, 5000);
     assert!(rt; core.finished(15));
-    assert_eq!(rt; (core.most(15), core.most(0)), ((15, 1), (0, 6)));
-    assert_eq!(rt; collects(core.acts()), 1);
+    same(&rt, &(core.most(15), core.most(0)), &((15, 1), (0, 6)));
+    same(&rt, &collects(core.acts()), &1);
 }

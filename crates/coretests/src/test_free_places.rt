@@ -1,6 +1,7 @@
 ghost use Rattle.std.specs.Prelude.{◌≡◌, [], None};
 ghost use Rattle.freelists.specs.Shards.{shape_of};
 
+use crate::test_texts::same;
 use freelists::{LocalFree, Pages, Returns};
 use keybits::{Place, Shape, Word};
 use std::alloc::Global;
@@ -45,8 +46,8 @@ fn places_have_indexes(rt: HostRuntime) {
     let pages = Pages::new(15, 64, 6);
     let (first, middle, last) = (place(15, 0, 0), place(15, 1, 70), place(15, 5, 2047));
     let indexes = [pages.index(first), pages.index(middle), pages.index(last)];
-    assert_eq!(rt; indexes, [0, 134, 4031]);
-    assert_eq!(rt; [pages.place(134), pages.place(4031)], [middle, last]);
+    same(&rt, &indexes, &[0, 134, 4031]);
+    same(&rt, &[pages.place(134), pages.place(4031)], &[middle, last]);
 }
 
 #[test]
@@ -63,7 +64,7 @@ fn pages_are_opened_from_the_lowest_on(rt: HostRuntime) {
         (6, None),
         (6, None),
     ] {
-        assert_eq!(rt; (pages.opened(), pages.open_next()), (opened, page));
+        same(&rt, &(pages.opened(), pages.open_next()), &(opened, page));
     }
 }
 
@@ -103,7 +104,7 @@ fn no_place<R: Abort>(rt: &R, alloc: Global) -> LocalFree
 fn the_place_pushed_first_is_popped_first(rt: HostRuntime) {
     let mut free = no_place(&rt, rt.alloc());
     let popped = push_and_pop(&mut free);
-    assert_eq!(rt; popped, [Some(A), Some(B), Some(C), Some(A), None]);
+    same(&rt, &popped, &[Some(A), Some(B), Some(C), Some(A), None]);
 }
 
 fn push_and_pop(free: &mut LocalFree) -> [Option<Place>; 5]
@@ -134,9 +135,9 @@ fn a_popped_place_is_pushed_again(rt: HostRuntime) {
     let mut free = no_place(&rt, rt.alloc());
     push_two(&mut free);
     let pushed_again = [pop_and_push(&mut free), pop_and_push(&mut free)];
-    assert_eq!(rt; pushed_again, [Some(A), Some(B)]);
+    same(&rt, &pushed_again, &[Some(A), Some(B)]);
     let popped = [free.pop(), free.pop(), free.pop()];
-    assert_eq!(rt; popped, [Some(A), Some(B), None]);
+    same(&rt, &popped, &[Some(A), Some(B), None]);
 }
 
 fn push_two(free: &mut LocalFree)
@@ -150,9 +151,9 @@ fn push_two(free: &mut LocalFree)
 fn a_chain_is_followed_to_its_end(rt: HostRuntime) {
     let mut free = no_place(&rt, rt.alloc());
     let followed = hang_and_follow(&mut free);
-    assert_eq!(rt; followed, [A, B, C]);
-    assert_eq!(rt; (free.chain(), free.len()), (None, 2));
-    assert_eq!(rt; [free.pop(), free.pop()], [Some(D), Some(A)]);
+    same(&rt, &followed, &[A, B, C]);
+    same(&rt, &(free.chain(), free.len()), &(None, 2));
+    same(&rt, &[free.pop(), free.pop()], &[Some(D), Some(A)]);
 }
 
 fn hang_and_follow(free: &mut LocalFree) -> [Place; 3]
@@ -169,20 +170,20 @@ fn hang_and_follow(free: &mut LocalFree) -> [Place; 3]
 /// A place that is returned has this word, and the word is of this place.
 fn has_word<R: Abort>(rt: &R, returns: Returns, place: Place, word: u64) {
     assert!(rt; place.shard == returns.shard && place.page <= 15 && place.slot <= 4095);
-    assert_eq!(rt; returns.word(place), word);
+    same(rt, &returns.word(place), &word);
     assert!(rt; word <= 65536);
-    assert_eq!(rt; returns.place(word), Some(place));
+    same(rt, &returns.place(word), &Some(place));
 }
 
 #[test]
 fn returns_have_words(rt: HostRuntime) {
     let returns = Returns { shard: 2 };
-    assert_eq!(rt; returns.stack(1), Word::Stack { shard: 2, lane: 1 });
-    assert_eq!(rt; returns.link(C), Word::Link { place: 135168 });
+    same(&rt, &returns.stack(1), &Word::Stack { shard: 2, lane: 1 });
+    same(&rt, &returns.link(C), &Word::Link { place: 135168 });
     for (place, word) in [(A, 1), (B, 2), (C, 4097), (D, 20544)] {
         has_word(&rt, returns, place, word);
     }
-    assert_eq!(rt; returns.place(0), None);
+    same(&rt, &returns.place(0), &None);
 }
 
 fn place(shard: u8, page: u8, slot: u16) -> Place

@@ -1,4 +1,4 @@
-use crate::test_texts::shows;
+use crate::test_texts::{same, shows};
 use keybits::{
     Key, Life, Place, Shape, ShapeFault, State, claimed, entered, fits, left, link_to,
     linked_place, marked, published,
@@ -24,8 +24,8 @@ const SMALL: Shape = Shape {
 /// The key of a place and a generation is this number.
 fn packs<R: Abort>(rt: &R, place: Place, generation: u32, number: u64) {
     let key = Key::pack(place, generation).expect(rt, "a key");
-    assert_eq!(rt; key.number(), number);
-    assert_eq!(rt; Key::unpack(number), Some((place, generation)));
+    same(rt, &key.number(), &number);
+    same(rt, &Key::unpack(number), &Some((place, generation)));
 }
 
 #[test]
@@ -44,7 +44,7 @@ fn keys_are_packed_and_unpacked(rt: HostRuntime) {
 
 /// The number is of these parts, or of no key.
 fn has_parts<R: Abort>(rt: &R, number: u64, parts: Option<(u8, Place, u32)>) {
-    assert_eq!(rt; Key::unpack_tagged(number), parts);
+    same(rt, &Key::unpack_tagged(number), &parts);
 }
 
 /// No key without a tag has this number.
@@ -60,7 +60,7 @@ fn keys_have_tags(rt: HostRuntime) {
         slot: 4095,
     };
     let key = Key::pack_tagged(255, place, 4294967295).expect(&rt, "a key");
-    assert_eq!(rt; key.number(), 18446744073709551615);
+    same(&rt, &key.number(), &18446744073709551615);
     has_parts(&rt, 18446744073709551615, Some((255, place, 4294967295)));
     is_no_key(&rt, 18446744073709551615);
     // Those of generation 0.
@@ -70,8 +70,8 @@ fn keys_have_tags(rt: HostRuntime) {
 
 /// The place, or the generation, is one that no key has.
 fn has_no_key<R: Abort>(rt: &R, place: Place, generation: u32) {
-    assert_eq!(rt; Key::pack(place, generation), None);
-    assert_eq!(rt; Key::pack_tagged(9, place, generation), None);
+    same(rt, &Key::pack(place, generation), &None);
+    same(rt, &Key::pack_tagged(9, place, generation), &None);
 }
 
 #[test]
@@ -118,7 +118,7 @@ fn words_after_steps(rt: HostRuntime) {
         (published(4294967296, true), 4294967301),
         (marked(4294967303), 4294967303),
     ] {
-        assert_eq!(rt; word, want);
+        same(&rt, &word, &want);
     }
 }
 
@@ -138,7 +138,7 @@ fn words_say_lives(rt: HostRuntime) {
         };
         assert_eq!(rt; Life::of_word(word), life, "at {word}");
         assert!(rt; count <= 1073741823);
-        assert_eq!(rt; life.word(), word);
+        same(&rt, &life.word(), &word);
     }
 }
 
@@ -189,7 +189,7 @@ fn faults_have_numbers_and_texts(rt: HostRuntime) {
         (ShapeFault::Generation, 4, "the last generation is 0"),
         (ShapeFault::Tag, 6, "the tag is over 255"),
     ] {
-        assert_eq!(rt; fault.number(), number);
+        same(&rt, &fault.number(), &number);
         shows(&rt, rt.alloc(), &fault, text);
     }
 }
@@ -205,8 +205,8 @@ fn has_sizes<R: Abort>(rt: &R, shape: Shape, sizes: [u32; 6]) {
 /// A shard of the shape, and the shape, have so many places.
 fn has_places<R: Abort>(rt: &R, shape: Shape, of_shard: u32, of_all: usize) {
     assert!(rt; shape.check().is_ok());
-    assert_eq!(rt; shape.shard_places(), of_shard);
-    assert_eq!(rt; shape.all_places(), of_all);
+    same(rt, &shape.shard_places(), &of_shard);
+    same(rt, &shape.all_places(), &of_all);
 }
 
 #[test]
@@ -226,19 +226,20 @@ fn number_of<R: Abort>(rt: &R, place: Place) -> u32 {
     assert!(rt; place.page <= 15 && place.slot <= 4095);
     let number = place.number();
     assert!(rt; number < 16777216);
-    assert_eq!(rt; Place::of_number(number), place);
+    same(rt, &Place::of_number(number), &place);
     number
 }
 
 /// The place of this number has this index in its shard, and this position in the largest shape.
 fn stands_at<R: Abort>(rt: &R, number: u32, index: usize, position: usize) {
     assert!(rt; LARGEST.check().is_ok() && LARGEST.is_place(number));
-    assert_eq!(rt;
-        (LARGEST.index(number), LARGEST.position(number)),
-        (index, position)
+    same(
+        rt,
+        &(LARGEST.index(number), LARGEST.position(number)),
+        &(index, position),
     );
     assert!(rt; position < LARGEST.all_places());
-    assert_eq!(rt; LARGEST.place_at(position), number);
+    same(rt, &LARGEST.place_at(position), &number);
 }
 
 #[test]
@@ -260,8 +261,8 @@ fn places_have_positions(rt: HostRuntime) {
 #[test]
 fn links_stand_for_places(rt: HostRuntime) {
     for (place, shard, word) in [(0, 0, 1), (65539, 1, 4), (15 * 65536 + 22527, 15, 22528)] {
-        assert_eq!(rt; link_to(place), word);
+        same(&rt, &link_to(place), &word);
         assert!(rt; shard < 16 && 1 <= word && word <= 65536);
-        assert_eq!(rt; linked_place(shard, word), place);
+        same(&rt, &linked_place(shard, word), &place);
     }
 }

@@ -1,4 +1,4 @@
-use crate::texts::reads;
+use crate::test_texts::reads;
 use keybits::{Kind, Step, Word};
 use seqpool::Bytes;
 use std::alloc::Global;

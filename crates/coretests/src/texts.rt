@@ -1,11 +1,9 @@
 //! Bytes as tests compare them with a text.
-ghost use Rattle.std.specs.Prelude.{◌≡◌};
+ghost use Rattle.std.specs.Prelude.{◌≡◌, ◌↔◌, IsTrue};
 
-use std::process::Abort;
-
-/// Stops the test unless these bytes are those of the text.
-pub fn reads<R: Abort>(rt: &R, bytes: &[u8], text: &str)
-    ensures { bytes.now ≡ text.now }
+/// Whether these bytes are those of the text.
+pub fn is_text(bytes: &[u8], text: &str) -> bool
+    ensures { IsTrue result ↔ bytes.now ≡ text.now }
 {
-    assert_eq!(rt; bytes, text.as_bytes());
+    bytes == text.as_bytes()
 }

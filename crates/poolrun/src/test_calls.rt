@@ -1,6 +1,7 @@
 //! Calls of the program as tests make them, and what these answer and write.
 use poolprogram::{RunFault, Watched, check_text, read_schedule, replay_text};
 use std::alloc::AllocGlobal;
+use std::fmt::Debug;
 use std::process::Abort;
 
 /// The number and the name of a fault, where there is one.
@@ -102,4 +103,9 @@ pub(crate) fn check_of<R: Abort + AllocGlobal>(rt: &R, file: &str, schedule: &[u
     let legal = check_text(rt.alloc(), acts.as_slice(), &mut out).expect(rt, "acts");
     assert!(rt; legal, "over {schedule:?} at {file}");
     written(rt, out)
+}
+
+/// Stops the test unless these are equal. A call of this is proved much faster than the comparison written out.
+pub(crate) fn same<T: PartialEq + Debug, R: Abort>(rt: &R, left: &T, right: &T) {
+    assert_eq!(rt; *left, *right);
 }

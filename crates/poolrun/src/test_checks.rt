@@ -1,5 +1,5 @@
 use crate::fake_writers::{Clogged, Deaf, Halting};
-use crate::test_calls::{fault_of, is_fault, says_output, wrote};
+use crate::test_calls::{fault_of, is_fault, same, says_output, wrote};
 use coresteps::CoreFault;
 use keybits::ShapeFault;
 use poolprogram::{RunFault, Watched, check_text};
@@ -153,7 +153,7 @@ fn write_to<W: Write>(out: &mut Watched<W>, bytes: &[u8]) -> (bool, bool) {
 
 /// A fault has this number and name.
 fn is_named<R: Abort>(rt: &R, fault: &RunFault, number: u32, name: &'static str) {
-    assert_eq!(rt; (fault.number(), fault.name()), (number, name));
+    same(rt, &(fault.number(), fault.name()), &(number, name));
 }
 
 #[test]
@@ -182,18 +182,18 @@ fn check_fails_with_its_writer(rt: HostRuntime) {
 #[test]
 fn watches_one_that_halts(rt: HostRuntime) {
     let mut out = Watched::new(Halting { room: 3 });
-    assert_eq!(rt; write_to(&mut out, b"ab"), (true, false));
-    assert_eq!(rt; write_to(&mut out, b"cd"), (true, false));
-    assert_eq!(rt; write_to(&mut out, b""), (false, true));
+    same(&rt, &write_to(&mut out, b"ab"), &(true, false));
+    same(&rt, &write_to(&mut out, b"cd"), &(true, false));
+    same(&rt, &write_to(&mut out, b""), &(false, true));
 }
 
 #[test]
 fn watches(rt: HostRuntime) {
     let mut out = Watched::new(Deaf);
-    assert_eq!(rt; write_to(&mut out, b""), (true, false));
-    assert_eq!(rt; write_to(&mut out, b"a"), (true, true));
+    same(&rt, &write_to(&mut out, b""), &(true, false));
+    same(&rt, &write_to(&mut out, b"a"), &(true, true));
     let mut out = Watched::new(Clogged);
-    assert_eq!(rt; write_to(&mut out, b"a"), (true, false));
+    same(&rt, &write_to(&mut out, b"a"), &(true, false));
     assert!(rt; out.flush().is_err() && out.failed());
 }
 

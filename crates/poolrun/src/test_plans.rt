@@ -1,4 +1,4 @@
-use crate::test_calls::{Fault, is_fault, replay_fault_of};
+use crate::test_calls::{Fault, is_fault, replay_fault_of, same};
 use keybits::Shape;
 use scripts::{Plan, parse};
 use std::alloc::AllocGlobal;
@@ -241,7 +241,7 @@ fn lacks_fields<R: Abort + AllocGlobal>(rt: &R, file: &str) {
 /// The plan of a file, which has this shape.
 fn plan_of<R: Abort + AllocGlobal>(rt: &R, file: &str, shape: Shape) -> Plan {
     let plan = parse(rt.alloc(), file.as_bytes()).expect(rt, "a plan");
-    assert_eq!(rt; plan.shape, shape);
+    same(rt, &plan.shape, &shape);
     plan
 }
 

@@ -1,5 +1,7 @@
 use crate::fake_writers::{Deaf, Halting};
-use crate::test_calls::{around, fault_of, is_fault, replays_as, says_output, schedule_of, wrote};
+use crate::test_calls::{
+    around, fault_of, is_fault, replays_as, same, says_output, schedule_of, wrote,
+};
 use poolprogram::{Watched, draw_turns, load, replay_plan, replay_text};
 use std::alloc::AllocGlobal;
 use std::io::Write;
@@ -88,7 +90,7 @@ fn writes_acts(rt: HostRuntime) {
 /// So many turns that are drawn for a file, over which it has this trace.
 fn draws<R: Abort + AllocGlobal>(rt: &R, file: &str, turns: u32, trace: &str) -> Vec<u32> {
     let (plan, schedule) = draw_turns(rt.alloc(), file.as_bytes(), 1, turns).expect(rt, "turns");
-    assert_eq!(rt; schedule.len(), turns as usize);
+    same(rt, &schedule.len(), &(turns as usize));
     let mut out = Watched::new(Vec::new(rt.alloc()));
     replay_plan(rt.alloc(), plan, schedule.as_slice(), false, &mut out).expect(rt, "a replay");
     wrote(rt, out, trace, file);

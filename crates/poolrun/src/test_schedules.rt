@@ -1,6 +1,6 @@
 ghost use Rattle.std.specs.Prelude.{◌≤◌};
 
-use crate::test_calls::schedule_of;
+use crate::test_calls::{same, schedule_of};
 use poolprogram::read_schedule;
 use scripts::{Memory, draw, stop_after};
 use std::alloc::AllocGlobal;
@@ -11,7 +11,7 @@ const NO_SCHEDULES: [&str; 10] = ["", ",", "0,", ",0", "0,,0", "256", "0000", "+
 
 /// These are the entries of a schedule.
 fn are_entries<R: Abort>(rt: &R, schedule: &[u32], entries: &[u32]) {
-    assert_eq!(rt; schedule, entries);
+    same(rt, &schedule, &entries);
 }
 
 /// A text stands for this schedule.
@@ -91,5 +91,5 @@ fn stops(rt: HostRuntime) {
 
 #[test]
 fn names_the_want_of_memory(rt: HostRuntime) {
-    assert_eq!(rt; (Memory.number(), Memory.name()), (36, "Memory"));
+    same(&rt, &(Memory.number(), Memory.name()), &(36, "Memory"));
 }

@@ -1,4 +1,4 @@
-use crate::test_calls::{around, schedule_of};
+use crate::test_calls::{around, same, schedule_of};
 use commandline::{Task, TaskFault, task};
 use std::alloc::AllocGlobal;
 use std::process::Abort;
@@ -7,9 +7,9 @@ use std::process::Abort;
 fn reads_a_thousand_entries(rt: HostRuntime) {
     let text = around(&rt, "0", ",0", 999, "");
     let schedule = schedule_of(&rt, text.as_str());
-    assert_eq!(rt; schedule.len(), 1000);
+    same(&rt, &schedule.len(), &1000);
     for lane in schedule.as_slice() {
-        assert_eq!(rt; *lane, 0);
+        same(&rt, &(*lane), &0);
     }
 }
 

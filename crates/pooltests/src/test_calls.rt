@@ -4,10 +4,12 @@ ghost use Rattle.steplaws.specs.Facts.{most_references};
 ghost use Rattle.shardpool.specs.Tokens.{LaneOf, FillingOf};
 ghost use Rattle.shardpool.specs.Lanes.{Owns, Made, holds, refs};
 
+use crate::contents::shows;
 use keybits::Shape;
 use shardpool::{Census, CreateFault, Filling, Lane, Pool, Ref, close, open};
 use slotcell::{ByteBuf, Clear};
 use std::alloc::Global;
+use std::fmt::Debug;
 use std::process::Abort;
 
 /// The largest generation of a place.
@@ -154,8 +156,8 @@ pub(crate) fn create<T: Clear + Drop, R: Abort>(
     match pool.create(lane) {
         Ok(filling) => filling,
         Err(fault) => {
-            assert_eq!(rt; fault, CreateFault::Memory);
-            assert_eq!(rt; fault.number(), 22);
+            same(rt, &fault, &CreateFault::Memory);
+            same(rt, &fault.number(), &22);
             pool.create(lane).ok().expect(rt, "a filling")
         }
     }
@@ -172,8 +174,8 @@ pub(crate) fn finds_full<T: Clear + Drop, R: Abort>(rt: &R, pool: &Pool<T>, lane
             panic!(rt; "a place is free")
         }
         Err(fault) => {
-            assert_eq!(rt; fault, CreateFault::Full);
-            assert_eq!(rt; fault.number(), 21);
+            same(rt, &fault, &CreateFault::Full);
+            same(rt, &fault.number(), &21);
         }
     }
 }
@@ -224,7 +226,7 @@ pub(crate) fn publish<R: Abort>(
     ensures refs { refs lane.new ≡ refs lane.old }
 {
     let filling = fill(rt, pool, lane, key, bytes);
-    assert_eq!(rt; pool.publish(lane, filling), key);
+    same(rt, &pool.publish(lane, filling), &key);
 }
 
 /// A get that finds the key.
@@ -244,7 +246,7 @@ pub(crate) fn get<T: Clear + Drop, R: Abort>(
     let Some(reference) = pool.get(lane, key) else {
         panic!(rt; "{key} is not found")
     };
-    assert_eq!(rt; reference.key(), key);
+    same(rt, &reference.key(), &key);
     reference
 }
 
@@ -285,6 +287,17 @@ pub(crate) fn clear<T: Clear + Drop, R: Abort>(
     assert_eq!(rt; pool.clear(lane, key), marks, "clear of {key}");
 }
 
+/// A reference shows these bytes.
+pub(crate) fn reads<R: Abort>(rt: &R, lane: &Lane<ByteBuf>, reference: &Ref<ByteBuf>, bytes: &[u8])
+    requires { 1 ≤ holds lane.now reference.now.key }
+{
+    assert!(rt;
+        shows(lane, reference, bytes),
+        "{} shows other bytes",
+        reference.key()
+    );
+}
+
 /// A lane tells another what it has seen.
 pub(crate) fn tell<T: Clear + Drop>(pool: &Pool<T>, teller: &mut Lane<T>, hearer: &mut Lane<T>)
     requires teller { Owns pool.now teller.old }
@@ -295,4 +308,9 @@ pub(crate) fn tell<T: Clear + Drop>(pool: &Pool<T>, teller: &mut Lane<T>, hearer
 {
     let note = pool.tell(teller);
     pool.hear(hearer, note);
+}
+
+/// Stops the test unless these are equal. A call of this is proved much faster than the comparison written out.
+pub(crate) fn same<T: PartialEq + Debug, R: Abort>(rt: &R, left: &T, right: &T) {
+    assert_eq!(rt; *left, *right);
 }

@@ -4,7 +4,7 @@ ghost use Rattle.shardpool.specs.Tokens.{LaneOf};
 ghost use Rattle.shardpool.specs.Lanes.{Owns, Made, refs};
 
 use crate::test_calls::{
-    NO_PLACE, clear, close_one, close_two, create, get, open_last, open_pair, shape_of,
+    NO_PLACE, clear, close_one, close_two, create, get, open_last, open_pair, same, shape_of,
 };
 use keybits::Shape;
 use shardpool::{Census, Filling, Lane, Pool};
@@ -159,18 +159,19 @@ fn drops_each_object_once(rt: HostRuntime) {
     let drops = new_count(&rt, rt.alloc());
     let (pool, mut first, mut second) = open_pair(&rt, rt.alloc(), shape_of(2, 8, 1));
     use_places(&rt, &pool, &mut first, &mut second, &drops);
-    assert_eq!(rt; drops.load(Ordering::SeqCst), 2);
+    same(&rt, &drops.load(Ordering::SeqCst), &2);
     let census = close_two(&rt, rt.alloc(), pool, first, second);
-    assert_eq!(rt; drops.load(Ordering::SeqCst), 9);
-    assert_eq!(rt;
-        census,
-        Census {
+    same(&rt, &drops.load(Ordering::SeqCst), &9);
+    same(
+        &rt,
+        &census,
+        &Census {
             free: 11,
             filling: 2,
             present: 2,
             marked: 1,
             ..NO_PLACE
-        }
+        },
     );
 }
 
@@ -185,5 +186,5 @@ fn drops_a_retired_object_once(rt: HostRuntime) {
     let key = publish(&rt, &pool, &mut lane, &drops);
     clear(&rt, &pool, &mut lane, key, true);
     close_one(&rt, rt.alloc(), pool, lane);
-    assert_eq!(rt; drops.load(Ordering::SeqCst), 1);
+    same(&rt, &drops.load(Ordering::SeqCst), &1);
 }

@@ -1,6 +1,7 @@
 ghost use Rattle.std.specs.Prelude.{◌≡◌, [], ◌∷◌, length, IfOk};
 ghost use Rattle.shardpool.specs.Lanes.{Owns, refs};
 
+use crate::test_calls::same;
 use guards::{FillGuard, ReadGuard, create_with, with};
 use keybits::Shape;
 use shardpool::{CreateFault, Lane, Pool, open};
@@ -100,10 +101,10 @@ fn is_called(pool: &Pool<ByteBuf>, lane: &mut Lane<ByteBuf>, key: u64) -> bool
 #[test]
 fn closures_run_between_the_calls(rt: HostRuntime) -> Result<(), Fail> {
     let (pool, mut lane) = open_one::<ByteBuf>(rt.alloc(), TWO_PLACES)?;
-    assert_eq!(rt; create_two_bytes(&pool, &mut lane), Ok(16777216));
-    assert_eq!(rt; length_of(&pool, &mut lane, 16777216), Some(2));
+    same(&rt, &create_two_bytes(&pool, &mut lane), &Ok(16777216));
+    same(&rt, &length_of(&pool, &mut lane, 16777216), &Some(2));
     assert!(rt; pool.clear(&mut lane, 16777216));
-    assert_eq!(rt; length_of(&pool, &mut lane, 16777216), None);
+    same(&rt, &length_of(&pool, &mut lane, 16777216), &None);
     assert!(rt; !is_called(&pool, &mut lane, 16777216));
     Ok(())
 }
@@ -114,9 +115,9 @@ fn fill_by_guard<R: Abort>(rt: &R, pool: &Pool<ByteBuf>, lane: &mut Lane<ByteBuf
     ensures { Owns pool.now lane.new × (refs lane.new ≡ 0) }
 {
     let mut guard = FillGuard::new(lane, pool).ok().expect(rt, "a place");
-    assert_eq!(rt; guard.key(), 16777216);
+    same(rt, &guard.key(), &16777216);
     let _ = guard.value_mut().append(b"hi");
-    assert_eq!(rt; guard.value().len(), 2);
+    same(rt, &guard.value().len(), &2);
 }
 
 /// A guard reads what was published, and gives its reference back when it is dropped.
@@ -125,7 +126,7 @@ fn read_by_guard<R: Abort>(rt: &R, pool: &Pool<ByteBuf>, lane: &mut Lane<ByteBuf
     ensures { Owns pool.now lane.new × (refs lane.new ≡ 0) }
 {
     let guard = ReadGuard::new(lane, pool, 16777216).expect(rt, "a published key");
-    assert_eq!(rt; guard.key(), 16777216);
+    same(rt, &guard.key(), &16777216);
     assert_eq!(rt; guard.value().as_slice(), b"hi".as_slice());
 }
 
@@ -134,9 +135,9 @@ fn downgrade_guard<R: Abort>(rt: &R, pool: &Pool<ByteBuf>, lane: &mut Lane<ByteB
     requires { Owns pool.now lane.old × (refs lane.old ≡ 0) }
 {
     let guard = FillGuard::new(lane, pool).ok().expect(rt, "a place");
-    assert_eq!(rt; guard.key(), 33554432);
+    same(rt, &guard.key(), &33554432);
     let guard = guard.downgrade();
-    assert_eq!(rt; guard.key(), 33554432);
+    same(rt, &guard.key(), &33554432);
     assert!(rt; guard.value().is_empty());
 }
 
@@ -145,7 +146,7 @@ fn guards_end_by_themselves(rt: HostRuntime) -> Result<(), Fail> {
     let (pool, mut lane) = open_one::<ByteBuf>(rt.alloc(), ONE_PLACE)?;
     fill_by_guard(&rt, &pool, &mut lane);
     read_by_guard(&rt, &pool, &mut lane);
-    assert_eq!(rt; lane.refs(), 0);
+    same(&rt, &lane.refs(), &0);
     assert!(rt; pool.clear(&mut lane, 16777216));
     downgrade_guard(&rt, &pool, &mut lane);
     Ok(())
@@ -162,13 +163,17 @@ fn numbers_of(pool: &Pool<Record>, lane: &mut Lane<Record>, key: u64) -> Option<
 #[test]
 fn guards_end_in_the_middle(rt: HostRuntime) -> Result<(), Fail> {
     let (pool, mut lane) = open_one::<Record>(rt.alloc(), ONE_PLACE)?;
-    assert_eq!(rt; filled(&pool, &mut lane, None), Err(CreateFault::Memory));
-    assert_eq!(rt; numbers_of(&pool, &mut lane, 16777216), Some(0));
-    assert_eq!(rt; first_of(&pool, &mut lane, 16777216), None);
+    same(
+        &rt,
+        &filled(&pool, &mut lane, None),
+        &Err(CreateFault::Memory),
+    );
+    same(&rt, &numbers_of(&pool, &mut lane, 16777216), &Some(0));
+    same(&rt, &first_of(&pool, &mut lane, 16777216), &None);
     assert!(rt; pool.clear(&mut lane, 16777216));
-    assert_eq!(rt; filled(&pool, &mut lane, Some(7)), Ok(33554432));
-    assert_eq!(rt; first_of(&pool, &mut lane, 33554432), Some(7));
-    assert_eq!(rt; first_of(&pool, &mut lane, 16777216), None);
-    assert_eq!(rt; lane.refs(), 0);
+    same(&rt, &filled(&pool, &mut lane, Some(7)), &Ok(33554432));
+    same(&rt, &first_of(&pool, &mut lane, 33554432), &Some(7));
+    same(&rt, &first_of(&pool, &mut lane, 16777216), &None);
+    same(&rt, &lane.refs(), &0);
     Ok(())
 }

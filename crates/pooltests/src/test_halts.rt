@@ -1,7 +1,7 @@
 ghost use Rattle.std.specs.Prelude.{◌≡◌, ◌≤◌};
 ghost use Rattle.shardpool.specs.Lanes.{Owns, holds, refs};
 
-use crate::test_calls::{clear, create, get, open_pair, shape_of};
+use crate::test_calls::{clear, create, get, open_pair, same, shape_of};
 use shardpool::{CreateFault, Lane, LastCall, Pool, Ref};
 use slotcell::ByteBuf;
 use std::process::Abort;
@@ -35,7 +35,7 @@ fn finds<R: Abort>(rt: &R, pool: &Pool<ByteBuf>, lane: &mut Lane<ByteBuf>, key: 
     assert!(rt; lane.refs() < 2);
     match pool.get(lane, key) {
         Some(reference) => {
-            assert_eq!(rt; reference.key(), key);
+            same(rt, &reference.key(), &key);
             pool.release(lane, reference);
             true
         }
@@ -55,7 +55,7 @@ fn create_after_get<R: Abort>(
     requires second { Owns pool.now second × (refs second ≡ 0) }
 {
     let reference = publish_one(rt, pool, first);
-    assert_eq!(rt; reference.key(), 16777216);
+    same(rt, &reference.key(), &16777216);
     clear(rt, pool, first, 16777216, true);
     pool.halt(second, LastCall::Get(16777216), limit).leave();
     pool.release(first, reference);
@@ -116,12 +116,12 @@ fn stop_in_create<R: Abort>(
 {
     let reference = publish_one(rt, pool, &mut second);
     let key = reference.key();
-    assert_eq!(rt; key, 16842752);
+    same(rt, &key, &16842752);
     pool.release(&mut second, reference);
     clear(rt, pool, first, key, true);
     let halted = pool.halt(second, LastCall::Create, limit);
     assert!(rt; !finds(rt, pool, first, key));
-    assert_eq!(rt; created_key(pool, first), Ok(16777216));
+    same(rt, &created_key(pool, first), &Ok(16777216));
     halted.leave();
 }
 
@@ -133,9 +133,10 @@ fn a_halted_get_keeps_its_enter(rt: HostRuntime) {
         (100, Ok(33554432)),
     ] {
         let (pool, mut first, second) = open_pair(&rt, rt.alloc(), shape_of(2, 1, 1));
-        assert_eq!(rt;
-            create_after_get(&rt, &pool, &mut first, second, limit),
-            created
+        same(
+            &rt,
+            &create_after_get(&rt, &pool, &mut first, second, limit),
+            &created,
         );
     }
 }
@@ -144,9 +145,10 @@ fn a_halted_get_keeps_its_enter(rt: HostRuntime) {
 fn a_halted_clear_marks_or_not(rt: HostRuntime) {
     for (limit, found) in [(0, true), (100, false)] {
         let (pool, mut first, second) = open_pair(&rt, rt.alloc(), shape_of(2, 1, 1));
-        assert_eq!(rt;
-            finds_after_clear(&rt, &pool, &mut first, second, limit),
-            found
+        same(
+            &rt,
+            &finds_after_clear(&rt, &pool, &mut first, second, limit),
+            &found,
         );
     }
 }
@@ -155,9 +157,10 @@ fn a_halted_clear_marks_or_not(rt: HostRuntime) {
 fn a_halted_release_keeps_its_reference_or_not(rt: HostRuntime) {
     for (limit, created) in [(0, Err(CreateFault::Full)), (100, Ok(33554432))] {
         let (pool, mut first, second) = open_pair(&rt, rt.alloc(), shape_of(2, 1, 1));
-        assert_eq!(rt;
-            create_after_release(&rt, &pool, &mut first, second, limit),
-            created
+        same(
+            &rt,
+            &create_after_release(&rt, &pool, &mut first, second, limit),
+            &created,
         );
     }
 }

@@ -1,6 +1,6 @@
 ghost use Rattle.shardpool.specs.Lanes.{Owns};
 
-use crate::test_calls::{open_all, open_pair, shape_of};
+use crate::test_calls::{open_all, open_pair, same, shape_of};
 use keybits::{Shape, ShapeFault};
 use shardpool::{CreateFault, Lane, OpenFault, Pool, open};
 use slotcell::{ByteBuf, Clear, Record};
@@ -23,8 +23,8 @@ fn clear_of_nothing<T: Clear + Drop, R: Abort>(rt: &R, pool: &Pool<T>, lane: &mu
     assert!(rt; !pool.clear(lane, 0));
     assert!(rt; !pool.clear(lane, 18446744073709551615));
     assert!(rt; !pool.clear(lane, 16777216));
-    assert_eq!(rt; lane.refs(), 0);
-    assert_eq!(rt; lane.holds(16777216), 0);
+    same(rt, &lane.refs(), &0);
+    same(rt, &lane.holds(16777216), &0);
     if let Some(reference) = lane.reference(16777216) {
         reference.leave();
         panic!(rt; "a reference that no get gave");
@@ -34,7 +34,7 @@ fn clear_of_nothing<T: Clear + Drop, R: Abort>(rt: &R, pool: &Pool<T>, lane: &mu
 /// The lanes of a pool stand by their numbers, and none has a free place yet.
 fn are_first<T: Clear + Drop, R: Abort>(rt: &R, lanes: &[Lane<T>]) {
     for (number, lane) in lanes.iter().enumerate() {
-        assert_eq!(rt; lane.number() as usize, number);
+        same(rt, &(lane.number() as usize), &number);
         assert!(rt; !lane.has_free());
     }
 }
@@ -42,8 +42,8 @@ fn are_first<T: Clear + Drop, R: Abort>(rt: &R, lanes: &[Lane<T>]) {
 /// A pool of this shape has so many lanes.
 fn opens<T: Clear + Drop, R: Abort>(rt: &R, alloc: Global, shape: Shape) {
     let (pool, lanes) = open_all::<T, _>(rt, alloc, shape);
-    assert_eq!(rt; pool.shape(), shape);
-    assert_eq!(rt; lanes.len(), shape.lanes as usize);
+    same(rt, &pool.shape(), &shape);
+    same(rt, &lanes.len(), &(shape.lanes as usize));
     are_first(rt, lanes.as_slice());
 }
 
@@ -62,11 +62,11 @@ fn refuses_shapes(rt: HostRuntime) {
     let Err(fault) = open::<ByteBuf>(rt.alloc(), many) else {
         panic!(rt; "seventeen lanes")
     };
-    assert_eq!(rt; fault, OpenFault::Shape(ShapeFault::Lanes));
-    assert_eq!(rt; fault.number(), 1);
-    assert_eq!(rt; OpenFault::Memory.number(), 5);
-    assert_eq!(rt; CreateFault::Full.number(), 21);
-    assert_eq!(rt; CreateFault::Memory.number(), 22);
+    same(&rt, &fault, &OpenFault::Shape(ShapeFault::Lanes));
+    same(&rt, &fault.number(), &1);
+    same(&rt, &OpenFault::Memory.number(), &5);
+    same(&rt, &CreateFault::Full.number(), &21);
+    same(&rt, &CreateFault::Memory.number(), &22);
 }
 
 #[test]

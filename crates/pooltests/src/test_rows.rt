@@ -3,10 +3,9 @@ ghost use Rattle.std.specs.Prelude.{◌≡◌, ◌+◌, ◌<◌, ◌≤◌};
 ghost use Rattle.shardpool.specs.Tokens.{LaneOf};
 ghost use Rattle.shardpool.specs.Lanes.{Owns, Made, holds, refs};
 
-use crate::contents::reads;
 use crate::test_calls::{
-    LAST, clear, create, fill, finds_full, get, misses, open_last, open_pair, publish, shape_of,
-    tell, write,
+    LAST, clear, create, fill, finds_full, get, misses, open_last, open_pair, publish, reads, same,
+    shape_of, tell, write,
 };
 use keybits::Shape;
 use shardpool::{Filling, Lane, Pool, Ref};
@@ -310,7 +309,7 @@ fn fill_all<R: Abort>(rt: &R, pool: &Pool<ByteBuf>, lane: &mut Lane<ByteBuf>, ke
     for number in 1..=PLACES {
         let filling = create(rt, pool, lane);
         if let Some(key) = key_at(keys, number) {
-            assert_eq!(rt; filling.key(), key);
+            same(rt, &filling.key(), &key);
         }
         filling.leave();
     }
@@ -418,7 +417,7 @@ fn finds_no_key_of_another_pool(rt: HostRuntime) {
         (5, 360287970206416896, FIRST),
     ] {
         let (pool, mut lane) = open_last(&rt, rt.alloc(), tagged(tag));
-        assert_eq!(rt; publish_empty(&rt, &pool, &mut lane), own);
+        same(&rt, &publish_empty(&rt, &pool, &mut lane), &own);
         find_one_of_two(&rt, &pool, &mut lane, own, other);
     }
 }
@@ -437,10 +436,10 @@ fn publish_first<T: Clear + Drop, R: Abort>(rt: &R, pool: &Pool<T>, lane: &mut L
     ensures { Owns pool.now lane.new × (refs lane.new ≡ refs lane.old) }
 {
     let mut filling = create(rt, pool, lane);
-    assert_eq!(rt; filling.key(), FIRST);
+    same(rt, &filling.key(), &FIRST);
     empty(&mut filling);
     let room = filling.value().room();
-    assert_eq!(rt; pool.publish(lane, filling), FIRST);
+    same(rt, &pool.publish(lane, filling), &FIRST);
     room
 }
 
@@ -471,12 +470,12 @@ fn share_one_place<T: Clear + Drop, R: Abort>(
     let room = publish_first(rt, pool, first);
     let one = get(rt, pool, first, FIRST);
     let other = get(rt, pool, second, FIRST);
-    assert_eq!(rt; first.holds(FIRST), 1);
-    assert_eq!(rt; second.refs(), 1);
-    assert_eq!(rt; first.read(&one).room(), room);
+    same(rt, &first.holds(FIRST), &1);
+    same(rt, &second.refs(), &1);
+    same(rt, &first.read(&one).room(), &room);
     clear(rt, pool, second, FIRST, true);
     misses(rt, pool, first, FIRST);
-    assert_eq!(rt; second.read(&other).room(), room);
+    same(rt, &second.read(&other).room(), &room);
     one.leave();
     release_by_key(rt, pool, first, FIRST);
     pool.release(second, other);
@@ -497,11 +496,11 @@ fn leave_each<T: Clear + Drop, R: Abort>(
     tell(pool, second, first);
     let filling = create(rt, pool, first);
     let reference = pool.downgrade(first, filling);
-    assert_eq!(rt; reference.key(), AGAIN);
-    assert_eq!(rt; first.holds(AGAIN), 1);
+    same(rt, &reference.key(), &AGAIN);
+    same(rt, &first.holds(AGAIN), &1);
     reference.leave();
     let filling = create(rt, pool, second);
-    assert_eq!(rt; filling.key(), 16842752);
+    same(rt, &filling.key(), &16842752);
     filling.leave();
     finds_full(rt, pool, first);
     pool.meet(first, second);
@@ -517,13 +516,13 @@ fn call_each<T: Clear + Drop, R: Abort>(
     requires first { Owns pool.now first.old × (refs first.old < 1000) }
     requires second { Owns pool.now second.old × (refs second.old < 1000) }
 {
-    assert_eq!(rt; pool.shape(), shape_of(2, 1, 1));
-    assert_eq!(rt; first.number(), 0);
-    assert_eq!(rt; second.number(), 1);
+    same(rt, &pool.shape(), &shape_of(2, 1, 1));
+    same(rt, &first.number(), &0);
+    same(rt, &second.number(), &1);
     assert!(rt; !first.has_free());
     share_one_place(rt, pool, first, second);
-    assert_eq!(rt; first.refs(), 0);
-    assert_eq!(rt; second.holds(FIRST), 0);
+    same(rt, &first.refs(), &0);
+    same(rt, &second.holds(FIRST), &0);
     leave_each(rt, pool, first, second);
 }
 

@@ -3,10 +3,9 @@ ghost use Rattle.std.specs.Prelude.{◌≡◌, ◌==◌, ◌+◌, ◌-◌, ◌<�
 ghost use Rattle.steplaws.specs.Facts.{most_references};
 ghost use Rattle.shardpool.specs.Lanes.{Owns, holds, refs};
 
-use crate::contents::reads;
 use crate::test_calls::{
     NO_PLACE, clear, close_all, close_two, create, get, last_of, misses, open_all, open_pair,
-    shape_of, write,
+    reads, same, shape_of, write,
 };
 use shardpool::{Census, Lane, Pool, Ref};
 use slotcell::ByteBuf;
@@ -84,7 +83,7 @@ fn look<R: Abort>(rt: &R, pool: &Pool<ByteBuf>, lane: &mut Lane<ByteBuf>, key: u
     ensures held { (k : ℕ) → holds lane.new k ≡ holds lane.old k }
 {
     if let Some(reference) = pool.get(lane, key) {
-        assert_eq!(rt; reference.key(), key);
+        same(rt, &reference.key(), &key);
         read_and_release(rt, pool, lane, reference);
     }
 }
@@ -154,15 +153,16 @@ fn on_two_threads<R: Threads + Abort + Sync>(
 /// The census of a pool of which nothing is in use: each of its places is free, or of a page that was never opened.
 fn counts_free<R: Abort>(rt: &R, census: Census, places: u64) {
     let Census { free, unopened, .. } = census;
-    assert_eq!(rt;
-        census,
-        Census {
+    same(
+        rt,
+        &census,
+        &Census {
             free,
             unopened,
             ..NO_PLACE
-        }
+        },
     );
-    assert_eq!(rt; u64::from(free) + u64::from(unopened), places);
+    same(rt, &(u64::from(free) + u64::from(unopened)), &places);
 }
 
 #[test]

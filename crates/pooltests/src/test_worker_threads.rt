@@ -1,6 +1,7 @@
 //! Workers on threads.
 ghost use Rattle.std.specs.Prelude.{◌≡◌, vec_len};
 
+use crate::test_calls::same;
 use crate::test_workers::{Open, Row, command_of};
 use keybits::Shape;
 use shardpool::{Census, close, open};
@@ -157,8 +158,8 @@ fn is_reply_of(row: Row<'_>, reply: &Reply) -> bool {
 
 /// Each line has the reply of its place in the round.
 fn has_rounds<R: Abort>(rt: &R, report: &Report) {
-    assert_eq!(rt; report.stopped_at, None);
-    assert_eq!(rt; report.replies.len(), LINES);
+    same(rt, &report.stopped_at, &None);
+    same(rt, &report.replies.len(), &LINES);
     for (row, reply) in ROUND.iter().cycle().zip(report.replies.iter()) {
         assert!(rt; is_reply_of(*row, reply));
     }
@@ -182,7 +183,7 @@ fn workers_run_one_beside_another(rt: HostRuntime) -> Result<(), Fail> {
         second: AtomicBool::new(false),
     };
     let (reports, _) = run_all(&rt, alloc, TWO_LANES, &[Row::Create(0)], 1, &gate);
-    assert_eq!(rt; reports.len(), 2);
+    same(&rt, &reports.len(), &2);
     let (first, second) = texts_of(alloc, reports.as_slice())?;
     assert_eq!(rt;
         first.as_str(),
@@ -200,7 +201,7 @@ fn workers_answer_in_the_order_of_their_jobs(rt: HostRuntime) -> Result<(), Fail
     let alloc = rt.alloc();
     let rows = [Row::Create(0), Row::Publish(0)];
     let (reports, census) = run_all(&rt, alloc, TWO_LANES, &rows, 2, &Open);
-    assert_eq!(rt; reports.len(), 2);
+    same(&rt, &reports.len(), &2);
     let (first, second) = texts_of(alloc, reports.as_slice())?;
     assert_eq!(rt;
         first.as_str(),
@@ -210,16 +211,17 @@ fn workers_answer_in_the_order_of_their_jobs(rt: HostRuntime) -> Result<(), Fail
         second.as_str(),
         "Report { replies: [Filling(16842752), Key(16842752)], stopped_at: None }"
     );
-    assert_eq!(rt;
-        census,
-        Census {
+    same(
+        &rt,
+        &census,
+        &Census {
             free: 0,
             unopened: 0,
             filling: 0,
             present: 2,
             marked: 0,
             retired: 0,
-        }
+        },
     );
     Ok(())
 }
@@ -227,7 +229,7 @@ fn workers_answer_in_the_order_of_their_jobs(rt: HostRuntime) -> Result<(), Fail
 #[test]
 fn sixteen_workers_run_a_thousand_lines(rt: HostRuntime) -> Result<(), Fail> {
     let (reports, census) = run_all(&rt, rt.alloc(), LARGEST, &ROUND, LINES, &Open);
-    assert_eq!(rt; reports.len(), 16);
+    same(&rt, &reports.len(), &16);
     for report in reports.as_slice() {
         has_rounds(&rt, report);
     }
@@ -241,6 +243,6 @@ fn sixteen_workers_run_a_thousand_lines(rt: HostRuntime) -> Result<(), Fail> {
     } = census;
     let rows = [free, unopened, filling, present, marked, retired];
     let places: u64 = rows.iter().map(|row| u64::from(*row)).sum();
-    assert_eq!(rt; places, 16 * 4032);
+    same(&rt, &places, &(16 * 4032));
     Ok(())
 }

@@ -2,7 +2,7 @@
 ghost use Rattle.std.specs.Prelude.{◌≡◌};
 ghost use Rattle.shardpool.specs.Lanes.{Owns, refs};
 
-use crate::test_calls::{open_last, open_pair};
+use crate::test_calls::{open_last, open_pair, same};
 use keybits::Shape;
 use seqpool::Bytes;
 use shardpool::{Lane, Pool};
@@ -249,7 +249,7 @@ fn replies<G: Gate, R: Abort>(
 {
     let script = script_of(rt, alloc, rows);
     let report = report_of(alloc, pool, lane, script, gate).expect(rt, "memory for the replies");
-    assert_eq!(rt; report.stopped_at, stopped_at);
+    same(rt, &report.stopped_at, &stopped_at);
     assert!(rt; are_wanted(report.replies.as_slice(), wanted));
 }
 
