@@ -1,11 +1,15 @@
-//! Tests of keys, cells, free places, the pool of one thread with its checker, and the core: they stand in a crate of their own,
-//! which proves no function of these libraries again.
+//! Tests of keys, cells, free places, the pool of one thread with its checker, the core, and the programs' libraries: they stand
+//! in a crate of their own, which proves no function of these libraries again.
 #![tactic(auto)]
 
+#[cfg(test)]
+mod fake_writers;
 #[cfg(test)]
 mod test_acts_texts;
 #[cfg(test)]
 mod test_cells;
+#[cfg(test)]
+mod test_check_lines;
 #[cfg(test)]
 mod test_checker;
 #[cfg(test)]
@@ -13,9 +17,27 @@ mod test_core;
 #[cfg(test)]
 mod test_free_places;
 #[cfg(test)]
+mod test_key_lines;
+#[cfg(test)]
 mod test_keys;
+#[cfg(test)]
+mod test_plans;
+#[cfg(test)]
+mod test_programs;
+#[cfg(test)]
+mod test_random;
+#[cfg(test)]
+mod test_replays;
+#[cfg(test)]
+mod test_rows;
+#[cfg(test)]
+mod test_runs;
+#[cfg(test)]
+mod test_schedules;
 #[cfg(test)]
 mod test_texts;
 #[cfg(test)]
 mod test_trace_texts;
+#[cfg(test)]
+mod test_words;
 pub mod texts;

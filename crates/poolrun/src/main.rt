@@ -224,26 +224,3 @@ fn main(rt: HostRuntime) -> ExitCode {
         Err(fault) => report_words(&rt, fault),
     }
 }
-
-#[cfg(test)]
-mod fake_writers;
-#[cfg(test)]
-mod test_calls;
-#[cfg(test)]
-mod test_checks;
-#[cfg(test)]
-mod test_keys;
-#[cfg(test)]
-mod test_plans;
-#[cfg(test)]
-mod test_random;
-#[cfg(test)]
-mod test_replays;
-#[cfg(test)]
-mod test_rows;
-#[cfg(test)]
-mod test_runs;
-#[cfg(test)]
-mod test_schedules;
-#[cfg(test)]
-mod test_words;

@@ -1,6 +1,6 @@
 ghost use Rattle.std.specs.Prelude.{◌<◌, ◌≤◌};
 
-use crate::test_calls::check_of;
+use crate::test_programs::check_of;
 use schedules::draw;
 use std::alloc::{AllocError, AllocGlobal};
 use std::process::Abort;

@@ -1,5 +1,5 @@
 use crate::fake_writers::{Clogged, Deaf, Halting};
-use crate::test_calls::{says_output, wrote};
+use crate::test_programs::{says_output, wrote};
 use poolprogram::{Watched, key_text};
 use std::alloc::AllocGlobal;
 use std::io::Write;

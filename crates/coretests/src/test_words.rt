@@ -1,4 +1,5 @@
-use crate::test_calls::{around, same, schedule_of};
+use crate::test_programs::{around, schedule_of};
+use crate::test_texts::same;
 use commandline::{Task, TaskFault, task};
 use std::alloc::AllocGlobal;
 use std::process::Abort;

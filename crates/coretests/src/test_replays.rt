@@ -1,7 +1,6 @@
 use crate::fake_writers::{Deaf, Halting};
-use crate::test_calls::{
-    around, fault_of, is_fault, replays_as, same, says_output, schedule_of, wrote,
-};
+use crate::test_programs::{around, fault_of, is_fault, replays_as, says_output, schedule_of, wrote};
+use crate::test_texts::same;
 use poolprogram::{Watched, draw_turns, load, replay_plan, replay_text};
 use std::alloc::AllocGlobal;
 use std::io::Write;

@@ -1,4 +1,4 @@
-use crate::test_calls::{check_of, is_fault, is_text, replay_fault_of, replay_of, replays_as};
+use crate::test_programs::{check_of, is_fault, reads_at, replay_fault_of, replay_of, replays_as};
 use poolprogram::stop_after;
 use std::alloc::AllocGlobal;
 use std::process::Abort;
@@ -248,7 +248,7 @@ const CHECKED: [Row; 4] = [
 fn checks_acts_of_rows(rt: HostRuntime) {
     for (file, schedule, line) in &CHECKED {
         let text = check_of(&rt, file, schedule);
-        is_text(&rt, text.as_slice(), line, file);
+        reads_at(&rt, text.as_slice(), line, file);
     }
 }
 

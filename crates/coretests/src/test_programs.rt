@@ -1,7 +1,7 @@
-//! Calls of the program as tests make them, and what these answer and write.
+//! Calls of the programs as tests make them, and what these answer and write.
+use crate::texts::is_text;
 use poolprogram::{RunFault, Watched, check_text, read_schedule, replay_text};
 use std::alloc::AllocGlobal;
-use std::fmt::Debug;
 use std::process::Abort;
 
 /// The number and the name of a fault, where there is one.
@@ -21,8 +21,8 @@ pub(crate) fn is_fault<R: Abort>(rt: &R, fault: Fault, number: u32, name: &'stat
 }
 
 /// A text is this.
-pub(crate) fn is_text<R: Abort>(rt: &R, text: &[u8], wanted: &str, at: &str) {
-    assert_eq!(rt; text, wanted.as_bytes(), "at {at}");
+pub(crate) fn reads_at<R: Abort>(rt: &R, text: &[u8], wanted: &str, at: &str) {
+    assert!(rt; is_text(text, wanted), "{text:?} in place of {wanted} at {at}");
 }
 
 /// What was written to a writer, which didn't fail.
@@ -34,7 +34,7 @@ pub(crate) fn written<R: Abort>(rt: &R, out: Watched<Vec<u8>>) -> Vec<u8> {
 /// This was written to a writer, which didn't fail.
 pub(crate) fn wrote<R: Abort>(rt: &R, out: Watched<Vec<u8>>, wanted: &str, at: &str) {
     let text = written(rt, out);
-    is_text(rt, text.as_slice(), wanted, at);
+    reads_at(rt, text.as_slice(), wanted, at);
 }
 
 /// A call says that its writer failed, as it did.
@@ -93,7 +93,7 @@ pub(crate) fn replays_as<R: Abort + AllocGlobal>(
     wanted: &str,
 ) {
     let text = replay_of(rt, file, schedule, acts);
-    is_text(rt, text.as_slice(), wanted, file);
+    reads_at(rt, text.as_slice(), wanted, file);
 }
 
 /// What is said of the acts of a replay, which are legal.
@@ -103,9 +103,4 @@ pub(crate) fn check_of<R: Abort + AllocGlobal>(rt: &R, file: &str, schedule: &[u
     let legal = check_text(rt.alloc(), acts.as_slice(), &mut out).expect(rt, "acts");
     assert!(rt; legal, "over {schedule:?} at {file}");
     written(rt, out)
-}
-
-/// Stops the test unless these are equal. A call of this is proved much faster than the comparison written out.
-pub(crate) fn same<T: PartialEq + Debug, R: Abort>(rt: &R, left: &T, right: &T) {
-    assert_eq!(rt; *left, *right);
 }

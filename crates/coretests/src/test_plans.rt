@@ -1,4 +1,5 @@
-use crate::test_calls::{Fault, is_fault, replay_fault_of, same};
+use crate::test_programs::{Fault, is_fault, replay_fault_of};
+use crate::test_texts::same;
 use keybits::Shape;
 use scripts::{Plan, parse};
 use std::alloc::AllocGlobal;

@@ -1,6 +1,7 @@
 ghost use Rattle.std.specs.Prelude.{◌≤◌};
 
-use crate::test_calls::{same, schedule_of};
+use crate::test_programs::schedule_of;
+use crate::test_texts::same;
 use poolprogram::read_schedule;
 use scripts::{Memory, draw, stop_after};
 use std::alloc::AllocGlobal;

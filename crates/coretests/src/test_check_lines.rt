@@ -1,5 +1,6 @@
 use crate::fake_writers::{Clogged, Deaf, Halting};
-use crate::test_calls::{fault_of, is_fault, same, says_output, wrote};
+use crate::test_programs::{fault_of, is_fault, says_output, wrote};
+use crate::test_texts::same;
 use coresteps::CoreFault;
 use keybits::ShapeFault;
 use poolprogram::{RunFault, Watched, check_text};

@@ -1,5 +1,5 @@
 use crate::fake_writers::{Clogged, Deaf, Halting};
-use crate::test_calls::{fault_of, is_fault, says_output, wrote};
+use crate::test_programs::{fault_of, is_fault, says_output, wrote};
 use poolprogram::{Watched, run_text};
 use std::alloc::AllocGlobal;
 use std::io::Write;
