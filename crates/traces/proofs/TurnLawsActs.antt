@@ -91,7 +91,7 @@ module _ (c : Caller) (act : Act) (made : Option Act) (e : made ≡ Some act) wh
 
 -- ---- the acts of turns
 
-by_turn : (z : Shape) (w : World) (lane : ℕ) (b : Book) (step : Option Step) (made : Option Act) (after : List Reply) (act : Act)
+pub by_turn : (z : Shape) (w : World) (lane : ℕ) (b : Book) (step : Option Step) (made : Option Act) (after : List Reply) (act : Act)
     → StepAndReplies z w lane b step made after → made ≡ Some act → lane_of act ≡ lane
 by_turn z w lane b None made after act h e = no_act act made lane e h.1
 by_turn z w lane b (Some step) made after act h e = by_call (caller z lane b) act made e (call_under_way b) w.words.link step h.0.makes

@@ -1,6 +1,8 @@
 -- A command that has its reply is done, as its call made its steps.
-use Rattle.std.proofs.Common.{◌≡◌, ℕ, Bool, true, false, List, length, Option, Some, None, refl, ap, sym, ◌∙◌, subst}
+use Rattle.std.proofs.Common.{◌≡◌, ℕ, Bool, true, false, List, ◌++◌, length, Option, Some, None, refl, ap, sym, ◌∙◌, subst}
+use Rattle.std.specs.Prelude.{flat_map}
 use Rattle.keybits.specs.declared.shape.Shape.{Shape}
+use Rattle.keybits.specs.Keys.{key_number}
 use Rattle.seqpool.specs.declared.act.Act.{Act}
 use Rattle.seqpool.specs.Pool.{Pool}
 use Rattle.steplaws.specs.Calls.{Call, Publishing, Getting, Releasing, Clearing, Creating, Caller}
@@ -13,12 +15,12 @@ use Rattle.traces.specs.declared.reply.Reply.TheVariants as replies
 use Rattle.traces.specs.declared.registers.Holding.{Holding}
 use Rattle.traces.specs.declared.registers.Holding.TheVariants.{Empty, Filling, Reference}
 use Rattle.traces.specs.Registers.{operand_key}
-use Rattle.traces.specs.Books.{Book, caller, holding_at, publishing, releasing, creating, getting, clearing, call_of, next_in, handed_out, shown, cleared, registers_after}
+use Rattle.traces.specs.Books.{Book, free_with, caller, holding_at, publishing, releasing, creating, getting, clearing, call_of, next_in, handed_out, shown, cleared, registers_after}
 use Rattle.traces.specs.Following.{HasContent, CreateReply, get_reply, WhereEmpty, WhereFilling, WhereReference, WhereKey, CommandReplies}
 use Rattle.traces.specs.Making.{HasMade}
-use Rattle.traces.specs.TurnLaws.{DoneCommand, Usage, unused, has_filling, has_reference, usage_of, Needs, IsCallOf, caller_after, CreateReplies, CallReplies, IsDone, skipped, at_once, by_call}
+use Rattle.traces.specs.TurnLaws.{DoneCommand, Usage, unused, has_filling, has_reference, usage_of, Needs, free_of, IsCallOf, caller_after, CreateReplies, CallReplies, IsDone, skipped, at_once, by_call}
 use Rattle.traces.proofs.TurnLawsCalls.{publish_made, release_made, shown_key, get_replies, clear_replies}
-use Rattle.traces.proofs.TurnLawsReads.{WerePublished}
+use Rattle.traces.proofs.TurnLawsReads.{IsPoolAt}
 use Rattle.traces.proofs.TurnLawsRegisters.{Held, AllFit, AllFitAfter, usage_in, did, names, no_name, after_create, after_write, after_publish, after_downgrade, after_get, after_read, after_release, after_clear}
 
 module _ (older : List DoneCommand) (b : Book) (fit : AllFit older b.registers) where
@@ -69,70 +71,79 @@ module _ (older : List DoneCommand) (b : Book) (fit : AllFit older b.registers) 
   needs_fit (commands.Release r) call is = release_has r (holding_at b r.number) call refl is
   needs_fit (commands.Clear operand) call is = clear_has operand (operand_key b.registers operand) call refl is
 
-  -- the call of a command is one that the commands before it tell
-  publish_fits : (r : Register) (h : Holding) (call : Call) → holding_at b r.number ≡ h → publishing false h ≡ Some call → IsCallOf older (commands.Publish r) call
-  publish_fits r Empty call e is = absurd (cc is)
-  publish_fits r (Filling key content) call e is =
-      let same : Publishing key content false ≡ call = cc is in subst (λ (c : Call). IsCallOf older (commands.Publish r) c) same (held r (Filling key content) e, refl)
-  publish_fits r (Reference key content) call e is = absurd (cc is)
+  module _ (z : Shape) (lane : ℕ) (free : free_of z lane older ≡ free_with b.own b.chain b.opened) where
+    -- the call of a command is one that the commands before it tell
+    publish_fits : (r : Register) (h : Holding) (call : Call) → holding_at b r.number ≡ h → publishing false h ≡ Some call → IsCallOf z lane older (commands.Publish r) call
+    publish_fits r Empty call e is = absurd (cc is)
+    publish_fits r (Filling key content) call e is =
+        let same : Publishing key content false ≡ call = cc is in subst (λ (c : Call). IsCallOf z lane older (commands.Publish r) c) same (held r (Filling key content) e, refl)
+    publish_fits r (Reference key content) call e is = absurd (cc is)
 
-  downgrade_fits : (r : Register) (h : Holding) (call : Call) → holding_at b r.number ≡ h → publishing true h ≡ Some call → IsCallOf older (commands.Downgrade r) call
-  downgrade_fits r Empty call e is = absurd (cc is)
-  downgrade_fits r (Filling key content) call e is =
-      let same : Publishing key content true ≡ call = cc is in subst (λ (c : Call). IsCallOf older (commands.Downgrade r) c) same (held r (Filling key content) e, refl)
-  downgrade_fits r (Reference key content) call e is = absurd (cc is)
+    downgrade_fits : (r : Register) (h : Holding) (call : Call) → holding_at b r.number ≡ h → publishing true h ≡ Some call → IsCallOf z lane older (commands.Downgrade r) call
+    downgrade_fits r Empty call e is = absurd (cc is)
+    downgrade_fits r (Filling key content) call e is =
+        let same : Publishing key content true ≡ call = cc is in subst (λ (c : Call). IsCallOf z lane older (commands.Downgrade r) c) same (held r (Filling key content) e, refl)
+    downgrade_fits r (Reference key content) call e is = absurd (cc is)
 
-  release_fits : (r : Register) (h : Holding) (call : Call) → holding_at b r.number ≡ h → releasing h ≡ Some call → IsCallOf older (commands.Release r) call
-  release_fits r Empty call e is = absurd (cc is)
-  release_fits r (Filling key content) call e is = absurd (cc is)
-  release_fits r (Reference key content) call e is =
-      let same : Releasing key ≡ call = cc is in subst (λ (c : Call). IsCallOf older (commands.Release r) c) same (held r (Reference key content) e)
+    release_fits : (r : Register) (h : Holding) (call : Call) → holding_at b r.number ≡ h → releasing h ≡ Some call → IsCallOf z lane older (commands.Release r) call
+    release_fits r Empty call e is = absurd (cc is)
+    release_fits r (Filling key content) call e is = absurd (cc is)
+    release_fits r (Reference key content) call e is =
+        let same : Releasing key ≡ call = cc is in subst (λ (c : Call). IsCallOf z lane older (commands.Release r) c) same (held r (Reference key content) e)
 
-  create_fits : (r : Register) (h : Holding) (call : Call) → creating b h ≡ Some call → IsCallOf older (commands.Create r) call
-  create_fits r Empty call is = let same : Creating b.own b.chain b.opened ≡ call = cc is in subst (λ (c : Call). IsCallOf older (commands.Create r) c) same tt
-  create_fits r (Filling key content) call is = absurd (cc is)
-  create_fits r (Reference key content) call is = absurd (cc is)
+    create_fits : (r : Register) (h : Holding) (call : Call) → creating b h ≡ Some call → IsCallOf z lane older (commands.Create r) call
+    create_fits r Empty call is =
+        let same : Creating b.own b.chain b.opened ≡ call = cc is in subst (λ (c : Call). IsCallOf z lane older (commands.Create r) c) same free
+    create_fits r (Filling key content) call is = absurd (cc is)
+    create_fits r (Reference key content) call is = absurd (cc is)
 
-  get_fits : (r : Register) (operand : Operand) (o : Option ℕ) (h : Holding) (call : Call) → operand_key b.registers operand ≡ o → getting o h ≡ Some call
-      → IsCallOf older (commands.Get r operand) call
-  get_fits r operand None h call e is = absurd (cc is)
-  get_fits r operand (Some key) Empty call e is =
-      let same : Getting key ≡ call = cc is in subst (λ (c : Call). IsCallOf older (commands.Get r operand) c) same (names older b.registers fit operand key e)
-  get_fits r operand (Some key) (Filling at content) call e is = absurd (cc is)
-  get_fits r operand (Some key) (Reference at content) call e is = absurd (cc is)
+    get_fits : (r : Register) (operand : Operand) (o : Option ℕ) (h : Holding) (call : Call) → operand_key b.registers operand ≡ o → getting o h ≡ Some call
+        → IsCallOf z lane older (commands.Get r operand) call
+    get_fits r operand None h call e is = absurd (cc is)
+    get_fits r operand (Some key) Empty call e is =
+        let same : Getting key ≡ call = cc is in subst (λ (c : Call). IsCallOf z lane older (commands.Get r operand) c) same (names older b.registers fit operand key e)
+    get_fits r operand (Some key) (Filling at content) call e is = absurd (cc is)
+    get_fits r operand (Some key) (Reference at content) call e is = absurd (cc is)
 
-  clear_fits : (operand : Operand) (o : Option ℕ) (call : Call) → operand_key b.registers operand ≡ o → clearing o ≡ Some call → IsCallOf older (commands.Clear operand) call
-  clear_fits operand None call e is = absurd (cc is)
-  clear_fits operand (Some key) call e is =
-      let same : Clearing key ≡ call = cc is in subst (λ (c : Call). IsCallOf older (commands.Clear operand) c) same (names older b.registers fit operand key e)
+    clear_fits : (operand : Operand) (o : Option ℕ) (call : Call) → operand_key b.registers operand ≡ o → clearing o ≡ Some call → IsCallOf z lane older (commands.Clear operand) call
+    clear_fits operand None call e is = absurd (cc is)
+    clear_fits operand (Some key) call e is =
+        let same : Clearing key ≡ call = cc is in subst (λ (c : Call). IsCallOf z lane older (commands.Clear operand) c) same (names older b.registers fit operand key e)
 
-  pub call_fits : (command : Command) (call : Call) → call_of b command ≡ Some call → IsCallOf older command call
-  call_fits (commands.Create r) call is = create_fits r (holding_at b r.number) call is
-  call_fits (commands.Write r bytes) call is = absurd (cc is)
-  call_fits (commands.Publish r) call is = publish_fits r (holding_at b r.number) call refl is
-  call_fits (commands.Downgrade r) call is = downgrade_fits r (holding_at b r.number) call refl is
-  call_fits (commands.Get r operand) call is = get_fits r operand (operand_key b.registers operand) (holding_at b r.number) call refl is
-  call_fits (commands.Read r) call is = absurd (cc is)
-  call_fits (commands.Release r) call is = release_fits r (holding_at b r.number) call refl is
-  call_fits (commands.Clear operand) call is = clear_fits operand (operand_key b.registers operand) call refl is
+    pub call_fits : (command : Command) (call : Call) → call_of b command ≡ Some call → IsCallOf z lane older command call
+    call_fits (commands.Create r) call is = create_fits r (holding_at b r.number) call is
+    call_fits (commands.Write r bytes) call is = absurd (cc is)
+    call_fits (commands.Publish r) call is = publish_fits r (holding_at b r.number) call refl is
+    call_fits (commands.Downgrade r) call is = downgrade_fits r (holding_at b r.number) call refl is
+    call_fits (commands.Get r operand) call is = get_fits r operand (operand_key b.registers operand) (holding_at b r.number) call refl is
+    call_fits (commands.Read r) call is = absurd (cc is)
+    call_fits (commands.Release r) call is = release_fits r (holding_at b r.number) call refl is
+    call_fits (commands.Clear operand) call is = clear_fits operand (operand_key b.registers operand) call refl is
 
   -- a command that has its reply
-  module _ (z : Shape) (history : List Act) (lane : ℕ) (P : Pool) (map : WerePublished z history P) (reply : Reply) (same : caller z lane b ≡ caller_after z lane older) where
+  module _ (z : Shape) (history : List Act) (lane : ℕ) (P : Pool) (at : IsPoolAt z history lane (flat_map (λ (o : DoneCommand). o.acts) older ++ b.acts) P)
+      (free : free_of z lane older ≡ free_with b.own b.chain b.opened) (reply : Reply) (same : caller z lane b ≡ caller_after z lane older) where
     IsNow : Command → Type 0
     IsNow command = IsDone z history lane older (did command b.steps b.acts reply)
 
     Whole : Option Call → Type 0
     Whole call = HasMade (caller_after z lane older) call b.steps b.acts × (next_in (caller_after z lane older) b.steps call ≡ None)
 
-    created : (place : Option ℕ) → CreateReply z P lane place reply → CreateReplies z place reply
+    created : (place : Option ℕ) → CreateReply z P lane place reply
+        → CreateReplies z history lane (flat_map (λ (o : DoneCommand). o.acts) older ++ b.acts) place reply
     created None says = says
-    created (Some place) says = ((P place).generation, says.0)
+    created (Some place) says = (
+      at.past,
+      at.moment,
+      ap (λ (p : Pool). (p place).phase) (sym at.is) ∙ says.1,
+      says.0 ∙ ap (λ (p : Pool). replies.Filling (key_number z.tag place (p place).generation)) at.is,
+    )
 
     create_now : (r : Register) (h : Holding) → holding_at b r.number ≡ h → Whole (creating b h) → WhereEmpty h reply (CreateReply z P lane (handed_out z lane b) reply)
         → IsNow (commands.Create r)
     unfolding IsNow Whole
     create_now r Empty e w says =
-        by_call (use_is r Empty e) (Creating b.own b.chain b.opened) tt (w.0.0, w.0.1, w.1) (created (handed_out z lane b) says)
+        by_call (use_is r Empty e) (Creating b.own b.chain b.opened) free (w.0.0, w.0.1, w.1) (created (handed_out z lane b) says)
     create_now r (Filling key content) e w says = skipped (use_isnt r (Filling key content) unused e (λ x. absurd (cc x))) w.0.0 w.0.1 says
     create_now r (Reference key content) e w says = skipped (use_isnt r (Reference key content) unused e (λ x. absurd (cc x))) w.0.0 w.0.1 says
 
@@ -169,7 +180,7 @@ module _ (older : List DoneCommand) (b : Book) (fit : AllFit older b.registers) 
     get_now r operand None (Reference at content) op e w says = skipped (λ needs. no_name older b.registers fit operand op needs.1) w.0.0 w.0.1 says
     get_now r operand (Some key) Empty op e w says =
         by_call (use_is r Empty e, (key, names older b.registers fit operand key op)) (Getting key) (names older b.registers fit operand key op) (w.0.0, w.0.1, w.1)
-        (subst (λ (x : Reply). CallReplies z lane (Getting key) b.acts x) (sym says) (get_replies (caller_after z lane older) key b.steps b.acts w.0.0 w.0.1 w.1))
+        (subst (λ (x : Reply). CallReplies z history lane (flat_map (λ (o : DoneCommand). o.acts) older) (Getting key) b.acts x) (sym says) (get_replies (caller_after z lane older) key b.steps b.acts w.0.0 w.0.1 w.1))
     get_now r operand (Some key) (Filling at content) op e w says =
         skipped (λ needs. use_isnt r (Filling at content) unused e (λ x. absurd (cc x)) needs.0) w.0.0 w.0.1 says
     get_now r operand (Some key) (Reference at content) op e w says =
@@ -181,7 +192,7 @@ module _ (older : List DoneCommand) (b : Book) (fit : AllFit older b.registers) 
     read_now r Empty e w says = skipped (use_isnt r Empty has_reference e (λ x. absurd (cc x))) w.0.0 w.0.1 says
     read_now r (Filling key content) e w says = skipped (use_isnt r (Filling key content) has_reference e (λ x. absurd (cc x))) w.0.0 w.0.1 says
     read_now r (Reference key kept_content) e w (content, has, is) =
-        at_once (use_is r (Reference key kept_content) e) w.0.0 w.0.1 (key, content, held r (Reference key kept_content) e, map key content has, is)
+        at_once (use_is r (Reference key kept_content) e) w.0.0 w.0.1 (key, content, held r (Reference key kept_content) e, at.published key content has, is)
 
     release_now : (r : Register) (h : Holding) → holding_at b r.number ≡ h → Whole (releasing h) → WhereReference h reply (λ key. reply ≡ replies.Done)
         → IsNow (commands.Release r)
@@ -198,7 +209,7 @@ module _ (older : List DoneCommand) (b : Book) (fit : AllFit older b.registers) 
     clear_now operand None e w says = skipped (no_name older b.registers fit operand e) w.0.0 w.0.1 says
     clear_now operand (Some key) e w says =
         by_call (key, names older b.registers fit operand key e) (Clearing key) (names older b.registers fit operand key e) (w.0.0, w.0.1, w.1)
-        (subst (λ (x : Reply). CallReplies z lane (Clearing key) b.acts x) (sym says) (clear_replies (caller_after z lane older) key b.steps b.acts w.0.0 w.0.1 w.1))
+        (subst (λ (x : Reply). CallReplies z history lane (flat_map (λ (o : DoneCommand). o.acts) older) (Clearing key) b.acts x) (sym says) (clear_replies (caller_after z lane older) key b.steps b.acts w.0.0 w.0.1 w.1))
 
     by_whole : (command : Command) → Whole (call_of b command) → CommandReplies z P lane b command reply → IsNow command
     unfolding IsNow Whole

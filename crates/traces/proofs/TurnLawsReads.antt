@@ -5,10 +5,11 @@ use Rattle.keybits.specs.Keys.{place_of, generation_of, is_key}
 use Rattle.seqpool.specs.declared.act.Act.{Act}
 use Rattle.seqpool.specs.declared.act.Act.TheVariants.{Publish, Get, Release, Clear, Reclaim, Home, Collect}
 use Rattle.seqpool.specs.Pool.{Pool, Spot, Phase, spot, with, published, home, retired, gained, lost, marked, Allowed, touches, changed, after, fresh, pool_from, pool_after, LegalFrom, IsLegal}
-use Rattle.seqpool.specs.Histories.{At, PublishedAt}
+use Rattle.seqpool.specs.Histories.{At, PublishedAt, acts_of}
 use Rattle.seqpool.proofs.Growth.{after-here, after-else, legal-front}
 use Rattle.seqpool.proofs.Ranks.{same-key, current-key}
 use Rattle.traces.specs.Following.{row_content, HasContent}
+use Rattle.traces.specs.TurnLaws.{IsMoment}
 
 pub gained_row : (lane : ℕ) (f : Phase) → row_content (gained lane f) ≡ row_content f
 gained_row lane (with k) = refl
@@ -101,3 +102,15 @@ were_published z history now more is legal key content has =
     let short : IsLegal z now = legal-front z fresh now more (subst (IsLegal z) (sym is) legal) in
     let p = was_published z key content now short has in
     (p.0, (p.1.0, p.1.1, subst (λ (h : List Act). At h p.0 (Publish p.1.0 key content p.1.1)) is (at_front now more p.0 (Publish p.1.0 key content p.1.1) p.1.2)))
+
+-- the pool is that of a moment of the history, at which the lane has made these acts
+pub record IsPoolAt (z : Shape) (history : List Act) (lane : ℕ) (own : List Act) (pool : Pool) : Type 0 where
+  pub past : List Act
+  pub moment : IsMoment history lane own past
+  pub is : pool ≡ pool_after z past
+  pub published : WerePublished z history pool
+
+pub pool_at : (z : Shape) (history now more : List Act) (lane : ℕ) (own : List Act) → now ++ more ≡ history → IsLegal z history → acts_of lane now ≡ own
+    → IsPoolAt z history lane own (pool_after z now)
+pool_at z history now more lane own is legal mine =
+    record { past = now; moment = ((more, is), mine); is = refl; published = were_published z history now more is legal }

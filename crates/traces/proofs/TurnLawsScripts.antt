@@ -7,8 +7,9 @@ use Rattle.keybits.specs.declared.shape.Shape.{Shape}
 use Rattle.keybits.specs.declared.step.Step.{Step}
 use Rattle.seqpool.specs.declared.act.Act.{Act}
 use Rattle.seqpool.specs.declared.act.Act.TheVariants as acts
-use Rattle.seqpool.specs.Pool.{Pool, Allowed, fresh, pool_after, LegalFrom, IsLegal}
-use Rattle.seqpool.proofs.Growth.{legal-rest}
+use Rattle.seqpool.specs.Pool.{Pool, Allowed, lane_of, fresh, pool_after, LegalFrom, IsLegal}
+use Rattle.seqpool.specs.Histories.{acts_of}
+use Rattle.seqpool.proofs.Growth.{legal-rest, acts-mine, acts-others}
 use Rattle.seqpool.proofs.Ranks.{current-key}
 use Rattle.keybits.specs.Keys.{is_key}
 use Rattle.keybits.specs.Steps.{Changes}
@@ -21,12 +22,13 @@ use Rattle.traces.specs.declared.registers.Holding.{Holding}
 use Rattle.traces.specs.declared.registers.Holding.TheVariants.{Empty, Filling, Reference}
 use Rattle.traces.specs.declared.trace.Turn.{Turn}
 use Rattle.traces.specs.Registers.{empty_register, register_at}
-use Rattle.traces.specs.Books.{Book, first_book, caller, holding_at, creating, call_of, call_of_first, call_under_way, next_in, next_aim, pushed_by, pushed_after, answered_first, answered, all_answered, act_list, stepped}
+use Rattle.traces.specs.Books.{Book, Free, free_with, first_book, caller, holding_at, creating, call_of, call_of_first, call_under_way, next_in, next_aim, pushed_by, pushed_after, answered_first, answered, all_answered, act_list, stepped}
 use Rattle.traces.specs.Following.{CommandReplies, FirstReplies, IsReply, AreReplies}
 use Rattle.traces.specs.Lawful.{World, script_or_none, first_world, CallMakes, IsStep, StepAndReplies, book_before, book_after_step, book_after, world_after, world_from, IsNextTurn, AreTurns}
 use Rattle.traces.specs.Making.{IsMade, AreMade, HasMade}
-use Rattle.traces.specs.TurnLaws.{step_list, all_steps, all_acts, all_replies, turns_of, ActsLaw, DoneCommand, caller_after, IsDone, IsUnderWay, at_rest, within, Follows, ScriptLaw}
-use Rattle.traces.proofs.TurnLawsReads.{WerePublished, were_published}
+use Rattle.traces.specs.TurnLaws.{step_list, all_steps, all_acts, all_replies, turns_of, ActsLaw, DoneCommand, free_next, free_from, free_of, caller_after, IsDone, IsUnderWay, at_rest, within, Follows, ScriptLaw}
+use Rattle.traces.proofs.TurnLawsActs.{by_turn}
+use Rattle.traces.proofs.TurnLawsReads.{IsPoolAt, pool_at}
 use Rattle.traces.proofs.TurnLawsRegisters.{Fits, AllFit, did}
 use Rattle.traces.proofs.TurnLawsCommands.{needs_fit, call_fits, is_now, fit_after}
 
@@ -130,12 +132,29 @@ record Went (z : Shape) (history : List Act) (lane : ℕ) (script : List Command
   each : AreDone z history lane [] dones
   call : HasMade (caller z lane b) (call_under_way b) b.steps b.acts
   pushed_is : b.pushed ≡ pushed_after (flat_map (λ (d : DoneCommand). d.steps) dones) (λ _. 0)
+  free_is : free_of z lane dones ≡ free_with b.own b.chain b.opened
   fit : AllFit dones b.registers
   sixteen : length b.registers ≡ 16
 
 pushed_append : (xs ys : List Step) (pushed : ℕ → ℕ) → pushed_after (xs ++ ys) pushed ≡ pushed_after ys (pushed_after xs pushed)
 pushed_append [] ys pushed = refl
 pushed_append (x ∷ xs) ys pushed = pushed_append xs ys (pushed_by x x.kind x.word pushed)
+
+free_more : (z : Shape) (lane : ℕ) (free : Free) (dones : List DoneCommand) (d : DoneCommand)
+    → free_from z lane free (dones ++ d ∷ []) ≡ free_next z lane (free_from z lane free dones) d
+free_more z lane free [] d = refl
+free_more z lane free (x ∷ xs) d = free_more z lane (free_next z lane free x) xs d
+
+-- a lane's acts after one more of its own, and after one of another lane
+acts_after : (lane : ℕ) (history own : List Act) (act : Option Act) → ((a : Act) → act ≡ Some a → lane_of a ≡ lane) → acts_of lane history ≡ own
+    → acts_of lane (history ++ act_list act) ≡ own ++ act_list act
+acts_after lane history own None by is = ap (acts_of lane) (append-nil history) ∙ (is ∙ sym (append-nil own))
+acts_after lane history own (Some a) by is = acts-mine lane history a (by a refl) ∙ ap (λ (xs : List Act). xs ++ a ∷ []) is
+
+acts_beside : (lane other : ℕ) (history own : List Act) (act : Option Act) → other ≢ lane → ((a : Act) → act ≡ Some a → lane_of a ≡ other)
+    → acts_of lane history ≡ own → acts_of lane (history ++ act_list act) ≡ own
+acts_beside lane other history own None apart by is = ap (acts_of lane) (append-nil history) ∙ is
+acts_beside lane other history own (Some a) apart by is = acts-others lane history a (λ (e : lane_of a ≡ lane). apart (sym (by a refl) ∙ e)) ∙ is
 
 same_caller : (z : Shape) (lane : ℕ) (b : Book) (older : List DoneCommand) → b.pushed ≡ pushed_after (flat_map (λ (d : DoneCommand). d.steps) older) (λ _. 0)
     → caller z lane b ≡ caller_after z lane older
@@ -144,7 +163,7 @@ same_caller z lane b older e i = record { shape = z; lane = lane; pushed = e i }
 module _ (z : Shape) (history : List Act) (lane : ℕ) (script : List Command) where
   -- a reply to the first command that is left
   command_replied : (R : List Reply) (S : List Step) (A : List Act) (b : Book) (reply : Reply) (P : Pool) (command : Command) (more : List Command)
-      → WerePublished z history P → Went z history lane script R S A b → b.left ≡ command ∷ more → next_aim z lane b ≡ None → CommandReplies z P lane b command reply
+      → IsPoolAt z history lane A P → Went z history lane script R S A b → b.left ≡ command ∷ more → next_aim z lane b ≡ None → CommandReplies z P lane b command reply
       → Went z history lane script (R ++ reply ∷ []) S A (answered_first z lane b (command ∷ more) reply)
   command_replied R S A b reply P command more seen w left next says =
       let c = caller z lane b in
@@ -161,17 +180,18 @@ module _ (z : Shape) (history : List Act) (lane : ℕ) (script : List Command) w
         replies_are = ap (λ (r : List Reply). r ++ reply ∷ []) w.replies_are ∙ sym (map-append (λ (d : DoneCommand). d.reply) w.dones (d ∷ []));
         steps_are = w.steps_are ∙ flat_more (λ (d : DoneCommand). d.steps) w.dones d;
         acts_are = w.acts_are ∙ flat_more (λ (d : DoneCommand). d.acts) w.dones d;
-        each = done_more z history lane [] w.dones d w.each (is_now w.dones b w.fit z history lane P seen reply (same_caller z lane b w.dones w.pushed_is) command has last says);
+        each = done_more z history lane [] w.dones d w.each (is_now w.dones b w.fit z history lane P (subst (λ (own : List Act). IsPoolAt z history lane own P) w.acts_are seen) w.free_is reply (same_caller z lane b w.dones w.pushed_is) command has last says);
         call = fresh_made (caller z lane later) (call_of_first later more);
         pushed_is = ap (pushed_after b.steps) w.pushed_is ∙ (sym (pushed_append (flat_map (λ (d : DoneCommand). d.steps) w.dones) b.steps (λ _. 0))
             ∙ ap (λ (steps : List Step). pushed_after steps (λ _. 0))
             (flat_more (λ (d : DoneCommand). d.steps) w.dones d ∙ append-nil (flat_map (λ (d : DoneCommand). d.steps) (w.dones ++ d ∷ []))));
+        free_is = free_more z lane (free_with [] [] 0) w.dones d ∙ ap (λ (free : Free). free_next z lane free d) w.free_is;
         fit = fits.0;
         sixteen = fits.1;
       }
 
   went_reply : (R : List Reply) (S : List Step) (A : List Act) (b : Book) (reply : Reply) (P : Pool)
-      → WerePublished z history P → Went z history lane script R S A b → IsReply z P lane b reply → Went z history lane script (R ++ reply ∷ []) S A (answered z lane b reply)
+      → IsPoolAt z history lane A P → Went z history lane script R S A b → IsReply z P lane b reply → Went z history lane script (R ++ reply ∷ []) S A (answered z lane b reply)
   went_reply R S A b reply P seen w replied = by_left b.left refl replied.1
     where
       by_left : (left : List Command) → b.left ≡ left → FirstReplies z P lane b left reply → Went z history lane script (R ++ reply ∷ []) S A (answered z lane b reply)
@@ -181,7 +201,7 @@ module _ (z : Shape) (history : List Act) (lane : ℕ) (script : List Command) w
           (command_replied R S A b reply P command more seen w e replied.0 says)
 
   went_replies : (R : List Reply) (S : List Step) (A : List Act) (b : Book) (replies : List Reply) (P : Pool)
-      → WerePublished z history P → Went z history lane script R S A b → AreReplies z P lane b replies
+      → IsPoolAt z history lane A P → Went z history lane script R S A b → AreReplies z P lane b replies
       → Went z history lane script (R ++ replies) S A (all_answered z lane b replies)
   went_replies R S A b [] P seen w replied = subst (λ (r : List Reply). Went z history lane script r S A b) (sym (append-nil R)) w
   went_replies R S A b (reply ∷ more) P seen w replied =
@@ -202,34 +222,38 @@ module _ (z : Shape) (history : List Act) (lane : ℕ) (script : List Command) w
     call = subst (λ (o : Option Call). HasMade (caller z lane b) o (b.steps ++ step ∷ []) (b.acts ++ act_list act)) (sym (first_same b step act b.left))
         (made_more (caller z lane b) (call_under_way b) b.steps b.acts step act words.link w.call is.next is.changes is.makes reclaims);
     pushed_is = w.pushed_is;
+    free_is = w.free_is;
     fit = w.fit;
     sixteen = w.sixteen;
   }
 
   -- a turn: replies, a step, replies
   rest_of_turn : (R : List Reply) (S : List Step) (A : List Act) (w : World) (b : Book) (before after : List Reply) (step : Option Step) (act : Option Act) (more : List Act)
-      → IsLegal z history → w.history ++ (act_list act ++ more) ≡ history → Went z history lane script (R ++ before) S A b → StepAndReplies z w lane b step act after
+      → IsLegal z history → w.history ++ (act_list act ++ more) ≡ history → acts_of lane w.history ≡ A
+      → Went z history lane script (R ++ before) S A b → StepAndReplies z w lane b step act after
       → Went z history lane script (R ++ (before ++ after)) (S ++ step_list step) (A ++ act_list act) (all_answered z lane (book_after_step b step act) after)
-  rest_of_turn R S A w b before after None act more legal is went (ended, no_act, no_after) =
+  rest_of_turn R S A w b before after None act more legal is mine went (ended, no_act, no_after) =
       subst (λ (t : Option Act × List Reply). Went z history lane script (R ++ (before ++ t.1)) (S ++ []) (A ++ act_list t.0) (all_answered z lane b t.1))
       (λ i. (sym no_act i, sym no_after i))
       (subst (λ (t : List Reply × List Step × List Act). Went z history lane script (R ++ t.0) t.1 t.2 b)
       (λ i. (sym (append-nil before) i, sym (append-nil S) i, sym (append-nil A) i)) went)
-  rest_of_turn R S A w b before after (Some step) act more legal is went (stepping, replied) =
+  rest_of_turn R S A w b before after (Some step) act more legal is mine went (stepping, replied) =
       subst (λ (r : List Reply). Went z history lane script r (S ++ step ∷ []) (A ++ act_list act) (all_answered z lane (stepped b step act) after))
       (append_assoc R before after)
       (went_replies (R ++ before) (S ++ step ∷ []) (A ++ act_list act) (stepped b step act) after (pool_after z (w.history ++ act_list act))
-      (were_published z history (w.history ++ act_list act) more (append_assoc w.history (act_list act) more ∙ is) legal)
+      (pool_at z history (w.history ++ act_list act) more lane (A ++ act_list act) (append_assoc w.history (act_list act) more ∙ is) legal
+      (acts_after lane w.history A act (λ (a : Act) (e : act ≡ Some a). by_turn z w lane b (Some step) act after a (stepping, replied) e) mine))
       (went_step (R ++ before) S A b w.words step act went stepping
       (legal_reclaims z (pool_after z w.history) act more (legal-rest z fresh w.history (act_list act ++ more) (subst (IsLegal z) (sym is) legal)))) replied)
 
   -- what the lane has begun
-  module _ (dones : List DoneCommand) (b : Book) (fit : AllFit dones b.registers) (same : caller z lane b ≡ caller_after z lane dones) where
+  module _ (dones : List DoneCommand) (b : Book) (fit : AllFit dones b.registers) (free : free_of z lane dones ≡ free_with b.own b.chain b.opened)
+      (same : caller z lane b ≡ caller_after z lane dones) where
     begun_call : (command : Command) (more : List Command) (o : Option Call) → call_of b command ≡ o → HasMade (caller z lane b) o b.steps b.acts
         → IsUnderWay z lane dones (command ∷ more) b.steps b.acts
     begun_call command more None e made = at_rest made.0 made.1
     begun_call command more (Some call) e made =
-        within command more call refl (needs_fit dones b fit command call e) (call_fits dones b fit command call e) (subst (λ (c : Caller). AreSteps c call [] b.steps × AreMade c call b.steps b.acts) same made)
+        within command more call refl (needs_fit dones b fit command call e) (call_fits dones b fit z lane free command call e) (subst (λ (c : Caller). AreSteps c call [] b.steps × AreMade c call b.steps b.acts) same made)
 
     begun : (left : List Command) → HasMade (caller z lane b) (call_of_first b left) b.steps b.acts → IsUnderWay z lane dones left b.steps b.acts
     begun [] has = at_rest has.0 has.1
@@ -237,12 +261,12 @@ module _ (z : Shape) (history : List Act) (lane : ℕ) (script : List Command) w
 
 module _ (z : Shape) (history : List Act) (legal : IsLegal z history) (script : List Command) where
   whole_turn : (R : List Reply) (S : List Step) (A : List Act) (w : World) (t : Turn) (more : List Act) → w.history ++ (act_list t.act ++ more) ≡ history
-      → Went z history t.lane script R S A (w.books t.lane) → IsNextTurn z w t
+      → acts_of t.lane w.history ≡ A → Went z history t.lane script R S A (w.books t.lane) → IsNextTurn z w t
       → Went z history t.lane script (R ++ (t.before ++ t.after)) (S ++ step_list t.step) (A ++ act_list t.act) (book_after z w t)
-  whole_turn R S A w t more is went next =
-      rest_of_turn z history t.lane script R S A w (book_before z w t) t.before t.after t.step t.act more legal is
+  whole_turn R S A w t more is mine went next =
+      rest_of_turn z history t.lane script R S A w (book_before z w t) t.before t.after t.step t.act more legal is mine
       (went_replies z history t.lane script R S A (w.books t.lane) t.before (pool_after z w.history)
-      (were_published z history w.history (act_list t.act ++ more) is legal) went next.replies) next.step
+      (pool_at z history w.history (act_list t.act ++ more) t.lane A is legal mine) went next.replies) next.step
 
   module _ (lane : ℕ) where
     -- what the lane has done at the end
@@ -254,13 +278,13 @@ module _ (z : Shape) (history : List Act) (legal : IsLegal z history) (script : 
 
     -- a turn of the lane, and one of another
     own_turn : (R : List Reply) (S : List Step) (A : List Act) (w : World) (t : Turn) (more : List Act) → t.lane ≡ lane → w.history ++ (act_list t.act ++ more) ≡ history
-        → Went z history lane script R S A (w.books lane) → IsNextTurn z w t
+        → acts_of lane w.history ≡ A → Went z history lane script R S A (w.books lane) → IsNextTurn z w t
         → Went z history lane script (R ++ (t.before ++ t.after)) (S ++ step_list t.step) (A ++ act_list t.act) ((world_after z w t).books lane)
-    own_turn R S A w t more same is went next =
+    own_turn R S A w t more same is mine went next =
         subst (λ (x : Bool). Went z history lane script (R ++ (t.before ++ t.after)) (S ++ step_list t.step) (A ++ act_list t.act) (cond x (book_after z w t) (w.books lane)))
         (sym (eq-eqb lane t.lane (sym same)))
         (subst (λ (n : ℕ). Went z history n script (R ++ (t.before ++ t.after)) (S ++ step_list t.step) (A ++ act_list t.act) (book_after z w t)) same
-        (whole_turn R S A w t more is (subst (λ (n : ℕ). Went z history n script R S A (w.books n)) (sym same) went) next))
+        (whole_turn R S A w t more is (subst (λ (n : ℕ). acts_of n w.history ≡ A) (sym same) mine) (subst (λ (n : ℕ). Went z history n script R S A (w.books n)) (sym same) went) next))
 
     other_turn : (R : List Reply) (S : List Step) (A : List Act) (w : World) (t : Turn) → t.lane ≢ lane
         → Went z history lane script R S A (w.books lane) → Went z history lane script R S A ((world_after z w t).books lane)
@@ -284,20 +308,23 @@ module _ (z : Shape) (history : List Act) (legal : IsLegal z history) (script : 
         (other (λ same. let bad : true ≡ false = sym (eq-eqb t.lane lane same) ∙ e in absurd (cc bad)))
 
     goes : (R : List Reply) (S : List Step) (A : List Act) (w : World) (schedule : List ℕ) (trace : List Turn) → Went z history lane script R S A (w.books lane)
-        → AreTurns z w schedule trace → w.history ++ all_acts trace ≡ history → EndsWith R S A (turns_of lane trace)
-    goes R S A w [] [] went are is = (
+        → acts_of lane w.history ≡ A → AreTurns z w schedule trace → w.history ++ all_acts trace ≡ history → EndsWith R S A (turns_of lane trace)
+    goes R S A w [] [] went mine are is = (
       w.books lane,
       subst (λ (t : List Reply × List Step × List Act). Went z history lane script t.0 t.1 t.2 (w.books lane)) (λ i. (sym (append-nil R) i, sym (append-nil S) i, sym (append-nil A) i)) went,
     )
-    goes R S A w [] (t ∷ ts) went are is = absurd are
-    goes R S A w (x ∷ xs) [] went are is = goes R S A w xs [] went are.1 is
-    goes R S A w (x ∷ xs) (t ∷ ts) went (inl are) is = goes R S A w xs (t ∷ ts) went are.1 is
-    goes R S A w (x ∷ xs) (t ∷ ts) went (inr are) is =
+    goes R S A w [] (t ∷ ts) went mine are is = absurd are
+    goes R S A w (x ∷ xs) [] went mine are is = goes R S A w xs [] went mine are.1 is
+    goes R S A w (x ∷ xs) (t ∷ ts) went mine (inl are) is = goes R S A w xs (t ∷ ts) went mine are.1 is
+    goes R S A w (x ∷ xs) (t ∷ ts) went mine (inr are) is =
+        let by : (a : Act) → t.act ≡ Some a → lane_of a ≡ t.lane = λ a e. by_turn z w t.lane (book_before z w t) t.step t.act t.after a are.1.step e in
         let later : (world_after z w t).history ++ all_acts ts ≡ history = append_assoc w.history (act_list t.act) (all_acts ts) ∙ is in
         by_lane R S A t ts (eqb t.lane lane) refl
         (λ same. goes (R ++ (t.before ++ t.after)) (S ++ step_list t.step) (A ++ act_list t.act) (world_after z w t) xs ts
-        (own_turn R S A w t (all_acts ts) same is went are.1) are.2 later)
-        (λ other. goes R S A (world_after z w t) xs ts (other_turn R S A w t other went) are.2 later)
+        (own_turn R S A w t (all_acts ts) same is mine went are.1)
+        (acts_after lane w.history A t.act (λ (a : Act) (e : t.act ≡ Some a). by a e ∙ same) mine) are.2 later)
+        (λ other. goes R S A (world_after z w t) xs ts (other_turn R S A w t other went)
+        (acts_beside lane t.lane w.history A t.act other by mine) are.2 later)
 
 -- ---- the laws
 
@@ -317,6 +344,7 @@ went_nowhere z history lane script = record {
   each = tt;
   call = fresh_made (caller z lane (first_book script)) (call_of_first (first_book script) script);
   pushed_is = refl;
+  free_is = refl;
   fit = λ n inside. all_empty 16 n n;
   sixteen = refl;
 }
@@ -340,12 +368,12 @@ follows z lane script trace b w = record {
   steps_are = w.steps_are;
   acts_are = w.acts_are;
   done = λ older newer d is. done_at z (all_acts trace) lane [] older newer d (subst (AreDone z (all_acts trace) lane []) is w.each);
-  under_way = begun z (all_acts trace) lane script w.dones b w.fit (same_caller z lane b w.dones w.pushed_is) b.left w.call;
+  under_way = begun z (all_acts trace) lane script w.dones b w.fit w.free_is (same_caller z lane b w.dones w.pushed_is) b.left w.call;
 }
 
 pub script-law : ScriptLaw
 script-law z scripts schedule trace lawful lane =
     let script = script_or_none (slice_get scripts lane) in
     let end = goes z (all_acts trace) (acts-law z scripts schedule trace lawful) script lane [] [] [] (first_world scripts) schedule trace
-    (went_nowhere z (all_acts trace) lane script) lawful.turns refl in
+    (went_nowhere z (all_acts trace) lane script) refl lawful.turns refl in
     follows z lane script trace end.0 end.1

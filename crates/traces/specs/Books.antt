@@ -259,10 +259,14 @@ registers_after b (Release register) replies.Done =
     let old = register_at b.registers register.number in with_register b register.number (register_with Empty old.last_key)
 registers_after b command reply = b.registers
 
--- the free places after a command and its reply: only a create that hands out a place takes one
+-- what is left of these free places after a command that made these acts, and its reply: only a create that hands out a place takes one
+abbrev pub free_left : Shape → ℕ → Free → Command → Reply → List Act → Free
+free_left z lane free (Create register) (replies.Filling key) made = after_own z lane free.opened (taken made) free.chain free.own
+free_left z lane free command reply made = free
+
+-- the lane's free places after a command and its reply
 abbrev pub free_after : Shape → ℕ → Book → Command → Reply → Free
-free_after z lane b (Create register) (replies.Filling key) = free_after_create z lane b
-free_after z lane b command reply = free_with b.own b.chain b.opened
+free_after z lane b command reply = free_left z lane (free_with b.own b.chain b.opened) command reply b.acts
 
 -- for each shard the word last pushed, after one step more: a PUSH that succeeded is the last of its stack
 abbrev pub pushed_by : Step → Kind → Word → (ℕ → ℕ) → ℕ → ℕ

@@ -1,5 +1,6 @@
 -- Laws that tell the turns of a lawful trace one by one: what each step finds in its word, and how a lane goes through its script.
 use Rattle.std.specs.Prelude.{◌≡◌, ◌≢◌, ◌==◌, ◌⊎◌, ◌↔◌, ℕ, Bool, true, false, nat_lt, List, [], ◌∷◌, ◌++◌, map, flat_map, Option, Some, None, slice_get, if◌then◌else◌}
+use mathlib.Core.List.{IsPrefix}
 use Rattle.keybits.specs.declared.shape.Shape.{Shape}
 use Rattle.keybits.specs.declared.step.Step.{Step}
 use Rattle.keybits.specs.declared.step.Word.{Word}
@@ -7,7 +8,7 @@ use Rattle.keybits.specs.Places.{place_at}
 use Rattle.keybits.specs.Keys.{key_number, is_key}
 use Rattle.seqpool.specs.declared.act.Act.{Act}
 use Rattle.seqpool.specs.declared.act.Act.TheVariants as acts
-use Rattle.seqpool.specs.Pool.{IsLegal}
+use Rattle.seqpool.specs.Pool.{with, pool_after, IsLegal}
 use Rattle.seqpool.specs.Histories.{PublishedAt, acts_of}
 use Rattle.steplaws.specs.Calls.{Call, Publishing, Getting, Releasing, Clearing, Creating, Caller, AreSteps, next_step}
 use Rattle.steplaws.specs.Facts.{value_of}
@@ -19,7 +20,7 @@ use Rattle.traces.specs.declared.script.Command.TheVariants.{Create, Write, Publ
 use Rattle.traces.specs.declared.reply.Reply.{Reply}
 use Rattle.traces.specs.declared.reply.Reply.TheVariants as replies
 use Rattle.traces.specs.declared.trace.Turn.{Turn}
-use Rattle.traces.specs.Books.{act_list, taken, handed_first, pushed_after}
+use Rattle.traces.specs.Books.{Free, free_with, free_left, act_list, taken, reclaimed, of_shard, handed_first, pushed_after}
 use Rattle.traces.specs.Lawful.{first_words, script_or_none, IsLawful}
 use Rattle.traces.specs.Making.{AreMade}
 
@@ -175,15 +176,31 @@ Needs older (Read register) = usage_of older register.number ≡ has_reference
 Needs older (Release register) = usage_of older register.number ≡ has_reference
 Needs older (Clear operand) = (key : ℕ) × Names older operand key
 
--- the call of a command, after these: publish and downgrade are of what was written to the register since its create, release of the last key that it had
-abbrev pub IsCallOf : List DoneCommand → Command → Call → Type 0
-IsCallOf older (Create register) (Creating own chain opened) = Unit {0}
-IsCallOf older (Publish register) (Publishing key content with_ref) = IsWritten older register.number key content × (with_ref ≡ false)
-IsCallOf older (Downgrade register) (Publishing key content with_ref) = IsWritten older register.number key content × (with_ref ≡ true)
-IsCallOf older (Get register operand) (Getting key) = Names older operand key
-IsCallOf older (Release register) (Releasing key) = HasLast older register.number key
-IsCallOf older (Clear operand) (Clearing key) = Names older operand key
-IsCallOf older command call = ⊥
+-- the lane's free places after one command more: a place of its own shard that was reclaimed goes to the end of its list
+abbrev pub free_next : Shape → ℕ → Free → DoneCommand → Free
+free_next z lane free d =
+    let left = free_left z lane free d.command d.reply d.acts in
+    free_with (left.own ++ of_shard lane (reclaimed z.last_generation d.acts)) left.chain left.opened
+
+-- its free places after these commands, from these on
+abbrev pub free_from : Shape → ℕ → Free → List DoneCommand → Free
+free_from z lane free [] = free
+free_from z lane free (d ∷ more) = free_from z lane (free_next z lane free d) more
+
+-- its free places after these commands, which are the lane's first: before them it has no place, and no page is opened
+abbrev pub free_of : Shape → ℕ → List DoneCommand → Free
+free_of z lane older = free_from z lane (free_with [] [] 0) older
+
+-- the call of a command, after these: create is of the lane's free places, publish and downgrade are of what was written to the register since its
+-- create, release of the last key that it had
+abbrev pub IsCallOf : Shape → ℕ → List DoneCommand → Command → Call → Type 0
+IsCallOf z lane older (Create register) (Creating own chain opened) = free_of z lane older ≡ free_with own chain opened
+IsCallOf z lane older (Publish register) (Publishing key content with_ref) = IsWritten older register.number key content × (with_ref ≡ false)
+IsCallOf z lane older (Downgrade register) (Publishing key content with_ref) = IsWritten older register.number key content × (with_ref ≡ true)
+IsCallOf z lane older (Get register operand) (Getting key) = Names older operand key
+IsCallOf z lane older (Release register) (Releasing key) = HasLast older register.number key
+IsCallOf z lane older (Clear operand) (Clearing key) = Names older operand key
+IsCallOf z lane older command call = ⊥
 
 -- a lane as a caller, after these commands: what it last pushed on each stack, their steps did
 abbrev pub caller_after : Shape → ℕ → List DoneCommand → Caller
@@ -201,11 +218,16 @@ IsWhole z lane older call steps made =
 
 -- ---- the reply of a call
 
--- a create replies the key of the place that it hands out: the first of its own list, else of its taken chain, else of what its TAKE collected,
--- else slot 0 of its next unopened page; and that the shard is full where there is none
-abbrev pub CreateReplies : Shape → Option ℕ → Reply → Type 0
-CreateReplies z (Some place) reply = (generation : ℕ) × (reply ≡ replies.Filling (key_number z.tag place generation))
-CreateReplies z None reply = reply ≡ replies.Full
+-- a beginning of the history in which the lane has made just these acts
+abbrev pub IsMoment : List Act → ℕ → List Act → List Act → Type 0
+IsMoment history lane own past = IsPrefix past history × (acts_of lane past ≡ own)
+
+-- a create replies the key of the place that it hands out, at a moment at which the lane has made these acts: the place is then with the lane, and
+-- the key is of its next generation; and that the shard is full where there is no place
+abbrev pub CreateReplies : Shape → List Act → ℕ → List Act → Option ℕ → Reply → Type 0
+CreateReplies z history lane own (Some place) reply = (past : List Act) × IsMoment history lane own past
+    × ((pool_after z past place).phase ≡ with lane) × (reply ≡ replies.Filling (key_number z.tag place (pool_after z past place).generation))
+CreateReplies z history lane own None reply = reply ≡ replies.Full
 
 -- a get replies the content that its Get shows, and that is then its one act; none where its Get shows none, or the key is none of the shape
 abbrev pub GetReplies : Shape → ℕ → ℕ → List Act → Reply → Type 0
@@ -220,14 +242,15 @@ ClearReplies z lane key made reply =
     ((marks : Bool) × (rest : List Act) × (made ≡ acts.Clear lane key marks ∷ rest) × (reply ≡ replies.Cleared marks))
     ⊎ ((is_key z key ≡ false) × (made ≡ []) × (reply ≡ replies.Cleared false))
 
--- the reply of a call that made these acts; a publish made its Publish alone, and a release its Release before all others
-abbrev pub CallReplies : Shape → ℕ → Call → List Act → Reply → Type 0
-CallReplies z lane (Publishing key content with_ref) made reply = (made ≡ acts.Publish lane key content with_ref ∷ []) × (reply ≡ replies.Key key)
-CallReplies z lane (Getting key) made reply = GetReplies z lane key made reply
-CallReplies z lane (Releasing key) made reply = ((rest : List Act) × (made ≡ acts.Release lane key ∷ rest)) × (reply ≡ replies.Done)
-CallReplies z lane (Clearing key) made reply = ClearReplies z lane key made reply
-CallReplies z lane (Creating own chain opened) made reply =
-    CreateReplies z
+-- the reply of a call that made these acts, after these of its lane; a publish made its Publish alone, and a release its Release before all others; a
+-- create hands out the first of its own list, else of its taken chain, else of what its TAKE collected, else slot 0 of its next unopened page
+abbrev pub CallReplies : Shape → List Act → ℕ → List Act → Call → List Act → Reply → Type 0
+CallReplies z history lane before (Publishing key content with_ref) made reply = (made ≡ acts.Publish lane key content with_ref ∷ []) × (reply ≡ replies.Key key)
+CallReplies z history lane before (Getting key) made reply = GetReplies z lane key made reply
+CallReplies z history lane before (Releasing key) made reply = ((rest : List Act) × (made ≡ acts.Release lane key ∷ rest)) × (reply ≡ replies.Done)
+CallReplies z history lane before (Clearing key) made reply = ClearReplies z lane key made reply
+CallReplies z history lane before (Creating own chain opened) made reply =
+    CreateReplies z history lane (before ++ made)
     (handed_first own (handed_first chain (handed_first (taken made) (if nat_lt opened z.pages then Some (place_at lane opened 0) else None)))) reply
 
 -- ---- the commands that are done
@@ -244,13 +267,13 @@ RepliesAtOnce history older command reply = ⊥
 pub data IsDone (z : Shape) (history : List Act) (lane : ℕ) (older : List DoneCommand) (d : DoneCommand) : Type 0 where
   skipped : (Needs older d.command → ⊥) → d.steps ≡ [] → d.acts ≡ [] → d.reply ≡ replies.Skip → IsDone z history lane older d
   at_once : Needs older d.command → d.steps ≡ [] → d.acts ≡ [] → RepliesAtOnce history older d.command d.reply → IsDone z history lane older d
-  by_call : Needs older d.command → (call : Call) → IsCallOf older d.command call → IsWhole z lane older call d.steps d.acts
-      → CallReplies z lane call d.acts d.reply → IsDone z history lane older d
+  by_call : Needs older d.command → (call : Call) → IsCallOf z lane older d.command call → IsWhole z lane older call d.steps d.acts
+      → CallReplies z history lane (flat_map (λ o. o.acts) older) call d.acts d.reply → IsDone z history lane older d
 
 -- what a lane has begun and not done: nothing, or the call of the first command that is left
 pub data IsUnderWay (z : Shape) (lane : ℕ) (older : List DoneCommand) (left : List Command) (steps : List Step) (made : List Act) : Type 0 where
   at_rest : steps ≡ [] → made ≡ [] → IsUnderWay z lane older left steps made
-  within : (command : Command) (more : List Command) (call : Call) → left ≡ command ∷ more → Needs older command → IsCallOf older command call
+  within : (command : Command) (more : List Command) (call : Call) → left ≡ command ∷ more → Needs older command → IsCallOf z lane older command call
       → IsBegun z lane older call steps made → IsUnderWay z lane older left steps made
 
 -- a lane's turns in a trace follow its script: they are those of its commands, in order, each done but for those that are left
