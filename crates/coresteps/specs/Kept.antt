@@ -143,6 +143,10 @@ pub record IsCoreAt (w : World) (most : ℕ → Most) (shared : Shared) (lanes :
   pub bounded : (number : ℕ) → ((most number).create ≤ 16) × ((most number).other ≤ 8)
   pub resting : AreResting shared.shape w
 
+-- what all lanes share is as before, but for the room of what grows
+abbrev pub SameShared : Shared → Shared → Type 0
+SameShared old new = (new.shape ≡ old.shape) × (new.words ≡ old.words) × (new.published.items ≡ old.published.items) × (new.acts.items ≡ old.acts.items)
+
 -- a core: what all lanes share, and the lanes
 pub record CoreState : Type 0 where
   pub shared : Shared

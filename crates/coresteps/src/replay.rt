@@ -10,7 +10,7 @@ ghost use Rattle.traces.specs.Lawful.{IsLawful, World, first_world, is_finished,
 ghost use Rattle.traces.specs.Parts.{StandsThroughout};
 ghost use Rattle.coresteps.specs.declared.progress.Most.{Most};
 ghost use Rattle.coresteps.specs.Lanes.{first_progress, no_most, counted_step};
-ghost use Rattle.coresteps.specs.Kept.{IsCore, IsCoreAt, IsDraft, IsLaneAt, IsRun, IsWordOf, MakesTurn, Turns, index_of_publish};
+ghost use Rattle.coresteps.specs.Kept.{IsCore, IsCoreAt, IsDraft, IsLaneAt, IsRun, IsWordOf, MakesTurn, SameShared, Turns, index_of_publish};
 
 use crate::commands::Commands;
 use crate::fault::CoreFault;
@@ -72,6 +72,7 @@ impl Core {
         ensures ok { IfOk result (λ turn. (w : World) (most : ℕ → Most) → IsCore w most self.old → Turns self.old w most lane turn self.new) }
         ensures finished { (w : World) (most : ℕ → Most) → IsCore w most self.old → is_finished self.old.shared.shape w lane ≡ true → IsOk result }
         ensures err { OnErr result ((w : World) (most : ℕ → Most) → IsCore w most self.old → IsCore w most self.new) }
+        ensures same { OnErr result (SameShared self.old.shared self.new.shared × (self.new.lanes ≡ self.old.lanes)) }
         ensures shape { self.new.shared.shape ≡ self.old.shared.shape }
     {
         if self.finished(lane) {
@@ -122,6 +123,7 @@ impl Shared {
             → is_place self.old.shape (place_of key) ≡ true }
         ensures ok { OnOk result ((w : World) → IsDraft self.old w (Some made) → IsDraft self.new w None) }
         ensures err { OnErr result ((w : World) → IsDraft self.old w None → IsDraft self.new w None) }
+        ensures same { OnErr result (SameShared self.old self.new) }
         ensures shape { self.new.shape ≡ self.old.shape }
     {
         let Made { step, act } = made;
@@ -145,6 +147,7 @@ impl Shared {
             ≡ index_of_publish self.old.shape self.old.published.items (length self.old.acts.items) (act ∷ []) place) }
         ensures err { OnErr result ((self.new.acts.items ≡ self.old.acts.items)
             × (self.new.published.items ≡ self.old.published.items)) }
+        ensures same { OnErr result (SameShared self.old self.new) }
         ensures rows { length self.new.published.items ≡ length self.old.published.items }
         ensures words { self.new.words ≡ self.old.words }
         ensures shape { self.new.shape ≡ self.old.shape }
@@ -168,6 +171,7 @@ fn next_turn(shared: &mut Shared, lanes: &mut Vec<Lane>, lane: u32) -> Result<Tu
     ensures ok { IfOk result (λ turn. (w : World) (most : ℕ → Most) → IsCoreAt w most shared.old lanes.old.items → is_finished shared.old.shape w lane ≡ false
         → MakesTurn (record { shared = shared.old; lanes = lanes.old.items }) w most lane turn (record { shared = shared.new; lanes = lanes.new.items })) }
     ensures err { OnErr result ((w : World) (most : ℕ → Most) → IsCoreAt w most shared.old lanes.old.items → IsCoreAt w most shared.new lanes.new.items) }
+    ensures same { OnErr result (SameShared shared.old shared.new × (lanes.new.items ≡ lanes.old.items)) }
     ensures shape { shared.new.shape ≡ shared.old.shape }
 {
     let index = lane as usize;
@@ -195,6 +199,7 @@ fn advance(
         × IsLaneAt shared.old.shape (world_after shared.old.shape w turn).history lane of.now progress.new (book_after shared.old.shape w turn)
         × (progress.new.most ≡ counted_step (book_before shared.old.shape w turn) turn.step progress.old.most)) }
     ensures err { OnErr result ((w : World) → IsDraft shared.old w None → IsDraft shared.new w None) }
+    ensures same { OnErr result (SameShared shared.old shared.new) }
     ensures shape { shared.new.shape ≡ shared.old.shape }
 {
     let before = shared.work(of, lane, progress, None)?;
