@@ -1,7 +1,7 @@
 //! Texts of acts with the answers of an independent checker.
 ghost use Rattle.keybits.specs.Shapes.{IsShape};
 
-use crate::test_texts::{reads, same};
+use crate::test_texts::{reads, same, same_at};
 use keybits::Shape;
 use seqpool::{Act, ActsFault, CheckFault, check, read_acts, write_acts};
 use std::alloc::Global;
@@ -46,7 +46,7 @@ fn answer_to(alloc: Global, shape: Shape, acts: &[Act]) -> Answer
 
 /// A checker answers this of the text.
 fn is_checked<R: Abort>(rt: &R, alloc: Global, text: &str, want: Answer) {
-    assert_eq!(rt; answer_of(alloc, text.as_bytes()), want, "of {text}");
+    same_at(rt, &answer_of(alloc, text.as_bytes()), &want, text);
 }
 
 /// What was read of the text is written as the very text.

@@ -131,12 +131,12 @@ fn cell_of<T: Drop>(rt: &impl Abort, alloc: Global, object: T) -> Whole<T>
 /// The buffer has these bytes.
 fn has_bytes<R: Abort>(rt: &R, buffer: &ByteBuf, bytes: &[u8]) {
     same(rt, &buffer.len(), &bytes.len());
-    assert_eq!(rt; buffer.as_slice(), bytes);
+    same(rt, &buffer.as_slice(), &bytes);
 }
 
 /// The record has these numbers.
 fn has_numbers<R: Abort>(rt: &R, record: &Record, numbers: &[u64]) {
-    assert_eq!(rt; record.as_slice(), numbers);
+    same(rt, &record.as_slice(), &numbers);
 }
 
 /// A buffer that had these bytes, or more, is cleared, and takes them again without more memory.

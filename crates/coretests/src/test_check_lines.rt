@@ -1,6 +1,6 @@
 use crate::fake_writers::{Clogged, Deaf, Halting};
 use crate::test_programs::{fault_of, is_fault, says_output, wrote};
-use crate::test_texts::same;
+use crate::test_texts::{same, same_at};
 use coresteps::CoreFault;
 use keybits::ShapeFault;
 use poolprogram::{RunFault, Watched, check_text};
@@ -127,7 +127,7 @@ const ACTS_FAULTS: [(ActsFault, u32, &str); 3] = [
 fn says<R: Abort + AllocGlobal>(rt: &R, acts: &str, legal: bool, line: &str) {
     let mut out = Watched::new(Vec::new(rt.alloc()));
     let answer = check_text(rt.alloc(), acts.as_bytes(), &mut out).expect(rt, "acts");
-    assert_eq!(rt; answer, legal, "{acts}");
+    same_at(rt, &answer, &legal, acts);
     wrote(rt, out, line, acts);
 }
 

@@ -127,8 +127,8 @@ fn is_checked<R: Abort>(
 ) {
     assert!(rt; shape.check().is_ok());
     let acts = acts_of(rt, alloc, rows);
-    assert_eq!(rt; check(alloc, shape, acts.as_slice()), want);
-    assert_eq!(rt; first_refused(rt, alloc, shape, acts.as_slice()), refused);
+    same(rt, &check(alloc, shape, acts.as_slice()), &want);
+    same(rt, &first_refused(rt, alloc, shape, acts.as_slice()), &refused);
 }
 
 /// The rows are legal, with these counts.
@@ -345,13 +345,13 @@ fn add_row<'a, R: Abort>(rt: &R, rows: &mut Vec<Row<'a>>, row: Row<'a>) {
 /// A content gives back its bytes.
 fn gives_bytes<R: Abort>(rt: &R, alloc: Global, bytes: &[u8]) {
     let content = content_of(rt, alloc, bytes);
-    assert_eq!(rt; content.into_vec().as_slice(), bytes);
+    same(rt, &content.into_vec().as_slice(), &bytes);
 }
 
 /// Places give back their numbers.
 fn gives_numbers<R: Abort>(rt: &R, alloc: Global, numbers: &[u32]) {
     let places = places_of(rt, alloc, numbers);
-    assert_eq!(rt; places.into_vec().as_slice(), numbers);
+    same(rt, &places.into_vec().as_slice(), &numbers);
 }
 
 #[test]

@@ -1,7 +1,7 @@
 ghost use Rattle.std.specs.Prelude.{◌≡◌, length};
 ghost use Rattle.keybits.specs.Shapes.{IsShape};
 
-use crate::test_texts::{reads, same};
+use crate::test_texts::{reads, same, same_at};
 use coresteps::{Command, Core, Operand, Register, Reply, Script, Trace, Turn, run, write_trace};
 use keybits::Shape;
 use seqpool::{Act, Bytes};
@@ -444,7 +444,7 @@ fn tells_acts(rt: HostRuntime) {
 fn add_turn<R: Abort>(rt: &R, core: &mut Core, lane: u32, trace: &mut Trace) {
     let finished = core.finished(lane);
     let turn = turn_of(rt, core, lane);
-    assert_eq!(rt; is_empty_turn(&turn, lane), finished, "lane {lane}");
+    same_at(rt, &is_empty_turn(&turn, lane), &finished, lane);
     trace.push(turn).expect(rt, "memory for a turn");
 }
 
@@ -529,7 +529,7 @@ fn runs_hundreds_of_steps(rt: HostRuntime) {
         ..TWO_PLACES
     };
     let trace = trace_of(&rt, rt.alloc(), shape, &[rows.as_slice()], &[0; 1000]);
-    assert_eq!(rt; trace.as_slice().len(), 193);
+    same(&rt, &trace.as_slice().len(), &193);
     for (index, wanted) in [
         (0, 16777216),
         (63, 16777279),

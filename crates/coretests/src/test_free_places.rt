@@ -1,7 +1,7 @@
 ghost use Rattle.std.specs.Prelude.{◌≡◌, [], None};
 ghost use Rattle.freelists.specs.Shards.{shape_of};
 
-use crate::test_texts::same;
+use crate::test_texts::{same, same_at};
 use freelists::{LocalFree, Pages, Returns};
 use keybits::{Place, Shape, Word};
 use std::alloc::Global;
@@ -28,7 +28,7 @@ fn has_sizes<R: Abort>(rt: &R, pages: &Pages, sizes: [u32; 6])
     requires { pages.now.shape.pages ≡ 6 }
 {
     for page in 0..6 {
-        assert_eq!(rt; pages.size(page), sizes[page as usize], "page {page}");
+        same_at(rt, &pages.size(page), &sizes[page as usize], page);
     }
 }
 

@@ -1,3 +1,4 @@
+use crate::test_texts::same_at;
 use crate::fake_writers::{Clogged, Deaf, Halting};
 use crate::test_programs::{says_output, wrote};
 use poolprogram::{Watched, key_text};
@@ -55,7 +56,7 @@ const NO_KEYS: [u64; 8] = [
 fn names<R: Abort + AllocGlobal>(rt: &R, number: u64, known: bool, line: &str) {
     let mut out = Watched::new(Vec::new(rt.alloc()));
     let answer = key_text(rt.alloc(), number, &mut out).expect(rt, "a line");
-    assert_eq!(rt; answer, known, "{number}");
+    same_at(rt, &answer, &known, number);
     wrote(rt, out, line, line);
 }
 

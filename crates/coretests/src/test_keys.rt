@@ -1,4 +1,4 @@
-use crate::test_texts::{same, shows};
+use crate::test_texts::{same, same_at, shows};
 use keybits::{
     Key, Life, Place, Shape, ShapeFault, State, claimed, entered, fits, left, link_to,
     linked_place, marked, published,
@@ -49,7 +49,7 @@ fn has_parts<R: Abort>(rt: &R, number: u64, parts: Option<(u8, Place, u32)>) {
 
 /// No key without a tag has this number.
 fn is_no_key<R: Abort>(rt: &R, number: u64) {
-    assert_eq!(rt; Key::unpack(number), None, "at {number}");
+    same_at(rt, &Key::unpack(number), &None, number);
 }
 
 #[test]
@@ -100,7 +100,7 @@ fn numbers_fit_a_shape(rt: HostRuntime) {
         (tag + 16777216 + 2, false),
         (tag + 16777216 + 4096 + 4, false),
     ] {
-        assert_eq!(rt; fits(number, &SMALL), inside, "at {number}");
+        same_at(&rt, &fits(number, &SMALL), &inside, number);
     }
 }
 
@@ -136,7 +136,7 @@ fn words_say_lives(rt: HostRuntime) {
             count,
             state,
         };
-        assert_eq!(rt; Life::of_word(word), life, "at {word}");
+        same_at(&rt, &Life::of_word(word), &life, word);
         assert!(rt; count <= 1073741823);
         same(&rt, &life.word(), &word);
     }
@@ -164,7 +164,7 @@ fn shapes_are_checked(rt: HostRuntime) {
             last_generation,
             tag,
         };
-        assert_eq!(rt; shape.check(), want, "at {shape:?}");
+        same_at(&rt, &shape.check(), &want, shape);
     }
 }
 
@@ -198,7 +198,7 @@ fn faults_have_numbers_and_texts(rt: HostRuntime) {
 fn has_sizes<R: Abort>(rt: &R, shape: Shape, sizes: [u32; 6]) {
     assert!(rt; shape.check().is_ok() && shape.pages == 6);
     for page in 0..6 {
-        assert_eq!(rt; shape.page_size(page), sizes[page as usize], "page {page}");
+        same_at(rt, &shape.page_size(page), &sizes[page as usize], page);
     }
 }
 

@@ -1,4 +1,5 @@
 //! Calls of the programs as tests make them, and what these answer and write.
+use crate::test_texts::same_at;
 use crate::texts::is_text;
 use poolprogram::{RunFault, Watched, check_text, read_schedule, replay_text};
 use std::alloc::AllocGlobal;
@@ -17,7 +18,7 @@ pub(crate) fn fault_of<T>(answer: &Result<T, RunFault>) -> Fault {
 
 /// A fault has this number and name.
 pub(crate) fn is_fault<R: Abort>(rt: &R, fault: Fault, number: u32, name: &'static str, at: &str) {
-    assert_eq!(rt; fault, Some((number, name)), "at {at}");
+    same_at(rt, &fault, &Some((number, name)), at);
 }
 
 /// A text is this.

@@ -99,7 +99,7 @@ fn draws<R: Abort + AllocGlobal>(rt: &R, file: &str, turns: u32, trace: &str) ->
 #[test]
 fn draws_for_a_file(rt: HostRuntime) {
     let schedule = draws(&rt, ROW, 5, TRACE);
-    assert_eq!(rt; schedule.as_slice(), [0, 0, 0, 0, 0].as_slice());
+    same(&rt, &schedule.as_slice(), &[0, 0, 0, 0, 0].as_slice());
     let answer = draw_turns(rt.alloc(), b"[]", 1, 5);
     is_fault(&rt, fault_of(&answer), 32, "Field", "[]");
 }

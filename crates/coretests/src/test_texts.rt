@@ -15,6 +15,16 @@ pub(crate) fn shows<T: Display, R: Abort>(rt: &R, alloc: Global, value: &T, text
     reads(rt, shown.as_bytes(), text);
 }
 
+/// Stops the test unless these are equal, and says where they were compared.
+pub(crate) fn same_at<T: PartialEq + Debug, A: Debug + Drop, R: Abort>(
+    rt: &R,
+    left: &T,
+    right: &T,
+    at: A,
+) {
+    assert_eq!(rt; *left, *right, "at {at:?}");
+}
+
 /// Stops the test unless these are equal. A call of this is proved much faster than the comparison written out.
 pub(crate) fn same<T: PartialEq + Debug, R: Abort>(rt: &R, left: &T, right: &T) {
     assert_eq!(rt; *left, *right);

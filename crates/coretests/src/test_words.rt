@@ -1,5 +1,5 @@
 use crate::test_programs::{around, schedule_of};
-use crate::test_texts::same;
+use crate::test_texts::{same, same_at};
 use commandline::{Task, TaskFault, task};
 use std::alloc::AllocGlobal;
 use std::process::Abort;
@@ -51,7 +51,7 @@ fn outcome_of<R: Abort + AllocGlobal>(rt: &R, words: &[&str]) -> String {
 /// This comes of some words.
 fn comes_to<R: Abort + AllocGlobal>(rt: &R, words: &[&str], wanted: &str) {
     let outcome = outcome_of(rt, words);
-    assert_eq!(rt; outcome.as_str(), wanted, "{words:?}");
+    same_at(rt, &outcome.as_str(), &wanted, words);
 }
 
 // Words, and their tasks.

@@ -314,3 +314,10 @@ pub(crate) fn tell<T: Clear + Drop>(pool: &Pool<T>, teller: &mut Lane<T>, hearer
 pub(crate) fn same<T: PartialEq + Debug, R: Abort>(rt: &R, left: &T, right: &T) {
     assert_eq!(rt; *left, *right);
 }
+
+/// Stops the test unless a word is this. Conditions further down may rest on it.
+pub(crate) fn is_word<R: Abort>(rt: &R, word: u64, wanted: u64)
+    ensures { word ≡ wanted }
+{
+    assert_eq!(rt; word, wanted);
+}

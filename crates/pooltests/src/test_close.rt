@@ -2,7 +2,8 @@
 ghost use Rattle.shardpool.specs.Lanes.{Owns};
 
 use crate::test_calls::{
-    NO_PLACE, clear, close_one, close_two, create, finds_full, open_last, open_pair, shape_of,
+    NO_PLACE, clear, close_one, close_two, create, finds_full, open_last, open_pair, same,
+    shape_of,
 };
 use keybits::Shape;
 use shardpool::{Census, Lane, Pool};
@@ -63,8 +64,8 @@ fn counts_a_retired_place(rt: HostRuntime) {
         retired: 1,
         ..NO_PLACE
     };
-    assert_eq!(rt; close_used_up::<ByteBuf, _>(&rt, rt.alloc()), census);
-    assert_eq!(rt; close_used_up::<Record, _>(&rt, rt.alloc()), census);
+    same(&rt, &close_used_up::<ByteBuf, _>(&rt, rt.alloc()), &census);
+    same(&rt, &close_used_up::<Record, _>(&rt, rt.alloc()), &census);
 }
 
 #[test]
@@ -74,8 +75,8 @@ fn counts_a_marked_place(rt: HostRuntime) {
         marked: 1,
         ..NO_PLACE
     };
-    assert_eq!(rt; close_marked::<ByteBuf, _>(&rt, rt.alloc()), census);
-    assert_eq!(rt; close_marked::<Record, _>(&rt, rt.alloc()), census);
+    same(&rt, &close_marked::<ByteBuf, _>(&rt, rt.alloc()), &census);
+    same(&rt, &close_marked::<Record, _>(&rt, rt.alloc()), &census);
 }
 
 #[test]
@@ -85,8 +86,8 @@ fn counts_a_returned_place(rt: HostRuntime) {
         unopened: 1,
         ..NO_PLACE
     };
-    assert_eq!(rt; close_returned::<ByteBuf, _>(&rt, rt.alloc()), census);
-    assert_eq!(rt; close_returned::<Record, _>(&rt, rt.alloc()), census);
+    same(&rt, &close_returned::<ByteBuf, _>(&rt, rt.alloc()), &census);
+    same(&rt, &close_returned::<Record, _>(&rt, rt.alloc()), &census);
 }
 
 #[test]
@@ -95,6 +96,6 @@ fn counts_a_filling(rt: HostRuntime) {
         filling: 1,
         ..NO_PLACE
     };
-    assert_eq!(rt; close_filling::<ByteBuf, _>(&rt, rt.alloc()), census);
-    assert_eq!(rt; close_filling::<Record, _>(&rt, rt.alloc()), census);
+    same(&rt, &close_filling::<ByteBuf, _>(&rt, rt.alloc()), &census);
+    same(&rt, &close_filling::<Record, _>(&rt, rt.alloc()), &census);
 }

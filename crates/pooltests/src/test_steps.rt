@@ -10,6 +10,7 @@ ghost use Rattle.poolsteps.specs.Told.{IsIdle, HasPlace, LeftAlone, references_s
 ghost use Rattle.poolsteps.specs.Moved.{stored_of};
 ghost use Rattle.poolsteps.specs.Returned.{IsToReturn, AimsAt};
 
+use crate::test_calls::{is_word, same};
 use crate::test_cells::object_of;
 use atomic_table::Closed;
 use keybits::{Shape, owes_claim};
@@ -93,7 +94,7 @@ fn publish<T: Clear + Drop>(
     let own = rest.cut();
     grid.back(hand, spot, 0, 1, rest.into_share());
     let found = grid.publish_held(hand, spot, KEY, &own);
-    assert_eq!(rt; found, 4294967296);
+    is_word(rt, found, 4294967296);
     own
 }
 
@@ -113,7 +114,7 @@ fn get<T: Clear>(rt: &impl Abort, grid: &Grid<T>, hand: &mut Hand<T>, spot: Spot
     references_law();
     shares_law();
     let entered = grid.enter(hand, spot, KEY, Purpose::ToGet);
-    assert_eq!(rt; entered, 4294967301);
+    is_word(rt, entered, 4294967301);
     grid.out(hand, spot, 1, 1)
 }
 
@@ -167,7 +168,7 @@ fn release_one<T: Clear>(
     ensures reference { references_seen grid.now.shape hand.new.me.0 KEY ≡ 0 }
 {
     let left = give_back(grid, hand, spot, 1, share);
-    assert_eq!(rt; left, 4294967305);
+    is_word(rt, left, 4294967305);
 }
 
 /// A clear of lane 1 hits and marks, and its LEAVE leaves a reference.
@@ -183,11 +184,11 @@ fn clear<T: Clear>(rt: &impl Abort, grid: &Grid<T>, hand: &mut Hand<T>, spot: Sp
 {
     references_law();
     let entered = grid.enter(hand, spot, KEY, Purpose::ToClear);
-    assert_eq!(rt; entered, 4294967301);
+    is_word(rt, entered, 4294967301);
     let marked = grid.mark(hand, spot, KEY);
-    assert_eq!(rt; marked, 4294967305);
+    is_word(rt, marked, 4294967305);
     let left = grid.leave(hand, spot, KEY);
-    assert_eq!(rt; left, 4294967307);
+    is_word(rt, left, 4294967307);
 }
 
 /// A lane that has place 0, and left its slots alone, takes its shares out: they are the whole cell.
@@ -241,9 +242,9 @@ fn release<T: Clear + Drop, R: Abort>(
     requires slot { status_of (the_lane hand.old.me.0) 0 0 ≡ Emptied }
 {
     let left = give_back(grid, hand, spot, 0, share);
-    assert_eq!(rt; left, 4294967303);
+    is_word(rt, left, 4294967303);
     let claimed = grid.claim(hand, spot, 1);
-    assert_eq!(rt; claimed, 4294967299);
+    is_word(rt, claimed, 4294967299);
     take_shares(alloc, grid, hand, spot, 0)
 }
 
@@ -266,7 +267,7 @@ fn publish_alone<T: Clear + Drop>(
     grid.back(hand, spot, 0, 0, rest.cut());
     grid.back(hand, spot, 0, 1, rest.into_share());
     let found = grid.publish(hand, spot, KEY);
-    assert_eq!(rt; found, 4294967296);
+    is_word(rt, found, 4294967296);
 }
 
 /// A clear of lane 1 alone hits, marks and claims the place of lane 0.
@@ -282,13 +283,13 @@ fn clear_and_claim<T: Clear>(rt: &impl Abort, grid: &Grid<T>, hand: &mut Hand<T>
     ensures aims { AimsAt (the_lane hand.new.me.0) 0 0 }
 {
     let entered = grid.enter(hand, spot, KEY, Purpose::ToClear);
-    assert_eq!(rt; entered, 4294967297);
+    is_word(rt, entered, 4294967297);
     let marked = grid.mark(hand, spot, KEY);
-    assert_eq!(rt; marked, 4294967301);
+    is_word(rt, marked, 4294967301);
     let left = grid.leave(hand, spot, KEY);
-    assert_eq!(rt; left, 4294967303);
+    is_word(rt, left, 4294967303);
     let claimed = grid.claim(hand, spot, 1);
-    assert_eq!(rt; claimed, 4294967299);
+    is_word(rt, claimed, 4294967299);
 }
 
 /// Lane 1, which has the place of lane 0, clears its object in place, and returns it.
@@ -315,7 +316,7 @@ fn return_place<T: Clear + Drop, R: Abort>(
     grid.back_whole(hand, spot, 1, whole.lend(1).into_share());
     grid.link(hand, spot, 0);
     let top = grid.push(hand, spot, 1, 0);
-    assert_eq!(rt; top, 0);
+    is_word(rt, top, 0);
 }
 
 /// Lane 0 takes the place that lane 1 returned, follows it to the end, and takes its object out, which is empty.
@@ -335,9 +336,9 @@ fn take_and_follow<T: Clear + Drop, R: Abort>(
 {
     shares_law();
     let taken = grid.take(hand, 0, 1);
-    assert_eq!(rt; taken, 1);
+    is_word(rt, taken, 1);
     let end = grid.follow(hand, spot);
-    assert_eq!(rt; end, 0);
+    is_word(rt, end, 0);
     grid.see(hand, 0);
     Rest::of_last(grid.out_whole(hand, spot, 0)).into_whole(alloc)
 }
@@ -358,15 +359,15 @@ fn makes_each_step(rt: HostRuntime) -> Result<(), Fail> {
     let spot = grid.spot(0);
     let whole = object_of(&rt, rt.alloc(), 7);
     let share = publish(&rt, &grid, &mut first, spot, whole);
-    assert_eq!(rt; share.read().as_slice(), [7].as_slice());
+    same(&rt, &share.read().as_slice(), &[7].as_slice());
     let other = get(&rt, &grid, &mut second, spot);
-    assert_eq!(rt; other.read().as_slice(), [7].as_slice());
+    same(&rt, &other.read().as_slice(), &[7].as_slice());
     release_one(&rt, &grid, &mut second, spot, other);
     clear(&rt, &grid, &mut second, spot);
     let whole = release(&rt, rt.alloc(), &grid, &mut first, spot, share);
-    assert_eq!(rt; whole.get().as_slice(), [7].as_slice());
+    same(&rt, &whole.get().as_slice(), &[7].as_slice());
     let found = grid.enter(&mut second, spot, KEY, Purpose::ToGet);
-    assert_eq!(rt; found, 8589934592);
+    is_word(&rt, found, 8589934592);
     Ok(())
 }
 
@@ -381,7 +382,7 @@ fn returns_and_takes_a_place(rt: HostRuntime) -> Result<(), Fail> {
     let whole = take_and_follow(&rt, rt.alloc(), &grid, &mut first, spot);
     assert!(rt; whole.get().is_empty());
     let generation = grid.generation(&mut first, spot);
-    assert_eq!(rt; generation, 2);
+    same(&rt, &generation, &2);
     let note = grid.note(&mut second);
     grid.hear(&mut first, 0, note);
     let note = grid.note(&mut first);
@@ -392,7 +393,7 @@ fn returns_and_takes_a_place(rt: HostRuntime) -> Result<(), Fail> {
     let closed = grid.end(hands);
     let first_word = closed.word(0);
     free(closed);
-    assert_eq!(rt; first_word, 0);
+    is_word(&rt, first_word, 0);
     Ok(())
 }
 
@@ -446,7 +447,7 @@ fn enters_and_leaves_on_two_threads(rt: HostRuntime) -> Result<(), Fail> {
     assert!(rt; second.is_some());
     let mut first = first.ok_or("a claim is owed")?;
     let found = grid.enter(&mut first, spot, KEY, Purpose::ToClear);
-    assert_eq!(rt; found, 4294967296);
+    is_word(&rt, found, 4294967296);
     Ok(())
 }
 
@@ -455,7 +456,7 @@ fn makes_and_ends_grids_of_each_size(rt: HostRuntime) -> Result<(), Fail> {
     for shape in [SMALLEST, LARGEST] {
         shape.check()?;
         let (grid, hands) = Grid::<ByteBuf>::new(rt.alloc(), &shape).ok_or("no memory")?;
-        assert_eq!(rt; hands.len(), shape.lanes as usize);
+        same(&rt, &hands.len(), &(shape.lanes as usize));
         assert!(rt; grid.find(shape.lanes << 16).is_none());
         free(grid.end(hands));
     }

@@ -185,13 +185,15 @@ fn workers_run_one_beside_another(rt: HostRuntime) -> Result<(), Fail> {
     let (reports, _) = run_all(&rt, alloc, TWO_LANES, &[Row::Create(0)], 1, &gate);
     same(&rt, &reports.len(), &2);
     let (first, second) = texts_of(alloc, reports.as_slice())?;
-    assert_eq!(rt;
-        first.as_str(),
-        "Report { replies: [Filling(16777216)], stopped_at: None }"
+    same(
+        &rt,
+        &first.as_str(),
+        &"Report { replies: [Filling(16777216)], stopped_at: None }",
     );
-    assert_eq!(rt;
-        second.as_str(),
-        "Report { replies: [Filling(16842752)], stopped_at: None }"
+    same(
+        &rt,
+        &second.as_str(),
+        &"Report { replies: [Filling(16842752)], stopped_at: None }",
     );
     Ok(())
 }
@@ -203,13 +205,15 @@ fn workers_answer_in_the_order_of_their_jobs(rt: HostRuntime) -> Result<(), Fail
     let (reports, census) = run_all(&rt, alloc, TWO_LANES, &rows, 2, &Open);
     same(&rt, &reports.len(), &2);
     let (first, second) = texts_of(alloc, reports.as_slice())?;
-    assert_eq!(rt;
-        first.as_str(),
-        "Report { replies: [Filling(16777216), Key(16777216)], stopped_at: None }"
+    same(
+        &rt,
+        &first.as_str(),
+        &"Report { replies: [Filling(16777216), Key(16777216)], stopped_at: None }",
     );
-    assert_eq!(rt;
-        second.as_str(),
-        "Report { replies: [Filling(16842752), Key(16842752)], stopped_at: None }"
+    same(
+        &rt,
+        &second.as_str(),
+        &"Report { replies: [Filling(16842752), Key(16842752)], stopped_at: None }",
     );
     same(
         &rt,
