@@ -30,7 +30,7 @@ module _ {T : Type 0} {content : T → List ℕ} {room : T → ℕ} {old between
   -- with a call on its object and a publish it is a create with a closure
   pub creates : {F : Type 0} (g : Once F (MutBor T × Unit {0}) (Unit {0} × (MutBor T × Unit {0}))) (f : F) (new : LaneOf) (object : T) (key : ℕ)
       → FnOnceReturnsAtMut g f filling.object tt object → key ≡ filling.key → Did (acts.Publish between.number filling.key (content object) false ∷ []) between new
-      → PublishedSince filling.key (content object) between new
+      → PublishedSince filling.key (content object) false between new
       → room_of new.book.seen new.book.rooms (place_of filling.key) ≡ room object → CreatesWith content room g f old new key
   creates g f new object key ran is published since roomy = record {
     between = between;
@@ -41,7 +41,7 @@ module _ {T : Type 0} {content : T → List ℕ} {room : T → ℕ} {old between
     key_is = is;
     publishes = subst (λ (k : ℕ). Did (acts.Publish old.number k (content object) false ∷ []) between new) (sym is)
         (subst (λ (n : ℕ). Did (acts.Publish n filling.key (content object) false ∷ []) between new) gives.created.same.2 published);
-    published = subst (λ (k : ℕ). PublishedSince k (content object) old new) (sym is) (published-earlier (seen-of gives.created.goes) since);
+    published = subst (λ (k : ℕ). PublishedSince k (content object) false old new) (sym is) (published-earlier gives.created.same.2 (seen-of gives.created.goes) since);
     room_is = subst (λ (k : ℕ). room_of new.book.seen new.book.rooms (place_of k) ≡ room object) (sym is) roomy;
   }
 

@@ -21,7 +21,7 @@ pub record CreatesWith {T F : Type 0} (content : T → List ℕ) (room : T → �
   pub ran : FnOnceReturnsAtMut g f filling.object tt object
   pub key_is : key ≡ filling.key
   pub publishes : Did (acts.Publish old.number key (content object) false ∷ []) between new
-  pub published : PublishedSince key (content object) old new
+  pub published : PublishedSince key (content object) false old new
   pub room_is : room_of new.book.seen new.book.rooms (place_of key) ≡ room object
 
 -- a get that found the key, and a release of its reference

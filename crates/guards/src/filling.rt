@@ -111,7 +111,7 @@ impl<'a, T: Clear + Drop> FillGuard<'a, T> {
         ensures key { result.reference.key ≡ self.entry.filling.key }
         ensures may { MayRelease result.pool.now result.lane.now result.reference }
         ensures publishes { Did (acts.Publish self.entry.lane.now.number self.entry.filling.key (T.content self.entry.filling.object) true ∷ []) self.entry.lane.now result.lane.now }
-        ensures published { PublishedSince self.entry.filling.key (T.content self.entry.filling.object) self.entry.lane.now result.lane.now }
+        ensures published { PublishedSince self.entry.filling.key (T.content self.entry.filling.object) true self.entry.lane.now result.lane.now }
         ensures same { SameLane self.entry.lane.now result.lane.now }
         ensures refs { refs result.lane.now ≡ refs self.entry.lane.now + 1 }
         ensures room { room_of result.lane.now.book.seen result.lane.now.book.rooms (place_of self.entry.filling.key) ≡ T.room self.entry.filling.object }
@@ -132,7 +132,7 @@ impl<'a, T: Clear + Drop, F: Fills<T>> Drop for FillGuard<'a, T, F> {
         requires may { MayPublish self.pool.now self.lane.now (F.filling self.filling) }
         ensures owns { Owns self.entry.pool.now self.exit.0.now }
         ensures publishes { Did (acts.Publish self.entry.lane.now.number (F.filling self.entry.filling).key (T.content (F.filling self.entry.filling).object) false ∷ []) self.entry.lane.now self.exit.0.now }
-        ensures published { PublishedSince (F.filling self.entry.filling).key (T.content (F.filling self.entry.filling).object) self.entry.lane.now self.exit.0.now }
+        ensures published { PublishedSince (F.filling self.entry.filling).key (T.content (F.filling self.entry.filling).object) false self.entry.lane.now self.exit.0.now }
         ensures same { SameLane self.entry.lane.now self.exit.0.now }
         ensures refs { refs self.exit.0.now ≡ refs self.entry.lane.now }
         ensures room { room_of self.exit.0.now.book.seen self.exit.0.now.book.rooms (place_of (F.filling self.entry.filling).key) ≡ T.room (F.filling self.entry.filling).object }

@@ -195,8 +195,8 @@ module _ {S : Type 0} {z : Shape} {call : Call} {act : Act} {a b c d : Me S View
       let left_so = leaves.1 opened.hit opened.under in
       let now = ap head_record left_so.goes.lanes in
       let first = subst (λ (p : ℕ). IsUnmoved p (the_lane a.0) (the_lane b.0)) (sym at) opened.opens.unmoved in
-      acts-after z place (act ∷ []) a.0 c.0 d.0 reclaimed (ap (λ (r : LaneRecord). r.lane) now ∙ opened.opens.did.lane)
-      (ap (λ (r : LaneRecord). r.mine) now ∙ (append-nil (the_lane b.0).mine ∙ opened.opens.did.mine)) (ap (λ (r : LaneRecord). r.pushed) now ∙ opened.opens.pushed)
+      acts-after z place (act ∷ []) a.0 c.0 d.0 reclaimed (ap (λ (r : LaneRecord). r.lane) now ∙ opened.opens.did.acted.lane)
+      (ap (λ (r : LaneRecord). r.mine) now ∙ (append-nil (the_lane b.0).mine ∙ opened.opens.did.acted.mine)) (ap (λ (r : LaneRecord). r.pushed) now ∙ opened.opens.pushed)
       (unmoved-more first (life-unmoved left_so place)) made
 
 -- ---- each call
@@ -302,8 +302,8 @@ module _ {S : Type 0} {z : Shape} {key found : ℕ} {a b : Me S View} (inside : 
       → Opens z (Clearing key) (enter-step key found ∷ mark-step key word ∷ []) (acts.Clear (the_lane a.0).lane key (state_in word == 1) ∷ []) a c
   clear-marked {word = word} {c = c} enters hit marks =
       let entered = clear-entered enters hit in
-      let marked = opens-more marks entered (mark-follows (caller_of z a.0) key found hit []) (ap (λ (l : ℕ). Some (acts.Clear l key (state_in word == 1))) entered.did.lane) in
-      subst (λ (l : ℕ). Opens z (Clearing key) (enter-step key found ∷ mark-step key word ∷ []) (acts.Clear l key (state_in word == 1) ∷ []) a c) entered.did.lane marked
+      let marked = opens-more marks entered (mark-follows (caller_of z a.0) key found hit []) (ap (λ (l : ℕ). Some (acts.Clear l key (state_in word == 1))) entered.did.acted.lane) in
+      subst (λ (l : ℕ). Opens z (Clearing key) (enter-step key found ∷ mark-step key word ∷ []) (acts.Clear l key (state_in word == 1) ∷ []) a c) entered.did.acted.lane marked
 
   -- a clear that misses
   pub clear-misses : EntersClear z key a found b → is_hit key found ≡ false → Opened z (Clearing key) (acts.Clear (the_lane a.0).lane key false) a b

@@ -31,7 +31,7 @@ use Rattle.poolcalls.specs.Called.{caller_of, Make, IsLawful}
 use Rattle.poolcalls.proofs.Doing.{make-one, make-more}
 use Rattle.poolcalls.proofs.Calling.{no-links, steps-more}
 use Rattle.poolcalls.specs.Taken.{Went, IsCollected, Collects}
-use Rattle.poolcalls.proofs.Going.{none-went, went-step, went-more}
+use Rattle.poolcalls.proofs.Going.{all-acts, none-went, went-step, went-more}
 use Rattle.poolcalls.proofs.Chaining.{links_of, chain-leads}
 use Rattle.poolcalls.proofs.Returners.{home-returned}
 
@@ -130,7 +130,7 @@ module _ {S : Type 0} {z : Shape} {opened from : ℕ} {before now : Me S View} (
 
   -- the seat is still that of the lane
   pub tried-one : IsOne now.0
-  tried-one = tried.went.one
+  tried-one = tried.went.acted.one
 
   pub tried-lane : (the_lane now.0).lane ≡ own
   tried-lane = ap (λ (r : LaneRecord). r.lane) tried.same
@@ -209,11 +209,12 @@ module _ {S : Type 0} {z : Shape} {opened from : ℕ} {before now : Me S View} (
     -- a home place of the shard was returned by another lane than that of the stack
     none-there : HomeStaysLaw → IsLawful z before.0 → (place : ℕ) → home_in z before.0.seen own place ≡ true → returner before.0.seen place ≢ from
     none-there law seen place home is =
-        let more : List Act = none-after.seen.0 in
-        let grown : before.0.seen ++ more ≡ after.0.seen = none-after.seen.1 in
+        let acted = none-after.acted in
+        let more : List Act = acted.seen.0 in
+        let grown : before.0.seen ++ more ≡ after.0.seen = acted.seen.1 in
         let acts : acts_of own before.0.seen ≡ acts_of own after.0.seen
-        = sym seen.1 ∙ (sym (append-nil (the_lane before.0).mine) ∙ (sym none-after.mine ∙ (none-after.own ∙ ap (λ (l : ℕ). acts_of l after.0.seen) none-after.lane))) in
-        let stays = law z before.0.seen more own place (subst (IsLegal z) (sym grown) none-after.legal)
+        = sym (append-nil (acts_of own before.0.seen)) ∙ sym (all-acts acted seen.1) in
+        let stays = law z before.0.seen more own place (subst (IsLegal z) (sym grown) acted.legal)
         (none-behind own before.0.seen more after.0.seen grown acts) home in
         let still : home_in z after.0.seen own place ≡ true = ap (λ (h : List Act). home_in z h own place) (sym grown) ∙ stays.0 in
         let same : returner after.0.seen place ≡ returner before.0.seen place = ap (λ (h : List Act). returner h place) (sym grown) ∙ stays.1 in
@@ -332,6 +333,6 @@ none-collects {z = z} {opened = opened} {before = before} tried seen most inside
       held = tried.held;
       stepped = tried.stepped;
       looked = tried.looked;
-      none = λ zero. (refl, tried.same, (history, prefix-self history, tried.went.seen, nowhere));
+      none = λ zero. (refl, tried.same, (history, prefix-self history, tried.went.acted.seen, nowhere));
       some = λ isnt. absurd (isnt refl);
     }

@@ -8,19 +8,18 @@ use Rattle.keybits.specs.Keys.{place_of}
 use Rattle.keybits.specs.Steps.{Changes}
 use Rattle.seqpool.specs.declared.act.Act.{Act}
 use Rattle.seqpool.specs.declared.act.Act.TheVariants as acts
-use Rattle.seqpool.specs.Histories.{acts_of}
 use Rattle.sharelaws.specs.declared.stored.Stored.{Stored}
 use Rattle.sharelaws.specs.declared.stored.Status.TheVariants.{Untouched}
 use Rattle.steplaws.specs.declared.pending.Pending.{Pending}
 use Rattle.steplaws.specs.Calls.{Call, Caller, aim, end_next, key_in, Makes}
 use Rattle.poolsteps.specs.declared.view.LaneRecord.{LaneRecord}
 use Rattle.poolsteps.specs.declared.view.View.{View}
-use Rattle.poolsteps.specs.Views.{head_record, the_lane, pushed_in, status_of, known_of, acts_in, rooms_in, after_step, with_cell}
+use Rattle.poolsteps.specs.Views.{head_record, the_lane, pushed_in, status_of, known_of, acts_in, after_step, with_cell}
 use Rattle.poolsteps.specs.Told.{GoesOn, Steps, IsIdle}
 use Rattle.poolsteps.specs.Returned.{with_return, pushed_record}
-use Rattle.poolsteps.proofs.ViewLemmas.{prefix-trans}
 use Rattle.poolcalls.specs.Carried.{Carries}
 use Rattle.poolcalls.specs.Called.{caller_of, Make, IsUnmoved, Did, AreEnd, GoesToEnd}
+use Rattle.poolcalls.proofs.Going.{acted-goes, acted-more, even-in}
 
 -- ---- the lane's record
 
@@ -69,39 +68,12 @@ push-next r place = record {
 
 -- ---- what the lane did
 
--- so many rooms stand beside the acts of a step as it made
-rooms-made : (r : LaneRecord) (act : Option Act) → length (rooms_in r act) ≡ length (acts_in act)
-rooms-made r None = refl
-rooms-made r (Some act) = refl
-
--- beside these acts and rooms, as many of each are more
-abbrev AreMore : List Act → List ℕ → List Act → List ℕ → Type 0
-AreMore seen rooms seen_now rooms_now = (more : List ℕ) × (rooms_now ≡ rooms ++ more) × (length seen_now ≡ length seen + length more)
-
--- a room stands beside each act that was seen between two views
-rooms-beside : {z : Shape} {v w : View} {made : List Act} {rooms : List ℕ} {r : LaneRecord} → GoesOn z v w made rooms r → length rooms ≡ length made
-    → AreMore v.seen v.rooms w.seen w.rooms
-rooms-beside {v = v} {w = w} {made = made} {rooms = rooms} goes beside =
-    let one = ap (λ (xs : List Act). length xs) goes.seen in
-    let two = length-append (v.seen ++ goes.between) made in
-    let three = length-append v.seen goes.between in
-    let four = length-append goes.rooms_between rooms in
-    let five = goes.paired.1 in
-    (goes.rooms_between ++ rooms, goes.rooms ∙ append_assoc v.rooms goes.rooms_between rooms, omega (arith, one, two, three, four, five, beside))
-
 module _ {S : Type 0} {z : Shape} {place : ℕ} {a b : Me S View} where
   did-goes : {made : List Act} {rooms : List ℕ} {r : LaneRecord} {steps looks : ℕ} → GoesOn z a.0 b.0 made rooms r → length rooms ≡ length made
       → IsNext place made (the_lane a.0) r → b.1 ≡ a.1 → b.0.steps ≡ a.0.steps + steps → b.0.looks ≤ a.0.looks + looks → Did z place made steps looks a b
-  did-goes {made = made} {r = r} goes beside next held stepped looked =
+  did-goes {r = r} goes even next held stepped looked =
       let now : the_lane b.0 ≡ r = ap head_record goes.lanes in record {
-        one = goes.lanes ∙ ap (λ (x : LaneRecord). x ∷ []) (sym now);
-        lane = ap (λ (x : LaneRecord). x.lane) now ∙ next.lane;
-        mine = ap (λ (x : LaneRecord). x.mine) now ∙ next.mine;
-        seen = (goes.between ++ made, sym (goes.seen ∙ append_assoc a.0.seen goes.between made));
-        rooms = rooms-beside goes beside;
-        legal = goes.legal;
-        quiet = goes.quiet;
-        own = subst (λ (x : LaneRecord). x.mine ≡ acts_of x.lane b.0.seen) (sym now) goes.mine;
+        acted = acted-goes goes even next.lane next.mine;
         held = held;
         stepped = stepped;
         looked = looked;
@@ -113,7 +85,7 @@ module _ {S : Type 0} {z : Shape} {place : ℕ} {a b : Me S View} where
   -- one step
   pub did-step : {kind : Kind} {found left : ℕ} {act : Option Act} {r : LaneRecord} → Steps z kind found left a b act r → IsNext place (acts_in act) (the_lane a.0) r
       → Did z place (acts_in act) 1 0 a b
-  did-step {act = act} {r = r} steps next = did-goes steps.goes (rooms-made r act) next steps.held steps.steps (let same = steps.looks in omega arith)
+  did-step {act = act} {r = r} steps next = did-goes steps.goes (even-in r act) next steps.held steps.steps (let same = steps.looks in omega arith)
 
   -- moves of the place's shares
   pub did-carries : {n looks : ℕ} → Carries z place n a b → n ≤ looks → Did z place [] 0 looks a b
@@ -130,14 +102,7 @@ module _ {S : Type 0} {z : Shape} {place : ℕ} {a b : Me S View} where
   -- more looks are allowed
   pub did-most : {made : List Act} {steps looks most : ℕ} → Did z place made steps looks a b → looks ≤ most → Did z place made steps most a b
   did-most did few = record {
-    one = did.one;
-    lane = did.lane;
-    mine = did.mine;
-    seen = did.seen;
-    rooms = did.rooms;
-    legal = did.legal;
-    quiet = did.quiet;
-    own = did.own;
+    acted = did.acted;
     held = did.held;
     stepped = did.stepped;
     looked = let looked = did.looked in omega arith;
@@ -146,26 +111,11 @@ module _ {S : Type 0} {z : Shape} {place : ℕ} {a b : Me S View} where
     cells = did.cells;
   }
 
--- rooms beside acts, and those beside later ones
-rooms-more : (u v w : View) → AreMore u.seen u.rooms v.seen v.rooms → AreMore v.seen v.rooms w.seen w.rooms → AreMore u.seen u.rooms w.seen w.rooms
-rooms-more u v w first second =
-    let all = length-append first.0 second.0 in
-    let one = first.2 in
-    let two = second.2 in
-    (first.0 ++ second.0, second.1 ∙ (ap (λ (xs : List ℕ). xs ++ second.0) first.1 ∙ append_assoc u.rooms first.0 second.0), omega (arith, all, one, two))
-
 -- one after another
 pub did-more : {S : Type 0} {z : Shape} {place s l t k : ℕ} {made more : List Act} {a b c : Me S View} → Did z place made s l a b → Did z place more t k b c
     → Did z place (made ++ more) (s + t) (l + k) a c
-did-more {made = made} {more = more} {a = a} {b = b} {c = c} first second = record {
-  one = second.one;
-  lane = second.lane ∙ first.lane;
-  mine = second.mine ∙ (ap (λ (xs : List Act). xs ++ more) first.mine ∙ append_assoc (the_lane a.0).mine made more);
-  seen = prefix-trans a.0.seen b.0.seen c.0.seen first.seen second.seen;
-  rooms = rooms-more a.0 b.0 c.0 first.rooms second.rooms;
-  legal = second.legal;
-  quiet = second.quiet;
-  own = second.own;
+did-more first second = record {
+  acted = acted-more first.acted second.acted;
   held = second.held ∙ first.held;
   stepped = let one = first.stepped in let two = second.stepped in omega arith;
   looked = let one = first.looked in let two = second.looked in omega arith;

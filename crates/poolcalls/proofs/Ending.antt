@@ -20,13 +20,13 @@ use Rattle.poolsteps.specs.declared.view.View.{View}
 use Rattle.poolsteps.specs.Views.{head_record, the_lane, IsOne}
 use Rattle.poolsteps.specs.Told.{LeftAlone, HasPlace, claimed_under, Claims}
 use Rattle.poolsteps.specs.ViewLaws.{SharesLaw}
-use Rattle.poolsteps.proofs.ViewLemmas.{prefix-self}
 use Rattle.poolsteps.proofs.OwnShares.{may-touch}
 use Rattle.poolsteps.proofs.HandSteps.{under-after}
 use Rattle.poolcalls.specs.Carried.{Carries}
 use Rattle.poolcalls.specs.Called.{caller_of, IsUnmoved, Did, IsLawful, Tails, Ends, TailActs, EndsWithActs}
 use Rattle.poolcalls.specs.declared.reclaimed.Reclaimed.{Reclaimed}
 use Rattle.poolcalls.specs.declared.reclaimed.Reclaimed.TheVariants.{Own, Returned, Retired}
+use Rattle.poolcalls.proofs.Going.{none-acted}
 use Rattle.poolcalls.proofs.Doing.{unmoved-now, life-next, cell-next, did-step, same-caller, goes-first, goes-last, goes-none, goes-most}
 
 -- moves of a place's shares leave the caller, and the room of a place that is with the lane
@@ -124,15 +124,8 @@ abbrev pub made_at : Shape → ℕ → ℕ → ℕ → Bool → Option Act
 made_at z lane place generation succeeds = cond succeeds (Some (reclaim z lane place generation)) None
 
 pub did-nothing : {S : Type 0} {z : Shape} {place : ℕ} {a : Me S View} → IsOne a.0 → IsLawful z a.0 → Did z place [] 0 0 a a
-did-nothing {a = a} one seen = record {
-  one = one;
-  lane = refl;
-  mine = sym (append-nil (the_lane a.0).mine);
-  seen = prefix-self a.0.seen;
-  rooms = ([], sym (append-nil a.0.rooms), omega arith);
-  legal = seen.0;
-  own = seen.1;
-  quiet = seen.2;
+did-nothing one seen = record {
+  acted = none-acted one seen;
   held = refl;
   stepped = omega arith;
   looked = omega arith;

@@ -33,7 +33,7 @@ pushed-still steps = ap (λ (lanes : List LaneRecord). (head_record lanes).pushe
 
 caller-still : {S : Type 0} {z : Shape} {kind : Kind} {found left place : ℕ} {linked : Option ℕ} {failed : Bool} {a b : Me S View}
     → Steps z kind found left a b None (with_return (the_lane a.0) place linked failed) → caller_of z b.0 ≡ caller_of z a.0
-caller-still {z = z} {a = a} {b = b} steps = same-caller z a.0 b.0 (did-return steps).lane (pushed-still steps)
+caller-still {z = z} {a = a} {b = b} steps = same-caller z a.0 b.0 (did-return steps).acted.lane (pushed-still steps)
 
 module _ {S : Type 0} {z : Shape} {place top : ℕ} {linked : Option ℕ} {failed : Bool} {a b : Me S View} (done : List Step)
     (under : (the_lane a.0).under ≡ Returns place linked failed) where

@@ -42,8 +42,7 @@ pub called-releases : {S : Type 0} {z : Shape} {key : ℕ} {a c : Me S View} (li
     → CalledWithin z (Releasing key) limit a c
 called-releases {z = z} {key = key} {a = a} {c = c} limit one seen idle leaves = elim leaves [
   | inl none ↦
-      subst (λ (n : ℕ). CalledWithin z (Releasing key) n a c) (sym none.0)
-      (subst (λ (last : Me _ View). CalledWithin z (Releasing key) 0 a last) (sym none.1) (called-not (Releasing key) one seen))
+      subst (λ (last : Me _ View). CalledWithin z (Releasing key) limit a last) (sym none.1) (called-not (Releasing key) limit none.0 one seen)
   | inr told ↦
       let leave : Step = life-step kinds.Leave key told.0 (told.0 - 4) in
       let some = told.2 in

@@ -18,7 +18,7 @@ pub has-one : {S : Type 0} {z : Shape} {place steps looks : ℕ} {all : List Act
 has-one {z = z} {a = a} {b = b} law did own bytes lane key mine =
     let get : List Act = acts.Get lane key (Some bytes) ∷ [] in
     let done : acts_of (the_lane a.0).lane b.0.seen ≡ acts_of (the_lane a.0).lane a.0.seen ++ get
-    = ap (λ (l : ℕ). acts_of l b.0.seen) (sym did.lane) ∙ (sym did.own ∙ (mine ∙ ap (λ (xs : List Act). xs ++ get) own)) in
+    = ap (λ (l : ℕ). acts_of l b.0.seen) (sym did.acted.lane) ∙ (sym did.acted.own ∙ (mine ∙ ap (λ (xs : List Act). xs ++ get) own)) in
     let had : ℕ = references_seen z a.0 key in
-    let has = law z a.0 b.0 get did.seen did.legal did.lane done key in
+    let has = law z a.0 b.0 get did.acted.seen did.acted.legal did.acted.lane done key in
     let one = ap (λ (same : Bool). cond same (had + 1) had) (eq-eqb key key refl) in omega (arith, has ∙ one)

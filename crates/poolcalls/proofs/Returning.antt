@@ -146,7 +146,7 @@ module _ {S : Type 0} {z : Shape} {place top : ℕ} {a b c : Me S View} {found :
           (Some (acts.Home lane place), no-links, [], home.changes, pushed-act call place lane found top true (eq-eqb found top hit) at, refl, refl),
           refl,
         );
-        did = did-more (did-return linked) (did-home home lane (did-return linked).lane);
+        did = did-more (did-return linked) (did-home home lane (did-return linked).acted.lane);
         few = omega arith;
         idle = idle-home home;
       }
@@ -212,7 +212,7 @@ module _ {S : Type 0} {z : Shape} {place top : ℕ} {a b c : Me S View} {found :
             ),
             refl,
           );
-          did = did-more before (did-home home lane before.lane);
+          did = did-more before (did-home home lane before.acted.lane);
           few = omega arith;
           idle = idle-home home;
         }

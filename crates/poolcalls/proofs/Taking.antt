@@ -34,12 +34,7 @@ called-went steps made are make went held stepped ends = record {
   are = are;
   ends = ends;
   make = make;
-  one = went.one;
-  lane = went.lane;
-  mine = went.mine;
-  seen = went.seen;
-  legal = went.legal;
-  own = went.own;
+  acted = went.acted;
   held = held;
   stepped = stepped;
 }

@@ -12,6 +12,7 @@ use Rattle.steplaws.specs.Calls.{Call, Caller, aim, end_next, next_step, key_in,
 use Rattle.poolsteps.specs.declared.view.View.{View}
 use Rattle.poolsteps.specs.Views.{acts_in, IsOne}
 use Rattle.poolcalls.specs.Called.{caller_of, Make, Did, AreEnd, IsLawful}
+use Rattle.poolcalls.proofs.Going.{none-acted}
 use Rattle.poolcalls.proofs.Doing.{did-more, make-one, make-more, end-more}
 use Rattle.poolcalls.proofs.Ending.{did-nothing}
 use Rattle.poolcalls.proofs.Calling.{Opens, GoesOnAsEnd, steps-more, end-steps}
@@ -52,7 +53,7 @@ within-none {z = z} {place = place} {a = a} done limit one seen last = record {
 -- nor is one made after others, where the limit is 0
 pub within-after : {S : Type 0} {z : Shape} {place other s l : ℕ} {made : List Act} {a b : Me S View} (done : List Step) → Did z other made s l a b
     → GoesWithin z place done 0 b b
-within-after done did = within-stop done did.one (did.legal, did.own, did.quiet)
+within-after done did = within-stop done did.acted.one (did.acted.legal, did.acted.own, did.acted.quiet)
 
 module _ {S : Type 0} {z : Shape} {place more l : ℕ} {a b c : Me S View} (done : List Step) where
   -- steps in front
@@ -109,22 +110,9 @@ within-last {z = z} {l = l} {a = a} done step act did next changes makes last li
 -- ---- a call
 
 -- no step of it, where the limit is 0
-pub called-not : {S : Type 0} {z : Shape} {a : Me S View} (call : Call) → IsOne a.0 → IsLawful z a.0 → CalledWithin z call 0 a a
-called-not {z = z} {a = a} call one seen = let did = did-nothing {place = 0} {a = a} one seen in record {
-  steps = [];
-  made = [];
-  are = tt;
-  ends = inl refl;
-  make = refl;
-  one = did.one;
-  lane = did.lane;
-  mine = did.mine;
-  seen = did.seen;
-  legal = did.legal;
-  own = did.own;
-  held = did.held;
-  stepped = did.stepped;
-}
+pub called-not : {S : Type 0} {z : Shape} {a : Me S View} (call : Call) (limit : ℕ) → limit ≡ 0 → IsOne a.0 → IsLawful z a.0 → CalledWithin z call limit a a
+called-not call limit zero one seen =
+    record { steps = []; made = []; are = tt; ends = inl (sym zero); make = refl; acted = none-acted one seen; held = refl; stepped = omega arith }
 
 module _ {S : Type 0} {z : Shape} {call : Call} {steps : List Step} {made : List Act} {a b : Me S View} where
   -- its first steps
@@ -136,12 +124,7 @@ module _ {S : Type 0} {z : Shape} {call : Call} {steps : List Step} {made : List
     are = opens.are;
     ends = ends;
     make = opens.make;
-    one = opens.did.one;
-    lane = opens.did.lane;
-    mine = opens.did.mine;
-    seen = opens.did.seen;
-    legal = opens.did.legal;
-    own = opens.did.own;
+    acted = opens.did.acted;
     held = opens.did.held;
     stepped = opens.did.stepped;
   }
@@ -177,12 +160,7 @@ called-on {z = z} {call = call} {made = made} {a = a} {b = b} {c = c} done leave
       ];
       make = make-more z caller call front rest.steps made rest.made opens.make
           (subst (λ (x : Caller). Make z x call rest.steps rest.made) opens.same (rest.make call refl));
-      one = did.one;
-      lane = did.lane;
-      mine = did.mine;
-      seen = did.seen;
-      legal = did.legal;
-      own = did.own;
+      acted = did.acted;
       held = did.held;
       stepped = let stepped = did.stepped in omega (arith, all, stepped);
     }

@@ -1,6 +1,5 @@
 -- What calls did, and parts of calls: their steps, the acts that these made, and nothing more.
 use Rattle.std.specs.Prelude.{◌≡◌, ◌≢◌, ℕ, ◌+◌, ◌≤◌, true, List, [], ◌∷◌, ◌++◌, length, Option, Some, None, IfSome}
-use mathlib.Core.List.{IsPrefix}
 use Rattle.atomic_table.specs.Table.{Me}
 use Rattle.keybits.specs.declared.shape.Shape.{Shape}
 use Rattle.keybits.specs.declared.step.Step.{Step}
@@ -19,8 +18,9 @@ use Rattle.steplaws.specs.Calls.{Call, Caller, aim, end_next, next_step, key_in,
 use Rattle.sharelaws.specs.Shares.{room_of}
 use Rattle.poolsteps.specs.declared.view.LaneRecord.{LaneRecord}
 use Rattle.poolsteps.specs.declared.view.View.{View}
-use Rattle.poolsteps.specs.Views.{the_lane, pushed_in, status_of, known_of, acts_in, IsOne}
+use Rattle.poolsteps.specs.Views.{the_lane, pushed_in, status_of, known_of, acts_in}
 use Rattle.poolsteps.specs.Told.{IsIdle, Quiet, HasPlace, LeftAlone, references_seen}
+use Rattle.poolcalls.specs.Acted.{Acted}
 use Rattle.poolcalls.specs.Carried.{AreEmptied}
 use Rattle.poolcalls.specs.declared.reclaimed.Got.{Got}
 use Rattle.poolcalls.specs.declared.reclaimed.Got.TheVariants.{Hit, Miss}
@@ -44,15 +44,7 @@ pub record IsUnmoved (place : ℕ) (r s : LaneRecord) : Type 0 where
 
 -- between two views the lane made these acts, in so many steps and at most so many looks, and what it did with the shares of other places and its chain are as before
 pub record Did {S : Type 0} (z : Shape) (place : ℕ) (made : List Act) (steps looks : ℕ) (before after : Me S View) : Type 0 where
-  pub one : IsOne after.0
-  pub lane : (the_lane after.0).lane ≡ (the_lane before.0).lane
-  pub mine : (the_lane after.0).mine ≡ (the_lane before.0).mine ++ made
-  pub seen : IsPrefix before.0.seen after.0.seen
-  -- a room stands beside each act that was then seen
-  pub rooms : (more : List ℕ) × (after.0.rooms ≡ before.0.rooms ++ more) × (length after.0.seen ≡ length before.0.seen + length more)
-  pub legal : IsLegal z after.0.seen
-  pub quiet : Quiet z after.0
-  pub own : (the_lane after.0).mine ≡ acts_of (the_lane after.0).lane after.0.seen
+  pub acted : Acted z made before.0 after.0
   pub held : after.1 ≡ before.1
   pub stepped : after.0.steps ≡ before.0.steps + steps
   pub looked : after.0.looks ≤ before.0.looks + looks

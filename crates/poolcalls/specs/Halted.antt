@@ -1,6 +1,5 @@
 -- What calls did that end for good after so many steps.
 use Rattle.std.specs.Prelude.{◌≡◌, ◌≢◌, ◌⊎◌, ◌+◌, ◌-◌, ◌<◌, ℕ, true, List, [], ◌∷◌, ◌++◌, length, None}
-use mathlib.Core.List.{IsPrefix}
 use Rattle.atomic_table.specs.Table.{Me}
 use Rattle.keybits.specs.declared.shape.Shape.{Shape}
 use Rattle.keybits.specs.declared.step.Step.{Step}
@@ -8,13 +7,12 @@ use Rattle.keybits.specs.Keys.{place_of}
 use Rattle.keybits.specs.Places.{shard_of}
 use Rattle.keybits.specs.Words.{generation_in}
 use Rattle.seqpool.specs.declared.act.Act.{Act}
-use Rattle.seqpool.specs.Pool.{IsLegal}
-use Rattle.seqpool.specs.Histories.{acts_of}
 use Rattle.steplaws.specs.Calls.{Call, end_next, next_step, key_in, is_claimed, AreSteps}
 use Rattle.poolsteps.specs.declared.view.View.{View}
-use Rattle.poolsteps.specs.Views.{the_lane, IsOne}
+use Rattle.poolsteps.specs.Views.{the_lane}
 use Rattle.poolsteps.specs.Told.{Leaves}
 use Rattle.poolsteps.specs.Returned.{Follows}
+use Rattle.poolcalls.specs.Acted.{Acted}
 use Rattle.poolcalls.specs.Called.{caller_of, Make, Did, AreEnd}
 
 -- the lane made the first so many steps of a call, or all where it has no more: these steps, each by the step relation, the acts that they made, and nothing more
@@ -24,12 +22,7 @@ pub record CalledWithin {S : Type 0} (z : Shape) (call : Call) (limit : ℕ) (be
   pub are : AreSteps (caller_of z before.0) call [] steps
   pub ends : (length steps ≡ limit) ⊎ ((length steps < limit) × (next_step (caller_of z before.0) call steps ≡ None))
   pub make : Make z (caller_of z before.0) call steps made
-  pub one : IsOne after.0
-  pub lane : (the_lane after.0).lane ≡ (the_lane before.0).lane
-  pub mine : (the_lane after.0).mine ≡ (the_lane before.0).mine ++ made
-  pub seen : IsPrefix before.0.seen after.0.seen
-  pub legal : IsLegal z after.0.seen
-  pub own : (the_lane after.0).mine ≡ acts_of (the_lane after.0).lane after.0.seen
+  pub acted : Acted z made before.0 after.0
   pub held : after.1 ≡ before.1
   pub stepped : after.0.steps ≡ before.0.steps + length steps
 

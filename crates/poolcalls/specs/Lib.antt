@@ -1,4 +1,5 @@
 pub mod AtPlace
+pub mod Acted
 pub mod Called
 pub mod Carried
 pub mod Taken

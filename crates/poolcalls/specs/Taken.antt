@@ -1,5 +1,5 @@
 -- What a create does at the table: its TAKEs, its FOLLOW, and the look at a place's generation.
-use Rattle.std.specs.Prelude.{◌≡◌, ◌≢◌, ◌==◌, ℕ, ◌+◌, ◌<◌, ◌≤◌, true, false, List, [], ◌∷◌, ◌++◌, length, Option, Some, None, if◌then◌else◌}
+use Rattle.std.specs.Prelude.{◌≡◌, ◌≢◌, ◌==◌, ℕ, ◌+◌, ◌<◌, ◌≤◌, true, false, List, [], ◌∷◌, length, Option, Some, None, if◌then◌else◌}
 use mathlib.Core.List.{IsPrefix}
 use Rattle.atomic_table.specs.Table.{Me}
 use Rattle.keybits.specs.declared.shape.Shape.{Shape}
@@ -12,31 +12,22 @@ use Rattle.keybits.specs.Steps.{Changes}
 use Rattle.keybits.specs.Links.{linked_place}
 use Rattle.seqpool.specs.declared.act.Act.{Act}
 use Rattle.seqpool.specs.declared.act.Act.TheVariants as acts
-use Rattle.seqpool.specs.Pool.{with, has, NoRepeats, pool_after, IsLegal}
-use Rattle.seqpool.specs.Histories.{acts_of}
+use Rattle.seqpool.specs.Pool.{with, has, NoRepeats, pool_after}
 use Rattle.sharelaws.specs.declared.stored.Stored.{Stored}
 use Rattle.sharelaws.specs.Shares.{room_of}
 use Rattle.steplaws.specs.Facts.{home_in}
 use Rattle.steplaws.specs.Calls.{Aim, aim, next_step, AreSteps}
 use Rattle.steplaws.specs.Calls.Call.{Creating}
 use Rattle.poolsteps.specs.declared.view.View.{View}
-use Rattle.poolsteps.specs.Views.{the_lane, status_of, known_of, IsOne}
+use Rattle.poolsteps.specs.Views.{the_lane, status_of, known_of}
 use Rattle.poolsteps.specs.Returned.{rest_of, taken_record, LeadsTo}
-use Rattle.poolsteps.specs.Told.{Quiet}
+use Rattle.poolcalls.specs.Acted.{Acted}
 use Rattle.poolcalls.specs.Carried.{AreEmptied}
 use Rattle.poolcalls.specs.Called.{caller_of, Make}
 
--- the lane went on with these acts of its own, behind what other lanes did; it pushed nothing, and what it has under way is as before
+-- the lane made these acts; it pushed nothing, and what it has under way is as before
 pub record Went (z : Shape) (made : List Act) (before after : View) : Type 0 where
-  pub one : IsOne after
-  pub lane : (the_lane after).lane ≡ (the_lane before).lane
-  pub mine : (the_lane after).mine ≡ (the_lane before).mine ++ made
-  pub seen : IsPrefix before.seen after.seen
-  -- a room stands beside each act that was then seen
-  pub rooms : (more : List ℕ) × (after.rooms ≡ before.rooms ++ more) × (length after.seen ≡ length before.seen + length more)
-  pub legal : IsLegal z after.seen
-  pub quiet : Quiet z after
-  pub own : (the_lane after).mine ≡ acts_of (the_lane after).lane after.seen
+  pub acted : Acted z made before after
   pub pushed : (the_lane after).pushed ≡ (the_lane before).pushed
   pub under : (the_lane after).under ≡ (the_lane before).under
 

@@ -1,6 +1,7 @@
 -- The free places of a lane: its own list, its taken chain, its pages, and the objects that wait there.
 pub mod Stores
 pub mod Chains
+pub mod Known
 pub mod Pages
 pub mod OwnLists
 pub mod Takes

@@ -17,7 +17,7 @@ use Rattle.shardpool.specs.declared.census.Part.{Part}
 use Rattle.shardpool.specs.declared.census.Part.TheVariants.{Free, Unopened, Filling, Present, Marked, Retired}
 use Rattle.shardpool.specs.declared.state.LaneState.{LaneState}
 use Rattle.shardpool.specs.Tokens.{PoolOf, LaneOf}
-use Rattle.shardpool.specs.Lanes.{Owns}
+use Rattle.shardpool.specs.Lanes.{Owns, IsKept}
 use Rattle.shardpool.specs.LaneStates.{IsFirst}
 
 -- these are all the lanes of the pool: as many as it has, and each number is one's
@@ -96,13 +96,6 @@ pub record Closes (pool : PoolOf) (lanes : List LaneOf) (census : Census) : Type
   pub census_is : IsCensus pool.shape history lanes census
 
 -- ---- the parts of a close
-
--- a place of a lane's shard that it has free: of an opened page, and with the lane
-pub record IsKept (z : Shape) (history : List Act) (lane : LaneOf) (place : ℕ) : Type 0 where
-  pub inside : is_place z place ≡ true
-  pub own : shard_of place ≡ lane.number
-  pub opened : page_of place < lane.pages.opened
-  pub with_lane : (pool_after z history place).phase ≡ with lane.number
 
 -- what a lane keeps, beside the last words of the pool and its history
 pub record IsLast {T : Type 0} (z : Shape) (history : List Act) (words : Words) (lane : LaneOf) (state : LaneState T) : Type 0 where

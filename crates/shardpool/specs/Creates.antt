@@ -72,10 +72,14 @@ pub record FromStack (place : ℕ) (made : List Act) (old new : LaneOf) : Type 0
   pub taken : made ≡ acts.Collect old.number (place ∷ (the_lane new.book).chain) ∷ []
   pub pages : new.pages ≡ old.pages
 
+-- at a history between what the lane saw before and after nothing was free for it: its list and its chain were empty, and no place of its shard was home
+abbrev pub NothingFree : LaneOf → LaneOf → Type 0
+NothingFree old new = (old.free.own ≡ []) × ((the_lane old.book).chain ≡ []) × NoneHome old.shape old.number old.book new.book
+
 -- nothing was free, and the place is slot 0 of the next page, whose other places are then on the own list
 pub record FromPage (place : ℕ) (made : List Act) (old new : LaneOf) : Type 0 where
-  pub listed : old.free.own ≡ []
-  pub chained : ((the_lane old.book).chain ≡ []) × ((the_lane new.book).chain ≡ [])
+  pub nothing : NothingFree old new
+  pub chained : (the_lane new.book).chain ≡ []
   pub none : made ≡ []
   pub unopened : old.pages.opened < old.shape.pages
   pub opened : new.pages ≡ record old.pages { opened = old.pages.opened + 1 }
@@ -85,10 +89,6 @@ pub record FromPage (place : ℕ) (made : List Act) (old new : LaneOf) : Type 0 
 -- which place a create hands out
 abbrev pub HandsOut : ℕ → List Act → LaneOf → LaneOf → Type 0
 HandsOut place made old new = FromList place made old new ⊎ (FromChain place made old new ⊎ (FromStack place made old new ⊎ FromPage place made old new))
-
--- at a history between what the lane saw before and after nothing was free for it: its list and its chain were empty, and no place of its shard was home
-abbrev pub NothingFree : LaneOf → LaneOf → Type 0
-NothingFree old new = (old.free.own ≡ []) × ((the_lane old.book).chain ≡ []) × NoneHome old.shape old.number old.book new.book
 
 -- the list, the chain and the pages are as before
 abbrev pub SameFree : LaneOf → LaneOf → Type 0

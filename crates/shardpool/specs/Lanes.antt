@@ -41,6 +41,18 @@ abbrev pub AreHeld : LaneOf → Type 0
 AreHeld lane = (place : ℕ) → is_place lane.shape place ≡ true → is_marked (pool_after lane.shape lane.book.seen place).phase ≡ true
     → 0 < references_in (pool_after lane.shape lane.book.seen place).phase lane.number
 
+-- a place of a lane's shard that it has free after a history: of an opened page, and with the lane
+pub record IsKept (z : Shape) (history : List Act) (lane : LaneOf) (place : ℕ) : Type 0 where
+  pub inside : is_place z place ≡ true
+  pub own : shard_of place ≡ lane.number
+  pub opened : page_of place < lane.pages.opened
+  pub with_lane : (pool_after z history place).phase ≡ with lane.number
+
+-- the first of these places, if there is one
+abbrev pub first_place : List ℕ → Option Place
+first_place [] = None
+first_place (place ∷ more) = Some (place_numbered place)
+
 -- a place of the lane's shard is a filling: of an opened page, with the lane, and neither on its list nor on its taken chain
 pub record IsFilling (lane : LaneOf) (place : ℕ) : Type 0 where
   pub inside : is_place lane.shape place ≡ true

@@ -1,8 +1,8 @@
 -- Where the act of a call stands in the history that its lane has then seen.
-use Rattle.std.specs.Prelude.{◌≡◌, ◌≢◌, ◌⊎◌, ℕ, ◌<◌, ◌≤◌, false, List, ◌++◌, length, Some}
+use Rattle.std.specs.Prelude.{◌≡◌, ◌≢◌, ◌⊎◌, ℕ, ◌<◌, ◌≤◌, Bool, true, false, List, ◌++◌, length, Some}
 use Rattle.keybits.specs.Keys.{place_of, is_key}
 use Rattle.seqpool.specs.declared.act.Act.{Act}
-use Rattle.seqpool.specs.declared.act.Act.TheVariants.{Get}
+use Rattle.seqpool.specs.declared.act.Act.TheVariants.{Publish, Get, Clear}
 use Rattle.seqpool.specs.Histories.{At, PublishedAt, ClearedAt, MissedAt, IsPresentAt}
 use Rattle.sharelaws.specs.Shares.{room_of}
 use Rattle.shardpool.specs.Tokens.{LaneOf}
@@ -13,11 +13,10 @@ pub record StandsSince (act : Act) (old new : LaneOf) : Type 0 where
   pub behind : length old.book.seen ≤ position
   pub at : At new.book.seen position act
 
--- the key is published with this content, behind all that the lane had seen
-pub record PublishedSince (key : ℕ) (content : List ℕ) (old new : LaneOf) : Type 0 where
-  pub position : ℕ
-  pub behind : length old.book.seen ≤ position
-  pub published : PublishedAt new.book.seen position key content
+-- the call's publish stands behind all that the lane had seen, with a reference or without one: the key is published with this content
+pub record PublishedSince (key : ℕ) (content : List ℕ) (with_ref : Bool) (old new : LaneOf) : Type 0 where
+  pub publish : StandsSince (Publish old.number key content with_ref) old new
+  pub published : PublishedAt new.book.seen publish.position key content
 
 -- a get found the key: before it the key was published with the content of its reply, and not cleared
 pub record FoundSince (key : ℕ) (old new : LaneOf) : Type 0 where
@@ -33,13 +32,12 @@ pub record MissedSince (key : ℕ) (old new : LaneOf) : Type 0 where
   pub cleared : (j : ℕ) (content : List ℕ) → PublishedAt new.book.seen j key content → j < position
       → (k : ℕ) × (k < position) × ClearedAt new.book.seen k key
 
--- the key is cleared, behind all that the lane had seen: before that it was published, and not cleared
+-- the call's clear stands behind all that the lane had seen, and marked the key: before that it was published, and not cleared
 pub record ClearedSince (key : ℕ) (old new : LaneOf) : Type 0 where
-  pub position : ℕ
-  pub behind : length old.book.seen ≤ position
-  pub cleared : ClearedAt new.book.seen position key
+  pub clear : StandsSince (Clear old.number key true) old new
+  pub cleared : ClearedAt new.book.seen clear.position key
   pub content : List ℕ
-  pub present : IsPresentAt new.book.seen position key content
+  pub present : IsPresentAt new.book.seen clear.position key content
 
 -- ---- rooms
 

@@ -35,12 +35,16 @@ impl<T: Clear> Model for Lane<T> {
 }
 
 impl<T: Clear> Lane<T> {
-    ghost use Rattle.std.specs.Prelude.{◌≡◌, ◌≢◌, ◌<◌, ◌≤◌, ◌⊎◌, ◌↔◌, ℕ, IsTrue, IsNone, IsSome, IfSome, [], length};
-    ghost use Rattle.seqpool.specs.Pool.{IsLegal};
+    ghost use Rattle.std.specs.Prelude.{◌≡◌, ◌≢◌, ◌<◌, ◌≤◌, ◌⊎◌, ◌↔◌, ℕ, true, false, IsTrue, IsNone, IsSome, IfSome, [], length, Contains};
+    ghost use Rattle.keybits.specs.declared.place.Place.{Place};
+    ghost use Rattle.keybits.specs.Places.{shard_of, page_of, number_of};
+    ghost use Rattle.keybits.specs.Shapes.{is_place};
+    ghost use Rattle.freelists.specs.Queues.{numbers};
+    ghost use Rattle.seqpool.specs.Pool.{with, has, NoRepeats, pool_after, IsLegal};
     ghost use Rattle.seqpool.specs.Histories.{PublishedAt, acts_of};
     ghost use Rattle.poolsteps.specs.Views.{the_lane};
     ghost use Rattle.poolsteps.specs.Told.{IsIdle};
-    ghost use Rattle.shardpool.specs.Lanes.{AreHeld, holds, refs};
+    ghost use Rattle.shardpool.specs.Lanes.{AreHeld, IsKept, holds, refs, first_place};
 
     /// The lane's number, which is that of its shard.
     pub fn number(&self) -> u32
@@ -103,6 +107,23 @@ impl<T: Clear> Lane<T> {
     {
         // A proof knows the invariant of a lane once a field of it is seen.
         let _ = &self.state;
+    }
+
+    /// As a law: the places of the lane's own list and of its taken chain are of its shard, of opened pages and with the lane, and no place stands
+    /// there twice; the chain hangs by its first place; each place of an unopened page is with the lane; and the references to a key are
+    /// among all that the lane has.
+    pub fn places_law(&self)
+        ensures listed { (place : Place) → Contains self.now.free.own place → IsKept self.now.shape self.now.book.seen self.now (number_of place) }
+        ensures chained { (place : ℕ) → has (the_lane self.now.book).chain place ≡ true → IsKept self.now.shape self.now.book.seen self.now place }
+        ensures once { NoRepeats (numbers self.now.free.own) × NoRepeats (the_lane self.now.book).chain }
+        ensures apart { (place : Place) → Contains self.now.free.own place → has (the_lane self.now.book).chain (number_of place) ≡ false }
+        ensures first { self.now.free.chain ≡ first_place (the_lane self.now.book).chain }
+        ensures unopened { (place : ℕ) → is_place self.now.shape place ≡ true → shard_of place ≡ self.now.number → self.now.pages.opened ≤ page_of place
+            → (pool_after self.now.shape self.now.book.seen place).phase ≡ with self.now.number }
+        ensures held { (key : ℕ) → holds self.now key ≤ refs self.now }
+    {
+        // A proof knows that the lane's free places are sound once their number is asked.
+        let _ = self.state.free.len();
     }
 
     /// The object of a key to which the lane has a reference: its content is that with which the key was published.

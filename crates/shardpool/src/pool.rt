@@ -162,7 +162,7 @@ impl<T: Clear + Drop> Pool<T> {
         ensures owns { Owns self.now lane.new }
         ensures called { Calls self.now.shape (Publishing filling.key (T.content filling.object) false) lane.old.book lane.new.book }
         ensures publishes { Did (acts.Publish lane.old.number filling.key (T.content filling.object) false ∷ []) lane.old lane.new }
-        ensures published { PublishedSince filling.key (T.content filling.object) lane.old lane.new }
+        ensures published { PublishedSince filling.key (T.content filling.object) false lane.old lane.new }
         ensures seen { IsPrefix lane.old.book.seen lane.new.book.seen }
         ensures refs { refs lane.new ≡ refs lane.old }
         ensures held { (k : ℕ) → holds lane.new k ≡ holds lane.old k }
@@ -191,7 +191,7 @@ impl<T: Clear + Drop> Pool<T> {
         ensures owns { Owns self.now lane.new }
         ensures called { Calls self.now.shape (Publishing filling.key (T.content filling.object) true) lane.old.book lane.new.book }
         ensures publishes { Did (acts.Publish lane.old.number filling.key (T.content filling.object) true ∷ []) lane.old lane.new }
-        ensures published { PublishedSince filling.key (T.content filling.object) lane.old lane.new }
+        ensures published { PublishedSince filling.key (T.content filling.object) true lane.old lane.new }
         ensures seen { IsPrefix lane.old.book.seen lane.new.book.seen }
         ensures refs { refs lane.new ≡ refs lane.old + 1 }
         ensures one_more { (k : ℕ) → holds lane.new k ≡ (if filling.key == k then holds lane.old k + 1 else holds lane.old k) }

@@ -197,7 +197,7 @@ module _ {pool : PoolOf} {old new : LaneOf} {rs : List Register} (register : Num
           (λ key. let h = at-publish (filling.key == key) (holds old key) (holds new key) 0 (unheld key) (did.held key) in let l = light.1 key in omega (arith, h, l))
           (let l = light.0 in omega (arith, l, refs_same));
       same = did.same;
-      seen = called.did.seen;
+      seen = called.did.acted.seen;
     }
 
     pub runs-publish : (key : ℕ) (now : List Register) → key ≡ filling.key → now ≡ with_held rs register.number Empty
@@ -219,7 +219,7 @@ module _ {pool : PoolOf} {old new : LaneOf} {rs : List Register} (register : Num
           (λ key. let h = at-publish (filling.key == key) (holds old key) (holds new key) 1 (unheld key) (did.held key) in let l = light.1 key in omega (arith, h, l))
           (let l = light.0 in omega (arith, l, refs_more));
       same = did.same;
-      seen = called.did.seen;
+      seen = called.did.acted.seen;
     }
 
     pub runs-downgrade : (has : RefOf) (key : ℕ) (between now : List Register) → has.key ≡ filling.key → key ≡ has.key → between ≡ with_held rs register.number Empty
@@ -254,7 +254,7 @@ module _ {pool : PoolOf} {old new : LaneOf} {rs : List Register} (register : Num
         (λ key. let h = at-release (reference.key == key) (holds old key) (holds new key) (one_less key) in let l = heavy.1 key in omega (arith, h, l))
         (let l = heavy.0 in omega (arith, l, refs_less));
     same = did.1.same;
-    seen = called.did.seen;
+    seen = called.did.acted.seen;
   }
 
   pub runs-release : (now : List Register) → now ≡ with_held rs register.number Empty → Runs pool (desk old rs) (Release register) replies.Done (desk new now)
@@ -281,7 +281,7 @@ module _ {pool : PoolOf} {old new : LaneOf} {rs : List Register} (tidy : Tidy po
     )
 
     clear-goes : SameLane old new × IsPrefix old.book.seen new.book.seen
-    clear-goes = ⊎_elim (λ (within : is_key pool.shape key ≡ true). ((did within).1.same, (called within).did.seen))
+    clear-goes = ⊎_elim (λ (within : is_key pool.shape key ≡ true). ((did within).1.same, (called within).did.acted.seen))
         (λ (off : is_key pool.shape key ≡ false). same-as (outside off).1) (cases_Bool (is_key pool.shape key))
 
     pub runs-clear : Runs pool (desk old rs) (Clear operand) (replies.Cleared marked) (desk new rs)
@@ -304,7 +304,7 @@ module _ {pool : PoolOf} {old new : LaneOf} {rs : List Register} (tidy : Tidy po
     )
 
     missed-goes : SameLane old new × IsPrefix old.book.seen new.book.seen
-    missed-goes = ⊎_elim (λ (within : is_key pool.shape key ≡ true). ((gets within).1.same, (called within).did.seen))
+    missed-goes = ⊎_elim (λ (within : is_key pool.shape key ≡ true). ((gets within).1.same, (called within).did.acted.seen))
         (λ (off : is_key pool.shape key ≡ false). same-as (outside off)) (cases_Bool (is_key pool.shape key))
 
     pub runs-missed : Runs pool (desk old rs) (Get register operand) replies.Missing (desk new rs)
@@ -342,7 +342,7 @@ module _ {pool : PoolOf} {old new : LaneOf} {rs : List Register} (tidy : Tidy po
         (λ k. let h = at-get (key == k) (holds old k) (holds new k) (gets.3.held k) in let l = light_there.1 k in omega (arith, h, l))
         (let l = light_there.0 in omega (arith, l, refs_more));
     same = gets.3.same;
-    seen = called.did.seen;
+    seen = called.did.acted.seen;
   }
 
   pub runs-found : GetLaw → OnceLaw → (bytes shown : List ℕ) (reply : Reply) (now : List Register) → ((j : ℕ) × PublishedAt new.book.seen j reference.key bytes)
@@ -350,9 +350,9 @@ module _ {pool : PoolOf} {old new : LaneOf} {rs : List Register} (tidy : Tidy po
       → Runs pool (desk old rs) (Get register operand) reply (desk new now)
   runs-found get once bytes shown reply now published shown_is replied now_is =
       let at_key : PublishedAt new.book.seen published.0 key bytes = subst (λ (k : ℕ). PublishedAt new.book.seen published.0 k bytes) gets.0 published.1 in
-      let did = called.did in
+      let acted = called.did.acted in
       let content : bytes ≡ gets.2 = got-content get once pool.shape (the_lane new.book).lane old.number key published.0 new.book.seen (the_lane old.book).mine
-      (the_lane new.book).mine gets.2 bytes did.legal did.own gets.3.mine at_key in
+      (the_lane new.book).mine gets.2 bytes acted.legal acted.own gets.3.mine at_key in
       let one : reference ≡ of_key = ap (λ (k : ℕ). record { key = k }) gets.0 in
       let put : now ≡ with_new rs register.number key (Reference of_key) = now_is ∙ ap (λ (r : RefOf). with_new rs register.number key (Reference r)) one in
       subst (λ (x : List Register). Runs pool (desk old rs) (Get register operand) reply (desk new x)) (sym put)

@@ -1,18 +1,13 @@
 -- What a lane keeps still stands beside the last words and the history of its closed pool.
-use Rattle.std.proofs.Common.{◌≡◌, ℕ, ◌<◌, List, [], ◌++◌, true, sym, ap, ◌∙◌, subst, refl}
-use Rattle.std.specs.List.{Contains}
-use Rattle.std.proofs.lemmas.List.Elements.{All-contains}
+use Rattle.std.proofs.Common.{◌≡◌, ℕ, ◌<◌, List, [], ◌++◌, sym, ap, ◌∙◌, subst, refl}
 use mathlib.Core.List.{IsPrefix}
 use Rattle.atomic_table.specs.Seated.{TableId}
 use Rattle.keybits.specs.declared.shape.Shape.{Shape}
-use Rattle.keybits.specs.declared.place.Place.{Place}
 use Rattle.keybits.specs.Places.{number_of}
 use Rattle.keybits.specs.Links.{Leads}
 use Rattle.freelists.specs.Queues.{AreFree}
-use Rattle.freelists.specs.Shards.{IsOwn}
-use Rattle.freelists.proofs.ShardLemmas.{OwnNumber}
 use Rattle.seqpool.specs.declared.act.Act.{Act}
-use Rattle.seqpool.specs.Pool.{with, has, references, pool_after, IsLegal}
+use Rattle.seqpool.specs.Pool.{with, references, pool_after, IsLegal}
 use Rattle.seqpool.specs.Histories.{acts_of}
 use Rattle.steplaws.specs.declared.pending.Pending.TheVariants.{Nothing}
 use Rattle.steplaws.specs.Facts.{Words, Rule, moment}
@@ -24,9 +19,10 @@ use Rattle.poolsteps.specs.Told.{references_seen}
 use Rattle.poolsteps.proofs.ViewLemmas.{none-behind}
 use Rattle.shardpool.specs.declared.state.LaneState.{LaneState}
 use Rattle.shardpool.specs.LaneStates.{Fits}
-use Rattle.shardpool.specs.Closings.{IsKept, IsLast}
-use Rattle.shardpool.proofs.free.Stores.{own-inside}
+use Rattle.shardpool.specs.Lanes.{IsKept}
+use Rattle.shardpool.specs.Closings.{IsLast}
 use Rattle.shardpool.proofs.frame.LaneFacts.{lane_of}
+use Rattle.shardpool.proofs.free.Known.{listed-kept, chained-kept}
 
 module _ {T : Type 0} {content : T → List ℕ} {room : T → ℕ} {z : Shape} {w : World} {words : Words} (rule : Rule z (moment words w.history w.lanes))
     (table : TableId) {v : View} {s : LaneState T} (fits : Fits content room z v s) (seen : IsPrefix v.seen w.history) (is : IsRecord z w (the_lane v)) where
@@ -56,28 +52,9 @@ module _ {T : Type 0} {content : T → List ℕ} {room : T → ℕ} {z : Shape} 
   pub own-idle : w.lanes.under s.number ≡ Nothing
   own-idle = ap w.lanes.under fits.seat.number_is ∙ (sym is.under ∙ fits.seat.idle)
 
-  -- a place of its list is kept
-  listed-kept : AreFree s.free → (place : Place) → Contains s.free.own place → IsKept z w.history (lane_of table v s) (number_of place)
-  listed-kept free place within =
-      let own : IsOwn s.free.shard s.free.shape place = All-contains (IsOwn s.free.shard s.free.shape) s.free.own place free.own.inside within in
-      let number : s.free.shard ≡ s.number = fits.stores.lists.0 ∙ sym fits.seat.number_is in
-      let inside : OwnNumber z (number_of place) place =
-      own-inside z s.free place fits.seat.shape (subst (λ (n : ℕ). n < z.lanes) (sym number) fits.seat.below) fits.stores.lists.1 own in
-      let listed = fits.stores.listed place within in record {
-        inside = inside.is_in;
-        own = ap (λ (p : Place). p.shard) inside.back ∙ (own.of_shard ∙ number);
-        opened = listed.opened_is;
-        with_lane = still-own (number_of place) listed.blank.with_lane;
-      }
-
-  -- and so is one of its taken chain
-  chained-kept : (place : ℕ) → has (the_lane v).chain place ≡ true → IsKept z w.history (lane_of table v s) place
-  chained-kept place within = let chained = fits.stores.chained place within in record {
-    inside = chained.0.inside;
-    own = chained.0.own ∙ sym fits.seat.number_is;
-    opened = chained.1;
-    with_lane = still-own place chained.0.with_lane;
-  }
+  -- and what was kept still is
+  still-kept : (p : ℕ) → IsKept z v.seen (lane_of table v s) p → IsKept z w.history (lane_of table v s) p
+  still-kept p kept = record { inside = kept.inside; own = kept.own; opened = kept.opened; with_lane = still-own p (kept.with_lane ∙ ap with fits.seat.number_is) }
 
   pub lane-last : AreFree s.free → IsLast z w.history words (lane_of table v s) s
   lane-last free =
@@ -88,8 +65,8 @@ module _ {T : Type 0} {content : T → List ℕ} {room : T → ℕ} {z : Shape} 
         below = fits.seat.below;
         free_is = refl;
         pages_is = refl;
-        listed = listed-kept free;
-        chained = chained-kept;
+        listed = λ place within. still-kept (number_of place) (listed-kept table fits free place within);
+        chained = λ place within. still-kept place (chained-kept table fits place within);
         unopened = λ place inside own high. still-own place (fits.stores.unopened place inside (own ∙ fits.seat.number_is) high).with_lane;
         first = fits.stores.first;
         leads = (

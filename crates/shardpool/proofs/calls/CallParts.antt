@@ -21,14 +21,7 @@ calls-more called most =
       all = called.all;
       make = called.make;
       did = record {
-        one = did.one;
-        lane = did.lane;
-        mine = did.mine;
-        seen = did.seen;
-        rooms = did.rooms;
-        legal = did.legal;
-        quiet = did.quiet;
-        own = did.own;
+        acted = did.acted;
         held = refl;
         stepped = did.stepped;
         looked = omega (arith, looked, most);
@@ -44,7 +37,7 @@ calls-more called most =
 pub calls-behind : {S : Type 0} {z : Shape} {call : Call} {l looks : ℕ} {a b c : Me S View} → Did z (place_of (key_in call)) [] 0 l a b
     → (the_lane b.0).pushed ≡ (the_lane a.0).pushed → Called z call looks b c → Called z call (l + looks) a c
 calls-behind {z = z} {call = call} {l = l} {looks = looks} {a = a} {b = b} {c = c} moves pushed called =
-    let same : caller_of z b.0 ≡ caller_of z a.0 = same-caller z a.0 b.0 moves.lane pushed in record {
+    let same : caller_of z b.0 ≡ caller_of z a.0 = same-caller z a.0 b.0 moves.acted.lane pushed in record {
       steps = called.steps;
       made = called.made;
       are = subst (λ (x : Caller). AreSteps x call [] called.steps) same called.are;

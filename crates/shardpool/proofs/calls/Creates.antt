@@ -1,10 +1,11 @@
 -- How the parts of a create make the whole.
 use Rattle.std.proofs.Common.{◌≡◌, ◌≢◌, ◌⊎◌, inl, inr, ⊎_elim, ℕ, zero, suc, ◌+◌, ◌^◌, ◌<◌, ◌≤◌, ◌==◌, ◌&&◌, Bool, true, false, cond, eqb, nat_lt, List, [], ◌∷◌, ◌++◌, map, length, Option, Some, None, refl, sym, ap, ◌∙◌, subst, arith, eq-eqb, ne_eqb, eqb-true, append-nil, length-append}
-use Rattle.std.specs.List.{All, Contains}
+use Rattle.std.specs.List.{Contains}
 use Rattle.std.specs.Prelude.{IsSome}
 use Rattle.std.proofs.lemmas.Bool.{cases_Bool}
 use Rattle.std.proofs.lemmas.List.Elements.{All-nil, All-cons, All-head, All-contains_itself}
 use mathlib.Core.Logic.{dite}
+use mathlib.Core.List.{IsPrefix}
 use native.Mathlib.Decide.{ℕ_discrete}
 use Rattle.keybits.specs.declared.shape.Shape.{Shape}
 use Rattle.keybits.specs.declared.place.Place.{Place}
@@ -23,36 +24,33 @@ use Rattle.std.proofs.lemmas.Nat.{mul-le, pow_pos}
 use Rattle.freelists.specs.Shards.{ShardPages}
 use Rattle.seqpool.specs.declared.act.Act.{Act}
 use Rattle.seqpool.specs.declared.act.Act.TheVariants as acts
-use Rattle.seqpool.specs.Pool.{with, has, Phase, pool_after, IsLegal}
-use Rattle.seqpool.specs.Histories.{acts_of}
-use Rattle.seqpool.proofs.Growth.{acts-append}
-use Rattle.std.proofs.lemmas.List.{append_cancel_left}
+use Rattle.seqpool.specs.Pool.{with, has, Phase, pool_after}
 use Rattle.sharelaws.specs.Shares.{room_of}
 use Rattle.steplaws.specs.Facts.{home_in, is_home}
 use Rattle.steplaws.specs.Calls.{Call, Caller, Aim, aim, next_lane, first_lane, follow_next, take_next, next_step, AreSteps}
 use Rattle.steplaws.specs.Calls.Call.{Creating}
 use Rattle.sharelaws.specs.PlaceLaws.{gives_away, brings}
-use Rattle.sharelaws.proofs.WithPlaces.{with-law}
 use Rattle.poolsteps.specs.declared.view.LaneRecord.{LaneRecord}
 use Rattle.poolsteps.specs.declared.view.View.{View}
 use Rattle.poolsteps.specs.Views.{the_lane}
 use Rattle.poolsteps.specs.Told.{Sees, references_seen}
 use Rattle.poolsteps.specs.ViewLaws.{references_made}
-use Rattle.poolsteps.proofs.Holding.{acts-law}
-use Rattle.poolsteps.proofs.ViewLemmas.{prefix-self}
+use Rattle.poolsteps.proofs.ViewLemmas.{prefix-self, prefix-trans}
 use Rattle.poolsteps.specs.Returned.{LeadsTo}
 use Rattle.poolcalls.specs.Called.{caller_of, Make}
 use Rattle.poolcalls.proofs.Doing.{make-one, make-more}
 use Rattle.poolcalls.proofs.Calling.{no-links, steps-more}
 use Rattle.poolcalls.specs.Taken.{Went, Collects, FollowsOut, NoneHome}
-use Rattle.poolcalls.proofs.Going.{none-went, went-goes, went-more}
+use Rattle.poolcalls.proofs.Going.{acted-goes, none-went, went-goes, went-more}
 use Rattle.shardpool.specs.Tokens.{LaneOf, FillingOf}
 use Rattle.shardpool.specs.Lanes.{IsFilling, Made, SameLane, holds}
 use Rattle.shardpool.specs.Places.{IsBlank}
 use Rattle.shardpool.specs.LaneStates.{Fits, FitsSeat, IsFirst}
 use Rattle.shardpool.specs.declared.state.LaneState.{LaneState}
 use Rattle.atomic_table.specs.Seated.{TableId}
-use Rattle.shardpool.proofs.frame.Standing.{sees-on-by}
+use Rattle.shardpool.proofs.frame.Standing.{sees-on}
+use Rattle.shardpool.proofs.frame.LaneFrames.{acted-refs}
+use Rattle.shardpool.proofs.frame.KeptPlaces.{none-brings}
 use Rattle.shardpool.specs.Creates.{creating, Created, HandsOut, GivesNone, IsLoose, Gives, Pops, TakesReturned, FollowsChain, OpensPage, Fills, page_slots}
 
 -- what a create needs of its lane: the seat is sound, the places of unopened pages are with the lane, and the first place of its chain is known
@@ -138,12 +136,6 @@ same-then : (u v w : LaneOf) → SameLane u v → SameLane v w → SameLane u w
 same-then u v w first second = (second.0 ∙ first.0, second.1 ∙ first.1, second.2 ∙ first.2)
 
 module _ (old new : LaneOf) (seat : FitsSeat old.shape old.book old.number) {call : Call} {steps : List Step} {made : List Act} {looks : ℕ} where
-  part-acts : Part old.shape call steps made looks old.book new.book
-      → acts_of (the_lane old.book).lane new.book.seen ≡ acts_of (the_lane old.book).lane old.book.seen ++ made
-  part-acts part =
-      let went = part.went in
-      ap (λ (l : ℕ). acts_of l new.book.seen) (sym went.lane) ∙ (sym went.own ∙ (went.mine ∙ ap (λ (xs : List Act). xs ++ made) seat.own))
-
   created : call ≡ creating old → Part old.shape call steps made looks old.book new.book → next_step (caller_of old.shape old.book) call steps ≡ None
       → SameLane old new → KeepsReferences made → length steps ≤ 64 → looks ≤ 64 → Created made old new
   created is part all same keeps few least =
@@ -154,10 +146,10 @@ module _ (old new : LaneOf) (seat : FitsSeat old.shape old.book old.number) {cal
         all = subst (λ (x : Call). next_step c x steps ≡ None) is all;
         make = subst (λ (x : Call). Make old.shape c x steps made) is part.make;
         same = same;
-        mine = went.mine;
-        goes = sees-on-by old new went.seen went.rooms (subst (λ (z : Shape). IsLegal z new.book.seen) (sym same.1) went.legal) went.lane went.mine seat.own went.own;
+        mine = went.acted.mine;
+        goes = sees-on old.shape old new same.1 went.acted seat.own;
         held = λ key. ap (λ (z : Shape). references_seen z new.book key) same.1
-            ∙ (acts-law old.shape old.book new.book made went.seen went.legal went.lane (part-acts part) key ∙ keeps key (holds old key));
+            ∙ (acted-refs went.acted seat.own key ∙ keeps key (holds old key));
         idle = went.under ∙ seat.idle;
         stepped = part.stepped;
         few = few;
@@ -223,22 +215,10 @@ taken-last c opened steps step word some is =
 was-away : (z : Shape) (v w : View) {number : ℕ} (places : List ℕ) (place : ℕ) → FitsSeat z v number
     → Went z (acts.Collect (the_lane v).lane places ∷ []) v w → has places place ≡ true → (pool_after z v.seen place).phase ≡ with number → ⊥
 was-away z v w {number = number} places place seat went on is =
-    let lane : ℕ = (the_lane v).lane in
-    let act : Act = acts.Collect lane places in
-    let rest : List Act = went.seen.0 in
-    let more : List ℕ = went.rooms.0 in
-    let after : acts_of lane w.seen ≡ acts_of lane v.seen ++ act ∷ []
-    = ap (λ (l : ℕ). acts_of l w.seen) (sym went.lane) ∙ (sym went.own ∙ (went.mine ∙ ap (λ (xs : List Act). xs ++ act ∷ []) seat.own)) in
-    let between : acts_of lane rest ≡ act ∷ []
-    = append_cancel_left (acts_of lane v.seen) (acts_of lane rest) (act ∷ []) (sym (acts-append lane v.seen rest) ∙ (ap (acts_of lane) went.seen.1 ∙ after)) in
-    let long : length w.seen ≡ length v.seen + length rest = sym (ap length went.seen.1) ∙ length-append v.seen rest in
-    let grown = went.rooms.2 in
-    let law = with-law z v.seen rest v.rooms more lane place seat.paired (omega (arith, long, grown))
-    (subst (IsLegal z) (sym went.seen.1) went.legal) (is ∙ ap with seat.number_is)
-    (subst (λ (xs : List Act). All (λ a. gives_away a place ≡ false) xs) (sym between)
-    (All-cons (λ a. gives_away a place ≡ false) act [] refl (All-nil (λ a. gives_away a place ≡ false)))) in
+    let act : Act = acts.Collect (the_lane v).lane places in
     let off : has places place ≡ false
-    = All-head (λ a. brings a place ≡ false) act [] (subst (λ (xs : List Act). All (λ a. brings a place ≡ false) xs) between law.2) in
+    = All-head (λ a. brings a place ≡ false) act [] (none-brings went.acted seat.paired seat.own place (is ∙ ap with seat.number_is)
+    (All-cons (λ a. gives_away a place ≡ false) act [] refl (All-nil (λ a. gives_away a place ≡ false)))) in
     let bad : true ≡ false = sym on ∙ off in cc bad
 
 module _ {T : Type 0} (content : T → List ℕ) (room : T → ℕ) where
@@ -383,6 +363,10 @@ pub record NoneTaken (old mid : LaneOf) : Type 0 where
   pub free : mid.free ≡ old.free
   pub home : NoneHome old.shape old.number old.book mid.book
 
+-- what was home nowhere before is so before what is seen later
+home-later : (z : Shape) (shard : ℕ) (u v w : View) → NoneHome z shard u v → IsPrefix v.seen w.seen → NoneHome z shard u w
+home-later z shard u v w none on = (none.0, none.1, prefix-trans none.0 v.seen w.seen none.2 on, none.3)
+
 -- where the one is there the other isn't
 never-both : (a b : Bool) → (a ≡ true → b ≡ false) → a && b ≡ false
 never-both true b then = then refl
@@ -501,6 +485,10 @@ module _ {T : Type 0} (content : T → List ℕ) (room : T → ℕ) (old mid wid
       let few = (shape_bounds old.shape sound.seat.shape).pages in
       ap page_of (pops.1 ∙ ap number_of first) ∙ page_of-place_at old.number old.pages.opened 0 (let below = page-unopened in omega arith) (omega arith)
 
+  -- what the lane saw goes on
+  page-on : IsPrefix mid.book.seen new.book.seen
+  page-on = subst (λ (v : View). IsPrefix v.seen new.book.seen) page-book (acted-goes fills.sees.goes refl refl (sym (append-nil (the_lane popped.book).mine))).seen
+
   pub page-gives : Gives content room old new filling
   page-gives =
       let none = none-taken old mid sound takes chain in
@@ -510,8 +498,8 @@ module _ {T : Type 0} (content : T → List ℕ) (room : T → ℕ) (old mid wid
       (subst (λ (v : View). Part old.shape (Creating [] [] old.pages.opened) none.steps [] 0 old.book v) (sym page-book) none.part)
       none.all (same-then old mid popped takes.same page-same) (λ key n. refl) (omega arith) (omega arith) pops.4 fills
       (inr (inr (inr (record {
-        listed = listed;
-        chained = (none.chained, fills.free_same.1 ∙ (ap (λ (v : View). (the_lane v).chain) page-book ∙ chain));
+        nothing = (listed, none.chained, home-later old.shape old.number old.book mid.book new.book none.home page-on);
+        chained = fills.free_same.1 ∙ (ap (λ (v : View). (the_lane v).chain) page-book ∙ chain);
         none = refl;
         unopened = page-unopened;
         opened = page-pages;

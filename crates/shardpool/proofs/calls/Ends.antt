@@ -28,6 +28,7 @@ use Rattle.slotcell.specs.Share.{Share}
 use Rattle.poolsteps.specs.Told.{IsIdle}
 use Rattle.poolcalls.specs.declared.reclaimed.Reclaimed.{Reclaimed}
 use Rattle.poolcalls.specs.declared.reclaimed.Reclaimed.TheVariants.{Own, Returned, Retired}
+use Rattle.poolcalls.specs.Acted.{Acted}
 use Rattle.poolcalls.specs.Called.{Did, IsReclaimed, EndsWithActs, FitsGeneration, MovedNothing, end_acts, end_pushed}
 use Rattle.shardpool.specs.declared.state.LaneState.{LaneState}
 use Rattle.shardpool.specs.Places.{held_after}
@@ -180,8 +181,7 @@ pub record Ended {T : Type 0} (content : T → List ℕ) (room : T → ℕ) (z :
   pub list : t.free ≡ more-own s.free (freed z s.number made)
   pub same : (t.rows ≡ s.rows) × (t.references ≡ s.references) × (t.shape ≡ s.shape) × (t.number ≡ s.number) × (t.pages ≡ s.pages)
 
-module _ (z : Shape) (v w : View) (place generation : ℕ) (first : List Act) (shape : IsShape z) (inside : is_place z place ≡ true) (own : (the_lane w).mine ≡ acts_of (the_lane w).lane w.seen) (legal : IsLegal z w.seen)
-    (lane : (the_lane w).lane ≡ (the_lane v).lane) where
+module _ (z : Shape) (place generation : ℕ) (shape : IsShape z) (inside : is_place z place ≡ true) where
   small : place < 16777216
   small = (place_bounds z shape place inside).number
 
@@ -189,12 +189,13 @@ module _ (z : Shape) (v w : View) (place generation : ℕ) (first : List Act) (s
   key-place = place_of-key_number z.tag place generation small
 
   -- the place that a lane reclaimed at its end
-  module _ (mine : (the_lane w).mine ≡ (the_lane v).mine ++ (first ++ reclaim z (the_lane v).lane place generation ∷ [])) where
+  module _ (v w : View) (first : List Act) (acted : Acted z (first ++ reclaim z (the_lane v).lane place generation ∷ []) v w) where
     last-act : acts_of (the_lane v).lane w.seen ≡ ((the_lane v).mine ++ first) ++ acts.Reclaim (the_lane v).lane (key_number z.tag place generation) ∷ []
-    last-act = ap (λ (l : ℕ). acts_of l w.seen) (sym lane) ∙ (sym own ∙ (mine ∙ sym (append_assoc (the_lane v).mine first (reclaim z (the_lane v).lane place generation ∷ []))))
+    last-act = ap (λ (l : ℕ). acts_of l w.seen) (sym acted.lane)
+        ∙ (sym acted.own ∙ (acted.mine ∙ sym (append_assoc (the_lane v).mine first (reclaim z (the_lane v).lane place generation ∷ []))))
 
     key-inside : is_key z (key_number z.tag place generation) ≡ true
-    key-inside = reclaimed-key z (the_lane v).lane (key_number z.tag place generation) w.seen ((the_lane v).mine ++ first) legal last-act
+    key-inside = reclaimed-key z (the_lane v).lane (key_number z.tag place generation) w.seen ((the_lane v).mine ++ first) acted.legal last-act
 
     pub key-generation : generation_of (key_number z.tag place generation) ≡ generation
     key-generation = packed-generation z place generation small (key_parts z (key_number z.tag place generation) key-inside).tag
@@ -202,67 +203,64 @@ module _ (z : Shape) (v w : View) (place generation : ℕ) (first : List Act) (s
     pub now-with : generation ≢ z.last_generation → (pool_after z w.seen place).phase ≡ with (the_lane w).lane
     now-with below =
         subst (λ (p : ℕ). (pool_after z w.seen p).phase ≡ with (the_lane w).lane) key-place
-        (reclaimed-with z (the_lane v).lane (key_number z.tag place generation) w.seen ((the_lane v).mine ++ first) legal last-act (λ is. below (sym key-generation ∙ is))
-        ∙ ap with (sym lane))
+        (reclaimed-with z (the_lane v).lane (key_number z.tag place generation) w.seen ((the_lane v).mine ++ first) acted.legal last-act (λ is. below (sym key-generation ∙ is))
+        ∙ ap with (sym acted.lane))
 
 module _ {T : Type 0} {content : T → List ℕ} {room : T → ℕ} {z : Shape} {v : View} {s : LaneState T} (fits : FitsBeside content room z v s) (w : View) where
   -- what is kept of a reclaimed place
-  keepable : (place generation : ℕ) (first : List Act) (reclaimed : Option (Reclaimed T)) → is_place z place ≡ true → (the_lane w).mine ≡ acts_of (the_lane w).lane w.seen
-      → IsLegal z w.seen → (the_lane w).lane ≡ (the_lane v).lane
-      → (the_lane w).mine ≡ (the_lane v).mine ++ (first ++ end_acts z (the_lane v).lane place generation reclaimed) → FitsGeneration z generation reclaimed
+  keepable : (place generation : ℕ) (first : List Act) (reclaimed : Option (Reclaimed T)) → is_place z place ≡ true
+      → Acted z (first ++ end_acts z (the_lane v).lane place generation reclaimed) v w → FitsGeneration z generation reclaimed
       → IfSome reclaimed (IsReclaimed content room z place s.number w) → IsKeepable content room z w place reclaimed
-  keepable place generation first None inside own legal lane mine below told = tt
-  keepable place generation first (Some (Own whole)) inside own legal lane mine below told = (
-    told.0 ∙ (fits.seat.number_is ∙ sym lane),
+  keepable place generation first None inside acted below told = tt
+  keepable place generation first (Some (Own whole)) inside acted below told = (
+    told.0 ∙ (fits.seat.number_is ∙ sym acted.lane),
     told.3,
-    record { with_lane = now-with z v w place generation first fits.seat.shape inside own legal lane mine below; emptied = told.2; room = told.4 },
+    record { with_lane = now-with z place generation fits.seat.shape inside v w first acted below; emptied = told.2; room = told.4 },
   )
-  keepable place generation first (Some Returned) inside own legal lane mine below told = tt
-  keepable place generation first (Some Retired) inside own legal lane mine below told = tt
+  keepable place generation first (Some Returned) inside acted below told = tt
+  keepable place generation first (Some Retired) inside acted below told = tt
 
   -- what the own list gains
-  list-by : (t : LaneState T) (place generation : ℕ) (first : List Act) (reclaimed : Option (Reclaimed T)) → is_place z place ≡ true → (the_lane w).mine ≡ acts_of (the_lane w).lane w.seen
-      → IsLegal z w.seen → (the_lane w).lane ≡ (the_lane v).lane
-      → (the_lane w).mine ≡ (the_lane v).mine ++ (first ++ end_acts z (the_lane v).lane place generation reclaimed) → FitsGeneration z generation reclaimed
+  list-by : (t : LaneState T) (place generation : ℕ) (first : List Act) (reclaimed : Option (Reclaimed T)) → is_place z place ≡ true
+      → Acted z (first ++ end_acts z (the_lane v).lane place generation reclaimed) v w → FitsGeneration z generation reclaimed
       → IfSome reclaimed (IsReclaimed content room z place s.number w) → freed z s.number first ≡ [] → Keeps place reclaimed s t
       → t.free ≡ more-own s.free (freed z s.number (first ++ end_acts z (the_lane v).lane place generation reclaimed))
-  list-by t place generation first None inside own legal lane mine below told none kept =
+  list-by t place generation first None inside acted below told none kept =
       ap (λ x. x.free) kept ∙ same-own s.free (freed z s.number (first ++ [])) (freed-append z s.number first [] ∙ (append-nil (freed z s.number first) ∙ none))
-  list-by t place generation first (Some (Own whole)) inside own legal lane mine below told none kept =
-      let one = freed-own z s.number place generation (key-place z v w place generation first fits.seat.shape inside own legal lane)
-      (key-generation z v w place generation first fits.seat.shape inside own legal lane mine) told.0 below in
+  list-by t place generation first (Some (Own whole)) inside acted below told none kept =
+      let one = freed-own z s.number place generation (key-place z place generation fits.seat.shape inside)
+      (key-generation z place generation fits.seat.shape inside v w first acted) told.0 below in
       kept.list ∙ sym (ap (λ (xs : List Place). more-own s.free xs) (freed-append z s.number first (reclaim z (the_lane v).lane place generation ∷ [])
       ∙ (ap (λ (xs : List Place). xs ++ freed z s.number (reclaim z (the_lane v).lane place generation ∷ [])) none ∙ one)))
-  list-by t place generation first (Some Returned) inside own legal lane mine below told none kept =
+  list-by t place generation first (Some Returned) inside acted below told none kept =
       let returned : Option (Reclaimed T) = Some Returned in
       let one = freed-both z s.number place (the_lane v).lane (key_number z.tag place generation)
       (ne_eqb (shard_of (place_of (key_number z.tag place generation))) s.number
-      (λ is. told (sym (ap shard_of (key-place z v w place generation first fits.seat.shape inside own legal lane)) ∙ is))) in
+      (λ is. told (sym (ap shard_of (key-place z place generation fits.seat.shape inside)) ∙ is))) in
       ap (λ x. x.free) kept.rest ∙ same-own s.free (freed z s.number (first ++ end_acts z (the_lane v).lane place generation returned))
       (freed-append z s.number first (end_acts z (the_lane v).lane place generation returned)
       ∙ (ap (λ (xs : List Place). xs ++ freed z s.number (end_acts z (the_lane v).lane place generation returned)) none ∙ one))
-  list-by t place generation first (Some Retired) inside own legal lane mine below told none kept =
-      let one = freed-retired z s.number place generation (key-place z v w place generation first fits.seat.shape inside own legal lane)
-      (key-generation z v w place generation first fits.seat.shape inside own legal lane mine) below in
+  list-by t place generation first (Some Retired) inside acted below told none kept =
+      let one = freed-retired z s.number place generation (key-place z place generation fits.seat.shape inside)
+      (key-generation z place generation fits.seat.shape inside v w first acted) below in
       ap (λ x. x.free) kept ∙ same-own s.free (freed z s.number (first ++ reclaim z (the_lane v).lane place generation ∷ []))
       (freed-append z s.number first (reclaim z (the_lane v).lane place generation ∷ [])
       ∙ (ap (λ (xs : List Place). xs ++ freed z s.number (reclaim z (the_lane v).lane place generation ∷ [])) none ∙ one))
 
   -- its acts leave no place of another shard with the lane
-  alone-by : (place generation : ℕ) (first : List Act) (reclaimed : Option (Reclaimed T)) → is_place z place ≡ true → (the_lane w).mine ≡ acts_of (the_lane w).lane w.seen
-      → IsLegal z w.seen → (the_lane w).lane ≡ (the_lane v).lane
-      → (the_lane w).mine ≡ (the_lane v).mine ++ (first ++ end_acts z (the_lane v).lane place generation reclaimed) → FitsGeneration z generation reclaimed
+  alone-by : (place generation : ℕ) (first : List Act) (reclaimed : Option (Reclaimed T)) → is_place z place ≡ true
+      → Acted z (first ++ end_acts z (the_lane v).lane place generation reclaimed) v w → FitsGeneration z generation reclaimed
       → IfSome reclaimed (IsReclaimed content room z place s.number w) → NoneAbroad z s.number (end_acts z (the_lane v).lane place generation reclaimed)
-  alone-by place generation first None inside own legal lane mine below told = λ p within other. refl
-  alone-by place generation first (Some (Own whole)) inside own legal lane mine below told =
+  alone-by place generation first None inside acted below told = λ p within other. refl
+  alone-by place generation first (Some (Own whole)) inside acted below told =
       abroad-own z s.number (the_lane v).lane (key_number z.tag place generation)
-      (ap shard_of (key-place z v w place generation first fits.seat.shape inside own legal lane) ∙ told.0)
-  alone-by place generation first (Some Returned) inside own legal lane mine below told =
+      (ap shard_of (key-place z place generation fits.seat.shape inside) ∙ told.0)
+  alone-by place generation first (Some Returned) inside acted below told =
       abroad-returned z s.number (the_lane v).lane place (key_number z.tag place generation)
-      (key-place z v w place generation first fits.seat.shape inside own legal lane)
-  alone-by place generation first (Some Retired) inside own legal lane mine below told =
+      (key-place z place generation fits.seat.shape inside)
+  alone-by place generation first (Some Retired) inside acted below told =
       abroad-retired z s.number (the_lane v).lane (key_number z.tag place generation)
-      (key-generation z v w place generation first fits.seat.shape inside own legal lane mine ∙ below)
+      (key-generation z place generation fits.seat.shape inside v w first acted ∙ below)
 
 -- where no place was reclaimed, nothing is given away
 given-none : {T : Type 0} (z : Shape) (lane place generation : ℕ) (first : List Act) (reclaimed : Option (Reclaimed T)) → reclaimed ≡ None
@@ -272,20 +270,19 @@ given-none z lane place generation first (Some reclaimed) gone keeps = absurd (c
 
 -- the stores once what became of the place was kept
 stores-after : {T : Type 0} {content : T → List ℕ} {room : T → ℕ} {z : Shape} {v : View} {s : LaneState T} → FitsBeside content room z v s → (w : View) (t : LaneState T) (place generation : ℕ)
-    (first : List Act) (reclaimed : Option (Reclaimed T)) → is_place z place ≡ true → (the_lane w).mine ≡ acts_of (the_lane w).lane w.seen → IsLegal z w.seen
-    → (the_lane w).lane ≡ (the_lane v).lane → (the_lane w).mine ≡ (the_lane v).mine ++ (first ++ end_acts z (the_lane v).lane place generation reclaimed)
-    → FitsGeneration z generation reclaimed → MovedNothing z place (the_lane v) (the_lane w) reclaimed → IfSome reclaimed (IsReclaimed content room z place s.number w)
+    (first : List Act) (reclaimed : Option (Reclaimed T)) → is_place z place ≡ true
+    → Acted z (first ++ end_acts z (the_lane v).lane place generation reclaimed) v w → FitsGeneration z generation reclaimed → MovedNothing z place (the_lane v) (the_lane w) reclaimed → IfSome reclaimed (IsReclaimed content room z place s.number w)
     → FitsShelf content room z w s → (the_lane w).chain ≡ (the_lane v).chain → Keeps place reclaimed s t → FitsShelf content room z w t
-stores-after {content = content} {room = room} {z = z} fits w t place generation first None inside own legal lane mine below moved told stores chain kept =
+stores-after {content = content} {room = room} {z = z} fits w t place generation first None inside acted below moved told stores chain kept =
     subst (λ x. FitsShelf content room z w x) (sym kept) stores
-stores-after {z = z} {v = v} {s = s} fits w t place generation first (Some reclaimed) inside own legal lane mine below moved told stores chain kept =
+stores-after {z = z} {v = v} {s = s} fits w t place generation first (Some reclaimed) inside acted below moved told stores chain kept =
     let apart = alone-apart fits.stores (some-lane fits.seat) place moved in
     stores-reclaimed s t (Some reclaimed) fits.shape_is inside stores (record {
       unlisted = apart.unlisted;
-      opened = λ there mine_so. apart.opened there (mine_so ∙ lane);
+      opened = λ there mine_so. apart.opened there (mine_so ∙ acted.lane);
       unchained = ap (λ (ps : List ℕ). has ps place) chain ∙ apart.unchained;
     })
-    (keepable fits w place generation first (Some reclaimed) inside own legal lane mine below told) kept
+    (keepable fits w place generation first (Some reclaimed) inside acted below told) kept
 
 -- what a call at a place left
 pub ended-beside : {S T : Type 0} {content : T → List ℕ} {room : T → ℕ} {z : Shape} {place steps looks : ℕ} {made : List Act} {a b : Me S View} {s t : LaneState T}
@@ -296,7 +293,7 @@ pub ended-beside : {S T : Type 0} {content : T → List ℕ} {room : T → ℕ} 
 ended-beside {content = content} {room = room} {z = z} {place = place} {made = made} {a = a} {b = b} {s = s} {t = t} first reclaimed fits did idle acts_so told inside only keeps none alone kept =
     let lane : ℕ = (the_lane a.0).lane in
     let all : List Act = first ++ end_acts z lane place acts_so.0.0 reclaimed in
-    let same : made ≡ all = append_cancel_left (the_lane a.0).mine made all (sym did.mine ∙ acts_so.0.1) in
+    let same : made ≡ all = append_cancel_left (the_lane a.0).mine made all (sym did.acted.mine ∙ acts_so.0.1) in
     let passes = subst (λ (xs : List Act). Passes z (touched_by place reclaimed) xs a.0 b.0) same (passes-by reclaimed did acts_so.2) in
     let only_all : OnlyAt place all = onlyat-append place first (end_acts z lane place acts_so.0.0 reclaimed) only (onlyat-end z lane place acts_so.0.0 reclaimed fits.seat.shape inside) in
     let stores = stores-by fits reclaimed passes did.chain acts_so.2 only_all (λ gone. given-none z lane place acts_so.0.0 first reclaimed gone keeps) in
@@ -307,10 +304,10 @@ ended-beside {content = content} {room = room} {z = z} {place = place} {made = m
       moved = acts_so.2;
       chain = did.chain;
       seat = subst (λ (n : ℕ). FitsSeat z b.0 n) (sym rest.3) (seat-passes fits.seat passes idle
-          (abroad-append z s.number first (end_acts z lane place acts_so.0.0 reclaimed) alone (alone-by fits b.0 place acts_so.0.0 first reclaimed inside did.own did.legal did.lane acts_so.0.1 acts_so.0.2 told)));
+          (abroad-append z s.number first (end_acts z lane place acts_so.0.0 reclaimed) alone (alone-by fits b.0 place acts_so.0.0 first reclaimed inside passes.acted acts_so.0.2 told)));
       last_pushed = last_pushed-by fits t place reclaimed inside acts_so.1 kept;
-      stores = stores-after fits b.0 t place acts_so.0.0 first reclaimed inside did.own did.legal did.lane acts_so.0.1 acts_so.0.2 acts_so.2 told stores did.chain kept;
-      list = list-by fits b.0 t place acts_so.0.0 first reclaimed inside did.own did.legal did.lane acts_so.0.1 acts_so.0.2 told none kept;
+      stores = stores-after fits b.0 t place acts_so.0.0 first reclaimed inside passes.acted acts_so.0.2 acts_so.2 told stores did.chain kept;
+      list = list-by fits b.0 t place acts_so.0.0 first reclaimed inside passes.acted acts_so.0.2 told none kept;
       same = rest;
     }
 

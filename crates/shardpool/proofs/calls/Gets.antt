@@ -81,7 +81,7 @@ module _ {S : Type 0} {z : Shape} {key n : ℕ} {a b : Me S View} (called : Call
   pub hit-still : Passes z (λ p. false) (acts.Get (the_lane a.0).lane key (Some bytes) ∷ []) a.0 b.0
   hit-still =
       let get : List Act = acts.Get (the_lane a.0).lane key (Some bytes) ∷ [] in
-      let same : called.made ≡ get = append_cancel_left (the_lane a.0).mine called.made get (sym called.did.mine ∙ one.0) in
+      let same : called.made ≡ get = append_cancel_left (the_lane a.0).mine called.made get (sym called.did.acted.mine ∙ one.0) in
       subst (λ (xs : List Act). Passes z (λ p. false) xs a.0 b.0) same (passes-still called.did unmoved)
 
   hit-wider : Passes z (λ p. eqb p (place_of key)) (acts.Get (the_lane a.0).lane key (Some bytes) ∷ []) a.0 b.0
@@ -145,17 +145,17 @@ module _ {T : Type 0} {content : T → List ℕ} {room : T → ℕ} {z : Shape} 
     -- its place wasn't with the lane: it is published now, and it would be with the lane still
     hit-away : (pool_after z v.seen (place_of key)).phase ≢ with (the_lane v).lane
     hit-away is =
-        let told = held-content-law z w.seen (the_lane w).lane key hit.passes.legal hit-one in
+        let told = held-content-law z w.seen (the_lane w).lane key hit.passes.acted.legal hit-one in
         let bad : published told.0 told.1 told.2 ≡ with (the_lane w).lane
-        = sym told.3 ∙ still-with hit.passes fits.seat.paired fits.seat.own (place_of key) is (keeps (place_of key)) in cc bad
+        = sym told.3 ∙ still-with hit.passes.acted fits.seat.paired fits.seat.own (place_of key) is (keeps (place_of key)) in cc bad
 
     hit-refs : held_after (the_lane w).mine 0 ≡ held_after (the_lane v).mine 0 + 1
     hit-refs =
-        ap (λ (xs : List Act). held_after xs 0) hit.passes.mine ∙ held-append (the_lane v).mine (acts.Get (the_lane v).lane key (Some bytes) ∷ []) 0
+        ap (λ (xs : List Act). held_after xs 0) hit.passes.acted.mine ∙ held-append (the_lane v).mine (acts.Get (the_lane v).lane key (Some bytes) ∷ []) 0
 
     -- the lane may have its share
     pub hit-may : HeldLaw → MayTouch z w (place_of key) s.number
-    hit-may law = subst (λ (l : ℕ). MayTouch z w (place_of key) l) (hit.passes.lane ∙ sym fits.seat.number_is) (law z w key hit-one)
+    hit-may law = subst (λ (l : ℕ). MayTouch z w (place_of key) l) (hit.passes.acted.lane ∙ sym fits.seat.number_is) (law z w key hit-one)
 
     -- the rows and the count alone were written
     module _ (t : LaneState T) (rest : t ≡ record s { rows = t.rows; references = s.references + 1 }) where
@@ -215,8 +215,8 @@ module _ {T : Type 0} {content : T → List ℕ} {room : T → ℕ} {z : Shape} 
       → FitsRows content room z c.0 (slice_set s.rows.items (position_of z (place_of key)) (record { generation = generation_of key; count = 1; share = Some share })) (s.references + 1)
   rows-begun {share = share} {c = c} outs none =
       let hit = hit-moved called bytes one unmoved (carries-out outs) in
-      let number : s.number ≡ (the_lane c.0).lane = fits.seat.number_is ∙ sym hit.passes.lane in
-      let held = held-made key (room_of c.0.seen c.0.rooms (place_of key)) share hit.passes.legal (hit-one fits hit) (outs.is_left.number_is ∙ number) outs.is_left.of_is
+      let number : s.number ≡ (the_lane c.0).lane = fits.seat.number_is ∙ sym hit.passes.acted.lane in
+      let held = held-made key (room_of c.0.seen c.0.rooms (place_of key)) share hit.passes.acted.legal (hit-one fits hit) (outs.is_left.number_is ∙ number) outs.is_left.of_is
       (ap (λ (l : ℕ). status_of (the_lane c.0) (place_of key) l) (sym number) ∙ moves-here (out-moves outs)) (moves-known (out-moves outs)) outs.kept in
       rows-got-first fits.seat.own fits.seat.shape fits.rows (the_lane a.0).lane key (hit-key fits hit) row stood (λ p other. ne_eqb p (place_of key) other) bytes share
       hit.passes none held

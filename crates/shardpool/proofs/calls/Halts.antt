@@ -1,5 +1,5 @@
 -- What a lane's last call leaves, by its parts: the calls over its hand, the share that goes back in front of a release, and no step at all.
-use Rattle.std.proofs.Common.{◌≡◌, ◌⊎◌, ℕ, ◌<◌, ◌≤◌, Bool, true, false, cond, eqb, List, [], ◌∷◌, ◌++◌, map, length, Option, Some, None, refl, sym, ap, ◌∙◌, subst, arith, append-nil}
+use Rattle.std.proofs.Common.{◌≡◌, ◌⊎◌, ℕ, ◌<◌, ◌≤◌, Bool, true, false, cond, eqb, List, [], ◌∷◌, map, length, Option, Some, None, refl, sym, ap, ◌∙◌, subst, arith}
 use Rattle.atomic_table.specs.Table.{Me}
 use Rattle.atomic_table.specs.declared.shared.Seat.{Seat}
 use Rattle.slotcell.specs.Share.{Share}
@@ -9,16 +9,14 @@ use Rattle.keybits.specs.declared.step.Kind.TheVariants as kinds
 use Rattle.keybits.specs.declared.step.Word.TheVariants.{Life}
 use Rattle.keybits.specs.Places.{number_of}
 use Rattle.keybits.specs.Keys.{place_of, is_key}
-use Rattle.seqpool.specs.declared.act.Act.{Act}
 use Rattle.steplaws.specs.Calls.{Call, Caller, aim, first_lane, take_next, next_step, AreSteps}
 use Rattle.steplaws.specs.Calls.Call.{Getting, Clearing, Creating}
 use Rattle.poolsteps.specs.declared.view.View.{View}
 use Rattle.poolsteps.specs.Views.{the_lane, IsOne}
 use Rattle.poolsteps.specs.Told.{references_seen}
-use Rattle.poolsteps.proofs.ViewLemmas.{prefix-trans}
 use Rattle.poolcalls.specs.Called.{caller_of, Make, Did, IsLawful}
 use Rattle.poolcalls.proofs.Doing.{same-caller}
-use Rattle.poolcalls.proofs.Ending.{did-nothing}
+use Rattle.poolcalls.proofs.Going.{none-acted, acted-more}
 use Rattle.poolcalls.specs.Halted.{CalledWithin}
 use Rattle.poolcalls.proofs.Within.{at-end}
 use Rattle.shardpool.specs.declared.state.LaneState.{LaneState}
@@ -33,38 +31,28 @@ use Rattle.shardpool.proofs.calls.Releases.{Refers}
 -- a call that has no first step makes none
 pub halts-none : {S : Type 0} {z : Shape} {a : Me S View} (call : Call) (limit : ℕ) → IsOne a.0 → IsLawful z a.0 → next_step (caller_of z a.0) call [] ≡ None
     → CalledWithin z call limit a a
-halts-none {z = z} {a = a} call limit one seen none = let did = did-nothing {place = 0} {a = a} one seen in record {
+halts-none {z = z} {a = a} call limit one seen none = record {
   steps = [];
   made = [];
   are = tt;
   ends = at-end 0 limit (next_step (caller_of z a.0) call [] ≡ None) (omega arith) none;
   make = refl;
-  one = did.one;
-  lane = did.lane;
-  mine = did.mine;
-  seen = did.seen;
-  legal = did.legal;
-  own = did.own;
-  held = did.held;
-  stepped = did.stepped;
+  acted = none-acted one seen;
+  held = refl;
+  stepped = omega arith;
 }
 
 -- moves of a place's shares in front of a call
 pub halts-behind : {S : Type 0} {z : Shape} {call : Call} {place looks limit : ℕ} {a b c : Me S View} → Did z place [] 0 looks a b
     → (the_lane b.0).pushed ≡ (the_lane a.0).pushed → CalledWithin z call limit b c → CalledWithin z call limit a c
-halts-behind {z = z} {call = call} {limit = limit} {a = a} {b = b} {c = c} moves pushed called =
-    let same : caller_of z b.0 ≡ caller_of z a.0 = same-caller z a.0 b.0 moves.lane pushed in record {
+halts-behind {z = z} {call = call} {limit = limit} {a = a} {b = b} moves pushed called =
+    let same : caller_of z b.0 ≡ caller_of z a.0 = same-caller z a.0 b.0 moves.acted.lane pushed in record {
       steps = called.steps;
       made = called.made;
       are = subst (λ (x : Caller). AreSteps x call [] called.steps) same called.are;
       ends = subst (λ (x : Caller). (length called.steps ≡ limit) ⊎ ((length called.steps < limit) × (next_step x call called.steps ≡ None))) same called.ends;
       make = subst (λ (x : Caller). Make z x call called.steps called.made) same called.make;
-      one = called.one;
-      lane = called.lane ∙ moves.lane;
-      mine = called.mine ∙ ap (λ (xs : List Act). xs ++ called.made) (moves.mine ∙ append-nil (the_lane a.0).mine);
-      seen = prefix-trans a.0.seen b.0.seen c.0.seen moves.seen called.seen;
-      legal = called.legal;
-      own = called.own;
+      acted = acted-more moves.acted called.acted;
       held = called.held ∙ moves.held;
       stepped = let first = moves.stepped in let then = called.stepped in omega (arith, first, then);
     }
@@ -78,12 +66,7 @@ halts-bare called = record {
   are = called.are;
   ends = called.ends;
   make = called.make;
-  one = called.one;
-  lane = called.lane;
-  mine = called.mine;
-  seen = called.seen;
-  legal = called.legal;
-  own = called.own;
+  acted = called.acted;
   held = refl;
   stepped = called.stepped;
 }

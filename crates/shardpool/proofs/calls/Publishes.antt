@@ -33,7 +33,8 @@ use Rattle.shardpool.specs.LaneStates.{FitsSeat, FitsTops, FitsStores, IsHeld, F
 use Rattle.shardpool.specs.Lanes.{Made, Did}
 use Rattle.shardpool.proofs.frame.OtherShards.{abroad-one}
 use Rattle.shardpool.proofs.frame.Frames.{Passes, OnlyAt}
-use Rattle.shardpool.proofs.frame.LaneFrames.{passes-did, passes-refs, all-acts, away-elsewhere, onlyat-publish}
+use Rattle.poolcalls.proofs.Going.{all-acts}
+use Rattle.shardpool.proofs.frame.LaneFrames.{passes-did, passes-refs, away-elsewhere, onlyat-publish}
 use Rattle.shardpool.proofs.frame.KeptPlaces.{seat-passes, last_pushed-same}
 use Rattle.shardpool.proofs.free.Stores.{IsApart, filling-apart, stores-apart}
 use Rattle.shardpool.proofs.frame.BlankPlaces.{last-of}
@@ -72,7 +73,7 @@ module _ {S T : Type 0} {content : T → List ℕ} {room : T → ℕ} {z : Shape
   act = acts.Publish s.number filling.key bytes with_ref
 
   passes : Passes z (λ p. eqb p place) (act ∷ []) a.0 b.0
-  passes = subst (λ (xs : List Act). Passes z (λ p. eqb p place) xs a.0 b.0) (append_cancel_left (the_lane a.0).mine made (act ∷ []) (sym did.mine ∙ acts_so.0)) (passes-did did)
+  passes = subst (λ (xs : List Act). Passes z (λ p. eqb p place) xs a.0 b.0) (append_cancel_left (the_lane a.0).mine made (act ∷ []) (sym did.acted.mine ∙ acts_so.0)) (passes-did did)
 
   only : OnlyAt place (act ∷ [])
   only = onlyat-publish s.number filling.key bytes with_ref
@@ -204,7 +205,7 @@ module _ {S T : Type 0} {content : T → List ℕ} {room : T → ℕ} {z : Shape
       let taken : Passes z (λ p. eqb p place) (acts.Publish s.number filling.key bytes true ∷ []) a.0 b.0
       = subst (λ (r : Bool). Passes z (λ p. eqb p place) (acts.Publish s.number filling.key bytes r ∷ []) a.0 b.0) referred passes in
       let lane : s.number ≡ (the_lane b.0).lane = seat.number_is in
-      let stands = published-last (the_lane a.0).lane s.number filling.key bytes with_ref b.0.seen (acts_of (the_lane a.0).lane a.0.seen) (all-acts passes fits.seat.own) in
+      let stands = published-last (the_lane a.0).lane s.number filling.key bytes with_ref b.0.seen (acts_of (the_lane a.0).lane a.0.seen) (all-acts passes.acted fits.seat.own) in
       let held : IsHeld content room z b.0 place (generation_of filling.key) share = record {
         number_is = number ∙ lane;
         of_is = of;

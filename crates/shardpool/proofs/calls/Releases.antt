@@ -1,5 +1,5 @@
 -- What a release leaves of a lane. Where its reference is the last to the key, its share goes back into its slot in front of the call.
-use Rattle.std.proofs.Common.{◌≡◌, ◌≢◌, ℕ, ◌+◌, ◌-◌, ◌<◌, ◌≤◌, true, false, eqb, List, [], ◌∷◌, ◌++◌, length, Option, Some, None, IfSome, refl, sym, ap, ◌∙◌, subst, arith, append-nil, ne_eqb, slice_get, slice_index, slice_index_or, slice_set}
+use Rattle.std.proofs.Common.{◌≡◌, ◌≢◌, ℕ, ◌+◌, ◌-◌, ◌<◌, ◌≤◌, true, false, eqb, List, [], ◌∷◌, ◌++◌, length, Option, Some, None, IfSome, refl, sym, ap, ◌∙◌, subst, arith, ne_eqb, slice_get, slice_index, slice_index_or, slice_set}
 use Rattle.std.proofs.lemmas.List.{set-get_or, set-set}
 use Rattle.std.proofs.lemmas.List.Elements.{All-nil, All-cons}
 use Rattle.std.proofs.lemmas.Option.{slice_get_within, slice_get-get_or, get_or_from_slice_get}
@@ -33,7 +33,8 @@ use Rattle.poolcalls.specs.AtPlace.{IsAt}
 use Rattle.poolcalls.specs.declared.reclaimed.Reclaimed.{Reclaimed}
 use Rattle.poolcalls.specs.declared.reclaimed.Reclaimed.TheVariants.{Own}
 use Rattle.poolcalls.specs.Called.{Did as DidSo, IsReclaimed, EndsWithActs, end_acts}
-use Rattle.poolcalls.proofs.Doing.{did-carries}
+use Rattle.poolcalls.proofs.Doing.{did-carries, did-most}
+use Rattle.poolcalls.proofs.Ending.{did-nothing}
 use Rattle.shardpool.specs.declared.state.HeldKey.{HeldKey}
 use Rattle.shardpool.specs.declared.state.LaneState.{LaneState}
 use Rattle.shardpool.specs.Places.{held_after}
@@ -54,23 +55,8 @@ use Rattle.shardpool.proofs.frame.SeenHistories.{same-shape}
 use Rattle.shardpool.proofs.frame.LaneFacts.{lane_of, made-passes, did-lane}
 
 -- a lane that did nothing
-did-nothing : {S : Type 0} {z : Shape} {a : Me S View} {n : ℕ} (place looks : ℕ) → FitsSeat z a.0 n → DidSo z place [] 0 looks a a
-did-nothing {a = a} place looks seat = record {
-  one = seat.one;
-  lane = refl;
-  mine = sym (append-nil (the_lane a.0).mine);
-  seen = ([], append-nil a.0.seen);
-  rooms = ([], sym (append-nil a.0.rooms), omega arith);
-  legal = seat.legal;
-  quiet = seat.quiet;
-  own = seat.own;
-  held = refl;
-  stepped = omega arith;
-  looked = omega arith;
-  chain = refl;
-  deeds = λ p number other. refl;
-  cells = λ p other. refl;
-}
+seat-nothing : {S : Type 0} {z : Shape} {a : Me S View} {n : ℕ} (place looks : ℕ) → FitsSeat z a.0 n → DidSo z place [] 0 looks a a
+seat-nothing place looks seat = did-most (did-nothing seat.one (seat.legal, seat.own, seat.quiet)) (omega arith)
 
 -- the places of the touched slots
 touched-else : {T : Type 0} (place : ℕ) (reclaimed : Option (Reclaimed T)) (p : ℕ) → p ≢ place → touched_by place reclaimed p ≡ false
@@ -168,7 +154,7 @@ module _ {T : Type 0} {content : T → List ℕ} {room : T → ℕ} {z : Shape} 
         (λ (several : row.count ≢ 1). record {
           row = row;
           stands = stands.1;
-          did = did-nothing (place_of key) 2 fits.seat;
+          did = seat-nothing (place_of key) 2 fits.seat;
           pushed = refl;
           idle = fits.seat.idle;
           share = row.share;
@@ -262,7 +248,7 @@ module _ {T : Type 0} {content : T → List ℕ} {room : T → ℕ} {z : Shape} 
   pub lent-at : (acting : At) → IsSpot z acting.spot place → acting.lane ≡ s.number → acting.top ≡ slice_index s.last_pushed.items (shard_of acting.spot.place) → IsAt z b.0 place acting
   lent-at acting spot lane top = record {
     spot = spot;
-    lane = lane ∙ (fits.seat.number_is ∙ sym lent.did.lane);
+    lane = lane ∙ (fits.seat.number_is ∙ sym lent.did.acted.lane);
     below = subst (λ (n : ℕ). n < z.lanes) (sym lane) fits.seat.below;
     top = top ∙ lent-top acting.spot.place spot.place_is;
   }

@@ -25,7 +25,8 @@ use Rattle.shardpool.specs.declared.census.Part.TheVariants.{Free, Unopened}
 use Rattle.shardpool.specs.declared.state.LaneState.{LaneState}
 use Rattle.shardpool.specs.LaneStates.{IsFirst}
 use Rattle.shardpool.specs.Tokens.{LaneOf}
-use Rattle.shardpool.specs.Closings.{phase_at, IsPart, IsKept, IsLast, AreLast}
+use Rattle.shardpool.specs.Lanes.{IsKept}
+use Rattle.shardpool.specs.Closings.{phase_at, IsPart, IsLast, AreLast}
 use Rattle.shardpool.specs.Marks.{stacked, AreFreePlaces, free_places, part_by, part_in}
 use Rattle.shardpool.proofs.count.Lists.{number-among, among-number, stands-on, on-stacks}
 

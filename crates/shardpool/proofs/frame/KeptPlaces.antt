@@ -21,27 +21,28 @@ use Rattle.sharelaws.proofs.WithPlaces.{with-law}
 use Rattle.poolsteps.specs.declared.view.View.{View}
 use Rattle.poolsteps.specs.Views.{the_lane, pushed_in, known_of}
 use Rattle.poolsteps.specs.Told.{MayPublish, IsIdle}
+use Rattle.poolcalls.specs.Acted.{Acted}
+use Rattle.poolcalls.proofs.Going.{all-acts}
 use Rattle.shardpool.specs.Places.{IsBlank, IsResting, left_with}
 use Rattle.shardpool.specs.LaneStates.{FitsSeat, FitsTops}
 use Rattle.shardpool.proofs.frame.OtherShards.{NoneAbroad, abroad-append}
 use Rattle.shardpool.proofs.frame.Frames.{Passes}
-use Rattle.shardpool.proofs.frame.LaneFrames.{all-acts}
 
 -- ---- what the lane keeps beside its seat
 
 pub seat-passes : {z : Shape} {at : ℕ → Bool} {made : List Act} {v w : View} {n : ℕ} → FitsSeat z v n → Passes z at made v w → IsIdle w → NoneAbroad z n made → FitsSeat z w n
 seat-passes {z = z} {made = made} {v = v} {n = n} seat passes idle alone = record {
   shape = seat.shape;
-  one = passes.one;
-  number_is = seat.number_is ∙ sym passes.lane;
+  one = passes.acted.one;
+  number_is = seat.number_is ∙ sym passes.acted.lane;
   below = seat.below;
   idle = idle;
-  legal = passes.legal;
-  quiet = passes.quiet;
-  own = passes.own;
-  paired = ap (λ (xs : List ℕ). length xs) passes.rooms.1 ∙ (length-append v.rooms passes.rooms.0
-      ∙ (ap (λ (m : ℕ). m + length passes.rooms.0) seat.paired ∙ sym passes.rooms.2));
-  alone = λ place inside other. ap (λ (xs : List Act). left_with z place xs false) passes.mine
+  legal = passes.acted.legal;
+  quiet = passes.acted.quiet;
+  own = passes.acted.own;
+  paired = let rooms = passes.acted.rooms in ap (λ (xs : List ℕ). length xs) rooms.1
+      ∙ (length-append v.rooms rooms.0 ∙ (ap (λ (m : ℕ). m + length rooms.0) seat.paired ∙ sym rooms.2));
+  alone = λ place inside other. ap (λ (xs : List Act). left_with z place xs false) passes.acted.mine
       ∙ abroad-append z n (the_lane v).mine made seat.alone alone place inside other;
 }
 
@@ -69,38 +70,38 @@ last_pushed-pushed {z = z} {v = v} {w = w} {last_pushed = last_pushed} {shard = 
 -- ---- places that stay with the lane
 
 -- what the law tells of a place that the lane doesn't give away
-module _ {z : Shape} {at : ℕ → Bool} {made : List Act} {v w : View} (passes : Passes z at made v w) (paired : length v.rooms ≡ length v.seen)
+module _ {z : Shape} {made : List Act} {v w : View} (acted : Acted z made v w) (paired : length v.rooms ≡ length v.seen)
     (own : (the_lane v).mine ≡ acts_of (the_lane v).lane v.seen) (p : ℕ) (is : (pool_after z v.seen p).phase ≡ with (the_lane v).lane)
     (kept : All (λ act. gives_away act p ≡ false) made) where
   abbrev more : List Act
-  more = passes.seen.0
+  more = acted.seen.0
 
   acts-between : acts_of (the_lane v).lane more ≡ made
   acts-between =
       let lane : ℕ = (the_lane v).lane in
-      append_cancel_left (acts_of lane v.seen) (acts_of lane more) made (sym (acts-append lane v.seen more) ∙ (ap (acts_of lane) passes.seen.1 ∙ all-acts passes own))
+      append_cancel_left (acts_of lane v.seen) (acts_of lane more) made (sym (acts-append lane v.seen more) ∙ (ap (acts_of lane) acted.seen.1 ∙ all-acts acted own))
 
   law-passes : (pool_after z (v.seen ++ more) p ≡ pool_after z v.seen p)
-      × (room_of (v.seen ++ more) (v.rooms ++ passes.rooms.0) p ≡ room_of v.seen v.rooms p)
+      × (room_of (v.seen ++ more) (v.rooms ++ acted.rooms.0) p ≡ room_of v.seen v.rooms p)
       × All (λ act. brings act p ≡ false) (acts_of (the_lane v).lane more)
   law-passes =
-      let seen : w.seen ≡ v.seen ++ more = sym passes.seen.1 in
-      let long = ap (λ (xs : List Act). length xs) passes.seen.1 in
+      let seen : w.seen ≡ v.seen ++ more = sym acted.seen.1 in
+      let long = ap (λ (xs : List Act). length xs) acted.seen.1 in
       let two = length-append v.seen more in
-      with-law z v.seen more v.rooms passes.rooms.0 (the_lane v).lane p paired (omega (arith, long, two, passes.rooms.2)) (subst (IsLegal z) seen passes.legal) is
+      with-law z v.seen more v.rooms acted.rooms.0 (the_lane v).lane p paired (omega (arith, long, two, acted.rooms.2)) (subst (IsLegal z) seen acted.legal) is
       (subst (λ (xs : List Act). All (λ act. gives_away act p ≡ false) xs) (sym acts-between) kept)
 
   -- it stays as it is, with its room
   pub spot-passes : (pool_after z w.seen p ≡ pool_after z v.seen p) × (room_of w.seen w.rooms p ≡ room_of v.seen v.rooms p)
   spot-passes =
-      let seen : w.seen ≡ v.seen ++ more = sym passes.seen.1 in (
+      let seen : w.seen ≡ v.seen ++ more = sym acted.seen.1 in (
         ap (λ (xs : List Act). pool_after z xs p) seen ∙ law-passes.0,
-        ap (λ (xs : List Act). room_of xs w.rooms p) seen ∙ (ap (λ (xs : List ℕ). room_of (v.seen ++ more) xs p) passes.rooms.1 ∙ law-passes.1),
+        ap (λ (xs : List Act). room_of xs w.rooms p) seen ∙ (ap (λ (xs : List ℕ). room_of (v.seen ++ more) xs p) acted.rooms.1 ∙ law-passes.1),
       )
 
   -- it is then still with the lane
   pub still-with : (pool_after z w.seen p).phase ≡ with (the_lane w).lane
-  still-with = ap (λ (s : Spot). s.phase) spot-passes.0 ∙ (is ∙ ap with (sym passes.lane))
+  still-with = ap (λ (s : Spot). s.phase) spot-passes.0 ∙ (is ∙ ap with (sym acted.lane))
 
   -- and no act of the lane brings it
   pub none-brings : All (λ act. brings act p ≡ false) made
@@ -110,21 +111,21 @@ module _ {z : Shape} {at : ℕ → Bool} {made : List Act} {v w : View} (passes 
     (own : (the_lane v).mine ≡ acts_of (the_lane v).lane v.seen) where
   pub blank-passes : {p n : ℕ} → IsBlank z v p n → at p ≡ false → All (λ act. gives_away act p ≡ false) made → IsBlank z w p n
   blank-passes {p} {n} blank off kept = record {
-    with_lane = still-with passes paired own p blank.with_lane kept;
+    with_lane = still-with passes.acted paired own p blank.with_lane kept;
     emptied = λ number below. passes.deeds p number off ∙ blank.emptied number below;
-    room = subst (λ (m : ℕ). m ≤ n) (sym (spot-passes passes paired own p blank.with_lane kept).1) blank.room;
+    room = subst (λ (m : ℕ). m ≤ n) (sym (spot-passes passes.acted paired own p blank.with_lane kept).1) blank.room;
   }
 
   pub resting-passes : {p : ℕ} → IsResting z v p → at p ≡ false → All (λ act. gives_away act p ≡ false) made → IsResting z w p
   resting-passes {p} resting off kept =
       let same : known_of (the_lane w) p ≡ known_of (the_lane v) p = passes.cells p off in record {
         inside = resting.inside;
-        own = resting.own ∙ sym passes.lane;
-        with_lane = still-with passes paired own p resting.with_lane kept;
+        own = resting.own ∙ sym passes.acted.lane;
+        with_lane = still-with passes.acted paired own p resting.with_lane kept;
         rests = λ number below. passes.deeds p number off ∙ resting.rests number below;
         empty = ap (λ (c : Stored). c.content) same ∙ resting.empty;
         room = subst (λ (c : Stored). room_of w.seen w.rooms p ≤ c.room) (sym same)
-            (subst (λ (m : ℕ). m ≤ (known_of (the_lane v) p).room) (sym (spot-passes passes paired own p resting.with_lane kept).1) resting.room);
+            (subst (λ (m : ℕ). m ≤ (known_of (the_lane v) p).room) (sym (spot-passes passes.acted paired own p resting.with_lane kept).1) resting.room);
       }
 
   -- a key that the lane may publish it still may, where its place is not on the taken chain
@@ -132,8 +133,8 @@ module _ {z : Shape} {at : ℕ → Bool} {made : List Act} {v w : View} (passes 
       → times (place_of key) (the_lane w).chain ≡ 0 → MayPublish z w key
   may-passes {key} may kept idle unchained = record {
     idle = idle;
-    current = ap (λ (s : Spot). is_key z key && (s.generation == generation_of key)) (spot-passes passes paired own (place_of key) may.with_lane kept).0 ∙ may.current;
-    with_lane = still-with passes paired own (place_of key) may.with_lane kept;
+    current = ap (λ (s : Spot). is_key z key && (s.generation == generation_of key)) (spot-passes passes.acted paired own (place_of key) may.with_lane kept).0 ∙ may.current;
+    with_lane = still-with passes.acted paired own (place_of key) may.with_lane kept;
     unchained = unchained;
   }
 

@@ -79,17 +79,17 @@ made-passes {made = made} z old new filling shape shape_now number same table pa
     let p : ℕ = place_of filling.key in
     let is : (pool_after z old.book.seen p).phase ≡ with (the_lane old.book).lane
     = subst (λ (y : Shape). (pool_after y old.book.seen p).phase ≡ with (the_lane old.book).lane) shape (was.place.with_lane ∙ ap with (sym number)) in
-    let still = still-with passes paired own p is keeps in record {
+    let still = still-with passes.acted paired own p is keeps in record {
       table = was.table ∙ sym table;
       place = record {
         inside = subst (λ (y : Shape). is_place y p ≡ true) (shape ∙ sym shape_now) was.place.inside;
         own = was.place.own ∙ sym same;
         opened = subst (λ (n : ℕ). page_of p < n) (ap (λ (x : ShardPages). x.opened) (sym pages)) was.place.opened;
-        with_lane = subst (λ (y : Shape). (pool_after y new.book.seen p).phase ≡ with new.number) (sym shape_now) (still ∙ ap with (passes.lane ∙ (number ∙ sym same)));
+        with_lane = subst (λ (y : Shape). (pool_after y new.book.seen p).phase ≡ with new.number) (sym shape_now) (still ∙ ap with (passes.acted.lane ∙ (number ∙ sym same)));
         unlisted = λ at within is_at. ⊎_elim
             (λ (before : Contains old.free.own at). was.place.unlisted at before is_at)
             (λ (gained : Contains (freed z old.number made) at).
-            All-contains (λ x. number_of x ≡ p → ⊥) (freed z old.number made) at (freed-others z old.number p made (none-brings passes paired own p is keeps)) gained is_at)
+            All-contains (λ x. number_of x ≡ p → ⊥) (freed z old.number made) at (freed-others z old.number p made (none-brings passes.acted paired own p is keeps)) gained is_at)
             (Contains-append_cases old.free.own (freed z old.number made) at (subst (λ (x : FreePlaces). Contains x.own at) list within));
         unchained = ap (λ (ps : List ℕ). has ps p) chain ∙ was.place.unchained;
       };
@@ -105,9 +105,9 @@ pub did-lane : {at : ℕ → Bool} {made : List Act} (z : Shape) (old new : Lane
     → Passes z at made old.book new.book → (the_lane old.book).mine ≡ acts_of (the_lane old.book).lane old.book.seen
     → new.free ≡ record old.free { own = old.free.own ++ freed z old.number made } → new.pages ≡ old.pages → Did made old new
 did-lane {made = made} z old new shape shape_now same table passes own list pages = record {
-  goes = sees-on z old new shape_now passes own;
+  goes = sees-on z old new shape_now passes.acted own;
   same = (table, shape_now ∙ sym shape, same);
-  mine = passes.mine;
+  mine = passes.acted.mine;
   held = λ key. ap (λ (y : Shape). references_seen y new.book key) shape_now
       ∙ (passes-refs passes own key ∙ ap (λ (y : Shape). references_made made key (references_seen y old.book key)) (sym shape));
   list = list ∙ ap (λ (y : Shape). record old.free { own = old.free.own ++ freed y old.number made }) (sym shape);

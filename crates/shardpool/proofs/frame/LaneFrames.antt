@@ -1,5 +1,5 @@
 -- What is common to all that a lane does, of its calls, its steps and its moves; and what that leaves of its references.
-use Rattle.std.proofs.Common.{◌≡◌, ◌≢◌, ⊎_elim, ℕ, ◌+◌, ◌-◌, Bool, true, false, cond, ◌==◌, List, [], ◌∷◌, ◌++◌, length, Option, Some, None, refl, sym, ap, ◌∙◌, subst, arith, ne_eqb, append_assoc, append-nil, length-append}
+use Rattle.std.proofs.Common.{◌≡◌, ◌≢◌, ⊎_elim, ℕ, ◌+◌, ◌-◌, Bool, true, false, cond, ◌==◌, List, [], ◌∷◌, ◌++◌, length, Option, Some, None, refl, sym, ap, ◌∙◌, subst, arith, ne_eqb, append-nil}
 use Rattle.std.specs.List.{All}
 use Rattle.std.proofs.lemmas.Bool.{cases_Bool, eqb-false}
 use Rattle.std.proofs.lemmas.List.Elements.{All-nil, All-cons, All-head, All-tail, All-append, All-weaker}
@@ -25,9 +25,10 @@ use Rattle.poolsteps.specs.Views.{head_record, the_lane, status_of, known_of}
 use Rattle.poolsteps.specs.Told.{GoesOn, Sees, references_seen}
 use Rattle.poolsteps.specs.Moved.{Outs, Backs}
 use Rattle.poolsteps.specs.ViewLaws.{references_with, references_made}
-use Rattle.poolsteps.proofs.ViewLemmas.{prefix-trans}
 use Rattle.poolsteps.proofs.Holding.{acts-law}
+use Rattle.poolcalls.specs.Acted.{Acted}
 use Rattle.poolcalls.specs.Carried.{Carries}
+use Rattle.poolcalls.proofs.Going.{acted-goes, acted-more, all-acts}
 use Rattle.poolcalls.proofs.Moves.{carries-out, carries-back}
 use Rattle.poolcalls.specs.declared.reclaimed.Reclaimed.{Reclaimed}
 use Rattle.poolcalls.specs.declared.reclaimed.Reclaimed.TheVariants.{Own, Returned, Retired}
@@ -37,32 +38,14 @@ use Rattle.shardpool.proofs.frame.Frames.{Passes, OnlyAt}
 
 -- ---- from what the lane did to what is common
 
--- a room stands beside each act that was then seen
-rooms-go : {z : Shape} {v w : View} {made : List Act} {rooms : List ℕ} {r : LaneRecord} → GoesOn z v w made rooms r → length rooms ≡ length made
-    → (more : List ℕ) × (w.rooms ≡ v.rooms ++ more) × (length w.seen ≡ length v.seen + length more)
-rooms-go {v = v} {w = w} {made = made} {rooms = rooms} goes beside =
-    let one = ap (λ (xs : List Act). length xs) goes.seen in
-    let two = length-append (v.seen ++ goes.between) made in
-    let three = length-append v.seen goes.between in
-    let four = length-append goes.rooms_between rooms in
-    let five = goes.paired.1 in
-    (goes.rooms_between ++ rooms, goes.rooms ∙ append_assoc v.rooms goes.rooms_between rooms, omega (arith, one, two, three, four, five, beside))
-
 -- the lane goes on with acts of its own, and its record has changed no more than this
 pub passes-goes : {z : Shape} {at : ℕ → Bool} {v w : View} {made : List Act} {rooms : List ℕ} {r : LaneRecord} → GoesOn z v w made rooms r → length rooms ≡ length made
     → r.lane ≡ (the_lane v).lane → r.mine ≡ (the_lane v).mine ++ made
     → ((p number : ℕ) → at p ≡ false → status_of r p number ≡ status_of (the_lane v) p number)
     → ((p : ℕ) → at p ≡ false → known_of r p ≡ known_of (the_lane v) p) → Passes z at made v w
-passes-goes {z} {at} {v} {w} {made} {rooms} {r} goes beside lane mine deeds cells =
+passes-goes {w = w} {r = r} goes even lane mine deeds cells =
     let now : the_lane w ≡ r = ap head_record goes.lanes in record {
-      one = goes.lanes ∙ ap (λ (x : LaneRecord). x ∷ []) (sym now);
-      lane = ap (λ (x : LaneRecord). x.lane) now ∙ lane;
-      mine = ap (λ (x : LaneRecord). x.mine) now ∙ mine;
-      seen = (goes.between ++ made, sym (goes.seen ∙ append_assoc v.seen goes.between made));
-      rooms = rooms-go goes beside;
-      legal = goes.legal;
-      quiet = goes.quiet;
-      own = subst (λ (x : LaneRecord). x.mine ≡ acts_of x.lane w.seen) (sym now) goes.mine;
+      acted = acted-goes goes even lane mine;
       deeds = λ p number off. ap (λ (x : LaneRecord). status_of x p number) now ∙ deeds p number off;
       cells = λ p off. ap (λ (x : LaneRecord). known_of x p) now ∙ cells p off;
     }
@@ -75,14 +58,7 @@ passes-sees {a = a} sees = passes-goes sees.goes refl refl (sym (append-nil (the
 pub passes-did : {S : Type 0} {z : Shape} {place steps looks : ℕ} {made : List Act} {a b : Me S View} → Did z place made steps looks a b
     → Passes z (λ p. p == place) made a.0 b.0
 passes-did {place = place} did = record {
-  one = did.one;
-  lane = did.lane;
-  mine = did.mine;
-  seen = did.seen;
-  rooms = did.rooms;
-  legal = did.legal;
-  quiet = did.quiet;
-  own = did.own;
+  acted = did.acted;
   deeds = λ p number off. did.deeds p number (eqb-false p place off);
   cells = λ p off. did.cells p (eqb-false p place off);
 }
@@ -91,14 +67,7 @@ passes-did {place = place} did = record {
 pub passes-still : {S : Type 0} {z : Shape} {place steps looks : ℕ} {made : List Act} {a b : Me S View} → Did z place made steps looks a b
     → IsUnmoved place (the_lane a.0) (the_lane b.0) → Passes z (λ p. false) made a.0 b.0
 passes-still {place = place} {a = a} {b = b} did still = record {
-  one = did.one;
-  lane = did.lane;
-  mine = did.mine;
-  seen = did.seen;
-  rooms = did.rooms;
-  legal = did.legal;
-  quiet = did.quiet;
-  own = did.own;
+  acted = did.acted;
   deeds = λ p number off. dite (ℕ_discrete p place)
       (λ here. subst (λ (x : ℕ). status_of (the_lane b.0) x number ≡ status_of (the_lane a.0) x number) (sym here) (still.deeds number))
       (λ other. did.deeds p number other);
@@ -127,49 +96,29 @@ passes-wider {at = at} {more = more} wider passes =
     let off : (p : ℕ) → more p ≡ false → at p ≡ false = λ p none. ⊎_elim
     (λ (is : at p ≡ true). let bad : true ≡ false = sym (wider p is) ∙ none in absurd (cc bad))
     (λ (isnt : at p ≡ false). isnt) (cases_Bool (at p)) in record {
-      one = passes.one;
-      lane = passes.lane;
-      mine = passes.mine;
-      seen = passes.seen;
-      rooms = passes.rooms;
-      legal = passes.legal;
-      quiet = passes.quiet;
-      own = passes.own;
+      acted = passes.acted;
       deeds = λ p number none. passes.deeds p number (off p none);
       cells = λ p none. passes.cells p (off p none);
     }
 
 -- what it does next is between the first view and the last
 pub passes-more : {z : Shape} {at : ℕ → Bool} {made more : List Act} {v w u : View} → Passes z at made v w → Passes z at more w u → Passes z at (made ++ more) v u
-passes-more {made = made} {more = more} {v = v} {w = w} {u = u} first second = record {
-  one = second.one;
-  lane = second.lane ∙ first.lane;
-  mine = second.mine ∙ (ap (λ (xs : List Act). xs ++ more) first.mine ∙ append_assoc (the_lane v).mine made more);
-  seen = prefix-trans v.seen w.seen u.seen first.seen second.seen;
-  rooms = (
-    first.rooms.0 ++ second.rooms.0,
-    second.rooms.1 ∙ (ap (λ (xs : List ℕ). xs ++ second.rooms.0) first.rooms.1 ∙ append_assoc v.rooms first.rooms.0 second.rooms.0),
-    (let all = length-append first.rooms.0 second.rooms.0 in omega (arith, all, first.rooms.2, second.rooms.2)),
-  );
-  legal = second.legal;
-  quiet = second.quiet;
-  own = second.own;
+passes-more first second = record {
+  acted = acted-more first.acted second.acted;
   deeds = λ p number off. second.deeds p number off ∙ first.deeds p number off;
   cells = λ p off. second.cells p off ∙ first.cells p off;
 }
 
 -- ---- references
 
--- the lane's acts in what it saw of the later history
-pub all-acts : {z : Shape} {at : ℕ → Bool} {made : List Act} {v w : View} → Passes z at made v w → (the_lane v).mine ≡ acts_of (the_lane v).lane v.seen
-    → acts_of (the_lane v).lane w.seen ≡ acts_of (the_lane v).lane v.seen ++ made
-all-acts {made = made} {w = w} passes own =
-    ap (λ (l : ℕ). acts_of l w.seen) (sym passes.lane) ∙ (sym passes.own ∙ (passes.mine ∙ ap (λ (xs : List Act). xs ++ made) own))
-
 -- the lane has the references that its acts leave it
+pub acted-refs : {z : Shape} {made : List Act} {v w : View} → Acted z made v w → (the_lane v).mine ≡ acts_of (the_lane v).lane v.seen
+    → (key : ℕ) → references_seen z w key ≡ references_made made key (references_seen z v key)
+acted-refs {z = z} {made = made} {v = v} {w = w} acted own key = acts-law z v w made acted.seen acted.legal acted.lane (all-acts acted own) key
+
 pub passes-refs : {z : Shape} {at : ℕ → Bool} {made : List Act} {v w : View} → Passes z at made v w → (the_lane v).mine ≡ acts_of (the_lane v).lane v.seen
     → (key : ℕ) → references_seen z w key ≡ references_made made key (references_seen z v key)
-passes-refs {z = z} {made = made} {v = v} {w = w} passes own key = acts-law z v w made passes.seen passes.legal passes.lane (all-acts passes own) key
+passes-refs passes = acted-refs passes.acted
 
 -- keys of two places are two
 other-key : (k key : ℕ) → place_of key == place_of k ≡ false → k == key ≡ false

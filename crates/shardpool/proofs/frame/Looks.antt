@@ -34,7 +34,7 @@ filled content room was new place object filling seat loose sees same free pages
     let chain = same-chain sees in
     let none = All-nil (λ act. gives_away act place ≡ false) in
     let blank = blank-passes passes seat.paired seat.own loose.blank refl none in
-    let number : (the_lane new.book).lane ≡ new.number = passes.lane ∙ (sym seat.number_is ∙ sym same.2) in
+    let number : (the_lane new.book).lane ≡ new.number = passes.acted.lane ∙ (sym seat.number_is ∙ sym same.2) in
     let fills : IsFilling new place = record {
       inside = ap (λ (z : Shape). is_place z place) same.1 ∙ loose.filling.inside;
       own = loose.filling.own ∙ sym same.2;
@@ -55,5 +55,5 @@ filled content room was new place object filling seat loose sees same free pages
       sees = sees;
       same = same;
       free_same = (free, chain, pages);
-      room = (spot-passes passes seat.paired seat.own place loose.blank.with_lane none).1;
+      room = (spot-passes passes.acted seat.paired seat.own place loose.blank.with_lane none).1;
     }

@@ -52,14 +52,14 @@ made-passes old new filling passes seat same idle off kept unlisted unchained op
     let place : ℕ = place_of filling.key in
     let was = made.place in
     let with_old : (pool_after old.shape old.book.seen place).phase ≡ with (the_lane old.book).lane = was.with_lane ∙ ap with seat.number_is in
-    let number : (the_lane new.book).lane ≡ new.number = passes.lane ∙ (sym seat.number_is ∙ sym same.2) in record {
+    let number : (the_lane new.book).lane ≡ new.number = passes.acted.lane ∙ (sym seat.number_is ∙ sym same.2) in record {
       table = made.table ∙ sym same.0;
       place = record {
         inside = ap (λ (z : Shape). is_place z place) same.1 ∙ was.inside;
         own = was.own ∙ sym same.2;
         opened = let low = was.opened in omega (arith, low, opened);
         with_lane = ap (λ (z : Shape). (pool_after z new.book.seen place).phase) same.1
-            ∙ (still-with passes seat.paired seat.own place with_old kept ∙ ap with number);
+            ∙ (still-with passes.acted seat.paired seat.own place with_old kept ∙ ap with number);
         unlisted = unlisted;
         unchained = unchained;
       };
@@ -76,9 +76,9 @@ module _ {was new : LaneOf} (passes : Passes was.shape (λ p. false) [] was.book
   pub did-none : Did [] old new
   did-none =
       let did : Did [] was new = record {
-        goes = sees-on was.shape was new same.1 passes seat.own;
+        goes = sees-on was.shape was new same.1 passes.acted seat.own;
         same = same;
-        mine = passes.mine;
+        mine = passes.acted.mine;
         held = λ key. ap (λ (z : Shape). references_seen z new.book key) same.1 ∙ passes-refs passes seat.own key;
         list = free ∙ ap (λ (own : List Place). record was.free { own = own }) (sym (append-nil was.free.own));
         pages = pages;

@@ -14,37 +14,30 @@ use Rattle.seqpool.proofs.Misses.{clear-law, miss-law, later-law, at-later}
 use Rattle.seqpool.proofs.Positions.{at-below}
 use Rattle.seqpool.proofs.Growth.{acts-append, legal-at}
 use Rattle.poolsteps.specs.Views.{the_lane}
+use Rattle.poolcalls.specs.Acted.{Acted}
+use Rattle.poolcalls.proofs.Going.{all-acts}
 use Rattle.shardpool.specs.Tokens.{LaneOf}
 use Rattle.shardpool.specs.Lanes.{SeesOn, Did}
 use Rattle.shardpool.specs.Seen.{StandsSince, PublishedSince, FoundSince, MissedSince, ClearedSince}
-use Rattle.shardpool.proofs.frame.Frames.{Passes}
 
 -- ---- what a lane sees goes on
 
-pub sees-on-by : {made : List Act} (old new : LaneOf) → IsPrefix old.book.seen new.book.seen
-    → ((more : List ℕ) × (new.book.rooms ≡ old.book.rooms ++ more) × (length new.book.seen ≡ length old.book.seen + length more)) → IsLegal new.shape new.book.seen
-    → (the_lane new.book).lane ≡ (the_lane old.book).lane → (the_lane new.book).mine ≡ (the_lane old.book).mine ++ made
-    → (the_lane old.book).mine ≡ acts_of (the_lane old.book).lane old.book.seen → (the_lane new.book).mine ≡ acts_of (the_lane new.book).lane new.book.seen
-    → SeesOn made old new
-sees-on-by {made = made} old new seen rooms legal same mine own own_now =
-    let lane : ℕ = (the_lane old.book).lane in
-    let after : acts_of lane new.book.seen ≡ acts_of lane old.book.seen ++ made
-    = ap (λ (l : ℕ). acts_of l new.book.seen) (sym same) ∙ (sym own_now ∙ (mine ∙ ap (λ (xs : List Act). xs ++ made) own)) in
-    let long : length new.book.seen ≡ length old.book.seen + length seen.0 = sym (ap (λ (xs : List Act). length xs) seen.1) ∙ length-append old.book.seen seen.0 in
-    let grown = rooms.2 in record {
-      more = seen.0;
-      seen = sym seen.1;
-      own = append_cancel_left (acts_of lane old.book.seen) (acts_of lane seen.0) made (sym (acts-append lane old.book.seen seen.0) ∙ (ap (acts_of lane) seen.1 ∙ after));
-      kept = rooms.0;
-      rooms = rooms.1;
-      paired = omega (arith, long, grown);
-      legal = legal;
-    }
-
-pub sees-on : {at : ℕ → Bool} {made : List Act} (z : Shape) (old new : LaneOf) → new.shape ≡ z → Passes z at made old.book new.book
+pub sees-on : {made : List Act} (z : Shape) (old new : LaneOf) → new.shape ≡ z → Acted z made old.book new.book
     → (the_lane old.book).mine ≡ acts_of (the_lane old.book).lane old.book.seen → SeesOn made old new
-sees-on z old new shape passes own =
-    sees-on-by old new passes.seen passes.rooms (subst (λ (y : Shape). IsLegal y new.book.seen) (sym shape) passes.legal) passes.lane passes.mine own passes.own
+sees-on {made = made} z old new shape acted own =
+    let lane : ℕ = (the_lane old.book).lane in
+    let more : List Act = acted.seen.0 in
+    let long : length new.book.seen ≡ length old.book.seen + length more = sym (ap (λ (xs : List Act). length xs) acted.seen.1) ∙ length-append old.book.seen more in
+    let grown = acted.rooms.2 in record {
+      more = more;
+      seen = sym acted.seen.1;
+      own = append_cancel_left (acts_of lane old.book.seen) (acts_of lane more) made
+          (sym (acts-append lane old.book.seen more) ∙ (ap (acts_of lane) acted.seen.1 ∙ all-acts acted own));
+      kept = acted.rooms.0;
+      rooms = acted.rooms.1;
+      paired = omega (arith, long, grown);
+      legal = subst (λ (y : Shape). IsLegal y new.book.seen) (sym shape) acted.legal;
+    }
 
 -- so it has seen what it had seen
 pub seen-of : {made : List Act} {old new : LaneOf} → SeesOn made old new → IsPrefix old.book.seen new.book.seen
@@ -75,10 +68,9 @@ module _ (old new : LaneOf) {rest : List Act} where
       let behind = at-behind old.book.seen goes.more there.0 act there.1 in
       record { position = behind.0; behind = behind.1; at = subst (λ (xs : List Act). At xs behind.0 act) (sym goes.seen) behind.2 }
 
-  pub published-since : (number key : ℕ) (content : List ℕ) (with_ref : Bool) → Did (acts.Publish number key content with_ref ∷ rest) old new → PublishedSince key content old new
-  published-since number key content with_ref did =
-      let stands = stands-since (acts.Publish number key content with_ref) did.goes in
-      record { position = stands.position; behind = stands.behind; published = (number, with_ref, stands.at) }
+  pub published-since : (key : ℕ) (content : List ℕ) (with_ref : Bool) → Did (acts.Publish old.number key content with_ref ∷ rest) old new → PublishedSince key content with_ref old new
+  published-since key content with_ref did =
+      let stands = stands-since (acts.Publish old.number key content with_ref) did.goes in record { publish = stands; published = (old.number, with_ref, stands.at) }
 
   pub found-since : (key : ℕ) (content : List ℕ) → Did (acts.Get old.number key (Some content) ∷ rest) old new → FoundSince key old new
   found-since key content did =
@@ -109,22 +101,30 @@ module _ (old new : LaneOf) {rest : List Act} where
         cleared = λ j content published before. miss-law new.shape new.book.seen did.goes.legal stands.position j key content (number, inr stands.at) published before;
       }
 
-  pub cleared-since : (number key : ℕ) (reply : Bool) → reply ≡ true → Did (acts.Clear number key reply ∷ rest) old new → ClearedSince key old new
-  cleared-since number key reply is did =
-      let stands = stands-since (acts.Clear number key true) (subst (λ (b : Bool). SeesOn (acts.Clear number key b ∷ rest) old new) is did.goes) in
-      let present = (clear-law new.shape new.book.seen did.goes.legal stands.position number key true stands.at).0 refl in
-      record { position = stands.position; behind = stands.behind; cleared = (number, stands.at); content = present.0; present = present.1 }
+  pub cleared-since : (key : ℕ) (reply : Bool) → reply ≡ true → Did (acts.Clear old.number key reply ∷ rest) old new → ClearedSince key old new
+  cleared-since key reply is did =
+      let stands = stands-since (acts.Clear old.number key true) (subst (λ (b : Bool). SeesOn (acts.Clear old.number key b ∷ rest) old new) is did.goes) in
+      let present = (clear-law new.shape new.book.seen did.goes.legal stands.position old.number key true stands.at).0 refl in
+      record { clear = stands; cleared = (old.number, stands.at); content = present.0; present = present.1 }
 
 -- ---- what was seen before, and what is seen later
 
 prefix-length : (xs ys : List Act) → IsPrefix xs ys → length xs ≤ length ys
 prefix-length xs ys (rest, is) = let all = length-append xs rest in let same = ap (λ (zs : List Act). length zs) is in omega (arith, all, same)
 
-pub published-earlier : {key : ℕ} {content : List ℕ} {old between new : LaneOf} → IsPrefix old.book.seen between.book.seen
-    → PublishedSince key content between new → PublishedSince key content old new
-published-earlier {old = old} {between = between} seen since =
+pub published-earlier : {key : ℕ} {content : List ℕ} {with_ref : Bool} {old between new : LaneOf} → between.number ≡ old.number → IsPrefix old.book.seen between.book.seen
+    → PublishedSince key content with_ref between new → PublishedSince key content with_ref old new
+published-earlier {key = key} {content = content} {with_ref = with_ref} {old = old} {between = between} {new = new} same seen since =
     let less = prefix-length old.book.seen between.book.seen seen in
-    let behind = since.behind in record { position = since.position; behind = omega (arith, less, behind); published = since.published }
+    let publish = since.publish in
+    let behind = publish.behind in record {
+      publish = record {
+        position = publish.position;
+        behind = omega (arith, less, behind);
+        at = subst (λ (n : ℕ). At new.book.seen publish.position (acts.Publish n key content with_ref)) same publish.at;
+      };
+      published = since.published;
+    }
 
 -- what is published stays published
 pub published-later : (beginning history : List Act) (i key : ℕ) (content : List ℕ) → IsPrefix beginning history → PublishedAt beginning i key content → PublishedAt history i key content

@@ -68,7 +68,7 @@ module _ {T : Type 0} {content : T → List ℕ} {room : T → ℕ} {z : Shape} 
       -- a place that was with the lane is none of those that it collects
       pub uncollected : (p : ℕ) → (pool_after z v.seen p).phase ≡ with (the_lane v).lane → Spared (has places) (acts.Collect lane places ∷ []) p
       uncollected p is = (
-        All-head (λ act. brings act p ≡ false) (acts.Collect lane places) [] (none-brings passes paired own p is (collect-keeps p)),
+        All-head (λ act. brings act p ≡ false) (acts.Collect lane places) [] (none-brings passes.acted paired own p is (collect-keeps p)),
         collect-keeps p,
       )
 
@@ -102,7 +102,7 @@ module _ {T : Type 0} {content : T → List ℕ} {room : T → ℕ} {z : Shape} 
           (λ p in_chain.
           let in_it : has places p ≡ true = sym (ap (λ ps. has ps p) chain) ∙ in_chain in
           let resting = rests p in_it in
-          (resting, collected-opened p in_it resting.inside (resting.own ∙ passes.lane)))
+          (resting, collected-opened p in_it resting.inside (resting.own ∙ passes.acted.lane)))
           (subst (λ (ps : List ℕ). NoRepeats ps) (sym chain) once)
           (subst (λ (ps : List ℕ). IsFirst (Some first) ps) (sym chain) begins)
 
@@ -180,9 +180,9 @@ module _ {T : Type 0} {content : T → List ℕ} {room : T → ℕ} {z : Shape} 
       pub followed-blank : AreEmptied z (the_lane w) place → IsBlank z w place (known_of (the_lane v) place).room
       followed-blank emptied =
           let rests = first-rests.0 in
-          let same = (spot-passes passes paired own place rests.with_lane (no-acts place)).1 in
+          let same = (spot-passes passes.acted paired own place rests.with_lane (no-acts place)).1 in
           let roomy = rests.room in record {
-            with_lane = still-with passes paired own place rests.with_lane (no-acts place);
+            with_lane = still-with passes.acted paired own place rests.with_lane (no-acts place);
             emptied = emptied;
             room = omega (arith, same, roomy);
           }

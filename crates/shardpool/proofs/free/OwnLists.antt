@@ -1,8 +1,7 @@
 -- What a lane is once the first place of its list is taken off it, or its next page is opened.
-use Rattle.std.proofs.Common.{◌≡◌, ℕ, ◌+◌, ◌<◌, ◌≤◌, true, false, zero, suc, List, [], ◌∷◌, Option, Some, None, refl, ap, sym, ◌∙◌, subst, arith, ⊎_elim}
+use Rattle.std.proofs.Common.{◌≡◌, ℕ, ◌+◌, ◌<◌, ◌≤◌, false, zero, suc, List, [], ◌∷◌, Option, Some, None, refl, ap, sym, ◌∙◌, subst, arith}
 use Rattle.std.specs.Prelude.{slice_get, slice_set}
 use Rattle.std.specs.List.{All, Contains}
-use Rattle.std.proofs.lemmas.Bool.{cases_Bool}
 use Rattle.std.proofs.lemmas.List.Elements.{All-nil, All-cons, All-contains, Contains-append_right}
 use Rattle.atomic_table.specs.Seated.{TableId}
 use Rattle.keybits.specs.declared.place.Place.{Place}
@@ -26,7 +25,7 @@ use Rattle.shardpool.specs.Stores.{TakesOwn}
 use Rattle.shardpool.specs.Creates.{page_slots, IsLoose, Pops}
 use Rattle.shardpool.specs.Openings.{OpensNext}
 use Rattle.shardpool.proofs.free.Stores.{own-inside, stores-popped, first-listed, first-in}
-use Rattle.shardpool.proofs.free.Chains.{rest-unlisted}
+use Rattle.shardpool.proofs.free.Known.{listed-unchained}
 use Rattle.shardpool.proofs.frame.LaneFacts.{lane_of}
 
 -- a filling stays one where its place goes neither to the list nor to an unopened page
@@ -96,13 +95,7 @@ module _ {T : Type 0} {content : T → List ℕ} {room : T → ℕ} {v : View} {
       popped-lane = ap (λ (x : LaneState T). lane_of table v x) takes.rest ∙ ap (λ (f : FreePlaces). record (lane_of table v s) { free = f }) takes.own
 
       popped-chain : has (the_lane v).chain (number_of first) ≡ false
-      popped-chain = ⊎_elim
-          (λ (in_it : has (the_lane v).chain (number_of first) ≡ true).
-          let below = let number = fits.seat.number_is in let low = fits.seat.below in subst (λ (n : ℕ). n < s.shape.lanes) number low in
-          absurd (rest-unlisted fits.stores below (number_of first) (fits.stores.chained (number_of first) in_it).0 first
-          (first-in first t.free.own s.free.own takes.list) refl))
-          (λ (isnt : has (the_lane v).chain (number_of first) ≡ false). isnt)
-          (cases_Bool (has (the_lane v).chain (number_of first)))
+      popped-chain = listed-unchained table fits first (first-in first t.free.own s.free.own takes.list)
 
       -- the place is in nobody's hands
       pub popped-loose : IsLoose content room (lane_of table v t) (number_of first) object

@@ -130,8 +130,8 @@ module _ {T : Type 0} {content : T → List ℕ} {room : T → ℕ} {z : Shape} 
         → ((p : ℕ) → has (the_lane w).chain p ≡ true → IsResting z w p × (page_of p < pages.opened)) → NoRepeats (the_lane w).chain → IsFirst next (the_lane w).chain
         → FitsStores content room z w (record free { chain = next }) pages objects
     stores-onto listed unopened chained unrepeated first = record {
-      lists = (fits.lists.0 ∙ sym passes.lane, fits.lists.1);
-      paged = (fits.paged.0 ∙ sym passes.lane, fits.paged.1);
+      lists = (fits.lists.0 ∙ sym passes.acted.lane, fits.lists.1);
+      paged = (fits.paged.0 ∙ sym passes.acted.lane, fits.paged.1);
       narrow = fits.narrow;
       listed = λ place within.
           let was = fits.listed place within in
@@ -144,7 +144,7 @@ module _ {T : Type 0} {content : T → List ℕ} {room : T → ℕ} {z : Shape} 
             blank = blank-passes passes paired own was.blank spared.0 spared.1;
           };
       unopened = λ p inside mine high.
-          let here = mine ∙ passes.lane in
+          let here = mine ∙ passes.acted.lane in
           let spared = unopened p inside here high in
           blank-passes passes paired own (fits.unopened p inside here high) spared.0 spared.1;
       chained = chained;

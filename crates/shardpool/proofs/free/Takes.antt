@@ -123,18 +123,7 @@ collects-here {opened = opened} {found = found} {a = a} {b = b} seen owned of_po
 went-passes : {z : Shape} {at : ℕ → Bool} {made : List Act} {v w : View} → Went z made v w
     → ((p number : ℕ) → at p ≡ false → status_of (the_lane w) p number ≡ status_of (the_lane v) p number)
     → ((p : ℕ) → at p ≡ false → known_of (the_lane w) p ≡ known_of (the_lane v) p) → Passes z at made v w
-went-passes went deeds cells = record {
-  one = went.one;
-  lane = went.lane;
-  mine = went.mine;
-  seen = went.seen;
-  rooms = went.rooms;
-  legal = went.legal;
-  quiet = went.quiet;
-  own = went.own;
-  deeds = deeds;
-  cells = cells;
-}
+went-passes went deeds cells = record { acted = went.acted; deeds = deeds; cells = cells }
 
 -- ---- the chain's first place is followed
 
@@ -215,7 +204,7 @@ module _ {T : Type 0} {content : T → List ℕ} {room : T → ℕ} {v : View} {
                     inside = rested.0.inside;
                     own = rested.0.own ∙ sym fits.seat.number_is;
                     opened = rested.1;
-                    with_lane = blank.with_lane ∙ ap with (follows.went.lane ∙ sym fits.seat.number_is);
+                    with_lane = blank.with_lane ∙ ap with (follows.went.acted.lane ∙ sym fits.seat.number_is);
                     unlisted = λ one within is. rest-unlisted fits.stores lane-below place rested.0 one (subst (λ (f : FreePlaces). Contains f.own one) rest within) is;
                     unchained = ap (λ (ps : List ℕ). has ps place) follows.chain ∙ once.0;
                   };
@@ -288,7 +277,7 @@ module _ {T : Type 0} {content : T → List ℕ} {room : T → ℕ} {v w : View}
   -- they are of the lane's shard
   took-alone : NoneAbroad s.shape s.number (acts.Collect (the_lane v).lane t.places ∷ [])
   took-alone = abroad-one s.shape s.number (acts.Collect (the_lane v).lane t.places) (λ p within other. ⊎_elim
-      (λ (in_it : has t.places p ≡ true). absurd (other ((t.collected p in_it).1 ∙ (t.went.lane ∙ sym fits.seat.number_is))))
+      (λ (in_it : has t.places p ≡ true). absurd (other ((t.collected p in_it).1 ∙ (t.went.acted.lane ∙ sym fits.seat.number_is))))
       (λ (isnt : has t.places p ≡ false). isnt)
       (cases_Bool (has t.places p)))
 
@@ -298,7 +287,7 @@ module _ {T : Type 0} {content : T → List ℕ} {room : T → ℕ} {v w : View}
       let p : ℕ = linked_place (the_lane v).lane found in
       let one = t.collected p took-first.1 in
       subst (λ (l : ℕ). IsAway s.free (place_numbered (linked_place l found))) (sym fits.seat.number_is)
-      (collected-away fits.stores fits.seat.paired fits.seat.own took-passes none p took-first.1 one.0 (one.1 ∙ t.went.lane))
+      (collected-away fits.stores fits.seat.paired fits.seat.own took-passes none p took-first.1 one.0 (one.1 ∙ t.went.acted.lane))
 
   module _ {u : LaneState T} (hangs : Hangs found s u) where
     -- what is then kept fits

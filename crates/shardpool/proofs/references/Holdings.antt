@@ -85,7 +85,7 @@ still-clear z c key (step ∷ more) made make =
 pub clear-holds : {z : Shape} {key : ℕ} {reply : Bool} {old new : LaneOf} {rest : List Act} → Calls z (Clearing key) old.book new.book
     → Did (acts.Clear old.number key reply ∷ rest) old new → (k : ℕ) → holds new k ≡ holds old k
 clear-holds {z = z} {key = key} {reply = reply} {old = old} {new = new} {rest = rest} called did k =
-    let made : called.made ≡ acts.Clear old.number key reply ∷ rest = append_cancel_left (the_lane old.book).mine _ _ (sym called.did.mine ∙ did.mine) in
+    let made : called.made ≡ acts.Clear old.number key reply ∷ rest = append_cancel_left (the_lane old.book).mine _ _ (sym called.did.acted.mine ∙ did.mine) in
     did.held k ∙ still-is _ _ (sym made) (still-clear z (caller_of z old.book) key called.steps called.made called.make) k (holds old k)
 
 -- ---- what follows the LEAVE of an END
@@ -166,7 +166,7 @@ still-released z c key (leave ∷ more) made rest first are make is =
 pub release-holds : {z : Shape} {key : ℕ} {old new : LaneOf} {rest : List Act} → Calls z (Releasing key) old.book new.book → Did (acts.Release old.number key ∷ rest) old new
     → (k : ℕ) → holds new k ≡ cond (eqb key k) (holds old k - 1) (holds old k)
 release-holds {z = z} {key = key} {old = old} {new = new} {rest = rest} called did k =
-    let made : called.made ≡ acts.Release old.number key ∷ rest = append_cancel_left (the_lane old.book).mine _ _ (sym called.did.mine ∙ did.mine) in
+    let made : called.made ≡ acts.Release old.number key ∷ rest = append_cancel_left (the_lane old.book).mine _ _ (sym called.did.acted.mine ∙ did.mine) in
     did.held k ∙ still-released z (caller_of z old.book) key called.steps called.made rest (acts.Release old.number key) called.are called.make made k _
 
 -- ---- a get that misses
@@ -194,7 +194,7 @@ still-got z c key (enter ∷ more) made rest first are make is =
 pub get-holds : {z : Shape} {key : ℕ} {old new : LaneOf} {rest : List Act} → Calls z (Getting key) old.book new.book → Did (acts.Get old.number key None ∷ rest) old new
     → (k : ℕ) → holds new k ≡ holds old k
 get-holds {z = z} {key = key} {old = old} {new = new} {rest = rest} called did k =
-    let made : called.made ≡ acts.Get old.number key None ∷ rest = append_cancel_left (the_lane old.book).mine _ _ (sym called.did.mine ∙ did.mine) in
+    let made : called.made ≡ acts.Get old.number key None ∷ rest = append_cancel_left (the_lane old.book).mine _ _ (sym called.did.acted.mine ∙ did.mine) in
     did.held k ∙ still-got z (caller_of z old.book) key called.steps called.made rest (acts.Get old.number key None) called.are called.make made k (holds old k)
 
 -- a get that gave a reference was of a key of the pool

@@ -125,12 +125,12 @@ module _ {T : Type 0} {content : T → List ℕ} {room : T → ℕ} {z : Shape} 
   module _ {at : ℕ → Bool} {made : List Act} {v w : View} (passes : Passes z at made v w) (own : (the_lane v).mine ≡ acts_of (the_lane v).lane v.seen) where
     pub held-passes : {place generation : ℕ} {s : Share T} → IsHeld content room z v place generation s → at place ≡ false → IsHeld content room z w place generation s
     held-passes {place = place} {s = s} held off = record {
-      number_is = held.number_is ∙ sym passes.lane;
+      number_is = held.number_is ∙ sym passes.acted.lane;
       of_is = held.of_is;
-      emptied = ap (λ (l : ℕ). status_of (the_lane w) place l) passes.lane ∙ (passes.deeds place (the_lane v).lane off ∙ held.emptied);
+      emptied = ap (λ (l : ℕ). status_of (the_lane w) place l) passes.acted.lane ∙ (passes.deeds place (the_lane v).lane off ∙ held.emptied);
       known = passes.cells place off ∙ held.known;
       shows = λ key inside here g. let j = held.shows key inside here g in
-          (j.0, published-passes v.seen w.seen j.0 key (content s.object) passes.seen j.1);
+          (j.0, published-passes v.seen w.seen j.0 key (content s.object) passes.acted.seen j.1);
     }
 
     -- a row at whose place no slot was touched, and of whose keys no reference came or went
@@ -150,7 +150,7 @@ module _ {T : Type 0} {content : T → List ℕ} {room : T → ℕ} {z : Shape} 
     rows-pass {refs = refs} fits still same = record {
       wide = fits.wide;
       total = fits.total;
-      by_acts = sym same ∙ by-acts (the_lane v).mine made (the_lane w).mine refs passes.mine fits.by_acts;
+      by_acts = sym same ∙ by-acts (the_lane v).mine made (the_lane w).mine refs passes.acted.mine fits.by_acts;
       each = λ place row inside is.
           let was = fits.each place row inside is in
           let kept = still place row inside is was in row-passes was kept.0 kept.1;
@@ -170,7 +170,7 @@ module _ {T : Type 0} {content : T → List ℕ} {room : T → ℕ} {z : Shape} 
               let set_so = sum_by-set count rows i row row low in
               let was = ap count (get_or_from_slice_get rows i old row stood) in
               let total = fits.total in omega (arith, set_so, was, total, sum);
-          by_acts = is ∙ by-acts (the_lane v).mine made (the_lane w).mine refs passes.mine fits.by_acts;
+          by_acts = is ∙ by-acts (the_lane v).mine made (the_lane w).mine refs passes.acted.mine fits.by_acts;
           each = λ p r inside_p stands. dite (ℕ_discrete p place)
               (λ (here : p ≡ place).
               let so : Some row ≡ Some r = sym (stands-here rows i row low) ∙ (ap (λ (q : ℕ). slice_get (slice_set rows i row) (position_of z q)) (sym here) ∙ stands) in

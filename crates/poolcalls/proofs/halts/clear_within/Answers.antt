@@ -8,8 +8,7 @@ use Rattle.poolcalls.proofs.Halting.{called-undoes}
 use Rattle.poolcalls.proofs.halts.clear_within.Goals as goal
 
 pub returns-then-limit-eq0-clause-called : goal.returns-then-limit-eq0-clause-called
-returns-then-limit-eq0-clause-called g c = subst (λ (n : ℕ). CalledWithin c.args.grid.now.shape (Clearing c.args.key) n c.args.hand.now.me c.args.hand.now.me)
-    (sym c.if-limit-eq0.true) (called-not (Clearing c.args.key) c.requires.hand.1 c.requires.seen)
+returns-then-limit-eq0-clause-called g c = called-not (Clearing c.args.key) c.args.limit c.if-limit-eq0.true c.requires.hand.1 c.requires.seen
 
 pub returns-then-not-is_hit-clause-called : goal.returns-then-not-is_hit-clause-called
 returns-then-not-is_hit-clause-called g c =

@@ -1,15 +1,13 @@
-use Rattle.std.proofs.Common.{◌∷◌, [], sym, ◌∙◌, false, refl, arith, subst, ℕ}
+use Rattle.std.proofs.Common.{◌∷◌, [], sym, ◌∙◌, false, refl, arith}
 use Rattle.steplaws.specs.Calls.Call.{Getting}
 use Rattle.poolcalls.specs.Called.{caller_of}
 use Rattle.poolcalls.proofs.Calling.{enter-step, life-under, get-entered, get-ends, get-missed, get-follows}
-use Rattle.poolcalls.specs.Halted.{CalledWithin}
 use Rattle.poolcalls.proofs.Within.{called-not, called-whole}
 use Rattle.poolcalls.proofs.Halting.{called-undoes}
 use Rattle.poolcalls.proofs.halts.get_within.Goals as goal
 
 pub returns-then-limit-eq0-clause-called : goal.returns-then-limit-eq0-clause-called
-returns-then-limit-eq0-clause-called g c = subst (λ (n : ℕ). CalledWithin c.args.grid.now.shape (Getting c.args.key) n c.args.hand.now.me c.args.hand.now.me)
-    (sym c.if-limit-eq0.true) (called-not (Getting c.args.key) c.requires.hand.1 c.requires.seen)
+returns-then-limit-eq0-clause-called g c = called-not (Getting c.args.key) c.args.limit c.if-limit-eq0.true c.requires.hand.1 c.requires.seen
 
 pub returns-then-not-is_hit-clause-called : goal.returns-then-not-is_hit-clause-called
 returns-then-not-is_hit-clause-called g c =

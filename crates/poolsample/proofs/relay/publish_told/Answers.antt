@@ -9,4 +9,4 @@ invariant_of-result g c =
     let created = c.in_ok-key.ensures.creates in
     let since = created.published in
     let note = c.tell-note.ensures.note in
-    (note.0 ∙ c.requires.table, (since.position, created.object.bytes, subst (λ (seen : List Act). PublishedAt seen since.position c.in_ok-key.key created.object.bytes) (sym note.1) since.published))
+    (note.0 ∙ c.requires.table, (since.publish.position, created.object.bytes, subst (λ (seen : List Act). PublishedAt seen since.publish.position c.in_ok-key.key created.object.bytes) (sym note.1) since.published))

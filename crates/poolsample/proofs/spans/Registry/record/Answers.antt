@@ -7,7 +7,7 @@ pub returns : goal.returns
 returns c =
     let since = c.publish.ensures.published in
     let seen = c.publish.new.lane.book.seen in (
-      since.position,
-      subst (λ (k : ℕ). PublishedAt seen since.position k (span_numbers c.args.id c.args.parent c.args.events.now)) (sym c.publish.ensures.key)
-          (subst (λ (content : List ℕ). PublishedAt seen since.position c.in_ok-filling.filling.key content) c.in_default.ensures.ok since.published),
+      since.publish.position,
+      subst (λ (k : ℕ). PublishedAt seen since.publish.position k (span_numbers c.args.id c.args.parent c.args.events.now)) (sym c.publish.ensures.key)
+          (subst (λ (content : List ℕ). PublishedAt seen since.publish.position c.in_ok-filling.filling.key content) c.in_default.ensures.ok since.published),
     )

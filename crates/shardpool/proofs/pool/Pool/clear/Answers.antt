@@ -62,7 +62,7 @@ returns-clause-same g c = (returns-clause-clears g c (c.in-Some.ensures.some.0 r
 -- ---- where its act stands
 
 pub returns-clause-cleared : goal.returns-clause-cleared
-returns-clause-cleared g c marked = cleared-since _ _ _ _ _ marked (returns-clause-clears g c (c.in-Some.ensures.some.0 refl)).1
+returns-clause-cleared g c marked = cleared-since _ _ _ _ marked (returns-clause-clears g c (c.in-Some.ensures.some.0 refl)).1
 
 pub returns-clause-missed : goal.returns-clause-missed
 returns-clause-missed g c unmarked = unmarked-since _ _ _ _ _ unmarked (returns-clause-clears g c (c.in-Some.ensures.some.0 refl)).1

@@ -105,7 +105,7 @@ returns-clause-one_more g c = publish-holds c.requires.made.place (returns-claus
 -- ---- where its act stands
 
 pub returns-clause-published : goal.returns-clause-published
-returns-clause-published g c = published-since _ _ _ _ _ _ (returns-clause-publishes g c)
+returns-clause-published g c = published-since _ _ _ _ _ (returns-clause-publishes g c)
 
 pub returns-clause-seen : goal.returns-clause-seen
 returns-clause-seen g c = seen-of (returns-clause-publishes g c).goes

@@ -4,9 +4,14 @@ use Rattle.keybits.specs.declared.shape.Shape.{Shape}
 use Rattle.steplaws.specs.Calls.Call.{Releasing}
 use Rattle.poolsteps.specs.Grids.{IsSpot}
 use Rattle.poolcalls.specs.Halted.{CalledWithin}
+use Rattle.poolcalls.proofs.Within.{called-not}
 use Rattle.shardpool.proofs.calls.Releases.{lent-some, lent-share, lent-at}
 use Rattle.shardpool.proofs.calls.Halts.{halts-behind, refers-parts}
 use Rattle.shardpool.proofs.pool.Pool.halt_release.Goals as goal
+
+pub returns-then-limit-eq0-clause-called : goal.returns-then-limit-eq0-clause-called
+returns-then-limit-eq0-clause-called g c =
+    let seat = c.requires.parts.fits.seat in called-not (Releasing c.args.key) c.args.limit c.if-limit-eq0.true seat.one (seat.legal, seat.own, seat.quiet)
 
 pub return_last_share-requires-clause-fits : goal.return_last_share-requires-clause-fits
 return_last_share-requires-clause-fits g c = (refers-parts c.self.view_is c.requires.parts c.requires.held).fits

@@ -69,7 +69,7 @@ returns-clause-held g c = publish-alone c.requires.made.place (returns-clause-pu
 -- ---- where its act stands
 
 pub returns-clause-published : goal.returns-clause-published
-returns-clause-published g c = published-since _ _ _ _ _ _ (returns-clause-publishes g c)
+returns-clause-published g c = published-since _ _ _ _ _ (returns-clause-publishes g c)
 
 pub returns-clause-seen : goal.returns-clause-seen
 returns-clause-seen g c = seen-of (returns-clause-publishes g c).goes
