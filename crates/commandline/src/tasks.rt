@@ -23,6 +23,24 @@ pub enum Task {
     },
 }
 
+impl Task {
+    ghost use Rattle.std.specs.Prelude.{◌≡◌};
+    ghost use Rattle.commandline.specs.Readings.{text_of};
+    ghost use Rattle.commandline.specs.Tasks.{path_of};
+
+    /// The path of the file that the task is about, where there is one.
+    pub fn path(&self) -> Option<&str>
+        ensures { text_of result ≡ path_of self.now }
+    {
+        match self {
+            Task::Replay { file, .. } | Task::Check { file } | Task::Run { file } => {
+                Some(file.as_str())
+            }
+            Task::Key { .. } => None,
+        }
+    }
+}
+
 /// The turns of a replay.
 #[derive(Drop, Debug)]
 pub enum Turns {

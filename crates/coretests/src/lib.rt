@@ -35,6 +35,8 @@ mod test_runs;
 #[cfg(test)]
 mod test_schedules;
 #[cfg(test)]
+mod test_tasks;
+#[cfg(test)]
 mod test_texts;
 #[cfg(test)]
 mod test_trace_texts;

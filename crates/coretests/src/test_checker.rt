@@ -128,7 +128,11 @@ fn is_checked<R: Abort>(
     assert!(rt; shape.check().is_ok());
     let acts = acts_of(rt, alloc, rows);
     same(rt, &check(alloc, shape, acts.as_slice()), &want);
-    same(rt, &first_refused(rt, alloc, shape, acts.as_slice()), &refused);
+    same(
+        rt,
+        &first_refused(rt, alloc, shape, acts.as_slice()),
+        &refused,
+    );
 }
 
 /// The rows are legal, with these counts.

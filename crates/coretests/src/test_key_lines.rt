@@ -1,6 +1,6 @@
-use crate::test_texts::same_at;
 use crate::fake_writers::{Clogged, Deaf, Halting};
 use crate::test_programs::{says_output, wrote};
+use crate::test_texts::same_at;
 use poolprogram::{Watched, key_text};
 use std::alloc::AllocGlobal;
 use std::io::Write;

@@ -23,7 +23,10 @@ pub(crate) fn is_fault<R: Abort>(rt: &R, fault: Fault, number: u32, name: &'stat
 
 /// A text is this.
 pub(crate) fn reads_at<R: Abort>(rt: &R, text: &[u8], wanted: &str, at: &str) {
-    assert!(rt; is_text(text, wanted), "{text:?} in place of {wanted} at {at}");
+    assert!(rt;
+        is_text(text, wanted),
+        "{text:?} in place of {wanted} at {at}"
+    );
 }
 
 /// What was written to a writer, which didn't fail.

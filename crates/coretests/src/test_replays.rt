@@ -1,7 +1,10 @@
 use crate::fake_writers::{Deaf, Halting};
-use crate::test_programs::{around, fault_of, is_fault, replays_as, says_output, schedule_of, wrote};
+use crate::test_programs::{
+    around, fault_of, is_fault, replays_as, says_output, schedule_of, wrote,
+};
 use crate::test_texts::same;
-use poolprogram::{Watched, draw_turns, load, replay_plan, replay_text};
+use commandline::Turns;
+use poolprogram::{Watched, load, plan_turns, replay_plan, replay_text};
 use std::alloc::AllocGlobal;
 use std::io::Write;
 use std::process::Abort;
@@ -88,7 +91,8 @@ fn writes_acts(rt: HostRuntime) {
 
 /// So many turns that are drawn for a file, over which it has this trace.
 fn draws<R: Abort + AllocGlobal>(rt: &R, file: &str, turns: u32, trace: &str) -> Vec<u32> {
-    let (plan, schedule) = draw_turns(rt.alloc(), file.as_bytes(), 1, turns).expect(rt, "turns");
+    let drawn = Turns::Drawn { seed: 1, turns };
+    let (plan, schedule) = plan_turns(rt.alloc(), file.as_bytes(), drawn, None).expect(rt, "turns");
     same(rt, &schedule.len(), &(turns as usize));
     let mut out = Watched::new(Vec::new(rt.alloc()));
     replay_plan(rt.alloc(), plan, schedule.as_slice(), false, &mut out).expect(rt, "a replay");
@@ -100,7 +104,7 @@ fn draws<R: Abort + AllocGlobal>(rt: &R, file: &str, turns: u32, trace: &str) ->
 fn draws_for_a_file(rt: HostRuntime) {
     let schedule = draws(&rt, ROW, 5, TRACE);
     same(&rt, &schedule.as_slice(), &[0, 0, 0, 0, 0].as_slice());
-    let answer = draw_turns(rt.alloc(), b"[]", 1, 5);
+    let answer = plan_turns(rt.alloc(), b"[]", Turns::Listed(schedule), None);
     is_fault(&rt, fault_of(&answer), 32, "Field", "[]");
 }
 

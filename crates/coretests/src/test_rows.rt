@@ -1,5 +1,5 @@
-use crate::test_texts::same;
 use crate::test_programs::{check_of, is_fault, reads_at, replay_fault_of, replay_of, replays_as};
+use crate::test_texts::same;
 use poolprogram::stop_after;
 use std::alloc::AllocGlobal;
 use std::process::Abort;
@@ -214,7 +214,11 @@ fn acts_with_stopped_lanes_are_legal(rt: HostRuntime) {
 fn stops_a_lane_after_a_turn(rt: HostRuntime) {
     let whole = [0, 0, 1, 0, 0, 0, 0, 0, 0, 1, 1, 1, 1, 1, 1];
     let rest = stopped(&rt, &whole, 1, 1);
-    same(&rt, &rest.as_slice(), &[0, 0, 1, 0, 0, 0, 0, 0, 0].as_slice());
+    same(
+        &rt,
+        &rest.as_slice(),
+        &[0, 0, 1, 0, 0, 0, 0, 0, 0].as_slice(),
+    );
 }
 
 // Scripts, schedules and what is said of their acts.

@@ -1,1 +1,2 @@
 mod Guarding
+mod Slots

@@ -1,2 +1,3 @@
 pub mod Guarded
 pub mod Fills
+pub mod Here

@@ -3,8 +3,10 @@
 
 mod closures;
 mod filling;
+mod lanes;
 mod reading;
 
 pub use closures::{create_with, with};
 pub use filling::FillGuard;
+pub use lanes::{Lanes, Missing, Opened, open_lanes};
 pub use reading::ReadGuard;

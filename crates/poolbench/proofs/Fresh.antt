@@ -1,13 +1,11 @@
--- Lanes without a reference: those of a pool that was opened, and after a create.
-use Rattle.std.proofs.Common.{◌≡◌, inl, inr, ℕ, suc, List, ◌∷◌, slice_get, Some, refl, ap, ◌∙◌}
-use Rattle.seqpool.specs.declared.act.Act.{Act}
+-- The lanes of a pool that was just opened: none has a reference, and they are all lanes.
+use Rattle.std.proofs.Common.{◌≡◌, ℕ, zero, suc, ◌+◌, ◌<◌, List, [], ◌∷◌, ◌++◌, length, slice_get, Some, refl, sym, ap, ◌∙◌, subst, arith}
 use Rattle.poolsteps.specs.Views.{the_lane}
-use Rattle.shardpool.specs.Tokens.{PoolOf, LaneOf, FillingOf}
+use Rattle.shardpool.specs.Tokens.{PoolOf, LaneOf}
 use Rattle.shardpool.specs.Places.{held_after}
-use Rattle.shardpool.specs.Lanes.{Owns, refs}
+use Rattle.shardpool.specs.Lanes.{Owns, SameLane, refs}
+use Rattle.shardpool.specs.Closings.{AreLanes}
 use Rattle.shardpool.specs.Opened.{AreFirstLanes}
-use Rattle.shardpool.specs.Creates.{HandsOut, Gives}
-use Rattle.shardpool.proofs.references.Rows.{held-append}
 
 -- each is a lane of the pool and has no reference
 abbrev pub AreFresh : PoolOf → List LaneOf → Type 0
@@ -23,14 +21,61 @@ fresh-head lane lanes fresh = fresh 0 lane refl
 pub fresh-tail : {pool : PoolOf} (lane : LaneOf) (lanes : List LaneOf) → AreFresh pool (lane ∷ lanes) → AreFresh pool lanes
 fresh-tail lane lanes fresh at other is = fresh (suc at) other is
 
--- the acts of a create change no number of references
-none-made : (place : ℕ) (made : List Act) (old new : LaneOf) (n : ℕ) → HandsOut place made old new → held_after made n ≡ n
-none-made place made old new n (inl listed) = ap (λ acts. held_after acts n) listed.none
-none-made place made old new n (inr (inl chained)) = ap (λ acts. held_after acts n) chained.none
-none-made place made old new n (inr (inr (inl taken))) = ap (λ acts. held_after acts n) taken.taken
-none-made place made old new n (inr (inr (inr opened))) = ap (λ acts. held_after acts n) opened.none
+-- each is a lane of the pool, and they are numbered from this number on
+abbrev AreNumbered : PoolOf → ℕ → List LaneOf → Type 0
+AreNumbered pool from lanes = (at : ℕ) (lane : LaneOf) → slice_get lanes at ≡ Some lane → Owns pool lane × (lane.number ≡ from + at)
 
-pub created-refs : {T : Type 0} {content : T → List ℕ} {room : T → ℕ} {old new : LaneOf} {filling : FillingOf T} → Gives content room old new filling → refs new ≡ refs old
-created-refs {old = old} {new = new} gives =
-    ap (λ acts. held_after acts 0) gives.created.mine
-    ∙ (held-append (the_lane old.book).mine gives.acts_made 0 ∙ none-made _ gives.acts_made old new (refs old) gives.hands_out)
+numbered-tail : (pool : PoolOf) (from : ℕ) (lane : LaneOf) (lanes : List LaneOf) → AreNumbered pool from (lane ∷ lanes) → AreNumbered pool (suc from) lanes
+numbered-tail pool from lane lanes are at other is =
+    let nth = (are (suc at) other is).1 in ((are (suc at) other is).0, omega (arith, nth))
+
+numbered-stays : (pool : PoolOf) (from : ℕ) (rest : List LaneOf) (old new : LaneOf) → SameLane old new → AreNumbered pool from (rest ++ old ∷ [])
+    → AreNumbered pool from (rest ++ new ∷ [])
+numbered-stays pool from [] old new same are zero lane is =
+    let here : new ≡ lane = cc is in
+    let was = are 0 old refl in
+    subst (λ (l : LaneOf). Owns pool l × (l.number ≡ from + 0)) here ((same.0 ∙ was.0.0, same.1 ∙ was.0.1), same.2 ∙ was.1)
+numbered-stays pool from [] old new same are (suc at) lane is = absurd (cc is)
+numbered-stays pool from (first ∷ rest) old new same are zero lane is = are zero lane is
+numbered-stays pool from (first ∷ rest) old new same are (suc at) lane is =
+    let later = numbered-stays pool (suc from) rest old new same (numbered-tail pool from first (rest ++ old ∷ []) are) at lane is in
+    let nth = later.1 in (later.0, omega (arith, nth))
+
+as-long : (rest : List LaneOf) (old new : LaneOf) → length (rest ++ new ∷ []) ≡ length (rest ++ old ∷ [])
+as-long [] old new = refl
+as-long (first ∷ rest) old new = ap (λ (n : ℕ). suc n) (as-long rest old new)
+
+lane-at : (lanes : List LaneOf) (number : ℕ) → number < length lanes → (lane : LaneOf) × (slice_get lanes number ≡ Some lane)
+lane-at [] number low = absurd (omega (arith, low))
+lane-at (lane ∷ lanes) zero low = (lane, refl)
+lane-at (lane ∷ lanes) (suc number) low = lane-at lanes number (omega (arith, low))
+
+numbered-are-all : (pool : PoolOf) (lanes : List LaneOf) → length lanes ≡ pool.shape.lanes → AreNumbered pool 0 lanes → AreLanes pool lanes
+numbered-are-all pool lanes count are = record {
+  count = count;
+  owned = λ at lane is. (are at lane is).0;
+  all = λ number low.
+      let there = lane-at lanes number (subst (λ (n : ℕ). number < n) (sym count) low) in
+      let nth = (are number there.0 there.1).1 in
+      (number, there.0, there.1, omega (arith, nth));
+}
+
+lane-last : (rest : List LaneOf) (last : LaneOf) → (at : ℕ) × (slice_get (rest ++ last ∷ []) at ≡ Some last)
+lane-last [] last = (0, refl)
+lane-last (first ∷ rest) last = let later = lane-last rest last in (suc later.0, later.1)
+
+-- the last of the lanes is one of the pool
+pub last-owned : {pool : PoolOf} (rest : List LaneOf) (last : LaneOf) → AreFirstLanes pool (rest ++ last ∷ []) → Owns pool last
+last-owned rest last first = let here = lane-last rest last in (first.each here.0 last here.1).owned
+
+numbered-first : {pool : PoolOf} {lanes : List LaneOf} → AreFirstLanes pool lanes → AreNumbered pool 0 lanes
+numbered-first first at lane is =
+    let of = first.each at lane is in
+    let nth = of.number_is in (of.owned, omega (arith, nth))
+
+-- where the last lane did something they are still all lanes
+pub last-stays : {pool : PoolOf} (rest : List LaneOf) (old new : LaneOf) → AreFirstLanes pool (rest ++ old ∷ []) → SameLane old new
+    → AreLanes pool (rest ++ new ∷ [])
+last-stays {pool = pool} rest old new first same =
+    numbered-are-all pool (rest ++ new ∷ []) (as-long rest old new ∙ first.count)
+    (numbered-stays pool 0 rest old new same (numbered-first first))

@@ -1,11 +1,10 @@
 //! Why a plan wasn't done.
 use shardpool::OpenFault;
-use std::alloc::{AllocError, AllocFailed};
-use std::error::Error;
+use std::alloc::AllocError;
 use std::fmt;
 
 /// Why a plan wasn't done.
-#[derive(Debug, Drop)]
+#[derive(Drop)]
 pub enum Fault {
     /// The words name no plan.
     Words,
@@ -20,18 +19,15 @@ pub enum Fault {
 impl fmt::Display for Fault {
     fn fmt<W: fmt::Write>(&self, f: &mut fmt::Formatter<W>) -> fmt::Result {
         match self {
-            Fault::Words => write!(
-                f,
-                "words: a case, a number of threads up to 16, and a number of rounds"
+            Fault::Words => f.write_str(
+                "words: a case, a number of threads up to 16, and a number of rounds",
             ),
-            Fault::Open(fault) => write!(f, "{fault}"),
-            Fault::Memory => write!(f, "out of memory"),
-            Fault::Output => write!(f, "the output can't be written"),
+            Fault::Open(fault) => fault.fmt(f),
+            Fault::Memory => f.write_str("out of memory"),
+            Fault::Output => f.write_str("the output can't be written"),
         }
     }
 }
-
-impl Error for Fault {}
 
 impl From<OpenFault> for Fault {
     fn from(fault: OpenFault) -> Fault {
@@ -41,12 +37,6 @@ impl From<OpenFault> for Fault {
 
 impl From<AllocError> for Fault {
     fn from(_fault: AllocError) -> Fault {
-        Fault::Memory
-    }
-}
-
-impl<T: Drop> From<AllocFailed<T>> for Fault {
-    fn from(_fault: AllocFailed<T>) -> Fault {
         Fault::Memory
     }
 }

@@ -1,21 +1,18 @@
-//! Does one case so many rounds on so many threads: the pool's calls, or what one would write in the pool's place. The program
-//! reads no clock, so it is timed from outside.
+//! Does one case so many rounds on so many threads: the pool's calls, and two yardsticks. The program reads no clock, so it is
+//! timed from outside.
 #![tactic(auto)]
 
-ghost use Rattle.std.specs.Prelude.{◌≤◌};
-
-mod arcs;
 mod cases;
 mod fault;
-mod mutexes;
+mod openings;
 mod passes;
+mod plans;
 mod pools;
-mod slabs;
-mod store;
-mod work;
+mod rounds;
 
-use crate::cases::{CASES, Case, Plan, run_plan};
+use crate::cases::{CASES, Case, Plan};
 use crate::fault::Fault;
+use crate::plans::run_plan;
 use std::alloc::Global;
 use std::env;
 use std::process::ExitCode;
@@ -23,58 +20,63 @@ use std::sync::Wait;
 use std::thread::Threads;
 
 /// How many rounds each case is done where the words name none.
-const FEW_ROUNDS: u64 = 10;
+const FEW_ROUNDS: u64 = 2;
 
 /// The words of the command line, without the program's name.
 fn read_words(rt: &HostRuntime) -> Result<Vec<String>, Fault> {
-    let args = env::args(rt).map_err(|_| Fault::Words)?;
+    let args = env::args(rt).or(Err(Fault::Words))?;
     let mut words = Vec::new(rt.alloc());
     for word in args.skip(1) {
-        words.push(word)?;
+        words.push(word).or(Err(Fault::Memory))?;
     }
     Ok(words)
 }
 
-/// Does each case a few rounds, on one thread and on two, and prints its lines.
-fn show_all<R: Threads + Wait + Print + Sync>(rt: &R, alloc: Global) -> Result<(), Fault> {
-    for (name, case) in &CASES {
-        show(rt, alloc, name, *case, 1)?;
-        show(rt, alloc, name, *case, 2)?;
-    }
-    Ok(())
-}
-
-/// Does a case a few rounds, and prints its line.
+/// Does a plan, and prints its line.
 fn show<R: Threads + Wait + Print + Sync>(
     rt: &R,
     alloc: Global,
     name: &str,
-    case: Case,
-    threads: u32,
-) -> Result<(), Fault>
-    requires { (1 ≤ threads) × (threads ≤ 16) }
-{
-    let plan = Plan {
+    plan: Plan,
+) -> Result<(), Fault> {
+    let count = run_plan(rt, alloc, plan)?;
+    let threads = plan.threads;
+    let lanes = plan.case.lanes(threads);
+    println!(rt; "{name} (lanes: {lanes}, threads: {threads}): {count}").or(Err(Fault::Output))
+}
+
+/// Does each case a few rounds, on one thread and on two.
+fn show_all<R: Threads + Wait + Print + Sync>(rt: &R, alloc: Global) -> Result<(), Fault> {
+    for (name, case) in &CASES {
+        show(rt, alloc, name, few(*case, 1))?;
+        show(rt, alloc, name, few(*case, 2))?;
+    }
+    Ok(())
+}
+
+/// A few rounds of a case.
+fn few(case: Case, threads: u32) -> Plan {
+    Plan {
         case,
         threads,
         rounds: FEW_ROUNDS,
-    };
-    let count = run_plan(rt, alloc, plan)?;
-    println!(rt; "{name} on {threads}: {count}").map_err(|_| Fault::Output)
+    }
 }
 
-/// Does what the words name, and prints what was counted.
+/// Does what the words name.
 fn run<R: Threads + Wait + Print + Sync>(
     rt: &R,
     alloc: Global,
     words: &[String],
 ) -> Result<(), Fault> {
-    if words.is_empty() {
-        return show_all(rt, alloc);
+    match words {
+        [] => show_all(rt, alloc),
+        [case, threads, rounds] => {
+            let plan = Plan::read(case, threads, rounds).ok_or(Fault::Words)?;
+            show(rt, alloc, case, plan)
+        }
+        _ => Err(Fault::Words),
     }
-    let plan = Plan::read(words).ok_or(Fault::Words)?;
-    let count = run_plan(rt, alloc, plan)?;
-    println!(rt; "{count}").map_err(|_| Fault::Output)
 }
 
 /// Prints why a plan wasn't done.
@@ -88,7 +90,7 @@ fn main(rt: HostRuntime) -> ExitCode {
         Ok(words) => words,
         Err(fault) => return report(&rt, fault),
     };
-    match run(&rt, rt.alloc(), words.as_slice()) {
+    match run(&rt, rt.alloc(), &words) {
         Ok(()) => ExitCode::SUCCESS,
         Err(fault) => report(&rt, fault),
     }

@@ -1,14 +1,18 @@
-//! The pool: a lane for each thread.
+//! The pool, and what a thread does with a lane of it.
 ghost use Rattle.std.specs.Prelude.{◌≡◌, IfOk};
-ghost use Rattle.shardpool.specs.Lanes.{refs};
+ghost use Rattle.shardpool.specs.Lanes.{Owns, SameLane, refs};
 ghost use Rattle.shardpool.specs.Opened.{AreFirstLanes};
 
-use crate::fault::Fault;
-use crate::store::{BYTES, Store};
 use keybits::Shape;
-use shardpool::{Lane, Pool, open};
-use slotcell::ByteBuf;
+use shardpool::{Lane, OpenFault, Pool, open};
+use slotcell::{ByteBuf, Clear};
 use std::alloc::{AllocError, Global};
+
+/// The bytes of each object.
+const BYTES: [u8; 64] = [7; 64];
+
+/// How many places the shard of a lane has.
+pub const PLACES: u32 = 32;
 
 /// A lane that has no reference, and its pool.
 #[derive(Drop)]
@@ -20,23 +24,28 @@ pub struct Worker<'a> {
     ghost unburdened: { refs lane ≡ 0 },
 }
 
-impl Store for Worker<'_> {
-    /// Publishes an object. A filling whose bytes find no memory is left.
+impl Worker<'_> {
+    /// The number of the lane.
+    pub fn number(&self) -> u32 {
+        self.lane.number()
+    }
+
+    /// Publishes an object. Answers its key, or none where there is no place or no memory for it.
     #[inline]
-    fn put(&mut self) -> Option<u64> {
-        let Ok(mut filling) = self.pool.create(&mut self.lane) else {
-            return None;
-        };
-        if filling.value_mut().append(&BYTES).is_err() {
-            filling.leave();
-            return None;
+    pub fn put(&mut self) -> Option<u64> {
+        put(self.pool, &mut self.lane)
+    }
+
+    /// Publishes an object for each key. 0, which is no key, stands where there is no place or no memory.
+    pub fn put_all(&mut self, keys: &mut [u64]) {
+        for key in keys {
+            *key = self.put().unwrap_or(0);
         }
-        Some(self.pool.publish(&mut self.lane, filling))
     }
 
     /// Gets an object, reads how long it is, and gives the reference back.
     #[inline]
-    fn read(&mut self, key: u64) -> usize {
+    pub fn read(&mut self, key: u64) -> usize {
         let Some(reference) = self.pool.get(&mut self.lane, key) else {
             return 0;
         };
@@ -47,23 +56,43 @@ impl Store for Worker<'_> {
 
     /// Clears an object.
     #[inline]
-    fn take(&mut self, key: u64) -> bool {
+    pub fn take(&mut self, key: u64) -> bool {
         self.pool.clear(&mut self.lane, key)
     }
 }
 
+/// Publishes an object. A filling whose bytes find no memory is left.
+#[inline]
+pub fn put(pool: &Pool<ByteBuf>, lane: &mut Lane<ByteBuf>) -> Option<u64>
+    requires owns { Owns pool.now lane.old }
+    ensures same { SameLane lane.old lane.new }
+    ensures refs { refs lane.new ≡ refs lane.old }
+{
+    let Ok(mut filling) = pool.create(lane) else {
+        return None;
+    };
+    if filling.value_mut().append(&BYTES).is_err() {
+        filling.leave();
+        return None;
+    }
+    Some(pool.publish(lane, filling))
+}
+
 /// A pool of so many lanes, each with 32 places in its shard.
-pub fn open_pool(alloc: Global, lanes: u32) -> Result<(Pool<ByteBuf>, Vec<Lane<ByteBuf>>), Fault>
+pub fn open_pool(
+    alloc: Global,
+    lanes: u32,
+) -> Result<(Pool<ByteBuf>, Vec<Lane<ByteBuf>>), OpenFault>
     ensures { IfOk result (λ made. AreFirstLanes made.0 made.1.items) }
 {
     let shape = Shape {
         lanes,
-        first_page: 32,
+        first_page: PLACES,
         pages: 1,
         last_generation: u32::MAX,
         tag: 0,
     };
-    Ok(open(alloc, shape)?)
+    open(alloc, shape)
 }
 
 /// The lanes of a pool, each with the pool.
@@ -79,4 +108,13 @@ pub fn workers<'a>(
         all.push(Worker { pool, lane })?;
     }
     Ok(all)
+}
+
+/// Each worker publishes an object. Answers their keys.
+pub fn put_each(alloc: Global, workers: &mut [Worker]) -> Result<Vec<u64>, AllocError> {
+    let mut keys = Vec::new(alloc);
+    for worker in workers {
+        keys.push(worker.put().unwrap_or(0))?;
+    }
+    Ok(keys)
 }

@@ -4,3 +4,5 @@ pub mod Checks
 pub mod KeyTexts
 pub mod Watching
 pub mod Runs
+pub mod Turns
+pub mod Tasks

@@ -1,15 +1,13 @@
 -- What a replay writes.
-use Rattle.std.specs.Prelude.{◌≡◌, ◌⊎◌, ℕ, Bool, true, false, List, Option}
+use Rattle.std.specs.Prelude.{◌≡◌, ℕ, Bool, true, false, List, Option}
 use Rattle.std.specs.Io.KnownBytes.{Appends}
 use Rattle.traces.specs.Lawful.{IsLawful}
 use Rattle.keybits.specs.declared.shape.Shape.{Shape}
 use Rattle.seqpool.specs.ActsText.{IsTextOf}
-use Rattle.schedules.specs.Draws.{drawn}
 use Rattle.traces.specs.Text.{trace_text}
 use Rattle.traces.specs.TurnLaws.{all_acts}
 use Rattle.traces.specs.declared.trace.Turn.{Turn}
 use Rattle.scripts.specs.declared.plan.Plan.{Plan}
-use Rattle.scripts.specs.declared.script_fault.ScriptFault.TheVariants as faults
 use Rattle.scripts.specs.Readings.{StandsFor, RefusesFile}
 use Rattle.poolprogram.specs.declared.run_fault.RunFault.{RunFault}
 use Rattle.poolprogram.specs.declared.run_fault.RunFault.TheVariants as runs
@@ -61,21 +59,6 @@ pub record HasReplay (file schedule : List ℕ) : Type 0 where
   pub shape : Shape
   pub trace : List Turn
   pub replayed : IsTraceOf file schedule shape trace
-
--- the file's bytes stand for the plan, and the schedule is drawn from this seed for its lanes
-pub record IsDrawnFor (file : List ℕ) (seed turns : ℕ) (plan : Plan) (schedule : List ℕ) : Type 0 where
-  pub stands : StandsFor file plan
-  pub is : schedule ≡ drawn seed plan.shape.lanes turns
-
--- the file is refused with this fault: as its reading says; or memory was refused for the schedule of the plan that it stands for
-abbrev pub RefusesDraw : List ℕ → RunFault → Type 0
-RefusesDraw file (runs.Read fault) = RefusesFile file fault ⊎ ((fault ≡ faults.Memory) × HasPlan file)
-RefusesDraw file (runs.Core fault) = ⊥
-RefusesDraw file (runs.Acts fault) = ⊥
-RefusesDraw file runs.Open = ⊥
-RefusesDraw file runs.File = ⊥
-RefusesDraw file runs.Output = ⊥
-RefusesDraw file runs.Memory = ⊥
 
 -- the core was refused memory
 abbrev pub IsCoreFault : RunFault → Type 0

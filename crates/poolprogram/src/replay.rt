@@ -5,15 +5,14 @@ ghost use Rattle.seqpool.specs.ActsText.{IsTextOf};
 ghost use Rattle.traces.specs.Text.{trace_text};
 ghost use Rattle.traces.specs.TurnLaws.{all_acts};
 ghost use Rattle.scripts.specs.Readings.{StandsFor};
-ghost use Rattle.poolprogram.specs.Replays.{IsText, IsCoreFault, IsReplayOf, RefusesReplayOf, WritesReplayOf, RefusesReplay, WritesReplay, IsDrawnFor, RefusesDraw};
+ghost use Rattle.poolprogram.specs.Replays.{IsText, IsCoreFault, IsReplayOf, RefusesReplayOf, WritesReplayOf, RefusesReplay, WritesReplay};
 
 use crate::output::write_and_flush;
 use crate::run_fault::RunFault;
 use crate::writer::Watched;
 use coresteps::run;
 use keybits::Shape;
-use schedules::draw;
-use scripts::{Plan, ScriptFault, parse};
+use scripts::{Plan, parse};
 use seqpool::{Act, write_acts};
 use std::alloc::{AllocError, Global};
 use std::io::Write;
@@ -136,24 +135,4 @@ pub fn replay_text<W: Write>(
 {
     let plan = parse(alloc, file).map_err(RunFault::Read)?;
     replay_plan(alloc, plan, schedule, acts, out)
-}
-
-/// The plan of a script file, and a schedule of so many turns that is drawn for its lanes. The errors:
-/// `Read` as `parse` answers it, and with `Memory` where it was refused for the schedule.
-pub fn draw_turns(
-    alloc: Global,
-    file: &[u8],
-    seed: u64,
-    turns: u32,
-) -> Result<(Plan, Vec<u32>), RunFault>
-    ensures ok { IfOk result (λ drawn. IsDrawnFor file.now seed turns drawn.0 drawn.1.items) }
-    ensures shape { IfOk result (λ drawn. IsShape drawn.0.shape) }
-    ensures count { IfOk result (λ drawn. length drawn.0.scripts ≡ drawn.0.shape.lanes) }
-    ensures err { IfErr result (RefusesDraw file.now) }
-{
-    let plan = parse(alloc, file).map_err(RunFault::Read)?;
-    match draw(alloc, seed, plan.shape.lanes, turns) {
-        Ok(schedule) => Ok((plan, schedule)),
-        Err(_) => Err(RunFault::Read(ScriptFault::Memory)),
-    }
 }

@@ -18,6 +18,8 @@ mod test_halts;
 #[cfg(test)]
 mod test_hands;
 #[cfg(test)]
+mod test_lanes;
+#[cfg(test)]
 mod test_open;
 #[cfg(test)]
 mod test_rows;

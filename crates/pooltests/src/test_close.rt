@@ -2,8 +2,7 @@
 ghost use Rattle.shardpool.specs.Lanes.{Owns};
 
 use crate::test_calls::{
-    NO_PLACE, clear, close_one, close_two, create, finds_full, open_last, open_pair, same,
-    shape_of,
+    NO_PLACE, clear, close_one, close_two, create, finds_full, open_last, open_pair, same, shape_of,
 };
 use keybits::Shape;
 use shardpool::{Census, Lane, Pool};

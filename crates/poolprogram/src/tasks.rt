@@ -1,0 +1,84 @@
+//! Tasks of the command line, and how the program ends after one.
+ghost use Rattle.std.specs.Prelude.{◌≡◌, ◌≢◌, ◌↔◌, true, false, IfOk, IfErr, OnOk, IsErrOf};
+ghost use Rattle.std.specs.Io.KnownBytes.{Appends};
+ghost use Rattle.poolprogram.specs.Tasks.{WritesTask, RefusesTask, task_status, fault_line, report_text};
+
+use crate::check::check_text;
+use crate::key::key_text;
+use crate::run::run_text;
+use crate::run_fault::RunFault;
+use crate::turns::replay_turns;
+use crate::writer::Watched;
+use commandline::Task;
+use std::alloc::Global;
+use std::io;
+use std::io::Write;
+use std::sync::Wait;
+use std::thread::Threads;
+
+/// Does a task on the bytes of its file: a replay, a check, a run or what is said of a key. The answer is
+/// false where acts are illegal or a number is no key's, and then this was said. The errors are those of
+/// the call for the task's kind, and all but `Output` come before the first byte.
+pub fn do_task<R: Threads + Wait + Sync, W: Write>(
+    rt: &R,
+    alloc: Global,
+    task: Task,
+    file: &[u8],
+    out: &mut Watched<W>,
+) -> Result<bool, RunFault>
+    requires { out.old.failed ≡ false }
+    ensures ok { IfOk result (λ good. WritesTask task file.now good
+        (W.contents out.old.inner) (W.contents out.new.inner)) }
+    ensures output { IsErrOf result RunFault.Output ↔ (out.new.failed ≡ true) }
+    ensures refused { IfErr result (λ fault. fault ≢ RunFault.Output
+        → (out.new ≡ out.old) × RefusesTask task file.now fault) }
+{
+    match task {
+        Task::Replay {
+            file: _,
+            turns,
+            stop,
+            acts,
+        } => {
+            replay_turns(alloc, file, turns, stop, acts, out)?;
+            Ok(true)
+        }
+        Task::Check { file: _ } => check_text(alloc, file, out),
+        Task::Run { file: _ } => {
+            run_text(rt, alloc, file, out)?;
+            Ok(true)
+        }
+        Task::Key { number } => key_text(alloc, number, out),
+    }
+}
+
+/// The exit status after a task: 0 where it was done and all is well; 1 where it has a fault, acts are
+/// illegal or a number is no key's.
+pub fn status_of(done: &Result<bool, RunFault>) -> u8
+    ensures { result ≡ task_status done.now }
+{
+    match done {
+        Ok(true) => 0,
+        _ => 1,
+    }
+}
+
+/// Writes the line of a fault: its number and its name.
+fn write_fault<W: Write>(fault: &RunFault, out: &mut W) -> io::Result<()>
+    ensures { OnOk result (Appends (W.contents out.old) (W.contents out.new) (fault_line fault.now)) }
+{
+    let number = fault.number();
+    let name = fault.name();
+    writeln!(out, "fault {number} {name}")
+}
+
+/// Writes what is reported of a task: the line of its fault, where it has one. Nothing is allocated. After
+/// an error it isn't said how much went out.
+pub fn write_report<W: Write>(done: &Result<bool, RunFault>, out: &mut W) -> io::Result<()>
+    ensures { OnOk result (Appends (W.contents out.old) (W.contents out.new) (report_text done.now)) }
+{
+    match done {
+        Ok(_) => Ok(()),
+        Err(fault) => write_fault(fault, out),
+    }
+}

@@ -1,0 +1,263 @@
+//! The rounds of `crates/poolbench` over what one would take in the pool's place, in plain Rust.
+//!
+//!     docs/bench/build /tmp/peers           # wants rustc alone; with Debian's librust-sharded-slab-dev the slab too
+//!     /tmp/peers map-cycle 4 1000000        # a case, threads, rounds of each: prints one number, so that the work is done
+//!
+//! `bare` is two fetch_adds on a word of the thread's own, and `alu` a round in registers alone. The other cases are
+//! PEER-ROUNDS. The peers:
+//!
+//! - `slab`: the `Pool` of the real sharded-slab, as Debian has it;
+//! - `map`: a hash map of buffers behind a `Mutex`;
+//! - `stack`: a stack of spare buffers behind a `Mutex`, from which a thread takes one to own it;
+//! - `local`: a list of spare buffers for each thread, each an `Arc<Mutex<..>>`, of which a handle is a clone;
+//! - `arc`: malloc and free: a fresh buffer in an `Arc` each time.
+//!
+//! The rounds, with buffers of 64 bytes:
+//!
+//! - `get-own`, `get-shared`, `get-others`: the length of one buffer is read, which the thread itself, the first thread or
+//!   the next thread has put;
+//! - `get-many`: the same of 16 own buffers in turn;
+//! - `cycle`: a buffer is put and taken away;
+//! - `churn`: 24 buffers are live: the oldest is taken away, and a new one put;
+//! - `pass`: a buffer is put by one thread and taken away by another, for an even number of threads (`slab`, `map`);
+//! - `page`: a fresh store is given 1,985 buffers, and dropped (`slab`, `map`).
+//!
+//! It reads no clock: it is timed from outside.
+use std::env;
+use std::hint::black_box;
+use std::process::ExitCode;
+use std::sync::atomic::{AtomicU64, Ordering::SeqCst};
+use std::sync::{Barrier, OnceLock};
+use std::thread;
+
+#[cfg(sharded_slab)]
+mod slab;
+mod stores;
+
+use stores::{Arcs, Local, Map, Stack, Store};
+
+/// How many buffers are read in turn.
+const MANY: usize = 16;
+
+/// How many buffers are live in a churn.
+const LIVE: usize = 24;
+
+/// How many keys may be under way from one thread to another.
+const UNDER_WAY: usize = 16;
+
+/// How many buffers a store is given in a round of `page`.
+const PAGE_ROUND: usize = 1985;
+
+/// What a word says where no key is under way in it.
+const FREE: u64 = u64::MAX;
+
+/// A plan: so many rounds on each of so many threads.
+#[derive(Clone, Copy)]
+struct Plan {
+    threads: usize,
+    rounds: u64,
+}
+
+/// Whose buffers the threads read.
+#[derive(Clone, Copy)]
+enum Whose {
+    Own,
+    Shared,
+    Others,
+}
+
+/// Runs `work` on so many threads, each with its number. Answers the sum of what they counted.
+fn on_threads(threads: usize, work: impl Fn(usize) -> u64 + Sync) -> u64 {
+    let work = &work;
+    thread::scope(|scope| {
+        let running: Vec<_> = (0..threads)
+            .map(|number| scope.spawn(move || work(number)))
+            .collect();
+        running
+            .into_iter()
+            .map(|thread| thread.join().expect("a thread panicked"))
+            .fold(0, u64::wrapping_add)
+    })
+}
+
+/// Two fetch_adds on a word of the thread's own.
+fn bare(rounds: u64) -> u64 {
+    let word = AtomicU64::new(0);
+    (0..rounds).fold(0, |found: u64, _| {
+        found
+            .wrapping_add(word.fetch_add(1, SeqCst))
+            .wrapping_add(word.fetch_add(1, SeqCst))
+    })
+}
+
+/// A step of Marsaglia's xorshift generator: registers alone.
+fn alu(rounds: u64) -> u64 {
+    (0..rounds).fold(1, |mut word: u64, _| {
+        word ^= word << 13;
+        word ^= word >> 7;
+        word ^= word << 17;
+        word
+    })
+}
+
+/// Each thread puts a buffer; when all have, each reads one.
+fn get<S: Store>(store: &S, plan: Plan, whose: Whose) -> u64 {
+    let handles: Vec<OnceLock<S::Handle>> = (0..plan.threads).map(|_| OnceLock::new()).collect();
+    let all_put = Barrier::new(plan.threads);
+    let all_read = Barrier::new(plan.threads);
+    on_threads(plan.threads, |number| {
+        let _ = handles[number].set(store.put());
+        all_put.wait();
+        let from = match whose {
+            Whose::Own => number,
+            Whose::Shared => 0,
+            Whose::Others => (number + 1) % plan.threads,
+        };
+        let handle = handles[from].get().expect("each thread has put a buffer");
+        let bytes = (0..plan.rounds).map(|_| store.read(handle) as u64).sum();
+        all_read.wait();
+        bytes
+    })
+}
+
+/// Each thread reads 16 buffers of its own in turn.
+fn get_many<S: Store>(store: &S, plan: Plan) -> u64 {
+    on_threads(plan.threads, |_| {
+        let handles: [S::Handle; MANY] = std::array::from_fn(|_| store.put());
+        (0..plan.rounds)
+            .map(|round| store.read(&handles[(round % MANY as u64) as usize]) as u64)
+            .sum()
+    })
+}
+
+/// Each thread puts a buffer and takes it away.
+fn cycle<S: Store>(store: &S, plan: Plan) -> u64 {
+    on_threads(plan.threads, |_| {
+        (0..plan.rounds)
+            .filter(|_| store.take(black_box(store.put())))
+            .count() as u64
+    })
+}
+
+/// Each thread has 24 buffers, takes the oldest away and puts a new one.
+fn churn<S: Store>(store: &S, plan: Plan) -> u64 {
+    on_threads(plan.threads, |_| {
+        let mut handles: [Option<S::Handle>; LIVE] = std::array::from_fn(|_| Some(store.put()));
+        (0..plan.rounds)
+            .filter(|round| {
+                let oldest = &mut handles[(round % LIVE as u64) as usize];
+                let taken = oldest.take().is_some_and(|handle| store.take(handle));
+                *oldest = Some(store.put());
+                taken
+            })
+            .count() as u64
+    })
+}
+
+/// Hands a key on, when its word is free.
+fn send(word: &AtomicU64, key: u64) {
+    while word.load(SeqCst) != FREE {
+        thread::yield_now();
+    }
+    word.store(key, SeqCst);
+}
+
+/// The key of a word, when one is there.
+fn receive(word: &AtomicU64) -> u64 {
+    while word.load(SeqCst) == FREE {
+        thread::yield_now();
+    }
+    word.swap(FREE, SeqCst)
+}
+
+/// Of each two threads the first puts buffers, and the second takes them away.
+fn pass<S: Store<Handle = u64>>(store: &S, plan: Plan) -> u64 {
+    let words: Vec<AtomicU64> = (0..plan.threads.div_ceil(2) * UNDER_WAY)
+        .map(|_| AtomicU64::new(FREE))
+        .collect();
+    on_threads(plan.threads, |number| {
+        let way = &words[number / 2 * UNDER_WAY..][..UNDER_WAY];
+        let turns = (0..plan.rounds).map(|round| &way[(round % UNDER_WAY as u64) as usize]);
+        if number % 2 == 0 {
+            turns.for_each(|word| send(word, store.put()));
+            return 0;
+        }
+        turns.filter(|word| store.take(receive(word))).count() as u64
+    })
+}
+
+/// Each thread gives a fresh store 1,985 buffers, and drops it.
+fn page<S: Store + Default>(plan: Plan) -> u64 {
+    on_threads(plan.threads, |_| {
+        (0..plan.rounds)
+            .map(|_| {
+                let store = S::default();
+                (0..PAGE_ROUND).map(|_| store.put()).count() as u64
+            })
+            .sum()
+    })
+}
+
+/// Does the rounds of this name over a store. None where there are none of the name.
+fn do_rounds<S: Store>(store: &S, rounds: &str, plan: Plan) -> Option<u64> {
+    match rounds {
+        "get-own" => Some(get(store, plan, Whose::Own)),
+        "get-shared" => Some(get(store, plan, Whose::Shared)),
+        "get-others" => Some(get(store, plan, Whose::Others)),
+        "get-many" => Some(get_many(store, plan)),
+        "cycle" => Some(cycle(store, plan)),
+        "churn" => Some(churn(store, plan)),
+        _ => None,
+    }
+}
+
+/// Does the rounds of this name over a store whose handles are keys.
+fn do_keyed<S: Store<Handle = u64> + Default>(rounds: &str, plan: Plan) -> Option<u64> {
+    match rounds {
+        "pass" if plan.threads % 2 == 0 => Some(pass(&S::default(), plan)),
+        "pass" => None,
+        "page" => Some(page::<S>(plan)),
+        _ => do_rounds(&S::default(), rounds, plan),
+    }
+}
+
+/// Does a case. None where there is none of the name.
+fn do_case(case: &str, plan: Plan) -> Option<u64> {
+    match case {
+        "bare" => return Some(on_threads(plan.threads, |_| bare(plan.rounds))),
+        "alu" => return Some(on_threads(plan.threads, |_| alu(plan.rounds))),
+        _ => {}
+    }
+    let (peer, rounds) = case.split_once('-')?;
+    match peer {
+        #[cfg(sharded_slab)]
+        "slab" => do_keyed::<slab::Slab>(rounds, plan),
+        "map" => do_keyed::<Map>(rounds, plan),
+        "stack" => do_rounds(&Stack::default(), rounds, plan),
+        "local" => do_rounds(&Local, rounds, plan),
+        "arc" => do_rounds(&Arcs, rounds, plan),
+        _ => None,
+    }
+}
+
+/// The case and the plan that the words name.
+fn read_words() -> Option<(String, Plan)> {
+    let mut words = env::args().skip(1);
+    let case = words.next()?;
+    let threads = words.next()?.parse().ok().filter(|threads| *threads > 0)?;
+    let rounds = words.next()?.parse().ok()?;
+    Some((case, Plan { threads, rounds }))
+}
+
+fn main() -> ExitCode {
+    match read_words().and_then(|(case, plan)| do_case(&case, plan)) {
+        Some(count) => {
+            println!("{count}");
+            ExitCode::SUCCESS
+        }
+        None => {
+            eprintln!("words: a case, a number of threads, and a number of rounds");
+            ExitCode::FAILURE
+        }
+    }
+}

@@ -1,0 +1,159 @@
+//! What one would take in the pool's place, with std alone.
+use std::cell::RefCell;
+use std::collections::HashMap;
+use std::hint::black_box;
+use std::sync::{Arc, Mutex, MutexGuard};
+
+/// The bytes of each buffer.
+pub const BYTES: [u8; 64] = [7; 64];
+
+/// Keeps buffers for many threads.
+pub trait Store: Sync {
+    /// What names a buffer that was put.
+    type Handle: Send + Sync;
+
+    /// Keeps a buffer with the bytes of each.
+    fn put(&self) -> Self::Handle;
+
+    /// How many bytes a buffer has. 0 where it is gone.
+    fn read(&self, handle: &Self::Handle) -> usize;
+
+    /// Takes a buffer away: whether it was there.
+    fn take(&self, handle: Self::Handle) -> bool;
+}
+
+/// What a lock guards. No thread panics under it.
+fn locked<T>(lock: &Mutex<T>) -> MutexGuard<'_, T> {
+    lock.lock().expect("no thread panics under a lock")
+}
+
+/// A hash map of buffers behind a lock. No key is given twice.
+#[derive(Default)]
+pub struct Map(Mutex<Buffers>);
+
+#[derive(Default)]
+struct Buffers {
+    last_key: u64,
+    by_key: HashMap<u64, Vec<u8>>,
+}
+
+impl Store for Map {
+    type Handle = u64;
+
+    /// The buffer is filled before the lock is taken.
+    #[inline]
+    fn put(&self) -> u64 {
+        let buffer = BYTES.to_vec();
+        let mut buffers = locked(&self.0);
+        buffers.last_key += 1;
+        let key = buffers.last_key;
+        buffers.by_key.insert(key, buffer);
+        key
+    }
+
+    #[inline]
+    fn read(&self, key: &u64) -> usize {
+        locked(&self.0).by_key.get(key).map_or(0, Vec::len)
+    }
+
+    /// The buffer is dropped when the lock is free again.
+    #[inline]
+    fn take(&self, key: u64) -> bool {
+        let taken = locked(&self.0).by_key.remove(&key);
+        taken.is_some()
+    }
+}
+
+/// A stack of spare buffers behind a lock. A thread owns what it takes, so there are no keys.
+#[derive(Default)]
+pub struct Stack(Mutex<Vec<Vec<u8>>>);
+
+impl Store for Stack {
+    type Handle = Vec<u8>;
+
+    #[inline]
+    fn put(&self) -> Vec<u8> {
+        let spare = locked(&self.0).pop();
+        let mut buffer = spare.unwrap_or_default();
+        buffer.extend_from_slice(&BYTES);
+        buffer
+    }
+
+    #[inline]
+    fn read(&self, buffer: &Vec<u8>) -> usize {
+        black_box(buffer).len()
+    }
+
+    #[inline]
+    fn take(&self, mut buffer: Vec<u8>) -> bool {
+        buffer.clear();
+        locked(&self.0).push(buffer);
+        true
+    }
+}
+
+type SharedBuffer = Arc<Mutex<Vec<u8>>>;
+
+thread_local! {
+    /// This thread's spare buffers.
+    static SPARE: RefCell<Vec<SharedBuffer>> = const { RefCell::new(Vec::new()) };
+}
+
+/// A list of spare buffers for each thread, which keeps those that the thread takes away.
+pub struct Local;
+
+impl Store for Local {
+    type Handle = SharedBuffer;
+
+    #[inline]
+    fn put(&self) -> SharedBuffer {
+        let spare = SPARE.with_borrow_mut(Vec::pop);
+        let buffer = spare.unwrap_or_default();
+        locked(&buffer).extend_from_slice(&BYTES);
+        buffer
+    }
+
+    /// A clone of the handle is made and dropped, as where the buffer is lent to another part of a program.
+    #[inline]
+    fn read(&self, buffer: &SharedBuffer) -> usize {
+        locked(&Arc::clone(buffer)).len()
+    }
+
+    /// Where another handle is left, the buffer isn't kept.
+    #[inline]
+    fn take(&self, mut buffer: SharedBuffer) -> bool {
+        let Some(lock) = Arc::get_mut(&mut buffer) else {
+            return true;
+        };
+        lock.get_mut()
+            .expect("no thread panics under a lock")
+            .clear();
+        SPARE.with_borrow_mut(|spare| spare.push(buffer));
+        true
+    }
+}
+
+/// A fresh buffer each time, which an `Arc` shares.
+pub struct Arcs;
+
+impl Store for Arcs {
+    type Handle = Arc<Vec<u8>>;
+
+    /// The allocation is hidden from the compiler, which would leave it out.
+    #[inline]
+    fn put(&self) -> Arc<Vec<u8>> {
+        black_box(Arc::new(BYTES.to_vec()))
+    }
+
+    /// A clone of the handle is made and dropped, as where the buffer is lent to another part of a program.
+    #[inline]
+    fn read(&self, buffer: &Arc<Vec<u8>>) -> usize {
+        black_box(&Arc::clone(buffer)).len()
+    }
+
+    #[inline]
+    fn take(&self, buffer: Arc<Vec<u8>>) -> bool {
+        drop(buffer);
+        true
+    }
+}
