@@ -36,7 +36,8 @@ def sample(parts, seconds):
             with open(f"/proc/{pid}/stat", encoding="utf-8") as it:
                 fields = it.read().rpartition(")")[2].split()
             process = pid, fields[19]
-            if process not in parts:
+            if not parts.get(process):
+                # (again, where it was seen before it had become the checker)
                 parts[process] = part_of(pid)
             if parts[process]:
                 seconds[process] = sum(map(int, fields[11:13])) / TICKS
