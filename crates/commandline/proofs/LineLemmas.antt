@@ -1,23 +1,33 @@
--- Commands that grow by an argument or a subcommand.
-use Rattle.std.proofs.Common.{◌≡◌, false, refl, ap₂, ◌∙◌}
-use Rattle.clap.specs.Words.{App, Rule, AddsArg, AddsSubcommand, app_of, rule_of, with_rule, with_subcommand}
+-- Commands that grow by an argument or a subcommand, and one less is left.
+use Rattle.std.proofs.Common.{◌≡◌, ◌∙◌, ◌+◌, ◌<◌, ℕ, List, length, drop, get_or, false, refl, sym, ap}
+use Rattle.std.proofs.lemmas.List.{at_drop_more}
+use Rattle.clap.specs.Words.{App, AddsArg, AddsSubcommand, app_of, rule_of, with_rule, with_subcommand}
 use Rattle.clap.specs.declared.builder.arg.Arg.{Arg}
 use Rattle.clap.specs.declared.builder.command.Command.{Command}
 use Rattle.clap.specs.declared.builder.command.Command.TheViews.{out-Command as fields_of}
+use Rattle.commandline.specs.Lines.{rule_for, line_for, with_arguments, with_lines}
+use Rattle.commandline.specs.declared.lines.Argument.{Argument}
+use Rattle.commandline.specs.declared.lines.Line.{Line}
 
--- a command with these arguments, none of which is global
-pub record IsLine (command : Command) (line : App) : Type 0 where
-  pub app : app_of command ≡ line
+-- a command that is the whole with the arguments that are left, and has no global one
+pub record IsLineSoFar (whole : App) (left : List Argument) (command : Command) : Type 0 where
+  pub app : with_arguments (app_of command) left ≡ whole
   pub local : (fields_of command).has_globals ≡ false
 
 -- one argument more
-pub line-arg : (old new : Command) (arg : Arg) (rule : Rule) (line : App) → AddsArg old arg new → rule_of arg ≡ rule → arg.global ≡ false
-    → IsLine old line → IsLine new (with_rule line rule)
-line-arg old new arg rule line adds is local so_far =
-    record { app = adds.shape local ∙ ap₂ with_rule so_far.app is; local = adds.globals ∙ rw (so_far.local, local) refl }
+pub argument-next : (arguments : List Argument) (at : ℕ) (other : Argument) (old new : Command) (arg : Arg) (whole : App) → AddsArg old arg new
+    → rule_of arg ≡ rule_for (get_or arguments at other) → arg.global ≡ false → at < length arguments
+    → IsLineSoFar whole (drop at arguments) old → IsLineSoFar whole (drop (at + 1) arguments) new
+argument-next arguments at other old new arg whole adds is local within so_far = record {
+  app = ap (λ (app : App). with_arguments app (drop (at + 1) arguments)) (adds.shape local ∙ ap (with_rule (app_of old)) is)
+      ∙ sym (at_drop_more (with_arguments (app_of old)) arguments at other within) ∙ so_far.app;
+  local = adds.globals ∙ rw (so_far.local, local) refl;
+}
 
 -- one subcommand more
-pub line-subcommand : (old sub new : Command) (above line : App) → AddsSubcommand old sub new → app_of sub ≡ line
-    → (fields_of sub).has_globals ≡ false → app_of old ≡ above → app_of new ≡ with_subcommand above line.top
-line-subcommand old sub new above line adds is local so_far =
-    adds.shape local ∙ ap₂ (λ (a b : App). with_subcommand a b.top) so_far is
+pub line-next : (lines : List Line) (at : ℕ) (other : Line) (old sub new : Command) (whole : App) → AddsSubcommand old sub new
+    → app_of sub ≡ line_for (get_or lines at other) → (fields_of sub).has_globals ≡ false → at < length lines
+    → with_lines (app_of old) (drop at lines) ≡ whole → with_lines (app_of new) (drop (at + 1) lines) ≡ whole
+line-next lines at other old sub new whole adds is local within so_far =
+    ap (λ (app : App). with_lines app (drop (at + 1) lines)) (adds.shape local ∙ ap (λ (line : App). with_subcommand (app_of old) line.top) is)
+    ∙ sym (at_drop_more (with_lines (app_of old)) lines at other within) ∙ so_far

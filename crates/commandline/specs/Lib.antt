@@ -1,3 +1,4 @@
 pub mod Readings
 pub mod CommandLines
+pub mod Lines
 pub mod Tasks

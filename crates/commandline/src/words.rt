@@ -101,6 +101,21 @@ fn key_task(matches: &ArgMatches) -> Result<Task, TaskFault>
     Ok(Task::Key { number })
 }
 
+/// The task of the matches of the subcommand with this name.
+fn task_of(alloc: Global, name: &str, matches: &ArgMatches) -> Result<Task, TaskFault>
+    ensures ok { IfOk result (AreMatchesOf name.now (rows_of (found_of matches.now))) }
+    ensures words { IsErrOf result TaskFault.Words
+        → AreMatchesOfNone name.now (rows_of (found_of matches.now)) }
+{
+    match name {
+        "replay" => replay_task(alloc, matches),
+        "check" => check_task(alloc, matches),
+        "run" => run_task(alloc, matches),
+        "key" => key_task(matches),
+        _ => Err(TaskFault::Words),
+    }
+}
+
 /// Reads the command line, the program's name first. The errors: `Clap` where `clap` refuses the
 /// words or help was asked for, `Words` where it takes them and they are still no task, as with a
 /// schedule's text that is none or a seed without a number of turns, `Memory` where memory was refused.
@@ -109,17 +124,8 @@ pub fn task(alloc: Global, words: &[String]) -> Result<Task, TaskFault>
     ensures words { IsErrOf result TaskFault.Words → AreWordsOfNone (map string_bytes words.now) }
 {
     let matches = read_words(alloc, words)?;
-    if let Some(replay) = matches.subcommand_matches("replay") {
-        return replay_task(alloc, replay);
+    match matches.subcommand() {
+        Some((name, matches)) => task_of(alloc, name, matches),
+        None => Err(TaskFault::Words),
     }
-    if let Some(check) = matches.subcommand_matches("check") {
-        return check_task(alloc, check);
-    }
-    if let Some(run) = matches.subcommand_matches("run") {
-        return run_task(alloc, run);
-    }
-    if let Some(key) = matches.subcommand_matches("key") {
-        return key_task(key);
-    }
-    Err(TaskFault::Words)
 }

@@ -42,7 +42,8 @@ use Rattle.coresteps.specs.declared.shared.Made.{Made}
 use Rattle.coresteps.specs.declared.shared.Shared.{Shared}
 use Rattle.coresteps.specs.declared.fault.CoreFault.{CoreFault}
 use Rattle.coresteps.specs.Lanes.{IsSlot, slot_at, empty_slot, first_progress, no_most, counted, counted_step, most_after}
-use Rattle.coresteps.specs.Kept.{IsTable, IsDraft, IsLaneAt, IsWorked, IsCoreAt, CoreState, IsCore, IsEmptyTurn, MakesTurn, Turns, IsRun}
+use Rattle.coresteps.specs.Kept.{IsTable, IsDraft, IsLaneAt, IsWorked, IsCoreAt, CoreState, SameShared, IsCore, IsEmptyTurn, MakesTurn, Turns, IsRun}
+use Rattle.coresteps.proofs.TableLemmas.{same_draft}
 use Rattle.coresteps.proofs.NoteLemmas.{draft_step, chained_front}
 use Rattle.coresteps.proofs.CountLemmas.{few_steps, few_other}
 use Rattle.coresteps.proofs.CreateLemmas.{drop_within}
@@ -73,12 +74,6 @@ drop_first [] zero x more d e = absurd (cc e)
 drop_first [] (suc n) x more d e = absurd (cc e)
 drop_first (y ∷ ys) zero x more d e = cc e
 drop_first (y ∷ ys) (suc n) x more d e = drop_first ys n x more d e
-
--- ---- results
-
-pub on_err : {A E : Type 0} → (r : Result A E) (P : Type 0) → P → OnErr r P
-on_err (Ok x) P p = tt
-on_err (Err e) P p = p
 
 -- ---- a lane that did nothing
 
@@ -429,7 +424,7 @@ module _ (old new : Shared) (w : World) (most : ℕ → Most) (lanes : List Lane
     }
 
 -- the same core, where only what is not told of the world has changed
-pub same_core : (old new : Shared) (w : World) (most : ℕ → Most) (lanes : List Lane) → IsCoreAt w most old lanes → new.shape ≡ old.shape → IsDraft new w None
+same_core : (old new : Shared) (w : World) (most : ℕ → Most) (lanes : List Lane) → IsCoreAt w most old lanes → new.shape ≡ old.shape → IsDraft new w None
     → IsCoreAt w most new lanes
 same_core old new w most lanes k shape draft = record {
   draft = draft;
@@ -440,6 +435,14 @@ same_core old new w most lanes k shape draft = record {
   bounded = k.bounded;
   resting = subst (λ (z : Shape). AreResting z w) (sym shape) k.resting;
 }
+
+-- where a turn changed nothing, the core keeps what it kept
+pub same_cores : {T E : Type 0} → (old new : CoreState) (r : Result T E) → OnErr r (SameShared old.shared new.shared × (new.lanes ≡ old.lanes))
+    → OnErr r ((w : World) (most : ℕ → Most) → IsCore w most old → IsCore w most new)
+same_cores old new (Ok x) same = tt
+same_cores old new (Err e) ((shape, words, rows, history), lanes) = λ w most k.
+    subst (IsCoreAt w most new.shared) (sym lanes)
+    (same_core old.shared new.shared w most old.lanes k shape (same_draft old.shared new.shared w None shape words rows history k.draft))
 
 -- where the lane's book stands after the turn
 pub at_world : (z : Shape) (w : World) (t : Turn) (number : ℕ) (lane : Lane) (p : Progress) → t.lane ≡ number
@@ -499,6 +502,14 @@ finished_by core w most number lanes lane script k same below read is =
     let inside : number < core.shared.shape.lanes = omega arith in
     ap (λ (xs : List Command). leb (length xs) lane.progress.done) is ∙ (sym (at_end-drop lane.script lane.progress.done) ∙ (ap at_end at.left
     ∙ sym (ap (λ (b : Bool). cond b (at_end (w.books number).left) true) (lt-ltb number core.shared.shape.lanes inside))))
+
+-- the greatest numbers of steps that the core has of a lane are those of the world's lane
+pub most_by : (core : CoreState) (w : World) (most : ℕ → Most) (number : ℕ) (lanes : List Lane) (lane : Lane) → IsCore w most core
+    → lanes ≡ core.lanes → true ≡ ltb number (length lanes) → lane ≡ get_or lanes number lane → lane.progress.most ≡ most number
+most_by core w most number lanes lane k same below read =
+    k.most_is number lane
+    (ap (λ (xs : List Lane). slice_get xs number) (sym same)
+    ∙ slice_get_read lanes (length lanes) number lane refl (ltb-true number (length lanes) (sym below)) read)
 
 -- ---- turns of the core
 

@@ -292,7 +292,7 @@ module _ (shared : Shared) (w : World) (made : Option Made) (number : ℕ) (lane
           ∙ ((λ i. handed_first (own_is i) (handed_first places (last_place the_shape number (at.opened i))))
           ∙ handed_joined the_book.own the_book.chain (taken the_book.acts) (last_place the_shape number the_book.opened))
 
-      left_is : after_own the_shape number old.own.opened [] places own_now ≡ free_after_create the_shape number the_book
+      left_is : after_own the_shape number old.own.opened [] places own_now ≡ free_after_create the_shape number (free_with the_book.own the_book.chain the_book.opened) the_book.acts
       left_is = (λ i. after_own the_shape number (at.opened i) [] places (own_is i))
           ∙ joined the_shape number the_book.opened the_book.own the_book.chain (taken the_book.acts) (create_takes (caller the_shape number the_book) the_book.own the_book.chain the_book.opened the_book.steps the_book.acts has)
 
@@ -364,7 +364,7 @@ module _ (shared : Shared) (w : World) (made : Option Made) (number : ℕ) (lane
                   (new_slot key) (register_with (holdings.Filling key []) (Some key)) (fresh_slot key);
               list = given.list;
               own = free.0 ∙ (ap (λ (f : Free). f.own) left_is
-                  ∙ sym (ap (λ (xs : List ℕ). (free_after_create the_shape number the_book).own ++ xs) nothing_back ∙ append-nil (free_after_create the_shape number the_book).own));
+                  ∙ sym (ap (λ (xs : List ℕ). (free_after_create the_shape number (free_with the_book.own the_book.chain the_book.opened) the_book.acts).own ++ xs) nothing_back ∙ append-nil (free_after_create the_shape number (free_with the_book.own the_book.chain the_book.opened) the_book.acts).own));
               chain = subst (λ (t : List Act × List ℕ). IsChained t.0 new.chain t.1)
                   (λ i. (sym draft.history i, ap (λ (f : Free). f.chain) left_is i)) free.1;
               opened = free.2 ∙ ap (λ (f : Free). f.opened) left_is;
@@ -404,7 +404,7 @@ module _ (z : Shape) (shape : IsShape z) (lane : ℕ) where
 
   -- the own list after a reply is the one before, or that after a create
   free_own : (b : Book) (command : Command) (reply : Reply)
-      → ((free_after z lane b command reply).own ≡ b.own) ⊎ ((free_after z lane b command reply).own ≡ (free_after_create z lane b).own)
+      → ((free_after z lane b command reply).own ≡ b.own) ⊎ ((free_after z lane b command reply).own ≡ (free_after_create z lane (free_with b.own b.chain b.opened) b.acts).own)
   free_own b (commands.Create r) (replies.Filling key) = inr refl
   free_own b command reply = inl refl
 
@@ -412,7 +412,7 @@ module _ (z : Shape) (shape : IsShape z) (lane : ℕ) where
       → (p : ℕ) → 0 < times p (free_after z lane b command reply).own → shard_of p ≡ lane
   free_shard b command reply of p some = ⊎_elim
       (λ (e : (free_after z lane b command reply).own ≡ b.own). of p (subst (λ (xs : List ℕ). 0 < times p xs) e some))
-      (λ (e : (free_after z lane b command reply).own ≡ (free_after_create z lane b).own).
+      (λ (e : (free_after z lane b command reply).own ≡ (free_after_create z lane (free_with b.own b.chain b.opened) b.acts).own).
       created_shard b.opened (taken b.acts) b.chain b.own of p (subst (λ (xs : List ℕ). 0 < times p xs) e some))
       (free_own b command reply)
 

@@ -668,3 +668,11 @@ module _ (z : Shape) (w : World) (number : ℕ) (lane : Lane) (more : List Comma
     subst (λ (o : Option ℕ). WhereKey o replies.Skip (λ at. replies.Skip ≡ replies.Cleared (cleared the_book.acts))) names refl,
     stays (commands.Clear operand) tt tt left replies.Skip refl,
   )
+
+-- ---- the last step
+
+pub one_last : {o : Option Step} {step other : Step} → o ≡ Some step → o ≡ Some other → step ≡ other
+one_last is also = cc
+
+pub no_last : {o : Option Step} {step : Step} → o ≡ None → o ≡ Some step → ⊥
+no_last none is = cc

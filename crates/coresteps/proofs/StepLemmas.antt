@@ -43,7 +43,7 @@ use Rattle.coresteps.specs.Kept.{IsWordOf, IsTable, IsPublished}
 use Rattle.coresteps.proofs.CountLemmas.{NotCreating}
 use Rattle.coresteps.proofs.AimLemmas.{under_way}
 use Rattle.traces.specs.declared.script.Command.{Command}
-use Rattle.std.proofs.lemmas.Option.{slice_get_within, get_or_from_slice_get}
+use Rattle.std.proofs.lemmas.Option.{slice_get-get_or, slice_get_within, get_or_from_slice_get}
 use Rattle.std.proofs.lemmas.List.{get_or_append_left}
 use Rattle.std.proofs.Math.Seq.{get_or-append_seam}
 use Rattle.std.proofs.Common.{length-append}
@@ -569,9 +569,11 @@ no_step z w number step act none is =
     subst (λ (o : Option Call). CallMakes (caller z number (w.books number)) o w.words.link step act) none is.makes
 
 -- the call under way is that of the next command
-pub first_left : (script : List Command) (done : ℕ) (command : Command) (b : Book) → slice_get script done ≡ Some command → drop done script ≡ b.left
-    → call_under_way b ≡ call_of b command
-first_left script done command b e left = under_way b script done command left e
+pub next_called : (script commands : List Command) (done : ℕ) (command : Command) (b : Book) → commands ≡ script → done < length commands
+    → ((other : Command) → command ≡ get_or commands done other) → drop done script ≡ b.left → call_under_way b ≡ call_of b command
+next_called script commands done command b same inside at left =
+    under_way b script done command left (subst (λ (xs : List Command). slice_get xs done ≡ Some command) same
+    (slice_get-get_or commands done command inside ∙ ap Some (sym (at command))))
 
 -- ---- the place of a publish
 

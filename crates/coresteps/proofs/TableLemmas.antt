@@ -14,6 +14,7 @@ use Rattle.keybits.proofs.ShapeLemmas.{position_of-lt, position_of-injective}
 use Rattle.seqpool.specs.declared.act.Act.{Act}
 use Rattle.seqpool.specs.declared.act.Act.TheVariants as acts
 use Rattle.steplaws.specs.Facts.{Words, put_at, put_two, with_value}
+use Rattle.steplaws.proofs.Updates.{at-here, at-else}
 use Rattle.seqpool.specs.Pool.{pool_after}
 use Rattle.traces.specs.Books.{act_list}
 use Rattle.traces.specs.Following.{row_content}
@@ -226,3 +227,21 @@ lane_added z scripts lanes script lane are is = record {
       let e = are.each number one h.0 in (h.1 ∙ e.0, e.1, e.2))
       (added lanes scripts lane script number one are.count at);
 }
+
+-- ---- the lifecycle word of a place, after a step
+
+pub life_made : (words : Words) (word : Word) (value changed place : ℕ) → word ≡ Life changed → changed ≡ place
+    → (with_value words word value).life place ≡ value
+life_made words word value changed place is same =
+    ap (λ (x : Word). (with_value words x value).life place) is ∙ at-here words.life changed value place (sym same)
+
+pub life_else : (words : Words) (word : Word) (value changed place : ℕ) → word ≡ Life changed → changed ≢ place
+    → (with_value words word value).life place ≡ words.life place
+life_else words word value changed place is other =
+    ap (λ (x : Word). (with_value words x value).life place) is ∙ at-else words.life changed value place (λ e. other (sym e))
+
+pub life_other : (words : Words) (word : Word) (value place : ℕ) → ((changed : ℕ) → word ≢ Life changed)
+    → (with_value words word value).life place ≡ words.life place
+life_other words (Life changed) value place isnt = absurd (isnt changed refl)
+life_other words (Link changed) value place isnt = refl
+life_other words (Stack shard lane) value place isnt = refl

@@ -5,7 +5,7 @@ use Rattle.std.specs.List.Sorted.{IsPartitionedBy, IsPartitionPoint}
 use Rattle.std.specs.declared.alloc.Global.{Global}
 use Rattle.std.proofs.lemmas.Bool.{cases_eq, ltb-true, ltb-false, lt-ltb}
 use Rattle.std.proofs.lemmas.Grind.{flat_map-append}
-use Rattle.std.proofs.lemmas.List.{take-append-drop, length-take-le, length-drop, get_or_append_left, get_or-append_right, take_at, take_more, drop_at}
+use Rattle.std.proofs.lemmas.List.{take-append-drop, length-take-le, length-drop, get_or_append_left, get_or-append_right, take_at, take_all, take_more, drop_at}
 use Rattle.std.proofs.lemmas.List.Elements.{All-nil, All-cons, All-append}
 use Rattle.std.proofs.lemmas.Option.{slice_get_read}
 use Rattle.traces.specs.declared.script.Register.{Register}
@@ -319,3 +319,21 @@ pub row_is : (script : List Command) (rows : List (Vec ℕ Global)) (number : �
     → row ≡ get_or rows number row → row.items ≡ write_indices number 0 script
 row_is script rows number row are small at =
     are.each number row (slice_get_read rows (length rows) number row refl (let sixteen = are.sixteen in omega arith) at)
+
+-- the rows after one command more
+pub writes_more : (script commands : List Command) (old new : List (Vec ℕ Global)) (index : ℕ) (command : Command) → commands ≡ script
+    → index < length commands → command ≡ get_or commands index command → AreWrites (take index script) old
+    → ((before : List Command) → AreWrites before old → length before ≡ index → AreWrites (before ++ command ∷ []) new)
+    → AreWrites (take (index + 1) script) new
+writes_more script commands old new index command same inside read are noted =
+    subst (λ (xs : List Command). AreWrites (take (index + 1) xs) new) same
+    (subst (λ (xs : List Command). AreWrites xs new)
+    (ap (λ (c : Command). take index commands ++ c ∷ []) read ∙ sym (take_more commands index command inside))
+    (noted (take index commands) (subst (λ (xs : List Command). AreWrites (take index xs) old) (sym same) are)
+    (length-take-le index commands (omega arith))))
+
+-- the rows after all commands
+pub writes_all : (script commands : List Command) (rows : List (Vec ℕ Global)) (index : ℕ) → commands ≡ script → length commands ≤ index
+    → AreWrites (take index script) rows → AreWrites script rows
+writes_all script commands rows index same past are =
+    subst (λ (xs : List Command). AreWrites xs rows) (ap (take index) (sym same) ∙ (take_all index commands past ∙ same)) are

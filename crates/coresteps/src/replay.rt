@@ -122,7 +122,6 @@ impl Shared {
         requires place { (lane key : ℕ) (content : List ℕ) (with_ref : Bool) → made.act ≡ Some (Publish lane key content with_ref)
             → is_place self.old.shape (place_of key) ≡ true }
         ensures ok { OnOk result ((w : World) → IsDraft self.old w (Some made) → IsDraft self.new w None) }
-        ensures err { OnErr result ((w : World) → IsDraft self.old w None → IsDraft self.new w None) }
         ensures same { OnErr result (SameShared self.old self.new) }
         ensures shape { self.new.shape ≡ self.old.shape }
     {
@@ -145,8 +144,6 @@ impl Shared {
         ensures published { OnOk result ((place : ℕ) → is_place self.old.shape place ≡ true
             → slice_index self.new.published.items (position_of self.old.shape place)
             ≡ index_of_publish self.old.shape self.old.published.items (length self.old.acts.items) (act ∷ []) place) }
-        ensures err { OnErr result ((self.new.acts.items ≡ self.old.acts.items)
-            × (self.new.published.items ≡ self.old.published.items)) }
         ensures same { OnErr result (SameShared self.old self.new) }
         ensures rows { length self.new.published.items ≡ length self.old.published.items }
         ensures words { self.new.words ≡ self.old.words }
@@ -170,7 +167,6 @@ fn next_turn(shared: &mut Shared, lanes: &mut Vec<Lane>, lane: u32) -> Result<Tu
     requires { (w : World) × (most : ℕ → Most) × IsCoreAt w most shared.old lanes.old.items × (is_finished shared.old.shape w lane ≡ false) }
     ensures ok { IfOk result (λ turn. (w : World) (most : ℕ → Most) → IsCoreAt w most shared.old lanes.old.items → is_finished shared.old.shape w lane ≡ false
         → MakesTurn (record { shared = shared.old; lanes = lanes.old.items }) w most lane turn (record { shared = shared.new; lanes = lanes.new.items })) }
-    ensures err { OnErr result ((w : World) (most : ℕ → Most) → IsCoreAt w most shared.old lanes.old.items → IsCoreAt w most shared.new lanes.new.items) }
     ensures same { OnErr result (SameShared shared.old shared.new × (lanes.new.items ≡ lanes.old.items)) }
     ensures shape { shared.new.shape ≡ shared.old.shape }
 {
@@ -198,7 +194,6 @@ fn advance(
         → (turn.lane ≡ lane) × IsNextTurn shared.old.shape w turn × IsDraft shared.new (world_after shared.old.shape w turn) None
         × IsLaneAt shared.old.shape (world_after shared.old.shape w turn).history lane of.now progress.new (book_after shared.old.shape w turn)
         × (progress.new.most ≡ counted_step (book_before shared.old.shape w turn) turn.step progress.old.most)) }
-    ensures err { OnErr result ((w : World) → IsDraft shared.old w None → IsDraft shared.new w None) }
     ensures same { OnErr result (SameShared shared.old shared.new) }
     ensures shape { shared.new.shape ≡ shared.old.shape }
 {

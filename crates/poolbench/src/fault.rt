@@ -18,14 +18,13 @@ pub enum Fault {
 
 impl fmt::Display for Fault {
     fn fmt<W: fmt::Write>(&self, f: &mut fmt::Formatter<W>) -> fmt::Result {
-        match self {
-            Fault::Words => f.write_str(
-                "words: a case, a number of threads up to 16, and a number of rounds",
-            ),
-            Fault::Open(fault) => fault.fmt(f),
-            Fault::Memory => f.write_str("out of memory"),
-            Fault::Output => f.write_str("the output can't be written"),
-        }
+        let text = match self {
+            Fault::Words => "words: a case, a number of threads up to 16, and a number of rounds",
+            Fault::Open(fault) => return fault.fmt(f),
+            Fault::Memory => "out of memory",
+            Fault::Output => "the output can't be written",
+        };
+        f.write_str(text)
     }
 }
 

@@ -24,12 +24,10 @@ const FEW_ROUNDS: u64 = 2;
 
 /// The words of the command line, without the program's name.
 fn read_words(rt: &HostRuntime) -> Result<Vec<String>, Fault> {
-    let args = env::args(rt).or(Err(Fault::Words))?;
-    let mut words = Vec::new(rt.alloc());
-    for word in args.skip(1) {
-        words.push(word).or(Err(Fault::Memory))?;
+    match env::args(rt) {
+        Ok(args) => Ok(args.skip(1).collect(rt.alloc())?),
+        Err(_) => Err(Fault::Words),
     }
-    Ok(words)
 }
 
 /// Does a plan, and prints its line.

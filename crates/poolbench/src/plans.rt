@@ -44,6 +44,21 @@ fn run_solo<R: Threads + Sync>(
     Ok(sum_of(&counts))
 }
 
+/// What the workers of a deed share beside the pool.
+fn share(
+    alloc: Global,
+    deed: Deed,
+    workers: &mut [Worker],
+    threads: u32,
+) -> Result<Shared, AllocError> {
+    let ways = Ways::new(alloc, threads)?;
+    let keys = match deed {
+        Deed::Get(_) => put_each(alloc, workers)?,
+        Deed::Own(_) | Deed::Pass => Vec::new(alloc),
+    };
+    Ok(Shared { keys, ways })
+}
+
 /// Does a deed with these workers, each on a thread of its own; on one thread the only worker, or two that pass objects.
 fn run_deed<R: Threads + Wait + Sync>(
     rt: &R,
@@ -54,18 +69,13 @@ fn run_deed<R: Threads + Wait + Sync>(
     rounds: u64,
 ) -> Result<u64, AllocError> {
     if let (Deed::Pass, 1) = (deed, threads) {
-        return Ok(pass_alone(workers, rounds));
+        return Ok(pass_alone(&mut workers, rounds));
     }
-    let keys = match deed {
-        Deed::Get(_) => put_each(alloc, &mut workers)?,
-        Deed::Own(_) | Deed::Pass => Vec::new(alloc),
-    };
-    let ways = Ways::new(alloc, threads)?;
-    let shared = Shared { keys, ways };
+    let shared = share(alloc, deed, &mut workers, threads)?;
     let counts = thread::map_vec(
         rt,
         workers,
-        &|worker: Worker| { deed.run(rt, worker, &shared, rounds) },
+        &|mut worker: Worker| { deed.run(rt, &mut worker, &shared, rounds) },
     )?;
     Ok(sum_of(&counts))
 }

@@ -100,7 +100,7 @@ impl Deed {
     }
 
     /// Does it so many rounds. Answers a number by which one sees that they were done.
-    pub fn run<R: Wait>(self, rt: &R, worker: Worker, shared: &Shared, rounds: u64) -> u64 {
+    pub fn run<R: Wait>(self, rt: &R, worker: &mut Worker, shared: &Shared, rounds: u64) -> u64 {
         match self {
             Deed::Own(own) => own.run(worker, rounds),
             Deed::Get(whose) => {
@@ -114,7 +114,7 @@ impl Deed {
 }
 
 impl Own {
-    fn run(self, worker: Worker, rounds: u64) -> u64 {
+    fn run(self, worker: &mut Worker, rounds: u64) -> u64 {
         match self {
             Own::GetMany => get_many(worker, rounds),
             Own::Cycle => cycle(worker, rounds),
@@ -165,7 +165,7 @@ fn open(alloc: Global, shape: Shape, objects: u32, rounds: u64) -> u64 {
     places
 }
 
-fn get_many(mut worker: Worker, rounds: u64) -> u64 {
+fn get_many(worker: &mut Worker, rounds: u64) -> u64 {
     let mut keys = [0; MANY];
     worker.put_all(&mut keys);
     let mut bytes = 0u64;
@@ -176,7 +176,7 @@ fn get_many(mut worker: Worker, rounds: u64) -> u64 {
     bytes
 }
 
-fn cycle(mut worker: Worker, rounds: u64) -> u64 {
+fn cycle(worker: &mut Worker, rounds: u64) -> u64 {
     let mut taken = 0u64;
     for _ in 0..rounds {
         if let Some(key) = worker.put() {
@@ -186,7 +186,7 @@ fn cycle(mut worker: Worker, rounds: u64) -> u64 {
     taken
 }
 
-fn churn(mut worker: Worker, rounds: u64) -> u64 {
+fn churn(worker: &mut Worker, rounds: u64) -> u64 {
     let mut keys = [0; LIVE];
     worker.put_all(&mut keys);
     let mut taken = 0u64;
@@ -198,7 +198,7 @@ fn churn(mut worker: Worker, rounds: u64) -> u64 {
     taken
 }
 
-fn full(mut worker: Worker, rounds: u64) -> u64 {
+fn full(worker: &mut Worker, rounds: u64) -> u64 {
     worker.put_all(&mut [0; PLACES as usize]);
     let mut full = 0u64;
     for _ in 0..rounds {
@@ -207,7 +207,7 @@ fn full(mut worker: Worker, rounds: u64) -> u64 {
     full
 }
 
-fn get(mut worker: Worker, key: u64, rounds: u64) -> u64 {
+fn get(worker: &mut Worker, key: u64, rounds: u64) -> u64 {
     let mut bytes = 0u64;
     for _ in 0..rounds {
         bytes = bytes.wrapping_add(worker.read(key) as u64);
@@ -215,7 +215,7 @@ fn get(mut worker: Worker, key: u64, rounds: u64) -> u64 {
     bytes
 }
 
-fn give<R: Wait>(rt: &R, mut worker: Worker, ways: &Ways, rounds: u64) -> u64 {
+fn give<R: Wait>(rt: &R, worker: &mut Worker, ways: &Ways, rounds: u64) -> u64 {
     let lane = worker.number();
     for round in 0..rounds {
         ways.send(rt, lane, round, worker.put().unwrap_or(0));
@@ -223,7 +223,7 @@ fn give<R: Wait>(rt: &R, mut worker: Worker, ways: &Ways, rounds: u64) -> u64 {
     0
 }
 
-fn take<R: Wait>(rt: &R, mut worker: Worker, ways: &Ways, rounds: u64) -> u64 {
+fn take<R: Wait>(rt: &R, worker: &mut Worker, ways: &Ways, rounds: u64) -> u64 {
     let lane = worker.number();
     let mut taken = 0u64;
     for round in 0..rounds {
@@ -234,8 +234,11 @@ fn take<R: Wait>(rt: &R, mut worker: Worker, ways: &Ways, rounds: u64) -> u64 {
 }
 
 /// Objects are put by one worker and taken away by another, on this thread. Answers how many.
-pub fn pass_alone(mut workers: Vec<Worker>, rounds: u64) -> u64 {
-    let (Some(mut to), Some(mut from)) = (workers.pop(), workers.pop()) else {
+pub fn pass_alone(workers: &mut [Worker], rounds: u64) -> u64 {
+    let Some((from, others)) = workers.split_first_mut() else {
+        return 0;
+    };
+    let Some((to, _)) = others.split_first_mut() else {
         return 0;
     };
     let mut taken = 0u64;

@@ -3,6 +3,7 @@ pub mod Returning
 pub mod Ending
 pub mod Filling
 pub mod Calling
+pub mod Standing
 pub mod Having
 pub mod Moves
 pub mod CellTakes

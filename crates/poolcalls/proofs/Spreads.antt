@@ -1,7 +1,8 @@
 -- What BACKs of the shares of a place that is with the lane come to.
 use mathlib.Core.Logic.{dite}
 use native.Mathlib.Decide.{ℕ_discrete}
-use Rattle.std.proofs.Common.{◌≡◌, ◌≢◌, inl, inr, ⊎_elim, ℕ, ◌+◌, ◌-◌, ◌*◌, ◌≤◌, List, Option, refl, sym, ◌∙◌, subst, arith}
+use Rattle.std.proofs.Common.{◌≡◌, ◌≢◌, inl, inr, ⊎_elim, ℕ, ◌+◌, ◌-◌, ◌*◌, ◌<◌, ◌≤◌, true, false, nat_lt, List, Option, refl, sym, ◌∙◌, subst, arith}
+use Rattle.std.proofs.lemmas.Bool.{cases_Bool, ltb-true, ltb-false}
 use Rattle.atomic_table.specs.Table.{Me}
 use Rattle.keybits.specs.declared.shape.Shape.{Shape}
 use Rattle.slotcell.specs.Share.{Share}
@@ -54,3 +55,12 @@ one-more {z = z} {place = place} {from = from} {n = n} {a = a} {c = c} low sprea
       others = λ k aside. let other : k ≢ n = λ same. absurd (omega arith) in moves-beside (back-moves backs) k other
           ∙ spreads.others k (⊎_elim (λ under. inl under) (λ past. inr (omega arith)) aside);
     }
+
+-- the shares below one number and those above it
+pub both-filled : {S : Type 0} {z : Shape} {place lane n : ℕ} {a b c : Me S View} → Spreads z place 0 lane a b → Spreads z place (lane + 1) n b c → (number : ℕ) → number < n
+    → number ≢ lane → status_of (the_lane c.0) place number ≡ Untouched
+both-filled {lane = lane} first second number below other = ⊎_elim
+    (λ (low : nat_lt number lane ≡ true).
+    let under = ltb-true number lane low in second.others number (inl (omega (arith, under))) ∙ first.filled number (omega arith) under)
+    (λ (high : nat_lt number lane ≡ false). let over = ltb-false number lane high in second.filled number (omega (arith, over, other)) below)
+    (cases_Bool (nat_lt number lane))

@@ -1,10 +1,23 @@
--- How a file is refused whose plan is replayed.
-use Rattle.std.proofs.Common.{ℕ, List, refl}
+-- What is written, and how a file is refused, where its plan is replayed.
+use Rattle.std.proofs.Common.{ℕ, Bool, List, Option, refl}
 use Rattle.scripts.specs.declared.plan.Plan.{Plan}
 use Rattle.scripts.specs.Readings.{StandsFor}
-use Rattle.poolprogram.specs.Replays.{RefusesReplay, RefusesReplayOf}
+use Rattle.poolprogram.specs.Replays.{WritesReplay, WritesReplayOf, RefusesReplay, RefusesReplayOf}
 use Rattle.poolprogram.specs.declared.run_fault.RunFault.{RunFault}
 use Rattle.poolprogram.specs.declared.run_fault.RunFault.TheVariants as runs
+
+pub writes_replay : (file schedule : List ℕ) (plan : Plan) (acts : Bool) (old new : Option (List ℕ))
+    → StandsFor file plan → WritesReplayOf plan schedule acts old new → WritesReplay file schedule acts old new
+writes_replay file schedule plan acts old new stands writes = record {
+  text = writes.text;
+  replay = record {
+    shape = plan.shape;
+    trace = writes.replay.trace;
+    replayed = record { plan = plan; stands = stands; shape = refl; lawful = writes.replay.lawful };
+    is = writes.replay.is;
+  };
+  appended = writes.appended;
+}
 
 pub refuses_replay : (file schedule : List ℕ) (plan : Plan) (fault : RunFault)
     → StandsFor file plan → RefusesReplayOf plan schedule fault → RefusesReplay file schedule fault

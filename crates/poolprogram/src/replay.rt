@@ -1,8 +1,9 @@
-ghost use Rattle.std.specs.Prelude.{◌≡◌, ◌≢◌, ◌↔◌, true, false, length, IfOk, IfErr, OnOk, IsErrOf};
+ghost use Rattle.std.specs.Prelude.{◌≡◌, ◌≢◌, ◌↔◌, ◌++◌, true, false, length, IfOk, IfErr, OnOk, IsErrOf};
 ghost use Rattle.keybits.specs.Shapes.{IsShape};
 ghost use Rattle.traces.specs.Lawful.{IsLawful};
 ghost use Rattle.seqpool.specs.ActsText.{IsTextOf};
 ghost use Rattle.traces.specs.Text.{trace_text};
+ghost use Rattle.traces.specs.Books.{act_list};
 ghost use Rattle.traces.specs.TurnLaws.{all_acts};
 ghost use Rattle.scripts.specs.Readings.{StandsFor};
 ghost use Rattle.poolprogram.specs.Replays.{IsText, IsCoreFault, IsReplayOf, RefusesReplayOf, WritesReplayOf, RefusesReplay, WritesReplay};
@@ -29,16 +30,24 @@ fn run_plan(alloc: Global, plan: Plan, schedule: &[u32]) -> Result<Trace, RunFau
     run(alloc, shape, scripts.into_vec(), schedule).map_err(RunFault::Core)
 }
 
+/// Appends a turn's act once more, where it has one.
+fn push_act(alloc: Global, act: &Option<Act>, acts: &mut Vec<Act>) -> Result<(), AllocError>
+    ensures { OnOk result (acts.new.items ≡ acts.old.items ++ act_list act.now) }
+{
+    if let Some(act) = act {
+        let act = act.copy(alloc)?;
+        acts.push(act)?;
+    }
+    Ok(())
+}
+
 /// The acts of a trace, once more.
 fn acts_of(alloc: Global, turns: &[Turn]) -> Result<Vec<Act>, AllocError>
     ensures { IfOk result (λ acts. acts.items ≡ all_acts turns.now) }
 {
     let mut acts = Vec::new(alloc);
     for turn in turns {
-        if let Some(act) = &turn.act {
-            let act = act.copy(alloc)?;
-            acts.push(act)?;
-        }
+        push_act(alloc, &turn.act, &mut acts)?;
     }
     Ok(acts)
 }

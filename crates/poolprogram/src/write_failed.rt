@@ -7,7 +7,7 @@ pub struct WriteFailed;
 
 impl fmt::Display for WriteFailed {
     fn fmt<W: fmt::Write>(&self, f: &mut fmt::Formatter<W>) -> fmt::Result {
-        write!(f, "the output can't be written")
+        f.write_str("the output can't be written")
     }
 }
 

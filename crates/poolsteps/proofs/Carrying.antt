@@ -1,5 +1,5 @@
 -- OUT and BACK: a look that takes a slot, an exchange of what it has, and a look that gives it back.
-use Rattle.std.proofs.Common.{◌≡◌, ◌≢◌, inl, inr, ⊎_elim, ℕ, ◌+◌, Bool, cond, eqb, List, [], ◌∷◌, Option, Some, None, refl, ap, sym, ◌∙◌, subst, arith, eq-eqb, ne_eqb}
+use Rattle.std.proofs.Common.{◌≡◌, ◌≢◌, ◌==◌, ◌&&◌, inl, inr, ⊎_elim, ℕ, ◌+◌, Bool, true, cond, eqb, List, [], ◌∷◌, Option, IsSome, Some, None, refl, ap, sym, ◌∙◌, subst, arith, eq-eqb, ne_eqb}
 use Rattle.std.proofs.lemmas.Bool.{and_right}
 use Rattle.atomic_table.specs.Table.{Me, rest}
 use Rattle.keybits.specs.declared.shape.Shape.{Shape}
@@ -13,7 +13,7 @@ use Rattle.sharelaws.specs.ShareLaws.{Leaves}
 use Rattle.poolsteps.specs.declared.view.LaneRecord.{LaneRecord}
 use Rattle.poolsteps.specs.declared.view.View.{View}
 use Rattle.poolsteps.specs.Layout.{slot_index}
-use Rattle.poolsteps.specs.Views.{head_record, the_lane, status_of, known_of}
+use Rattle.poolsteps.specs.Views.{head_record, the_lane, status_of, known_of, IsOne}
 use Rattle.poolsteps.specs.Told.{GoesOn, MayTouch}
 use Rattle.poolsteps.specs.Moved.{moved_record, MayStore, stored_of, IsLeft, Lifts, Lays, Outs, Backs}
 use Rattle.poolsteps.proofs.Keeping.{shares-law, goes-has, goes-two}
@@ -23,10 +23,20 @@ abbrev pub first_value : {T : Type 0} → List (ℕ × Option (Share T)) → Opt
 first_value [] = None
 first_value (x ∷ more) = x.1
 
+-- the slot that was taken last, by another word for its index
+pub first-held : {A : Type 0} {held before : List (ℕ × A)} {value : A} (index other : ℕ) → other ≡ index → held ≡ (index, value) ∷ before → held ≡ (other, value) ∷ rest held
+first-held {A = A} {before = before} {value = value} index other same is =
+    subst (λ (xs : List (ℕ × A)). xs ≡ (other, value) ∷ rest xs) (sym is) (ap (λ (n : ℕ). (n, value) ∷ before) (sym same))
+
 -- after a move the lane left each other slot of the place as before, and it knows the cell
 module _ (r : LaneRecord) (place number : ℕ) (status : Status) (c : Stored) where
   status-beside : (k : ℕ) → k ≢ number → status_of (moved_record r place number status c) place k ≡ status_of r place k
   status-beside k other = ap (λ (b : Bool). cond b status (status_of r place k)) (and_right (eqb place place) (eqb k number) (ne_eqb k number other))
+
+  status-here : status_of (moved_record r place number status c) place number ≡ status
+  status-here =
+      let here : (place == place) && (number == number) ≡ true = ap (λ (b : Bool). b && (number == number)) (eq-eqb place place refl) ∙ eq-eqb number number refl in
+      ap (λ (b : Bool). cond b status (status_of r place number)) here
 
   known-moved : known_of (moved_record r place number status c) place ≡ c
   known-moved = ap (λ (b : Bool). cond b c (known_of r place)) (eq-eqb place place refl)
@@ -73,6 +83,19 @@ module _ {T : Type 0} (content : T → List ℕ) (room : T → ℕ) where
 
     known-lifted : known_of (the_lane n.0) place ≡ lifts.c
     known-lifted = rw lane-lifted (known-moved r place number InHand lifts.c)
+
+    -- the seat is that of one lane, and the slot is in its hands
+    pub one-lifted : IsOne n.0
+    one-lifted = lifts.goes.lanes ∙ ap (λ (x : LaneRecord). x ∷ []) (sym lane-lifted)
+
+    pub hand-lifted : status_of (the_lane n.0) place number ≡ InHand
+    hand-lifted = ap (λ (x : LaneRecord). status_of x place number) lane-lifted ∙ status-here r place number InHand lifts.c
+
+    -- a slot that was left with a share has one then
+    pub full-lifted : status ≢ InHand → status ≢ Emptied → (value : Option (Share T)) → first_value n.1 ≡ value → IsSome value
+    full-lifted aside full value is =
+        let has = full-is z number lifts.c lifts.value status aside full lifts.leaves in
+        subst (λ (x : Option (Share T)). IsSome x) (sym has.1 ∙ (sym (ap first_value lifts.held) ∙ is)) refl
 
     pub may-lifted : MayTouch z m.0 place number → MayTouch z n.0 place number
     may-lifted may = (shares-law z m.0 n.0 lifted lifts.goes refl place number may).0

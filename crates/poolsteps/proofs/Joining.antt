@@ -1,5 +1,5 @@
 -- The shares of a cell are lifted out of a pool's slots, one after another.
-use Rattle.std.proofs.Common.{◌≡◌, ◌≢◌, ⊎_elim, ℕ, ◌+◌, ◌<◌, ◌≤◌, true, List, length, slice_set, ap, sym, ◌∙◌, subst, arith, length-set}
+use Rattle.std.proofs.Common.{◌≡◌, ◌≢◌, ⊎_elim, ℕ, ◌+◌, ◌<◌, ◌≤◌, true, List, length, slice_set, slice_index_or, IsSome, refl, ap, sym, ◌∙◌, subst, arith, length-set}
 use Rattle.std.proofs.lemmas.List.{get_or-set_other, get_or-set_same}
 use Rattle.std.proofs.lemmas.Option.{slice_get_cases, slice_get_past, slice_get-get_or}
 use mathlib.Core.Logic.{dite}
@@ -39,6 +39,19 @@ module _ {T : Type 0} where
   -- a slot with a part has a share
   pub part-some : (slots : List (Option (Share T))) (index i cell number of : ℕ) → i ≡ index → HasPart slots index cell number of → HasAt slots i
   part-some slots index i cell number of same p = (p.share, ap (slice_get slots) same ∙ p.stands)
+
+  -- what is read where a share stands is that share
+  pub read-some : (slots : List (Option (Share T))) (index : ℕ) (slot : Option (Share T)) → HasAt slots index → slot ≡ slice_index_or slots index slot
+      → slice_get slots index ≡ Some slot
+  read-some slots index slot has is = ⊎_elim
+      (λ there. slice_get-get_or slots index slot there.1 ∙ ap Some (sym is))
+      (λ past. absurd (cc (sym has.1 ∙ slice_get_past slots index past.0)))
+      (slice_get_cases slots index).1
+
+  pub some-read : (slots : List (Option (Share T))) (index : ℕ) (slot : Option (Share T)) → HasAt slots index → slot ≡ slice_index_or slots index slot → IsSome slot
+  some-read slots index slot has is =
+      let both : ◌≡◌ {A = Option (Option (Share T))} (Some slot) (Some (Some has.0)) = sym (read-some slots index slot has is) ∙ has.1 in
+      let same : slot ≡ Some has.0 = cc both in subst (λ (x : Option (Share T)). IsSome x) (sym same) refl
 
   -- what was lifted is the share that stood there
   pub part-is : (slots : List (Option (Share T))) (index cell number of : ℕ) (s : Share T) → HasPart slots index cell number of → slice_get slots index ≡ Some (Some s)

@@ -5,7 +5,7 @@ use Rattle.std.proofs.lemmas.Bool.{cases_Bool, ltb-true, lt-ltb}
 use mathlib.Core.Logic.{dite}
 use native.Mathlib.Decide.{ℕ_discrete}
 use Rattle.keybits.specs.declared.shape.Shape.{Shape}
-use Rattle.keybits.specs.Places.{page_of, slot_of}
+use Rattle.keybits.specs.Places.{shard_of, page_of, slot_of}
 use Rattle.keybits.specs.Shapes.{page_size, position_of, is_place}
 use Rattle.keybits.specs.declared.step.Word.TheVariants.{Life, Link}
 use Rattle.keybits.proofs.ShapeLemmas.{is_place-parts, is_place-from_parts}
@@ -59,3 +59,19 @@ place-found z place inside =
     let parts = is_place-parts z place inside in
     let places = row-places z (place / 4096) true (lt-ltb (page_of place) z.pages parts.1) in
     (omega (arith, parts.0), subst (λ (n : ℕ). slot_of place < n) (sym places) parts.2)
+
+-- the row of a page, which tells where each of its places stands
+pub row-spot : (z : Shape) (place : ℕ) (row : PageRow) → is_place z place ≡ true → row ≡ page_row z (place / 4096)
+    → (row.position + place % 4096 ≡ position_of z place) × (row.life + place % 4096 ≡ index_in z (Life place)) × (row.link + place % 4096 ≡ index_in z (Link place))
+    × (row.slot + place % 4096 ≡ slot_start z place)
+row-spot z place row inside is =
+    let first : ℕ = 4096 * (place / 4096) in
+    let has : row ≡ row-of z (place / 4096) true = is ∙ ap (row-of z (place / 4096)) (lt-ltb (page_of place) z.pages (is_place-parts z place inside).1) in
+    let shard : shard_of first ≡ shard_of place = omega arith in
+    let page : page_of first ≡ page_of place = omega arith in
+    let slot : slot_of first ≡ 0 = omega arith in (
+      rw (has, shard, page, slot) (omega arith),
+      rw (has, shard, page, slot) (omega arith),
+      rw (has, shard, page, slot) (omega arith),
+      rw (has, shard, page, slot) (omega arith),
+    )

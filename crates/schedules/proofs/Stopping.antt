@@ -1,6 +1,7 @@
 -- A lane's stop, as it is read from the front of a schedule.
-use Rattle.std.proofs.Common.{◌≡◌, ◌==◌, ℕ, zero, suc, ◌+◌, ◌≤◌, Bool, true, false, not, cond, min, List, [], ◌∷◌, ◌++◌, length, drop, refl, sym, ap, ◌∙◌, arith}
-use Rattle.std.proofs.lemmas.List.{append-nil, drop_all}
+use Rattle.std.proofs.Common.{◌≡◌, ◌==◌, ℕ, zero, suc, ◌+◌, ◌-◌, ◌<◌, ◌≤◌, Bool, true, false, not, cond, min, List, [], ◌∷◌, ◌++◌, length, drop, get_or, ne_eqb, refl, sym, ap, ◌∙◌, arith}
+use Rattle.std.proofs.lemmas.Bool.{eq-eqb}
+use Rattle.std.proofs.lemmas.List.{append-nil, drop_all, drop_more}
 use Rattle.std.proofs.lemmas.List.Sums.{sum_by-cons}
 use Rattle.schedules.specs.Stops.{turns_of, without, IsStopped}
 
@@ -57,3 +58,33 @@ stopped-end lane k left i schedule done so_far past =
     let all : done ≡ stopped lane k schedule =
     sym (append-nil done) ∙ sym (ap (λ rest. done ++ stopped lane left rest) (drop_all i schedule past) ∙ ap (λ rest. done ++ rest) (stopped-nothing lane left)) ∙ so_far in
     rw all (stopped-is lane k schedule)
+
+at-own : (lane entry left : ℕ) (more : List ℕ) → entry ≡ lane → ¬ (left ≡ 0) → stopped lane left (entry ∷ more) ≡ entry ∷ stopped lane (left - 1) more
+at-own lane entry zero more own some = absurd (some refl)
+at-own lane entry (suc left) more own some =
+    let is : (entry == lane) ≡ true = eq-eqb entry lane own in
+    let less : suc left - 1 ≡ left = omega arith in
+    rw (is, less) refl
+
+at-last : (lane entry left : ℕ) (more : List ℕ) → entry ≡ lane → left ≡ 0 → stopped lane left (entry ∷ more) ≡ stopped lane left more
+at-last lane entry zero more own none = let is : (entry == lane) ≡ true = eq-eqb entry lane own in rw is refl
+at-last lane entry (suc left) more own none = absurd (cc none)
+
+at-other : (lane entry left : ℕ) (more : List ℕ) → ¬ (entry ≡ lane) → stopped lane left (entry ∷ more) ≡ entry ∷ stopped lane left more
+at-other lane entry zero more other = let is : (entry == lane) ≡ false = ne_eqb entry lane other in rw is refl
+at-other lane entry (suc left) more other = let is : (entry == lane) ≡ false = ne_eqb entry lane other in rw is refl
+
+module _ (lane left at : ℕ) (schedule : List ℕ) (none : ℕ) (within : at < length schedule) where
+  -- an entry of the lane, which has some to go
+  pub kept-own : get_or schedule at none ≡ lane → ¬ (left ≡ 0)
+      → stopped lane left (drop at schedule) ≡ get_or schedule at none ∷ stopped lane (left - 1) (drop (at + 1) schedule)
+  kept-own own some = ap (stopped lane left) (drop_more schedule at none within) ∙ at-own lane _ left _ own some
+
+  -- an entry of another lane
+  pub kept-other : ¬ (get_or schedule at none ≡ lane)
+      → stopped lane left (drop at schedule) ≡ get_or schedule at none ∷ stopped lane left (drop (at + 1) schedule)
+  kept-other other = ap (stopped lane left) (drop_more schedule at none within) ∙ at-other lane _ left _ other
+
+  -- an entry of the lane, which has none to go
+  pub not-kept : get_or schedule at none ≡ lane → left ≡ 0 → stopped lane left (drop at schedule) ≡ stopped lane left (drop (at + 1) schedule)
+  not-kept own end = ap (stopped lane left) (drop_more schedule at none within) ∙ at-last lane _ left _ own end

@@ -93,12 +93,16 @@ fn read_command_with(
 fn read_line(alloc: Global, line: &[Value]) -> Result<Command, ScriptFault>
     ensures { Reads (line_of (map view line.now)) result }
 {
-    if line.is_empty() {
+    let Some((first, operands)) = line.split_first() else {
         return Err(ScriptFault::Field);
-    }
-    let text = line[0].as_str().ok_or(ScriptFault::Field)?;
-    let name = find_command(text).ok_or(ScriptFault::Act)?;
-    read_command_with(alloc, name, &line[1..])
+    };
+    let Some(text) = first.as_str() else {
+        return Err(ScriptFault::Field);
+    };
+    let Some(name) = find_command(text) else {
+        return Err(ScriptFault::Act);
+    };
+    read_command_with(alloc, name, operands)
 }
 
 /// The command of a value that is a line.

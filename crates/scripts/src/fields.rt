@@ -34,12 +34,13 @@ pub fn field<'a>(value: &'a Value, name: &str) -> Result<&'a Value, ScriptFault>
 pub fn read_number(value: &Value, name: &str) -> Result<u32, ScriptFault>
     ensures { result ≡ number_at name.now (view value.now) }
 {
-    let field = value.get(name).ok_or(ScriptFault::Number)?;
-    let number = field.as_u64().ok_or(ScriptFault::Number)?;
-    if number > 4_294_967_295 {
+    let Some(field) = value.get(name) else {
         return Err(ScriptFault::Number);
+    };
+    match field.as_u64() {
+        Some(number) if number <= 4_294_967_295 => Ok(number as u32),
+        _ => Err(ScriptFault::Number),
     }
-    Ok(number as u32)
 }
 
 /// The items of a value that is an array.

@@ -62,15 +62,16 @@ impl ScriptFault {
 
 impl fmt::Display for ScriptFault {
     fn fmt<W: fmt::Write>(&self, f: &mut fmt::Formatter<W>) -> fmt::Result {
-        match self {
-            ScriptFault::NotJson => f.write_str("the file is no JSON"),
-            ScriptFault::Field => f.write_str("a field, an array or a line of the file is wrong"),
-            ScriptFault::Act => f.write_str("a line of the file names no command"),
-            ScriptFault::Register => f.write_str("an operand of the file is no register"),
-            ScriptFault::Number => f.write_str("a number or bytes of the file are wrong"),
-            ScriptFault::Shape(fault) => write!(f, "{fault}"),
-            ScriptFault::Memory => f.write_str("out of memory"),
-        }
+        let text = match self {
+            ScriptFault::NotJson => "the file is no JSON",
+            ScriptFault::Field => "a field, an array or a line of the file is wrong",
+            ScriptFault::Act => "a line of the file names no command",
+            ScriptFault::Register => "an operand of the file is no register",
+            ScriptFault::Number => "a number or bytes of the file are wrong",
+            ScriptFault::Shape(fault) => return fault.fmt(f),
+            ScriptFault::Memory => "out of memory",
+        };
+        f.write_str(text)
     }
 }
 

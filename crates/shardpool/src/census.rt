@@ -40,7 +40,6 @@ pub struct Census {
 }
 
 /// What a place is when its pool is closed.
-#[derive(Clone, Copy, Debug, PartialEq, Eq)]
 pub(crate) enum Part {
     Free,
     Unopened,

@@ -64,7 +64,7 @@ module _ (z : Shape) (shape : IsShape z) (lane : ℕ) (inside : lane < z.lanes) 
 -- the place that is handed out, and what is free then
 pub record Hands (z : Shape) (lane : ℕ) (b : Book) (place : ℕ) (free : Free) : Type 0 where
   pub out : handed_out z lane b ≡ Some place
-  pub left : free_after_create z lane b ≡ free
+  pub left : free_after_create z lane (free_with b.own b.chain b.opened) b.acts ≡ free
   pub is : is_place z place ≡ true
   pub counts : (q : ℕ) → is_place z q ≡ true → unopened_of q lane free.opened + times q free.own + times q free.chain + count_if (eqb place q)
       ≡ unopened_of q lane b.opened + times q b.own + times q b.chain + times q (taken b.acts)

@@ -219,9 +219,9 @@ abbrev pub after_own : Shape → ℕ → ℕ → List ℕ → List ℕ → List 
 after_own z lane opened found chain [] = after_chain z lane opened found chain
 after_own z lane opened found chain (place ∷ more) = free_with more chain opened
 
--- the lane's list, chain and opened pages after a create
-abbrev pub free_after_create : Shape → ℕ → Book → Free
-free_after_create z lane b = after_own z lane b.opened (taken b.acts) b.chain b.own
+-- what is left of these free places after a create that made these acts and handed out a place
+abbrev pub free_after_create : Shape → ℕ → Free → List Act → Free
+free_after_create z lane free made = after_own z lane free.opened (taken made) free.chain free.own
 
 -- a filling with more bytes at its end
 abbrev pub written : List ℕ → Holding → Holding
@@ -261,7 +261,7 @@ registers_after b command reply = b.registers
 
 -- what is left of these free places after a command that made these acts, and its reply: only a create that hands out a place takes one
 abbrev pub free_left : Shape → ℕ → Free → Command → Reply → List Act → Free
-free_left z lane free (Create register) (replies.Filling key) made = after_own z lane free.opened (taken made) free.chain free.own
+free_left z lane free (Create register) (replies.Filling key) made = free_after_create z lane free made
 free_left z lane free command reply made = free
 
 -- the lane's free places after a command and its reply

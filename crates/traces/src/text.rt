@@ -63,8 +63,7 @@ pub fn write_reply_line(lane: u32, reply: &Reply, out: &mut Vec<u8>) -> Result<(
     write_number(u64::from(lane), out)?;
     write_text(" = ", out)?;
     write_reply(reply, out)?;
-    write_text("\n", out)?;
-    Ok(())
+    write_text("\n", out)
 }
 
 fn write_reply(reply: &Reply, out: &mut Vec<u8>) -> Result<(), AllocError>
@@ -72,21 +71,12 @@ fn write_reply(reply: &Reply, out: &mut Vec<u8>) -> Result<(), AllocError>
     ensures err { OnErr result (IsPrefix out.old.items out.new.items) }
 {
     match reply {
-        Reply::Filling(key) => {
-            write_text("filling ", out)?;
-            write_number(*key, out)
-        }
+        Reply::Filling(key) => write_named("filling ", *key, out),
         Reply::Full => write_text("full", out),
         Reply::Memory => write_text("memory", out),
         Reply::Done => write_text("ok", out),
-        Reply::Key(key) => {
-            write_text("key ", out)?;
-            write_number(*key, out)
-        }
-        Reply::Found(content) => {
-            write_text("some ", out)?;
-            write_bytes(content.as_slice(), out)
-        }
+        Reply::Key(key) => write_named("key ", *key, out),
+        Reply::Found(content) => write_found(content.as_slice(), out),
         Reply::Missing => write_text("none", out),
         Reply::Content(content) => write_bytes(content.as_slice(), out),
         Reply::Cleared(true) => write_text("true", out),
@@ -95,37 +85,43 @@ fn write_reply(reply: &Reply, out: &mut Vec<u8>) -> Result<(), AllocError>
     }
 }
 
+/// A content that was found.
+fn write_found(content: &[u8], out: &mut Vec<u8>) -> Result<(), AllocError>
+    ensures ok { OnOk result (out.new.items ≡ out.old.items ++ (codes "some " ++ content_text content.now)) }
+    ensures err { OnErr result (IsPrefix out.old.items out.new.items) }
+{
+    write_text("some ", out)?;
+    write_bytes(content, out)
+}
+
 fn write_step(lane: u32, step: &Step, out: &mut Vec<u8>) -> Result<(), AllocError>
     ensures ok { OnOk result (out.new.items ≡ out.old.items ++ step_line lane step.now) }
     ensures err { OnErr result (IsPrefix out.old.items out.new.items) }
 {
     write_number(u64::from(lane), out)?;
     write_field(kind_name(step.kind), out)?;
-    write_text(" ", out)?;
     write_word(step.word, out)?;
-    write_values(step.before, step.after, out)?;
-    Ok(())
+    write_values(step.before, step.after, out)
 }
 
-/// A text after a space.
+/// A text between spaces.
 fn write_field(text: &str, out: &mut Vec<u8>) -> Result<(), AllocError>
-    ensures ok { OnOk result (out.new.items ≡ out.old.items ++ codes " " ++ text.now) }
+    ensures ok { OnOk result (out.new.items ≡ out.old.items ++ (codes " " ++ text.now ++ codes " ")) }
     ensures err { OnErr result (IsPrefix out.old.items out.new.items) }
 {
     write_text(" ", out)?;
-    write_text(text, out)
+    write_text(text, out)?;
+    write_text(" ", out)
 }
 
 /// The values of a step's word, which end its line.
 fn write_values(before: u64, after: u64, out: &mut Vec<u8>) -> Result<(), AllocError>
     ensures ok { OnOk result (out.new.items
-        ≡ out.old.items ++ codes " " ++ decimal before ++ codes " " ++ decimal after ++ codes "\n") }
+        ≡ out.old.items ++ (codes " " ++ decimal before ++ (codes " " ++ decimal after) ++ codes "\n")) }
     ensures err { OnErr result (IsPrefix out.old.items out.new.items) }
 {
-    write_text(" ", out)?;
-    write_number(before, out)?;
-    write_text(" ", out)?;
-    write_number(after, out)?;
+    write_named(" ", before, out)?;
+    write_named(" ", after, out)?;
     write_text("\n", out)
 }
 
@@ -170,6 +166,15 @@ fn write_bytes(bytes: &[u8], out: &mut Vec<u8>) -> Result<(), AllocError>
         out.extend_from_slice(&hex_pair(*byte))?;
     }
     Ok(())
+}
+
+/// A number after a text.
+fn write_named(name: &str, number: u64, out: &mut Vec<u8>) -> Result<(), AllocError>
+    ensures ok { OnOk result (out.new.items ≡ out.old.items ++ (name.now ++ decimal number)) }
+    ensures err { OnErr result (IsPrefix out.old.items out.new.items) }
+{
+    write_text(name, out)?;
+    write_number(number, out)
 }
 
 fn write_number(number: u64, out: &mut Vec<u8>) -> Result<(), AllocError>

@@ -11,7 +11,9 @@ use Rattle.keybits.specs.Places.{number_of}
 use Rattle.keybits.specs.Keys.{place_of, is_key}
 use Rattle.steplaws.specs.Calls.{Call, Caller, aim, first_lane, take_next, next_step, AreSteps}
 use Rattle.steplaws.specs.Calls.Call.{Getting, Clearing, Creating}
+use Rattle.poolsteps.specs.declared.grid.Spot.{Spot}
 use Rattle.poolsteps.specs.declared.view.View.{View}
+use Rattle.poolsteps.specs.Grids.{IsSpot}
 use Rattle.poolsteps.specs.Views.{the_lane, IsOne}
 use Rattle.poolsteps.specs.Told.{references_seen}
 use Rattle.poolcalls.specs.Called.{caller_of, Make, Did, IsLawful}
@@ -24,6 +26,7 @@ use Rattle.shardpool.specs.LaneStates.{Fits}
 use Rattle.shardpool.specs.Tokens.{PoolOf, LaneOf}
 use Rattle.shardpool.specs.declared.halt.LastCall.{LastCall}
 use Rattle.shardpool.specs.Halts.{HaltedOf, HaltsIn, IsOutside, AreParts, last_call}
+use Rattle.shardpool.proofs.calls.KeyCalls.{Ready}
 use Rattle.shardpool.proofs.calls.Releases.{Refers}
 
 -- ---- the calls over a hand
@@ -111,6 +114,20 @@ closed-none c (place ∷ own) chain opened none bare closed = absurd (omega (ari
 -- what the lane keeps fits at its own shape
 pub fits-own : {T : Type 0} {content : T → List ℕ} {room : T → ℕ} {z : Shape} {v : View} {s : LaneState T} → Fits content room z v s → Fits content room s.shape v s
 fits-own {content = content} {room = room} {v = v} {s = s} fits = subst (λ (y : Shape). Fits content room y v s) (sym fits.shape_is) fits
+
+-- the parts of a lane, where a key's place stands
+pub ready-parts : {T : Type 0} {content : T → List ℕ} {room : T → ℕ} {view pool : PoolOf} {hand : Seat (Option (Share T)) View} {s : LaneState T} {key : ℕ} {spot : Spot} → view ≡ pool
+    → AreParts content room pool hand s → IsSpot pool.shape spot (place_of key) → Ready content room view.shape key spot hand.me.0 s
+ready-parts {content = content} {room = room} {hand = hand} {s = s} {key = key} {spot = spot} of_pool parts there = record {
+  fits = subst (λ (p : PoolOf). Fits content room p.shape hand.me.0 s) (sym of_pool) parts.fits;
+  there = subst (λ (p : PoolOf). IsSpot p.shape spot (place_of key)) (sym of_pool) there;
+}
+
+-- what its calls ask of its hand
+pub lawful-parts : {T : Type 0} {content : T → List ℕ} {room : T → ℕ} {view pool : PoolOf} {hand : Seat (Option (Share T)) View} {s : LaneState T} → view ≡ pool
+    → AreParts content room pool hand s → IsLawful view.shape hand.me.0
+lawful-parts {hand = hand} of_pool parts =
+    let seat = parts.fits.seat in subst (λ (p : PoolOf). IsLawful p.shape hand.me.0) (sym of_pool) (seat.legal, seat.own, seat.quiet)
 
 -- the parts of a lane that refers to a key
 pub refers-parts : {T : Type 0} {content : T → List ℕ} {room : T → ℕ} {view pool : PoolOf} {hand : Seat (Option (Share T)) View} {s : LaneState T} {key : ℕ} → view ≡ pool

@@ -1,9 +1,11 @@
 -- What a call of a key finds before it, and what it then leaves of its lane.
-use Rattle.std.proofs.Common.{◌≡◌, ℕ, ◌+◌, ◌<◌, Bool, List, [], ◌∷◌, length, Option, Some, None, IfSome, sym, ap, ◌∙◌, subst, slice_get, slice_index_or, slice_set}
+use Rattle.std.proofs.Common.{◌≡◌, ℕ, ◌+◌, ◌<◌, Bool, List, [], ◌∷◌, length, Option, Some, None, IfSome, sym, ap, ◌∙◌, subst, slice_get, slice_index, slice_index_or, slice_set}
 use Rattle.atomic_table.specs.Table.{Me}
 use Rattle.slotcell.specs.Share.{Share}
 use Rattle.keybits.specs.declared.shape.Shape.{Shape}
 use Rattle.keybits.specs.Shapes.{position_of}
+use Rattle.keybits.specs.Places.{shard_of}
+use Rattle.keybits.proofs.ShapeLemmas.{is_place-parts}
 use Rattle.keybits.specs.Keys.{place_of, generation_of}
 use Rattle.freelists.specs.Queues.{IsAway}
 use Rattle.freelists.specs.Shards.{place_numbered}
@@ -21,6 +23,8 @@ use Rattle.poolsteps.specs.ViewLaws.{HeldLaw}
 use Rattle.poolcalls.specs.declared.reclaimed.Got.TheVariants.{Hit, Miss}
 use Rattle.poolcalls.specs.declared.reclaimed.Reclaimed.{Reclaimed}
 use Rattle.poolcalls.specs.declared.reclaimed.Reclaimed.TheVariants.{Own}
+use Rattle.poolcalls.specs.declared.at_place.At.{At}
+use Rattle.poolcalls.specs.AtPlace.{IsAt}
 use Rattle.poolcalls.specs.Called.{Called, HasGot, IsReclaimed, EndsWithActs}
 use Rattle.poolcalls.proofs.Moves.{carries-out}
 use Rattle.shardpool.specs.declared.state.HeldKey.{HeldKey}
@@ -52,6 +56,17 @@ module _ {T : Type 0} {content : T → List ℕ} {room : T → ℕ} {z : Shape} 
   -- the place has a row
   pub ready-low : spot.position < length s.rows.items
   ready-low = subst (λ (i : ℕ). i < length s.rows.items) (sym before.there.position) (rows-low (place_of key) before.fits.rows before.there.inside)
+
+  -- and the call acts there
+  pub ready-at : (acting : At) → acting.spot ≡ spot → acting.lane ≡ s.number → acting.top ≡ slice_index s.last_pushed.items (shard_of spot.place) → IsAt z v (place_of key) acting
+  ready-at acting there number top =
+      let fits = before.fits in
+      let at = before.there in record {
+        spot = subst (λ (x : Spot). IsSpot z x (place_of key)) (sym there) at;
+        lane = number ∙ fits.seat.number_is;
+        below = subst (λ (n : ℕ). n < z.lanes) (sym number) fits.seat.below;
+        top = top ∙ (ap (λ (p : ℕ). slice_index s.last_pushed.items (shard_of p)) at.place_is ∙ fits.last_pushed.each (shard_of (place_of key)) (is_place-parts z (place_of key) at.inside).0);
+      }
 
   -- an object that a call answers may be kept
   away-after : (w : View) (first : List Act) (reclaimed : Option (Reclaimed T)) → EndsWithActs z (place_of key) first v w reclaimed

@@ -151,9 +151,17 @@ module _ {T : Type 0} {content : T → List ℕ} {room : T → ℕ} {v : View} {
     hung-inside ok = own-inside s.shape s.free first fits.seat.shape shard-low fits.stores.lists.1
         (ok.chain.inside first hung)
 
+    -- it stands in front of the others
+    pub hung-begins : {place : ℕ} → place ≡ number_of first → (the_lane v).chain ≡ place ∷ rest_of (the_lane v).chain
+    hung-begins at = chain-begins ∙ ap (λ (n : ℕ). n ∷ rest_of (the_lane v).chain) (sym at)
+
+    -- and rests, in a pool of the lane's shape
+    pub hung-rests : {z : Shape} {place : ℕ} → s.shape ≡ z → place ≡ number_of first → IsResting z v place
+    hung-rests {place = place} shape at = subst (λ (z : Shape). IsResting z v place) shape (first-rests fits.stores lane-below (hung-begins at)).0
+
     module _ {w : View} {place link : ℕ} (at : place ≡ number_of first) (follows : FollowsOut {S = Unit {0}} s.shape place link (v, []) (w, [])) where
       begins : (the_lane v).chain ≡ place ∷ rest_of (the_lane v).chain
-      begins = chain-begins ∙ ap (λ (n : ℕ). n ∷ rest_of (the_lane v).chain) (sym at)
+      begins = hung-begins at
 
       -- its link word leads on
       pub follow-goes : GoesOnBy s.free link

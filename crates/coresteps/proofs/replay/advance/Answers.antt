@@ -7,7 +7,7 @@ use Rattle.traces.specs.Books.{act_list}
 use Rattle.traces.specs.Lawful.{World, world_after, book_before, book_after, IsStep, IsNextTurn}
 use Rattle.coresteps.specs.Lanes.{counted}
 use Rattle.coresteps.specs.Kept.{IsDraft, IsLaneAt}
-use Rattle.coresteps.proofs.CoreLemmas.{before_step, turn_of, after_made, history_length, replied_at, commanded_at, in_script, end_turn, made_draft, made_at, step_next, step_world, step_at, step_most, on_err}
+use Rattle.coresteps.proofs.CoreLemmas.{before_step, turn_of, after_made, history_length, replied_at, commanded_at, in_script, end_turn, made_draft, made_at, step_next, step_world, step_at, step_most}
 use Rattle.coresteps.proofs.StepLemmas.{word_inside, published_inside}
 use Rattle.coresteps.proofs.replay.advance.Goals as goal
 
@@ -174,11 +174,6 @@ keep-requires-clause-place c = λ lane key content with_ref publish.
     let is = c.in_ok-made.ensures w1 worked.draft at_step next in
     published_inside z w1 n made.step lane key content with_ref worked.draft.kept c.requires.lane
     (subst (λ (act : Option Act). IsStep z n w1.words (w1.books n) made.step act) publish is.0)
-
-pub returns-in_err-keep-clause-err : goal.returns-in_err-keep-clause-err
-returns-in_err-keep-clause-err c =
-    let e = c.in_err-keep.ensures in
-    on_err c.from_residual-in_err-keep.result _ e.err
 
 pub returns-clause-ok : goal.returns-clause-ok
 returns-clause-ok c = λ w draft at unfinished.

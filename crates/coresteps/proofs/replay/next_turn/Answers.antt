@@ -7,7 +7,7 @@ use Rattle.traces.specs.Keeping.{IsKept}
 use Rattle.traces.proofs.Throughout.{turn_below}
 use Rattle.coresteps.specs.declared.lane.Lane.{Lane}
 use Rattle.coresteps.specs.Kept.{IsLaneAt}
-use Rattle.coresteps.proofs.CoreLemmas.{on_err, same_core, read_twice, at_world, turn_made}
+use Rattle.coresteps.proofs.CoreLemmas.{read_twice, at_world, turn_made}
 use Rattle.coresteps.proofs.OwnLemmas.{room_for_added}
 use Rattle.coresteps.proofs.replay.next_turn.Goals as goal
 
@@ -41,10 +41,6 @@ advance-requires-clause-added c =
     let count = k.count in
     let got : slice_get lanes n ≡ Some of = slice_get_read lanes (length lanes) n of refl (omega arith) c.index-of.ensures in
     k.settled n of got
-
-pub returns-in_err-turn-clause-err : goal.returns-in_err-turn-clause-err
-returns-in_err-turn-clause-err c = on_err c.from_residual.result _
-    (λ w most k. same_core c.args.shared.now c.advance.new.shared w most c.args.lanes.now.items k c.in_err-turn.ensures.shape (c.in_err-turn.ensures.err w k.draft))
 
 pub keep_progress-requires-clause-length : goal.keep_progress-requires-clause-length
 keep_progress-requires-clause-length c = λ place added.

@@ -1,7 +1,9 @@
-use Rattle.std.proofs.Common.{refl, sym, ◌∙◌}
+use Rattle.std.proofs.Common.{[], ◌∷◌, inr, refl, sym, ◌∙◌}
 use Rattle.seqpool.specs.declared.act.Act.TheVariants as acts
 use Rattle.steplaws.specs.Calls.Call.{Clearing}
-use Rattle.poolcalls.proofs.Calling.{Opened, called-after, acts-behind, clear-misses, clear-marks}
+use Rattle.poolsteps.specs.Grids.{SameSeat}
+use Rattle.poolcalls.proofs.Calling.{Opens, Opened, enter-step, called-after, acts-behind, life-under, clear-entered, clear-misses, clear-marks}
+use Rattle.poolcalls.proofs.Standing.{HasLeft, has-left, at-same, left-at, left-owes, lawful}
 use Rattle.poolcalls.proofs.calls.clear.Given.{Over}
 use Rattle.poolcalls.proofs.calls.clear.Goals as goal
 use Rattle.poolcalls.proofs.calls.clear.Goals.{then-is_hit, else-is_hit}
@@ -24,3 +26,72 @@ returns-clause-called g c = called-after (opened g c) refl c.leave-left.ensures.
 pub returns-clause-acts : goal.returns-clause-acts
 returns-clause-acts g c = rw (sym c.requires.at.spot.place_is)
     (acts-behind (opened g c) refl c.leave-left.ensures.leaves c.requires.at.spot.place_is c.finish_leave.ensures.ends c.finish_leave.result c.finish_leave.ensures.acts)
+
+pub enter-found-requires : goal.enter-found-requires
+enter-found-requires g c =
+    record { hand = c.requires.hand; spot = c.requires.at.spot; key = c.requires.key; idle = c.requires.idle; room = λ get. absurd (cc get) }
+
+pub mark-requires : goal.mark-requires
+mark-requires g c =
+    let hit = sym c.is_hit.ensures ∙ c.if-is_hit.true in
+    let entered : Opens c.args.grid.now.shape (Clearing c.args.key) (enter-step c.args.key c.enter-found.result ∷ []) [] c.args.hand.now.me c.enter-found.new.hand.me
+    = clear-entered c.requires.key c.enter-found.ensures.enters hit in
+    record {
+      hand = (c.enter-found.ensures.hand.0 ∙ c.requires.hand.0, entered.did.acted.one);
+      spot = c.requires.at.spot;
+      under = life-under (c.enter-found.ensures.enters.0 hit);
+    }
+
+pub leave-left-requires : goal.leave-left-requires
+leave-left-requires g c =
+    let opened : Opened c.args.grid.now.shape (Clearing c.args.key) (acts.Clear c.args.at.lane c.args.key c.if-is_hit.marked) c.args.hand.now.me c.if-is_hit.hand.me
+    = elim c.if-is_hit.branch [
+      | then-is_hit w ↦
+          rw (c.requires.at.lane, w.hand-is, w.marked-is, w.is_present-marked.ensures)
+          (clear-marks c.requires.key c.enter-found.ensures.enters (sym c.is_hit.ensures ∙ w.if-is_hit.true) w.mark.ensures.marks)
+      | else-is_hit w ↦
+          rw (c.requires.at.lane, w.hand-is, w.marked-is, w.if-is_hit.false)
+          (clear-misses c.requires.key c.enter-found.ensures.enters (sym c.is_hit.ensures ∙ w.if-is_hit.false))
+    ] in
+    let same : SameSeat c.args.hand.now c.if-is_hit.hand = elim c.if-is_hit.branch [
+      | then-is_hit w ↦ rw w.hand-is (w.mark.ensures.hand.0 ∙ c.enter-found.ensures.hand.0, w.mark.ensures.hand.1 ∙ c.enter-found.ensures.hand.1)
+      | else-is_hit w ↦ rw w.hand-is c.enter-found.ensures.hand
+    ] in
+    record { hand = (same.0 ∙ c.requires.hand.0, opened.opens.did.acted.one); spot = c.requires.at.spot; may = inr (opened.hit, opened.under) }
+
+pub finish_leave-requires : goal.finish_leave-requires
+finish_leave-requires g c =
+    let opened : Opened c.args.grid.now.shape (Clearing c.args.key) (acts.Clear c.args.at.lane c.args.key c.if-is_hit.marked) c.args.hand.now.me c.if-is_hit.hand.me
+    = elim c.if-is_hit.branch [
+      | then-is_hit w ↦
+          rw (c.requires.at.lane, w.hand-is, w.marked-is, w.is_present-marked.ensures)
+          (clear-marks c.requires.key c.enter-found.ensures.enters (sym c.is_hit.ensures ∙ w.if-is_hit.true) w.mark.ensures.marks)
+      | else-is_hit w ↦
+          rw (c.requires.at.lane, w.hand-is, w.marked-is, w.if-is_hit.false)
+          (clear-misses c.requires.key c.enter-found.ensures.enters (sym c.is_hit.ensures ∙ w.if-is_hit.false))
+    ] in
+    let same : SameSeat c.args.hand.now c.if-is_hit.hand = elim c.if-is_hit.branch [
+      | then-is_hit w ↦ rw w.hand-is (w.mark.ensures.hand.0 ∙ c.enter-found.ensures.hand.0, w.mark.ensures.hand.1 ∙ c.enter-found.ensures.hand.1)
+      | else-is_hit w ↦ rw w.hand-is c.enter-found.ensures.hand
+    ] in
+    let left : HasLeft c.args.grid.now.shape c.args.key c.leave-left.result c.if-is_hit.hand.me c.leave-left.new.hand.me
+    = has-left (inr (opened.hit, opened.under)) c.leave-left.ensures.leaves in
+    let at = at-same opened.opens.did.acted.lane opened.opens.pushed c.requires.at in
+    record {
+      hand = (c.leave-left.ensures.hand.0 ∙ (same.0 ∙ c.requires.hand.0), left.acted.one);
+      at = left-at left at;
+      seen = lawful {made = left.made} left.acted;
+      owes = left-owes left at;
+    }
+
+pub returns-clause-hand : goal.returns-clause-hand
+returns-clause-hand g c =
+    let same : SameSeat c.args.hand.now c.if-is_hit.hand = elim c.if-is_hit.branch [
+      | then-is_hit w ↦ rw w.hand-is (w.mark.ensures.hand.0 ∙ c.enter-found.ensures.hand.0, w.mark.ensures.hand.1 ∙ c.enter-found.ensures.hand.1)
+      | else-is_hit w ↦ rw w.hand-is c.enter-found.ensures.hand
+    ] in
+    let left = c.leave-left.ensures.hand in
+    let last = c.finish_leave.ensures.hand in (last.0 ∙ (left.0 ∙ same.0), last.1 ∙ (left.1 ∙ same.1))
+
+pub returns-clause-reclaimed : goal.returns-clause-reclaimed
+returns-clause-reclaimed g c = rw (sym c.requires.at.spot.place_is) c.finish_leave.ensures.reclaimed

@@ -2,6 +2,7 @@ use Rattle.std.proofs.Common.{◌≤◌, ◌+◌, ◌*◌, ◌∷◌, [], ℕ, s
 use Rattle.keybits.specs.declared.shape.Shape.{Shape}
 use Rattle.steplaws.specs.Calls.{is_claimed}
 use Rattle.poolcalls.proofs.Moves.{carried-place, carries-more}
+use Rattle.poolcalls.proofs.Standing.{at-same, returns-away}
 use Rattle.poolcalls.specs.Called.{caller_of}
 use Rattle.poolcalls.proofs.Doing.{did-carries, goes-none, goes-moves, goes-most}
 use Rattle.poolcalls.proofs.Ending.{caller-still, room-still, ends-at-last, ends-at-own, none-at-last, none-at-own}
@@ -44,8 +45,25 @@ returns-then-shard_of-at-clause-reclaimed g c =
       omega (arith, same, c.requires.room, took.cell.1, old, c.clear.ensures.room_kept),
     )
 
-pub rest_cell-requires-clause-place : goal.rest_cell-requires-clause-place
-rest_cell-requires-clause-place g c = carried-place c.take_cell-whole.ensures.carries c.shares_law.ensures.stays c.args.at.spot.place c.requires.place.0
+pub take_cell-whole-requires : goal.take_cell-whole-requires
+take_cell-whole-requires g c =
+    record { hand = c.requires.hand; spot = c.requires.at.spot; lane = c.requires.at.below; place = c.requires.place.0; slots = c.requires.place.1 }
+
+pub returns-then-generation-grid-clause-hand : goal.returns-then-generation-grid-clause-hand
+returns-then-generation-grid-clause-hand g c = c.take_cell-whole.ensures.hand.0
+
+pub returns-then-shard_of-at-clause-hand : goal.returns-then-shard_of-at-clause-hand
+returns-then-shard_of-at-clause-hand g c = c.take_cell-whole.ensures.hand.0
+
+pub rest_cell-requires : goal.rest_cell-requires
+rest_cell-requires g c =
+    let took = c.take_cell-whole.ensures in record {
+      hand = (took.hand.0.0 ∙ c.requires.hand.0, took.hand.1);
+      spot = c.requires.at.spot;
+      lane = c.requires.at.below;
+      place = carried-place took.carries c.shares_law.ensures.stays c.args.at.spot.place c.requires.place.0;
+      slots = took.slots;
+    }
 
 pub give_home-requires-clause-place : goal.give_home-requires-clause-place
 give_home-requires-clause-place g c =
@@ -79,3 +97,25 @@ returns-clause-tails g c leave claim is claimed =
     goes-moves (leave ∷ claim ∷ []) (caller-still rests ∙ caller-still took) (did-carries (carries-more took rests) few)
     (c.give_home.ensures.gives leave claim (ap (λ n. is_claimed n claim.before) is ∙ claimed) (λ last. c.if-generation-grid.false (sym is ∙ last))
     (λ own. c.if-shard_of-at.false (c.shard_of.ensures ∙ (own ∙ (lane_is ∙ sym c.requires.at.lane)))))
+
+pub give_home-requires-clause-hand : goal.give_home-requires-clause-hand
+give_home-requires-clause-hand g c =
+    let took = c.take_cell-whole.ensures.hand in let rests = c.rest_cell.ensures.hand in (rests.0.0 ∙ (took.0.0 ∙ c.requires.hand.0), rests.1)
+
+pub give_home-requires-clause-at : goal.give_home-requires-clause-at
+give_home-requires-clause-at g c =
+    let took = c.take_cell-whole.ensures.carries.elsewhere in
+    let rests = c.rest_cell.ensures.carries.elsewhere in at-same (rests.lane ∙ took.lane) (rests.pushed ∙ took.pushed) c.requires.at
+
+pub give_home-requires-clause-returns : goal.give_home-requires-clause-returns
+give_home-requires-clause-returns g c =
+    let took = c.take_cell-whole.ensures.carries.elsewhere in
+    let rests = c.rest_cell.ensures.carries.elsewhere in
+    rests.under ∙ (took.under ∙ (c.requires.under
+    ∙ returns-away c.args.grid.now.shape c.args.at.lane c.args.at.spot.place c.args.generation c.if-generation-grid.false (λ own. c.if-shard_of-at.false (c.shard_of.ensures ∙ own))))
+
+pub returns-clause-hand : goal.returns-clause-hand
+returns-clause-hand g c =
+    let took = c.take_cell-whole.ensures.hand.0 in
+    let rests = c.rest_cell.ensures.hand.0 in
+    let last = c.give_home.ensures.hand in (last.0 ∙ (rests.0 ∙ took.0), last.1 ∙ (rests.1 ∙ took.1))

@@ -1,5 +1,6 @@
-use Rattle.std.proofs.Common.{arith}
+use Rattle.std.proofs.Common.{None, Some, true, false, sym, ◌∙◌, arith}
 use Rattle.poolcalls.proofs.Returning.{linked-rests, rests-again}
+use Rattle.poolcalls.proofs.Standing.{IsReturning, linked-returning, failed-returning, then-returning, to-return, first-return, aims-first, aims-again}
 use Rattle.poolcalls.proofs.Giving.{gives-link, gives-home, gives-failed, gives-again, gives-last}
 use Rattle.poolcalls.proofs.halts.give_home_within.Goals as goal
 use Rattle.poolcalls.proofs.halts.give_home_within.Goals.{then-found-at-via-then-found-at, then-found-at-via-else-found-at+then-limit-eq2}
@@ -7,8 +8,33 @@ use Rattle.poolcalls.proofs.halts.give_home_within.Goals.{then-found-at-via-then
 pub returns-then-limit-eq1-clause-gives : goal.returns-then-limit-eq1-clause-gives
 returns-then-limit-eq1-clause-gives g c = gives-link c.args.limit c.requires.at.top c.requires.returns c.link.ensures.links c.if-limit-eq1.true
 
-pub push-found-requires-clause-rests : goal.push-found-requires-clause-rests
-push-found-requires-clause-rests g c = (linked-rests c.requires.returns c.link.ensures.links c.shares_law.ensures.stays c.requires.place c.requires.rests).1
+pub link-requires : goal.link-requires
+link-requires g c = record { hand = c.requires.hand; spot = c.requires.at.spot; returns = (None, first-return c.args.hand.now.me.0 c.args.at.spot.place c.requires.returns) }
+
+pub returns-then-limit-eq1-clause-hand : goal.returns-then-limit-eq1-clause-hand
+returns-then-limit-eq1-clause-hand g c = c.link.ensures.hand
+
+pub push-found-requires : goal.push-found-requires
+push-found-requires g c =
+    let first : IsReturning c.args.at.spot.place (Some c.args.at.top) false c.args.hand.now.me c.link.new.hand.me = linked-returning c.requires.returns c.link.ensures.links in
+    record {
+      hand = (c.link.ensures.hand.0 ∙ c.requires.hand.0, first.one);
+      spot = c.requires.at.spot;
+      lane = (c.requires.at.lane ∙ sym first.lane, c.requires.at.below);
+      returns = to-return first;
+      aims = aims-first c.requires.at first;
+      rests = (linked-rests c.requires.returns c.link.ensures.links c.shares_law.ensures.stays c.requires.place c.requires.rests).1;
+    }
+
+pub link-requires-2 : goal.link-requires-2
+link-requires-2 g c =
+    let first : IsReturning c.args.at.spot.place (Some c.args.at.top) false c.args.hand.now.me c.link.new.hand.me = linked-returning c.requires.returns c.link.ensures.links in
+    let second : IsReturning c.args.at.spot.place None true c.args.hand.now.me c.push-found.new.hand.me = then-returning first (failed-returning first.under c.push-found.ensures.pushes c.if-found-at.false) in
+    record {
+      hand = (c.push-found.ensures.hand.0 ∙ (c.link.ensures.hand.0 ∙ c.requires.hand.0), second.one);
+      spot = c.requires.at.spot;
+      returns = (None, to-return second);
+    }
 
 pub returns-then-found-at-clause-gives : goal.returns-then-found-at-clause-gives
 returns-then-found-at-clause-gives g c =
@@ -21,10 +47,20 @@ returns-then-found-at-clause-gives g c =
           gives-failed c.args.limit c.requires.at.top c.requires.returns c.link.ensures.links c.push-found.ensures.pushes w.if-found-at.false w.if-limit-eq2.true
     ]
 
-pub push-requires-clause-rests : goal.push-requires-clause-rests
-push-requires-clause-rests g c =
-    rests-again c.requires.at.top c.requires.returns c.link.ensures.links c.push-found.ensures.pushes c.if-found-at.false c.link-2.ensures.links
-    c.shares_law.ensures.stays c.requires.place c.requires.rests
+pub push-requires : goal.push-requires
+push-requires g c =
+    let first : IsReturning c.args.at.spot.place (Some c.args.at.top) false c.args.hand.now.me c.link.new.hand.me = linked-returning c.requires.returns c.link.ensures.links in
+    let second : IsReturning c.args.at.spot.place None true c.args.hand.now.me c.push-found.new.hand.me = then-returning first (failed-returning first.under c.push-found.ensures.pushes c.if-found-at.false) in
+    let third : IsReturning c.args.at.spot.place (Some 0) true c.args.hand.now.me c.link-2.new.hand.me = then-returning second (linked-returning second.under c.link-2.ensures.links) in
+    record {
+      hand = (c.link-2.ensures.hand.0 ∙ (c.push-found.ensures.hand.0 ∙ (c.link.ensures.hand.0 ∙ c.requires.hand.0)), third.one);
+      spot = c.requires.at.spot;
+      lane = (c.requires.at.lane ∙ sym third.lane, c.requires.at.below);
+      returns = to-return third;
+      aims = aims-again third;
+      rests = rests-again c.requires.at.top c.requires.returns c.link.ensures.links c.push-found.ensures.pushes c.if-found-at.false c.link-2.ensures.links
+          c.shares_law.ensures.stays c.requires.place c.requires.rests;
+    }
 
 pub returns-then-limit-gt3-clause-gives : goal.returns-then-limit-gt3-clause-gives
 returns-then-limit-gt3-clause-gives g c =
@@ -39,3 +75,19 @@ returns-else-limit-gt3-clause-gives g c =
     let few = c.if-limit-gt3.false in
     gives-again c.args.limit c.requires.at.top c.requires.returns c.link.ensures.links c.push-found.ensures.pushes c.if-found-at.false c.link-2.ensures.links
     (omega (arith, some, one, two, few))
+
+pub returns-then-found-at-clause-hand : goal.returns-then-found-at-clause-hand
+returns-then-found-at-clause-hand g c = let one = c.link.ensures.hand in let last = c.push-found.ensures.hand in (last.0 ∙ one.0, last.1 ∙ one.1)
+
+pub returns-then-limit-gt3-clause-hand : goal.returns-then-limit-gt3-clause-hand
+returns-then-limit-gt3-clause-hand g c =
+    let one = c.link.ensures.hand in
+    let two = c.push-found.ensures.hand in
+    let three = c.link-2.ensures.hand in
+    let last = c.push.ensures.hand in (last.0 ∙ (three.0 ∙ (two.0 ∙ one.0)), last.1 ∙ (three.1 ∙ (two.1 ∙ one.1)))
+
+pub returns-else-limit-gt3-clause-hand : goal.returns-else-limit-gt3-clause-hand
+returns-else-limit-gt3-clause-hand g c =
+    let one = c.link.ensures.hand in
+    let two = c.push-found.ensures.hand in
+    let last = c.link-2.ensures.hand in (last.0 ∙ (two.0 ∙ one.0), last.1 ∙ (two.1 ∙ one.1))

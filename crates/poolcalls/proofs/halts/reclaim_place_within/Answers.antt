@@ -1,10 +1,11 @@
-use Rattle.std.proofs.Common.{◌≤◌, ◌+◌, ◌*◌, ◌∷◌, [], ℕ, sym, ap, ◌∙◌, arith}
+use Rattle.std.proofs.Common.{refl, ◌≤◌, ◌+◌, ◌*◌, ◌∷◌, [], ℕ, sym, ap, ◌∙◌, arith}
 use Rattle.keybits.specs.declared.shape.Shape.{Shape}
 use Rattle.steplaws.specs.Calls.{is_claimed}
 use Rattle.poolcalls.proofs.Moves.{carried-place, carries-more}
 use Rattle.poolcalls.specs.Called.{caller_of}
 use Rattle.poolcalls.proofs.Doing.{did-carries}
 use Rattle.poolcalls.proofs.Ending.{caller-still, room-still, ends-at-last, ends-at-own}
+use Rattle.poolcalls.proofs.Standing.{at-same, returns-away}
 use Rattle.poolcalls.proofs.Within.{within-none, within-moves}
 use Rattle.poolcalls.proofs.halts.reclaim_place_within.Goals as goal
 use Rattle.poolcalls.proofs.halts.reclaim_place_within.Goals.{then-generation-grid-via-then-generation-grid, then-generation-grid-via-else-generation-grid+then-shard_of-at}
@@ -45,3 +46,51 @@ returns-clause-tails g c leave claim is claimed =
     within-moves (leave ∷ claim ∷ []) (caller-still rests ∙ caller-still took) (did-carries (carries-more took rests) few)
     (c.give_home_within.ensures.gives leave claim (ap (λ n. is_claimed n claim.before) is ∙ claimed) (λ last. c.if-generation-grid.false (sym is ∙ last))
     (λ own. c.if-shard_of-at.false (c.shard_of.ensures ∙ (own ∙ (lane_is ∙ sym c.requires.at.lane)))))
+
+pub returns-then-generation-grid-clause-hand : goal.returns-then-generation-grid-clause-hand
+returns-then-generation-grid-clause-hand g c = (refl, refl)
+
+pub take_cell-whole-requires : goal.take_cell-whole-requires
+take_cell-whole-requires g c =
+    record { hand = c.requires.hand; spot = c.requires.at.spot; lane = c.requires.at.below; place = c.requires.place.0; slots = c.requires.place.1 }
+
+pub rest_cell-requires : goal.rest_cell-requires
+rest_cell-requires g c =
+    let took = c.take_cell-whole.ensures in record {
+      hand = (took.hand.0.0 ∙ c.requires.hand.0, took.hand.1);
+      spot = c.requires.at.spot;
+      lane = c.requires.at.below;
+      place = carried-place took.carries c.shares_law.ensures.stays c.args.at.spot.place c.requires.place.0;
+      slots = took.slots;
+    }
+
+pub give_home_within-requires-clause-hand : goal.give_home_within-requires-clause-hand
+give_home_within-requires-clause-hand g c =
+    let took = c.take_cell-whole.ensures.hand in let rests = c.rest_cell.ensures.hand in (rests.0.0 ∙ (took.0.0 ∙ c.requires.hand.0), rests.1)
+
+pub give_home_within-requires-clause-at : goal.give_home_within-requires-clause-at
+give_home_within-requires-clause-at g c =
+    let took = c.take_cell-whole.ensures.carries.elsewhere in
+    let rests = c.rest_cell.ensures.carries.elsewhere in at-same (rests.lane ∙ took.lane) (rests.pushed ∙ took.pushed) c.requires.at
+
+pub give_home_within-requires-clause-returns : goal.give_home_within-requires-clause-returns
+give_home_within-requires-clause-returns g c =
+    let took = c.take_cell-whole.ensures.carries.elsewhere in
+    let rests = c.rest_cell.ensures.carries.elsewhere in
+    rests.under ∙ (took.under ∙ (c.requires.under
+    ∙ returns-away c.args.grid.now.shape c.args.at.lane c.args.at.spot.place c.args.generation c.if-generation-grid.false (λ own. c.if-shard_of-at.false (c.shard_of.ensures ∙ own))))
+
+pub give_home_within-requires-clause-place : goal.give_home_within-requires-clause-place
+give_home_within-requires-clause-place g c =
+    let law = c.shares_law.ensures.stays in
+    let place : ℕ = c.args.at.spot.place in
+    carried-place c.rest_cell.ensures.carries law place (carried-place c.take_cell-whole.ensures.carries law place c.requires.place.0)
+
+pub give_home_within-requires-clause-some : goal.give_home_within-requires-clause-some
+give_home_within-requires-clause-some g c = c.requires.some
+
+pub returns-clause-hand : goal.returns-clause-hand
+returns-clause-hand g c =
+    let took = c.take_cell-whole.ensures.hand.0 in
+    let rests = c.rest_cell.ensures.hand.0 in
+    let last = c.give_home_within.ensures.hand in (last.0 ∙ (rests.0 ∙ took.0), last.1 ∙ (rests.1 ∙ took.1))

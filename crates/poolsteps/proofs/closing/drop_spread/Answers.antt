@@ -4,7 +4,7 @@ use Rattle.core.specs.Mem.Slots.{slots_items}
 use Rattle.std.specs.Prelude.{None, Some, slice_get}
 use Rattle.poolsteps.specs.Layout.{slot_index}
 use Rattle.poolsteps.specs.Joins.{IsSet}
-use Rattle.poolsteps.proofs.Joining.{part-some, joined-first, part-before, joined-more, all-gone}
+use Rattle.poolsteps.proofs.Joining.{part-some, part-is, joined-first, part-before, may-merge, joined-more, all-gone}
 use Rattle.poolsteps.proofs.closing.drop_spread.Goals as goal
 
 pub lift-requires-clause-share : goal.lift-requires-clause-share
@@ -48,3 +48,44 @@ pub returns-clause-gone : goal.returns-clause-gone
 returns-clause-gone g c =
     let most = c.loop-number-test.false in
     all-gone c.args.shape.now c.requires.shape c.args.place c.requires.place c.args.slots.now c.loop-number.slots c.loop-number.number c.loop-number.rest (omega (arith, most)) c.loop-number.invariant
+
+pub slot_at-requires : goal.slot_at-requires
+slot_at-requires g c =
+    let lanes = c.requires.shape.lanes in
+    record { shape = c.requires.shape; place = c.requires.place; position = c.requires.position; lane = omega (arith, lanes) }
+
+pub lift-requires-clause-full : goal.lift-requires-clause-full
+lift-requires-clause-full g c = c.requires.row.0
+
+pub of_last-rest-requires : goal.of_last-rest-requires
+of_last-rest-requires g c =
+    let z = c.args.shape.now in
+    let last : ℕ = z.lanes - 1 in
+    let lanes = c.requires.shape.lanes in
+    let spread = c.requires.spread in
+    let part = part-is (slots_items c.args.slots.now) (slot_index z c.args.place last) spread.cell last z.lanes c.lift.result (spread.each last (omega (arith, lanes)))
+    (subst (λ i. slice_get (slots_items c.args.slots.now) i ≡ Some (Some c.lift.result)) c.slot_at.ensures.slot c.lift.ensures.share) in
+    omega (arith, lanes, part.1, part.2)
+
+pub slot_at-requires-in-loop-number : goal.slot_at-requires-in-loop-number
+slot_at-requires-in-loop-number g c =
+    let some = c.loop-number-test.true in
+    let below = c.loop-number.invariant.below in
+    record { shape = c.requires.shape; place = c.requires.place; position = c.requires.position; lane = omega (arith, some, below) }
+
+pub lift-requires-in-loop-number-clause-full : goal.lift-requires-in-loop-number-clause-full
+lift-requires-in-loop-number-clause-full g c = c.loop-number.invariant.drains.row.0
+
+pub merge-requires : goal.merge-requires
+merge-requires g c =
+    let next : ℕ = c.loop-number.number - 1 in
+    let some = c.loop-number-test.true in
+    may-merge c.args.shape.now c.requires.shape c.args.place c.requires.place next (omega (arith, some)) c.loop-number.invariant
+    (subst (λ i. slice_get (slots_items c.loop-number.slots) i ≡ Some (Some c.lift-in-loop-number.result)) c.slot_at-in-loop-number.ensures.slot
+    c.lift-in-loop-number.ensures.share)
+
+pub into_whole-requires : goal.into_whole-requires
+into_whole-requires g c = let most = c.loop-number-test.false in let is = c.loop-number.invariant.number_is in omega (arith, most, is)
+
+pub returns-clause-drains : goal.returns-clause-drains
+returns-clause-drains g c = c.loop-number.invariant.drains

@@ -24,6 +24,24 @@ lane_of-requires-clause-hand g c =
     c.in_ok-grid.ensures.shape before.invariant.hands c.in-Some.ensures.steps.0 in
     next.1.1 ∙ ap (λ (n : ℕ). (first_book n, [])) (sym (stand ∙ before.invariant.opened.stand))
 
+pub lane_of-requires-clause-number : goal.lane_of-requires-clause-number
+lane_of-requires-clause-number g c =
+    let before = c.loop-hand in
+    let number : c.len-number.result ≡ length before.lanes.items = search rules in
+    let next = next-hand c.in_ok-grid.grid c.args.shape before.yielded (into_iter_items before.hand-iterator) (into_iter_items c.next.new.self) c.in-Some.hand
+    c.in_ok-grid.ensures.shape before.invariant.hands c.in-Some.ensures.steps.0 in
+    let stand = before.invariant.opened.stand in
+    let low = next.0 in omega (arith, number, stand, low)
+
+pub push_reserved-requires : goal.push_reserved-requires
+push_reserved-requires g c =
+    let before = c.loop-hand in
+    let next = next-hand c.in_ok-grid.grid c.args.shape before.yielded (into_iter_items before.hand-iterator) (into_iter_items c.next.new.self) c.in-Some.hand
+    c.in_ok-grid.ensures.shape before.invariant.hands c.in-Some.ensures.steps.0 in
+    let stand = before.invariant.opened.stand in
+    let room = before.invariant.capacity in
+    let low = next.0 in omega (arith, stand, room, low)
+
 pub loop-hand-preserved : goal.loop-hand-preserved
 loop-hand-preserved g c =
     let before = c.loop-hand in

@@ -4,7 +4,7 @@ use Rattle.std.specs.Prelude.{IfOk, OnErr}
 use Rattle.traces.specs.Lawful.{World, is_finished}
 use Rattle.coresteps.specs.declared.progress.Most.{Most}
 use Rattle.coresteps.specs.Kept.{CoreState, IsCore, Turns}
-use Rattle.coresteps.proofs.CoreLemmas.{empty_turns, turns_from, still_core}
+use Rattle.coresteps.proofs.CoreLemmas.{empty_turns, turns_from, same_cores, still_core}
 use Rattle.coresteps.proofs.replay.Core.turn.Goals as goal
 
 pub returns-then-finished-clause-ok : goal.returns-then-finished-clause-ok
@@ -31,7 +31,8 @@ invariant_of-self c =
     λ w most k. sym (told w most k) ∙ c.if-finished.false in
     let new : CoreState = record { shared = c.next_turn.new.shared; lanes = c.next_turn.new.lanes.items } in
     still_core old new c.args.lane c.next_turn.result c.self.invariant.0 c.self.invariant.1 c.self.invariant.2
-    (open_now c.self.invariant.0 c.self.invariant.1 c.self.invariant.2) c.next_turn.ensures.ok c.next_turn.ensures.err
+    (open_now c.self.invariant.0 c.self.invariant.1 c.self.invariant.2) c.next_turn.ensures.ok
+    (same_cores old new c.next_turn.result c.next_turn.ensures.same)
 
 pub returns-clause-ok : goal.returns-clause-ok
 returns-clause-ok c =
@@ -51,6 +52,7 @@ returns-clause-finished c = λ w most k over.
 
 pub returns-clause-err : goal.returns-clause-err
 returns-clause-err c =
+    let old : CoreState = record { shared = c.self.inside.shared; lanes = c.self.inside.lanes.items } in
     let new : CoreState = record { shared = c.next_turn.new.shared; lanes = c.next_turn.new.lanes.items } in
     subst (λ (s : CoreState). OnErr c.next_turn.result ((w : World) (most : ℕ → Most) → IsCore w most s → IsCore w most new))
-    c.self.view_is c.next_turn.ensures.err
+    c.self.view_is (same_cores old new c.next_turn.result c.next_turn.ensures.same)

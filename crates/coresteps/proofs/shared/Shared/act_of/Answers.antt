@@ -1,18 +1,38 @@
--- Where the command makes no call, there is no step.
-use Rattle.std.proofs.Common.{◌≡◌, List, Some, slice_get, sym, ap, ◌∙◌, subst}
-use Rattle.std.proofs.lemmas.Option.{slice_get-get_or}
-use Rattle.traces.specs.declared.script.Command.{Command}
-use Rattle.coresteps.proofs.StepLemmas.{no_step, first_left}
+-- The call under way is that of the next command; where it makes none, there is no step.
+use Rattle.std.proofs.Common.{Some, sym, subst, ◌∙◌}
+use Rattle.std.proofs.lemmas.Result.{IfOk-weaker}
+use Rattle.coresteps.specs.Lanes.{IsCall}
+use Rattle.coresteps.proofs.StepLemmas.{no_step, next_called}
 use Rattle.coresteps.proofs.shared.Shared.act_of.Goals as goal
 
 pub returns-in_default-call_of : goal.returns-in_default-call_of
 returns-in_default-call_of c = λ w act draft lane step legal.
     let b = w.books c.args.number in
-    let p = c.args.progress.now in
+    let script = c.args.lane.now.script in
     let found = c.in-Some.ensures.lookup.3 in
-    let here : slice_get c.args.lane.now.script p.done ≡ Some c.in-Some.command.now
-    = subst (λ (xs : List Command). slice_get xs p.done ≡ Some c.in-Some.command.now) c.as_slice.ensures
-    (slice_get-get_or c.as_slice.result.now p.done c.in-Some.command.now found.0 ∙ ap Some (sym (found.1 c.in-Some.command.now))) in
-    absurd (no_step c.args.self.now.shape w c.args.number c.args.step act
-    (first_left c.args.lane.now.script p.done c.in-Some.command.now b here lane.left
-    ∙ c.in_default-call_of.ensures c.args.lane.now.script b lane.slots) step)
+    let called = next_called script c.as_slice.result.now c.args.progress.now.done c.in-Some.command.now b c.as_slice.ensures found.0 found.1 lane.left in
+    absurd (no_step c.args.self.now.shape w c.args.number c.args.step act (called ∙ c.in_default-call_of.ensures script b lane.slots) step)
+
+pub act_of_call-requires-clause-done : goal.act_of_call-requires-clause-done
+act_of_call-requires-clause-done c = c.requires.draft.3.within
+
+pub act_of_call-requires-clause-draft : goal.act_of_call-requires-clause-draft
+act_of_call-requires-clause-draft c =
+    let d = c.requires.draft in
+    let lane = d.3 in
+    let b = d.0.books c.args.number in
+    let script = c.args.lane.now.script in
+    let done = c.args.progress.now.done in
+    let found = c.in-Some.ensures.lookup.3 in
+    let called = next_called script c.as_slice.result.now done c.in-Some.command.now b c.as_slice.ensures found.0 found.1 lane.left in
+    (d.0, d.1, d.2, subst (IsCall script done b (Some c.in-Some-call_of.call)) (sym called) (c.in-Some-call_of.ensures script b lane.slots), d.4, d.5)
+
+pub returns : goal.returns
+returns c = IfOk-weaker c.act_of_call.result _ _ (λ made told w act draft lane step legal.
+    let b = w.books c.args.number in
+    let script = c.args.lane.now.script in
+    let done = c.args.progress.now.done in
+    let found = c.in-Some.ensures.lookup.3 in
+    let called = next_called script c.as_slice.result.now done c.in-Some.command.now b c.as_slice.ensures found.0 found.1 lane.left in
+    told w act draft (subst (IsCall script done b (Some c.in-Some-call_of.call)) (sym called) (c.in-Some-call_of.ensures script b lane.slots)) step legal)
+    c.act_of_call.ensures

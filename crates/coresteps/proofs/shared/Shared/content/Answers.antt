@@ -43,3 +43,14 @@ returns-in-None c = λ w text d row.
     (d.published c.args.place text c.requires.place row) in
     let past : length s.acts.items ≤ c.index_of_publish-index.result = omega arith in
     absurd (published_none s.acts.items c.index_of_publish-index.result text p past)
+
+pub returns-in_default : goal.returns-in_default
+returns-in_default c = λ w text d row.
+    let s = c.args.self.now in
+    let is : made_acts (option_copied c.args.made) ≡ [] = ap (λ (o : Option (Bor Made)). made_acts (option_copied o)) c.in_default.is in
+    let p : IsPublished (s.acts.items ++ []) c.index_of_publish-index.result text
+    = subst (λ (t : List Act × ℕ). IsPublished t.0 t.1 text)
+    (λ i. ((d.history ∙ ap (λ (xs : List Act). s.acts.items ++ xs) is) i, sym c.index_of_publish-index.ensures i))
+    (d.published c.args.place text c.requires.place row) in
+    let past : length s.acts.items ≤ c.index_of_publish-index.result = omega arith in
+    absurd (published_none s.acts.items c.index_of_publish-index.result text p past)

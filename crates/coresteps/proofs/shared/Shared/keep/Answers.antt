@@ -1,25 +1,11 @@
 -- A step is made: its act joins the history, and its word has the value after it.
-use Rattle.std.proofs.Common.{◌∙◌, ap, refl, Some, None}
-use Rattle.std.specs.Prelude.{Result, Ok, Err, OnErr}
-use Rattle.traces.specs.Lawful.{World}
-use Rattle.coresteps.specs.Kept.{IsDraft}
-use Rattle.coresteps.proofs.TableLemmas.{same_draft, step_kept, joined_none, joined_some}
+use Rattle.std.proofs.Common.{◌∙◌, ap, refl, Some}
+use Rattle.coresteps.proofs.TableLemmas.{step_kept, joined_none, joined_some}
 use Rattle.coresteps.proofs.shared.Shared.keep.Goals as goal
 use Rattle.coresteps.proofs.shared.Shared.keep.Goals.{in-Some+in_ok-keep_act, in_default}
 
--- what holds anyway holds on an error
-on_err : {T E P : Type 0} → (r : Result T E) → P → OnErr r P
-on_err (Ok x) p = tt
-on_err (Err e) p = p
-
 pub keep_act-requires-clause-place : goal.keep_act-requires-clause-place
 keep_act-requires-clause-place c = λ lane key content with_ref e. c.requires.place lane key content with_ref (c.in-Some.is ∙ ap Some e)
-
-pub returns-in_err-keep_act-clause-err : goal.returns-in_err-keep_act-clause-err
-returns-in_err-keep_act-clause-err c =
-    let e = c.in_err-keep_act.ensures in
-    let kept : (w : World) → IsDraft c.args.self.now w None → IsDraft c.keep_act.new.self w None = λ w d. same_draft c.args.self.now c.keep_act.new.self w None e.shape e.words e.err.1 e.err.0 d in
-    on_err _ kept
 
 pub returns-clause-ok : goal.returns-clause-ok
 returns-clause-ok c = λ w draft.

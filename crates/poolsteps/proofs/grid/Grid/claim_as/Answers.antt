@@ -1,9 +1,10 @@
-use Rattle.std.proofs.Common.{◌≡◌, ◌==◌, ℕ}
+use Rattle.std.proofs.Common.{◌≡◌, ◌==◌, ℕ, subst}
 use prog.Atomic.{either}
 use Rattle.keybits.specs.declared.shape.Shape.{Shape}
 use Rattle.keybits.specs.declared.step.Word.TheVariants.{Life}
 use Rattle.keybits.specs.Words.{claimable}
-use Rattle.poolsteps.specs.Told.{Claims}
+use Rattle.steplaws.specs.declared.pending.Pending.{Pending}
+use Rattle.poolsteps.specs.Told.{Claims, place_owed, generation_owed}
 use Rattle.poolsteps.proofs.LayoutLemmas.{index-below}
 use Rattle.poolsteps.proofs.Making.{life-allows}
 use Rattle.poolsteps.proofs.Claiming.{claim-given, claim-makes}
@@ -29,3 +30,13 @@ compare_exchange-requires g c =
           (λ words w slots point at small. claim-makes content room z words w slots point hand.me place generation new at asked.spot.inside asked.owes
           (claim-given z.last_generation generation c.claimable-old.result new old c.claimed-new.ensures.step))),
     )
+
+pub returns-clause-hand : goal.returns-clause-hand
+returns-clause-hand g c = (c.compare_exchange.ensures.0, c.compare_exchange.ensures.1)
+
+pub returns-clause-claims : goal.returns-clause-claims
+returns-clause-claims g c =
+    let me = c.args.hand.now.me in
+    let then = c.compare_exchange.new.seat.me in
+    subst (λ (p : Pending). Claims c.args.self.now.shape (place_owed p) (generation_owed p) me c.compare_exchange.result then) c.requires.owes
+    (rw c.requires.aim at c.compare_exchange.ensures.2)

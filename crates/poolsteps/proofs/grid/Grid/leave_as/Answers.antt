@@ -24,3 +24,9 @@ fetch_sub-requires g c =
           (λ word. (word + (2 ^ 64 - 4)) % 2 ^ 64) (Leaves z key hand.me)
           (λ words w slots point at below. leave-makes content room z words w slots point hand.me key at below asked.spot.inside asked.may)),
     )
+
+pub returns-clause-hand : goal.returns-clause-hand
+returns-clause-hand g c = (c.fetch_sub.ensures.0, c.fetch_sub.ensures.1)
+
+pub returns-clause-leaves : goal.returns-clause-leaves
+returns-clause-leaves g c = rw (c.requires.aim.0, c.requires.aim.1) at c.fetch_sub.ensures.2

@@ -5,6 +5,7 @@ use Rattle.keybits.specs.declared.step.Word.{Word}
 use Rattle.keybits.specs.declared.step.Word.TheVariants.{Stack}
 use Rattle.keybits.specs.Places.{shard_of}
 use Rattle.keybits.specs.Links.{link_to}
+use Rattle.keybits.proofs.ShapeLemmas.{is_place-parts}
 use Rattle.poolsteps.specs.Layout.{index_in, has_word}
 use Rattle.poolsteps.specs.Views.{the_lane}
 use Rattle.poolsteps.specs.Returned.{Pushes}
@@ -35,3 +36,15 @@ compare_exchange-requires g c =
           (λ word. either (word == top) (link_to place) word) (Pushes z top me)
           (λ words w slots point at small. push-makes content room z words w slots point me at top place asked.returns asked.aims asked.rests)),
     )
+
+pub stack_word-word-requires : goal.stack_word-word-requires
+stack_word-word-requires g c = record {
+  shape = c.args.self.now.checked;
+  lanes = (rw c.shard_of.ensures (is_place-parts c.args.self.now.shape c.args.spot.place c.requires.spot.inside).0, c.requires.lane.1);
+}
+
+pub returns-clause-hand : goal.returns-clause-hand
+returns-clause-hand g c = (c.compare_exchange.ensures.0, c.compare_exchange.ensures.1)
+
+pub returns-clause-pushes : goal.returns-clause-pushes
+returns-clause-pushes g c = rw c.requires.aim at c.compare_exchange.ensures.2

@@ -30,3 +30,12 @@ swap-requires g c =
           (word-allows content room z grid.table.shared.table_id.slots hand.id hand.me asked.hand.1 (Stack lane from) inside (λ n. 0) (Takes z from hand.me)
           (λ words w slots point at below. take-makes content room z words w slots point hand.me from at asked.from.0 apart)),
     )
+
+pub stack_word-word-requires : goal.stack_word-word-requires
+stack_word-word-requires g c = record { shape = c.args.self.now.checked; lanes = (c.requires.lane.1, c.requires.from.0) }
+
+pub returns-clause-hand : goal.returns-clause-hand
+returns-clause-hand g c = (c.swap.ensures.0, c.swap.ensures.1)
+
+pub returns-clause-takes : goal.returns-clause-takes
+returns-clause-takes g c = rw (c.requires.aim.0, c.requires.aim.1) at c.swap.ensures.2

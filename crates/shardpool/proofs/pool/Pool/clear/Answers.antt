@@ -1,11 +1,20 @@
 -- A clear: what it leaves of the lane.
-use Rattle.std.proofs.Common.{refl, ap, ◌∙◌, arith}
+use Rattle.std.proofs.Common.{◌≡◌, true, false, refl, sym, ap, ◌∙◌, arith}
+use Rattle.keybits.specs.Keys.{is_key}
 use Rattle.shardpool.proofs.calls.CallParts.{calls-more}
 use Rattle.shardpool.proofs.calls.Halts.{fits-own}
 use Rattle.shardpool.proofs.references.Holdings.{clear-holds}
-use Rattle.shardpool.proofs.calls.KeyCalls.{ready, cleared-away, cleared}
+use Rattle.shardpool.proofs.calls.KeyCalls.{ready, ready-at, cleared-away, cleared}
 use Rattle.shardpool.proofs.frame.Standing.{missed-outside, cleared-since, unmarked-since, seen-of}
 use Rattle.shardpool.proofs.pool.Pool.clear.Goals as goal
+
+pub clear-marked-requires-clause-at : goal.clear-marked-requires-clause-at
+clear-marked-requires-clause-at g c =
+    let before = ready c.lane.view_is c.requires.owns.1 c.self.view_is c.lane.invariant.1 c.in-Some.ensures.spot in
+    ready-at before _ refl refl c.top-top.ensures
+
+pub clear-marked-requires-clause-key : goal.clear-marked-requires-clause-key
+clear-marked-requires-clause-key g c = ap (λ p. is_key p.shape c.args.key) c.self.view_is ∙ c.in-Some.ensures.some.0 refl
 
 pub keep_reclaimed-requires-clause-away : goal.keep_reclaimed-requires-clause-away
 keep_reclaimed-requires-clause-away g c =
@@ -47,6 +56,9 @@ returns-clause-owns g c =
     let left = cleared before c.clear-marked.result.1 c.keep_reclaimed.new.state c.keep_reclaimed.ensures c.clear-marked.result.0 told.called told.acts told.reclaimed in
     let same = (left.did c.lane.inside.hand.table_id c.clear-marked.new.hand.table_id told.hand.0).1.same in
     (same.0 ∙ (ap (λ l. l.table) c.lane.view_is ∙ c.requires.owns.0), same.1 ∙ (ap (λ l. l.shape) c.lane.view_is ∙ c.requires.owns.1))
+
+pub returns-clause-outside : goal.returns-clause-outside
+returns-clause-outside g c out = let bad : true ≡ false = sym (c.in-Some.ensures.some.0 refl) ∙ out in absurd (cc bad)
 
 pub returns-clause-called : goal.returns-clause-called
 returns-clause-called g c key = rw (← c.self.view_is, ← c.lane.view_is) (calls-more c.clear-marked.ensures.called (omega arith))

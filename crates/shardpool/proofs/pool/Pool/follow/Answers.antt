@@ -1,10 +1,14 @@
 -- The chain's first place is followed.
-use Rattle.std.proofs.Common.{◌≡◌, Some, sym, ◌∙◌, subst}
+use Rattle.std.proofs.Common.{◌≡◌, ◌<◌, Some, ap, sym, ◌∙◌, subst}
+use Rattle.keybits.specs.declared.shape.Shape.{Shape}
+use Rattle.seqpool.specs.Pool.{with}
+use Rattle.poolsteps.specs.Grids.{IsSpot}
 use Rattle.shardpool.specs.Tokens.{LaneOf}
 use Rattle.shardpool.specs.Lanes.{Made}
 use Rattle.shardpool.specs.Creates.{FollowsChain}
 use Rattle.shardpool.proofs.frame.LaneFacts.{lane_of}
-use Rattle.shardpool.proofs.free.Takes.{follows-here, hung-inside, follow-goes, followed-fits, followed-chain, followed-fillings}
+use Rattle.shardpool.proofs.frame.SeenHistories.{same-shape}
+use Rattle.shardpool.proofs.free.Takes.{follows-here, hung-inside, hung-begins, hung-rests, follow-goes, followed-fits, followed-chain, followed-fillings}
 use Rattle.shardpool.proofs.pool.Pool.follow.Goals as goal
 
 pub number-requires-clause-page : goal.number-requires-clause-page
@@ -18,6 +22,36 @@ number-requires-clause-slot g c =
     let fits = c.lane.invariant.1 in
     let hung : c.lane.inside.state.free.chain ≡ Some c.in_ok-first.first = sym c.chain.ensures.first ∙ c.in_ok-first.was in
     (hung-inside fits hung c.chain.ensures.places).low_slot
+
+pub spot-spot-requires : goal.spot-spot-requires
+spot-spot-requires g c =
+    let hung : c.lane.inside.state.free.chain ≡ Some c.in_ok-first.first = sym c.chain.ensures.first ∙ c.in_ok-first.was in
+    (hung-rests c.lane.invariant.1 hung (sym (same-shape c.lane.view_is c.requires.owns.1 c.self.view_is)) c.number.ensures).inside
+
+pub follow-link-requires-clause-spot : goal.follow-link-requires-clause-spot
+follow-link-requires-clause-spot g c = subst (IsSpot c.self.inside.grid.shape c.spot-spot.result) (sym c.spot-spot.ensures.place_is) c.spot-spot.ensures
+
+pub follow-link-requires-clause-lane : goal.follow-link-requires-clause-lane
+follow-link-requires-clause-lane g c =
+    let seat = c.lane.invariant.1.seat in
+    (seat.number_is, subst (λ (z : Shape). c.lane.inside.state.number < z.lanes) (sym (same-shape c.lane.view_is c.requires.owns.1 c.self.view_is)) seat.below)
+
+pub follow-link-requires-clause-chain : goal.follow-link-requires-clause-chain
+follow-link-requires-clause-chain g c =
+    let hung : c.lane.inside.state.free.chain ≡ Some c.in_ok-first.first = sym c.chain.ensures.first ∙ c.in_ok-first.was in
+    hung-begins c.lane.invariant.1 hung (c.spot-spot.ensures.place_is ∙ c.number.ensures)
+
+pub follow-link-requires-clause-place : goal.follow-link-requires-clause-place
+follow-link-requires-clause-place g c =
+    let fits = c.lane.invariant.1 in
+    let hung : c.lane.inside.state.free.chain ≡ Some c.in_ok-first.first = sym c.chain.ensures.first ∙ c.in_ok-first.was in
+    let rests = hung-rests fits hung (sym (same-shape c.lane.view_is c.requires.owns.1 c.self.view_is)) (c.spot-spot.ensures.place_is ∙ c.number.ensures) in
+    rests.with_lane ∙ ap with (sym fits.seat.number_is)
+
+pub follow-link-requires-clause-rests : goal.follow-link-requires-clause-rests
+follow-link-requires-clause-rests g c =
+    let hung : c.lane.inside.state.free.chain ≡ Some c.in_ok-first.first = sym c.chain.ensures.first ∙ c.in_ok-first.was in
+    (hung-rests c.lane.invariant.1 hung (sym (same-shape c.lane.view_is c.requires.owns.1 c.self.view_is)) (c.spot-spot.ensures.place_is ∙ c.number.ensures)).rests
 
 pub follow-requires-clause-link : goal.follow-requires-clause-link
 follow-requires-clause-link g c =

@@ -1,5 +1,6 @@
 -- A get: what a miss leaves of the lane, and what a hit does whose key the lane has already, or not yet.
-use Rattle.std.proofs.Common.{◌≡◌, ℕ, refl, ◌∙◌, subst, arith}
+use Rattle.std.proofs.Common.{◌≡◌, ℕ, true, false, refl, sym, ap, ◌∙◌, subst, arith}
+use Rattle.keybits.specs.Keys.{is_key}
 use Rattle.sharelaws.specs.declared.stored.Status.TheVariants.{Untouched}
 use Rattle.poolsteps.specs.Moved.{Outs}
 use Rattle.poolcalls.proofs.Moves.{carries-out}
@@ -7,10 +8,18 @@ use Rattle.shardpool.proofs.calls.CallParts.{calls-more}
 use Rattle.shardpool.proofs.calls.Gets.{called-then, seen-within}
 use Rattle.shardpool.proofs.calls.Halts.{fits-own}
 use Rattle.shardpool.proofs.references.Holdings.{get-holds, got-held}
-use Rattle.shardpool.proofs.calls.KeyCalls.{ready, ready-low, missed-away, missed, hit-touches, hit-untouched, gained-again, gained-first}
+use Rattle.shardpool.proofs.calls.KeyCalls.{ready, ready-low, ready-at, missed-away, missed, hit-touches, hit-untouched, gained-again, gained-first}
 use Rattle.shardpool.proofs.references.RowChanges.{rows-count-le}
 use Rattle.shardpool.proofs.frame.Standing.{missed-outside, found-since, missed-since, seen-of}
 use Rattle.shardpool.proofs.pool.Pool.get.Goals as goal
+
+pub get-got-requires-clause-at : goal.get-got-requires-clause-at
+get-got-requires-clause-at g c =
+    let before = ready c.lane.view_is c.requires.owns.1 c.self.view_is c.lane.invariant.1 c.in_ok-spot.ensures.spot in
+    ready-at before _ refl refl c.top-top.ensures
+
+pub get-got-requires-clause-key : goal.get-got-requires-clause-key
+get-got-requires-clause-key g c = ap (λ p. is_key p.shape c.args.key) c.self.view_is ∙ c.in_ok-spot.ensures.some.0 refl
 
 pub get-got-requires-clause-room : goal.get-got-requires-clause-room
 get-got-requires-clause-room g c =
@@ -190,6 +199,28 @@ returns-then-index-gt0-clause-same g c = (returns-then-index-gt0-clause-gets g c
 
 pub returns-clause-same : goal.returns-clause-same
 returns-clause-same g c = (returns-clause-gets g c (c.in_ok-spot.ensures.some.0 refl)).3.same
+
+-- ---- so it is one of the pool
+
+pub returns-in-Miss-clause-owns : goal.returns-in-Miss-clause-owns
+returns-in-Miss-clause-owns g c = let same = returns-in-Miss-clause-same g c in (same.0 ∙ c.requires.owns.0, same.1 ∙ c.requires.owns.1)
+
+pub returns-then-index-gt0-clause-owns : goal.returns-then-index-gt0-clause-owns
+returns-then-index-gt0-clause-owns g c = let same = returns-then-index-gt0-clause-same g c in (same.0 ∙ c.requires.owns.0, same.1 ∙ c.requires.owns.1)
+
+pub returns-clause-owns : goal.returns-clause-owns
+returns-clause-owns g c = let same = returns-clause-same g c in (same.0 ∙ c.requires.owns.0, same.1 ∙ c.requires.owns.1)
+
+-- ---- the number is a key
+
+pub returns-in-Miss-clause-outside : goal.returns-in-Miss-clause-outside
+returns-in-Miss-clause-outside g c out = let bad : true ≡ false = sym (c.in_ok-spot.ensures.some.0 refl) ∙ out in absurd (cc bad)
+
+pub returns-then-index-gt0-clause-outside : goal.returns-then-index-gt0-clause-outside
+returns-then-index-gt0-clause-outside g c out = let bad : true ≡ false = sym (c.in_ok-spot.ensures.some.0 refl) ∙ out in absurd (cc bad)
+
+pub returns-clause-outside : goal.returns-clause-outside
+returns-clause-outside g c out = let bad : true ≡ false = sym (c.in_ok-spot.ensures.some.0 refl) ∙ out in absurd (cc bad)
 
 -- ---- it has the reference
 

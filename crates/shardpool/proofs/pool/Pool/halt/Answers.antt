@@ -1,5 +1,5 @@
 -- Each call over the hand is that of the lane.
-use Rattle.std.proofs.Common.{ℕ, sym, ap, subst}
+use Rattle.std.proofs.Common.{ℕ, sym, ap, ◌∙◌, subst}
 use Rattle.steplaws.specs.Calls.{Call}
 use Rattle.steplaws.specs.Calls.Call.{Releasing}
 use Rattle.poolcalls.specs.Halted.{CalledWithin}
@@ -10,6 +10,24 @@ use Rattle.shardpool.specs.Halts.{HaltedOf, HaltsIn}
 use Rattle.shardpool.proofs.calls.Halts.{halts-by}
 use Rattle.shardpool.proofs.pool.Pool.halt.Goals.{in-Get, in-Clear, in-Release, in-Create}
 use Rattle.shardpool.proofs.pool.Pool.halt.Goals as goal
+
+pub returns-clause-same : goal.returns-clause-same
+returns-clause-same g c =
+    let table = ap (λ l. l.table) c.lane.view_is in
+    let shape = ap (λ l. l.shape) c.lane.view_is in
+    let number = ap (λ l. l.number) c.lane.view_is in elim c.match-call.branch [
+      | in-Get w ↦
+          (ap (λ h. h.table_id) w.hand-is ∙ (w.halt_get.ensures.table ∙ table), ap (λ s. s.shape) w.state-is ∙ shape, ap (λ s. s.number) w.state-is ∙ number)
+      | in-Clear w ↦
+          (ap (λ h. h.table_id) w.hand-is ∙ (w.halt_clear.ensures.table ∙ table), ap (λ s. s.shape) w.state-is ∙ shape, ap (λ s. s.number) w.state-is ∙ number)
+      | in-Release w ↦ (
+        ap (λ h. h.table_id) w.hand-is ∙ (w.halt_release.ensures.table ∙ table),
+        ap (λ s. s.shape) w.state-is ∙ (ap (λ s. s.shape) w.halt_release.ensures.state ∙ shape),
+        ap (λ s. s.number) w.state-is ∙ (ap (λ s. s.number) w.halt_release.ensures.state ∙ number),
+      )
+      | in-Create w ↦
+          (ap (λ h. h.table_id) w.hand-is ∙ (w.halt_create.ensures.table ∙ table), ap (λ s. s.shape) w.state-is ∙ shape, ap (λ s. s.number) w.state-is ∙ number)
+    ]
 
 pub returns-clause-halts : goal.returns-clause-halts
 returns-clause-halts g c =

@@ -1,10 +1,12 @@
-use Rattle.std.proofs.Common.{◌≡◌, false, [], ◌∷◌, refl, sym, ap, ◌∙◌, subst}
+use Rattle.std.proofs.Common.{◌≡◌, false, [], ◌∷◌, refl, sym, ap, ◌∙◌, subst, arith}
 use Rattle.keybits.specs.declared.shape.Shape.{Shape}
 use Rattle.seqpool.specs.declared.act.Act.{Act}
 use Rattle.seqpool.specs.declared.act.Act.TheVariants as acts
+use Rattle.steplaws.specs.Calls.Call.{Publishing}
 use Rattle.shardpool.specs.Tokens.{LaneOf, FillingOf}
 use Rattle.shardpool.specs.LaneStates.{Fits}
-use Rattle.shardpool.specs.Lanes.{Made, Did}
+use Rattle.shardpool.specs.Lanes.{Made, Did, Calls}
+use Rattle.shardpool.proofs.calls.CallParts.{calls-more}
 use Rattle.shardpool.proofs.calls.Publishes.{published-did, published-held, published-others, published-alone}
 use Rattle.shardpool.proofs.frame.LaneFacts.{lane_of}
 use Rattle.shardpool.proofs.pool.Pool.publish.Given.{Over}
@@ -40,6 +42,13 @@ invariant_of-lane g c =
     let now = published-alone s s c.lane.inside.hand.table_id (filling g c) (g.T.Clear.content c.spend-key.result.1) false (fits g c) told.called.did told.called.idle told.acts (was g c) refl refl refl refl in
     (told.called.did.held ∙ c.lane.invariant.0, subst (λ (y : Shape). Fits g.T.Clear.content g.T.Clear.room y c.publish.new.hand.me.0 s) (sym (shape g c)) now)
 
+pub returns-clause-called : goal.returns-clause-called
+returns-clause-called g c =
+    let z : Shape = c.self.inside.grid.shape in
+    rw (← c.self.view_is, ← c.lane.view_is)
+    (subst (λ (f : FillingOf g.row.T.Denot). Calls z (Publishing f.key (g.T.Clear.content f.object) false) c.lane.inside.hand.me.0 c.publish.new.hand.me.0) (same g c)
+    (calls-more c.publish.ensures.called (omega arith)))
+
 pub returns-clause-publishes : goal.returns-clause-publishes
 returns-clause-publishes g c =
     let s = c.lane.inside.state in
@@ -49,6 +58,9 @@ returns-clause-publishes g c =
     let one : acts.Publish s.number c.spend-key.result.0 (g.T.Clear.content c.spend-key.result.1) false ≡ acts.Publish s.number c.args.filling.key (g.T.Clear.content c.args.filling.object) false
     = ap (λ (f : FillingOf g.row.T.Denot). acts.Publish s.number f.key (g.T.Clear.content f.object) false) (same g c) in
     rw (← c.lane.view_is) (subst (λ (x : Act). Did (x ∷ []) (before g c) (lane_of c.publish.new.hand.table_id c.publish.new.hand.me.0 s)) one did)
+
+pub returns-clause-owns : goal.returns-clause-owns
+returns-clause-owns g c = let same = (returns-clause-publishes g c).same in (same.0 ∙ c.requires.owns.0, same.1 ∙ c.requires.owns.1)
 
 pub returns-clause-refs : goal.returns-clause-refs
 returns-clause-refs g c =

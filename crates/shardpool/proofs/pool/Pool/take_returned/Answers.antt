@@ -1,11 +1,32 @@
 -- What is taken hangs, or all is as before.
-use Rattle.std.proofs.Common.{rules, ◌≡◌, ◌<◌, None, sym, ◌∙◌, subst, arith}
+use Rattle.std.proofs.Common.{rules, ◌≡◌, ◌<◌, Option, None, sym, ◌∙◌, subst, arith}
+use Rattle.keybits.specs.declared.shape.Shape.{Shape}
+use Rattle.keybits.specs.declared.place.Place.{Place}
+use Rattle.poolsteps.specs.Views.{the_lane}
+use Rattle.poolcalls.specs.Called.{IsLawful}
+use Rattle.shardpool.specs.LaneStates.{IsFirst}
+use Rattle.shardpool.proofs.frame.SeenHistories.{same-shape}
 use Rattle.shardpool.specs.Tokens.{LaneOf}
 use Rattle.shardpool.specs.Lanes.{Made}
 use Rattle.shardpool.specs.Creates.{TakesReturned}
 use Rattle.shardpool.proofs.frame.LaneFacts.{lane_of}
 use Rattle.shardpool.proofs.free.Takes.{collects-here, found-word, took-away, took-fits, took-takes, took-fillings, none-fits, none-takes, none-fillings}
 use Rattle.shardpool.proofs.pool.Pool.take_returned.Goals as goal
+
+pub collect-found-requires-clause-lane : goal.collect-found-requires-clause-lane
+collect-found-requires-clause-lane g c =
+    let seat = c.lane.invariant.1.seat in
+    (seat.number_is, subst (λ (z : Shape). c.lane.inside.state.number < z.lanes) (sym (same-shape c.lane.view_is c.requires.owns.1 c.self.view_is)) seat.below)
+
+pub collect-found-requires-clause-seen : goal.collect-found-requires-clause-seen
+collect-found-requires-clause-seen g c =
+    let seat = c.lane.invariant.1.seat in
+    (subst (λ (z : Shape). IsLawful z c.lane.inside.hand.me.0) (sym (same-shape c.lane.view_is c.requires.owns.1 c.self.view_is)) (seat.legal, seat.own, seat.quiet), seat.paired)
+
+pub collect-found-requires-clause-chain : goal.collect-found-requires-clause-chain
+collect-found-requires-clause-chain g c =
+    let none : c.lane.inside.state.free.chain ≡ None = search rules in
+    subst (λ (first : Option Place). IsFirst first (the_lane c.lane.inside.hand.me.0).chain) none c.lane.invariant.1.stores.first
 
 pub hang-requires-clause-word : goal.hang-requires-clause-word
 hang-requires-clause-word g c =
