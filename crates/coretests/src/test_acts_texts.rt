@@ -1,14 +1,16 @@
 //! Texts of acts with the answers of an independent checker.
 ghost use Rattle.keybits.specs.Shapes.{IsShape};
 
-use crate::test_texts::{reads, same, same_at};
+use crate::test_texts::{reads, same};
 use keybits::Shape;
-use seqpool::{Act, ActsFault, CheckFault, check, read_acts, write_acts};
+use seqpool::{
+    Act, ActsFault, ApplyFault, CheckFault, Memory, SeqPool, check, read_acts, write_acts,
+};
 use std::alloc::Global;
 use std::process::Abort;
 
 /// What a checker answers of a text.
-#[derive(Clone, Copy, Debug, PartialEq, Eq)]
+#[derive(Drop, Debug)]
 enum Answer {
     /// The counts of acts, published, reclaimed, present, marked, home and retired.
     Legal([usize; 7]),
@@ -16,13 +18,6 @@ enum Answer {
     Illegal(usize, u32),
     /// The number of the fault of the text.
     Fault(u32),
-}
-
-fn answer_of(alloc: Global, text: &[u8]) -> Answer {
-    match read_acts(alloc, text) {
-        Ok((shape, acts)) => answer_to(alloc, shape, acts.as_slice()),
-        Err(fault) => Answer::Fault(fault.number()),
-    }
 }
 
 /// What a checker answers of the acts of a checked shape.
@@ -44,9 +39,54 @@ fn answer_to(alloc: Global, shape: Shape, acts: &[Act]) -> Answer
     }
 }
 
+/// The first act that `apply` refuses, one after another, and the number of the refusal.
+fn first_refused<R: Abort>(
+    rt: &R,
+    alloc: Global,
+    shape: Shape,
+    acts: &[Act],
+) -> Option<(usize, u32)>
+    requires { IsShape shape }
+{
+    let mut pool = SeqPool::new(alloc, shape).expect(rt, "memory for a pool");
+    for (index, act) in acts.iter().enumerate() {
+        if let Err(fault) = pool.apply(act) {
+            return Some((index, fault.number()));
+        }
+    }
+    None
+}
+
+/// The text of an answer is this.
+fn is_answer<R: Abort>(rt: &R, alloc: Global, answer: &Answer, want: &str) {
+    let text = format!(in alloc; "{answer:?}").expect(rt, "memory for a text");
+    same(rt, &text.as_str(), &want);
+}
+
+/// `check` answers this of the acts of a shape, and `apply` refuses the same act, or none.
+pub(crate) fn are_answered<R: Abort>(
+    rt: &R,
+    alloc: Global,
+    shape: Shape,
+    acts: &[Act],
+    want: &str,
+) {
+    assert!(rt; shape.check().is_ok());
+    let answer = answer_to(alloc, shape, acts);
+    is_answer(rt, alloc, &answer, want);
+    let refused = match answer {
+        Answer::Illegal(index, number) => Some((index, number)),
+        _ => None,
+    };
+    same(rt, &first_refused(rt, alloc, shape, acts), &refused);
+}
+
 /// A checker answers this of the text.
-fn is_checked<R: Abort>(rt: &R, alloc: Global, text: &str, want: Answer) {
-    same_at(rt, &answer_of(alloc, text.as_bytes()), &want, text);
+fn is_checked<R: Abort>(rt: &R, alloc: Global, text: &str, want: &str) {
+    match read_acts(alloc, text.as_bytes()) {
+        Ok((shape, acts)) => are_answered(rt, alloc, shape, acts.as_slice(), want),
+        Err(fault) => is_answer(rt, alloc, &Answer::Fault(fault.number()), want),
+    }
 }
 
 /// What was read of the text is written as the very text.
@@ -66,370 +106,1266 @@ const STRANGER: &str =
 const TAGGED: &str =
     "shape 1 1 1 4294967295 5\n0 publish 360287970206416896 - 0\n0 get 360287970206416896 some -\n";
 
-const ROWS: [(&str, Answer); 17] = [
-    (ONCE, Answer::Legal([5, 1, 1, 0, 0, 0, 0])),
-    (STRANGER, Answer::Legal([6, 1, 1, 0, 0, 1, 0])),
-    (TAGGED, Answer::Legal([2, 1, 0, 1, 0, 0, 0])),
-    (
-        "shape 1 2 1 4294967295\n0 publish 16777216 6869 0\n0 get 16777216 none",
-        Answer::Illegal(1, 13),
-    ),
-    ("", Answer::Fault(19)),
-    (
-        "shape 2 1 1 4294967295\n",
-        Answer::Legal([0, 0, 0, 0, 0, 0, 0]),
-    ),
-    (
-        "shape 2 1 1 4294967295\n1 publish 16777216 - 0\n",
-        Answer::Illegal(0, 11),
-    ),
-    (
-        "shape 2 1 1 4294967295\n2 clear 16777216 false\n",
-        Answer::Illegal(0, 11),
-    ),
-    (
-        "shape 2 1 1 4294967295\n0 publish 33554432 - 0\n",
-        Answer::Illegal(0, 12),
-    ),
-    (
-        "shape 2 1 1 4294967295\n0 publish 16777216 - 0\n1 release 16777216\n",
-        Answer::Illegal(1, 14),
-    ),
-    (
-        "shape 2 1 1 4294967295\n0 publish 16777216 - 1\n1 clear 16777216 true\n1 reclaim 16777216\n",
-        Answer::Illegal(2, 15),
-    ),
-    (
-        "shape 2 1 1 4294967295\n0 publish 16777216 - 0\n0 reclaim 16777216\n",
-        Answer::Illegal(1, 16),
-    ),
-    (
-        "shape 2 1 1 4294967295\n0 collect 0\n",
-        Answer::Illegal(0, 17),
-    ),
-    (
-        "shape 1 1 1 4294967295 5\n0 publish 16777216 - 0\n",
-        Answer::Illegal(0, 11),
-    ),
-    (
-        "shape 1 1 1 4294967295 0\n",
-        Answer::Legal([0, 0, 0, 0, 0, 0, 0]),
-    ),
-    ("shape 1 1 1 4294967295 256\nno act\n", Answer::Fault(6)),
-    ("shape 17 1 1 4294967295", Answer::Fault(1)),
-];
+// Texts of acts, each with the answer of a checker behind it.
+const ROWS: &str = "shape 1 2 1 4294967295
+0 publish 16777216 6869 0
+0 get 16777216 some 6869
+0 release 16777216
+0 clear 16777216 true
+0 reclaim 16777216
+=Legal([5, 1, 1, 0, 0, 0, 0]);
+shape 2 1 1 4294967295
+0 publish 16777216 - 1
+0 clear 16777216 true
+0 release 16777216
+1 get 16777216 none
+1 reclaim 16777216
+1 home 0
+=Legal([6, 1, 1, 0, 0, 1, 0]);
+shape 1 1 1 4294967295 5
+0 publish 360287970206416896 - 0
+0 get 360287970206416896 some -
+=Legal([2, 1, 0, 1, 0, 0, 0]);
+shape 1 2 1 4294967295
+0 publish 16777216 6869 0
+0 get 16777216 none=Illegal(1, 13);
+=Fault(19);
+shape 2 1 1 4294967295
+=Legal([0, 0, 0, 0, 0, 0, 0]);
+shape 2 1 1 4294967295
+1 publish 16777216 - 0
+=Illegal(0, 11);
+shape 2 1 1 4294967295
+2 clear 16777216 false
+=Illegal(0, 11);
+shape 2 1 1 4294967295
+0 publish 33554432 - 0
+=Illegal(0, 12);
+shape 2 1 1 4294967295
+0 publish 16777216 - 0
+1 release 16777216
+=Illegal(1, 14);
+shape 2 1 1 4294967295
+0 publish 16777216 - 1
+1 clear 16777216 true
+1 reclaim 16777216
+=Illegal(2, 15);
+shape 2 1 1 4294967295
+0 publish 16777216 - 0
+0 reclaim 16777216
+=Illegal(1, 16);
+shape 2 1 1 4294967295
+0 collect 0
+=Illegal(0, 17);
+shape 1 1 1 4294967295 5
+0 publish 16777216 - 0
+=Illegal(0, 11);
+shape 1 1 1 4294967295 0
+=Legal([0, 0, 0, 0, 0, 0, 0]);
+shape 1 1 1 4294967295 256
+no act
+=Fault(6);
+shape 17 1 1 4294967295=Fault(1);
+shape 1 1 1 1
+0 publish 16777216 - 0
+0 clear 16777216 true
+0 reclaim 16777216
+=Legal([3, 1, 1, 0, 0, 0, 1]);
+shape 2 1 1 4294967295
+0 publish 16777216 - 0
+1 get 16777216 some -
+0 clear 16777216 true
+1 release 16777216
+1 reclaim 16777216
+1 home 0
+0 collect 0
+0 publish 33554432 - 1
+1 clear 33554432 true
+1 clear 33554432 false
+=Legal([10, 2, 1, 0, 1, 0, 0])";
+
+// Texts of the largest shape. Of tag 255: the keys of place 983040 (shard 15, page 0, slot 0) and the generations 1 and 2 are
+// 18374686479689383936 and 18374686479706161152; those of place 1005567 (shard 15, page 5, slot 2047) and the generations 1 to 3
+// are 18374686479689406463, 18374686479706183679 and 18374686479722960895. Those refused are of the last generation of a key, a
+// slot past the last, another tag, and a lane past the last.
+const LARGEST: &str = "shape 16 64 6 4294967295 255
+15 publish 18374686479689383936 6869 1
+3 get 18374686479689383936 some 6869
+0 clear 18374686479689383936 true
+15 get 18374686479689383936 none
+15 release 18374686479689383936
+3 release 18374686479689383936
+7 reclaim 18374686479689383936
+7 home 983040
+15 collect 983040
+15 publish 18374686479706161152 78 0
+14 get 18374686479706161152 some 78
+15 publish 18374686479689406463 - 1
+15 clear 18374686479689406463 true
+15 release 18374686479689406463
+0 reclaim 18374686479689406463
+0 home 1005567
+15 collect 1005567
+15 publish 18374686479706183679 - 0
+=Legal([18, 4, 2, 2, 0, 0, 0]);
+shape 16 64 6 4294967295 255
+=Legal([0, 0, 0, 0, 0, 0, 0]);
+shape 16 64 6 2 255
+15 publish 18374686479689406463 - 0
+4 clear 18374686479689406463 true
+4 reclaim 18374686479689406463
+4 home 1005567
+15 collect 1005567
+15 publish 18374686479706183679 - 1
+9 clear 18374686479706183679 true
+15 release 18374686479706183679
+9 reclaim 18374686479706183679
+9 get 18374686479706183679 none
+15 clear 18374686479722960895 false
+=Legal([11, 2, 2, 0, 0, 0, 1]);
+shape 16 64 6 4294967295 255
+15 publish 18446744073693779967 - 0
+=Illegal(0, 12);
+shape 16 64 6 2 255
+15 publish 18446744073693779967 - 0
+=Illegal(0, 11);
+shape 16 64 6 4294967295 255
+15 publish 18374686479689406464 - 0
+=Illegal(0, 11);
+shape 16 64 6 4294967295 255
+15 publish 18302628885651478527 - 0
+=Illegal(0, 11);
+shape 16 64 6 4294967295 255
+16 clear 18374686479689383936 false
+=Illegal(0, 11)";
+
+/// A text of acts of each kind.
+const KINDS: &str =
+    "shape 2 1 1 4294967295\n0 publish 16777216 0afe 1\n1 get 16777216 some -\n1 get 18446744073709551615 none\n1 clear 16777216 false\n1 home 0\n0 collect 3,7,12\n";
+
+#[test]
+fn acts_are_written(rt: HostRuntime) {
+    is_rewritten(&rt, rt.alloc(), ONCE);
+    is_rewritten(&rt, rt.alloc(), STRANGER);
+    is_rewritten(&rt, rt.alloc(), TAGGED);
+    is_rewritten(&rt, rt.alloc(), "shape 1 1 1 4294967295 5\n");
+    is_rewritten(&rt, rt.alloc(), KINDS);
+}
+
+/// A checker answers what the rows say of their texts.
+fn are_checked<R: Abort>(rt: &R, alloc: Global, rows: &str) {
+    for row in rows.split(';') {
+        let (text, want) = row.trim_start().split_once('=').expect(rt, "a row");
+        is_checked(rt, alloc, text, want);
+    }
+}
 
 #[test]
 fn rows_are_checked(rt: HostRuntime) {
-    for text in [ONCE, STRANGER, TAGGED] {
-        is_rewritten(&rt, rt.alloc(), text);
-    }
-    for (text, want) in ROWS {
-        is_checked(&rt, rt.alloc(), text, want);
-    }
-    same(&rt, &ActsFault::Memory.number(), &18);
+    are_checked(&rt, rt.alloc(), ROWS);
+    are_checked(&rt, rt.alloc(), LARGEST);
+    let numbers = [
+        ActsFault::Memory.number(),
+        ApplyFault::Memory.number(),
+        Memory.number(),
+    ];
+    same(&rt, &numbers, &[18, 18, 18]);
 }
 
-/// Texts of one lane, and some that differ from them a little.
-const ONE_LANE: [(&str, Answer); 24] = [
-    (
-        "shape 1 2 1 1 255\n0 get 18374686479688400896 none\n0 get 18374686479688400897 none\n0 clear 18374686479688400896 false\n0 clear 18374686479688400897 false\n0 clear 18374686479688400896 false\n0 publish 18374686479688400897 - 0\n0 clear 18374686479688400897 true\n0 reclaim 18374686479688400897\n0 clear 18374686479688400897 false\n0 get 18374686479688400897 none\n0 get 18374686479688400897 none\n0 clear 18374686479688400896 false\n0 clear 18374686479688400897 false\n0 get 18374686479688400896 none\n0 clear 18374686479688400897 false\n0 clear 18374686479688400897 false\n0 get 18374686479688400897 none\n0 publish 18374686479688400896 - 0\n0 clear 18374686479688400896 true\n0 reclaim 18374686479688400896\n0 get 18374686479688400897 none\n0 clear 18374686479688400896 false\n0 clear 18374686479688400896 false\n0 get 18374686479688400896 none\n0 get 18374686479688400896 none\n0 get 18374686479688400896 none\n0 get 18374686479688400897 none\n0 get 18374686479688400897 none\n0 clear 18374686479688400897 false\n0 clear 18374686479688400896 false\n0 get 18374686479688400897 none\n0 clear 18374686479688400896 false\n0 get 18374686479688400896 none\n0 get 18374686479688400897 none\n0 get 18374686479688400897 none\n0 clear 18374686479688400896 false\n0 get 18374686479688400896 none\n0 clear 18374686479688400896 false\n0 clear 18374686479688400897 false\n0 get 18374686479688400896 none\n0 get 18374686479688400896 none\n0 clear 18374686479688400896 false\n0 clear 18374686479688400896 false\n0 clear 18374686479688400896 false\n0 get 18374686479688400896 none\n",
-        Answer::Legal([45, 2, 2, 0, 0, 0, 2]),
-    ),
-    (
-        "shape 1 2 1 1 255\n0 get 18374686479688400896 none\n0 get 18374686479688400897 none\n0 clear 18374686479688400896 false\n0 clear 18374686479688400897 false\n0 clear 18374686479688400896 false\n0 publish 18374686479688400897 - 0\n0 clear 18374686479688400897 true\n0 reclaim 18374686479688400897\n0 clear 18374686479688400897 false\n0 get 18374686479688400897 none\n0 get 0 none\n0 clear 18374686479688400896 false\n0 clear 18374686479688400897 false\n0 get 18374686479688400896 none\n0 clear 18374686479688400897 false\n0 clear 18374686479688400897 false\n0 get 18374686479688400897 none\n0 publish 18374686479688400896 - 0\n0 clear 18374686479688400896 true\n0 reclaim 18374686479688400896\n0 get 18374686479688400897 none\n0 clear 18374686479688400896 false\n0 clear 18374686479688400896 false\n0 get 18374686479688400896 none\n0 get 18374686479688400896 none\n0 get 18374686479688400896 none\n0 get 18374686479688400897 none\n0 get 18374686479688400897 none\n0 clear 18374686479688400897 false\n0 clear 18374686479688400896 false\n0 get 18374686479688400897 none\n0 clear 18374686479688400896 false\n0 get 18374686479688400896 none\n0 get 18374686479688400897 none\n0 get 18374686479688400897 none\n0 clear 18374686479688400896 false\n0 get 18374686479688400896 none\n0 clear 18374686479688400896 false\n0 clear 18374686479688400897 false\n0 get 18374686479688400896 none\n0 get 18374686479688400896 none\n0 clear 18374686479688400896 false\n0 clear 18374686479688400896 false\n0 clear 18374686479688400896 false\n0 get 18374686479688400896 none\n",
-        Answer::Legal([45, 2, 2, 0, 0, 0, 2]),
-    ),
-    (
-        "shape 1 2 1 1 255\n0 get 18374686479688400896 none\n0 get 18374686479688400897 none\n0 clear 18374686479688400896 false\n0 clear 18374686479688400897 false\n0 clear 18374686479688400896 false\n0 publish 18374686479688400897 - 0\n0 clear 18374686479688400897 true\n0 reclaim 18374686479688400897\n0 clear 18374686479688400897 false\n0 get 18374686479688400897 none\n0 get 18374686479688400897 none\n0 clear 18374686479688400896 false\n0 clear 18374686479688400897 false\n0 get 18374686479688400896 none\n0 clear 18374686479688400897 false\n0 clear 18374686479688400897 false\n0 get 18374686479688400897 none\n0 publish 18374686479688400896 - 0\n0 get 18374686479688400897 none\n0 clear 18374686479688400896 true\n0 reclaim 18374686479688400896\n0 get 18374686479688400897 none\n0 clear 18374686479688400896 false\n0 clear 18374686479688400896 false\n0 get 18374686479688400896 none\n0 get 18374686479688400896 none\n0 get 18374686479688400896 none\n0 get 18374686479688400897 none\n0 get 18374686479688400897 none\n4294967295 clear 18374686479688400897 false\n0 clear 18374686479688400896 false\n0 get 18374686479688400897 none\n0 clear 18374686479688400896 false\n0 get 18374686479688400896 none\n0 get 18374686479688400897 none\n0 get 18374686479688400897 none\n0 clear 18374686479688400896 false\n0 get 18374686479688400896 none\n0 clear 18374686479688400896 false\n0 clear 18374686479688400897 false\n0 get 18374686479688400896 none\n0 get 18374686479688400896 none\n0 clear 18374686479688400896 false\n0 clear 18374686479688400896 false\n0 clear 18374686479688400896 false\n0 get 18374686479688400896 none\n",
-        Answer::Illegal(29, 11),
-    ),
-    (
-        "shape 1 8 1 4294967295 255\n0 clear 18374686479705178113 false\n0 get 18374686479688400896 none\n",
-        Answer::Legal([2, 0, 0, 0, 0, 0, 0]),
-    ),
-    (
-        "shape 1 8 1 4294967295 255\n0 clear 18374686479721955329 false\n0 get 18374686479688400896 none\n",
-        Answer::Legal([2, 0, 0, 0, 0, 0, 0]),
-    ),
-    ("shape 1 8 1 4294967295 255 0\n", Answer::Fault(19)),
-    ("shape 1 32 2 3 255\n", Answer::Legal([0, 0, 0, 0, 0, 0, 0])),
-    (
-        "shape 1 32 2 -1 255\n0 collect 0,65536\n",
-        Answer::Fault(19),
-    ),
-    (
-        "shape 1 32 2 3 255\n0 get 18374686479688466432 none\n",
-        Answer::Legal([1, 0, 0, 0, 0, 0, 0]),
-    ),
-    (
-        "shape 1 4 1 2\n0 clear 33554432 false\n",
-        Answer::Legal([1, 0, 0, 0, 0, 0, 0]),
-    ),
-    (
-        "shape 1 4 1 2\n0 clear 33554433 false\n0  get 16777216 some -\n",
-        Answer::Fault(19),
-    ),
-    (
-        "shape 1 4 1 2\n0 clear 33554432 false\n0 get 0 none\n",
-        Answer::Legal([2, 0, 0, 0, 0, 0, 0]),
-    ),
-    (
-        "shape 1 1 1 2 255\n0 get 18374686479705178112 none\n0 get 18374686479688400896 none\n0 get 18374686479688400896 none\n",
-        Answer::Legal([3, 0, 0, 0, 0, 0, 0]),
-    ),
-    (
-        "shape 1 1 1 2 255\n0 get 18374686479705178112 none\n0 get 0 none\n0 get 18374686479688400896 some -\n0 get 18374686479688400896 none\n",
-        Answer::Illegal(2, 13),
-    ),
-    (
-        "shape 1 1 1 2 255\n0 publish 18374686479705178112 - 0\n0 get 18374686479688400896 none\n0 get 18374686479688466433 none\n",
-        Answer::Illegal(0, 12),
-    ),
-    (
-        "shape 1 2 1 4294967295\n0 publish 16777216 - 0\n",
-        Answer::Legal([1, 1, 0, 1, 0, 0, 0]),
-    ),
-    (
-        "shape 1 2 1 4294967295\n0 home 0\n0 get 16842752 none\n1 get 16777216 none\n",
-        Answer::Illegal(0, 11),
-    ),
-    (
-        "shape 1 2 1 4294967295\n0 publish 16777216 - 0\n0 get 33554432 none\n",
-        Answer::Legal([2, 1, 0, 1, 0, 0, 0]),
-    ),
-    (
-        "shape 1 8 1 2\n0 publish 16777217 - 1\n0 get 16777217 some -\n0 release 16777217\n0 clear 16777217 true\n0 publish 16777216 - 1\n0 publish 16777218 - 0\n0 get 16777217 none\n0 publish 16777220 - 1\n0 release 16777217\n0 reclaim 16777217\n0 publish 16777219 - 1\n0 clear 16777217 false\n0 release 16777219\n0 clear 16777219 true\n0 reclaim 16777219\n",
-        Answer::Legal([15, 5, 2, 3, 0, 0, 0]),
-    ),
-    (
-        "shape 1 8 1 2\n0 publish 16777217 - 1\n0 get 16777217 some -\n0 release 16777217\n0 clear 16777217 true\n0 publish 16777216 - 1\n0 publish 16777218 - 0\n0 get 16777217 none\n0 reclaim 16777220\n0 release 16777217\n0 reclaim 16777217\n0 publish 16777219 - 1\n0 clear 16777217 false\n0 release 16777219\n0 clear 16777219 true\n0 reclaim 16777219",
-        Answer::Illegal(7, 16),
-    ),
-    (
-        "shape 1 8 1 2\n0 publish 16777217 - 1\n0 get 16777217 some -\n0 release 16777217\n0 clear 16777217 true\n0 publish 16777216 - 1\n0 publish 16777218 - 0\n0 get 16777217 none\n0 publish 16777220 - 1\n0 release 16777217\n4294967295 reclaim 16777217\n0 publish 16777219 - 1\n0 clear 16777217 false\n0 release 16777219\n0 clear 16777219 true\n0 reclaim 16777219\n",
-        Answer::Illegal(9, 11),
-    ),
-    (
-        "shape 1 4 1 4294967295\n",
-        Answer::Legal([0, 0, 0, 0, 0, 0, 0]),
-    ),
-    (
-        "shape 00 4 1 4294967295\n0 get 16777216 none\n\nx",
-        Answer::Fault(19),
-    ),
-    (
-        "shape 1 4 1 4294967295\n4294967295 get 16777216 none\n",
-        Answer::Illegal(0, 11),
-    ),
-];
+// Texts of one lane, and some that differ from them a little.
+const ONE_LANE: &str = "shape 1 2 1 1 255
+0 get 18374686479688400896 none
+0 get 18374686479688400897 none
+0 clear 18374686479688400896 false
+0 clear 18374686479688400897 false
+0 clear 18374686479688400896 false
+0 publish 18374686479688400897 - 0
+0 clear 18374686479688400897 true
+0 reclaim 18374686479688400897
+0 clear 18374686479688400897 false
+0 get 18374686479688400897 none
+0 get 18374686479688400897 none
+0 clear 18374686479688400896 false
+0 clear 18374686479688400897 false
+0 get 18374686479688400896 none
+0 clear 18374686479688400897 false
+0 clear 18374686479688400897 false
+0 get 18374686479688400897 none
+0 publish 18374686479688400896 - 0
+0 clear 18374686479688400896 true
+0 reclaim 18374686479688400896
+0 get 18374686479688400897 none
+0 clear 18374686479688400896 false
+0 clear 18374686479688400896 false
+0 get 18374686479688400896 none
+0 get 18374686479688400896 none
+0 get 18374686479688400896 none
+0 get 18374686479688400897 none
+0 get 18374686479688400897 none
+0 clear 18374686479688400897 false
+0 clear 18374686479688400896 false
+0 get 18374686479688400897 none
+0 clear 18374686479688400896 false
+0 get 18374686479688400896 none
+0 get 18374686479688400897 none
+0 get 18374686479688400897 none
+0 clear 18374686479688400896 false
+0 get 18374686479688400896 none
+0 clear 18374686479688400896 false
+0 clear 18374686479688400897 false
+0 get 18374686479688400896 none
+0 get 18374686479688400896 none
+0 clear 18374686479688400896 false
+0 clear 18374686479688400896 false
+0 clear 18374686479688400896 false
+0 get 18374686479688400896 none
+=Legal([45, 2, 2, 0, 0, 0, 2]);
+shape 1 2 1 1 255
+0 get 18374686479688400896 none
+0 get 18374686479688400897 none
+0 clear 18374686479688400896 false
+0 clear 18374686479688400897 false
+0 clear 18374686479688400896 false
+0 publish 18374686479688400897 - 0
+0 clear 18374686479688400897 true
+0 reclaim 18374686479688400897
+0 clear 18374686479688400897 false
+0 get 18374686479688400897 none
+0 get 0 none
+0 clear 18374686479688400896 false
+0 clear 18374686479688400897 false
+0 get 18374686479688400896 none
+0 clear 18374686479688400897 false
+0 clear 18374686479688400897 false
+0 get 18374686479688400897 none
+0 publish 18374686479688400896 - 0
+0 clear 18374686479688400896 true
+0 reclaim 18374686479688400896
+0 get 18374686479688400897 none
+0 clear 18374686479688400896 false
+0 clear 18374686479688400896 false
+0 get 18374686479688400896 none
+0 get 18374686479688400896 none
+0 get 18374686479688400896 none
+0 get 18374686479688400897 none
+0 get 18374686479688400897 none
+0 clear 18374686479688400897 false
+0 clear 18374686479688400896 false
+0 get 18374686479688400897 none
+0 clear 18374686479688400896 false
+0 get 18374686479688400896 none
+0 get 18374686479688400897 none
+0 get 18374686479688400897 none
+0 clear 18374686479688400896 false
+0 get 18374686479688400896 none
+0 clear 18374686479688400896 false
+0 clear 18374686479688400897 false
+0 get 18374686479688400896 none
+0 get 18374686479688400896 none
+0 clear 18374686479688400896 false
+0 clear 18374686479688400896 false
+0 clear 18374686479688400896 false
+0 get 18374686479688400896 none
+=Legal([45, 2, 2, 0, 0, 0, 2]);
+shape 1 2 1 1 255
+0 get 18374686479688400896 none
+0 get 18374686479688400897 none
+0 clear 18374686479688400896 false
+0 clear 18374686479688400897 false
+0 clear 18374686479688400896 false
+0 publish 18374686479688400897 - 0
+0 clear 18374686479688400897 true
+0 reclaim 18374686479688400897
+0 clear 18374686479688400897 false
+0 get 18374686479688400897 none
+0 get 18374686479688400897 none
+0 clear 18374686479688400896 false
+0 clear 18374686479688400897 false
+0 get 18374686479688400896 none
+0 clear 18374686479688400897 false
+0 clear 18374686479688400897 false
+0 get 18374686479688400897 none
+0 publish 18374686479688400896 - 0
+0 get 18374686479688400897 none
+0 clear 18374686479688400896 true
+0 reclaim 18374686479688400896
+0 get 18374686479688400897 none
+0 clear 18374686479688400896 false
+0 clear 18374686479688400896 false
+0 get 18374686479688400896 none
+0 get 18374686479688400896 none
+0 get 18374686479688400896 none
+0 get 18374686479688400897 none
+0 get 18374686479688400897 none
+4294967295 clear 18374686479688400897 false
+0 clear 18374686479688400896 false
+0 get 18374686479688400897 none
+0 clear 18374686479688400896 false
+0 get 18374686479688400896 none
+0 get 18374686479688400897 none
+0 get 18374686479688400897 none
+0 clear 18374686479688400896 false
+0 get 18374686479688400896 none
+0 clear 18374686479688400896 false
+0 clear 18374686479688400897 false
+0 get 18374686479688400896 none
+0 get 18374686479688400896 none
+0 clear 18374686479688400896 false
+0 clear 18374686479688400896 false
+0 clear 18374686479688400896 false
+0 get 18374686479688400896 none
+=Illegal(29, 11);
+shape 1 8 1 4294967295 255
+0 clear 18374686479705178113 false
+0 get 18374686479688400896 none
+=Legal([2, 0, 0, 0, 0, 0, 0]);
+shape 1 8 1 4294967295 255
+0 clear 18374686479721955329 false
+0 get 18374686479688400896 none
+=Legal([2, 0, 0, 0, 0, 0, 0]);
+shape 1 8 1 4294967295 255 0
+=Fault(19);
+shape 1 32 2 3 255
+=Legal([0, 0, 0, 0, 0, 0, 0]);
+shape 1 32 2 -1 255
+0 collect 0,65536
+=Fault(19);
+shape 1 32 2 3 255
+0 get 18374686479688466432 none
+=Legal([1, 0, 0, 0, 0, 0, 0]);
+shape 1 4 1 2
+0 clear 33554432 false
+=Legal([1, 0, 0, 0, 0, 0, 0]);
+shape 1 4 1 2
+0 clear 33554433 false
+0  get 16777216 some -
+=Fault(19);
+shape 1 4 1 2
+0 clear 33554432 false
+0 get 0 none
+=Legal([2, 0, 0, 0, 0, 0, 0]);
+shape 1 1 1 2 255
+0 get 18374686479705178112 none
+0 get 18374686479688400896 none
+0 get 18374686479688400896 none
+=Legal([3, 0, 0, 0, 0, 0, 0]);
+shape 1 1 1 2 255
+0 get 18374686479705178112 none
+0 get 0 none
+0 get 18374686479688400896 some -
+0 get 18374686479688400896 none
+=Illegal(2, 13);
+shape 1 1 1 2 255
+0 publish 18374686479705178112 - 0
+0 get 18374686479688400896 none
+0 get 18374686479688466433 none
+=Illegal(0, 12);
+shape 1 2 1 4294967295
+0 publish 16777216 - 0
+=Legal([1, 1, 0, 1, 0, 0, 0]);
+shape 1 2 1 4294967295
+0 home 0
+0 get 16842752 none
+1 get 16777216 none
+=Illegal(0, 11);
+shape 1 2 1 4294967295
+0 publish 16777216 - 0
+0 get 33554432 none
+=Legal([2, 1, 0, 1, 0, 0, 0]);
+shape 1 8 1 2
+0 publish 16777217 - 1
+0 get 16777217 some -
+0 release 16777217
+0 clear 16777217 true
+0 publish 16777216 - 1
+0 publish 16777218 - 0
+0 get 16777217 none
+0 publish 16777220 - 1
+0 release 16777217
+0 reclaim 16777217
+0 publish 16777219 - 1
+0 clear 16777217 false
+0 release 16777219
+0 clear 16777219 true
+0 reclaim 16777219
+=Legal([15, 5, 2, 3, 0, 0, 0]);
+shape 1 8 1 2
+0 publish 16777217 - 1
+0 get 16777217 some -
+0 release 16777217
+0 clear 16777217 true
+0 publish 16777216 - 1
+0 publish 16777218 - 0
+0 get 16777217 none
+0 reclaim 16777220
+0 release 16777217
+0 reclaim 16777217
+0 publish 16777219 - 1
+0 clear 16777217 false
+0 release 16777219
+0 clear 16777219 true
+0 reclaim 16777219=Illegal(7, 16);
+shape 1 8 1 2
+0 publish 16777217 - 1
+0 get 16777217 some -
+0 release 16777217
+0 clear 16777217 true
+0 publish 16777216 - 1
+0 publish 16777218 - 0
+0 get 16777217 none
+0 publish 16777220 - 1
+0 release 16777217
+4294967295 reclaim 16777217
+0 publish 16777219 - 1
+0 clear 16777217 false
+0 release 16777219
+0 clear 16777219 true
+0 reclaim 16777219
+=Illegal(9, 11);
+shape 1 4 1 4294967295
+=Legal([0, 0, 0, 0, 0, 0, 0]);
+shape 00 4 1 4294967295
+0 get 16777216 none
 
-/// Texts of two lanes, and some that differ from them a little.
-const TWO_LANES: [(&str, Answer); 24] = [
-    (
-        "shape 2 2 1 1\n0 clear 16777216 false\n1 get 16842752 none\n",
-        Answer::Legal([2, 0, 0, 0, 0, 0, 0]),
-    ),
-    (
-        "shape 2 2 1 1\n0 clear 16777216 false\n1 get 16842753 none\n",
-        Answer::Legal([2, 0, 0, 0, 0, 0, 0]),
-    ),
-    (
-        "shape 2 2 1 1\n0 clear 16777216 false\n1 get 16842752 none\n0 get 16777216 none\n0 collect 0,65536\n",
-        Answer::Illegal(3, 17),
-    ),
-    (
-        "shape 2 2 1 2 255\n1 clear 18374686479688400897 false\n1 get 18374686479705243649 none\n1 clear 18374686479688400897 false\n1 get 18374686479688466433 none\n1 get 18374686479688466433 none\n1 clear 18374686479688466432 false\n1 get 18374686479705243649 none\n1 clear 18374686479705178112 false\n1 clear 18374686479705243648 false\n1 get 18374686479705243648 none\n1 clear 18374686479705178112 false\n1 publish 18374686479688466433 - 0\n1 get 18374686479688466432 none\n1 get 18374686479688466432 none\n",
-        Answer::Legal([14, 1, 0, 1, 0, 0, 0]),
-    ),
-    (
-        "shape 2 2 1 2 255\n1 clear 18374686479688400897 false\n1 get 18374686479705243649 none\n1 clear 18374686479688400897 false\n1 get 18374686479688466433 none\n1 get 18374686479688466433 none\n1 clear 18374686479688466432 false\n1 get 18374686479705243649 none\n1 clear 18374686479705178112 false\n1 clear 18374686479705243648 false\n1 get 18374686479705243648 none\n1 clear 18374686479705243648 false\n1 clear 18374686479705178112 false\n1 publish 18374686479688466433 - 0\n1 get 18374686479688466432 none\n1 get 18374686479688466432 none\n",
-        Answer::Legal([15, 1, 0, 1, 0, 0, 0]),
-    ),
-    (
-        "shape 2 2 1 2 255\n1 clear 18374686479688400897 false\n1 get 18374686479705243649 none\n2 clear 18374686479688400897 false\n1 get 18374686479688466433 none\n1 get 18374686479688466433 none\n1 get 18374686479705243649 none\n1 clear 18374686479705178112 false\n1 publish 18374686479705243648 - 0\n1 get 18374686479705243648 none\n1 clear 18374686479705178112 false\n1 publish 18374686479688466433 - 0\n1 get 18374686479688466432 none\n1 get 18374686479688466432 none\n",
-        Answer::Illegal(2, 11),
-    ),
-    (
-        "shape 2 4 1 4294967295 1\n0 clear 72057594054705153 false\n1 clear 72057594071547904 false\n1 get 72057594088325120 none\n1 get 72057594071482368 none\n",
-        Answer::Legal([4, 0, 0, 0, 0, 0, 0]),
-    ),
-    (
-        "shape 2 4 1 4294967295 1\n0 clear 72057594054705153 false\n1 get 72057594088325120 none\n1 clear 72057594071547904 false\n1 get 72057594071482368 none\n",
-        Answer::Legal([4, 0, 0, 0, 0, 0, 0]),
-    ),
-    (
-        "shape 2 4 1 4294967295 1\n0 clear 72057594054705153 false\n1 clear 72057594071547904 false\n1 publish 72057594071482368 - 0\n",
-        Answer::Illegal(2, 11),
-    ),
-    (
-        "shape 2 2 1 2 5\n1 clear 360287970206482433 false\n0 publish 360287970206416896 - 0\n1 clear 360287970206482432 false\n0 get 360287970206416896 some -\n0 get 360287970206416896 some -\n1 get 360287970206482432 none\n0 get 360287970206416896 some -\n1 clear 360287970223259648 false\n1 get 360287970223259649 none\n0 release 360287970206416896\n0 publish 360287970206416897 - 0\n0 get 360287970206416897 some -\n1 clear 360287970206482432 false\n0 get 360287970206416897 some -\n0 release 360287970206416897\n0 clear 360287970206416896 true\n1 get 360287970206482433 none\n0 release 360287970206416896\n1 publish 360287970206482432 49 1\n0 release 360287970206416896\n1 clear 360287970206482432 true\n0 reclaim 360287970206416896\n1 get 360287970206482432 none\n0 get 360287970206416896 none\n0 get 360287970206416896 none\n1 clear 360287970206482432 false\n0 get 360287970206416896 none\n0 get 360287970206416897 some -\n0 get 360287970206416897 some -\n0 release 360287970206416897\n1 get 360287970206482432 none\n1 release 360287970206482432\n0 get 360287970206416897 some -\n1 reclaim 360287970206482432\n1 clear 360287970206482433 false\n0 get 360287970206416897 some -\n1 clear 360287970206482433 false\n1 get 360287970223259649 none\n1 clear 360287970206482432 false\n1 get 360287970206482433 none\n1 get 360287970206482432 none\n1 get 360287970206482433 none\n1 get 360287970206482433 none\n1 publish 360287970223259648 - 0\n1 get 360287970223259648 some -\n1 clear 360287970223259648 true\n1 clear 360287970223259648 false\n1 clear 360287970223259648 false\n1 get 360287970223259648 none\n1 release 360287970223259648\n1 reclaim 360287970223259648\n1 get 360287970206482433 none\n1 clear 360287970223259648 false\n1 get 360287970206482432 none\n1 clear 360287970223259648 false\n1 clear 360287970223259648 false\n1 get 360287970206482432 none\n1 get 360287970223259649 none\n1 get 360287970223259648 none\n1 clear 360287970206482432 false\n1 clear 360287970223259649 false\n1 clear 360287970206482433 false\n1 clear 360287970223259648 false\n1 get 360287970223259648 none\n1 get 360287970223259649 none\n1 get 360287970223259648 none\n1 clear 360287970223259648 false\n1 get 360287970206482432 none\n",
-        Answer::Legal([68, 4, 3, 1, 0, 0, 1]),
-    ),
-    (
-        "shape 2 2 1 2 5\n1 clear 360287970206482433 false\n0 publish 360287970206416896 - 0\n1 clear 360287970206482432 false\n0 get 360287970206416896 some -\n0 get 360287970206416896 some -\n1 get 360287970206482432 none\n0 get 360287970206416896 some -\n1 clear 360287970223259648 false\n1 get 360287970223259649 none\n0 release 360287970206416896\n0 publish 360287970206416897 - 0\n0 get 360287970206416897 some -\n1 clear 360287970206482432 false\n0 get 360287970206416897 some -\n0 release 360287970206416897\n0 clear 360287970206416896 true\n1 get 360287970206482433 none\n0 release 360287970206416896\n1 publish 360287970206482432 49 1\n0 release 360287970206416896\n1 clear 360287970206482432 true\n0 reclaim 360287970206416896\n1 get 360287970206482432 none\n0 get 360287970206416896 none\n0 get 360287970206416896 none\n1 clear 360287970206482432 false\n0 get 360287970206416896 none\n0 get 360287970206416897 some -\n0 get 360287970206416897 some -\n0 release 360287970206416897\n1 get 360287970206482432 none\n1 release 360287970206482432\n0 get 360287970206416897 some -\n1 reclaim 360287970206482432\n0 get 360287970206416897 some -\n1 clear 360287970206482433 false\n1 get 360287970223259649 none\n1 clear 360287970206482432 false\n1 get 360287970206482433 none\n1 get 360287970206482432 none\n1 get 360287970206482433 none\n1 get 360287970206482433 none\n1 publish 360287970223259648 - 0\n1 get 360287970223259648 some -\n1 clear 360287970223259648 true\n1 clear 360287970223259648 false\n1 clear 360287970223259648 false\n1 get 360287970223259648 none\n1 release 360287970223259648\n1 reclaim 360287970223259648\n1 get 360287970206482433 none\n1 clear 360287970223259648 false\n1 get 360287970206482432 none\n1 clear 360287970223259648 false\n1 clear 360287970223259648 false\n1 get 360287970206482432 none\n1 get 360287970223259649 none\n1 get 360287970223259648 none\n1 clear 360287970206482432 false\n1 clear 360287970223259649 false\n1 clear 360287970206482433 false\n1 clear 360287970223259648 false\n1 get 360287970223259648 none\n1 get 360287970223259649 none\n1 get 360287970223259648 none\n1 clear 360287970223259648 false\n1 get 360287970206482432 none\n",
-        Answer::Legal([67, 4, 3, 1, 0, 0, 1]),
-    ),
-    (
-        "shape 2 7 1 2 5\n1 clear 360287970206482433 false\n0 publish 360287970206416896 - 0\n1 clear 360287970206482432 false\n0 get 360287970206416896 some -\n0 get 360287970206416896 some -\n1 get 360287970206482432 none\n0 get 360287970206416896 some -\n1 clear 360287970223259648 false\n1 get 360287970223194113 none\n0 release 360287970206416896\n0 publish 360287970206416897 - 0\n0 get 360287970206416897 some -\n1 clear 360287970206482432 false\n0 get 360287970206416897 some -\n0 release 360287970206416897\n0 clear 360287970206416896 true\n1 get 360287970206482433 none\n0 release 360287970206416896\n1 publish 360287970206482432 49 1\n0 release 360287970206416896\n1 clear 360287970206482432 true\n0 reclaim 360287970206416896\n1 get 360287970206482432 none\n0 get 360287970206416896 none\n1 clear 360287970206482432 false\n0 get 360287970206416896 none\n0 get 360287970206416897 some -\n0 get 360287970206416897 some -\n0 release 360287970206416897\n1 get 360287970206482432 none\n1 release 360287970206482432\n0 get 360287970206416897 some -\n1 reclaim 360287970206482432\n1 clear 360287970206482433 false\n0 get 360287970206416897 some -\n1 clear 360287970206482433 false\n1 get 360287970223259649 none\n1 clear 360287970206482432 false\n1 get 360287970206482433 none\n1 get 360287970206482432 none\n1 get 360287970206482433 none\n1 get 360287970206482433 none\n1 publish 360287970223259648 - 0\n1 get 360287970223259648 some -\n1 clear 360287970223259648 true\n1 clear 360287970223259648 false\n1 clear 360287970223259648 false\n1 get 360287970223259648 none\n1 release 360287970223259648\n1 reclaim 360287970223259648\n1 get 360287970206482433 none\n1 clear 360287970223259648 false\n1 get 360287970206482432 none\n1 clear 360287970223259648 false\n1 clear 360287970223259648 false\n1 get 360287970206482432 none\n1 get 360287970223259649 none\n1 get 360287970223259648 none\n1 clear 360287970206482432 false\n1 clear 360287970223259649 false\n1 clear 360287970206482433 false\n1 clear 360287970223259648 false\n1 get 360287970223259648 none\n1 get 360287970223259649 none\n1 get 360287970223259648 none\n1 clear 360287970223259648 false\n1 get 360287970206482432 none\n",
-        Answer::Fault(2),
-    ),
-    (
-        "shape 2 4 1 2 1\n1 publish 72057594054770688 - 0\n1 get 72057594054770688 some -\n",
-        Answer::Legal([2, 1, 0, 1, 0, 0, 0]),
-    ),
-    (
-        "shape 2 4 1 2 1\n1 publish 72057594054770688 - 0\n1 get 72057594054770688 some -\n",
-        Answer::Legal([2, 1, 0, 1, 0, 0, 0]),
-    ),
-    (
-        "shape 2 4 1 2 1\n1 publish 72057594054770688 61 0\n1 get 72057594054770688 some -\n",
-        Answer::Illegal(1, 13),
-    ),
-    (
-        "shape 2 1 1 2 5\n0 get 360287970206416896 none\n1 get 360287970206416896 none\n0 get 360287970206482432 none\n0 clear 360287970206482432 false\n0 clear 360287970206482432 false\n0 get 360287970206482432 none\n0 publish 360287970206416896 - 0\n0 get 360287970206482432 none\n0 get 360287970206416896 some -\n0 get 360287970206416896 some -\n0 release 360287970206416896\n0 clear 360287970223259648 false\n0 get 360287970223259648 none\n0 clear 360287970206416896 true\n0 clear 360287970206416896 false\n0 clear 360287970206416896 false\n0 clear 360287970223194112 false\n0 get 360287970223194112 none\n0 clear 360287970223194112 false\n0 get 360287970223194112 none\n0 get 360287970223194112 none\n0 release 360287970206416896\n0 reclaim 360287970206416896\n0 clear 360287970223194112 false\n0 publish 360287970223194112 - 0\n0 get 360287970206482432 none\n0 get 360287970223259648 none\n0 get 360287970223259648 none\n0 get 360287970223194112 some -\n",
-        Answer::Legal([29, 2, 1, 1, 0, 0, 0]),
-    ),
-    (
-        "shape 2 1 1 2 5\n0 get 360287970206416896 none\n1 get 360287970206416896 none\n0 get 360287970206482432 none\n0 clear 360287970206482432 false\n0 clear 360287970206482432 false\n0 get 360287970206482432 none\n0 publish 360287970206416896 - 0\n0 get 360287970206482432 none\n0 get 360287970206416896 some -\n0 get 360287970206416896 some -\n0 release 360287970206416896\n0 clear 360287970223259648 false\n0 get 360287970223259648 none\n0 clear 360287970206416896 true\n0 clear 360287970206416896 false\n0 clear 360287970206416896 false\n0 clear 360287970223194112 false\n2 get 360287970223194112 none\n0 clear 360287970223194112 false\n0 get 360287970223194112 none\n0 get 360287970223194112 none\n0 release 360287970206416896\n0 reclaim 360287970206416896\n0 clear 360287970223194112 false\n0 publish 360287970223194112 - 0\n0 get 360287970206482432 none\n0 get 360287970223259648 none\n0 get 360287970223259648 none\n0 get 360287970223194112 some -\n",
-        Answer::Illegal(17, 11),
-    ),
-    (
-        "shape 2 1 1 2 5\n0 get 360287970206416896 none\n1 get 360287970206416896 none\n0 get 360287970206482432 none\n0 clear 360287970206482432 false\n0 clear 360287970206482432 true\n0 get 360287970206482432 none\n0 publish 360287970206416896 - 0\n0 get 360287970206482432 none\n0 get 360287970206416896 some -\n0 get 360287970206416896 some -\n0 release 360287970206416896\n0 clear 360287970223259648 false\n0 get 360287970223259648 none\n0 clear 360287970206416896 true\n0 clear 360287970206416896 false\n0 clear 360287970206416896 false\n0 clear 360287970223194112 false\n0 get 360287970223194112 none\n0 clear 360287970223194112 false\n0 get 360287970223194112 none\n0 get 360287970223194112 none\n0 release 360287970206416896\n0 reclaim 360287970206416896\n0 clear 360287970223194112 false\n0 publish 360287970223194112 - 0\n0 get 360287970206482432 none\n0 get 360287970223259648 none\n0 get 360287970223259648 none\n0 get 360287970223194112 some -\n",
-        Answer::Illegal(4, 13),
-    ),
-    (
-        "shape 2 2 2 4294967295\n0 get 33554432 none\n1 clear 33619969 false\n",
-        Answer::Legal([2, 0, 0, 0, 0, 0, 0]),
-    ),
-    (
-        "shape 2 2 2 4294967295\n0 get 16777216 none\n0 get 33554432 none\n1 clear 33619969 false\n",
-        Answer::Legal([3, 0, 0, 0, 0, 0, 0]),
-    ),
-    (
-        "shape 2 2 2 4294967295\n0 get 33554432 none\n1 clear 33619969 false\n",
-        Answer::Legal([2, 0, 0, 0, 0, 0, 0]),
-    ),
-    (
-        "shape 2 2 1 2\n0 clear 16777216 false\n1 get 16777216 none\n0 publish 16777216 - 1\n",
-        Answer::Legal([3, 1, 0, 1, 0, 0, 0]),
-    ),
-    (
-        "shape 2 2 1 2\n0 clear 33554433 false\n1 get 16777216 none\n0 publish 16777216 - 1\n",
-        Answer::Legal([3, 1, 0, 1, 0, 0, 0]),
-    ),
-    (
-        "shape 2 2 1 17\n0 clear 16777216 false\n0 publish 16777216 - 1\n\nx",
-        Answer::Fault(19),
-    ),
-];
+x=Fault(19);
+shape 1 4 1 4294967295
+4294967295 get 16777216 none
+=Illegal(0, 11)";
 
-/// Texts of three lanes or four, and some that differ from them a little.
-const MORE_LANES: [(&str, Answer); 21] = [
-    (
-        "shape 4 2 2 2\n2 publish 16908288 - 0\n2 publish 16908289 - 0\n2 publish 16912384 - 0\n0 get 16908289 some -\n3 get 16912386 none\n3 get 16912384 some -\n3 get 16908289 some -\n3 get 16908288 some -\n3 get 16912387 none\n2 publish 16912385 - 0\n2 publish 16912386 - 0\n2 publish 16912387 - 0\n2 clear 16908288 true\n2 clear 16908289 true\n2 clear 16912384 true\n2 clear 16912385 true\n2 reclaim 16912385\n2 clear 16912386 true\n0 release 16908289\n2 reclaim 16912386\n2 clear 16912387 true\n3 reclaim 16912387\n2 publish 33689601 78 0\n2 publish 33689602 78 0\n",
-        Answer::Legal([24, 8, 3, 2, 3, 0, 0]),
-    ),
-    (
-        "shape 7 2 2 2\n2 publish 16908288 - 0\n2 publish 16908289 - 0\n2 publish 16912384 - 0\n0 get 16908289 some -\n3 get 16912386 none\n3 get 16912384 some -\n3 get 16908289 some -\n3 get 16908288 some -\n3 get 16912387 none\n2 publish 16912385 - 0\n2 publish 16912386 - 0\n2 publish 16912387 - 0\n2 clear 16908288 true\n2 clear 16908289 true\n2 clear 16912384 true\n2 clear 16912385 true\n2 reclaim 16912385\n2 clear 16912386 true\n0 release 16908289\n2 reclaim 16912386\n2 clear 16912387 true\n3 reclaim 16912387\n2 publish 33689601 78 0\n2 publish 33689602 78 0\n0 release 16777216\n\nx",
-        Answer::Fault(19),
-    ),
-    (
-        "shape 4 2 2 2\n2 publish 16908288 - 0\n2 publish 16908289 - 0\n2 publish 16912384 - 0\n0 get 16908289 some -\n3 get 16912386 none\n3 get 16912384 some -\n3 get 16908289 some -\n3 get 16908288 some -\n3 get 16912387 none\n2 publish 16912385 - 0\n2 publish 16912386 - 1\n2 publish 16912387 - 0\n2 clear 16908288 true\n2 clear 16908289 true\n2 clear 16912384 true\n2 clear 16912385 true\n2 reclaim 16912385\n2 clear 16912386 true\n0 release 16908289\n2 reclaim 16912386\n2 clear 16912387 true\n3 reclaim 16912387\n2 publish 33689601 78 0\n2 publish 33689602 78 0",
-        Answer::Illegal(19, 15),
-    ),
-    (
-        "shape 3 8 1 2\n2 publish 16908288 64140f01c4 1\n",
-        Answer::Legal([1, 1, 0, 1, 0, 0, 0]),
-    ),
-    (
-        "shape 3 8 1 2\n2 publish 16908288 64140f01c4 1\n0 get 16777217 none\n",
-        Answer::Legal([2, 1, 0, 1, 0, 0, 0]),
-    ),
-    (
-        "shape 3 8 1 2\n2 publish 0 64140f01c4 1\n\n\n",
-        Answer::Fault(19),
-    ),
-    (
-        "shape 3 1 1 4294967295 1\n",
-        Answer::Legal([0, 0, 0, 0, 0, 0, 0]),
-    ),
-    (
-        "shape 3 1 1 4294967295 1\n0 get 72057594054705152 some -\n",
-        Answer::Illegal(0, 13),
-    ),
-    (
-        "shape 3 1 1 4294967295 1\n0 reclaim 72057594054705152\n",
-        Answer::Illegal(0, 16),
-    ),
-    (
-        "shape 4 4 1 4294967295\n1 get 16777216 none\n1 get 16777219 none\n2 get 16777219 none\n2 get 16777216 none\n3 get 16777216 none\n3 get 16777217 none\n1 get 16777217 none\n1 get 16777218 none\n1 get 33554434 none\n1 get 33554435 none\n1 get 33554433 none\n1 get 33554432 none\n1 get 50331650 none\n2 get 16777217 none\n2 get 16777218 none\n2 get 33554435 none\n2 get 33554433 none\n2 get 33554434 none\n2 get 33554432 none\n2 get 50331649 none\n2 get 50331651 none\n3 get 16777219 none\n3 get 16777218 none\n3 get 33554435 none\n3 get 33554432 none\n3 get 33554433 none\n3 get 33554434 none\n3 get 50331648 none\n2 get 50331648 none\n2 get 50331650 none\n",
-        Answer::Legal([30, 0, 0, 0, 0, 0, 0]),
-    ),
-    (
-        "shape 4 4 1 4294967295",
-        Answer::Legal([0, 0, 0, 0, 0, 0, 0]),
-    ),
-    (
-        "shape 4 4 1 4294967295\n1 get 16777216 none\n1 get 16777219 none\n2 get 16777219 none\n2 get 16777216 none\n3 get 16777217 none\n3 get 16777216 none\n1 get 16777217 none\n1 get 16777218 none\n1 get 33554434 none\n1 get 33554435 none\n1 get 33554433 none\n1 get 33554432 none\n1 get 50331650 none\n2 get 16777217 none\n2 get 16777218 none\n2 get 33554435 none\n2 get 33554433 none\n2 get 33554434 none\n2 get 33554432 none\n2 get 50331649 none\n2 get 50331651 none\n3 get 16777219 none\n3 get 16777218 none\n3 get 33554435 none\n3 get 33554432 none\n3 get 33554433 none\n3 get 33554434 none\n3 get 50331648 none\n2 get 50331648 none\n2 get 50331650 none\n",
-        Answer::Legal([30, 0, 0, 0, 0, 0, 0]),
-    ),
-    (
-        "shape 3 4 1 4294967295\n1 publish 16842752 - 0\n1 publish 16842753 - 0\n1 publish 16842754 - 0\n1 publish 16842755 - 0\n0 get 16842754 some -\n2 get 16842752 some -\n2 get 16842755 some -\n2 get 16842753 some -\n2 get 16842754 some -\n1 clear 16842752 true\n1 clear 16842753 true\n1 clear 16842754 true\n1 clear 16842755 true\n0 release 16842754\n0 get 33619968 none\n0 get 50397185 none\n0 get 50397187 none\n0 get 50397186 none\n0 get 50397184 none\n2 release 16842752\n2 reclaim 16842752\n2 home 65536\n1 collect 65536\n1 publish 33619968 78 0\n2 release 16842754\n2 reclaim 16842754\n1 clear 16842755 false\n1 clear 33619968 true\n1 reclaim 33619968\n1 clear 33619969 false\n1 clear 33619970 false\n2 home 65538\n2 release 16842753\n2 reclaim 16842753\n1 clear 33619971 false\n1 publish 50397184 78 0\n1 collect 65538\n1 publish 33619970 78 0\n1 clear 33619970 true\n1 reclaim 33619970\n1 publish 50397186 78 0\n1 clear 50397184 true\n2 home 65537\n2 release 16842755\n1 reclaim 50397184\n1 clear 50397185 false\n2 reclaim 16842755\n1 clear 50397186 true\n1 reclaim 50397186\n1 clear 50397187 false\n2 home 65539\n1 publish 67174400 78 0\n1 publish 67174402 78 0\n1 clear 67174402 true\n2 get 33619969 none\n2 get 33619970 none\n1 reclaim 67174402\n1 publish 83951618 78 0\n1 clear 83951618 true\n1 reclaim 83951618\n1 publish 100728834 78 0\n2 get 33619971 none\n2 get 33619968 none\n2 get 50397186 none\n2 get 50397187 none\n2 get 50397185 none\n2 get 50397184 none\n",
-        Answer::Legal([67, 12, 10, 2, 0, 2, 0]),
-    ),
-    (
-        "shape 3 4 1 4294967295\n1 publish 16842752 - 0\n1 publish 16842753 - 0\n1 publish 16842754 - 0\n1 release 16842755\n0 get 16842754 some -\n2 get 16842752 some -\n2 get 16842755 some -\n2 get 16842753 some -\n2 get 16842754 some -\n1 clear 16842752 true\n1 clear 16842753 true\n1 clear 16842754 true\n1 clear 16842755 true\n0 release 16842754\n0 get 33619968 none\n0 get 50397185 none\n0 get 50397187 none\n0 get 50397186 none\n0 get 50397184 none\n2 release 16842752\n2 reclaim 16842752\n2 home 65536\n1 collect 65536\n1 publish 33619968 78 0\n2 release 16842754\n2 reclaim 16842754\n1 clear 16842755 false\n1 clear 33619968 true\n1 reclaim 33619968\n1 clear 33619968 false\n1 clear 33619970 false\n2 home 65538\n2 release 16842753\n2 reclaim 16842753\n1 clear 33619971 false\n1 publish 50397184 78 0\n1 collect 65538\n1 publish 33619970 78 0\n1 clear 33619970 true\n1 reclaim 33619970\n1 publish 50397186 78 0\n1 clear 50397184 true\n2 home 65537\n2 release 16842755\n1 reclaim 50397184\n1 clear 50397185 false\n2 reclaim 16842755\n1 clear 50397186 true\n1 reclaim 50397186\n1 clear 50397187 false\n2 home 65539\n1 publish 67174400 78 0\n1 publish 67174402 78 0\n1 clear 67174402 true\n2 get 33619969 none\n2 get 33619970 none\n1 reclaim 67174402\n1 publish 83951618 78 0\n1 clear 83951618 true\n1 reclaim 83951618\n1 publish 100728834 78 0\n2 get 33619971 none\n2 get 33619968 none\n2 get 50397186 none\n2 get 50397187 none\n2 get 50397185 none\n2 get 50397184 none",
-        Answer::Illegal(3, 14),
-    ),
-    (
-        "shape 3 4 1 4294967295\n1 publish 16842752 - 0\n1 publish 16842753 - 0\n1 publish 16842754 - 0\n1 publish 16842755 - 0\n0 get 16842754 some -\n2 get 16842752 some -\n2 get 16842755 some -\n2 get 16842753 some -\n2 get 16842754 some -\n1 clear 16842752 true\n1 clear 16842753 true\n1 clear 16842754 true\n1 clear 16842755 true\n0 release 16842754\n0 get 33619968 none\n0 get 50397185 none\n0 get 50397187 none\n0 get 50397186 none\n0 get 50397184 none\n2 release 16842752\n2 reclaim 16842752\n2 home 65536\n1 collect 65536\n1 publish 33619968 78 0\n2 release 16842754\n2 reclaim 16842754\n1 clear 16842755 false\n1 clear 33619968 true\n1 reclaim 33619968\n1 clear 33619969 false\n1 clear 33619970 false\n2 home 65538\n2 release 16842753\n2 reclaim 16842753\n1 clear 33619971 false\n1 publish 50397184 78 0\n1 collect 65538\n1 clear 83951618 true\n1 publish 33619970 78 0\n1 clear 33619970 true\n1 reclaim 33619970\n1 publish 50397186 78 0\n1 clear 50397184 true\n2 home 65537\n2 release 16842755\n1 reclaim 50397184\n1 clear 50397185 false\n2 reclaim 16842755\n1 clear 50397186 true\n1 reclaim 50397186\n1 clear 50397187 false\n2 home 65539\n1 publish 67174400 78 0\n1 publish 67174402 78 0\n1 clear 67174402 true\n2 get 33619969 none\n2 get 33619970 none\n1 reclaim 67174402\n1 publish 83951618 78 0\n1 clear 83951618 true\n1 reclaim 83951618\n1 publish 100728834 78 0\n2 get 33619971 none\n2 get 33619968 none\n2 get 50397186 none\n2 get 50397187 none\n2 get 50397185 none\n2 get 50397184 none\n",
-        Answer::Illegal(37, 13),
-    ),
-    ("shape 3 1 1 1 1\n", Answer::Legal([0, 0, 0, 0, 0, 0, 0])),
-    (
-        "shape 3 1 1 1 1\n0 publish 72057594054705152 - 0\n",
-        Answer::Legal([1, 1, 0, 1, 0, 0, 0]),
-    ),
-    (
-        "shape 3 1 1 1 1\n0 get 72057594071482368 none\n",
-        Answer::Legal([1, 0, 0, 0, 0, 0, 0]),
-    ),
-    (
-        "shape 4 2 1 3\n2 publish 16908288 - 0\n0 get 16908288 some -\n0 get 16908288 some -\n2 clear 16908288 true\n0 clear 16908288 false\n0 release 16908288\n0 clear 16908288 false\n",
-        Answer::Legal([7, 1, 0, 0, 1, 0, 0]),
-    ),
-    (
-        "shape 4 2 1 3\n0 get 16908288 some -\n2 publish 16908288 - 0\n0 get 16908288 some -\n2 clear 16908288 true\n0 clear 16908288 false\n0 release 16908288\n4294967295 get 16777216 none\n0 clear 16908288 false\n",
-        Answer::Illegal(0, 13),
-    ),
-    (
-        "shape 4 2 1 3\n2 publish 16908288 - 1\n0 get 16908288 some -\n0 get 16908288 some -\n2 clear true\n0 release 16908288\n0 clear 16908288 false\n0 clear 16908288 false\n",
-        Answer::Fault(19),
-    ),
-];
+// Texts of two lanes, and some that differ from them a little.
+const TWO_LANES: &str = "shape 2 2 1 1
+0 clear 16777216 false
+1 get 16842752 none
+=Legal([2, 0, 0, 0, 0, 0, 0]);
+shape 2 2 1 1
+0 clear 16777216 false
+1 get 16842753 none
+=Legal([2, 0, 0, 0, 0, 0, 0]);
+shape 2 2 1 1
+0 clear 16777216 false
+1 get 16842752 none
+0 get 16777216 none
+0 collect 0,65536
+=Illegal(3, 17);
+shape 2 2 1 2 255
+1 clear 18374686479688400897 false
+1 get 18374686479705243649 none
+1 clear 18374686479688400897 false
+1 get 18374686479688466433 none
+1 get 18374686479688466433 none
+1 clear 18374686479688466432 false
+1 get 18374686479705243649 none
+1 clear 18374686479705178112 false
+1 clear 18374686479705243648 false
+1 get 18374686479705243648 none
+1 clear 18374686479705178112 false
+1 publish 18374686479688466433 - 0
+1 get 18374686479688466432 none
+1 get 18374686479688466432 none
+=Legal([14, 1, 0, 1, 0, 0, 0]);
+shape 2 2 1 2 255
+1 clear 18374686479688400897 false
+1 get 18374686479705243649 none
+1 clear 18374686479688400897 false
+1 get 18374686479688466433 none
+1 get 18374686479688466433 none
+1 clear 18374686479688466432 false
+1 get 18374686479705243649 none
+1 clear 18374686479705178112 false
+1 clear 18374686479705243648 false
+1 get 18374686479705243648 none
+1 clear 18374686479705243648 false
+1 clear 18374686479705178112 false
+1 publish 18374686479688466433 - 0
+1 get 18374686479688466432 none
+1 get 18374686479688466432 none
+=Legal([15, 1, 0, 1, 0, 0, 0]);
+shape 2 2 1 2 255
+1 clear 18374686479688400897 false
+1 get 18374686479705243649 none
+2 clear 18374686479688400897 false
+1 get 18374686479688466433 none
+1 get 18374686479688466433 none
+1 get 18374686479705243649 none
+1 clear 18374686479705178112 false
+1 publish 18374686479705243648 - 0
+1 get 18374686479705243648 none
+1 clear 18374686479705178112 false
+1 publish 18374686479688466433 - 0
+1 get 18374686479688466432 none
+1 get 18374686479688466432 none
+=Illegal(2, 11);
+shape 2 4 1 4294967295 1
+0 clear 72057594054705153 false
+1 clear 72057594071547904 false
+1 get 72057594088325120 none
+1 get 72057594071482368 none
+=Legal([4, 0, 0, 0, 0, 0, 0]);
+shape 2 4 1 4294967295 1
+0 clear 72057594054705153 false
+1 get 72057594088325120 none
+1 clear 72057594071547904 false
+1 get 72057594071482368 none
+=Legal([4, 0, 0, 0, 0, 0, 0]);
+shape 2 4 1 4294967295 1
+0 clear 72057594054705153 false
+1 clear 72057594071547904 false
+1 publish 72057594071482368 - 0
+=Illegal(2, 11);
+shape 2 2 1 2 5
+1 clear 360287970206482433 false
+0 publish 360287970206416896 - 0
+1 clear 360287970206482432 false
+0 get 360287970206416896 some -
+0 get 360287970206416896 some -
+1 get 360287970206482432 none
+0 get 360287970206416896 some -
+1 clear 360287970223259648 false
+1 get 360287970223259649 none
+0 release 360287970206416896
+0 publish 360287970206416897 - 0
+0 get 360287970206416897 some -
+1 clear 360287970206482432 false
+0 get 360287970206416897 some -
+0 release 360287970206416897
+0 clear 360287970206416896 true
+1 get 360287970206482433 none
+0 release 360287970206416896
+1 publish 360287970206482432 49 1
+0 release 360287970206416896
+1 clear 360287970206482432 true
+0 reclaim 360287970206416896
+1 get 360287970206482432 none
+0 get 360287970206416896 none
+0 get 360287970206416896 none
+1 clear 360287970206482432 false
+0 get 360287970206416896 none
+0 get 360287970206416897 some -
+0 get 360287970206416897 some -
+0 release 360287970206416897
+1 get 360287970206482432 none
+1 release 360287970206482432
+0 get 360287970206416897 some -
+1 reclaim 360287970206482432
+1 clear 360287970206482433 false
+0 get 360287970206416897 some -
+1 clear 360287970206482433 false
+1 get 360287970223259649 none
+1 clear 360287970206482432 false
+1 get 360287970206482433 none
+1 get 360287970206482432 none
+1 get 360287970206482433 none
+1 get 360287970206482433 none
+1 publish 360287970223259648 - 0
+1 get 360287970223259648 some -
+1 clear 360287970223259648 true
+1 clear 360287970223259648 false
+1 clear 360287970223259648 false
+1 get 360287970223259648 none
+1 release 360287970223259648
+1 reclaim 360287970223259648
+1 get 360287970206482433 none
+1 clear 360287970223259648 false
+1 get 360287970206482432 none
+1 clear 360287970223259648 false
+1 clear 360287970223259648 false
+1 get 360287970206482432 none
+1 get 360287970223259649 none
+1 get 360287970223259648 none
+1 clear 360287970206482432 false
+1 clear 360287970223259649 false
+1 clear 360287970206482433 false
+1 clear 360287970223259648 false
+1 get 360287970223259648 none
+1 get 360287970223259649 none
+1 get 360287970223259648 none
+1 clear 360287970223259648 false
+1 get 360287970206482432 none
+=Legal([68, 4, 3, 1, 0, 0, 1]);
+shape 2 2 1 2 5
+1 clear 360287970206482433 false
+0 publish 360287970206416896 - 0
+1 clear 360287970206482432 false
+0 get 360287970206416896 some -
+0 get 360287970206416896 some -
+1 get 360287970206482432 none
+0 get 360287970206416896 some -
+1 clear 360287970223259648 false
+1 get 360287970223259649 none
+0 release 360287970206416896
+0 publish 360287970206416897 - 0
+0 get 360287970206416897 some -
+1 clear 360287970206482432 false
+0 get 360287970206416897 some -
+0 release 360287970206416897
+0 clear 360287970206416896 true
+1 get 360287970206482433 none
+0 release 360287970206416896
+1 publish 360287970206482432 49 1
+0 release 360287970206416896
+1 clear 360287970206482432 true
+0 reclaim 360287970206416896
+1 get 360287970206482432 none
+0 get 360287970206416896 none
+0 get 360287970206416896 none
+1 clear 360287970206482432 false
+0 get 360287970206416896 none
+0 get 360287970206416897 some -
+0 get 360287970206416897 some -
+0 release 360287970206416897
+1 get 360287970206482432 none
+1 release 360287970206482432
+0 get 360287970206416897 some -
+1 reclaim 360287970206482432
+0 get 360287970206416897 some -
+1 clear 360287970206482433 false
+1 get 360287970223259649 none
+1 clear 360287970206482432 false
+1 get 360287970206482433 none
+1 get 360287970206482432 none
+1 get 360287970206482433 none
+1 get 360287970206482433 none
+1 publish 360287970223259648 - 0
+1 get 360287970223259648 some -
+1 clear 360287970223259648 true
+1 clear 360287970223259648 false
+1 clear 360287970223259648 false
+1 get 360287970223259648 none
+1 release 360287970223259648
+1 reclaim 360287970223259648
+1 get 360287970206482433 none
+1 clear 360287970223259648 false
+1 get 360287970206482432 none
+1 clear 360287970223259648 false
+1 clear 360287970223259648 false
+1 get 360287970206482432 none
+1 get 360287970223259649 none
+1 get 360287970223259648 none
+1 clear 360287970206482432 false
+1 clear 360287970223259649 false
+1 clear 360287970206482433 false
+1 clear 360287970223259648 false
+1 get 360287970223259648 none
+1 get 360287970223259649 none
+1 get 360287970223259648 none
+1 clear 360287970223259648 false
+1 get 360287970206482432 none
+=Legal([67, 4, 3, 1, 0, 0, 1]);
+shape 2 7 1 2 5
+1 clear 360287970206482433 false
+0 publish 360287970206416896 - 0
+1 clear 360287970206482432 false
+0 get 360287970206416896 some -
+0 get 360287970206416896 some -
+1 get 360287970206482432 none
+0 get 360287970206416896 some -
+1 clear 360287970223259648 false
+1 get 360287970223194113 none
+0 release 360287970206416896
+0 publish 360287970206416897 - 0
+0 get 360287970206416897 some -
+1 clear 360287970206482432 false
+0 get 360287970206416897 some -
+0 release 360287970206416897
+0 clear 360287970206416896 true
+1 get 360287970206482433 none
+0 release 360287970206416896
+1 publish 360287970206482432 49 1
+0 release 360287970206416896
+1 clear 360287970206482432 true
+0 reclaim 360287970206416896
+1 get 360287970206482432 none
+0 get 360287970206416896 none
+1 clear 360287970206482432 false
+0 get 360287970206416896 none
+0 get 360287970206416897 some -
+0 get 360287970206416897 some -
+0 release 360287970206416897
+1 get 360287970206482432 none
+1 release 360287970206482432
+0 get 360287970206416897 some -
+1 reclaim 360287970206482432
+1 clear 360287970206482433 false
+0 get 360287970206416897 some -
+1 clear 360287970206482433 false
+1 get 360287970223259649 none
+1 clear 360287970206482432 false
+1 get 360287970206482433 none
+1 get 360287970206482432 none
+1 get 360287970206482433 none
+1 get 360287970206482433 none
+1 publish 360287970223259648 - 0
+1 get 360287970223259648 some -
+1 clear 360287970223259648 true
+1 clear 360287970223259648 false
+1 clear 360287970223259648 false
+1 get 360287970223259648 none
+1 release 360287970223259648
+1 reclaim 360287970223259648
+1 get 360287970206482433 none
+1 clear 360287970223259648 false
+1 get 360287970206482432 none
+1 clear 360287970223259648 false
+1 clear 360287970223259648 false
+1 get 360287970206482432 none
+1 get 360287970223259649 none
+1 get 360287970223259648 none
+1 clear 360287970206482432 false
+1 clear 360287970223259649 false
+1 clear 360287970206482433 false
+1 clear 360287970223259648 false
+1 get 360287970223259648 none
+1 get 360287970223259649 none
+1 get 360287970223259648 none
+1 clear 360287970223259648 false
+1 get 360287970206482432 none
+=Fault(2);
+shape 2 4 1 2 1
+1 publish 72057594054770688 - 0
+1 get 72057594054770688 some -
+=Legal([2, 1, 0, 1, 0, 0, 0]);
+shape 2 4 1 2 1
+1 publish 72057594054770688 - 0
+1 get 72057594054770688 some -
+=Legal([2, 1, 0, 1, 0, 0, 0]);
+shape 2 4 1 2 1
+1 publish 72057594054770688 61 0
+1 get 72057594054770688 some -
+=Illegal(1, 13);
+shape 2 1 1 2 5
+0 get 360287970206416896 none
+1 get 360287970206416896 none
+0 get 360287970206482432 none
+0 clear 360287970206482432 false
+0 clear 360287970206482432 false
+0 get 360287970206482432 none
+0 publish 360287970206416896 - 0
+0 get 360287970206482432 none
+0 get 360287970206416896 some -
+0 get 360287970206416896 some -
+0 release 360287970206416896
+0 clear 360287970223259648 false
+0 get 360287970223259648 none
+0 clear 360287970206416896 true
+0 clear 360287970206416896 false
+0 clear 360287970206416896 false
+0 clear 360287970223194112 false
+0 get 360287970223194112 none
+0 clear 360287970223194112 false
+0 get 360287970223194112 none
+0 get 360287970223194112 none
+0 release 360287970206416896
+0 reclaim 360287970206416896
+0 clear 360287970223194112 false
+0 publish 360287970223194112 - 0
+0 get 360287970206482432 none
+0 get 360287970223259648 none
+0 get 360287970223259648 none
+0 get 360287970223194112 some -
+=Legal([29, 2, 1, 1, 0, 0, 0]);
+shape 2 1 1 2 5
+0 get 360287970206416896 none
+1 get 360287970206416896 none
+0 get 360287970206482432 none
+0 clear 360287970206482432 false
+0 clear 360287970206482432 false
+0 get 360287970206482432 none
+0 publish 360287970206416896 - 0
+0 get 360287970206482432 none
+0 get 360287970206416896 some -
+0 get 360287970206416896 some -
+0 release 360287970206416896
+0 clear 360287970223259648 false
+0 get 360287970223259648 none
+0 clear 360287970206416896 true
+0 clear 360287970206416896 false
+0 clear 360287970206416896 false
+0 clear 360287970223194112 false
+2 get 360287970223194112 none
+0 clear 360287970223194112 false
+0 get 360287970223194112 none
+0 get 360287970223194112 none
+0 release 360287970206416896
+0 reclaim 360287970206416896
+0 clear 360287970223194112 false
+0 publish 360287970223194112 - 0
+0 get 360287970206482432 none
+0 get 360287970223259648 none
+0 get 360287970223259648 none
+0 get 360287970223194112 some -
+=Illegal(17, 11);
+shape 2 1 1 2 5
+0 get 360287970206416896 none
+1 get 360287970206416896 none
+0 get 360287970206482432 none
+0 clear 360287970206482432 false
+0 clear 360287970206482432 true
+0 get 360287970206482432 none
+0 publish 360287970206416896 - 0
+0 get 360287970206482432 none
+0 get 360287970206416896 some -
+0 get 360287970206416896 some -
+0 release 360287970206416896
+0 clear 360287970223259648 false
+0 get 360287970223259648 none
+0 clear 360287970206416896 true
+0 clear 360287970206416896 false
+0 clear 360287970206416896 false
+0 clear 360287970223194112 false
+0 get 360287970223194112 none
+0 clear 360287970223194112 false
+0 get 360287970223194112 none
+0 get 360287970223194112 none
+0 release 360287970206416896
+0 reclaim 360287970206416896
+0 clear 360287970223194112 false
+0 publish 360287970223194112 - 0
+0 get 360287970206482432 none
+0 get 360287970223259648 none
+0 get 360287970223259648 none
+0 get 360287970223194112 some -
+=Illegal(4, 13);
+shape 2 2 2 4294967295
+0 get 33554432 none
+1 clear 33619969 false
+=Legal([2, 0, 0, 0, 0, 0, 0]);
+shape 2 2 2 4294967295
+0 get 16777216 none
+0 get 33554432 none
+1 clear 33619969 false
+=Legal([3, 0, 0, 0, 0, 0, 0]);
+shape 2 2 2 4294967295
+0 get 33554432 none
+1 clear 33619969 false
+=Legal([2, 0, 0, 0, 0, 0, 0]);
+shape 2 2 1 2
+0 clear 16777216 false
+1 get 16777216 none
+0 publish 16777216 - 1
+=Legal([3, 1, 0, 1, 0, 0, 0]);
+shape 2 2 1 2
+0 clear 33554433 false
+1 get 16777216 none
+0 publish 16777216 - 1
+=Legal([3, 1, 0, 1, 0, 0, 0]);
+shape 2 2 1 17
+0 clear 16777216 false
+0 publish 16777216 - 1
 
-fn check_one_lane<R: Abort>(rt: &R, alloc: Global) {
-    for (text, want) in ONE_LANE {
-        is_checked(rt, alloc, text, want);
-    }
-}
+x=Fault(19)";
 
-fn check_two_lanes<R: Abort>(rt: &R, alloc: Global) {
-    for (text, want) in TWO_LANES {
-        is_checked(rt, alloc, text, want);
-    }
-}
+// Texts of more lanes, and some that differ from them a little.
+const MORE_LANES: &str = "shape 4 2 2 2
+2 publish 16908288 - 0
+2 publish 16908289 - 0
+2 publish 16912384 - 0
+0 get 16908289 some -
+3 get 16912386 none
+3 get 16912384 some -
+3 get 16908289 some -
+3 get 16908288 some -
+3 get 16912387 none
+2 publish 16912385 - 0
+2 publish 16912386 - 0
+2 publish 16912387 - 0
+2 clear 16908288 true
+2 clear 16908289 true
+2 clear 16912384 true
+2 clear 16912385 true
+2 reclaim 16912385
+2 clear 16912386 true
+0 release 16908289
+2 reclaim 16912386
+2 clear 16912387 true
+3 reclaim 16912387
+2 publish 33689601 78 0
+2 publish 33689602 78 0
+=Legal([24, 8, 3, 2, 3, 0, 0]);
+shape 7 2 2 2
+2 publish 16908288 - 0
+2 publish 16908289 - 0
+2 publish 16912384 - 0
+0 get 16908289 some -
+3 get 16912386 none
+3 get 16912384 some -
+3 get 16908289 some -
+3 get 16908288 some -
+3 get 16912387 none
+2 publish 16912385 - 0
+2 publish 16912386 - 0
+2 publish 16912387 - 0
+2 clear 16908288 true
+2 clear 16908289 true
+2 clear 16912384 true
+2 clear 16912385 true
+2 reclaim 16912385
+2 clear 16912386 true
+0 release 16908289
+2 reclaim 16912386
+2 clear 16912387 true
+3 reclaim 16912387
+2 publish 33689601 78 0
+2 publish 33689602 78 0
+0 release 16777216
 
-fn check_more_lanes<R: Abort>(rt: &R, alloc: Global) {
-    for (text, want) in MORE_LANES {
-        is_checked(rt, alloc, text, want);
-    }
-}
+x=Fault(19);
+shape 4 2 2 2
+2 publish 16908288 - 0
+2 publish 16908289 - 0
+2 publish 16912384 - 0
+0 get 16908289 some -
+3 get 16912386 none
+3 get 16912384 some -
+3 get 16908289 some -
+3 get 16908288 some -
+3 get 16912387 none
+2 publish 16912385 - 0
+2 publish 16912386 - 1
+2 publish 16912387 - 0
+2 clear 16908288 true
+2 clear 16908289 true
+2 clear 16912384 true
+2 clear 16912385 true
+2 reclaim 16912385
+2 clear 16912386 true
+0 release 16908289
+2 reclaim 16912386
+2 clear 16912387 true
+3 reclaim 16912387
+2 publish 33689601 78 0
+2 publish 33689602 78 0=Illegal(19, 15);
+shape 3 8 1 2
+2 publish 16908288 64140f01c4 1
+=Legal([1, 1, 0, 1, 0, 0, 0]);
+shape 3 8 1 2
+2 publish 16908288 64140f01c4 1
+0 get 16777217 none
+=Legal([2, 1, 0, 1, 0, 0, 0]);
+shape 3 8 1 2
+2 publish 0 64140f01c4 1
+
+
+=Fault(19);
+shape 3 1 1 4294967295 1
+=Legal([0, 0, 0, 0, 0, 0, 0]);
+shape 3 1 1 4294967295 1
+0 get 72057594054705152 some -
+=Illegal(0, 13);
+shape 3 1 1 4294967295 1
+0 reclaim 72057594054705152
+=Illegal(0, 16);
+shape 4 4 1 4294967295
+1 get 16777216 none
+1 get 16777219 none
+2 get 16777219 none
+2 get 16777216 none
+3 get 16777216 none
+3 get 16777217 none
+1 get 16777217 none
+1 get 16777218 none
+1 get 33554434 none
+1 get 33554435 none
+1 get 33554433 none
+1 get 33554432 none
+1 get 50331650 none
+2 get 16777217 none
+2 get 16777218 none
+2 get 33554435 none
+2 get 33554433 none
+2 get 33554434 none
+2 get 33554432 none
+2 get 50331649 none
+2 get 50331651 none
+3 get 16777219 none
+3 get 16777218 none
+3 get 33554435 none
+3 get 33554432 none
+3 get 33554433 none
+3 get 33554434 none
+3 get 50331648 none
+2 get 50331648 none
+2 get 50331650 none
+=Legal([30, 0, 0, 0, 0, 0, 0]);
+shape 4 4 1 4294967295=Legal([0, 0, 0, 0, 0, 0, 0]);
+shape 4 4 1 4294967295
+1 get 16777216 none
+1 get 16777219 none
+2 get 16777219 none
+2 get 16777216 none
+3 get 16777217 none
+3 get 16777216 none
+1 get 16777217 none
+1 get 16777218 none
+1 get 33554434 none
+1 get 33554435 none
+1 get 33554433 none
+1 get 33554432 none
+1 get 50331650 none
+2 get 16777217 none
+2 get 16777218 none
+2 get 33554435 none
+2 get 33554433 none
+2 get 33554434 none
+2 get 33554432 none
+2 get 50331649 none
+2 get 50331651 none
+3 get 16777219 none
+3 get 16777218 none
+3 get 33554435 none
+3 get 33554432 none
+3 get 33554433 none
+3 get 33554434 none
+3 get 50331648 none
+2 get 50331648 none
+2 get 50331650 none
+=Legal([30, 0, 0, 0, 0, 0, 0]);
+shape 3 4 1 4294967295
+1 publish 16842752 - 0
+1 publish 16842753 - 0
+1 publish 16842754 - 0
+1 publish 16842755 - 0
+0 get 16842754 some -
+2 get 16842752 some -
+2 get 16842755 some -
+2 get 16842753 some -
+2 get 16842754 some -
+1 clear 16842752 true
+1 clear 16842753 true
+1 clear 16842754 true
+1 clear 16842755 true
+0 release 16842754
+0 get 33619968 none
+0 get 50397185 none
+0 get 50397187 none
+0 get 50397186 none
+0 get 50397184 none
+2 release 16842752
+2 reclaim 16842752
+2 home 65536
+1 collect 65536
+1 publish 33619968 78 0
+2 release 16842754
+2 reclaim 16842754
+1 clear 16842755 false
+1 clear 33619968 true
+1 reclaim 33619968
+1 clear 33619969 false
+1 clear 33619970 false
+2 home 65538
+2 release 16842753
+2 reclaim 16842753
+1 clear 33619971 false
+1 publish 50397184 78 0
+1 collect 65538
+1 publish 33619970 78 0
+1 clear 33619970 true
+1 reclaim 33619970
+1 publish 50397186 78 0
+1 clear 50397184 true
+2 home 65537
+2 release 16842755
+1 reclaim 50397184
+1 clear 50397185 false
+2 reclaim 16842755
+1 clear 50397186 true
+1 reclaim 50397186
+1 clear 50397187 false
+2 home 65539
+1 publish 67174400 78 0
+1 publish 67174402 78 0
+1 clear 67174402 true
+2 get 33619969 none
+2 get 33619970 none
+1 reclaim 67174402
+1 publish 83951618 78 0
+1 clear 83951618 true
+1 reclaim 83951618
+1 publish 100728834 78 0
+2 get 33619971 none
+2 get 33619968 none
+2 get 50397186 none
+2 get 50397187 none
+2 get 50397185 none
+2 get 50397184 none
+=Legal([67, 12, 10, 2, 0, 2, 0]);
+shape 3 4 1 4294967295
+1 publish 16842752 - 0
+1 publish 16842753 - 0
+1 publish 16842754 - 0
+1 release 16842755
+0 get 16842754 some -
+2 get 16842752 some -
+2 get 16842755 some -
+2 get 16842753 some -
+2 get 16842754 some -
+1 clear 16842752 true
+1 clear 16842753 true
+1 clear 16842754 true
+1 clear 16842755 true
+0 release 16842754
+0 get 33619968 none
+0 get 50397185 none
+0 get 50397187 none
+0 get 50397186 none
+0 get 50397184 none
+2 release 16842752
+2 reclaim 16842752
+2 home 65536
+1 collect 65536
+1 publish 33619968 78 0
+2 release 16842754
+2 reclaim 16842754
+1 clear 16842755 false
+1 clear 33619968 true
+1 reclaim 33619968
+1 clear 33619968 false
+1 clear 33619970 false
+2 home 65538
+2 release 16842753
+2 reclaim 16842753
+1 clear 33619971 false
+1 publish 50397184 78 0
+1 collect 65538
+1 publish 33619970 78 0
+1 clear 33619970 true
+1 reclaim 33619970
+1 publish 50397186 78 0
+1 clear 50397184 true
+2 home 65537
+2 release 16842755
+1 reclaim 50397184
+1 clear 50397185 false
+2 reclaim 16842755
+1 clear 50397186 true
+1 reclaim 50397186
+1 clear 50397187 false
+2 home 65539
+1 publish 67174400 78 0
+1 publish 67174402 78 0
+1 clear 67174402 true
+2 get 33619969 none
+2 get 33619970 none
+1 reclaim 67174402
+1 publish 83951618 78 0
+1 clear 83951618 true
+1 reclaim 83951618
+1 publish 100728834 78 0
+2 get 33619971 none
+2 get 33619968 none
+2 get 50397186 none
+2 get 50397187 none
+2 get 50397185 none
+2 get 50397184 none=Illegal(3, 14);
+shape 3 4 1 4294967295
+1 publish 16842752 - 0
+1 publish 16842753 - 0
+1 publish 16842754 - 0
+1 publish 16842755 - 0
+0 get 16842754 some -
+2 get 16842752 some -
+2 get 16842755 some -
+2 get 16842753 some -
+2 get 16842754 some -
+1 clear 16842752 true
+1 clear 16842753 true
+1 clear 16842754 true
+1 clear 16842755 true
+0 release 16842754
+0 get 33619968 none
+0 get 50397185 none
+0 get 50397187 none
+0 get 50397186 none
+0 get 50397184 none
+2 release 16842752
+2 reclaim 16842752
+2 home 65536
+1 collect 65536
+1 publish 33619968 78 0
+2 release 16842754
+2 reclaim 16842754
+1 clear 16842755 false
+1 clear 33619968 true
+1 reclaim 33619968
+1 clear 33619969 false
+1 clear 33619970 false
+2 home 65538
+2 release 16842753
+2 reclaim 16842753
+1 clear 33619971 false
+1 publish 50397184 78 0
+1 collect 65538
+1 clear 83951618 true
+1 publish 33619970 78 0
+1 clear 33619970 true
+1 reclaim 33619970
+1 publish 50397186 78 0
+1 clear 50397184 true
+2 home 65537
+2 release 16842755
+1 reclaim 50397184
+1 clear 50397185 false
+2 reclaim 16842755
+1 clear 50397186 true
+1 reclaim 50397186
+1 clear 50397187 false
+2 home 65539
+1 publish 67174400 78 0
+1 publish 67174402 78 0
+1 clear 67174402 true
+2 get 33619969 none
+2 get 33619970 none
+1 reclaim 67174402
+1 publish 83951618 78 0
+1 clear 83951618 true
+1 reclaim 83951618
+1 publish 100728834 78 0
+2 get 33619971 none
+2 get 33619968 none
+2 get 50397186 none
+2 get 50397187 none
+2 get 50397185 none
+2 get 50397184 none
+=Illegal(37, 13);
+shape 3 1 1 1 1
+=Legal([0, 0, 0, 0, 0, 0, 0]);
+shape 3 1 1 1 1
+0 publish 72057594054705152 - 0
+=Legal([1, 1, 0, 1, 0, 0, 0]);
+shape 3 1 1 1 1
+0 get 72057594071482368 none
+=Legal([1, 0, 0, 0, 0, 0, 0]);
+shape 4 2 1 3
+2 publish 16908288 - 0
+0 get 16908288 some -
+0 get 16908288 some -
+2 clear 16908288 true
+0 clear 16908288 false
+0 release 16908288
+0 clear 16908288 false
+=Legal([7, 1, 0, 0, 1, 0, 0]);
+shape 4 2 1 3
+0 get 16908288 some -
+2 publish 16908288 - 0
+0 get 16908288 some -
+2 clear 16908288 true
+0 clear 16908288 false
+0 release 16908288
+4294967295 get 16777216 none
+0 clear 16908288 false
+=Illegal(0, 13);
+shape 4 2 1 3
+2 publish 16908288 - 1
+0 get 16908288 some -
+0 get 16908288 some -
+2 clear true
+0 release 16908288
+0 clear 16908288 false
+0 clear 16908288 false
+=Fault(19)";
 
 #[test]
 fn texts_are_checked(rt: HostRuntime) {
-    check_one_lane(&rt, rt.alloc());
-    check_two_lanes(&rt, rt.alloc());
-    check_more_lanes(&rt, rt.alloc());
+    are_checked(&rt, rt.alloc(), ONE_LANE);
+    are_checked(&rt, rt.alloc(), TWO_LANES);
+    are_checked(&rt, rt.alloc(), MORE_LANES);
 }

@@ -10,79 +10,75 @@ use std::alloc::AllocGlobal;
 use std::io::Write;
 use std::process::Abort;
 
-// Texts of acts, and the answers and the lines that their checks give.
-const CHECKS: [(&str, bool, &str); 14] = [
-    (
-        "shape 1 2 1 4294967295\n0 publish 16777216 6869 0\n0 get 16777216 some 6869\n0 release 16777216\n0 clear 16777216 true\n0 reclaim 16777216\n",
-        true,
-        "legal acts 5 published 1 reclaimed 1 present 0 marked 0 home 0 retired 0\n",
-    ),
-    (
-        "shape 2 1 1 4294967295\n0 publish 16777216 - 1\n0 clear 16777216 true\n0 release 16777216\n1 get 16777216 none\n1 reclaim 16777216\n1 home 0\n",
-        true,
-        "legal acts 6 published 1 reclaimed 1 present 0 marked 0 home 1 retired 0\n",
-    ),
-    (
-        "shape 2 1 1 4294967295\n1 publish 16777216 - 0\n",
-        false,
-        "illegal 0 11 NotWithLane\n",
-    ),
-    (
-        "shape 2 1 1 4294967295\n2 clear 16777216 false\n",
-        false,
-        "illegal 0 11 NotWithLane\n",
-    ),
-    (
-        "shape 2 1 1 4294967295\n0 publish 33554432 - 0\n",
-        false,
-        "illegal 0 12 WrongGeneration\n",
-    ),
-    (
-        "shape 2 1 1 4294967295\n0 publish 16777216 - 0\n1 release 16777216\n",
-        false,
-        "illegal 1 14 NotHeld\n",
-    ),
-    (
-        "shape 2 1 1 4294967295\n0 publish 16777216 - 1\n1 clear 16777216 true\n1 reclaim 16777216\n",
-        false,
-        "illegal 2 15 StillHeld\n",
-    ),
-    (
-        "shape 2 1 1 4294967295\n0 publish 16777216 - 0\n0 reclaim 16777216\n",
-        false,
-        "illegal 1 16 NotMarked\n",
-    ),
-    (
-        "shape 2 1 1 4294967295\n0 collect 0\n",
-        false,
-        "illegal 0 17 NotHome\n",
-    ),
-    (
-        "shape 2 1 1 4294967295\n",
-        true,
-        "legal acts 0 published 0 reclaimed 0 present 0 marked 0 home 0 retired 0\n",
-    ),
-    (
-        "shape 2 1 1 4294967295",
-        true,
-        "legal acts 0 published 0 reclaimed 0 present 0 marked 0 home 0 retired 0\n",
-    ),
-    (
-        "shape 1 2 1 4294967295\n0 publish 16777216 6869 0\n0 get 16777216 none\n",
-        false,
-        "illegal 1 13 WrongReply\n",
-    ),
-    (
-        "shape 1 1 1 4294967295 5\n0 publish 16777216 - 0\n",
-        false,
-        "illegal 0 11 NotWithLane\n",
-    ),
-    (
-        "shape 1 1 1 4294967295 5\n0 publish 360287970206416896 - 0\n0 get 360287970206416896 some -\n",
-        true,
-        "legal acts 2 published 1 reclaimed 0 present 1 marked 0 home 0 retired 0\n",
-    ),
-];
+// Texts of acts, and behind each the line that its check gives.
+const CHECKS: &str = "shape 1 2 1 4294967295
+0 publish 16777216 6869 0
+0 get 16777216 some 6869
+0 release 16777216
+0 clear 16777216 true
+0 reclaim 16777216
+=legal acts 5 published 1 reclaimed 1 present 0 marked 0 home 0 retired 0
+;
+shape 2 1 1 4294967295
+0 publish 16777216 - 1
+0 clear 16777216 true
+0 release 16777216
+1 get 16777216 none
+1 reclaim 16777216
+1 home 0
+=legal acts 6 published 1 reclaimed 1 present 0 marked 0 home 1 retired 0
+;
+shape 2 1 1 4294967295
+1 publish 16777216 - 0
+=illegal 0 11 NotWithLane
+;
+shape 2 1 1 4294967295
+2 clear 16777216 false
+=illegal 0 11 NotWithLane
+;
+shape 2 1 1 4294967295
+0 publish 33554432 - 0
+=illegal 0 12 WrongGeneration
+;
+shape 2 1 1 4294967295
+0 publish 16777216 - 0
+1 release 16777216
+=illegal 1 14 NotHeld
+;
+shape 2 1 1 4294967295
+0 publish 16777216 - 1
+1 clear 16777216 true
+1 reclaim 16777216
+=illegal 2 15 StillHeld
+;
+shape 2 1 1 4294967295
+0 publish 16777216 - 0
+0 reclaim 16777216
+=illegal 1 16 NotMarked
+;
+shape 2 1 1 4294967295
+0 collect 0
+=illegal 0 17 NotHome
+;
+shape 2 1 1 4294967295
+=legal acts 0 published 0 reclaimed 0 present 0 marked 0 home 0 retired 0
+;
+shape 2 1 1 4294967295=legal acts 0 published 0 reclaimed 0 present 0 marked 0 home 0 retired 0
+;
+shape 1 2 1 4294967295
+0 publish 16777216 6869 0
+0 get 16777216 none
+=illegal 1 13 WrongReply
+;
+shape 1 1 1 4294967295 5
+0 publish 16777216 - 0
+=illegal 0 11 NotWithLane
+;
+shape 1 1 1 4294967295 5
+0 publish 360287970206416896 - 0
+0 get 360287970206416896 some -
+=legal acts 2 published 1 reclaimed 0 present 1 marked 0 home 0 retired 0
+";
 
 // Texts that stand for no acts, and the faults of their checks.
 const NO_ACTS: [(&str, u32, &str); 9] = [
@@ -123,11 +119,11 @@ const ACTS_FAULTS: [(ActsFault, u32, &str); 3] = [
     (ActsFault::Memory, 18, "Memory"),
 ];
 
-/// What is said of a text of acts, and whether they are legal.
-fn says<R: Abort + AllocGlobal>(rt: &R, acts: &str, legal: bool, line: &str) {
+/// What is said of a text of acts, which are legal exactly where the line says so.
+fn says<R: Abort + AllocGlobal>(rt: &R, acts: &str, line: &str) {
     let mut out = Watched::new(Vec::new(rt.alloc()));
     let answer = check_text(rt.alloc(), acts.as_bytes(), &mut out).expect(rt, "acts");
-    same_at(rt, &answer, &legal, acts);
+    same_at(rt, &answer, &line.starts_with("legal"), acts);
     wrote(rt, out, line, acts);
 }
 
@@ -159,8 +155,10 @@ fn is_named<R: Abort>(rt: &R, fault: &RunFault, number: u32, name: &'static str)
 
 #[test]
 fn checks(rt: HostRuntime) {
-    for (acts, legal, line) in &CHECKS {
-        says(&rt, acts, *legal, line);
+    for row in CHECKS.split(';') {
+        let (acts, line) = row.trim_start().split_once('=').expect(&rt, "a row");
+        says(&rt, acts, line);
+        fails(&rt, acts, Halting { room: 10 });
     }
 }
 
@@ -173,9 +171,6 @@ fn refuses_acts(rt: HostRuntime) {
 
 #[test]
 fn check_fails_with_its_writer(rt: HostRuntime) {
-    for (acts, _, _) in &CHECKS {
-        fails(&rt, acts, Halting { room: 10 });
-    }
     fails(&rt, "shape 1 1 1 1\n", Deaf);
     fails(&rt, "shape 1 1 1 1\n", Clogged);
 }

@@ -7,45 +7,23 @@ use std::io::Write;
 use std::process::Abort;
 
 // Numbers, and the lines of the keys that have them.
-const KEYS: [(u64, &str); 16] = [
-    (16_842_752, "shard 1 page 0 slot 0 generation 1\n"),
-    (33_554_432, "shard 0 page 0 slot 0 generation 2\n"),
-    (
-        18_446_744_073_709_551_615,
-        "shard 255 page 15 slot 4095 generation 4294967295 tag 255\n",
-    ),
-    (
-        14_315_844_271_347_327_849,
-        "shard 119 page 14 slot 873 generation 2887287845 tag 198\n",
-    ),
-    (16_777_216, "shard 0 page 0 slot 0 generation 1\n"),
-    (16_973_270, "shard 2 page 15 slot 3542 generation 1\n"),
-    (17_032_150, "shard 3 page 14 slot 982 generation 1\n"),
-    (
-        17_842_113_621_171_606_008,
-        "shard 23 page 9 slot 504 generation 2615922320 tag 247\n",
-    ),
-    (21_022_162, "shard 64 page 12 slot 1490 generation 1\n"),
-    (
-        22_486_244_996_703_628,
-        "shard 92 page 6 slot 1420 generation 1340284645\n",
-    ),
-    (23_442_786, "shard 101 page 11 slot 1378 generation 1\n"),
-    (33_756_186, "shard 3 page 1 slot 1050 generation 2\n"),
-    (50_518_460, "shard 2 page 13 slot 2492 generation 3\n"),
-    (
-        5_145_204_162_128_377_057,
-        "shard 133 page 15 slot 1249 generation 1735388364 tag 71\n",
-    ),
-    (
-        52_993_558_442_945_753,
-        "shard 96 page 2 slot 3289 generation 3158662226\n",
-    ),
-    (
-        7_811_136_407_989_476_148,
-        "shard 85 page 5 slot 2868 generation 1723542922 tag 108\n",
-    ),
-];
+const KEYS: &str = "16842752: shard 1 page 0 slot 0 generation 1
+33554432: shard 0 page 0 slot 0 generation 2
+18446744073709551615: shard 255 page 15 slot 4095 generation 4294967295 tag 255
+14315844271347327849: shard 119 page 14 slot 873 generation 2887287845 tag 198
+16777216: shard 0 page 0 slot 0 generation 1
+16973270: shard 2 page 15 slot 3542 generation 1
+17032150: shard 3 page 14 slot 982 generation 1
+17842113621171606008: shard 23 page 9 slot 504 generation 2615922320 tag 247
+21022162: shard 64 page 12 slot 1490 generation 1
+22486244996703628: shard 92 page 6 slot 1420 generation 1340284645
+23442786: shard 101 page 11 slot 1378 generation 1
+33756186: shard 3 page 1 slot 1050 generation 2
+50518460: shard 2 page 13 slot 2492 generation 3
+5145204162128377057: shard 133 page 15 slot 1249 generation 1735388364 tag 71
+52993558442945753: shard 96 page 2 slot 3289 generation 3158662226
+7811136407989476148: shard 85 page 5 slot 2868 generation 1723542922 tag 108
+";
 
 // Numbers that no key has.
 const NO_KEYS: [u64; 8] = [
@@ -69,8 +47,10 @@ fn fails<W: Write + Drop, R: Abort + AllocGlobal>(rt: &R, number: u64, writer: W
 
 #[test]
 fn names_keys(rt: HostRuntime) {
-    for (number, line) in &KEYS {
-        names(&rt, *number, true, line);
+    for row in KEYS.split_inclusive('\n') {
+        let (number, line) = row.split_once(": ").expect(&rt, "a row");
+        let number = number.parse::<u64>().ok().expect(&rt, "a number");
+        names(&rt, number, true, line);
     }
 }
 

@@ -9,14 +9,14 @@ use std::alloc::AllocGlobal;
 use std::io::Write;
 use std::process::Abort;
 
-const ROW: &str =
+pub(crate) const ROW: &str =
     "{\"shape\":{\"lanes\":1,\"first_page\":2,\"pages\":1,\"last_generation\":4294967295},\"scripts\":[[[\"create\",0],[\"write\",0,\"6869\"],[\"publish\",0],[\"get\",1,16777216],[\"read\",1]]]}";
 
-const TRACE: &str =
+pub(crate) const TRACE: &str =
     "0 = filling 16777216\n0 = ok\n0 PUBLISH 0 4294967296 4294967297\n0 = key 16777216\n0 ENTER 0 4294967297 4294967301\n0 = some 6869\n0 = 6869\n";
 
 // Scripts, schedules and the traces that they have.
-const REPLAYS: [(&str, &[u32], &str); 10] = [
+const REPLAYS: [(&str, &[u32], &str); 12] = [
     (ROW, &[0, 0], TRACE),
     // entries for a finished lane, and for numbers that are no lane
     (ROW, &[0, 1, 7, 0, 0, 0, 4294967295], TRACE),
@@ -26,6 +26,17 @@ const REPLAYS: [(&str, &[u32], &str); 10] = [
         "{\"shape\":{\"lanes\":1,\"first_page\":2,\"pages\":1,\"last_generation\":4294967295},\"scripts\":[[[\"read\",0],[\"create\",0],[\"read\",0],[\"write\",1,\"61\"],[\"publish\",1],[\"get\",0,16777216],[\"get\",1,\"@2\"],[\"create\",0]]]}",
         &[0],
         "0 = skip\n0 = filling 16777216\n0 = skip\n0 = skip\n0 = skip\n0 = skip\n0 = skip\n0 = skip\n",
+    ),
+    (
+        "{\"shape\":{\"lanes\":1,\"first_page\":2,\"pages\":1,\"last_generation\":4294967295},\"scripts\":[[[\"read\",3],[\"write\",3,\"61\"],[\"publish\",3],[\"get\",0,\"@3\"],[\"create\",0],[\"create\",0],[\"get\",0,16777216],[\"read\",0],[\"publish\",0],[\"get\",1,16777216],[\"get\",1,16777216],[\"write\",1,\"62\"],[\"publish\",1],[\"create\",1],[\"read\",1],[\"publish\",0],[\"get\",2,\"@0\"]]]}",
+        &[0, 0, 0],
+        "0 = skip\n0 = skip\n0 = skip\n0 = skip\n0 = filling 16777216\n0 = skip\n0 = skip\n0 = skip\n0 PUBLISH 0 4294967296 4294967297\n0 = key 16777216\n0 ENTER 0 4294967297 4294967301\n0 = some -\n0 = skip\n0 = skip\n0 = skip\n0 = skip\n0 = -\n0 = skip\n0 ENTER 0 4294967301 4294967305\n0 = some -\n",
+    ),
+    // a script without a line
+    (
+        "{\"shape\":{\"lanes\":1,\"first_page\":2,\"pages\":1,\"last_generation\":4294967295},\"scripts\":[[]]}",
+        &[0],
+        "",
     ),
     (
         "{\"shape\":{\"lanes\":1,\"first_page\":1,\"pages\":1,\"last_generation\":4294967295},\"scripts\":[[[\"create\",0],[\"create\",1]]]}",

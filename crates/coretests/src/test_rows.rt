@@ -1,10 +1,12 @@
-use crate::test_programs::{check_of, is_fault, reads_at, replay_fault_of, replay_of, replays_as};
+use crate::test_programs::{
+    check_of, is_fault, reads_at, replay_fault_of, replay_of, replays_as, schedule_of,
+};
 use crate::test_texts::same;
 use poolprogram::stop_after;
 use std::alloc::AllocGlobal;
 use std::process::Abort;
 
-// Scripts, schedules and the traces that they have.
+// A script file, a schedule, and what is wanted of them.
 type Row = (&'static str, &'static [u32], &'static str);
 
 // A whole life of an object.
@@ -14,178 +16,302 @@ const WHOLE_LIFE: Row = (
     "0 = filling 16777216\n0 = ok\n0 PUBLISH 0 4294967296 4294967297\n0 = key 16777216\n0 ENTER 0 4294967297 4294967301\n0 = some 6869\n0 = 6869\n0 LEAVE 0 4294967301 4294967297\n0 = ok\n0 ENTER 0 4294967297 4294967301\n0 MARK 0 4294967301 4294967303\n0 LEAVE 0 4294967303 4294967299\n0 CLAIM 0 4294967299 8589934592\n0 = true\n",
 );
 
-const ROWS: [Row; 16] = [
-    WHOLE_LIFE,
-    // empty scripts
-    (
-        "{\"shape\":{\"lanes\":2,\"first_page\":2,\"pages\":1,\"last_generation\":4294967295},\"scripts\":[[],[]]}",
-        &[0, 1, 0, 1, 1],
-        "",
-    ),
-    // a get of what is filling
-    (
-        "{\"shape\":{\"lanes\":1,\"first_page\":2,\"pages\":1,\"last_generation\":4294967295},\"scripts\":[[[\"create\",0],[\"get\",1,16777216]]]}",
-        &[0, 0],
-        "0 = filling 16777216\n0 ENTER 0 4294967296 4294967300\n0 LEAVE 0 4294967300 4294967296\n0 = none\n",
-    ),
-    // a life as far as the read
-    (
-        "{\"shape\":{\"lanes\":1,\"first_page\":2,\"pages\":1,\"last_generation\":4294967295},\"scripts\":[[[\"create\",0],[\"write\",0,\"6869\"],[\"publish\",0],[\"get\",1,16777216],[\"read\",1]]]}",
-        &[0, 0],
-        "0 = filling 16777216\n0 = ok\n0 PUBLISH 0 4294967296 4294967297\n0 = key 16777216\n0 ENTER 0 4294967297 4294967301\n0 = some 6869\n0 = 6869\n",
-    ),
-    // a full pool
-    (
-        "{\"shape\":{\"lanes\":1,\"first_page\":1,\"pages\":1,\"last_generation\":4294967295},\"scripts\":[[[\"create\",0],[\"create\",1]]]}",
-        &[0],
-        "0 = filling 16777216\n0 = full\n",
-    ),
-    // a get of an earlier generation
-    (
-        "{\"shape\":{\"lanes\":1,\"first_page\":1,\"pages\":1,\"last_generation\":4294967295},\"scripts\":[[[\"create\",0],[\"publish\",0],[\"clear\",16777216],[\"create\",0],[\"write\",0,\"62\"],[\"publish\",0],[\"get\",1,16777216],[\"get\",1,33554432]]]}",
-        &[0, 0, 0, 0, 0, 0, 0, 0, 0],
-        "0 = filling 16777216\n0 PUBLISH 0 4294967296 4294967297\n0 = key 16777216\n0 ENTER 0 4294967297 4294967301\n0 MARK 0 4294967301 4294967303\n0 LEAVE 0 4294967303 4294967299\n0 CLAIM 0 4294967299 8589934592\n0 = true\n0 = filling 33554432\n0 = ok\n0 PUBLISH 0 8589934592 8589934593\n0 = key 33554432\n0 ENTER 0 8589934593 8589934597\n0 LEAVE 0 8589934597 8589934593\n0 = none\n0 ENTER 0 8589934593 8589934597\n0 = some 62\n",
-    ),
-    // clears of a key that is referred to
-    (
-        "{\"shape\":{\"lanes\":1,\"first_page\":1,\"pages\":1,\"last_generation\":4294967295},\"scripts\":[[[\"create\",0],[\"downgrade\",0],[\"clear\",16777216],[\"clear\",16777216],[\"release\",0],[\"clear\",16777216]]]}",
-        &[0, 0, 0, 0, 0, 0, 0, 0, 0, 0],
-        "0 = filling 16777216\n0 PUBLISH 0 4294967296 4294967301\n0 = key 16777216\n0 ENTER 0 4294967301 4294967305\n0 MARK 0 4294967305 4294967307\n0 LEAVE 0 4294967307 4294967303\n0 = true\n0 ENTER 0 4294967303 4294967307\n0 LEAVE 0 4294967307 4294967303\n0 = false\n0 LEAVE 0 4294967303 4294967299\n0 CLAIM 0 4294967299 8589934592\n0 = ok\n0 ENTER 0 8589934592 8589934596\n0 LEAVE 0 8589934596 8589934592\n0 = false\n",
-    ),
-    // a stranger clears
-    (
-        "{\"shape\":{\"lanes\":2,\"first_page\":1,\"pages\":1,\"last_generation\":4294967295},\"scripts\":[[[\"create\",0],[\"downgrade\",0],[\"clear\",16777216],[\"release\",0]],[[\"get\",0,16777216]]]}",
-        &[0, 0, 0, 0, 0, 1, 0, 1, 1, 1, 1],
-        "0 = filling 16777216\n0 PUBLISH 0 4294967296 4294967301\n0 = key 16777216\n0 ENTER 0 4294967301 4294967305\n0 MARK 0 4294967305 4294967307\n0 LEAVE 0 4294967307 4294967303\n0 = true\n0 LEAVE 0 4294967303 4294967299\n1 ENTER 0 4294967299 4294967303\n0 CLAIM 0 4294967303 4294967303\n0 = ok\n1 LEAVE 0 4294967303 4294967299\n1 CLAIM 0 4294967299 8589934592\n1 LINK 0 0 0\n1 PUSH 0.1 0 1\n1 = none\n",
-    ),
-    // one clearing
-    (
-        "{\"shape\":{\"lanes\":2,\"first_page\":1,\"pages\":1,\"last_generation\":4294967295},\"scripts\":[[[\"create\",0],[\"downgrade\",0],[\"clear\",16777216],[\"release\",0]],[[\"get\",0,16777216]]]}",
-        &[0, 0, 0, 0, 0, 1, 1, 0, 1],
-        "0 = filling 16777216\n0 PUBLISH 0 4294967296 4294967301\n0 = key 16777216\n0 ENTER 0 4294967301 4294967305\n0 MARK 0 4294967305 4294967307\n0 LEAVE 0 4294967307 4294967303\n0 = true\n0 LEAVE 0 4294967303 4294967299\n1 ENTER 0 4294967299 4294967303\n1 LEAVE 0 4294967303 4294967299\n0 CLAIM 0 4294967299 8589934592\n0 = ok\n1 CLAIM 0 8589934592 8589934592\n1 = none\n",
-    ),
-    // a mark while others refer to the object
-    (
-        "{\"shape\":{\"lanes\":2,\"first_page\":1,\"pages\":1,\"last_generation\":4294967295},\"scripts\":[[[\"create\",0],[\"write\",0,\"61\"],[\"publish\",0],[\"get\",1,16777216],[\"clear\",16777216],[\"get\",2,16777216],[\"read\",1],[\"release\",1]],[[\"get\",0,16777216],[\"clear\",16777216],[\"read\",0],[\"release\",0]]]}",
-        &[0, 0, 1, 0, 0, 0, 0, 0, 0, 1, 1, 1, 1, 1, 1],
-        "0 = filling 16777216\n0 = ok\n0 PUBLISH 0 4294967296 4294967297\n0 = key 16777216\n0 ENTER 0 4294967297 4294967301\n0 = some 61\n1 ENTER 0 4294967301 4294967305\n1 = some 61\n0 ENTER 0 4294967305 4294967309\n0 MARK 0 4294967309 4294967311\n0 LEAVE 0 4294967311 4294967307\n0 = true\n0 ENTER 0 4294967307 4294967311\n0 LEAVE 0 4294967311 4294967307\n0 = none\n0 = 61\n0 LEAVE 0 4294967307 4294967303\n0 = ok\n1 ENTER 0 4294967303 4294967307\n1 LEAVE 0 4294967307 4294967303\n1 = false\n1 = 61\n1 LEAVE 0 4294967303 4294967299\n1 CLAIM 0 4294967299 8589934592\n1 LINK 0 0 0\n1 PUSH 0.1 0 1\n1 = ok\n",
-    ),
-    // the same, where lane 1 stops after its first turn
-    (
-        "{\"shape\":{\"lanes\":2,\"first_page\":1,\"pages\":1,\"last_generation\":4294967295},\"scripts\":[[[\"create\",0],[\"write\",0,\"61\"],[\"publish\",0],[\"get\",1,16777216],[\"clear\",16777216],[\"get\",2,16777216],[\"read\",1],[\"release\",1]],[[\"get\",0,16777216],[\"clear\",16777216],[\"read\",0],[\"release\",0]]]}",
-        &[0, 0, 1, 0, 0, 0, 0, 0, 0],
-        "0 = filling 16777216\n0 = ok\n0 PUBLISH 0 4294967296 4294967297\n0 = key 16777216\n0 ENTER 0 4294967297 4294967301\n0 = some 61\n1 ENTER 0 4294967301 4294967305\n1 = some 61\n0 ENTER 0 4294967305 4294967309\n0 MARK 0 4294967309 4294967311\n0 LEAVE 0 4294967311 4294967307\n0 = true\n0 ENTER 0 4294967307 4294967311\n0 LEAVE 0 4294967311 4294967307\n0 = none\n0 = 61\n0 LEAVE 0 4294967307 4294967303\n0 = ok\n",
-    ),
-    // a place whose generations are used up
-    (
-        "{\"shape\":{\"lanes\":1,\"first_page\":1,\"pages\":1,\"last_generation\":1},\"scripts\":[[[\"create\",0],[\"publish\",0],[\"clear\",16777216],[\"create\",0]]]}",
-        &[0, 0, 0, 0, 0, 0],
-        "0 = filling 16777216\n0 PUBLISH 0 4294967296 4294967297\n0 = key 16777216\n0 ENTER 0 4294967297 4294967301\n0 MARK 0 4294967301 4294967303\n0 LEAVE 0 4294967303 4294967299\n0 CLAIM 0 4294967299 4294967298\n0 = true\n0 = full\n",
-    ),
-    // a read of a marked key
-    (
-        "{\"shape\":{\"lanes\":2,\"first_page\":1,\"pages\":1,\"last_generation\":4294967295},\"scripts\":[[[\"create\",0],[\"write\",0,\"7a\"],[\"downgrade\",0],[\"get\",1,16777216],[\"read\",0]],[[\"clear\",16777216]]]}",
-        &[0, 1, 1, 1, 0, 0],
-        "0 = filling 16777216\n0 = ok\n0 PUBLISH 0 4294967296 4294967301\n0 = key 16777216\n1 ENTER 0 4294967301 4294967305\n1 MARK 0 4294967305 4294967307\n1 LEAVE 0 4294967307 4294967303\n1 = true\n0 ENTER 0 4294967303 4294967307\n0 LEAVE 0 4294967307 4294967303\n0 = none\n0 = 7a\n",
-    ),
-    // numbers outside the shape
-    (
-        "{\"shape\":{\"lanes\":1,\"first_page\":2,\"pages\":1,\"last_generation\":4294967295},\"scripts\":[[[\"get\",0,0],[\"get\",0,18446744073709551615],[\"get\",0,17825792],[\"get\",0,16781312],[\"clear\",16777218]]]}",
-        &[0],
-        "0 = none\n0 = none\n0 = none\n0 = none\n0 = false\n",
-    ),
-    // a TAKE between a LINK and its PUSH
-    (
-        "{\"shape\":{\"lanes\":2,\"first_page\":2,\"pages\":1,\"last_generation\":4294967295},\"scripts\":[[[\"create\",0],[\"publish\",0],[\"create\",1],[\"publish\",1],[\"clear\",16777216],[\"clear\",16777217],[\"create\",2],[\"create\",3]],[[\"get\",0,16777216],[\"get\",1,16777217],[\"release\",0],[\"release\",1]]]}",
-        &[
-            0, 0, 1, 1, 0, 0, 0, 0, 0, 0, 1, 1, 1, 1, 1, 1, 1, 0, 0, 1, 1, 1, 0, 0,
-        ],
-        "0 = filling 16777216\n0 PUBLISH 0 4294967296 4294967297\n0 = key 16777216\n0 = filling 16777217\n0 PUBLISH 1 4294967296 4294967297\n0 = key 16777217\n1 ENTER 0 4294967297 4294967301\n1 = some -\n1 ENTER 1 4294967297 4294967301\n1 = some -\n0 ENTER 0 4294967301 4294967305\n0 MARK 0 4294967305 4294967307\n0 LEAVE 0 4294967307 4294967303\n0 = true\n0 ENTER 1 4294967301 4294967305\n0 MARK 1 4294967305 4294967307\n0 LEAVE 1 4294967307 4294967303\n0 = true\n1 LEAVE 0 4294967303 4294967299\n1 CLAIM 0 4294967299 8589934592\n1 LINK 0 0 0\n1 PUSH 0.1 0 1\n1 = ok\n1 LEAVE 1 4294967303 4294967299\n1 CLAIM 1 4294967299 8589934592\n1 LINK 1 0 1\n0 TAKE 0.1 1 0\n0 FOLLOW 0 0 0\n0 = filling 33554432\n1 PUSH 0.1 0 0\n1 LINK 1 1 0\n1 PUSH 0.1 0 2\n1 = ok\n0 TAKE 0.1 2 0\n0 FOLLOW 1 0 0\n0 = filling 33554433\n",
-    ),
-    // a tag
-    (
-        "{\"shape\":{\"lanes\":1,\"first_page\":1,\"pages\":1,\"last_generation\":4294967295,\"tag\":5},\"scripts\":[[[\"create\",0],[\"publish\",0],[\"get\",1,16777216],[\"get\",1,\"@0\"]]]}",
-        &[0, 0],
-        "0 = filling 360287970206416896\n0 PUBLISH 0 4294967296 4294967297\n0 = key 360287970206416896\n0 = none\n0 ENTER 0 4294967297 4294967301\n0 = some -\n",
-    ),
-];
+// Titles, and below each a script file, a schedule and the trace that they have.
+const ROWS: &str = "a whole life of an object
+{\"shape\":{\"lanes\":1,\"first_page\":2,\"pages\":1,\"last_generation\":4294967295},\"scripts\":[[[\"create\",0],[\"write\",0,\"6869\"],[\"publish\",0],[\"get\",1,16777216],[\"read\",1],[\"release\",1],[\"clear\",16777216]]]}
+0,0,0,0,0,0,0
+0 = filling 16777216
+0 = ok
+0 PUBLISH 0 4294967296 4294967297
+0 = key 16777216
+0 ENTER 0 4294967297 4294967301
+0 = some 6869
+0 = 6869
+0 LEAVE 0 4294967301 4294967297
+0 = ok
+0 ENTER 0 4294967297 4294967301
+0 MARK 0 4294967301 4294967303
+0 LEAVE 0 4294967303 4294967299
+0 CLAIM 0 4294967299 8589934592
+0 = true
+;
+empty scripts
+{\"shape\":{\"lanes\":2,\"first_page\":2,\"pages\":1,\"last_generation\":4294967295},\"scripts\":[[],[]]}
+0,1,0,1,1
+;
+a get of what is filling
+{\"shape\":{\"lanes\":1,\"first_page\":2,\"pages\":1,\"last_generation\":4294967295},\"scripts\":[[[\"create\",0],[\"get\",1,16777216]]]}
+0,0
+0 = filling 16777216
+0 ENTER 0 4294967296 4294967300
+0 LEAVE 0 4294967300 4294967296
+0 = none
+;
+a life as far as the read
+{\"shape\":{\"lanes\":1,\"first_page\":2,\"pages\":1,\"last_generation\":4294967295},\"scripts\":[[[\"create\",0],[\"write\",0,\"6869\"],[\"publish\",0],[\"get\",1,16777216],[\"read\",1]]]}
+0,0
+0 = filling 16777216
+0 = ok
+0 PUBLISH 0 4294967296 4294967297
+0 = key 16777216
+0 ENTER 0 4294967297 4294967301
+0 = some 6869
+0 = 6869
+;
+a full pool
+{\"shape\":{\"lanes\":1,\"first_page\":1,\"pages\":1,\"last_generation\":4294967295},\"scripts\":[[[\"create\",0],[\"create\",1]]]}
+0
+0 = filling 16777216
+0 = full
+;
+a get of an earlier generation
+{\"shape\":{\"lanes\":1,\"first_page\":1,\"pages\":1,\"last_generation\":4294967295},\"scripts\":[[[\"create\",0],[\"publish\",0],[\"clear\",16777216],[\"create\",0],[\"write\",0,\"62\"],[\"publish\",0],[\"get\",1,16777216],[\"get\",1,33554432],[\"read\",1]]]}
+0,0,0,0,0,0,0,0,0
+0 = filling 16777216
+0 PUBLISH 0 4294967296 4294967297
+0 = key 16777216
+0 ENTER 0 4294967297 4294967301
+0 MARK 0 4294967301 4294967303
+0 LEAVE 0 4294967303 4294967299
+0 CLAIM 0 4294967299 8589934592
+0 = true
+0 = filling 33554432
+0 = ok
+0 PUBLISH 0 8589934592 8589934593
+0 = key 33554432
+0 ENTER 0 8589934593 8589934597
+0 LEAVE 0 8589934597 8589934593
+0 = none
+0 ENTER 0 8589934593 8589934597
+0 = some 62
+0 = 62
+;
+clears of a key that is referred to
+{\"shape\":{\"lanes\":1,\"first_page\":1,\"pages\":1,\"last_generation\":4294967295},\"scripts\":[[[\"create\",0],[\"downgrade\",0],[\"clear\",16777216],[\"clear\",16777216],[\"release\",0],[\"clear\",16777216]]]}
+0,0,0,0,0,0,0,0,0,0
+0 = filling 16777216
+0 PUBLISH 0 4294967296 4294967301
+0 = key 16777216
+0 ENTER 0 4294967301 4294967305
+0 MARK 0 4294967305 4294967307
+0 LEAVE 0 4294967307 4294967303
+0 = true
+0 ENTER 0 4294967303 4294967307
+0 LEAVE 0 4294967307 4294967303
+0 = false
+0 LEAVE 0 4294967303 4294967299
+0 CLAIM 0 4294967299 8589934592
+0 = ok
+0 ENTER 0 8589934592 8589934596
+0 LEAVE 0 8589934596 8589934592
+0 = false
+;
+a stranger clears
+{\"shape\":{\"lanes\":2,\"first_page\":1,\"pages\":1,\"last_generation\":4294967295},\"scripts\":[[[\"create\",0],[\"downgrade\",0],[\"clear\",16777216],[\"release\",0]],[[\"get\",0,16777216]]]}
+0,0,0,0,0,1,0,1,1,1,1
+0 = filling 16777216
+0 PUBLISH 0 4294967296 4294967301
+0 = key 16777216
+0 ENTER 0 4294967301 4294967305
+0 MARK 0 4294967305 4294967307
+0 LEAVE 0 4294967307 4294967303
+0 = true
+0 LEAVE 0 4294967303 4294967299
+1 ENTER 0 4294967299 4294967303
+0 CLAIM 0 4294967303 4294967303
+0 = ok
+1 LEAVE 0 4294967303 4294967299
+1 CLAIM 0 4294967299 8589934592
+1 LINK 0 0 0
+1 PUSH 0.1 0 1
+1 = none
+;
+one clearing
+{\"shape\":{\"lanes\":2,\"first_page\":1,\"pages\":1,\"last_generation\":4294967295},\"scripts\":[[[\"create\",0],[\"downgrade\",0],[\"clear\",16777216],[\"release\",0]],[[\"get\",0,16777216]]]}
+0,0,0,0,0,1,1,0,1
+0 = filling 16777216
+0 PUBLISH 0 4294967296 4294967301
+0 = key 16777216
+0 ENTER 0 4294967301 4294967305
+0 MARK 0 4294967305 4294967307
+0 LEAVE 0 4294967307 4294967303
+0 = true
+0 LEAVE 0 4294967303 4294967299
+1 ENTER 0 4294967299 4294967303
+1 LEAVE 0 4294967303 4294967299
+0 CLAIM 0 4294967299 8589934592
+0 = ok
+1 CLAIM 0 8589934592 8589934592
+1 = none
+;
+a mark while others refer to the object
+{\"shape\":{\"lanes\":2,\"first_page\":1,\"pages\":1,\"last_generation\":4294967295},\"scripts\":[[[\"create\",0],[\"write\",0,\"61\"],[\"publish\",0],[\"get\",1,16777216],[\"clear\",16777216],[\"get\",2,16777216],[\"read\",1],[\"release\",1]],[[\"get\",0,16777216],[\"clear\",16777216],[\"read\",0],[\"release\",0]]]}
+0,0,1,0,0,0,0,0,0,1,1,1,1,1,1
+0 = filling 16777216
+0 = ok
+0 PUBLISH 0 4294967296 4294967297
+0 = key 16777216
+0 ENTER 0 4294967297 4294967301
+0 = some 61
+1 ENTER 0 4294967301 4294967305
+1 = some 61
+0 ENTER 0 4294967305 4294967309
+0 MARK 0 4294967309 4294967311
+0 LEAVE 0 4294967311 4294967307
+0 = true
+0 ENTER 0 4294967307 4294967311
+0 LEAVE 0 4294967311 4294967307
+0 = none
+0 = 61
+0 LEAVE 0 4294967307 4294967303
+0 = ok
+1 ENTER 0 4294967303 4294967307
+1 LEAVE 0 4294967307 4294967303
+1 = false
+1 = 61
+1 LEAVE 0 4294967303 4294967299
+1 CLAIM 0 4294967299 8589934592
+1 LINK 0 0 0
+1 PUSH 0.1 0 1
+1 = ok
+;
+a mark while others refer to the object, where lane 1 stops after its first turn
+{\"shape\":{\"lanes\":2,\"first_page\":1,\"pages\":1,\"last_generation\":4294967295},\"scripts\":[[[\"create\",0],[\"write\",0,\"61\"],[\"publish\",0],[\"get\",1,16777216],[\"clear\",16777216],[\"get\",2,16777216],[\"read\",1],[\"release\",1]],[[\"get\",0,16777216],[\"clear\",16777216],[\"read\",0],[\"release\",0]]]}
+0,0,1,0,0,0,0,0,0
+0 = filling 16777216
+0 = ok
+0 PUBLISH 0 4294967296 4294967297
+0 = key 16777216
+0 ENTER 0 4294967297 4294967301
+0 = some 61
+1 ENTER 0 4294967301 4294967305
+1 = some 61
+0 ENTER 0 4294967305 4294967309
+0 MARK 0 4294967309 4294967311
+0 LEAVE 0 4294967311 4294967307
+0 = true
+0 ENTER 0 4294967307 4294967311
+0 LEAVE 0 4294967311 4294967307
+0 = none
+0 = 61
+0 LEAVE 0 4294967307 4294967303
+0 = ok
+;
+a place whose generations are used up
+{\"shape\":{\"lanes\":1,\"first_page\":1,\"pages\":1,\"last_generation\":1},\"scripts\":[[[\"create\",0],[\"publish\",0],[\"clear\",16777216],[\"create\",0]]]}
+0,0,0,0,0,0
+0 = filling 16777216
+0 PUBLISH 0 4294967296 4294967297
+0 = key 16777216
+0 ENTER 0 4294967297 4294967301
+0 MARK 0 4294967301 4294967303
+0 LEAVE 0 4294967303 4294967299
+0 CLAIM 0 4294967299 4294967298
+0 = true
+0 = full
+;
+a read of a marked key
+{\"shape\":{\"lanes\":2,\"first_page\":1,\"pages\":1,\"last_generation\":4294967295},\"scripts\":[[[\"create\",0],[\"write\",0,\"7a\"],[\"downgrade\",0],[\"get\",1,16777216],[\"read\",0]],[[\"clear\",16777216]]]}
+0,1,1,1,0,0
+0 = filling 16777216
+0 = ok
+0 PUBLISH 0 4294967296 4294967301
+0 = key 16777216
+1 ENTER 0 4294967301 4294967305
+1 MARK 0 4294967305 4294967307
+1 LEAVE 0 4294967307 4294967303
+1 = true
+0 ENTER 0 4294967303 4294967307
+0 LEAVE 0 4294967307 4294967303
+0 = none
+0 = 7a
+;
+numbers outside the shape
+{\"shape\":{\"lanes\":1,\"first_page\":2,\"pages\":1,\"last_generation\":4294967295},\"scripts\":[[[\"get\",0,0],[\"get\",0,18446744073709551615],[\"get\",0,17825792],[\"get\",0,16781312],[\"clear\",16777218]]]}
+0
+0 = none
+0 = none
+0 = none
+0 = none
+0 = false
+;
+a TAKE between a LINK and its PUSH
+{\"shape\":{\"lanes\":2,\"first_page\":2,\"pages\":1,\"last_generation\":4294967295},\"scripts\":[[[\"create\",0],[\"publish\",0],[\"create\",1],[\"publish\",1],[\"clear\",16777216],[\"clear\",16777217],[\"create\",2],[\"create\",3]],[[\"get\",0,16777216],[\"get\",1,16777217],[\"release\",0],[\"release\",1]]]}
+0,0,1,1,0,0,0,0,0,0,1,1,1,1,1,1,1,0,0,1,1,1,0,0
+0 = filling 16777216
+0 PUBLISH 0 4294967296 4294967297
+0 = key 16777216
+0 = filling 16777217
+0 PUBLISH 1 4294967296 4294967297
+0 = key 16777217
+1 ENTER 0 4294967297 4294967301
+1 = some -
+1 ENTER 1 4294967297 4294967301
+1 = some -
+0 ENTER 0 4294967301 4294967305
+0 MARK 0 4294967305 4294967307
+0 LEAVE 0 4294967307 4294967303
+0 = true
+0 ENTER 1 4294967301 4294967305
+0 MARK 1 4294967305 4294967307
+0 LEAVE 1 4294967307 4294967303
+0 = true
+1 LEAVE 0 4294967303 4294967299
+1 CLAIM 0 4294967299 8589934592
+1 LINK 0 0 0
+1 PUSH 0.1 0 1
+1 = ok
+1 LEAVE 1 4294967303 4294967299
+1 CLAIM 1 4294967299 8589934592
+1 LINK 1 0 1
+0 TAKE 0.1 1 0
+0 FOLLOW 0 0 0
+0 = filling 33554432
+1 PUSH 0.1 0 0
+1 LINK 1 1 0
+1 PUSH 0.1 0 2
+1 = ok
+0 TAKE 0.1 2 0
+0 FOLLOW 1 0 0
+0 = filling 33554433
+;
+a tag
+{\"shape\":{\"lanes\":1,\"first_page\":1,\"pages\":1,\"last_generation\":4294967295,\"tag\":5},\"scripts\":[[[\"create\",0],[\"publish\",0],[\"get\",1,16777216],[\"get\",1,\"@0\"]]]}
+0,0
+0 = filling 360287970206416896
+0 PUBLISH 0 4294967296 4294967297
+0 = key 360287970206416896
+0 = none
+0 ENTER 0 4294967297 4294967301
+0 = some -
+";
 
-// Scripts, schedules and how their traces end.
-const ENDS: [Row; 3] = [
-    // a place comes back to its shard
-    (
-        "{\"shape\":{\"lanes\":2,\"first_page\":1,\"pages\":1,\"last_generation\":4294967295},\"scripts\":[[[\"create\",0],[\"publish\",0],[\"clear\",16777216],[\"create\",1],[\"publish\",1]],[[\"get\",0,16777216],[\"release\",0]]]}",
-        &[0, 1, 0, 0, 0, 1, 1, 1, 1, 0, 0, 0],
-        "1 LEAVE 0 4294967303 4294967299\n1 CLAIM 0 4294967299 8589934592\n1 LINK 0 0 0\n1 PUSH 0.1 0 1\n1 = ok\n0 TAKE 0.1 1 0\n0 FOLLOW 0 0 0\n0 = filling 33554432\n0 PUBLISH 0 8589934592 8589934593\n0 = key 33554432\n",
-    ),
-    // the oldest place first
-    (
-        "{\"shape\":{\"lanes\":1,\"first_page\":2,\"pages\":1,\"last_generation\":4294967295},\"scripts\":[[[\"create\",0],[\"publish\",0],[\"create\",1],[\"publish\",1],[\"clear\",16777216],[\"clear\",16777217],[\"create\",2],[\"create\",3]]]}",
-        &[0, 0, 0, 0, 0, 0, 0, 0, 0, 0],
-        "0 = filling 33554432\n0 = filling 33554433\n",
-    ),
-    // a place that was never used before one that was
-    (
-        "{\"shape\":{\"lanes\":1,\"first_page\":4,\"pages\":1,\"last_generation\":4294967295},\"scripts\":[[[\"create\",0],[\"publish\",0],[\"clear\",16777216],[\"create\",1]]]}",
-        &[0, 0, 0, 0, 0],
-        "0 = filling 16777217\n",
-    ),
-];
-
-/// The text of a replay ends thus.
-fn ends<R: Abort + AllocGlobal>(rt: &R, file: &str, schedule: &[u32], end: &str) {
-    let text = replay_of(rt, file, schedule, false);
-    assert!(rt; text.as_slice().ends_with(end.as_bytes()), "at {file}");
-}
-
-#[test]
-fn replays_rows(rt: HostRuntime) {
-    for (file, schedule, trace) in &ROWS {
-        replays_as(&rt, file, schedule, false, trace);
-    }
-    for (file, schedule, end) in &ENDS {
-        ends(&rt, file, schedule, end);
-    }
-}
-
-/// The acts of rows are legal.
-fn are_legal<R: Abort + AllocGlobal>(rt: &R, rows: &[Row]) {
-    for (file, schedule, _) in rows {
-        check_of(rt, file, schedule);
-    }
-}
-
-#[test]
-fn acts_of_rows_are_legal(rt: HostRuntime) {
-    are_legal(&rt, &ROWS);
-    are_legal(&rt, &ENDS);
-}
-
-// Scripts and schedules, with each lane stopped after each of its turns.
-const STOPPED: [(&str, &[u32]); 4] = [
-    // a stranger clears
-    (
-        "{\"shape\":{\"lanes\":2,\"first_page\":1,\"pages\":1,\"last_generation\":4294967295},\"scripts\":[[[\"create\",0],[\"downgrade\",0],[\"clear\",16777216],[\"release\",0]],[[\"get\",0,16777216]]]}",
-        &[0, 0, 0, 0, 0, 1, 0, 1, 1, 1, 1],
-    ),
-    // one clearing
-    (
-        "{\"shape\":{\"lanes\":2,\"first_page\":1,\"pages\":1,\"last_generation\":4294967295},\"scripts\":[[[\"create\",0],[\"downgrade\",0],[\"clear\",16777216],[\"release\",0]],[[\"get\",0,16777216]]]}",
-        &[0, 0, 0, 0, 0, 1, 1, 0, 1],
-    ),
-    // a mark while others refer to the object
-    (
-        "{\"shape\":{\"lanes\":2,\"first_page\":1,\"pages\":1,\"last_generation\":4294967295},\"scripts\":[[[\"create\",0],[\"write\",0,\"61\"],[\"publish\",0],[\"get\",1,16777216],[\"clear\",16777216],[\"get\",2,16777216],[\"read\",1],[\"release\",1]],[[\"get\",0,16777216],[\"clear\",16777216],[\"read\",0],[\"release\",0]]]}",
-        &[0, 0, 1, 0, 0, 0, 0, 0, 0, 1, 1, 1, 1, 1, 1],
-    ),
-    // a TAKE between a LINK and its PUSH
-    (
-        "{\"shape\":{\"lanes\":2,\"first_page\":2,\"pages\":1,\"last_generation\":4294967295},\"scripts\":[[[\"create\",0],[\"publish\",0],[\"create\",1],[\"publish\",1],[\"clear\",16777216],[\"clear\",16777217],[\"create\",2],[\"create\",3]],[[\"get\",0,16777216],[\"get\",1,16777217],[\"release\",0],[\"release\",1]]]}",
-        &[
-            0, 0, 1, 1, 0, 0, 0, 0, 0, 0, 1, 1, 1, 1, 1, 1, 1, 0, 0, 1, 1, 1, 0, 0,
-        ],
-    ),
-];
+// Titles, and below each a script file, a schedule and how the trace ends.
+const ENDS: &str = "a place comes back to its shard
+{\"shape\":{\"lanes\":2,\"first_page\":1,\"pages\":1,\"last_generation\":4294967295},\"scripts\":[[[\"create\",0],[\"publish\",0],[\"clear\",16777216],[\"create\",1],[\"publish\",1]],[[\"get\",0,16777216],[\"release\",0]]]}
+0,1,0,0,0,1,1,1,1,0,0,0
+1 LEAVE 0 4294967303 4294967299
+1 CLAIM 0 4294967299 8589934592
+1 LINK 0 0 0
+1 PUSH 0.1 0 1
+1 = ok
+0 TAKE 0.1 1 0
+0 FOLLOW 0 0 0
+0 = filling 33554432
+0 PUBLISH 0 8589934592 8589934593
+0 = key 33554432
+;
+the oldest place first
+{\"shape\":{\"lanes\":1,\"first_page\":2,\"pages\":1,\"last_generation\":4294967295},\"scripts\":[[[\"create\",0],[\"publish\",0],[\"create\",1],[\"publish\",1],[\"clear\",16777216],[\"clear\",16777217],[\"create\",2],[\"create\",3]]]}
+0,0,0,0,0,0,0,0,0,0
+0 = filling 33554432
+0 = filling 33554433
+;
+a place that was never used before one that was
+{\"shape\":{\"lanes\":1,\"first_page\":4,\"pages\":1,\"last_generation\":4294967295},\"scripts\":[[[\"create\",0],[\"publish\",0],[\"clear\",16777216],[\"create\",1]]]}
+0,0,0,0,0
+0 = filling 16777217
+";
 
 /// The schedule without a lane's turns after so many.
 fn stopped<R: Abort + AllocGlobal>(rt: &R, schedule: &[u32], lane: u32, after: u32) -> Vec<u32> {
@@ -202,11 +328,45 @@ fn stay_legal<R: Abort + AllocGlobal>(rt: &R, file: &str, schedule: &[u32], lane
     }
 }
 
+/// The acts are legal, with all turns and after however many turns one of two lanes stops.
+fn are_legal<R: Abort + AllocGlobal>(rt: &R, file: &str, schedule: &[u32]) {
+    check_of(rt, file, schedule);
+    stay_legal(rt, file, schedule, 0);
+    stay_legal(rt, file, schedule, 1);
+}
+
+/// The script file, the schedule and the text of a row.
+fn parts_of<'a, R: Abort>(rt: &R, row: &'a str) -> (&'a str, &'a str, &'a str) {
+    let (_title, rest) = row.trim_start().split_once('\n').expect(rt, "a title");
+    let (file, rest) = rest.split_once('\n').expect(rt, "a file");
+    let (schedule, text) = rest.split_once('\n').expect(rt, "a schedule");
+    (file, schedule, text)
+}
+
+/// The trace of a row is its text, and its acts are legal.
+fn replays<R: Abort + AllocGlobal>(rt: &R, row: &str) {
+    let (file, schedule, trace) = parts_of(rt, row);
+    let schedule = schedule_of(rt, schedule);
+    replays_as(rt, file, schedule.as_slice(), false, trace);
+    are_legal(rt, file, schedule.as_slice());
+}
+
+/// The trace of a row ends with its text, and its acts are legal.
+fn ends<R: Abort + AllocGlobal>(rt: &R, row: &str) {
+    let (file, schedule, end) = parts_of(rt, row);
+    let schedule = schedule_of(rt, schedule);
+    let text = replay_of(rt, file, schedule.as_slice(), false);
+    assert!(rt; text.as_slice().ends_with(end.as_bytes()), "at {row}");
+    are_legal(rt, file, schedule.as_slice());
+}
+
 #[test]
-fn acts_with_stopped_lanes_are_legal(rt: HostRuntime) {
-    for (file, schedule) in &STOPPED {
-        stay_legal(&rt, file, schedule, 0);
-        stay_legal(&rt, file, schedule, 1);
+fn replays_rows(rt: HostRuntime) {
+    for row in ROWS.split(';') {
+        replays(&rt, row);
+    }
+    for row in ENDS.split(';') {
+        ends(&rt, row);
     }
 }
 

@@ -1,15 +1,15 @@
-ghost use Rattle.std.specs.Prelude.{◌≡◌, ◌*◌, ◌<◌, IfOk};
+ghost use Rattle.std.specs.Prelude.{◌≡◌, ◌*◌, ◌<◌};
 ghost use Rattle.poolsteps.specs.Grids.{IsSpot, IsFirstHand};
 ghost use Rattle.poolsteps.specs.Moved.{stored_of};
 ghost use Rattle.poolcalls.specs.Carried.{ShowsCell};
 
+use crate::test_calls::same;
 use keybits::Shape;
 use poolcalls::{rest_cell, spread_cell, spread_others, take_cell, take_resting};
 use poolsteps::{Grid, Hand, Spot};
 use slotcell::{ByteBuf, Clear, Share, Whole};
 use std::alloc::Global;
 use std::process::Abort;
-use std::test::Fail;
 
 const ONE_LANE: Shape = Shape {
     lanes: 1,
@@ -30,16 +30,23 @@ const THREE_LANES: Shape = Shape {
 };
 
 /// A grid of this shape, and the hand of one of its lanes.
-fn grid_of<T: Clear>(alloc: Global, shape: &Shape, lane: u32) -> Result<(Grid<T>, Hand<T>), Fail>
-    ensures lane { IfOk result (λ made. lane < made.0.shape.lanes) }
-    ensures hand { IfOk result (λ made. IsFirstHand made.0 lane made.1) }
+fn grid_of<T: Clear, R: Abort>(
+    rt: &R,
+    alloc: Global,
+    shape: &Shape,
+    lane: u32,
+) -> (Grid<T>, Hand<T>)
+    ensures lane { lane < result.0.shape.lanes }
+    ensures hand { IsFirstHand result.0 lane result.1 }
 {
-    shape.check()?;
-    let (grid, mut hands) = Grid::new(alloc, shape).ok_or("no memory")?;
+    assert!(rt; shape.check().is_ok());
+    let Some((grid, mut hands)) = Grid::new(alloc, shape) else {
+        panic!(rt; "no memory for a grid")
+    };
     if lane >= grid.shape.lanes {
-        return Err(Fail::from("no lane"));
+        panic!(rt; "no lane");
     }
-    Ok((grid, hands.swap_remove(lane as usize)))
+    (grid, hands.swap_remove(lane as usize))
 }
 
 /// A lane puts a cell into the slots of its first place and takes it out, puts it to rest and takes it out, and then puts the
@@ -82,19 +89,19 @@ fn first_place<T: Clear, R: Abort>(rt: &R, grid: &Grid<T>, lane: u32) -> Spot
     grid.find(lane << 16).expect(rt, "a place")
 }
 
+/// The first place of a lane is moved about in a grid of this shape.
+fn moves<R: Abort>(rt: &R, alloc: Global, shape: &Shape, lane: u32) {
+    let (grid, mut hand) = grid_of(rt, alloc, shape, lane);
+    let spot = first_place(rt, &grid, lane);
+    let whole = object_of(rt, alloc, 7);
+    let share = move_about(alloc, &grid, &mut hand, spot, lane, whole);
+    same(rt, &share.read().as_slice(), &[7].as_slice());
+}
+
 #[test]
-fn moves_whole_cells(rt: HostRuntime) -> Result<(), Fail> {
-    for (shape, lane) in [
-        (ONE_LANE, 0),
-        (TWO_LANES, 0),
-        (TWO_LANES, 1),
-        (THREE_LANES, 1),
-    ] {
-        let (grid, mut hand) = grid_of(rt.alloc(), &shape, lane)?;
-        let spot = first_place(&rt, &grid, lane);
-        let whole = object_of(&rt, rt.alloc(), 7);
-        let share = move_about(rt.alloc(), &grid, &mut hand, spot, lane, whole);
-        assert_eq!(rt; share.read().as_slice(), [7].as_slice());
-    }
-    Ok(())
+fn moves_whole_cells(rt: HostRuntime) {
+    moves(&rt, rt.alloc(), &ONE_LANE, 0);
+    moves(&rt, rt.alloc(), &TWO_LANES, 0);
+    moves(&rt, rt.alloc(), &TWO_LANES, 1);
+    moves(&rt, rt.alloc(), &THREE_LANES, 1);
 }

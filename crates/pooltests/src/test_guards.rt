@@ -1,48 +1,11 @@
-ghost use Rattle.std.specs.Prelude.{◌≡◌, [], ◌∷◌, length, IfOk};
+ghost use Rattle.std.specs.Prelude.{◌≡◌};
 ghost use Rattle.shardpool.specs.Lanes.{Owns, refs};
 
-use crate::test_calls::same;
+use crate::test_calls::{open_last, same, shape_of};
 use guards::{FillGuard, ReadGuard, create_with, with};
-use keybits::Shape;
-use shardpool::{CreateFault, Lane, Pool, open};
-use slotcell::{ByteBuf, Clear, Record};
-use std::alloc::Global;
+use shardpool::{CreateFault, Lane, Pool};
+use slotcell::{ByteBuf, Record};
 use std::process::Abort;
-use std::test::Fail;
-
-const TWO_PLACES: Shape = Shape {
-    lanes: 1,
-    first_page: 2,
-    pages: 1,
-    last_generation: 4294967295,
-    tag: 0,
-};
-
-const ONE_PLACE: Shape = Shape {
-    lanes: 1,
-    first_page: 1,
-    pages: 1,
-    last_generation: 4294967295,
-    tag: 0,
-};
-
-/// The lane, of which there is one.
-fn one_of<T: Clear + Drop>(mut lanes: Vec<Lane<T>>) -> Lane<T>
-    requires { length lanes.items ≡ 1 }
-    ensures { lanes.items ≡ result ∷ [] }
-{
-    lanes.pop().unwrap()
-}
-
-/// The pool of a shape with one lane, and the lane.
-fn open_one<T: Clear + Drop>(alloc: Global, shape: Shape) -> Result<(Pool<T>, Lane<T>), Fail>
-    requires { shape.lanes ≡ 1 }
-    ensures { IfOk result (λ made. Owns made.0 made.1 × (refs made.1 ≡ 0)) }
-{
-    let (pool, lanes) = open(alloc, shape)?;
-    let lane = one_of(lanes);
-    Ok((pool, lane))
-}
 
 /// Fills a place by a guard. Without a number the guard is dropped in the middle.
 fn filled(
@@ -99,57 +62,13 @@ fn is_called(pool: &Pool<ByteBuf>, lane: &mut Lane<ByteBuf>, key: u64) -> bool
 }
 
 #[test]
-fn closures_run_between_the_calls(rt: HostRuntime) -> Result<(), Fail> {
-    let (pool, mut lane) = open_one::<ByteBuf>(rt.alloc(), TWO_PLACES)?;
+fn closures_run_between_the_calls(rt: HostRuntime) {
+    let (pool, mut lane) = open_last(&rt, rt.alloc(), shape_of(1, 2, 1));
     same(&rt, &create_two_bytes(&pool, &mut lane), &Ok(16777216));
     same(&rt, &length_of(&pool, &mut lane, 16777216), &Some(2));
     assert!(rt; pool.clear(&mut lane, 16777216));
     same(&rt, &length_of(&pool, &mut lane, 16777216), &None);
     assert!(rt; !is_called(&pool, &mut lane, 16777216));
-    Ok(())
-}
-
-/// A guard fills a place, and publishes it when it is dropped.
-fn fill_by_guard<R: Abort>(rt: &R, pool: &Pool<ByteBuf>, lane: &mut Lane<ByteBuf>)
-    requires { Owns pool.now lane.old × (refs lane.old ≡ 0) }
-    ensures { Owns pool.now lane.new × (refs lane.new ≡ 0) }
-{
-    let mut guard = FillGuard::new(lane, pool).ok().expect(rt, "a place");
-    same(rt, &guard.key(), &16777216);
-    let _ = guard.value_mut().append(b"hi");
-    same(rt, &guard.value().len(), &2);
-}
-
-/// A guard reads what was published, and gives its reference back when it is dropped.
-fn read_by_guard<R: Abort>(rt: &R, pool: &Pool<ByteBuf>, lane: &mut Lane<ByteBuf>)
-    requires { Owns pool.now lane.old × (refs lane.old ≡ 0) }
-    ensures { Owns pool.now lane.new × (refs lane.new ≡ 0) }
-{
-    let guard = ReadGuard::new(lane, pool, 16777216).expect(rt, "a published key");
-    same(rt, &guard.key(), &16777216);
-    assert_eq!(rt; guard.value().as_slice(), b"hi".as_slice());
-}
-
-/// A guard that fills becomes one that reads.
-fn downgrade_guard<R: Abort>(rt: &R, pool: &Pool<ByteBuf>, lane: &mut Lane<ByteBuf>)
-    requires { Owns pool.now lane.old × (refs lane.old ≡ 0) }
-{
-    let guard = FillGuard::new(lane, pool).ok().expect(rt, "a place");
-    same(rt, &guard.key(), &33554432);
-    let guard = guard.downgrade();
-    same(rt, &guard.key(), &33554432);
-    assert!(rt; guard.value().is_empty());
-}
-
-#[test]
-fn guards_end_by_themselves(rt: HostRuntime) -> Result<(), Fail> {
-    let (pool, mut lane) = open_one::<ByteBuf>(rt.alloc(), ONE_PLACE)?;
-    fill_by_guard(&rt, &pool, &mut lane);
-    read_by_guard(&rt, &pool, &mut lane);
-    same(&rt, &lane.refs(), &0);
-    assert!(rt; pool.clear(&mut lane, 16777216));
-    downgrade_guard(&rt, &pool, &mut lane);
-    Ok(())
 }
 
 /// How many numbers a key's record has.
@@ -160,9 +79,23 @@ fn numbers_of(pool: &Pool<Record>, lane: &mut Lane<Record>, key: u64) -> Option<
     with(pool, lane, key, |record: &Record| record.as_slice().len())
 }
 
+/// A guard that fills becomes one that reads.
+fn downgrade_guard<R: Abort>(rt: &R, pool: &Pool<Record>, lane: &mut Lane<Record>)
+    requires { Owns pool.now lane.old × (refs lane.old ≡ 0) }
+{
+    let Ok(guard) = FillGuard::new(lane, pool) else {
+        panic!(rt; "no place")
+    };
+    same(rt, &guard.key(), &50331648);
+    same(rt, &guard.value().as_slice().len(), &0);
+    let guard = guard.downgrade();
+    same(rt, &guard.key(), &50331648);
+    same(rt, &guard.value().as_slice().len(), &0);
+}
+
 #[test]
-fn guards_end_in_the_middle(rt: HostRuntime) -> Result<(), Fail> {
-    let (pool, mut lane) = open_one::<Record>(rt.alloc(), ONE_PLACE)?;
+fn guards_end_by_themselves(rt: HostRuntime) {
+    let (pool, mut lane) = open_last(&rt, rt.alloc(), shape_of(1, 1, 1));
     same(
         &rt,
         &filled(&pool, &mut lane, None),
@@ -175,5 +108,6 @@ fn guards_end_in_the_middle(rt: HostRuntime) -> Result<(), Fail> {
     same(&rt, &first_of(&pool, &mut lane, 33554432), &Some(7));
     same(&rt, &first_of(&pool, &mut lane, 16777216), &None);
     same(&rt, &lane.refs(), &0);
-    Ok(())
+    assert!(rt; pool.clear(&mut lane, 33554432));
+    downgrade_guard(&rt, &pool, &mut lane);
 }

@@ -16,15 +16,22 @@ fn publish_one<R: Abort>(rt: &R, pool: &Pool<ByteBuf>, lane: &mut Lane<ByteBuf>)
     pool.downgrade(lane, filling)
 }
 
-/// The key of the place that a create gives, which is never published.
-fn created_key(pool: &Pool<ByteBuf>, lane: &mut Lane<ByteBuf>) -> Result<u64, CreateFault>
+/// The key of the place that a create gives, which is never published; 0 where no place is free.
+fn created_key<R: Abort>(rt: &R, pool: &Pool<ByteBuf>, lane: &mut Lane<ByteBuf>) -> u64
     requires { Owns pool.now lane.old }
     ensures { Owns pool.now lane.new }
 {
-    let filling = pool.create(lane)?;
-    let key = filling.key();
-    filling.leave();
-    Ok(key)
+    match pool.create(lane) {
+        Ok(filling) => {
+            let key = filling.key();
+            filling.leave();
+            key
+        }
+        Err(fault) => {
+            same(rt, &fault, &CreateFault::Full);
+            0
+        }
+    }
 }
 
 /// Whether a get of a key finds it. The reference is given back.
@@ -43,14 +50,14 @@ fn finds<R: Abort>(rt: &R, pool: &Pool<ByteBuf>, lane: &mut Lane<ByteBuf>, key: 
     }
 }
 
-/// Lane 1 stops in a get of a key that lane 0 has cleared, and lane 0 gives its last reference to the key back. What it then creates.
+/// Lane 1 stops in a get of a key that lane 0 has cleared, and lane 0 gives its last reference to the key back. The key that it then creates.
 fn create_after_get<R: Abort>(
     rt: &R,
     pool: &Pool<ByteBuf>,
     first: &mut Lane<ByteBuf>,
     second: Lane<ByteBuf>,
     limit: u32,
-) -> Result<u64, CreateFault>
+) -> u64
     requires first { Owns pool.now first.old × (refs first.old ≡ 0) }
     requires second { Owns pool.now second × (refs second ≡ 0) }
 {
@@ -61,7 +68,7 @@ fn create_after_get<R: Abort>(
     pool.release(first, reference);
     assert!(rt; !finds(rt, pool, first, 16777216));
     clear(rt, pool, first, 16777216, false);
-    created_key(pool, first)
+    created_key(rt, pool, first)
 }
 
 /// Lane 1 stops in a clear of a key to which lane 0 refers. Whether lane 0 then finds the key.
@@ -84,14 +91,14 @@ fn finds_after_clear<R: Abort>(
     found
 }
 
-/// Lane 1 stops in a release of the last reference to a key that is cleared. What lane 0 then creates.
+/// Lane 1 stops in a release of the last reference to a key that is cleared. The key that lane 0 then creates.
 fn create_after_release<R: Abort>(
     rt: &R,
     pool: &Pool<ByteBuf>,
     first: &mut Lane<ByteBuf>,
     mut second: Lane<ByteBuf>,
     limit: u32,
-) -> Result<u64, CreateFault>
+) -> u64
     requires first { Owns pool.now first.old × (refs first.old ≡ 0) }
     requires second { Owns pool.now second × (refs second ≡ 0) }
 {
@@ -100,7 +107,7 @@ fn create_after_release<R: Abort>(
     pool.release(first, reference);
     clear(rt, pool, first, other.key(), true);
     pool.halt(second, LastCall::Release(other), limit).leave();
-    created_key(pool, first)
+    created_key(rt, pool, first)
 }
 
 /// Lane 1 stops in a create, after lane 0 has returned its place. Lane 0 goes on.
@@ -121,17 +128,13 @@ fn stop_in_create<R: Abort>(
     clear(rt, pool, first, key, true);
     let halted = pool.halt(second, LastCall::Create, limit);
     assert!(rt; !finds(rt, pool, first, key));
-    same(rt, &created_key(pool, first), &Ok(16777216));
+    same(rt, &created_key(rt, pool, first), &16777216);
     halted.leave();
 }
 
 #[test]
 fn a_halted_get_keeps_its_enter(rt: HostRuntime) {
-    for (limit, created) in [
-        (0, Ok(33554432)),
-        (1, Err(CreateFault::Full)),
-        (100, Ok(33554432)),
-    ] {
+    for (limit, created) in [(0, 33554432), (1, 0), (100, 33554432)] {
         let (pool, mut first, second) = open_pair(&rt, rt.alloc(), shape_of(2, 1, 1));
         same(
             &rt,
@@ -155,7 +158,7 @@ fn a_halted_clear_marks_or_not(rt: HostRuntime) {
 
 #[test]
 fn a_halted_release_keeps_its_reference_or_not(rt: HostRuntime) {
-    for (limit, created) in [(0, Err(CreateFault::Full)), (100, Ok(33554432))] {
+    for (limit, created) in [(0, 0), (100, 33554432)] {
         let (pool, mut first, second) = open_pair(&rt, rt.alloc(), shape_of(2, 1, 1));
         same(
             &rt,

@@ -8,7 +8,6 @@ use poolsteps::{Grid, Hand, Spot, acts_law};
 use slotcell::{Clear, Share, Whole};
 use std::alloc::Global;
 use std::process::Abort;
-use std::test::Fail;
 
 /// Lane 0 publishes.
 fn publish_first<T: Clear + Drop>(grid: &Grid<T>, hand: &mut Hand<T>, spot: Spot, whole: Whole<T>)
@@ -81,20 +80,18 @@ fn get_and_release<T: Clear + Drop, R: Abort>(
 }
 
 #[test]
-fn publishes_and_clears(rt: HostRuntime) -> Result<(), Fail> {
-    let (grid, mut first, mut second) = grid_of_two(rt.alloc())?;
+fn publishes_and_clears(rt: HostRuntime) {
+    let (grid, mut first, mut second) = grid_of_two(&rt, rt.alloc());
     let spot = grid.spot(0);
     publish_first(&grid, &mut first, spot, object_of(&rt, rt.alloc(), 7));
     clear_alone(&rt, rt.alloc(), &grid, &mut second, spot);
-    Ok(())
 }
 
 #[test]
-fn gets_and_releases(rt: HostRuntime) -> Result<(), Fail> {
-    let (grid, mut first, mut second) = grid_of_two(rt.alloc())?;
+fn gets_and_releases(rt: HostRuntime) {
+    let (grid, mut first, mut second) = grid_of_two(&rt, rt.alloc());
     let spot = grid.spot(0);
     let share = downgrade_first(&grid, &mut first, spot, object_of(&rt, rt.alloc(), 7));
     get_and_release(&rt, rt.alloc(), &grid, &mut second, spot);
     assert_eq!(rt; share.read().as_slice(), [7].as_slice());
-    Ok(())
 }

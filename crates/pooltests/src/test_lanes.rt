@@ -4,12 +4,13 @@ ghost use Rattle.shardpool.specs.Lanes.{Owns, refs};
 ghost use Rattle.guards.specs.Here.{HoldNothing};
 
 use crate::test_calls::{NO_PLACE, clear, create, get, same, shape_of};
-use guards::{Missing, Opened, open_lanes};
+use guards::{Opened, open_lanes};
 use shardpool::{Census, Lane, Pool};
 use slotcell::ByteBuf;
 use std::alloc::Global;
 use std::process::Abort;
 use std::thread;
+use std::thread::Threads;
 
 /// A pool of so many lanes, with pages of 1 and 2 places.
 fn open_of<R: Abort>(rt: &R, alloc: Global, lanes: u32) -> Opened<ByteBuf>
@@ -51,36 +52,79 @@ fn counts<R: Abort>(rt: &R, opened: Opened<ByteBuf>, free: u32, unopened: u32) {
     );
 }
 
+/// The lane of this number, which is here.
+fn take<R: Abort>(rt: &R, opened: &mut Opened<ByteBuf>, number: u32) -> Lane<ByteBuf>
+    requires { HoldNothing opened.old.lanes }
+    ensures pool { opened.new.pool ≡ opened.old.pool }
+    ensures nothing { HoldNothing opened.new.lanes }
+    ensures lane { Owns opened.new.pool result × (refs result ≡ 0) }
+{
+    let Some(lane) = opened.lanes.take(number) else {
+        panic!(rt; "lane {number} is missing")
+    };
+    lane
+}
+
+/// No lane of this number is here.
+fn lacks<R: Abort>(rt: &R, opened: &mut Opened<ByteBuf>, number: u32)
+    ensures { opened.new.pool ≡ opened.old.pool }
+{
+    assert!(rt; opened.lanes.take(number).is_none());
+}
+
+/// A lane is given back, which was missing.
+fn give<R: Abort>(rt: &R, opened: &mut Opened<ByteBuf>, lane: Lane<ByteBuf>)
+    requires { Owns opened.old.pool lane }
+    ensures { opened.new.pool ≡ opened.old.pool }
+{
+    assert!(rt; opened.lanes.give(lane).is_none());
+}
+
+/// Two lanes serve, each in a thread of its own.
+fn serve_on_threads<R: Threads + Abort + Sync>(
+    rt: &R,
+    pool: &Pool<ByteBuf>,
+    first: Lane<ByteBuf>,
+    second: Lane<ByteBuf>,
+) -> (Lane<ByteBuf>, Lane<ByteBuf>)
+    requires first { Owns pool.now first × (refs first ≡ 0) }
+    requires second { Owns pool.now second × (refs second ≡ 0) }
+    ensures first { Owns pool.now result.0 }
+    ensures second { Owns pool.now result.1 }
+{
+    thread::join(rt, || serve(rt, pool, first), || serve(rt, pool, second))
+}
+
 #[test]
 fn two_lanes_come_back_from_threads(rt: HostRuntime) {
     let mut opened = open_of(&rt, rt.alloc(), 2);
-    let (Some(first), Some(second)) = (opened.lanes.take(0), opened.lanes.take(1)) else {
-        panic!(&rt; "no lane")
-    };
-    let pool = &opened.pool;
-    let (first, second) = thread::join(
-        &rt,
-        || serve(&rt, pool, first),
-        || serve(&rt, pool, second),
-    );
-    opened.lanes.give(second);
-    opened.lanes.give(first);
+    let first = take(&rt, &mut opened, 0);
+    let second = take(&rt, &mut opened, 1);
+    let (first, second) = serve_on_threads(&rt, &opened.pool, first, second);
+    give(&rt, &mut opened, second);
+    give(&rt, &mut opened, first);
     counts(&rt, opened, 2, 4);
+}
+
+/// A close names this lane as missing, and gives all back.
+fn names<R: Abort>(rt: &R, opened: Opened<ByteBuf>, number: u32) -> Opened<ByteBuf>
+    ensures { result.pool ≡ opened.pool }
+{
+    let Err(missing) = opened.close() else {
+        panic!(rt; "no lane is missing")
+    };
+    same(rt, &missing.number, &number);
+    missing.opened
 }
 
 #[test]
 fn a_close_names_the_lane_that_is_missing(rt: HostRuntime) {
     let mut opened = open_of(&rt, rt.alloc(), 3);
-    let Some(lane) = opened.lanes.take(1) else {
-        panic!(&rt; "no lane")
-    };
-    assert!(&rt; opened.lanes.take(1).is_none());
-    assert!(&rt; opened.lanes.take(3).is_none());
-    let Err(Missing { number, mut opened }) = opened.close() else {
-        panic!(&rt; "no lane is missing")
-    };
-    same(&rt, &number, &1);
-    assert!(&rt; opened.lanes.give(lane).is_none());
+    let lane = take(&rt, &mut opened, 1);
+    lacks(&rt, &mut opened, 1);
+    lacks(&rt, &mut opened, 3);
+    let mut opened = names(&rt, opened, 1);
+    give(&rt, &mut opened, lane);
     counts(&rt, opened, 0, 9);
 }
 

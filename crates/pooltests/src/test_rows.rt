@@ -4,92 +4,21 @@ ghost use Rattle.shardpool.specs.Tokens.{LaneOf};
 ghost use Rattle.shardpool.specs.Lanes.{Owns, Made, holds, refs};
 
 use crate::test_calls::{
-    LAST, clear, create, fill, finds_full, get, misses, open_last, open_pair, publish, reads, same,
+    clear, create, fill, finds_full, get, misses, open_last, open_pair, publish, reads, same,
     shape_of, tell, write,
 };
-use keybits::Shape;
 use shardpool::{Filling, Lane, Pool, Ref};
 use slotcell::{ByteBuf, Clear, Record};
+use std::alloc::Global;
 use std::process::Abort;
 
-// Keys of place 0 of shard 0, at its first and its second generation, and of the next place.
+// Keys of place 0 of shard 0, at its first and its second generation.
 const FIRST: u64 = 16777216;
 
 const AGAIN: u64 = 33554432;
 
-const NEXT: u64 = 16777217;
-
 // The places of a lane of the largest shape.
 const PLACES: u32 = 4032;
-
-fn publish_read_clear<R: Abort>(rt: &R, pool: &Pool<ByteBuf>, lane: &mut Lane<ByteBuf>)
-    requires owns { Owns pool.now lane.old }
-    requires room { refs lane.old < 1000 }
-{
-    publish(rt, pool, lane, FIRST, b"hi");
-    let reference = get(rt, pool, lane, FIRST);
-    reads(rt, lane, &reference, b"hi");
-    pool.release(lane, reference);
-    clear(rt, pool, lane, FIRST, true);
-}
-
-#[test]
-fn reads_what_was_published(rt: HostRuntime) {
-    let (pool, mut lane) = open_last(&rt, rt.alloc(), shape_of(1, 2, 1));
-    publish_read_clear(&rt, &pool, &mut lane);
-}
-
-fn get_of_a_filling<R: Abort>(rt: &R, pool: &Pool<ByteBuf>, lane: &mut Lane<ByteBuf>)
-    requires owns { Owns pool.now lane.old }
-    requires room { refs lane.old < 1000 }
-{
-    let filling = fill(rt, pool, lane, FIRST, b"");
-    filling.leave();
-    misses(rt, pool, lane, FIRST);
-}
-
-#[test]
-fn finds_no_filling(rt: HostRuntime) {
-    let (pool, mut lane) = open_last(&rt, rt.alloc(), shape_of(1, 2, 1));
-    get_of_a_filling(&rt, &pool, &mut lane);
-}
-
-fn publish_again<R: Abort>(rt: &R, pool: &Pool<ByteBuf>, lane: &mut Lane<ByteBuf>)
-    requires owns { Owns pool.now lane.old }
-    requires room { refs lane.old < 1000 }
-{
-    publish(rt, pool, lane, FIRST, b"");
-    clear(rt, pool, lane, FIRST, true);
-    publish(rt, pool, lane, AGAIN, b"b");
-    misses(rt, pool, lane, FIRST);
-    let reference = get(rt, pool, lane, AGAIN);
-    reads(rt, lane, &reference, b"b");
-    reference.leave();
-}
-
-#[test]
-fn finds_no_newer_object_by_an_old_key(rt: HostRuntime) {
-    let (pool, mut lane) = open_last(&rt, rt.alloc(), shape_of(1, 1, 1));
-    publish_again(&rt, &pool, &mut lane);
-}
-
-fn clear_while_held<R: Abort>(rt: &R, pool: &Pool<ByteBuf>, lane: &mut Lane<ByteBuf>)
-    requires owns { Owns pool.now lane.old }
-    requires room { refs lane.old < 1000 }
-{
-    let filling = fill(rt, pool, lane, FIRST, b"");
-    let reference = pool.downgrade(lane, filling);
-    clear(rt, pool, lane, FIRST, true);
-    clear(rt, pool, lane, FIRST, false);
-    pool.release(lane, reference);
-    clear(rt, pool, lane, FIRST, false);
-}
-
-#[test]
-fn marks_a_key_once(rt: HostRuntime) {
-    let (pool, mut lane) = open_last(&rt, rt.alloc(), shape_of(1, 1, 1));
-    clear_while_held(&rt, &pool, &mut lane);
-}
 
 /// Both lanes read on after a clear, until each gives its reference back.
 fn read_on<R: Abort>(
@@ -131,12 +60,6 @@ fn clear_under_two<R: Abort>(
     read_on(rt, pool, first, second, one, other);
 }
 
-#[test]
-fn reads_on_after_a_clear_of_another_lane(rt: HostRuntime) {
-    let (pool, mut first, mut second) = open_pair(&rt, rt.alloc(), shape_of(2, 1, 1));
-    clear_under_two(&rt, &pool, &mut first, &mut second);
-}
-
 fn return_and_publish<R: Abort>(
     rt: &R,
     pool: &Pool<ByteBuf>,
@@ -151,12 +74,6 @@ fn return_and_publish<R: Abort>(
     clear(rt, pool, first, FIRST, true);
     pool.release(second, reference);
     publish(rt, pool, first, AGAIN, b"");
-}
-
-#[test]
-fn publishes_a_returned_place(rt: HostRuntime) {
-    let (pool, mut first, mut second) = open_pair(&rt, rt.alloc(), shape_of(2, 1, 1));
-    return_and_publish(&rt, &pool, &mut first, &mut second);
 }
 
 fn clear_of_a_held_key<R: Abort>(
@@ -176,29 +93,6 @@ fn clear_of_a_held_key<R: Abort>(
     reference.leave();
 }
 
-#[test]
-fn reads_what_another_lane_cleared(rt: HostRuntime) {
-    let (pool, mut first, mut second) = open_pair(&rt, rt.alloc(), shape_of(2, 1, 1));
-    clear_of_a_held_key(&rt, &pool, &mut first, &mut second);
-}
-
-fn calls_of_no_key<R: Abort>(rt: &R, pool: &Pool<ByteBuf>, lane: &mut Lane<ByteBuf>)
-    requires owns { Owns pool.now lane.old }
-    requires room { refs lane.old < 1000 }
-{
-    misses(rt, pool, lane, 0);
-    misses(rt, pool, lane, 18446744073709551615);
-    misses(rt, pool, lane, 17825792);
-    misses(rt, pool, lane, 16781312);
-    clear(rt, pool, lane, 16777218, false);
-}
-
-#[test]
-fn finds_nothing_outside_the_shape(rt: HostRuntime) {
-    let (pool, mut lane) = open_last(&rt, rt.alloc(), shape_of(1, 2, 1));
-    calls_of_no_key(&rt, &pool, &mut lane);
-}
-
 fn hear_and_get<R: Abort>(
     rt: &R,
     pool: &Pool<ByteBuf>,
@@ -213,12 +107,6 @@ fn hear_and_get<R: Abort>(
     let reference = get(rt, pool, second, FIRST);
     reads(rt, second, &reference, b"hi");
     reference.leave();
-}
-
-#[test]
-fn finds_a_key_that_it_heard_of(rt: HostRuntime) {
-    let (pool, mut first, mut second) = open_pair(&rt, rt.alloc(), shape_of(2, 1, 1));
-    hear_and_get(&rt, &pool, &mut first, &mut second);
 }
 
 fn hear_and_create<R: Abort>(
@@ -239,10 +127,35 @@ fn hear_and_create<R: Abort>(
     filling.leave();
 }
 
+/// What two lanes of a pool do, one after the other.
+#[derive(Clone, Copy)]
+enum Calls {
+    ReadOnAfterAClear,
+    PublishAReturnedPlace,
+    ReadWhatAnotherCleared,
+    FindAKeyHeardOf,
+    CreateWhatWasReturned,
+}
+
+/// Two lanes of a pool with a place each make these calls.
+fn call<R: Abort>(rt: &R, alloc: Global, calls: Calls) {
+    let (pool, mut first, mut second) = open_pair(rt, alloc, shape_of(2, 1, 1));
+    match calls {
+        Calls::ReadOnAfterAClear => clear_under_two(rt, &pool, &mut first, &mut second),
+        Calls::PublishAReturnedPlace => return_and_publish(rt, &pool, &mut first, &mut second),
+        Calls::ReadWhatAnotherCleared => clear_of_a_held_key(rt, &pool, &mut first, &mut second),
+        Calls::FindAKeyHeardOf => hear_and_get(rt, &pool, &mut first, &mut second),
+        Calls::CreateWhatWasReturned => hear_and_create(rt, &pool, &mut first, &mut second),
+    }
+}
+
 #[test]
-fn creates_what_it_heard_was_returned(rt: HostRuntime) {
-    let (pool, mut first, mut second) = open_pair(&rt, rt.alloc(), shape_of(2, 1, 1));
-    hear_and_create(&rt, &pool, &mut first, &mut second);
+fn two_lanes_call_in_turn(rt: HostRuntime) {
+    call(&rt, rt.alloc(), Calls::ReadOnAfterAClear);
+    call(&rt, rt.alloc(), Calls::PublishAReturnedPlace);
+    call(&rt, rt.alloc(), Calls::ReadWhatAnotherCleared);
+    call(&rt, rt.alloc(), Calls::FindAKeyHeardOf);
+    call(&rt, rt.alloc(), Calls::CreateWhatWasReturned);
 }
 
 fn refill<R: Abort>(rt: &R, pool: &Pool<ByteBuf>, lane: &mut Lane<ByteBuf>, bytes: &[u8])
@@ -262,39 +175,6 @@ fn refill<R: Abort>(rt: &R, pool: &Pool<ByteBuf>, lane: &mut Lane<ByteBuf>, byte
 fn keeps_the_memory_of_an_object(rt: HostRuntime) {
     let (pool, mut lane) = open_last(&rt, rt.alloc(), shape_of(1, 1, 1));
     refill(&rt, &pool, &mut lane, [7; 4096].as_slice());
-}
-
-fn clear_at_the_last_generation<R: Abort>(rt: &R, pool: &Pool<ByteBuf>, lane: &mut Lane<ByteBuf>)
-    requires { Owns pool.now lane.old }
-{
-    publish(rt, pool, lane, FIRST, b"");
-    clear(rt, pool, lane, FIRST, true);
-    finds_full(rt, pool, lane);
-}
-
-#[test]
-fn retires_a_place_at_its_last_generation(rt: HostRuntime) {
-    let shape = Shape {
-        last_generation: 1,
-        ..shape_of(1, 1, 1)
-    };
-    let (pool, mut lane) = open_last(&rt, rt.alloc(), shape);
-    clear_at_the_last_generation(&rt, &pool, &mut lane);
-}
-
-fn fill_two_pages<R: Abort>(rt: &R, pool: &Pool<ByteBuf>, lane: &mut Lane<ByteBuf>)
-    requires { Owns pool.now lane.old }
-{
-    for key in [FIRST, NEXT, 16781312] {
-        let filling = fill(rt, pool, lane, key, b"");
-        filling.leave();
-    }
-}
-
-#[test]
-fn opens_the_next_page(rt: HostRuntime) {
-    let (pool, mut lane) = open_last(&rt, rt.alloc(), shape_of(1, 2, 2));
-    fill_two_pages(&rt, &pool, &mut lane);
 }
 
 /// The key at this number, where one stands there.
@@ -318,107 +198,18 @@ fn fill_all<R: Abort>(rt: &R, pool: &Pool<ByteBuf>, lane: &mut Lane<ByteBuf>, ke
 
 #[test]
 fn fills_all_places_of_a_lane(rt: HostRuntime) {
-    let (pool, mut lane) = open_last(&rt, rt.alloc(), shape_of(1, 64, 6));
-    let keys = [
-        (1, 16777216),
-        (64, 16777279),
-        (65, 16781312),
-        (192, 16781439),
-        (193, 16785408),
-        (4032, 16799743),
-    ];
-    fill_all(&rt, &pool, &mut lane, &keys);
-}
-
-#[test]
-fn fills_all_places_of_the_last_lane(rt: HostRuntime) {
-    let (pool, mut lane) = open_last(&rt, rt.alloc(), shape_of(16, 64, 6));
-    let keys = [
-        (1, 17760256),
-        (64, 17760319),
-        (65, 17764352),
-        (192, 17764479),
-        (193, 17768448),
-        (4032, 17782783),
-    ];
-    fill_all(&rt, &pool, &mut lane, &keys);
-}
-
-fn publish_two_and_clear<R: Abort>(rt: &R, pool: &Pool<ByteBuf>, lane: &mut Lane<ByteBuf>)
-    requires { Owns pool.now lane.old }
-{
-    publish(rt, pool, lane, FIRST, b"");
-    publish(rt, pool, lane, NEXT, b"");
-    clear(rt, pool, lane, FIRST, true);
-    clear(rt, pool, lane, NEXT, true);
-    let filling = fill(rt, pool, lane, AGAIN, b"");
-    filling.leave();
-    let filling = fill(rt, pool, lane, 33554433, b"");
-    filling.leave();
-}
-
-fn publish_one_and_clear<R: Abort>(rt: &R, pool: &Pool<ByteBuf>, lane: &mut Lane<ByteBuf>)
-    requires { Owns pool.now lane.old }
-{
-    publish(rt, pool, lane, FIRST, b"");
-    clear(rt, pool, lane, FIRST, true);
-    let filling = fill(rt, pool, lane, NEXT, b"");
-    filling.leave();
-}
-
-#[test]
-fn fills_the_place_first_that_is_free_longest(rt: HostRuntime) {
-    let (pool, mut lane) = open_last(&rt, rt.alloc(), shape_of(1, 2, 1));
-    publish_two_and_clear(&rt, &pool, &mut lane);
-    let (pool, mut lane) = open_last(&rt, rt.alloc(), shape_of(1, 4, 1));
-    publish_one_and_clear(&rt, &pool, &mut lane);
-}
-
-/// A pool of one lane with a place, of this tag.
-fn tagged(tag: u32) -> Shape {
-    Shape {
-        tag,
-        ..shape_of(1, 1, 1)
-    }
-}
-
-/// The key under which an empty object is published.
-fn publish_empty<R: Abort>(rt: &R, pool: &Pool<ByteBuf>, lane: &mut Lane<ByteBuf>) -> u64
-    requires { Owns pool.now lane.old }
-    ensures owns { Owns pool.now lane.new }
-    ensures refs { refs lane.new ≡ refs lane.old }
-{
-    let filling = create(rt, pool, lane);
-    pool.publish(lane, filling)
-}
-
-fn find_one_of_two<R: Abort>(
-    rt: &R,
-    pool: &Pool<ByteBuf>,
-    lane: &mut Lane<ByteBuf>,
-    own: u64,
-    other: u64,
-)
-    requires owns { Owns pool.now lane.old }
-    requires room { refs lane.old < 1000 }
-{
-    misses(rt, pool, lane, other);
-    let reference = get(rt, pool, lane, own);
-    reads(rt, lane, &reference, b"");
-    reference.leave();
-}
-
-// The keys of place 0 at its first generation, with the tags 1, 2 and 5.
-#[test]
-fn finds_no_key_of_another_pool(rt: HostRuntime) {
-    for (tag, own, other) in [
-        (1, 72057594054705152, 144115188092633088),
-        (2, 144115188092633088, 72057594054705152),
-        (5, 360287970206416896, FIRST),
-    ] {
-        let (pool, mut lane) = open_last(&rt, rt.alloc(), tagged(tag));
-        same(&rt, &publish_empty(&rt, &pool, &mut lane), &own);
-        find_one_of_two(&rt, &pool, &mut lane, own, other);
+    // Those of lane 0, and of lane 15.
+    for (lanes, shard) in [(1, 0), (16, 983040)] {
+        let (pool, mut lane) = open_last(&rt, rt.alloc(), shape_of(lanes, 64, 6));
+        let keys = [
+            (1, shard + 16777216),
+            (64, shard + 16777279),
+            (65, shard + 16781312),
+            (192, shard + 16781439),
+            (193, shard + 16785408),
+            (4032, shard + 16799743),
+        ];
+        fill_all(&rt, &pool, &mut lane, &keys);
     }
 }
 
@@ -455,6 +246,27 @@ fn release_by_key<T: Clear + Drop, R: Abort>(rt: &R, pool: &Pool<T>, lane: &mut 
     pool.release(lane, reference);
 }
 
+/// The key is cleared, and both lanes give their references to it back, the first by the key.
+fn clear_and_release<T: Clear + Drop, R: Abort>(
+    rt: &R,
+    pool: &Pool<T>,
+    first: &mut Lane<T>,
+    second: &mut Lane<T>,
+    other: Ref<T>,
+    room: usize,
+)
+    requires first { Owns pool.now first.old × (refs first.old < 2000) }
+    requires second { Owns pool.now second.old × (1 ≤ holds second.old other.key) }
+    ensures first { Owns pool.now first.new × (refs first.new + 1 ≡ refs first.old) }
+    ensures second { Owns pool.now second.new × (refs second.new + 1 ≡ refs second.old) }
+{
+    clear(rt, pool, second, FIRST, true);
+    misses(rt, pool, first, FIRST);
+    same(rt, &second.read(&other).room(), &room);
+    release_by_key(rt, pool, first, FIRST);
+    pool.release(second, other);
+}
+
 /// Two lanes of a pool that was just opened have one place.
 fn share_one_place<T: Clear + Drop, R: Abort>(
     rt: &R,
@@ -473,12 +285,8 @@ fn share_one_place<T: Clear + Drop, R: Abort>(
     same(rt, &first.holds(FIRST), &1);
     same(rt, &second.refs(), &1);
     same(rt, &first.read(&one).room(), &room);
-    clear(rt, pool, second, FIRST, true);
-    misses(rt, pool, first, FIRST);
-    same(rt, &second.read(&other).room(), &room);
     one.leave();
-    release_by_key(rt, pool, first, FIRST);
-    pool.release(second, other);
+    clear_and_release(rt, pool, first, second, other, room);
 }
 
 /// The place is filled again, and left.

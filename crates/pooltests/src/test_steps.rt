@@ -1,4 +1,4 @@
-ghost use Rattle.std.specs.Prelude.{◌≡◌, ◌≤◌, true, [], ◌∷◌, None, length, IfOk, IfSome};
+ghost use Rattle.std.specs.Prelude.{◌≡◌, ◌≤◌, true, [], ◌∷◌, None, length, IfSome};
 ghost use Rattle.std.specs.Mem.Slots.{IsFull};
 ghost use Rattle.keybits.specs.Keys.{place_of, is_key};
 ghost use Rattle.sharelaws.specs.declared.stored.Status.TheVariants.{Emptied};
@@ -18,7 +18,6 @@ use poolsteps::{Grid, Hand, Purpose, Spot, references_law, shares_law};
 use slotcell::{ByteBuf, Clear, Rest, Share, Slot, Whole};
 use std::alloc::Global;
 use std::process::Abort;
-use std::test::Fail;
 use std::thread;
 use std::thread::Threads;
 
@@ -59,14 +58,16 @@ fn pair_of<T>(mut hands: Vec<Hand<T>>) -> (Hand<T>, Hand<T>)
 }
 
 /// The grid of two lanes with a place each, and their hands.
-pub(crate) fn grid_of_two<T: Clear>(alloc: Global) -> Result<(Grid<T>, Hand<T>, Hand<T>), Fail>
-    ensures shape { IfOk result (λ made. made.0.shape ≡ TWO_LANES) }
-    ensures hands { IfOk result (λ made. IsFirstHand made.0 0 made.1 × IsFirstHand made.0 1 made.2) }
+pub(crate) fn grid_of_two<T: Clear, R: Abort>(rt: &R, alloc: Global) -> (Grid<T>, Hand<T>, Hand<T>)
+    ensures shape { result.0.shape ≡ TWO_LANES }
+    ensures hands { IsFirstHand result.0 0 result.1 × IsFirstHand result.0 1 result.2 }
 {
-    TWO_LANES.check()?;
-    let (grid, hands) = Grid::new(alloc, &TWO_LANES).ok_or("no memory")?;
+    assert!(rt; TWO_LANES.check().is_ok());
+    let Some((grid, hands)) = Grid::new(alloc, &TWO_LANES) else {
+        panic!(rt; "no memory for a grid")
+    };
     let (first, second) = pair_of(hands);
-    Ok((grid, first, second))
+    (grid, first, second)
 }
 
 /// Lane 0 puts the share of lane 1 in its slot, and publishes with a reference. Answers its own share.
@@ -353,27 +354,67 @@ fn free<T>(mut closed: Closed<Slot<T>, Global>)
     closed.free();
 }
 
-#[test]
-fn makes_each_step(rt: HostRuntime) -> Result<(), Fail> {
-    let (grid, mut first, mut second) = grid_of_two(rt.alloc())?;
-    let spot = grid.spot(0);
-    let whole = object_of(&rt, rt.alloc(), 7);
-    let share = publish(&rt, &grid, &mut first, spot, whole);
-    same(&rt, &share.read().as_slice(), &[7].as_slice());
-    let other = get(&rt, &grid, &mut second, spot);
-    same(&rt, &other.read().as_slice(), &[7].as_slice());
-    release_one(&rt, &grid, &mut second, spot, other);
-    clear(&rt, &grid, &mut second, spot);
-    let whole = release(&rt, rt.alloc(), &grid, &mut first, spot, share);
-    same(&rt, &whole.get().as_slice(), &[7].as_slice());
-    let found = grid.enter(&mut second, spot, KEY, Purpose::ToGet);
-    is_word(&rt, found, 8589934592);
-    Ok(())
+/// The buffer has one byte, a 7.
+fn is_seven<R: Abort>(rt: &R, buffer: &ByteBuf) {
+    same(rt, &buffer.as_slice(), &[7].as_slice());
+}
+
+/// Lane 1 gets the key, reads, gives its reference back, and clears the key, to which lane 0 has a reference.
+fn read_and_clear(rt: &impl Abort, grid: &Grid<ByteBuf>, hand: &mut Hand<ByteBuf>, spot: Spot)
+    requires shape { grid.now.shape ≡ TWO_LANES }
+    requires spot { IsSpot grid.now.shape spot 0 }
+    requires hand { IsFirstHand grid.now 1 hand.old }
+    ensures hand { IsOf grid.now hand.new × IsOne hand.new.me.0 }
+    ensures idle { IsIdle hand.new.me.0 }
+    ensures reference { references_seen grid.now.shape hand.new.me.0 KEY ≡ 0 }
+{
+    let share = get(rt, grid, hand, spot);
+    is_seven(rt, share.read());
+    release_one(rt, grid, hand, spot, share);
+    clear(rt, grid, hand, spot);
 }
 
 #[test]
-fn returns_and_takes_a_place(rt: HostRuntime) -> Result<(), Fail> {
-    let (grid, mut first, mut second) = grid_of_two(rt.alloc())?;
+fn makes_each_step(rt: HostRuntime) {
+    let (grid, mut first, mut second) = grid_of_two(&rt, rt.alloc());
+    let spot = grid.spot(0);
+    let whole = object_of(&rt, rt.alloc(), 7);
+    let share = publish(&rt, &grid, &mut first, spot, whole);
+    is_seven(&rt, share.read());
+    read_and_clear(&rt, &grid, &mut second, spot);
+    let whole = release(&rt, rt.alloc(), &grid, &mut first, spot, share);
+    is_seven(&rt, whole.get());
+    let found = grid.enter(&mut second, spot, KEY, Purpose::ToGet);
+    is_word(&rt, found, 8589934592);
+}
+
+/// Each hand takes in what the other has seen, in one way or the other, and the grid ends.
+fn end<R: Abort>(
+    rt: &R,
+    alloc: Global,
+    grid: Grid<ByteBuf>,
+    mut first: Hand<ByteBuf>,
+    mut second: Hand<ByteBuf>,
+)
+    requires shape { grid.shape ≡ TWO_LANES }
+    requires first { IsOf grid first × IsOne first.me.0 × (first.me.1 ≡ []) }
+    requires second { IsOf grid second × IsOne second.me.0 × (second.me.1 ≡ []) }
+{
+    let note = grid.note(&mut second);
+    grid.hear(&mut first, 0, note);
+    let note = grid.note(&mut first);
+    grid.meet(&mut second, 1, note);
+    let mut hands = Vec::with_capacity(alloc, 2).expect(rt, "memory for two hands");
+    hands.push_reserved(first);
+    hands.push_reserved(second);
+    let closed = grid.end(hands);
+    is_word(rt, closed.word(0), 0);
+    free(closed);
+}
+
+#[test]
+fn returns_and_takes_a_place(rt: HostRuntime) {
+    let (grid, mut first, mut second) = grid_of_two(&rt, rt.alloc());
     let spot = grid.spot(0);
     let whole = object_of(&rt, rt.alloc(), 7);
     publish_alone(&rt, &grid, &mut first, spot, whole);
@@ -383,18 +424,7 @@ fn returns_and_takes_a_place(rt: HostRuntime) -> Result<(), Fail> {
     assert!(rt; whole.get().is_empty());
     let generation = grid.generation(&mut first, spot);
     same(&rt, &generation, &2);
-    let note = grid.note(&mut second);
-    grid.hear(&mut first, 0, note);
-    let note = grid.note(&mut first);
-    grid.meet(&mut second, 1, note);
-    let mut hands = Vec::with_capacity(rt.alloc(), 2).expect(&rt, "memory for two hands");
-    hands.push_reserved(first);
-    hands.push_reserved(second);
-    let closed = grid.end(hands);
-    let first_word = closed.word(0);
-    free(closed);
-    is_word(&rt, first_word, 0);
-    Ok(())
+    end(&rt, rt.alloc(), grid, first, second);
 }
 
 /// ENTER for a clear and LEAVE, so many times. None where a LEAVE leaves a claim to be made.
@@ -440,25 +470,32 @@ fn on_two_threads<R: Threads + Sync, T: Clear + Send + Sync>(
 }
 
 #[test]
-fn enters_and_leaves_on_two_threads(rt: HostRuntime) -> Result<(), Fail> {
-    let (grid, first, second) = grid_of_two::<ByteBuf>(rt.alloc())?;
+fn enters_and_leaves_on_two_threads(rt: HostRuntime) {
+    let (grid, first, second) = grid_of_two::<ByteBuf, _>(&rt, rt.alloc());
     let spot = grid.spot(0);
     let (first, second) = on_two_threads(&rt, &grid, first, second, spot);
     assert!(rt; second.is_some());
-    let mut first = first.ok_or("a claim is owed")?;
+    let Some(mut first) = first else {
+        panic!(rt; "a claim is owed")
+    };
     let found = grid.enter(&mut first, spot, KEY, Purpose::ToClear);
     is_word(&rt, found, 4294967296);
-    Ok(())
+}
+
+/// A grid of this shape is made and ended.
+fn makes_and_ends<R: Abort>(rt: &R, alloc: Global, shape: Shape) {
+    assert!(rt; shape.check().is_ok());
+    let Some((grid, hands)) = Grid::<ByteBuf>::new(alloc, &shape) else {
+        panic!(rt; "no memory")
+    };
+    same(rt, &hands.len(), &(shape.lanes as usize));
+    assert!(rt; grid.find(shape.lanes << 16).is_none());
+    assert!(rt; 0 < hands.len());
+    free(grid.end(hands));
 }
 
 #[test]
-fn makes_and_ends_grids_of_each_size(rt: HostRuntime) -> Result<(), Fail> {
-    for shape in [SMALLEST, LARGEST] {
-        shape.check()?;
-        let (grid, hands) = Grid::<ByteBuf>::new(rt.alloc(), &shape).ok_or("no memory")?;
-        same(&rt, &hands.len(), &(shape.lanes as usize));
-        assert!(rt; grid.find(shape.lanes << 16).is_none());
-        free(grid.end(hands));
-    }
-    Ok(())
+fn makes_and_ends_grids_of_each_size(rt: HostRuntime) {
+    makes_and_ends(&rt, rt.alloc(), SMALLEST);
+    makes_and_ends(&rt, rt.alloc(), LARGEST);
 }

@@ -1,45 +1,34 @@
 //! Workers on threads.
 ghost use Rattle.std.specs.Prelude.{◌≡◌, vec_len};
 
-use crate::test_calls::same;
-use crate::test_workers::{Open, Row, command_of};
+use crate::test_calls::{NO_PLACE, same, shape_of};
+use crate::test_workers::{script_of, tells};
 use keybits::Shape;
+use seqpool::Bytes;
 use shardpool::{Census, close, open};
 use std::alloc::{AllocError, Global};
 use std::process::Abort;
 use std::sync::Wait;
 use std::sync::atomic::{AtomicBool, Ordering};
-use std::test::Fail;
 use std::thread::Threads;
 use traces::{Reply, Script};
 use workers::{Gate, Report, jobs_of, parts_of, run_workers};
 
-const TWO_LANES: Shape = Shape {
-    lanes: 2,
-    first_page: 1,
-    pages: 1,
-    last_generation: 4294967295,
-    tag: 0,
-};
-
-const LARGEST: Shape = Shape {
-    lanes: 16,
-    first_page: 64,
-    pages: 6,
-    ..TWO_LANES
-};
-
-const ROUND: [Row<'static>; 7] = [
-    Row::Create(0),
-    Row::Write(0, b"ab"),
-    Row::Publish(0),
-    Row::GetLast(1, 0),
-    Row::Read(1),
-    Row::Release(1),
-    Row::ClearLast(0),
-];
-
 const LINES: usize = 1000;
+
+/// Lets every line pass.
+#[derive(Drop)]
+struct Open;
+
+impl Gate for Open {
+    ghost use Rattle.std.specs.Prelude.{◌≡◌, true};
+
+    ghost says = { λ gate worker line answer. answer ≡ true };
+
+    fn pass(&self, _worker: u32, _line: u32) -> bool {
+        true
+    }
+}
 
 /// Where two workers wait for each other before each line.
 #[derive(Drop)]
@@ -72,29 +61,13 @@ fn sees(flag: &AtomicBool) -> bool {
     false
 }
 
-/// The script of so many lines, which are these from the first to the last, and again from the first.
-fn script_of<R: Abort>(rt: &R, alloc: Global, rows: &[Row<'_>], lines: usize) -> Script {
-    let mut commands = Vec::new(alloc);
-    for row in rows.iter().cycle().take(lines) {
-        let command = command_of(rt, alloc, *row);
-        commands.push(command).expect(rt, "memory for a command");
-    }
-    Script::from_vec(commands)
-}
-
 /// So many scripts, each of so many lines.
-fn scripts_of<R: Abort>(
-    rt: &R,
-    alloc: Global,
-    count: usize,
-    rows: &[Row<'_>],
-    lines: usize,
-) -> Vec<Script>
+fn scripts_of<R: Abort>(rt: &R, alloc: Global, count: usize, lines: usize) -> Vec<Script>
     ensures { vec_len result ≡ count }
 {
     let mut scripts = Vec::new(alloc);
     for _ in 0..count {
-        let script = script_of(rt, alloc, rows, lines);
+        let script = script_of(rt, alloc, lines);
         scripts.push(script).expect(rt, "memory for a script");
     }
     scripts
@@ -114,20 +87,19 @@ fn all_told<R: Abort>(
     told
 }
 
-/// What workers reported, one on each lane of a pool of this shape, which all had so many of these lines; and what the places
-/// of the pool were in the end.
+/// What workers reported, one on each lane of a pool of this shape, which all had so many lines; and what the places of the
+/// pool were in the end.
 fn run_all<R: Threads + Wait + Abort + Sync, G: Gate + Sync>(
     rt: &R,
     alloc: Global,
     shape: Shape,
-    rows: &[Row<'_>],
     lines: usize,
     gate: &G,
 ) -> (Vec<Report>, Census) {
     let Ok((pool, lanes)) = open(alloc, shape) else {
         panic!(rt; "no pool")
     };
-    let scripts = scripts_of(rt, alloc, lanes.len(), rows, lines);
+    let scripts = scripts_of(rt, alloc, lanes.len(), lines);
     let Ok(jobs) = jobs_of(alloc, lanes, scripts) else {
         panic!(rt; "no memory for the jobs")
     };
@@ -141,17 +113,20 @@ fn run_all<R: Threads + Wait + Abort + Sync, G: Gate + Sync>(
     (all_told(rt, alloc, reports), census)
 }
 
-/// Whether the reply is this line's, where each line of a round does what it says.
-fn is_reply_of(row: Row<'_>, reply: &Reply) -> bool {
-    match row {
-        Row::Create(_) => matches!(reply, Reply::Filling(_)),
-        Row::Write(_, _) | Row::Release(_) => matches!(reply, Reply::Done),
-        Row::Publish(_) => matches!(reply, Reply::Key(_)),
-        Row::GetLast(_, _) =>
-            matches!(reply, Reply::Found(content) if content.as_slice() == b"ab".as_slice()),
-        Row::Read(_) =>
-            matches!(reply, Reply::Content(content) if content.as_slice() == b"ab".as_slice()),
-        Row::ClearLast(_) => matches!(reply, Reply::Cleared(true)),
+/// Whether the content of a reply is that of a round.
+fn is_content(content: &Bytes) -> bool {
+    content.as_slice() == b"ab".as_slice()
+}
+
+/// Whether the reply is that of the line of this number, where each line of a round does what it says.
+fn is_reply_of(number: usize, reply: &Reply) -> bool {
+    match reply {
+        Reply::Filling(_) => number % 7 == 0,
+        Reply::Done => number % 7 == 1 || number % 7 == 5,
+        Reply::Key(_) => number % 7 == 2,
+        Reply::Found(content) => number % 7 == 3 && is_content(content),
+        Reply::Content(content) => number % 7 == 4 && is_content(content),
+        Reply::Cleared(marked) => number % 7 == 6 && *marked,
         _ => false,
     }
 }
@@ -160,83 +135,56 @@ fn is_reply_of(row: Row<'_>, reply: &Reply) -> bool {
 fn has_rounds<R: Abort>(rt: &R, report: &Report) {
     same(rt, &report.stopped_at, &None);
     same(rt, &report.replies.len(), &LINES);
-    for (row, reply) in ROUND.iter().cycle().zip(report.replies.iter()) {
-        assert!(rt; is_reply_of(*row, reply));
+    for (number, reply) in report.replies.iter().enumerate() {
+        assert!(rt; is_reply_of(number, reply));
     }
 }
 
-/// The two reports, as texts.
-fn texts_of(alloc: Global, reports: &[Report]) -> Result<(String, String), Fail> {
-    let first = reports.first().ok_or("a report")?;
-    let second = reports.get(1).ok_or("a second report")?;
-    Ok((
-        format!(in alloc; "{first:?}")?,
-        format!(in alloc; "{second:?}")?,
-    ))
+/// The two reports have these texts.
+fn tell<R: Abort>(rt: &R, alloc: Global, reports: &[Report], first: &str, second: &str) {
+    same(rt, &reports.len(), &2);
+    tells(rt, alloc, reports.first().expect(rt, "a report"), first);
+    tells(rt, alloc, reports.last().expect(rt, "a report"), second);
 }
 
 #[test]
-fn workers_run_one_beside_another(rt: HostRuntime) -> Result<(), Fail> {
-    let alloc = rt.alloc();
+fn workers_run_one_beside_another(rt: HostRuntime) {
     let gate = Barrier {
         first: AtomicBool::new(false),
         second: AtomicBool::new(false),
     };
-    let (reports, _) = run_all(&rt, alloc, TWO_LANES, &[Row::Create(0)], 1, &gate);
-    same(&rt, &reports.len(), &2);
-    let (first, second) = texts_of(alloc, reports.as_slice())?;
-    same(
+    let (reports, _) = run_all(&rt, rt.alloc(), shape_of(2, 1, 1), 1, &gate);
+    tell(
         &rt,
-        &first.as_str(),
-        &"Report { replies: [Filling(16777216)], stopped_at: None }",
+        rt.alloc(),
+        reports.as_slice(),
+        "Report { replies: [Filling(16777216)], stopped_at: None }",
+        "Report { replies: [Filling(16842752)], stopped_at: None }",
     );
-    same(
-        &rt,
-        &second.as_str(),
-        &"Report { replies: [Filling(16842752)], stopped_at: None }",
-    );
-    Ok(())
 }
 
 #[test]
-fn workers_answer_in_the_order_of_their_jobs(rt: HostRuntime) -> Result<(), Fail> {
-    let alloc = rt.alloc();
-    let rows = [Row::Create(0), Row::Publish(0)];
-    let (reports, census) = run_all(&rt, alloc, TWO_LANES, &rows, 2, &Open);
-    same(&rt, &reports.len(), &2);
-    let (first, second) = texts_of(alloc, reports.as_slice())?;
-    same(
+fn workers_answer_in_the_order_of_their_jobs(rt: HostRuntime) {
+    let (reports, census) = run_all(&rt, rt.alloc(), shape_of(2, 1, 1), 3, &Open);
+    tell(
         &rt,
-        &first.as_str(),
-        &"Report { replies: [Filling(16777216), Key(16777216)], stopped_at: None }",
-    );
-    same(
-        &rt,
-        &second.as_str(),
-        &"Report { replies: [Filling(16842752), Key(16842752)], stopped_at: None }",
+        rt.alloc(),
+        reports.as_slice(),
+        "Report { replies: [Filling(16777216), Done, Key(16777216)], stopped_at: None }",
+        "Report { replies: [Filling(16842752), Done, Key(16842752)], stopped_at: None }",
     );
     same(
         &rt,
         &census,
         &Census {
-            free: 0,
-            unopened: 0,
-            filling: 0,
             present: 2,
-            marked: 0,
-            retired: 0,
+            ..NO_PLACE
         },
     );
-    Ok(())
 }
 
-#[test]
-fn sixteen_workers_run_a_thousand_lines(rt: HostRuntime) -> Result<(), Fail> {
-    let (reports, census) = run_all(&rt, rt.alloc(), LARGEST, &ROUND, LINES, &Open);
-    same(&rt, &reports.len(), &16);
-    for report in reports.as_slice() {
-        has_rounds(&rt, report);
-    }
+/// How many places a census counts.
+fn places_of(census: Census) -> u64 {
     let Census {
         free,
         unopened,
@@ -245,8 +193,20 @@ fn sixteen_workers_run_a_thousand_lines(rt: HostRuntime) -> Result<(), Fail> {
         marked,
         retired,
     } = census;
-    let rows = [free, unopened, filling, present, marked, retired];
-    let places: u64 = rows.iter().map(|row| u64::from(*row)).sum();
-    same(&rt, &places, &(16 * 4032));
-    Ok(())
+    u64::from(free)
+        + u64::from(unopened)
+        + u64::from(filling)
+        + u64::from(present)
+        + u64::from(marked)
+        + u64::from(retired)
+}
+
+#[test]
+fn sixteen_workers_run_a_thousand_lines(rt: HostRuntime) {
+    let (reports, census) = run_all(&rt, rt.alloc(), shape_of(16, 64, 6), LINES, &Open);
+    same(&rt, &reports.len(), &16);
+    for report in reports.as_slice() {
+        has_rounds(&rt, report);
+    }
+    same(&rt, &places_of(census), &(16 * 4032));
 }
