@@ -234,16 +234,33 @@ fn publish_first<T: Clear + Drop, R: Abort>(rt: &R, pool: &Pool<T>, lane: &mut L
     room
 }
 
-/// A reference is had from its key, and given back.
+/// A published key is found, its reference stays with the lane, and its object is read where the get tells.
+fn get_by_key<T: Clear + Drop, R: Abort>(
+    rt: &R,
+    pool: &Pool<T>,
+    lane: &mut Lane<T>,
+    key: u64,
+    room: usize,
+)
+    requires { Owns pool.now lane.old × (refs lane.old < 1000) }
+    ensures owns { Owns pool.now lane.new }
+    ensures refs { refs lane.new ≡ refs lane.old + 1 }
+{
+    let Some(position) = pool.get_at(lane, key) else {
+        panic!(rt; "{key} isn't found")
+    };
+    same(rt, &lane.read_at(position, key).room(), &room);
+}
+
+/// A reference is given back by its key.
 fn release_by_key<T: Clear + Drop, R: Abort>(rt: &R, pool: &Pool<T>, lane: &mut Lane<T>, key: u64)
     requires { Owns pool.now lane.old }
     ensures owns { Owns pool.now lane.new }
     ensures refs { refs lane.new + 1 ≡ refs lane.old }
 {
-    let Some(reference) = lane.reference(key) else {
+    if !pool.release_key(lane, key) {
         panic!(rt; "no reference to {key}")
-    };
-    pool.release(lane, reference);
+    }
 }
 
 /// The key is cleared, and both lanes give their references to it back, the first by the key.
@@ -280,12 +297,10 @@ fn share_one_place<T: Clear + Drop, R: Abort>(
     ensures second { Owns pool.now second.new × (refs second.new ≡ refs second.old) }
 {
     let room = publish_first(rt, pool, first);
-    let one = get(rt, pool, first, FIRST);
+    get_by_key(rt, pool, first, FIRST, room);
     let other = get(rt, pool, second, FIRST);
     same(rt, &first.holds(FIRST), &1);
     same(rt, &second.refs(), &1);
-    same(rt, &first.read(&one).room(), &room);
-    one.leave();
     clear_and_release(rt, pool, first, second, other, room);
 }
 

@@ -1,5 +1,6 @@
 //! Lanes: each owns a shard of a pool.
 use crate::closing::HandRow;
+use crate::rows::count_to;
 use crate::state::LaneState;
 use crate::token::Ref;
 use keybits::place_of;
@@ -38,7 +39,8 @@ impl<T: Clear> Lane<T> {
     ghost use Rattle.std.specs.Prelude.{◌≡◌, ◌≢◌, ◌<◌, ◌≤◌, ◌⊎◌, ◌↔◌, ℕ, true, false, IsTrue, IsNone, IsSome, IfSome, [], length, Contains};
     ghost use Rattle.keybits.specs.declared.place.Place.{Place};
     ghost use Rattle.keybits.specs.Places.{shard_of, page_of, number_of};
-    ghost use Rattle.keybits.specs.Shapes.{is_place};
+    ghost use Rattle.keybits.specs.Keys.{place_of};
+    ghost use Rattle.keybits.specs.Shapes.{is_place, position_of};
     ghost use Rattle.freelists.specs.Queues.{numbers};
     ghost use Rattle.seqpool.specs.Pool.{with, has, NoRepeats, pool_after, IsLegal};
     ghost use Rattle.seqpool.specs.Histories.{PublishedAt, acts_of};
@@ -74,12 +76,8 @@ impl<T: Clear> Lane<T> {
         if !keybits::fits(key, &self.state.shape) {
             return 0;
         }
-        let row = &self.state.rows[self.state.shape.position(place_of(key))];
-        if row.generation == keybits::generation_of(key) {
-            row.count
-        } else {
-            0
-        }
+        let position = self.state.shape.position(place_of(key));
+        count_to(&self.state, position, key)
     }
 
     /// A reference to a key to which the lane has one: so a program may keep keys in place of references. None where it has none.
@@ -131,8 +129,18 @@ impl<T: Clear> Lane<T> {
         requires { 1 ≤ holds self.now reference.now.key }
         ensures { (j : ℕ) × PublishedAt self.now.book.seen j reference.now.key (T.content result.now) }
     {
-        let at = self.state.shape.position(place_of(reference.key));
-        match &self.state.rows[at].share {
+        let key = reference.key;
+        self.read_at(self.state.shape.position(place_of(key)), key)
+    }
+
+    /// As `read`, of a key to which the lane has a reference, and whose place has this position among the places of the pool, which
+    /// `Pool::get_at` answers.
+    pub fn read_at(&self, position: usize, key: u64) -> &T
+        requires held { 1 ≤ holds self.now key }
+        requires position { position ≡ position_of self.now.shape (place_of key) }
+        ensures { (j : ℕ) × PublishedAt self.now.book.seen j key (T.content result.now) }
+    {
+        match &self.state.rows[position].share {
             Some(share) => share.read(),
             None => unreachable!(),
         }

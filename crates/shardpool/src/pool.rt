@@ -1,7 +1,8 @@
 //! The pool, and the calls of its lanes.
-ghost use Rattle.std.specs.Prelude.{◌≡◌, ◌≢◌, ◌==◌, ℕ, ◌+◌, ◌-◌, ◌<◌, ◌≤◌, ◌↔◌, true, false, is_some, IsNone, IfSome, IsSome, IsTrue, IsFalse, [], ◌∷◌, List, if◌then◌else◌};
+ghost use Rattle.std.specs.Prelude.{◌≡◌, ◌≢◌, ◌==◌, ℕ, ◌+◌, ◌-◌, ◌<◌, ◌≤◌, ◌↔◌, true, false, is_some, option_map, IsNone, IfSome, IsSome, IsTrue, IsFalse, [], ◌∷◌, List, if◌then◌else◌};
 ghost use mathlib.Core.List.{IsPrefix};
 ghost use Rattle.keybits.specs.Keys.{is_key, place_of};
+ghost use Rattle.keybits.specs.Shapes.{position_of};
 ghost use Rattle.seqpool.specs.declared.act.Act.{Act};
 ghost use Rattle.seqpool.specs.declared.act.Act.TheVariants as acts;
 ghost use Rattle.steplaws.specs.Calls.Call.{Publishing, Getting, Releasing, Clearing};
@@ -13,7 +14,9 @@ ghost use Rattle.shardpool.specs.Lanes.{Owns, Made, SameLane, Calls, Did, Gets, 
 ghost use Rattle.shardpool.specs.Seen.{PublishedSince, FoundSince, MissedSince, ClearedSince};
 
 use crate::lane::Lane;
-use crate::rows::{add_first_reference, add_reference, drop_reference, return_last_share};
+use crate::rows::{
+    add_first_reference, add_reference, count_to, drop_reference, return_last_share,
+};
 use crate::state::LaneState;
 use crate::stores::keep_reclaimed;
 use crate::token::{Filling, Ref};
@@ -70,6 +73,30 @@ impl<T: Clear + Drop> Pool<T> {
         ensures no_more { IsNone result → (k : ℕ) → holds lane.new k ≡ holds lane.old k }
         ensures fillings { (filling : FillingOf T) → Made lane.old filling → Made lane.new filling }
     {
+        let _ = self.get_at(lane, key)?;
+        Some(Ref::to(key))
+    }
+
+    /// A get whose reference stays with the lane, for who keeps keys in place of references: answers where `Lane::read_at` finds the
+    /// object without looking for the key's place again.
+    #[inline]
+    pub fn get_at(&self, lane: &mut Lane<T>, key: u64) -> Option<usize>
+        requires owns { Owns self.now lane.old }
+        requires room { refs lane.old < most_references }
+        ensures owns { Owns self.now lane.new }
+        ensures same { SameLane lane.old lane.new }
+        ensures outside { is_key self.now.shape key ≡ false → IsNone result × (lane.new ≡ lane.old) }
+        ensures called { is_key self.now.shape key ≡ true → Calls self.now.shape (Getting key) lane.old.book lane.new.book }
+        ensures gets { is_key self.now.shape key ≡ true → Gets key lane.old lane.new (option_map (λ at. record { key = key }) result) }
+        ensures found { IsSome result → FoundSince key lane.old lane.new }
+        ensures missed { IsNone result → MissedSince key lane.old lane.new }
+        ensures seen { IsPrefix lane.old.book.seen lane.new.book.seen }
+        ensures refs { refs lane.new ≡ refs lane.old + (if is_some result then 1 else 0) }
+        ensures held { IfSome result (λ at. (at ≡ position_of self.now.shape (place_of key)) × (1 ≤ holds lane.new key)) }
+        ensures one_more { IsSome result → (k : ℕ) → holds lane.new k ≡ (if key == k then holds lane.old k + 1 else holds lane.old k) }
+        ensures no_more { IsNone result → (k : ℕ) → holds lane.new k ≡ holds lane.old k }
+        ensures fillings { (filling : FillingOf T) → Made lane.old filling → Made lane.new filling }
+    {
         shares_law();
         let number = lane.state.number;
         let spot = self.find(key)?;
@@ -89,11 +116,11 @@ impl<T: Clear + Drop> Pool<T> {
         }
         if lane.state.rows[spot.position].count > 0 {
             add_reference(&mut lane.state, spot.position);
-            return Some(Ref::to(key));
+            return Some(spot.position);
         }
         let share = self.grid.out(&mut lane.hand, spot, number, number);
         add_first_reference(&mut lane.state, spot.position, key, share);
-        Some(Ref::to(key))
+        Some(spot.position)
     }
 
     /// Gives a reference back. Where it was the last to a key that is cleared, the object is cleared in place.
@@ -110,6 +137,48 @@ impl<T: Clear + Drop> Pool<T> {
     {
         let key = reference.spend();
         let spot = self.grid.spot(place_of(key));
+        self.release_at(lane, spot, key);
+    }
+
+    /// Gives back a reference to a key, for who keeps keys in place of references: true where the lane had one. False, without a step,
+    /// where it had none, and for a number that is no key of the pool.
+    pub fn release_key(&self, lane: &mut Lane<T>, key: u64) -> bool
+        requires owns { Owns self.now lane.old }
+        ensures owns { Owns self.now lane.new }
+        ensures same { SameLane lane.old lane.new }
+        ensures held { IsTrue result ↔ (1 ≤ holds lane.old key) }
+        ensures none { IsFalse result → lane.new ≡ lane.old }
+        ensures called { IsTrue result → Calls self.now.shape (Releasing key) lane.old.book lane.new.book }
+        ensures releases { IsTrue result → (rest : List Act) × Did (acts.Release lane.old.number key ∷ rest) lane.old lane.new }
+        ensures seen { IsPrefix lane.old.book.seen lane.new.book.seen }
+        ensures refs { refs lane.new + (if result then 1 else 0) ≡ refs lane.old }
+        ensures one_less { IsTrue result → (k : ℕ) → holds lane.new k ≡ (if key == k then holds lane.old k - 1 else holds lane.old k) }
+        ensures fillings { (filling : FillingOf T) → Made lane.old filling → Made lane.new filling }
+    {
+        let Some(spot) = self.find(key) else {
+            return false;
+        };
+        if count_to(&lane.state, spot.position, key) == 0 {
+            return false;
+        }
+        self.release_at(lane, spot, key);
+        true
+    }
+
+    /// Gives back a reference to a key, whose place stands here.
+    #[inline(always)]
+    fn release_at(&self, lane: &mut Lane<T>, spot: Spot, key: u64)
+        requires owns { Owns self.now lane.old }
+        requires spot { IsSpot self.now.shape spot (place_of key) }
+        requires held { 1 ≤ holds lane.old key }
+        ensures owns { Owns self.now lane.new }
+        ensures called { Calls self.now.shape (Releasing key) lane.old.book lane.new.book }
+        ensures releases { (rest : List Act) × Did (acts.Release lane.old.number key ∷ rest) lane.old lane.new }
+        ensures seen { IsPrefix lane.old.book.seen lane.new.book.seen }
+        ensures refs { refs lane.new + 1 ≡ refs lane.old }
+        ensures one_less { (k : ℕ) → holds lane.new k ≡ (if key == k then holds lane.old k - 1 else holds lane.old k) }
+        ensures fillings { (filling : FillingOf T) → Made lane.old filling → Made lane.new filling }
+    {
         let top = lane.state.top(spot.place);
         let at = At {
             spot,

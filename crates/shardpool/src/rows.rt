@@ -1,5 +1,5 @@
 //! The rows of a lane: its references to each place, and its shares under them.
-ghost use Rattle.std.specs.Prelude.{◌≡◌, ◌≢◌, ◌+◌, ◌-◌, ◌<◌, ◌≤◌, Some, None, IsSome, slice_get, slice_set, length};
+ghost use Rattle.std.specs.Prelude.{◌≡◌, ◌≢◌, ◌==◌, ◌+◌, ◌-◌, ◌<◌, ◌≤◌, Some, None, IsSome, slice_get, slice_set, length, if◌then◌else◌};
 ghost use Rattle.keybits.specs.Keys.{generation_of, place_of};
 ghost use Rattle.steplaws.specs.Facts.{most_references};
 ghost use Rattle.poolsteps.specs.Grids.{IsOf, IsSpot, SameSeat};
@@ -12,6 +12,20 @@ use crate::state::{HeldKey, LaneState};
 use keybits::generation_of;
 use poolsteps::{Grid, Hand, Spot, shares_law};
 use slotcell::{Clear, Share};
+
+/// How many references the lane has to a key, by the row of the key's place.
+#[inline]
+pub(crate) fn count_to<T>(state: &LaneState<T>, at: usize, key: u64) -> u32
+    requires at { at < length state.now.rows.items }
+    ensures { (row : Shown T) → slice_get state.now.rows.items at ≡ Some row → result ≡ (if generation_of key == row.generation then row.count else 0) }
+{
+    let row = &state.rows[at];
+    if row.generation == generation_of(key) {
+        row.count
+    } else {
+        0
+    }
+}
 
 /// The row has the first reference to a key, with the share under it.
 #[inline]

@@ -1,12 +1,12 @@
 -- What a call of a key finds before it, and what it then leaves of its lane.
-use Rattle.std.proofs.Common.{◌≡◌, ℕ, ◌+◌, ◌<◌, Bool, List, [], ◌∷◌, length, Option, Some, None, IfSome, sym, ap, ◌∙◌, subst, slice_get, slice_index, slice_index_or, slice_set}
+use Rattle.std.proofs.Common.{◌≡◌, ◌==◌, ℕ, ◌+◌, ◌<◌, Bool, true, List, [], ◌∷◌, length, Option, Some, None, IfSome, sym, ap, ◌∙◌, subst, slice_get, slice_index, slice_index_or, slice_set, if◌then◌else◌}
 use Rattle.atomic_table.specs.Table.{Me}
 use Rattle.slotcell.specs.Share.{Share}
 use Rattle.keybits.specs.declared.shape.Shape.{Shape}
 use Rattle.keybits.specs.Shapes.{position_of}
 use Rattle.keybits.specs.Places.{shard_of}
 use Rattle.keybits.proofs.ShapeLemmas.{is_place-parts}
-use Rattle.keybits.specs.Keys.{place_of, generation_of}
+use Rattle.keybits.specs.Keys.{place_of, generation_of, is_key}
 use Rattle.freelists.specs.Queues.{IsAway}
 use Rattle.freelists.specs.Shards.{place_numbered}
 use Rattle.seqpool.specs.declared.act.Act.{Act}
@@ -17,7 +17,7 @@ use Rattle.poolsteps.specs.declared.grid.Spot.{Spot}
 use Rattle.poolsteps.specs.declared.view.View.{View}
 use Rattle.poolsteps.specs.Views.{the_lane, status_of}
 use Rattle.poolsteps.specs.Grids.{IsSpot}
-use Rattle.poolsteps.specs.Told.{MayTouch}
+use Rattle.poolsteps.specs.Told.{MayTouch, references_seen}
 use Rattle.poolsteps.specs.Moved.{Outs}
 use Rattle.poolsteps.specs.ViewLaws.{HeldLaw}
 use Rattle.poolcalls.specs.declared.reclaimed.Got.TheVariants.{Hit, Miss}
@@ -32,10 +32,11 @@ use Rattle.shardpool.specs.declared.state.LaneState.{LaneState}
 use Rattle.shardpool.specs.Tokens.{PoolOf, LaneOf}
 use Rattle.shardpool.specs.Stores.{Keeps}
 use Rattle.shardpool.specs.LaneStates.{FitsRows, Fits}
+use Rattle.shardpool.specs.Lanes.{holds}
 use Rattle.shardpool.proofs.calls.Ends.{own-away}
 use Rattle.shardpool.proofs.calls.Gets.{Gained, gained, hit-again, hit-moved, hit-may, none-seen, rows-again, rows-begun, miss-told}
 use Rattle.shardpool.proofs.calls.QuietEnds.{Quieted, quieted, quiet-clear, quiet-miss}
-use Rattle.shardpool.proofs.references.RowChanges.{rows-low, rows-stand}
+use Rattle.shardpool.proofs.references.RowChanges.{rows-low, rows-stand, rows-counts}
 use Rattle.shardpool.proofs.frame.SeenHistories.{same-shape}
 
 -- what the lane keeps fits, at the shape of the grid, and the spot is that of the key's place
@@ -51,6 +52,14 @@ ready {content = content} {room = room} {view = view} {s = s} {key = key} {spot 
   fits = subst (λ (z : Shape). Fits content room z view.book s) (sym (same-shape seen owned of_pool)) fits;
   there = subst (λ (p : PoolOf). IsSpot p.shape spot (place_of key)) (sym of_pool) there;
 }
+
+-- what the row of its place counts is how many references the lane has to the key
+pub counts-held : {T : Type 0} {content : T → List ℕ} {room : T → ℕ} {view lane : LaneOf} {z : Shape} {s : LaneState T} {key : ℕ} {spot : Spot} → view ≡ lane
+    → lane.shape ≡ z → Ready content room z key spot view.book s → is_key z key ≡ true → (count : ℕ)
+    → ((row : HeldKey T) → slice_get s.rows.items spot.position ≡ Some row → count ≡ (if generation_of key == row.generation then row.count else 0)) → count ≡ holds lane key
+counts-held {lane = lane} {z = z} {key = key} {spot = spot} seen owned before inside count counts =
+    rows-counts key spot.position before.fits.rows inside before.there.position count counts
+    ∙ (ap (λ (l : LaneOf). references_seen z l.book key) seen ∙ ap (λ (y : Shape). references_seen y lane.book key) (sym owned))
 
 module _ {T : Type 0} {content : T → List ℕ} {room : T → ℕ} {z : Shape} {key : ℕ} {spot : Spot} {v : View} {s : LaneState T} (before : Ready content room z key spot v s) where
   -- the place has a row

@@ -1,6 +1,6 @@
 -- What a row says to those who read it, and the rows that calls leave.
-use Rattle.std.proofs.Common.{◌≡◌, ◌==◌, ℕ, ◌+◌, ◌-◌, ◌<◌, ◌≤◌, ◌≢◌, Bool, true, false, cond, eqb, List, [], ◌∷◌, length, Option, Some, None, IsSome, refl, sym, ap, ◌∙◌, subst, arith, eq-eqb, ne_eqb, slice_get, slice_set, slice_index_or, if◌then◌else◌}
-use Rattle.std.proofs.lemmas.Option.{slice_get_within, slice_get-get_or, get_or_from_slice_get}
+use Rattle.std.proofs.Common.{◌≡◌, ◌==◌, ℕ, ◌+◌, ◌-◌, ◌<◌, ◌≤◌, ◌≢◌, ◌⊎◌, inl, inr, Bool, true, false, cond, eqb, List, [], ◌∷◌, length, Option, Some, None, IsSome, refl, sym, ap, ◌∙◌, subst, arith, eq-eqb, ne_eqb, slice_get, slice_set, slice_index_or, get_or, if◌then◌else◌}
+use Rattle.std.proofs.lemmas.Option.{slice_get_within, slice_get-get_or, slice_get_cases, get_or_from_slice_get}
 use Rattle.std.proofs.lemmas.List.Sums.{get_or-le-sum_by}
 use mathlib.Core.Logic.{dite}
 use native.Mathlib.Decide.{ℕ_discrete}
@@ -49,6 +49,14 @@ none-either false = refl
 grows : (b : Bool) (n : ℕ) → 0 < n → 0 < cond b (n + 1) n
 grows true n some = omega (arith, some)
 grows false n some = some
+
+-- below its length a list has an element
+stands-there : {X : Type 0} (xs : List X) (i : ℕ) → i < length xs → (x : X) × (slice_get xs i ≡ Some x)
+stands-there {X = X} xs i low = known (slice_get_cases xs i).1
+  where
+    known : ((x : X) × (i < length xs) × (slice_get xs i ≡ Some x) × (get_or xs i x ≡ x)) ⊎ ((length xs ≤ i) × (slice_get xs i ≡ None)) → (x : X) × (slice_get xs i ≡ Some x)
+    known (inl found) = (found.0, found.2)
+    known (inr past) = let out = past.0 in absurd (omega (arith, out, low))
 
 -- a key to which a lane refers is one of the shape, of the generation of its place
 pub key-now : (z : Shape) (pool : Pool) (lane key : ℕ) → 0 < references z pool lane key → (is_key z key ≡ true) × ((pool (place_of key)).generation ≡ generation_of key)
@@ -105,6 +113,14 @@ module _ {T : Type 0} {content : T → List ℕ} {room : T → ℕ} {z : Shape} 
   pub rows-read : {v : View} {rows : List (HeldKey T)} {refs : ℕ} (place at : ℕ) (row : HeldKey T) → FitsRows content room z v rows refs → is_place z place ≡ true
       → at ≡ position_of z place → row ≡ slice_index_or rows at row → FitsRow content room z v place row
   rows-read place at row fits inside here read = fits.each place row inside (rows-stand place at row fits inside here read)
+
+  -- the references to a key are those that its place's row counts
+  pub rows-counts : {v : View} {rows : List (HeldKey T)} {refs : ℕ} (key at : ℕ) → FitsRows content room z v rows refs → is_key z key ≡ true → at ≡ position_of z (place_of key)
+      → (count : ℕ) → ((row : HeldKey T) → slice_get rows at ≡ Some row → count ≡ (if generation_of key == row.generation then row.count else 0)) → count ≡ references_seen z v key
+  rows-counts {rows = rows} key at fits inside here count counts =
+      let place = (key_parts z key inside).place in
+      let there = stands-there rows (position_of z (place_of key)) (rows-low (place_of key) fits place) in
+      counts there.0 (ap (slice_get rows) here ∙ there.1) ∙ sym ((fits.each (place_of key) there.0 place there.1).counts key inside refl)
 
   -- the references of a row are among all
   pub rows-count-le : {v : View} {rows : List (HeldKey T)} {refs : ℕ} (i : ℕ) (row : HeldKey T) → FitsRows content room z v rows refs → slice_get rows i ≡ Some row → row.count ≤ refs

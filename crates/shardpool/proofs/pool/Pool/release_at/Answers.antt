@@ -4,72 +4,72 @@ use Rattle.keybits.specs.declared.shape.Shape.{Shape}
 use Rattle.keybits.specs.Shapes.{IsShape}
 use Rattle.freelists.specs.Queues.{IsAway}
 use Rattle.freelists.specs.Shards.{place_numbered}
-use Rattle.steplaws.specs.Calls.Call.{Releasing}
 use Rattle.poolsteps.specs.Grids.{IsSpot}
-use Rattle.shardpool.specs.Tokens.{LaneOf}
+use Rattle.keybits.specs.Keys.{place_of}
+use Rattle.shardpool.specs.Tokens.{PoolOf, LaneOf}
 use Rattle.shardpool.specs.Stores.{Keeps}
 use Rattle.shardpool.specs.LaneStates.{Fits}
-use Rattle.shardpool.specs.Lanes.{Made, Calls}
+use Rattle.shardpool.specs.Lanes.{Made}
 use Rattle.shardpool.proofs.calls.CallParts.{calls-more, calls-behind}
 use Rattle.shardpool.proofs.calls.Releases.{EndsAt, Released, refers-held, lent-some, lent-share, lent-at, end-low, end-more, end-within, beside, released-away, released}
 use Rattle.shardpool.proofs.references.Holdings.{release-holds}
-use Rattle.shardpool.proofs.pool.Pool.release.Given.{Over}
+use Rattle.shardpool.proofs.pool.Pool.release_at.Given.{Over}
 use Rattle.shardpool.proofs.frame.Standing.{seen-of}
-use Rattle.shardpool.proofs.pool.Pool.release.Goals as goal
+use Rattle.shardpool.proofs.pool.Pool.release_at.Goals as goal
 
 pub return_last_share-requires-clause-fits : goal.return_last_share-requires-clause-fits
 return_last_share-requires-clause-fits g c =
-    (refers-held c.lane.view_is c.requires.owns.1 c.self.view_is c.lane.invariant.1 c.requires.held c.spend-key.ensures).fits
+    (refers-held c.lane.view_is c.requires.owns.1 c.self.view_is c.lane.invariant.1 c.requires.held refl).fits
 
 pub return_last_share-requires-clause-held : goal.return_last_share-requires-clause-held
 return_last_share-requires-clause-held g c =
-    (refers-held c.lane.view_is c.requires.owns.1 c.self.view_is c.lane.invariant.1 c.requires.held c.spend-key.ensures).some
+    (refers-held c.lane.view_is c.requires.owns.1 c.self.view_is c.lane.invariant.1 c.requires.held refl).some
 
 pub release-reclaimed-requires-clause-held : goal.release-reclaimed-requires-clause-held
 release-reclaimed-requires-clause-held g c =
-    let refers = refers-held c.lane.view_is c.requires.owns.1 c.self.view_is c.lane.invariant.1 c.requires.held c.spend-key.ensures in
+    let refers = refers-held c.lane.view_is c.requires.owns.1 c.self.view_is c.lane.invariant.1 c.requires.held refl in
     let some = refers.some in
     let same = lent-some refers c.return_last_share.ensures.lends in omega (arith, same, some)
 
 pub release-reclaimed-requires-clause-share : goal.release-reclaimed-requires-clause-share
 release-reclaimed-requires-clause-share g c =
-    let refers = refers-held c.lane.view_is c.requires.owns.1 c.self.view_is c.lane.invariant.1 c.requires.held c.spend-key.ensures in
+    let refers = refers-held c.lane.view_is c.requires.owns.1 c.self.view_is c.lane.invariant.1 c.requires.held refl in
     lent-share refers c.return_last_share.ensures.lends
 
 pub release-reclaimed-requires-clause-at : goal.release-reclaimed-requires-clause-at
 release-reclaimed-requires-clause-at g c =
-    let refers = refers-held c.lane.view_is c.requires.owns.1 c.self.view_is c.lane.invariant.1 c.requires.held c.spend-key.ensures in
-    let spot = subst (IsSpot c.self.inside.grid.shape c.spot-spot.result) c.place_of.ensures.place c.spot-spot.ensures in
+    let refers = refers-held c.lane.view_is c.requires.owns.1 c.self.view_is c.lane.invariant.1 c.requires.held refl in
+    let spot = subst (λ (p : PoolOf). IsSpot p.shape c.args.spot (place_of c.args.key)) (sym c.self.view_is) c.requires.spot in
     lent-at refers c.return_last_share.ensures.lends _ spot refl c.top-top.ensures
 
 pub drop_reference-requires-clause-at : goal.drop_reference-requires-clause-at
 drop_reference-requires-clause-at g c =
-    let refers = refers-held c.lane.view_is c.requires.owns.1 c.self.view_is c.lane.invariant.1 c.requires.held c.spend-key.ensures in
-    let spot = subst (IsSpot c.self.inside.grid.shape c.spot-spot.result) c.place_of.ensures.place c.spot-spot.ensures in
+    let refers = refers-held c.lane.view_is c.requires.owns.1 c.self.view_is c.lane.invariant.1 c.requires.held refl in
+    let spot = subst (λ (p : PoolOf). IsSpot p.shape c.args.spot (place_of c.args.key)) (sym c.self.view_is) c.requires.spot in
     subst (λ (n : ℕ). n < length c.return_last_share.new.state.rows.items) (sym spot.position) (end-low refers c.return_last_share.ensures.lends)
 
 pub drop_reference-requires-clause-more : goal.drop_reference-requires-clause-more
 drop_reference-requires-clause-more g c row stands =
-    let refers = refers-held c.lane.view_is c.requires.owns.1 c.self.view_is c.lane.invariant.1 c.requires.held c.spend-key.ensures in
-    let spot = subst (IsSpot c.self.inside.grid.shape c.spot-spot.result) c.place_of.ensures.place c.spot-spot.ensures in
+    let refers = refers-held c.lane.view_is c.requires.owns.1 c.self.view_is c.lane.invariant.1 c.requires.held refl in
+    let spot = subst (λ (p : PoolOf). IsSpot p.shape c.args.spot (place_of c.args.key)) (sym c.self.view_is) c.requires.spot in
     end-more refers c.return_last_share.ensures.lends row (ap (slice_get c.return_last_share.new.state.rows.items) (sym spot.position) ∙ stands)
 
 pub drop_reference-requires-clause-within : goal.drop_reference-requires-clause-within
 drop_reference-requires-clause-within g c =
-    end-within (refers-held c.lane.view_is c.requires.owns.1 c.self.view_is c.lane.invariant.1 c.requires.held c.spend-key.ensures) c.return_last_share.ensures.lends
+    end-within (refers-held c.lane.view_is c.requires.owns.1 c.self.view_is c.lane.invariant.1 c.requires.held refl) c.return_last_share.ensures.lends
 
 pub keep_reclaimed-requires-clause-shape : goal.keep_reclaimed-requires-clause-shape
 keep_reclaimed-requires-clause-shape g c =
-    let refers = refers-held c.lane.view_is c.requires.owns.1 c.self.view_is c.lane.invariant.1 c.requires.held c.spend-key.ensures in
-    let spot = subst (IsSpot c.self.inside.grid.shape c.spot-spot.result) c.place_of.ensures.place c.spot-spot.ensures in
+    let refers = refers-held c.lane.view_is c.requires.owns.1 c.self.view_is c.lane.invariant.1 c.requires.held refl in
+    let spot = subst (λ (p : PoolOf). IsSpot p.shape c.args.spot (place_of c.args.key)) (sym c.self.view_is) c.requires.spot in
     let ends = subst (λ (n : ℕ). EndsAt n c.return_last_share.new.state c.drop_reference.new.state) spot.position (c.drop_reference.ensures.rows, c.drop_reference.ensures.rest) in
     let so = beside refers c.return_last_share.ensures.lends c.drop_reference.new.state ends in
     subst IsShape (sym so.shape_is) so.seat.shape
 
 pub keep_reclaimed-requires-clause-away : goal.keep_reclaimed-requires-clause-away
 keep_reclaimed-requires-clause-away g c =
-    let refers = refers-held c.lane.view_is c.requires.owns.1 c.self.view_is c.lane.invariant.1 c.requires.held c.spend-key.ensures in
-    let spot = subst (IsSpot c.self.inside.grid.shape c.spot-spot.result) c.place_of.ensures.place c.spot-spot.ensures in
+    let refers = refers-held c.lane.view_is c.requires.owns.1 c.self.view_is c.lane.invariant.1 c.requires.held refl in
+    let spot = subst (λ (p : PoolOf). IsSpot p.shape c.args.spot (place_of c.args.key)) (sym c.self.view_is) c.requires.spot in
     let ends = subst (λ (n : ℕ). EndsAt n c.return_last_share.new.state c.drop_reference.new.state) spot.position (c.drop_reference.ensures.rows, c.drop_reference.ensures.rest) in
     let told = c.release-reclaimed.ensures in
     λ whole is. subst (λ (p : ℕ). IsAway c.drop_reference.new.state.free (place_numbered p)) (sym spot.place_is)
@@ -77,11 +77,11 @@ keep_reclaimed-requires-clause-away g c =
 
 module _ (g : Over) (c : goal.After-keep_reclaimed g) where
   -- what the call leaves of the lane
-  leaves : Released g.T.Clear.content g.T.Clear.room c.self.inside.grid.shape c.spend-key.result c.lane.inside.hand.me.0 c.release-reclaimed.new.hand.me.0 c.lane.inside.state
+  leaves : Released g.T.Clear.content g.T.Clear.room c.self.inside.grid.shape c.args.key c.lane.inside.hand.me.0 c.release-reclaimed.new.hand.me.0 c.lane.inside.state
       c.keep_reclaimed.new.state
   leaves =
-      let refers = refers-held c.lane.view_is c.requires.owns.1 c.self.view_is c.lane.invariant.1 c.requires.held c.spend-key.ensures in
-      let spot = subst (IsSpot c.self.inside.grid.shape c.spot-spot.result) c.place_of.ensures.place c.spot-spot.ensures in
+      let refers = refers-held c.lane.view_is c.requires.owns.1 c.self.view_is c.lane.invariant.1 c.requires.held refl in
+      let spot = subst (λ (p : PoolOf). IsSpot p.shape c.args.spot (place_of c.args.key)) (sym c.self.view_is) c.requires.spot in
       let ends = subst (λ (n : ℕ). EndsAt n c.return_last_share.new.state c.drop_reference.new.state) spot.position (c.drop_reference.ensures.rows, c.drop_reference.ensures.rest) in
       let told = c.release-reclaimed.ensures in
       released refers c.return_last_share.ensures.lends c.drop_reference.new.state ends c.release-reclaimed.result told.called.did told.acts told.reclaimed told.called.idle c.keep_reclaimed.new.state
@@ -101,12 +101,11 @@ pub returns-clause-called : goal.returns-clause-called
 returns-clause-called g c =
     let lends = c.return_last_share.ensures.lends in
     rw (← c.self.view_is, ← c.lane.view_is)
-    (subst (λ (k : ℕ). Calls c.self.inside.grid.shape (Releasing k) c.lane.inside.hand.me.0 c.release-reclaimed.new.hand.me.0) c.spend-key.ensures
-    (calls-more (calls-behind lends.did lends.pushed c.release-reclaimed.ensures.called) (omega arith)))
+    (calls-more (calls-behind lends.did lends.pushed c.release-reclaimed.ensures.called) (omega arith))
 
 pub returns-clause-releases : goal.returns-clause-releases
 returns-clause-releases g c =
-    rw (← c.lane.view_is, ← c.spend-key.ensures) ((leaves g c).did c.lane.inside.hand.table_id c.release-reclaimed.new.hand.table_id (table g c))
+    rw (← c.lane.view_is) ((leaves g c).did c.lane.inside.hand.table_id c.release-reclaimed.new.hand.table_id (table g c))
 
 pub returns-clause-refs : goal.returns-clause-refs
 returns-clause-refs g c = rw (← c.lane.view_is) (leaves g c).refs

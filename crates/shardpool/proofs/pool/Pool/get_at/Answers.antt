@@ -7,11 +7,11 @@ use Rattle.poolcalls.proofs.Moves.{carries-out}
 use Rattle.shardpool.proofs.calls.CallParts.{calls-more}
 use Rattle.shardpool.proofs.calls.Gets.{called-then, seen-within}
 use Rattle.shardpool.proofs.calls.Halts.{fits-own}
-use Rattle.shardpool.proofs.references.Holdings.{get-holds, got-held}
+use Rattle.shardpool.proofs.references.Holdings.{get-holds}
 use Rattle.shardpool.proofs.calls.KeyCalls.{ready, ready-low, ready-at, missed-away, missed, hit-touches, hit-untouched, gained-again, gained-first}
 use Rattle.shardpool.proofs.references.RowChanges.{rows-count-le}
 use Rattle.shardpool.proofs.frame.Standing.{missed-outside, found-since, missed-since, seen-of}
-use Rattle.shardpool.proofs.pool.Pool.get.Goals as goal
+use Rattle.shardpool.proofs.pool.Pool.get_at.Goals as goal
 
 pub get-got-requires-clause-at : goal.get-got-requires-clause-at
 get-got-requires-clause-at g c =
@@ -96,7 +96,7 @@ returns-then-index-gt0-clause-gets g c key =
     let before = ready c.lane.view_is c.requires.owns.1 c.self.view_is c.lane.invariant.1 c.in_ok-spot.ensures.spot in
     let left = gained-again before c.in-Hit.ensures.called c.in-Hit.ensures.got c.index.result.now c.index.ensures c.add_reference.new.state c.add_reference.ensures.rest c.if-index-gt0.true
     c.add_reference.ensures.rows in
-    rw (← c.lane.view_is) (c.to.ensures, left.holds, c.in-Hit.ensures.got.0, left.did c.lane.inside.hand.table_id c.get-got.new.hand.table_id c.in-Hit.ensures.hand.0)
+    rw (← c.lane.view_is) (refl, left.holds, c.in-Hit.ensures.got.0, left.did c.lane.inside.hand.table_id c.get-got.new.hand.table_id c.in-Hit.ensures.hand.0)
 
 pub returns-then-index-gt0-clause-refs : goal.returns-then-index-gt0-clause-refs
 returns-then-index-gt0-clause-refs g c =
@@ -155,7 +155,7 @@ returns-clause-gets g c key =
     let left = gained-first before c.in-Hit.ensures.called c.in-Hit.ensures.got c.index.result.now c.index.ensures c.add_first_reference.new.state c.add_first_reference.ensures.rest none c.out-share.ensures.outs
     c.add_first_reference.ensures.rows in
     rw (← c.lane.view_is)
-    (c.to-2.ensures, left.holds, c.in-Hit.ensures.got.0, left.did c.lane.inside.hand.table_id c.out-share.new.hand.table_id (c.out-share.ensures.hand.0 ∙ c.in-Hit.ensures.hand.0))
+    (refl, left.holds, c.in-Hit.ensures.got.0, left.did c.lane.inside.hand.table_id c.out-share.new.hand.table_id (c.out-share.ensures.hand.0 ∙ c.in-Hit.ensures.hand.0))
 
 pub returns-clause-refs : goal.returns-clause-refs
 returns-clause-refs g c =
@@ -226,11 +226,11 @@ returns-clause-outside g c out = let bad : true ≡ false = sym (c.in_ok-spot.en
 
 pub returns-then-index-gt0-clause-held : goal.returns-then-index-gt0-clause-held
 returns-then-index-gt0-clause-held g c =
-    let gets = returns-then-index-gt0-clause-gets g c (c.in_ok-spot.ensures.some.0 refl) in (gets.0, got-held c.args.key _ _ _ gets)
+    let gets = returns-then-index-gt0-clause-gets g c (c.in_ok-spot.ensures.some.0 refl) in (c.in_ok-spot.ensures.spot.position, gets.1)
 
 pub returns-clause-held : goal.returns-clause-held
 returns-clause-held g c =
-    let gets = returns-clause-gets g c (c.in_ok-spot.ensures.some.0 refl) in (gets.0, got-held c.args.key _ _ _ gets)
+    let gets = returns-clause-gets g c (c.in_ok-spot.ensures.some.0 refl) in (c.in_ok-spot.ensures.spot.position, gets.1)
 
 -- ---- where its act stands
 
