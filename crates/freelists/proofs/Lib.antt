@@ -1,4 +1,3 @@
 pub mod ShardLemmas
 pub mod QueueLemmas
 pub mod FreeLemmas
-pub mod PushLemmas

@@ -1,12 +1,12 @@
--- A lane's free places: a queue through one link number for each place of the shard, and the first place of a taken chain.
-use Rattle.std.specs.Prelude.{◌≡◌, ◌≢◌, ◌⊎◌, ℕ, zero, suc, ◌≤◌, List, [], ◌∷◌, ◌++◌, map, All, Contains, Option, Some, slice_index}
+-- A lane's free places: a queue in a ring, and the first place of a taken chain.
+use Rattle.std.specs.Prelude.{◌≡◌, ◌≢◌, ◌==◌, ◌⊎◌, ℕ, zero, suc, ◌+◌, ◌≤◌, List, [], ◌∷◌, length, map, All, Contains, Option, Some, slice_index, if◌then◌else◌}
 use Rattle.std.specs.Option.{ForSome}
 use Rattle.keybits.specs.declared.shape.Shape.{Shape}
 use Rattle.keybits.specs.declared.place.Place.{Place}
 use Rattle.keybits.specs.Places.{number_of}
 use Rattle.keybits.specs.Counts.{times}
-use Rattle.keybits.specs.Shapes.{shard_places, index_of}
-use Rattle.keybits.specs.Links.{link_to, linked_place, Leads}
+use Rattle.keybits.specs.Shapes.{shard_places}
+use Rattle.keybits.specs.Links.{link_to}
 use Rattle.freelists.specs.Shards.{IsShardOf, IsOwn, place_numbered}
 
 -- the numbers of places, in order
@@ -18,7 +18,7 @@ pub record AreOwn (shard : ℕ) (z : Shape) (places : List Place) : Type 0 where
   pub inside : All (IsOwn shard z) places
   pub each_once : (number : ℕ) → times number (numbers places) ≤ 1
 
--- a shard, the shape that tells the sizes of its pages, its free places in order, the first place of its taken chain, if one hangs, and the room: for how many links it has memory
+-- a shard, the shape that tells the sizes of its pages, its free places in order, the first place of its taken chain, if one hangs, and the room: for how many places the ring has memory
 pub record FreePlaces : Type 0 where
   pub shard : ℕ
   pub shape : Shape
@@ -37,28 +37,25 @@ pub record HangsApart (shard : ℕ) (z : Shape) (own : List Place) (chain : Opti
   pub inside : ForSome chain (IsOwn shard z)
   pub apart : ForSome chain (λ place. ¬ Contains own place)
 
--- a lane's free places are sound: the shape is within its limits, the own list has own places without repeats, the chain hangs apart, and there is room for every place's link
+-- a lane's free places are sound: the shape is within its limits, the own list has own places without repeats, the chain hangs apart, and there is room for every place
 pub record AreFree (free : FreePlaces) : Type 0 where
   pub limits : IsShardOf free.shard free.shape
   pub own : AreOwn free.shard free.shape free.own
   pub chain : HangsApart free.shard free.shape free.own free.chain
   pub room : shard_places free.shape ≤ free.room
 
--- the link number of a place
-abbrev pub link_in : Shape → List ℕ → ℕ → ℕ
-link_in z links number = slice_index links (index_of z number)
+-- the position after this one in a ring of this length
+abbrev pub next_in_ring : ℕ → ℕ → ℕ
+next_in_ring size at = if at + 1 == size then 0 else at + 1
 
--- so many places, as the link words of a shard lead through them from a word on
-abbrev pub led_through : (ℕ → ℕ) → ℕ → ℕ → ℕ → List Place
-led_through links shard word zero = []
-led_through links shard word (suc more) =
-    place_numbered (linked_place shard word) ∷ led_through links shard (links (linked_place shard word)) more
+-- a position is so many behind another in a ring of this length
+abbrev pub IsEnd : ℕ → ℕ → ℕ → ℕ → Type 0
+IsEnd size first count end = (first + count ≡ end) ⊎ (first + count ≡ end + size)
 
--- the link numbers lead from the first word through these places to the end; last is their last place
-pub record IsQueue (shard : ℕ) (z : Shape) (links : List ℕ) (first : ℕ) (last : Place) (places : List Place) : Type 0 where
-  pub leads : Leads (link_in z links) shard first (numbers places)
-  pub own : AreOwn shard z places
-  pub ends : (places ≡ []) ⊎ ((front : List Place) × (places ≡ front ++ last ∷ []))
+-- so many places of a ring, from this position on
+abbrev pub listed : List ℕ → ℕ → ℕ → List Place
+listed ring first zero = []
+listed ring first (suc more) = place_numbered (slice_index ring first) ∷ listed ring (next_in_ring (length ring) first) more
 
 -- a link word by which the taken chain may go on: the end, or a place of the shard that is neither the chain's first place nor an own free one
 abbrev pub GoesOnBy : FreePlaces → ℕ → Type 0

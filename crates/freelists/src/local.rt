@@ -1,3 +1,6 @@
+ghost use Rattle.std.specs.Prelude.{◌≡◌, ◌<◌, ◌≤◌};
+ghost use Rattle.freelists.specs.Queues.{next_in_ring, IsEnd};
+
 use crate::shard::{Shard, place_of_word};
 use keybits::{MOST_LANES, Place, link_to};
 use std::alloc::Global;
@@ -6,47 +9,43 @@ use std::marker::Model;
 /// The free places of a lane: its own list, first in first out, and beside it the first place of the chain that it took
 /// from its stacks.
 ///
-/// The own list goes through one link number for each place of the shard, so that nothing but `new` takes memory: a
-/// contract sees the room for links beside the places, and no call changes it. The order and the chain are this project's
-/// profile.
+/// The own list stands in a ring with room for each place of the shard, so that nothing but `new` takes memory: a contract
+/// sees the room of the ring beside the places, and no call changes it. The order and the chain are this project's profile.
 #[derive(Drop)]
 pub struct LocalFree {
     shard: Shard,
-    // The link to the place after each place of the list, at the place's index; 0 at the last place.
-    links: Vec<u64>,
-    // The link to the first place of the list, or 0.
-    first: u64,
-    // The last place of the list, where it has one.
-    last: Place,
+    // The numbers of the list's places stand in a row from the first on, and behind the end at the start.
+    ring: Vec<u32>,
+    // Where the first place of the list stands.
+    first: usize,
     // How many places the list has.
-    count: u32,
+    count: usize,
     // The first place of the taken chain, where one hangs.
     chain: Option<Place>,
 }
 
 impl Model for LocalFree {
-    ghost use Rattle.std.specs.Prelude.{◌≡◌, List, length};
-    ghost use Rattle.keybits.specs.declared.place.Place.{Place};
+    ghost use Rattle.std.specs.Prelude.{◌≡◌, ◌<◌, length};
     ghost use Rattle.keybits.specs.Shapes.{shard_places};
     ghost use Rattle.freelists.specs.Shards.{IsShardOf};
     ghost use Rattle.std.specs.Vec.{vec_capacity};
-    ghost use Rattle.freelists.specs.Queues.{FreePlaces, IsQueue, HangsApart, link_in, led_through};
+    ghost use Rattle.freelists.specs.Queues.{FreePlaces, AreOwn, HangsApart, listed};
 
     ghost Value = { FreePlaces };
 
     ghost view = { λ f. record {
       shard = f.shard.number;
       shape = f.shard.shape;
-      own = led_through (link_in f.shard.shape f.links.items) f.shard.number f.first f.count;
+      own = listed f.ring.items f.first f.count;
       chain = f.chain;
-      room = vec_capacity f.links;
+      room = vec_capacity f.ring;
     } };
 
     ghost invariant = { λ f. IsShardOf f.shard.number f.shard.shape
-        × (length f.links.items ≡ shard_places f.shard.shape)
-        × ((own : List Place) × (length own ≡ f.count)
-        × IsQueue f.shard.number f.shard.shape f.links.items f.first f.last own
-        × HangsApart f.shard.number f.shard.shape own f.chain) };
+        × (length f.ring.items ≡ shard_places f.shard.shape)
+        × (f.first < shard_places f.shard.shape)
+        × AreOwn f.shard.number f.shard.shape (listed f.ring.items f.first f.count)
+        × HangsApart f.shard.number f.shard.shape (listed f.ring.items f.first f.count) f.chain };
 }
 
 impl LocalFree {
@@ -74,16 +73,11 @@ impl LocalFree {
     {
         let shard = Shard::new(shard, first_page, pages);
         let places = shard.shape.shard_places() as usize;
-        let links = vec![in alloc; 0; places].ok()?;
+        let ring = vec![in alloc; 0; places].ok()?;
         Some(LocalFree {
             shard,
-            links,
+            ring,
             first: 0,
-            last: Place {
-                shard: 0,
-                page: 0,
-                slot: 0,
-            },
             count: 0,
             chain: None,
         })
@@ -96,16 +90,8 @@ impl LocalFree {
         ensures pushed { self.new ≡ record self.old { own = self.old.own ++ place ∷ [] } }
         ensures places { AreFree self.new }
     {
-        let index = self.shard.index(place);
-        let link = link_to(place.number());
-        self.links[index] = 0;
-        if self.count == 0 {
-            self.first = link;
-        } else {
-            let last = self.shard.index(self.last);
-            self.links[last] = link;
-        }
-        self.last = place;
+        let end = behind(self.first, self.count, self.ring.len());
+        self.ring[end] = place.number();
         self.count += 1;
     }
 
@@ -122,8 +108,8 @@ impl LocalFree {
         if self.count == 0 {
             return None;
         }
-        let place = place_of_word(self.shard.number, self.first);
-        self.first = self.links[self.shard.index(place)];
+        let place = Place::of_number(self.ring[self.first]);
+        self.first = after(self.first, self.ring.len());
         self.count -= 1;
         Some(place)
     }
@@ -135,7 +121,7 @@ impl LocalFree {
         ensures within { result ≤ shard_places self.now.shape }
         ensures places { AreFree self.now }
     {
-        self.count as usize
+        self.count
     }
 
     /// Hangs up a taken chain by its first place. No chain hangs yet, and the place is an own one that isn't on the own
@@ -182,4 +168,26 @@ impl LocalFree {
         };
         place
     }
+}
+
+/// The position after this one in a ring of this length.
+#[inline]
+fn after(at: usize, length: usize) -> usize
+    requires { at < length }
+    ensures { result ≡ next_in_ring length at }
+{
+    if at + 1 == length { 0 } else { at + 1 }
+}
+
+/// The position in a ring of this length that is so many behind another, by less than once round.
+#[inline]
+fn behind(first: usize, count: usize, length: usize) -> usize
+    requires first { first < length }
+    requires count { count < length }
+    requires small { length ≤ 4032 }
+    ensures end { IsEnd length first count result }
+    ensures below { result < length }
+{
+    let end = first + count;
+    if end < length { end } else { end - length }
 }
