@@ -85,7 +85,9 @@ pub(crate) fn are_answered<R: Abort>(
 fn is_checked<R: Abort>(rt: &R, alloc: Global, text: &str, want: &str) {
     match read_acts(alloc, text.as_bytes()) {
         Ok((shape, acts)) => are_answered(rt, alloc, shape, acts.as_slice(), want),
-        Err(fault) => is_answer(rt, alloc, &Answer::Fault(fault.number()), want),
+        Err(refusal) => {
+            is_answer(rt, alloc, &Answer::Fault(refusal.fault.number()), want);
+        }
     }
 }
 

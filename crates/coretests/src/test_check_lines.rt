@@ -4,8 +4,8 @@ use crate::test_texts::{same, same_at};
 use coresteps::CoreFault;
 use keybits::ShapeFault;
 use poolprogram::{RunFault, Watched, check_text};
-use scripts::ScriptFault;
-use seqpool::ActsFault;
+use scripts::{ScriptFault, ScriptPlace, ScriptRefusal};
+use seqpool::{ActsFault, ActsRefusal};
 use std::alloc::AllocGlobal;
 use std::io::Write;
 use std::process::Abort;
@@ -196,10 +196,12 @@ fn watches(rt: HostRuntime) {
 #[test]
 fn names_faults(rt: HostRuntime) {
     for (fault, number, name) in &READ_FAULTS {
-        is_named(&rt, &RunFault::Read(*fault), *number, name);
+        let refusal = ScriptRefusal::new(*fault, ScriptPlace::File);
+        is_named(&rt, &RunFault::Read(refusal), *number, name);
     }
     for (fault, number, name) in &ACTS_FAULTS {
-        is_named(&rt, &RunFault::Acts(*fault), *number, name);
+        let refusal = ActsRefusal::at_line(*fault, 1);
+        is_named(&rt, &RunFault::Acts(refusal), *number, name);
     }
     is_named(&rt, &RunFault::Core(CoreFault::Memory), 25, "Memory");
     is_named(&rt, &RunFault::Open, 5, "Memory");

@@ -96,7 +96,7 @@ fn file_of<R: Abort + AllocGlobal>(rt: &R, shape: &str, scripts: &str) -> String
 fn reading_fault_of<R: Abort + AllocGlobal>(rt: &R, file: &[u8]) -> Fault {
     match parse(rt.alloc(), file) {
         Ok(_) => None,
-        Err(fault) => Some((fault.number(), fault.name())),
+        Err(refusal) => Some((refusal.fault.number(), refusal.fault.name())),
     }
 }
 

@@ -1,4 +1,3 @@
-pub mod Refusing
 pub mod Verdicts
 pub mod Writing
 mod Running

@@ -4,11 +4,11 @@ use Rattle.std.specs.Io.KnownBytes.{Appends}
 use Rattle.keybits.specs.declared.shape.Shape.{Shape}
 use Rattle.seqpool.specs.declared.act.Act.{Act}
 use Rattle.seqpool.specs.declared.summary.Summary.{Summary}
-use Rattle.seqpool.specs.declared.acts_fault.ActsFault.TheVariants as acts
 use Rattle.seqpool.specs.declared.fault.ApplyFault.{ApplyFault}
 use Rattle.seqpool.specs.Checker.{IsSummary, IsIllegalAt}
 use Rattle.seqpool.specs.Pool.{IsLegal}
-use Rattle.seqpool.specs.ActsText.{StandsFor, HasShape, HasShapeFault, StandsForNothing}
+use Rattle.seqpool.specs.ActsPlaces.{RefusesText}
+use Rattle.seqpool.specs.ActsText.{StandsFor}
 use Rattle.seqpool.specs.FaultNames.{apply_fault_name}
 use Rattle.seqpool.specs.Refusals.{apply_fault_number}
 use Rattle.poolprogram.specs.declared.run_fault.RunFault.{RunFault}
@@ -62,11 +62,9 @@ pub record HasVerdict (bytes : List ℕ) : Type 0 where
   pub text : List ℕ
   pub verdict : IsVerdict bytes legal text
 
--- the bytes are refused with this fault: for a wrong line they stand for nothing; for a fault of the shape their first line has it; memory was refused for the acts after the line of a checked shape, or for the line that there is to say
+-- the bytes are refused with this fault: as a text of acts, or as memory was refused for the check of the acts after the line of a checked shape; or memory was refused for the line that there is to say
 abbrev pub RefusesActs : List ℕ → RunFault → Type 0
-RefusesActs bytes (runs.Acts acts.ActsLine) = StandsForNothing bytes
-RefusesActs bytes (runs.Acts (acts.Shape fault)) = HasShapeFault bytes fault
-RefusesActs bytes (runs.Acts acts.Memory) = HasShape bytes
+RefusesActs bytes (runs.Acts refusal) = RefusesText bytes refusal
 RefusesActs bytes runs.Memory = HasVerdict bytes
 RefusesActs bytes (runs.Read fault) = ⊥
 RefusesActs bytes (runs.Core fault) = ⊥

@@ -82,7 +82,7 @@ RefusesReplayOf plan schedule runs.Output = ⊥
 
 -- the file is refused with this fault: as a script file; or the core was refused memory for the plan that it stands for; or memory was refused for the text of a trace
 abbrev pub RefusesReplay : List ℕ → List ℕ → RunFault → Type 0
-RefusesReplay file schedule (runs.Read fault) = RefusesFile file fault
+RefusesReplay file schedule (runs.Read refusal) = RefusesFile file refusal
 RefusesReplay file schedule (runs.Core fault) = HasPlan file
 RefusesReplay file schedule runs.Memory = HasReplay file schedule
 RefusesReplay file schedule (runs.Acts fault) = ⊥

@@ -8,8 +8,8 @@ use Rattle.poolprogram.specs.declared.run_fault.RunFault.TheVariants as runs
 
 -- the number of a fault; the core's only one is want of memory
 abbrev pub run_fault_number : RunFault → ℕ
-run_fault_number (runs.Read fault) = script_fault_number fault
-run_fault_number (runs.Acts fault) = acts_fault_number fault
+run_fault_number (runs.Read refusal) = script_fault_number refusal.fault
+run_fault_number (runs.Acts refusal) = acts_fault_number refusal.fault
 run_fault_number (runs.Core fault) = 25
 run_fault_number runs.Open = 5
 run_fault_number runs.File = 41
@@ -18,8 +18,8 @@ run_fault_number runs.Memory = 43
 
 -- the name of a fault
 abbrev pub run_fault_name : RunFault → List ℕ
-run_fault_name (runs.Read fault) = script_fault_name fault
-run_fault_name (runs.Acts fault) = acts_fault_name fault
+run_fault_name (runs.Read refusal) = script_fault_name refusal.fault
+run_fault_name (runs.Acts refusal) = acts_fault_name refusal.fault
 run_fault_name (runs.Core fault) = codes "Memory"
 run_fault_name runs.Open = codes "Memory"
 run_fault_name runs.File = codes "File"

@@ -13,7 +13,7 @@ use Rattle.workers.specs.declared.jobs.Done.{Done}
 use Rattle.workers.specs.declared.jobs.Report.{Report}
 use Rattle.workers.specs.Works.{Answers}
 use Rattle.scripts.specs.declared.plan.Plan.{Plan}
-use Rattle.scripts.specs.declared.script_fault.ScriptFault.TheVariants as faults
+use Rattle.scripts.specs.ScriptPlaces.{out_of_memory}
 use Rattle.scripts.specs.Readings.{StandsFor, RefusesFile}
 use Rattle.poolprogram.specs.Replays.{HasPlan}
 use Rattle.poolprogram.specs.declared.run_fault.RunFault.{RunFault}
@@ -81,7 +81,7 @@ pub record WritesRun (file : List ℕ) (old new : Option (List ℕ)) : Type 0 wh
 
 -- memory was refused for a worker's report, or for a text
 abbrev pub IsReportFault : RunFault → Type 0
-IsReportFault fault = (fault ≡ runs.Read faults.Memory) ⊎ (fault ≡ runs.Memory)
+IsReportFault fault = (fault ≡ runs.Read out_of_memory) ⊎ (fault ≡ runs.Memory)
 
 -- memory was refused for a pool; or for a row, a worker's report or a text
 abbrev pub IsRunFault : RunFault → Type 0
@@ -89,7 +89,7 @@ IsRunFault fault = (fault ≡ runs.Open) ⊎ IsReportFault fault
 
 -- the file is refused with this fault: as its reading says; or memory was refused for a worker's report, for the pool, or for a row or the text, of the plan that it stands for
 abbrev pub RefusesRun : List ℕ → RunFault → Type 0
-RefusesRun file (runs.Read fault) = RefusesFile file fault ⊎ ((fault ≡ faults.Memory) × HasPlan file)
+RefusesRun file (runs.Read refusal) = RefusesFile file refusal ⊎ ((refusal ≡ out_of_memory) × HasPlan file)
 RefusesRun file runs.Open = HasPlan file
 RefusesRun file runs.Memory = HasPlan file
 RefusesRun file (runs.Core fault) = ⊥

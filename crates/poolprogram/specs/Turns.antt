@@ -6,7 +6,7 @@ use Rattle.commandline.specs.declared.tasks.Turns.TheVariants.{Listed, Drawn}
 use Rattle.schedules.specs.Draws.{drawn}
 use Rattle.schedules.specs.Stops.{IsStopped}
 use Rattle.scripts.specs.declared.plan.Plan.{Plan}
-use Rattle.scripts.specs.declared.script_fault.ScriptFault.TheVariants as faults
+use Rattle.scripts.specs.ScriptPlaces.{out_of_memory}
 use Rattle.scripts.specs.Readings.{StandsFor, RefusesFile}
 use Rattle.poolprogram.specs.Replays.{HasPlan, WritesReplayOf, RefusesReplayOf}
 use Rattle.poolprogram.specs.declared.run_fault.RunFault.{RunFault}
@@ -36,7 +36,7 @@ pub record WritesTurns (file : List ℕ) (turns : Turns) (stop : Option Stop) (a
 
 -- the file is refused with this fault: as its reading says; or memory was refused for the schedule of the plan that it stands for
 abbrev pub RefusesSchedule : List ℕ → RunFault → Type 0
-RefusesSchedule file (runs.Read fault) = RefusesFile file fault ⊎ ((fault ≡ faults.Memory) × HasPlan file)
+RefusesSchedule file (runs.Read refusal) = RefusesFile file refusal ⊎ ((refusal ≡ out_of_memory) × HasPlan file)
 RefusesSchedule file (runs.Core fault) = ⊥
 RefusesSchedule file (runs.Acts fault) = ⊥
 RefusesSchedule file runs.Open = ⊥

@@ -6,7 +6,7 @@ use crate::output::write_and_flush;
 use crate::run_fault::RunFault;
 use crate::writer::Watched;
 use keybits::Shape;
-use seqpool::{Act, ActsFault, ApplyFault, CheckFault, Summary, check, read_acts};
+use seqpool::{Act, ActsRefusal, ApplyFault, CheckFault, Summary, check, read_acts};
 use std::alloc::{AllocError, Global};
 use std::io::Write;
 
@@ -63,10 +63,7 @@ fn read_history(alloc: Global, text: &[u8]) -> Result<(Shape, Vec<Act>), RunFaul
     ensures ok { IfOk result (λ found. StandsFor text.now found.0 found.1.items) }
     ensures err { IfErr result (RefusesActs text.now) }
 {
-    match read_acts(alloc, text) {
-        Ok(found) => Ok(found),
-        Err(fault) => Err(RunFault::Acts(fault)),
-    }
+    read_acts(alloc, text).map_err(RunFault::Acts)
 }
 
 /// What is said of the acts that a text stands for.
@@ -84,7 +81,7 @@ fn judge(alloc: Global, acts: &[u8]) -> Result<Verdict, RunFault>
             let line = illegal_line(alloc, index, fault)?;
             Ok(Verdict { legal: false, line })
         }
-        Err(CheckFault::Memory) => Err(RunFault::Acts(ActsFault::Memory)),
+        Err(CheckFault::Memory) => Err(RunFault::Acts(ActsRefusal::out_of_memory())),
     }
 }
 

@@ -3,22 +3,22 @@ ghost use Rattle.poolprogram.specs.declared.run_fault.RunFault.TheVariants as ru
 
 use crate::write_failed::WriteFailed;
 use coresteps::CoreFault;
-use scripts::ScriptFault;
-use seqpool::ActsFault;
+use scripts::ScriptRefusal;
+use seqpool::ActsRefusal;
 use std::alloc::AllocError;
 use thiserror::Error;
 
 /// Why the program could not do what it was told.
 #[derive(Debug, Drop, Error)]
 pub enum RunFault {
-    /// The script file is no plan (1, 2, 3, 4, 6, 31 to 36), or memory was refused for a schedule or a
-    /// worker's report (36).
+    /// The script file is no plan (1, 2, 3, 4, 6, 31 to 36), with the place of its first fault; or memory
+    /// was refused for a schedule or a worker's report (36).
     #[error(transparent)]
-    Read(ScriptFault),
-    /// The text of acts stands for none: a line is wrong (19), the shape is refused (1, 2, 3, 4, 6) or
-    /// memory was refused (18).
+    Read(ScriptRefusal),
+    /// The text of acts stands for none, with the place of its first fault: a line is wrong (19), the shape
+    /// is refused (1, 2, 3, 4, 6) or memory was refused (18).
     #[error(transparent)]
-    Acts(ActsFault),
+    Acts(ActsRefusal),
     /// The core was refused memory (25).
     #[error(transparent)]
     Core(CoreFault),
@@ -45,8 +45,8 @@ impl RunFault {
         ensures { result ≡ run_fault_number self.now }
     {
         match self {
-            RunFault::Read(fault) => fault.number(),
-            RunFault::Acts(fault) => fault.number(),
+            RunFault::Read(refusal) => refusal.fault.number(),
+            RunFault::Acts(refusal) => refusal.fault.number(),
             RunFault::Core(_) => 25,
             RunFault::Open => 5,
             RunFault::File => 41,
@@ -60,8 +60,8 @@ impl RunFault {
         ensures { result.now ≡ run_fault_name self.now }
     {
         match self {
-            RunFault::Read(fault) => fault.name(),
-            RunFault::Acts(fault) => fault.name(),
+            RunFault::Read(refusal) => refusal.fault.name(),
+            RunFault::Acts(refusal) => refusal.fault.name(),
             RunFault::Core(_) => "Memory",
             RunFault::Open => "Memory",
             RunFault::File => "File",

@@ -4,7 +4,7 @@ ghost use Rattle.traces.specs.Text.{reply_line};
 ghost use Rattle.poolprogram.specs.Runs.{census_text, done_text, AllReported, IsReportFault};
 
 use crate::run_fault::RunFault;
-use scripts::ScriptFault;
+use scripts::ScriptRefusal;
 use shardpool::Census;
 use std::alloc::{AllocError, Global};
 use traces::{Reply, write_reply_line};
@@ -17,7 +17,7 @@ pub(crate) fn replies_text(alloc: Global, dones: &[Done]) -> Result<Vec<u8>, Run
     ensures err { IfErr result (λ fault. IsReportFault fault) }
 {
     if !all_reported(dones) {
-        return Err(RunFault::Read(ScriptFault::Memory));
+        return Err(RunFault::Read(ScriptRefusal::out_of_memory()));
     }
     let mut text = Vec::new(alloc);
     for done in dones {

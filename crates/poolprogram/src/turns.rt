@@ -8,7 +8,7 @@ use crate::run_fault::RunFault;
 use crate::writer::Watched;
 use commandline::{Stop, Turns};
 use schedules::{Memory, draw, stop_after};
-use scripts::{Plan, ScriptFault, parse};
+use scripts::{Plan, ScriptRefusal, parse};
 use std::alloc::Global;
 use std::io::Write;
 
@@ -64,7 +64,7 @@ pub fn plan_turns(
     let plan = parse(alloc, file).map_err(RunFault::Read)?;
     match schedule_of(alloc, plan.shape.lanes, turns, stop) {
         Ok(schedule) => Ok((plan, schedule)),
-        Err(_) => Err(RunFault::Read(ScriptFault::Memory)),
+        Err(_) => Err(RunFault::Read(ScriptRefusal::out_of_memory())),
     }
 }
 

@@ -1,4 +1,5 @@
 pub mod CommandNames
 pub mod ScriptFaults
+pub mod ScriptPlaces
 pub mod ScriptFiles
 pub mod Readings

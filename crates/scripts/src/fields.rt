@@ -1,9 +1,11 @@
 ghost use Rattle.std.specs.Prelude.{◌≡◌, map};
 ghost use Rattle.serde_json.specs.View.{view};
-ghost use Rattle.scripts.specs.ScriptFiles.{has_fields, has_field, field_of, number_at, items_of};
+ghost use Rattle.scripts.specs.ScriptFiles.{has_fields, has_field, holds, field_of, number_at, items_of};
 ghost use Rattle.scripts.specs.Readings.{seen_by};
 
 use crate::script_fault::ScriptFault;
+use crate::script_place::{FieldName, ScriptPlace};
+use crate::script_refusal::ScriptRefusal;
 use serde_json::Value;
 
 /// Whether a value is an object of so many fields.
@@ -16,39 +18,51 @@ pub fn has_fields(value: &Value, count: usize) -> bool
     }
 }
 
-/// Whether a value has a field of this name.
-pub fn has_field(value: &Value, name: &str) -> bool
-    ensures { result ≡ has_field name.now (view value.now) }
+/// Whether a value has this field.
+pub fn has_field(value: &Value, name: FieldName) -> bool
+    ensures { result ≡ has_field name (view value.now) }
 {
-    value.get(name).is_some()
+    value.get(name.text()).is_some()
 }
 
-/// The field of a value that has this name.
-pub fn field<'a>(value: &'a Value, name: &str) -> Result<&'a Value, ScriptFault>
-    ensures { seen_by (λ v. view v.now) result ≡ field_of name.now (view value.now) }
+/// Nothing, where what is told holds; else `Field` at this place.
+pub fn expect(told: bool, place: ScriptPlace) -> Result<(), ScriptRefusal>
+    ensures { result ≡ holds place told }
 {
-    value.get(name).ok_or(ScriptFault::Field)
+    if told {
+        return Ok(());
+    }
+    Err(ScriptRefusal::new(ScriptFault::Field, place))
 }
 
-/// The field of this name, which is a number that a shape may have.
-pub fn read_number(value: &Value, name: &str) -> Result<u32, ScriptFault>
-    ensures { result ≡ number_at name.now (view value.now) }
+/// This field of a value.
+pub fn field(value: &Value, name: FieldName) -> Result<&Value, ScriptRefusal>
+    ensures { seen_by (λ v. view v.now) result ≡ field_of name (view value.now) }
 {
-    let Some(field) = value.get(name) else {
-        return Err(ScriptFault::Number);
+    let refusal = ScriptRefusal::new(ScriptFault::Field, ScriptPlace::Field(name));
+    value.get(name.text()).ok_or(refusal)
+}
+
+/// This field, which is a number that a shape may have.
+pub fn read_number(value: &Value, name: FieldName) -> Result<u32, ScriptRefusal>
+    ensures { result ≡ number_at name (view value.now) }
+{
+    let refusal = ScriptRefusal::new(ScriptFault::Number, ScriptPlace::Field(name));
+    let Some(field) = value.get(name.text()) else {
+        return Err(refusal);
     };
     match field.as_u64() {
         Some(number) if number <= 4_294_967_295 => Ok(number as u32),
-        _ => Err(ScriptFault::Number),
+        _ => Err(refusal),
     }
 }
 
-/// The items of a value that is an array.
-pub fn items(value: &Value) -> Result<&[Value], ScriptFault>
-    ensures { seen_by (λ vs. map view vs.now) result ≡ items_of (view value.now) }
+/// The items of a value at this place that is an array.
+pub fn items(value: &Value, place: ScriptPlace) -> Result<&[Value], ScriptRefusal>
+    ensures { seen_by (λ vs. map view vs.now) result ≡ items_of place (view value.now) }
 {
     match value.as_array() {
         Some(items) => Ok(items.as_slice()),
-        None => Err(ScriptFault::Field),
+        None => Err(ScriptRefusal::new(ScriptFault::Field, place)),
     }
 }

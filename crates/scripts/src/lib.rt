@@ -8,8 +8,12 @@ mod operands;
 mod plan;
 mod reading;
 mod script_fault;
+mod script_place;
+mod script_refusal;
 
 pub use plan::{Plan, Scripts};
 pub use reading::parse;
 pub use schedules::{Memory, draw, stop_after};
 pub use script_fault::ScriptFault;
+pub use script_place::{FieldName, ScriptPlace};
+pub use script_refusal::ScriptRefusal;

@@ -4,6 +4,8 @@ ghost use Rattle.scripts.specs.ScriptFiles.{register_at, register_of, register_n
 ghost use Rattle.scripts.specs.Readings.{Reads};
 
 use crate::script_fault::ScriptFault;
+use crate::script_place::ScriptPlace;
+use crate::script_refusal::ScriptRefusal;
 use hex::FromHexError;
 use schedules::read_digit;
 use seqpool::Bytes;
@@ -23,12 +25,13 @@ fn register_at(number: u64) -> Option<Register>
     })
 }
 
-/// A register, which is its number.
-pub fn read_register(value: &Value) -> Result<Register, ScriptFault>
-    ensures { result ≡ register_of (view value.now) }
+/// A register, which is its number, at this place.
+pub fn read_register(value: &Value, place: ScriptPlace) -> Result<Register, ScriptRefusal>
+    ensures { result ≡ register_of place (view value.now) }
 {
-    let number = value.as_u64().ok_or(ScriptFault::Register)?;
-    register_at(number).ok_or(ScriptFault::Register)
+    let refusal = ScriptRefusal::new(ScriptFault::Register, place);
+    let number = value.as_u64().ok_or(refusal)?;
+    register_at(number).ok_or(refusal)
 }
 
 /// The register that a text names: an at sign and the register's number.
@@ -42,33 +45,40 @@ fn read_register_name(text: &[u8]) -> Option<Register>
     }
 }
 
-/// The key that a text names.
-fn read_key_name(text: &[u8]) -> Result<Operand, ScriptFault>
-    ensures { result ≡ key_named text.now }
+/// The key that a text at this place names.
+fn read_key_name(text: &[u8], place: ScriptPlace) -> Result<Operand, ScriptRefusal>
+    ensures { result ≡ key_named place text.now }
 {
-    let register = read_register_name(text).ok_or(ScriptFault::Register)?;
+    let refusal = ScriptRefusal::new(ScriptFault::Register, place);
+    let register = read_register_name(text).ok_or(refusal)?;
     Ok(Operand::LastOf(register))
 }
 
-/// A key: a number, or a text that names one.
-pub fn read_key(value: &Value) -> Result<Operand, ScriptFault>
-    ensures { result ≡ key_of (view value.now) }
+/// A key at this place: a number, or a text that names one.
+pub fn read_key(value: &Value, place: ScriptPlace) -> Result<Operand, ScriptRefusal>
+    ensures { result ≡ key_of place (view value.now) }
 {
     if let Some(number) = value.as_u64() {
         return Ok(Operand::Number(number));
     }
-    let text = value.as_str().ok_or(ScriptFault::Number)?;
-    read_key_name(text.as_bytes())
+    let refusal = ScriptRefusal::new(ScriptFault::Number, place);
+    let text = value.as_str().ok_or(refusal)?;
+    read_key_name(text.as_bytes(), place)
 }
 
-/// The bytes of a value that is a text of pairs of hexadecimal digits.
-pub fn read_content(alloc: Global, value: &Value) -> Result<Bytes, ScriptFault>
-    ensures { Reads (content_of (view value.now)) result }
+/// The bytes of a value at this place that is a text of pairs of hexadecimal digits.
+pub fn read_content(
+    alloc: Global,
+    value: &Value,
+    place: ScriptPlace,
+) -> Result<Bytes, ScriptRefusal>
+    ensures { Reads (content_of place (view value.now)) result }
 {
-    let text = value.as_str().ok_or(ScriptFault::Number)?;
+    let refusal = ScriptRefusal::new(ScriptFault::Number, place);
+    let text = value.as_str().ok_or(refusal)?;
     match hex::decode(alloc, text) {
         Ok(bytes) => Ok(Bytes::from_vec(bytes)),
-        Err(FromHexError::OutOfMemory) => Err(ScriptFault::Memory),
-        Err(_) => Err(ScriptFault::Number),
+        Err(FromHexError::OutOfMemory) => Err(ScriptRefusal::out_of_memory()),
+        Err(_) => Err(refusal),
     }
 }

@@ -1,8 +1,4 @@
-ghost use Rattle.std.specs.Prelude.{◌≡◌};
-ghost use Rattle.scripts.specs.declared.script_fault.ScriptFault.TheVariants.{Memory};
-
 use keybits::ShapeFault;
-use std::alloc::{AllocError, AllocFailed};
 use std::error::Error;
 use std::fmt;
 
@@ -76,19 +72,3 @@ impl fmt::Display for ScriptFault {
 }
 
 impl Error for ScriptFault {}
-
-impl From<AllocError> for ScriptFault {
-    ghost from_gives = { λ _ fault. fault ≡ Memory };
-
-    fn from(_refused: AllocError) -> ScriptFault {
-        ScriptFault::Memory
-    }
-}
-
-impl<T: Drop> From<AllocFailed<T>> for ScriptFault {
-    ghost from_gives = { λ _ fault. fault ≡ Memory };
-
-    fn from(_refused: AllocFailed<T>) -> ScriptFault {
-        ScriptFault::Memory
-    }
-}

@@ -21,3 +21,4 @@ pub mod ActTexts
 pub mod ActRefusals
 pub mod ShapeTexts
 pub mod TextLaws
+pub mod WrongLines

@@ -1,7 +1,6 @@
 -- What a text of acts stands for, by its lines.
-use Rattle.std.proofs.Common.{◌≡◌, ℕ, ◌<◌, List, [], ◌∷◌, ◌++◌, length, flat_map, true, false, Result, Ok, Err, refl, sym, ap, ◌∙◌, subst, inl, inr, cond, nat_eq, arith, length-append}
+use Rattle.std.proofs.Common.{◌≡◌, ℕ, ◌<◌, List, [], ◌∷◌, ◌++◌, length, flat_map, true, false, refl, sym, ap, ◌∙◌, subst, inl, inr, cond, nat_eq, arith, length-append}
 use Rattle.std.specs.List.{AllByRecursion}
-use Rattle.std.specs.Result.{MatchResult}
 use Rattle.std.proofs.lemmas.Bool.{cases_order}
 use Rattle.keybits.specs.declared.shape.Shape.{Shape}
 use Rattle.keybits.specs.declared.shape.ShapeFault.{ShapeFault}
@@ -9,10 +8,8 @@ use Rattle.keybits.specs.declared.shape.ShapeFault.TheVariants as shapes
 use Rattle.keybits.specs.Shapes.{IsShape}
 use Rattle.keybits.specs.ShapeFaults.{shape_fault_number, IsWithin, IsFirstFault}
 use Rattle.seqpool.specs.declared.act.Act.{Act}
-use Rattle.seqpool.specs.declared.acts_fault.ActsFault.{ActsFault}
-use Rattle.seqpool.specs.declared.acts_fault.ActsFault.TheVariants as acts_faults
-use Rattle.seqpool.specs.ActsText.{act_line, act_text, shape_line, HasLine, IsShapeText, AreNumbers, IsUpToLineFeed, BeginsWith, StandsFor, HasShapeFault, StandsForNothing, RefusesText}
-use Rattle.seqpool.specs.ReadTexts.{NothingHas, Refuses, IsAct, AreActs, IsShapeOf, IsFirstLine}
+use Rattle.seqpool.specs.ActsText.{act_line, act_text, shape_line, HasLine, IsShapeText, AreNumbers, IsUpToLineFeed, BeginsWith, StandsFor, HasShapeFault, StandsForNothing}
+use Rattle.seqpool.specs.ReadTexts.{NothingHas, IsAct, AreActs, IsShapeOf, IsFirstLine}
 use Rattle.seqpool.proofs.Parts.{IsFirst, one-cut}
 use Rattle.seqpool.proofs.ReadLines.{lined, lined-is, lined-end, first-split, first-join, AreAlike, heads-same}
 use Rattle.seqpool.proofs.ActTexts.{act-same, act_line-IsLine}
@@ -154,10 +151,10 @@ heads-are bytes y z r s one two =
     heads-same bytes one.line r two.line s (shape-Without y one.line one.shape) (shape-Without z two.line two.shape) one.text two.text in
     (shape-same y z one.line one.shape (subst (λ (xs : List ℕ). IsShapeOf z xs) (sym lines) two.shape), rests)
 
-begins-same : (bytes : List ℕ) (y z : Shape) → BeginsWith bytes y → BeginsWith bytes z → y ≡ z
+pub begins-same : (bytes : List ℕ) (y z : Shape) → BeginsWith bytes y → BeginsWith bytes z → y ≡ z
 begins-same bytes y z one two = (heads-are bytes y z one.rest two.rest (begins-head bytes y one) (begins-head bytes z two)).0
 
-stands-begins : (bytes : List ℕ) (z : Shape) (acts : List Act) → StandsFor bytes z acts → BeginsWith bytes z
+pub stands-begins : (bytes : List ℕ) (z : Shape) (acts : List Act) → StandsFor bytes z acts → BeginsWith bytes z
 stands-begins bytes z acts there =
     record { numbers = there.numbers; first = there.first; first_line = there.first_line; rest = flat_map act_text acts; text = there.text }
 
@@ -201,57 +198,32 @@ fault_at-number shapes.Generation = refl
 fault_at-number shapes.Tag = refl
 
 -- a shape has one first fault
-one-fault : (z : Shape) (f g : ShapeFault) → IsFirstFault z f → IsFirstFault z g → f ≡ g
+pub one-fault : (z : Shape) (f g : ShapeFault) → IsFirstFault z f → IsFirstFault z g → f ≡ g
 one-fault z f g one two = elim (cases_order (shape_fault_number f) (shape_fault_number g)) [
   | inl same ↦ sym (fault_at-number f) ∙ (ap fault_at same ∙ fault_at-number g)
   | inr (inl below) ↦ absurd (one.0 (two.1 f below))
   | inr (inr above) ↦ absurd (two.0 (one.1 g above))
 ]
 
-refused-shape : (bytes : List ℕ) (y : Shape) (fault : ShapeFault) → BeginsWith bytes y → IsShape y → HasShapeFault bytes fault → ⊥
+pub refused-shape : (bytes : List ℕ) (y : Shape) (fault : ShapeFault) → BeginsWith bytes y → IsShape y → HasShapeFault bytes fault → ⊥
 refused-shape bytes y fault begun checked (z, other, first) =
     no-fault z fault (subst (λ (x : Shape). IsShape x) (begins-same bytes y z begun other) checked) first
 
 -- the first line is none of a shape
+pub no-begin : (bytes line rest : List ℕ) → IsFirstLine line rest bytes → NothingHas IsShapeOf line → (z : Shape) → BeginsWith bytes z → ⊥
+no-begin bytes line rest first never z begun = never z (head-split bytes line rest z begun.rest first (begins-head bytes z begun)).0
+
 pub no-shape : (bytes line rest : List ℕ) → IsFirstLine line rest bytes → NothingHas IsShapeOf line → StandsForNothing bytes
 no-shape bytes line rest first never = record {
   no_acts = λ z acts there. never z (head-split bytes line rest z (flat_map act_text acts) first (stands-head bytes z acts there)).0;
-  no_fault = λ fault (z, begun, is). never z (head-split bytes line rest z begun.rest first (begins-head bytes z begun)).0;
+  no_fault = λ fault (z, begun, is). no-begin bytes line rest first never z begun;
 }
 
 -- the other lines are none of acts
-no-acts : (bytes line rest : List ℕ) (y : Shape) → IsFirstLine line rest bytes → IsShapeOf y line → IsShape y → NothingHas AreActs rest
+pub no-acts : (bytes line rest : List ℕ) (y : Shape) → IsFirstLine line rest bytes → IsShapeOf y line → IsShape y → NothingHas AreActs rest
     → StandsForNothing bytes
 no-acts bytes line rest y first shape checked never = record {
   no_acts = λ z acts there.
       never acts (there.lines, (head-split bytes line rest z (flat_map act_text acts) first (stands-head bytes z acts there)).1);
   no_fault = λ fault has. refused-shape bytes y fault (begins bytes line rest y first shape) checked has;
 }
-
--- the acts' lines are refused
-pub refuses-text : (bytes line rest : List ℕ) (y : Shape) (fault : ActsFault) → IsFirstLine line rest bytes → IsShapeOf y line → IsShape y
-    → Refuses AreActs rest fault → RefusesText bytes fault
-refuses-text bytes line rest y acts_faults.ActsLine first shape checked refused = no-acts bytes line rest y first shape checked refused
-refuses-text bytes line rest y (acts_faults.Shape fault) first shape checked refused = absurd refused
-refuses-text bytes line rest y acts_faults.Memory first shape checked refused = (y, begins bytes line rest y first shape, checked)
-
--- a text that stands for a shape and acts is refused for want of memory alone
-pub only-memory : (bytes : List ℕ) (z : Shape) (acts : List Act) (fault : ActsFault) → StandsFor bytes z acts → RefusesText bytes fault
-    → fault ≡ acts_faults.Memory
-only-memory bytes z acts acts_faults.ActsLine there refused = absurd (refused.no_acts z acts there)
-only-memory bytes z acts (acts_faults.Shape fault) there refused =
-    absurd (refused-shape bytes z fault (stands-begins bytes z acts there) there.checked refused)
-only-memory bytes z acts acts_faults.Memory there refused = refl
-
--- a text whose shape is refused is answered with its fault
-pub shape-refused : {X : Type 0} (bytes : List ℕ) (r : Result X ActsFault) (z_of : X → Shape) (acts_in : X → List Act) (fault : ShapeFault)
-    → MatchResult r (λ found. StandsFor bytes (z_of found) (acts_in found)) (RefusesText bytes) → HasShapeFault bytes fault
-    → r ≡ Err (acts_faults.Shape fault)
-shape-refused bytes (Ok found) z_of acts_in fault answer has =
-    absurd (refused-shape bytes (z_of found) fault (stands-begins bytes (z_of found) (acts_in found) answer) answer.checked has)
-shape-refused bytes (Err acts_faults.ActsLine) z_of acts_in fault answer has = absurd (answer.no_fault fault has)
-shape-refused {X} bytes (Err (acts_faults.Shape other)) z_of acts_in fault (y, begun, first) (z, begins-too, second) =
-    let same : y ≡ z = begins-same bytes y z begun begins-too in
-    ap (λ (f : ShapeFault). let r : Result X ActsFault = Err (acts_faults.Shape f) in r)
-    (one-fault z other fault (subst (λ (x : Shape). IsFirstFault x other) same first) second)
-shape-refused bytes (Err acts_faults.Memory) z_of acts_in fault (y, begun, checked) has = absurd (refused-shape bytes y fault begun checked has)

@@ -9,8 +9,6 @@ use Rattle.keybits.specs.declared.place.TheConstants.{GREATEST_PLACE}
 use Rattle.keybits.specs.declared.shape.ShapeFault.{ShapeFault}
 use Rattle.keybits.specs.Shapes.{IsShape}
 use Rattle.keybits.specs.ShapeFaults.{IsFirstFault}
-use Rattle.seqpool.specs.declared.acts_fault.ActsFault.{ActsFault}
-use Rattle.seqpool.specs.declared.acts_fault.ActsFault.TheVariants as acts_faults
 
 -- a hexadecimal digit, in lower case
 abbrev pub hex_digit : ℕ → ℕ
@@ -157,9 +155,3 @@ HasShape bytes = (z : Shape) × BeginsWith bytes z × IsShape z
 pub record StandsForNothing (bytes : List ℕ) : Type 0 where
   pub no_acts : (z : Shape) (acts : List Act) → StandsFor bytes z acts → ⊥
   pub no_fault : (fault : ShapeFault) → HasShapeFault bytes fault → ⊥
-
--- what a refusal of the whole text says
-abbrev pub RefusesText : List ℕ → ActsFault → Type 0
-RefusesText bytes acts_faults.ActsLine = StandsForNothing bytes
-RefusesText bytes (acts_faults.Shape fault) = HasShapeFault bytes fault
-RefusesText bytes acts_faults.Memory = HasShape bytes

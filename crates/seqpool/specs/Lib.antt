@@ -7,3 +7,4 @@ pub mod Rows
 pub mod Checker
 pub mod ActsText
 pub mod ReadTexts
+pub mod ActsPlaces

@@ -44,14 +44,6 @@ impl ActsFault {
     }
 }
 
-impl From<ShapeFault> for ActsFault {
-    ghost from_gives = { λ fault e. e ≡ acts_faults.Shape fault };
-
-    fn from(fault: ShapeFault) -> ActsFault {
-        ActsFault::Shape(fault)
-    }
-}
-
 impl From<AllocError> for ActsFault {
     ghost from_gives = { λ _ e. e ≡ acts_faults.Memory };
 

@@ -1,13 +1,14 @@
 //! The text of acts, as it is read: line by line, and a line part by part.
 
-ghost use Rattle.std.specs.Prelude.{◌≡◌, ◌↔◌, ◌<◌, ◌++◌, codes, List, length, IfOk, IsErrOf, MatchResult};
+ghost use Rattle.std.specs.Prelude.{◌≡◌, ◌<◌, ◌++◌, codes, List, length, IfOk, IfErr, IsErrOf, MatchResult};
 ghost use Rattle.keybits.specs.declared.shape.Shape.{Shape};
 ghost use Rattle.keybits.specs.declared.shape.ShapeFault.{ShapeFault};
 ghost use Rattle.seqpool.specs.declared.act.Act.{Act};
 ghost use Rattle.seqpool.specs.declared.acts_fault.ActsFault.TheVariants as acts_faults;
-ghost use Rattle.seqpool.specs.ActsText.{RefusesText, StandsFor, StandsForNothing, HasShapeFault, HasShape};
+ghost use Rattle.seqpool.specs.ActsText.{StandsFor, HasShapeFault};
+ghost use Rattle.seqpool.specs.ActsPlaces.{refusal, out_of_memory, RefusesLine, RefusesLines, RefusesText};
 ghost use Rattle.seqpool.specs.declared.act.ActName.TheVariants as names;
-ghost use Rattle.seqpool.specs.ReadTexts.{Finds, Reads, Refuses, HasOperands, IsAct, AreActs, IsShapeOf, AreLast, IsFirstLine};
+ghost use Rattle.seqpool.specs.ReadTexts.{Finds, Reads, HasOperands, IsAct, AreActs, IsShapeOf, AreLast, IsFirstLine};
 
 use crate::act::{Act, ActName};
 use crate::acts_fault::ActsFault;
@@ -15,6 +16,7 @@ use crate::acts_fields::{
     cut, is_word, read_content, read_flag, read_key, read_key_before, read_name, read_place,
     read_places, read_reply, read_truth, read_u32, read_u32_before,
 };
+use crate::acts_refusal::{ActsPlace, ActsRefusal};
 use keybits::Shape;
 use std::alloc::Global;
 
@@ -141,15 +143,27 @@ fn first_line(text: &[u8]) -> (&[u8], &[u8])
     }
 }
 
-/// The acts of the lines of a text.
-fn read_lines(alloc: Global, text: &[u8]) -> Result<Vec<Act>, ActsFault>
-    ensures { MatchResult result (λ acts. AreActs acts.items text.now) (Refuses AreActs text.now) }
+/// The act of a line, which is the line of this number of its text.
+fn read_act_at(alloc: Global, line: &[u8], number: usize) -> Result<Act, ActsRefusal>
+    ensures { MatchResult result (λ act. IsAct act line.now) (RefusesLine number line.now) }
+{
+    match read_act(alloc, line) {
+        Ok(act) => Ok(act),
+        Err(ActsFault::Memory) => Err(ActsRefusal::out_of_memory()),
+        Err(_) => Err(ActsRefusal::at_line(ActsFault::ActsLine, number)),
+    }
+}
+
+/// The acts of the lines of a text, the first of which is line 2.
+fn read_lines(alloc: Global, text: &[u8]) -> Result<Vec<Act>, ActsRefusal>
+    ensures { MatchResult result (λ acts. AreActs acts.items text.now) (RefusesLines text.now) }
 {
     let mut acts = Vec::new(alloc);
     let mut rest = text;
     while !rest.is_empty() {
         let (line, after) = first_line(rest);
-        let act = read_act(alloc, line)?;
+        let number = acts.len() + 2;
+        let act = read_act_at(alloc, line, number)?;
         acts.push(act)?;
         rest = after;
     }
@@ -157,17 +171,19 @@ fn read_lines(alloc: Global, text: &[u8]) -> Result<Vec<Act>, ActsFault>
 }
 
 /// The shape and the acts of a text.
-fn read_text(alloc: Global, bytes: &[u8]) -> Result<(Shape, Vec<Act>), ActsFault>
+fn read_text(alloc: Global, bytes: &[u8]) -> Result<(Shape, Vec<Act>), ActsRefusal>
     ensures { MatchResult result (λ found. StandsFor bytes.now found.0 found.1.items) (RefusesText bytes.now) }
 {
     if bytes.is_empty() {
-        return Err(ActsFault::ActsLine);
+        return Err(ActsRefusal::at_line(ActsFault::ActsLine, 1));
     }
     let (line, rest) = first_line(bytes);
     let Some(shape) = read_shape(line) else {
-        return Err(ActsFault::ActsLine);
+        return Err(ActsRefusal::at_line(ActsFault::ActsLine, 1));
     };
-    shape.check()?;
+    if let Err(fault) = shape.check() {
+        return Err(ActsRefusal::at_line(ActsFault::Shape(fault), 1));
+    }
     let acts = read_lines(alloc, rest)?;
     Ok((shape, acts))
 }
@@ -178,17 +194,17 @@ fn read_text(alloc: Global, bytes: &[u8]) -> Result<(Shape, Vec<Act>), ActsFault
 /// are between the fields, contents are pairs of lower-case hexadecimal digits or a dash for none, and the places of a collect, in
 /// any order, have commas between them. Each line ends with a line feed, which the last may lack; an explicit tag 0 is taken.
 ///
-/// `Shape` comes where the first line is that of a shape which `Shape::check` refuses, whatever follows; `ActsLine` for any other
-/// text that stands for no shape with acts, an empty one too; `Memory` where a growth was refused, and only after a checked
-/// shape. This project's profile.
-pub fn read_acts(alloc: Global, bytes: &[u8]) -> Result<(Shape, Vec<Act>), ActsFault>
+/// `Shape` comes where the first line is that of a shape which `Shape::check` refuses, whatever follows, at line 1; `ActsLine` for
+/// any other text that stands for no shape with acts, at the first line that is wrong, which is line 1 of an empty text; `Memory`
+/// where a growth was refused, and only after a checked shape, at the text as a whole. This project's profile.
+pub fn read_acts(alloc: Global, bytes: &[u8]) -> Result<(Shape, Vec<Act>), ActsRefusal>
     // What is read is what the text stands for, and a text that stands for something is read.
     ensures ok { IfOk result (λ found. StandsFor bytes.now found.0 found.1.items) }
     ensures only { (z : Shape) (acts : List Act) → StandsFor bytes.now z acts
-        → MatchResult result (λ found. (found.0 ≡ z) × (found.1.items ≡ acts)) (λ fault. fault ≡ acts_faults.Memory) }
-    ensures shape { (fault : ShapeFault) → IsErrOf result (acts_faults.Shape fault) ↔ HasShapeFault bytes.now fault }
-    ensures line { IsErrOf result acts_faults.ActsLine → StandsForNothing bytes.now }
-    ensures memory { IsErrOf result acts_faults.Memory → HasShape bytes.now }
+        → MatchResult result (λ found. (found.0 ≡ z) × (found.1.items ≡ acts)) (λ refused. refused ≡ out_of_memory) }
+    ensures shape { (fault : ShapeFault) → HasShapeFault bytes.now fault
+        → IsErrOf result (refusal (acts_faults.Shape fault) (ActsPlace.Line 1)) }
+    ensures refused { IfErr result (RefusesText bytes.now) }
 {
     read_text(alloc, bytes)
 }

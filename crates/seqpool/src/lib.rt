@@ -3,13 +3,14 @@
 //! - Acts: `act` and `contents`; why one is refused, `fault`.
 //! - The pool that acts are applied to: `pool`, which keeps a `row` for each place, with a `tally` for each lane; the `laws`.
 //! - The checker of histories: `checker`, which gives a `summary`.
-//! - Acts as text: `acts_text` writes, `acts_reader` reads by lines and `acts_fields` by fields; `acts_fault`.
+//! - Acts as text: `acts_text` writes, `acts_reader` reads by lines and `acts_fields` by fields; `acts_fault`, and with its place `acts_refusal`.
 #![tactic(auto)]
 
 mod act;
 mod acts_fault;
 mod acts_fields;
 mod acts_reader;
+mod acts_refusal;
 mod acts_text;
 mod checker;
 mod contents;
@@ -23,6 +24,7 @@ mod tally;
 pub use act::Act;
 pub use acts_fault::ActsFault;
 pub use acts_reader::read_acts;
+pub use acts_refusal::{ActsPlace, ActsRefusal};
 pub use acts_text::{hex_pair, write_acts};
 pub use checker::check;
 pub use contents::{Bytes, Places};

@@ -8,4 +8,4 @@ pub returns-in-Some : goal.returns-in-Some
 returns-in-Some c =
     let d = view c.args.value.now in
     let array : Some (items_view c.as_slice.result.now) ≡ as_array d = search rules in
-    sym (items_of_is d c.as_slice.result.now array)
+    sym (items_of_is c.args.place d c.as_slice.result.now array)
