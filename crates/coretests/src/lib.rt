@@ -43,5 +43,7 @@ mod test_texts;
 #[cfg(test)]
 mod test_trace_texts;
 #[cfg(test)]
+mod test_views;
+#[cfg(test)]
 mod test_words;
 pub mod texts;

@@ -1,0 +1,158 @@
+//! The program: it shows a trace that `poolrun replay` printed, as a picture, by its lines with their words decoded, or in sum.
+#![tactic(auto)]
+
+mod words;
+
+ghost use Rattle.std.specs.Prelude.{◌≡◌, ◌≤◌};
+ghost use Rattle.std.specs.Process.{exit_status};
+ghost use Rattle.clap.specs.Values.{kind_of};
+ghost use Rattle.clap.specs.declared.error.Error.{Error as ClapError};
+ghost use Rattle.std.specs.declared.alloc.AllocError.{AllocError};
+ghost use Rattle.poolview.specs.Statuses.{IsHelp, IsMistake};
+
+use crate::words::{Show, Task, read_task};
+use clap::Error as ClapError;
+use clap::error::ErrorKind;
+use commandline::TaskFault;
+use poolprogram::{RunFault, Watched, load, write_and_flush, write_report};
+use std::alloc::{AllocError, Global};
+use std::io::Read;
+use std::process::ExitCode;
+use std::{env, io};
+use tracelines::{Line, ReadFault, read_trace};
+use traceviews::{picture_text, summary_text, words_text};
+
+/// Prints the line of a fault, and ends with its status, 1.
+fn fail(rt: &HostRuntime, fault: RunFault) -> ExitCode
+    ensures { exit_status result ≡ 1 }
+{
+    let _ = write_report(&Err(fault), &mut rt.stderr());
+    ExitCode::FAILURE
+}
+
+/// Prints what `clap` says. The status is 2 for a mistake in the words, and 0 for help, or 1 where that can't be printed.
+/// A want of memory is a fault.
+fn report_clap(rt: &HostRuntime, error: &ClapError) -> ExitCode
+    ensures memory { kind_of error.now ≡ ErrorKind.OutOfMemory → exit_status result ≡ 1 }
+    ensures help { IsHelp (kind_of error.now) → exit_status result ≤ 1 }
+    ensures mistake { IsMistake (kind_of error.now) → exit_status result ≡ 2 }
+{
+    if error.kind() == ErrorKind::OutOfMemory {
+        return fail(rt, RunFault::Memory);
+    }
+    let printed = error.print(rt);
+    if error.use_stderr() {
+        return ExitCode::from(2);
+    }
+    if printed.is_err() {
+        return fail(rt, RunFault::Output);
+    }
+    ExitCode::SUCCESS
+}
+
+/// Prints what is wrong with the words. The status is 2, but for a want of memory, which is a fault, and for help.
+fn report_words(rt: &HostRuntime, fault: TaskFault) -> ExitCode
+    ensures words { fault ≡ TaskFault.Words → exit_status result ≡ 2 }
+    ensures memory { (refused : AllocError) → fault ≡ TaskFault.Memory refused → exit_status result ≡ 1 }
+    ensures clap { (error : ClapError) → fault ≡ TaskFault.Clap error → IsMistake (kind_of error) → exit_status result ≡ 2 }
+{
+    match fault {
+        TaskFault::Clap(error) => report_clap(rt, &error),
+        TaskFault::Words => {
+            let _ = eprintln!(rt; "words");
+            ExitCode::from(2)
+        }
+        TaskFault::Memory(_) => fail(rt, RunFault::Memory),
+    }
+}
+
+/// The words of the command line. One that is no text is a fault of the words.
+fn read_args(rt: &HostRuntime) -> Result<Vec<String>, TaskFault> {
+    match env::args(rt) {
+        Ok(args) => Ok(args.collect(rt.alloc())?),
+        Err(error) => {
+            if error.kind() == io::ErrorKind::OutOfMemory {
+                return Err(TaskFault::Memory(AllocError));
+            }
+            Err(TaskFault::Words)
+        }
+    }
+}
+
+/// The bytes of standard input.
+fn read_input(rt: &HostRuntime) -> Result<Vec<u8>, RunFault> {
+    let mut bytes = Vec::new(rt.alloc());
+    match rt.reader().read_to_end(&mut bytes) {
+        Ok(_) => Ok(bytes),
+        Err(error) => {
+            if error.kind() == io::ErrorKind::OutOfMemory {
+                return Err(RunFault::Memory);
+            }
+            Err(RunFault::File)
+        }
+    }
+}
+
+/// The bytes of the trace's file, or of standard input where its path is a dash.
+fn read_file(rt: &HostRuntime, path: &str) -> Result<Vec<u8>, RunFault> {
+    if path == "-" {
+        return read_input(rt);
+    }
+    load(rt, path)
+}
+
+/// What is shown of a trace.
+fn shown(alloc: Global, show: &Show, lines: &[Line]) -> Result<Vec<u8>, AllocError> {
+    match show {
+        Show::Picture(window) => picture_text(alloc, lines, window),
+        Show::Words => words_text(alloc, lines),
+        Show::Summary => summary_text(alloc, lines),
+    }
+}
+
+/// Shows the lines of a trace on standard output.
+fn show_lines(rt: &HostRuntime, show: &Show, lines: &[Line]) -> Result<(), RunFault> {
+    let text = shown(rt.alloc(), show, lines)?;
+    let mut out = Watched::new(rt.stdout());
+    write_and_flush(text.as_slice(), &mut out)?;
+    Ok(())
+}
+
+/// Prints why a text is no trace: the number of its first line that is none, and what is wanted there.
+fn report_line(rt: &HostRuntime, fault: ReadFault) -> ExitCode
+    ensures { exit_status result ≡ 1 }
+{
+    if fault == ReadFault::Memory {
+        return fail(rt, RunFault::Memory);
+    }
+    let _ = eprintln!(rt; "{fault}");
+    ExitCode::FAILURE
+}
+
+/// Does what a task asks for.
+fn run(rt: &HostRuntime, task: &Task) -> ExitCode {
+    let bytes = match read_file(rt, task.file) {
+        Ok(bytes) => bytes,
+        Err(fault) => return fail(rt, fault),
+    };
+    let lines = match read_trace(rt.alloc(), bytes.as_slice()) {
+        Ok(lines) => lines,
+        Err(fault) => return report_line(rt, fault),
+    };
+    match show_lines(rt, &task.show, lines.as_slice()) {
+        Ok(()) => ExitCode::SUCCESS,
+        Err(fault) => fail(rt, fault),
+    }
+}
+
+/// Reads the words, and does what they ask for.
+fn main(rt: HostRuntime) -> ExitCode {
+    let words = match read_args(&rt) {
+        Ok(words) => words,
+        Err(fault) => return report_words(&rt, fault),
+    };
+    match read_task(rt.alloc(), words.as_slice()) {
+        Ok(task) => run(&rt, &task),
+        Err(fault) => report_words(&rt, fault),
+    }
+}

@@ -1,0 +1,3 @@
+pub mod LineTexts
+pub mod LineRefusals
+pub mod TraceTexts

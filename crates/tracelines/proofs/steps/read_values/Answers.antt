@@ -1,0 +1,21 @@
+use Rattle.std.proofs.Common.{rules, ◌≡◌, None}
+use Rattle.std.proofs.lemmas.Option.{MatchOption-at_none}
+use Rattle.tracelines.proofs.LineRefusals.{values-uncut, values-no_before, values-no_after}
+use Rattle.tracelines.proofs.steps.read_values.Goals as goal
+
+pub returns-in_default : goal.returns-in_default
+returns-in_default c =
+    let none : c.cut.result ≡ None = search rules in
+    values-uncut c.args.text.now (MatchOption-at_none _ _ none c.cut.ensures)
+
+pub returns-in_default-read_u64 : goal.returns-in_default-read_u64
+returns-in_default-read_u64 c =
+    let none : c.read_u64.result ≡ None = search rules in
+    values-no_before c.args.text.now c.in-Some.before.now c.in-Some.after.now c.in-Some.ensures
+    (MatchOption-at_none _ _ none c.read_u64.ensures)
+
+pub returns-in_default-read_u64-2 : goal.returns-in_default-read_u64-2
+returns-in_default-read_u64-2 c =
+    let none : c.read_u64-2.result ≡ None = search rules in
+    values-no_after c.args.text.now c.in-Some.before.now c.in-Some.after.now c.in-Some.ensures
+    (MatchOption-at_none _ _ none c.read_u64-2.ensures)

@@ -1,0 +1,65 @@
+-- What is counted, as far as a loop over the lines has come.
+use Rattle.std.proofs.Common.{◌≡◌, ℕ, ◌+◌, ◌<◌, ◌≤◌, max, Bool, true, false, cond, nat_eq, List, [], ◌∷◌, ◌++◌, length, get_or, drop, refl, sym, ap, ◌∙◌, arith, append_assoc}
+use Rattle.std.proofs.lemmas.List.{at_drop_more}
+use Rattle.keybits.specs.Words.{state_bits, state_in, count_in, generation_in}
+use Rattle.keybits.specs.declared.life.State.{State}
+use Rattle.keybits.specs.declared.life.State.TheVariants as states
+use Rattle.tracelines.specs.declared.line.Line.{Line}
+use Rattle.traceviews.specs.Counts.{is_step, unfinished_after, unfinished_from, steps_after, longest_from}
+use Rattle.traceviews.specs.Decoded.{state_text, state_with, counts_text, life_text}
+
+pub state-with : (s : State) → state_with (state_bits s) ≡ s
+state-with states.Idle = refl
+state-with states.Present = refl
+state-with states.Retired = refl
+state-with states.Marked = refl
+
+pub unfinished-next : (lane : ℕ) (lines : List Line) (before whole : Bool) (i : ℕ) (d : Line) → i < length lines
+    → unfinished_from before lane (drop i lines) ≡ whole
+    → unfinished_from (unfinished_after before lane (get_or lines i d)) lane (drop (i + 1) lines) ≡ whole
+unfinished-next lane lines before whole i d within so_far =
+    sym (at_drop_more (unfinished_from before lane) lines i d within) ∙ so_far
+
+-- so many steps at least
+longest-above : (steps lane : ℕ) (lines : List Line) → steps ≤ longest_from steps lane lines
+longest-above steps lane [] = omega arith
+longest-above steps lane (line ∷ more) = omega arith
+
+-- the loop has found so many, and the call has made so many
+pub record IsLongestSoFar (lane steps most i : ℕ) (lines : List Line) : Type 0 where
+  pub few : steps ≤ i
+  pub found : steps ≤ most
+  pub whole : max most (longest_from steps lane (drop i lines)) ≡ longest_from 0 lane lines
+
+near : (own step : Bool) (steps : ℕ) → cond own (cond step (steps + 1) 0) steps ≤ steps + 1
+near true true steps = omega arith
+near true false steps = omega arith
+near false step steps = omega arith
+
+steps-near : (steps lane : ℕ) (line : Line) → steps_after steps lane line ≤ steps + 1
+steps-near steps lane line = near (nat_eq line.lane lane) (is_step line.entry) steps
+
+pub longest-next : (lane steps most next i more : ℕ) (lines : List Line) (line : Line) → i < length lines → IsLongestSoFar lane steps most i lines
+    → line ≡ get_or lines i line → next ≡ steps_after steps lane line → more ≡ max most next → IsLongestSoFar lane next more (i + 1) lines
+longest-next lane steps most next i more lines line within so_far at is more-is =
+    let behind : next ≤ longest_from next lane (drop (i + 1) lines) = longest-above next lane (drop (i + 1) lines) in
+    let low : steps_after steps lane line ≤ steps + 1 = steps-near steps lane line in
+    let reached : steps_after steps lane (get_or lines i line) ≡ next = ap (steps_after steps lane) (sym at) ∙ sym is in
+    let here : longest_from steps lane (drop i lines) ≡ max steps (longest_from next lane (drop (i + 1) lines)) =
+    at_drop_more (longest_from steps lane) lines i line within
+    ∙ ap (λ (n : ℕ). max steps (longest_from n lane (drop (i + 1) lines))) reached in
+    let whole = so_far.whole in
+    let found = so_far.found in
+    let few = so_far.few in
+    record { few = omega arith; found = omega arith; whole = omega arith }
+
+-- a lifecycle word, written after its state
+pub life-parts : (old name mid new : List ℕ) (state : State) (count generation word : ℕ) → mid ≡ old ++ name → name ≡ state_text state
+    → state ≡ state_with (state_in word) → count ≡ count_in word → generation ≡ generation_in word
+    → new ≡ mid ++ counts_text count generation → new ≡ old ++ life_text word
+life-parts old name mid new state count generation word is named state-is count-is generation-is written =
+    written
+    ∙ (ap (λ (xs : List ℕ). xs ++ counts_text count generation) (is ∙ ap (λ (xs : List ℕ). old ++ xs) (named ∙ ap state_text state-is))
+    ∙ (append_assoc old (state_text (state_with (state_in word))) (counts_text count generation)
+    ∙ (ap (λ (n : ℕ). old ++ (state_text (state_with (state_in word)) ++ counts_text n generation)) count-is
+    ∙ ap (λ (n : ℕ). old ++ (state_text (state_with (state_in word)) ++ counts_text (count_in word) n)) generation-is)))

@@ -1,0 +1,3 @@
+pub mod Decoded
+pub mod Counts
+pub mod Ends

@@ -1,0 +1,32 @@
+//! What people see of a trace: its lines with their words decoded, a summary, and a picture.
+//!
+//! - The lines with their words decoded: `words`; a word, a place and a step's name as text: `decoded`.
+//! - The summary: `counts`, `ends` and `summary`; which lanes and places there are: `found`, over the sorted `numbers`.
+//! - The picture: `rows` puts lines together to turns, `picture` draws them; `strips` draws places, `arrows` who finds what another
+//!   left, `boxes` a turn, `head` the title and the legend, `shapes` the elements of SVG.
+//! - What they write to: `page`, a text that remembers a refusal of memory, over `pieces`.
+#![tactic(auto)]
+
+mod arrows;
+mod boxes;
+mod counts;
+mod decoded;
+mod ends;
+mod found;
+mod head;
+mod numbers;
+mod page;
+mod picture;
+mod pieces;
+mod rows;
+mod shapes;
+mod strips;
+mod summary;
+mod words;
+
+pub use counts::{failed_steps, is_unfinished, longest_call, replies_of, steps_of};
+pub use ends::{last_word, places_in};
+pub use picture::{Window, picture_text};
+pub use rows::turn_count;
+pub use summary::summary_text;
+pub use words::words_text;

@@ -1,0 +1,282 @@
+//! The picture of a trace.
+
+use crate::arrows::{Writer, Writers, push_arrow};
+use crate::boxes::{BOX, Columns, LINE, height_of, push_box};
+use crate::found::{lanes_of, places_of};
+use crate::head::{Extent, TOP, push_begin, push_ground, push_lane, push_legend, push_strip_name};
+use crate::numbers::position_of;
+use crate::page::Page;
+use crate::rows::{Row, rows_of};
+use crate::shapes::{Area, push_column};
+use crate::strips::Strips;
+use keybits::Word;
+use std::alloc::{AllocError, Global};
+use tracelines::{Entry, Line, NamedStep};
+
+/// Which turns a picture shows, counted from 0.
+#[derive(Clone, Copy)]
+pub struct Window {
+    /// The first turn.
+    pub first: usize,
+    /// How many turns at most.
+    pub count: usize,
+}
+
+/// How far turns are from each other.
+const GAP: u64 = 12;
+
+/// How wide a picture is at least: its legend has room.
+const LEAST_WIDTH: u64 = 460;
+
+/// The step among the lines of a turn.
+fn step_of(lines: &[Line]) -> Option<&NamedStep> {
+    for line in lines {
+        if let Entry::Step(step) = &line.entry {
+            return Some(step);
+        }
+    }
+    None
+}
+
+/// The rows that a window shows.
+fn shown<'a>(rows: &'a [Row], window: &Window) -> &'a [Row] {
+    let first = window.first.min(rows.len());
+    let count = window.count.min(rows.len() - first);
+    &rows[first..first + count]
+}
+
+/// The lines from one index up to another; none where there are no such lines.
+fn lines_between(lines: &[Line], first: usize, end: usize) -> &[Line] {
+    if first <= end && end <= lines.len() {
+        &lines[first..end]
+    } else {
+        &lines[..0]
+    }
+}
+
+/// The lines of a turn.
+fn lines_of<'a>(lines: &'a [Line], row: &Row) -> &'a [Line] {
+    lines_between(lines, row.first, row.end)
+}
+
+/// The lines of some turns, one after the other.
+fn lines_of_all<'a>(lines: &'a [Line], rows: &[Row]) -> &'a [Line] {
+    match (rows.first(), rows.last()) {
+        (Some(first), Some(last)) => lines_between(lines, first.first, last.end),
+        _ => &lines[..0],
+    }
+}
+
+/// What is drawn, in three layers, and where the next turn is drawn.
+#[derive(Drop)]
+struct Canvas {
+    lanes: Vec<u32>,
+    columns: Columns,
+    strips: Strips,
+    writers: Writers,
+    below: Page,
+    arrows: Page,
+    boxes: Page,
+    y: u64,
+}
+
+/// Notes who left what words have when the first turn is drawn.
+fn note_earlier(lines: &[Line], rows: &[Row], canvas: &mut Canvas) -> Result<(), AllocError> {
+    for row in rows {
+        if let Some(step) = step_of(lines_of(lines, row)) {
+            let column = position_of(canvas.lanes.as_slice(), row.lane);
+            let writer = Writer {
+                column,
+                top: TOP,
+                step: TOP,
+                bottom: TOP,
+            };
+            canvas.writers.note(step, writer)?;
+        }
+    }
+    Ok(())
+}
+
+/// Begins the strip of each place with what its first step finds.
+fn begin_strips(lines: &[Line], rows: &[Row], strips: &mut Strips) {
+    for row in rows.iter().rev() {
+        if let Some(step) = step_of(lines_of(lines, row)) {
+            if let Word::Life { place } = step.word {
+                strips.begin(place, step.before);
+            }
+        }
+    }
+}
+
+/// How high the lines before a turn's step are.
+fn above_step(lines: &[Line]) -> u64 {
+    let mut high = 0u64;
+    for line in lines {
+        if let Entry::Step(_) = &line.entry {
+            return high;
+        }
+        high = high.saturating_add(LINE);
+    }
+    high
+}
+
+/// Draws the step of a turn: its arrow, and the strip of its place.
+fn draw_step(step: &NamedStep, to: Writer, canvas: &mut Canvas) -> Result<(), AllocError> {
+    if let Some(from) = canvas.writers.before(step) {
+        push_arrow(&canvas.columns, from, to, &mut canvas.arrows);
+    }
+    canvas.writers.note(step, to)?;
+    if let Word::Life { place } = step.word {
+        let since = canvas.y;
+        canvas
+            .strips
+            .change(place, step.after, since, &mut canvas.below);
+    }
+    Ok(())
+}
+
+/// Draws a turn, and goes down by its height.
+fn draw_row(
+    number: usize,
+    lines: &[Line],
+    row: &Row,
+    canvas: &mut Canvas,
+) -> Result<(), AllocError> {
+    let lines = lines_of(lines, row);
+    let step = step_of(lines);
+    let column = position_of(canvas.lanes.as_slice(), row.lane);
+    let area = Area {
+        x: canvas.columns.at(column),
+        y: canvas.y,
+        width: BOX,
+        height: height_of(lines.len(), row.has_step),
+    };
+    if let Some(step) = step {
+        let writer = Writer {
+            column,
+            top: area.y,
+            step: area
+                .y
+                .saturating_add(above_step(lines))
+                .saturating_add(LINE - 4),
+            bottom: area.y.saturating_add(area.height),
+        };
+        draw_step(step, writer, canvas)?;
+    }
+    push_box(number, row.lane, lines, step, &area, &mut canvas.boxes);
+    canvas.y = area.y.saturating_add(area.height).saturating_add(GAP);
+    Ok(())
+}
+
+/// Draws turns, the first of which has this number.
+fn draw_rows(
+    first: usize,
+    lines: &[Line],
+    rows: &[Row],
+    canvas: &mut Canvas,
+) -> Result<(), AllocError> {
+    for (index, row) in rows.iter().enumerate() {
+        draw_row(first.saturating_add(index), lines, row, canvas)?;
+    }
+    Ok(())
+}
+
+/// Appends the names of the lanes, and a line down each column.
+fn push_lanes(canvas: &Canvas, out: &mut Page) {
+    for (column, lane) in canvas.lanes.iter().enumerate() {
+        let x = canvas.columns.at(column);
+        push_lane(x, *lane, out);
+        push_column("lane", x.saturating_add(3), TOP, canvas.y, out);
+    }
+}
+
+/// Appends the names of the places.
+fn push_strip_names(strips: &Strips, out: &mut Page) {
+    for (index, place) in strips.places().iter().enumerate() {
+        push_strip_name(strips.left_of(index), *place, out);
+    }
+}
+
+/// Appends the layers, from the lowest to the highest.
+fn push_layers(canvas: &Canvas, out: &mut Page) {
+    push_lanes(canvas, out);
+    push_strip_names(&canvas.strips, out);
+    out.page(&canvas.below);
+    canvas.strips.end(canvas.y, out);
+    out.page(&canvas.arrows);
+    out.page(&canvas.boxes);
+    out.text("</svg>\n");
+}
+
+/// An empty canvas for some turns.
+fn canvas_for(
+    alloc: Global,
+    lines: &[Line],
+    rows: &[Row],
+    window: &Window,
+) -> Result<Canvas, AllocError> {
+    let lanes = lanes_of(alloc, lines)?;
+    let places = places_of(alloc, lines_of_all(lines, shown(rows, window)))?;
+    let columns = Columns::new(lanes.len());
+    let strips = Strips::new(alloc, places, columns.end(), TOP)?;
+    Ok(Canvas {
+        lanes,
+        columns,
+        strips,
+        writers: Writers::new(alloc),
+        below: Page::new(alloc),
+        arrows: Page::new(alloc),
+        boxes: Page::new(alloc),
+        y: TOP,
+    })
+}
+
+/// What of a trace is drawn on a canvas.
+fn extent_of(canvas: &Canvas, first: usize, drawn: usize, count: usize) -> Extent {
+    let places = canvas.strips.places().len();
+    let width = canvas.strips.left_of(places).saturating_add(16);
+    Extent {
+        lanes: canvas.lanes.len(),
+        first,
+        end: first.saturating_add(drawn),
+        count,
+        width: width.max(LEAST_WIDTH),
+        height: canvas.y.saturating_add(16),
+    }
+}
+
+/// Draws turns on a canvas.
+fn drawn(
+    alloc: Global,
+    lines: &[Line],
+    rows: &[Row],
+    window: &Window,
+) -> Result<Canvas, AllocError> {
+    let first = window.first.min(rows.len());
+    let shown_rows = shown(rows, window);
+    let mut canvas = canvas_for(alloc, lines, rows, window)?;
+    note_earlier(lines, &rows[..first], &mut canvas)?;
+    begin_strips(lines, shown_rows, &mut canvas.strips);
+    draw_rows(first, lines, shown_rows, &mut canvas)?;
+    Ok(canvas)
+}
+
+/// The picture of some turns of a trace, as an SVG: each lane a column, each turn a row with its replies and its step, and beside
+/// them a strip for each place that these turns step on. A window past the end shows no turn.
+///
+/// # Errors
+///
+/// `AllocError` where memory is refused.
+pub fn picture_text(alloc: Global, lines: &[Line], window: &Window) -> Result<Vec<u8>, AllocError> {
+    let rows = rows_of(alloc, lines)?;
+    let rows = rows.as_slice();
+    let canvas = drawn(alloc, lines, rows, window)?;
+    let first = window.first.min(rows.len());
+    let extent = extent_of(&canvas, first, shown(rows, window).len(), rows.len());
+    let mut out = Page::new(alloc);
+    push_begin(&extent, &mut out);
+    push_ground(&extent, &mut out);
+    push_legend(&mut out);
+    push_layers(&canvas, &mut out);
+    out.finish()
+}
