@@ -7,83 +7,42 @@ use native.Mathlib.Decide.{ℕ_discrete}
 use Rattle.keybits.specs.declared.shape.Shape.{Shape}
 use Rattle.keybits.specs.declared.step.Word.{Word}
 use Rattle.keybits.specs.declared.step.Word.TheVariants.{Life, Link, Stack}
-use Rattle.keybits.specs.Places.{shard_of}
-use Rattle.keybits.specs.Shapes.{IsShape, is_place, shard_places, index_of}
-use Rattle.keybits.proofs.ShapeLemmas.{is_place-parts, index_of-lt, index_of-injective}
+use Rattle.keybits.specs.Shapes.{IsShape}
 use Rattle.steplaws.specs.Facts.{value_of, with_value, put_at, put_two}
 use Rattle.steplaws.proofs.Updates.{at-here, at-else, two-here, two-row, two-else}
-use Rattle.poolsteps.specs.Layout.{lives_start, shard_words, word_count, index_in, has_word, value_in, words_in}
+use Rattle.poolsteps.specs.Layout.{word_count, index_in, has_word, value_in, words_in}
+use Rattle.poolsteps.proofs.SlotLemmas.{in-row, start-injective}
 
 -- ---- where each word stands
 
--- a word of a place's shard stands inside the table
-in-shard : (z : Shape) (place offset : ℕ) → is_place z place ≡ true → offset < shard_words z
-    → lives_start z + shard_of place * shard_words z + offset < word_count z
-in-shard z place offset inside below =
-    let deep = mul-add-lt (shard_of place) (shard_words z) offset z.lanes (is_place-parts z place inside).0 below in
-    omega arith
-
--- the stack words stand before the lifecycle words
-stack-below : (z : Shape) (shard lane : ℕ) → has_word z (Stack shard lane) ≡ true → index_in z (Stack shard lane) < lives_start z
-stack-below z shard lane has =
+-- the stack words stand in a square behind the two rows
+stack-low : (z : Shape) (shard lane : ℕ) → has_word z (Stack shard lane) ≡ true → shard * z.lanes + lane < z.lanes * z.lanes
+stack-low z shard lane has =
     let both = and_parts (nat_lt shard z.lanes) (nat_lt lane z.lanes) has in
-    let deep = mul-add-lt shard z.lanes lane z.lanes (ltb-true shard z.lanes both.0) (ltb-true lane z.lanes both.1) in
-    omega arith
+    mul-add-lt shard z.lanes lane z.lanes (ltb-true shard z.lanes both.0) (ltb-true lane z.lanes both.1)
 
 pub index-below : (z : Shape) → IsShape z → (word : Word) → has_word z word ≡ true → index_in z word < word_count z
-index-below z ok (Life place) has =
-    let low = index_of-lt z place has in
-    in-shard z place (index_of z place) has (omega arith)
-index-below z ok (Link place) has =
-    let low = index_of-lt z place has in
-    let deep = in-shard z place (shard_places z + index_of z place) has (omega arith) in
-    omega arith
-index-below z ok (Stack shard lane) has =
-    let low = stack-below z shard lane has in
-    omega arith
+index-below z ok (Life place) has = let low = in-row z place has in omega arith
+index-below z ok (Link place) has = let low = in-row z place has in omega arith
+index-below z ok (Stack shard lane) has = let low = stack-low z shard lane has in omega arith
 
 -- ---- no two words stand at one place
 
--- where two numbers in rows of w behind one start are one, the rows and the places in them are one
-same-row : (start a b c d w : ℕ) → b < w → d < w → start + a * w + b ≡ start + c * w + d → (a ≡ c) × (b ≡ d)
-same-row start a b c d w b_below d_below same = same_from_place a b c d w b_below d_below (omega arith)
-
--- two words of shards at one place are of one shard, and at one offset in it
-same-offset : (z : Shape) (p a q b : ℕ) → a < shard_words z → b < shard_words z
-    → lives_start z + shard_of p * shard_words z + a ≡ lives_start z + shard_of q * shard_words z + b → (shard_of p ≡ shard_of q) × (a ≡ b)
-same-offset z p a q b = same-row (lives_start z) (shard_of p) a (shard_of q) b (shard_words z)
-
--- a lifecycle word and a link word, of whatever places
-lives-apart : (z : Shape) (p q : ℕ) → is_place z p ≡ true → is_place z q ≡ true → index_in z (Life p) ≢ index_in z (Link q)
-lives-apart z p q hp hq same =
-    let p_low = index_of-lt z p hp in
-    let q_low = index_of-lt z q hq in
-    let one = same-offset z p (index_of z p) q (shard_places z + index_of z q) (omega arith) (omega arith) (omega arith) in
-    absurd (omega (arith, one.1))
-
 -- two words of the pool at one place are one
 index-apart : (z : Shape) (a b : Word) → has_word z a ≡ true → has_word z b ≡ true → index_in z a ≡ index_in z b → a ≡ b
-index-apart z (Life p) (Life q) hp hq same =
-    let p_low = index_of-lt z p hp in
-    let q_low = index_of-lt z q hq in
-    let one = same-offset z p (index_of z p) q (index_of z q) (omega arith) (omega arith) same in
-    ap Life (index_of-injective z p q hp hq one.0 one.1)
-index-apart z (Link p) (Link q) hp hq same =
-    let p_low = index_of-lt z p hp in
-    let q_low = index_of-lt z q hq in
-    let one = same-offset z p (shard_places z + index_of z p) q (shard_places z + index_of z q) (omega arith) (omega arith) (omega arith) in
-    ap Link (index_of-injective z p q hp hq one.0 (omega (arith, one.1)))
+index-apart z (Life p) (Life q) hp hq same = ap Life (start-injective z p q hp hq (omega arith))
+index-apart z (Link p) (Link q) hp hq same = ap Link (start-injective z p q hp hq (omega arith))
 index-apart z (Stack s l) (Stack t m) hs ht same =
     let l_below = ltb-true l z.lanes (and_parts (nat_lt s z.lanes) (nat_lt l z.lanes) hs).1 in
     let m_below = ltb-true m z.lanes (and_parts (nat_lt t z.lanes) (nat_lt m z.lanes) ht).1 in
     let one = same_from_place s l t m z.lanes l_below m_below (omega arith) in
     cc (one.0, one.1)
-index-apart z (Life p) (Link q) hp hq same = absurd (lives-apart z p q hp hq same)
-index-apart z (Link p) (Life q) hp hq same = absurd (lives-apart z q p hq hp (sym same))
-index-apart z (Life p) (Stack t m) hp ht same = let low = stack-below z t m ht in absurd (omega arith)
-index-apart z (Link p) (Stack t m) hp ht same = let low = stack-below z t m ht in absurd (omega arith)
-index-apart z (Stack s l) (Life q) hs hq same = let low = stack-below z s l hs in absurd (omega arith)
-index-apart z (Stack s l) (Link q) hs hq same = let low = stack-below z s l hs in absurd (omega arith)
+index-apart z (Life p) (Link q) hp hq same = let low = in-row z p hp in absurd (omega arith)
+index-apart z (Link p) (Life q) hp hq same = let low = in-row z q hq in absurd (omega arith)
+index-apart z (Life p) (Stack t m) hp ht same = let low = in-row z p hp in absurd (omega arith)
+index-apart z (Link p) (Stack t m) hp ht same = let low = in-row z p hp in absurd (omega arith)
+index-apart z (Stack s l) (Life q) hs hq same = let low = in-row z q hq in absurd (omega arith)
+index-apart z (Stack s l) (Link q) hs hq same = let low = in-row z q hq in absurd (omega arith)
 
 -- ---- what each word has
 

@@ -1,14 +1,13 @@
 -- The words that lanes look at are words of the table.
-use Rattle.std.proofs.Common.{ℕ, ◌+◌, ◌*◌, ◌<◌, arith}
+use Rattle.std.proofs.Common.{ℕ, ◌<◌, arith}
 use Rattle.keybits.specs.declared.shape.Shape.{Shape}
-use Rattle.poolsteps.specs.Layout.{look_word, shard_words, word_count}
+use Rattle.keybits.specs.Shapes.{IsShape}
+use Rattle.keybits.proofs.ShapeLemmas.{shape_bounds}
+use Rattle.poolsteps.specs.Layout.{look_word, word_count}
 
--- they stand before the stack words
-before-stacks : (lane lanes stacks more : ℕ) → lane < lanes → 8 * (1 + lane) < 8 * (1 + lanes + stacks) + more
-before-stacks lane lanes stacks more below = omega arith
-
-pub look-below : (z : Shape) (lane : ℕ) → lane < z.lanes → look_word lane < word_count z
-look-below z lane below = before-stacks lane z.lanes (z.lanes * z.lanes) (z.lanes * shard_words z) below
+-- they stand before the lifecycle words
+pub look-below : (z : Shape) → IsShape z → (lane : ℕ) → lane < z.lanes → look_word lane < word_count z
+look-below z ok lane below = let few = (shape_bounds z ok).lanes in omega arith
 
 -- the first word, which is read where seats are cut and joined
 pub words-some : (z : Shape) → 0 < word_count z

@@ -7,9 +7,12 @@ use native.Mathlib.Decide.{ℕ_discrete}
 use Rattle.keybits.specs.declared.shape.Shape.{Shape}
 use Rattle.keybits.specs.Places.{shard_of, page_of, slot_of}
 use Rattle.keybits.specs.Shapes.{page_size, position_of, is_place}
-use Rattle.keybits.specs.declared.step.Word.TheVariants.{Life, Link}
+use Rattle.keybits.specs.declared.step.Word.TheVariants.{Life}
 use Rattle.keybits.proofs.ShapeLemmas.{is_place-parts, is_place-from_parts}
 use Rattle.poolsteps.specs.declared.layout.PageRow.{PageRow}
+use Rattle.poolsteps.specs.declared.layout.TheConstants.{LIVES_START}
+use Rattle.poolsteps.specs.declared.grid.Spot.{Spot}
+use Rattle.poolsteps.specs.Grids.{IsSpot}
 use Rattle.poolsteps.specs.Layout.{index_in, slot_start, page_row, page_rows}
 
 pub rows-length : (z : Shape) (count : ℕ) → length (page_rows z count) ≡ count
@@ -37,8 +40,8 @@ row-found z rows are page other row below is =
 -- the row of a page, by whether the shape has it
 abbrev row-of : Shape → ℕ → Bool → PageRow
 row-of z page has = cond has
-    record { places = page_size z (page % 16); position = position_of z (4096 * page); life = index_in z (Life (4096 * page)); link = index_in z (Link (4096 * page)); slot = slot_start z (4096 * page) }
-    record { places = 0; position = 0; life = 0; link = 0; slot = 0 }
+    record { places = page_size z (page % 16); position = position_of z (4096 * page); start = slot_start z (4096 * page) }
+    record { places = 0; position = 0; start = 0 }
 
 -- how many places the row of a page has, by whether the shape has the page
 row-places : (z : Shape) (page : ℕ) (has : Bool) → nat_lt (page % 16) z.pages ≡ has → (page_row z page).places ≡ cond has (page_size z (page % 16)) 0
@@ -62,8 +65,7 @@ place-found z place inside =
 
 -- the row of a page, which tells where each of its places stands
 pub row-spot : (z : Shape) (place : ℕ) (row : PageRow) → is_place z place ≡ true → row ≡ page_row z (place / 4096)
-    → (row.position + place % 4096 ≡ position_of z place) × (row.life + place % 4096 ≡ index_in z (Life place)) × (row.link + place % 4096 ≡ index_in z (Link place))
-    × (row.slot + place % 4096 ≡ slot_start z place)
+    → (row.position + place % 4096 ≡ position_of z place) × (row.start + place % 4096 ≡ slot_start z place)
 row-spot z place row inside is =
     let first : ℕ = 4096 * (place / 4096) in
     let has : row ≡ row-of z (place / 4096) true = is ∙ ap (row-of z (place / 4096)) (lt-ltb (page_of place) z.pages (is_place-parts z place inside).1) in
@@ -72,6 +74,8 @@ row-spot z place row inside is =
     let slot : slot_of first ≡ 0 = omega arith in (
       rw (has, shard, page, slot) (omega arith),
       rw (has, shard, page, slot) (omega arith),
-      rw (has, shard, page, slot) (omega arith),
-      rw (has, shard, page, slot) (omega arith),
     )
+
+-- where the lifecycle word of a place stands
+pub life-at : {z : Shape} {spot : Spot} {place : ℕ} → IsSpot z spot place → LIVES_START + spot.start ≡ index_in z (Life place)
+life-at at = ap (λ (n : ℕ). LIVES_START + n) at.start

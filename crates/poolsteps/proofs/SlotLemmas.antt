@@ -15,7 +15,7 @@ use Rattle.sharelaws.proofs.Cases.{each-slot}
 use Rattle.poolsteps.specs.Layout.{slot_start, slot_row, slot_count, slot_index, slots_in}
 
 -- the slot of a place stands inside a row
-in-row : (z : Shape) (place : ℕ) → is_place z place ≡ true → slot_start z place < slot_row z
+pub in-row : (z : Shape) (place : ℕ) → is_place z place ≡ true → slot_start z place < slot_row z
 in-row z place inside =
     let low = position_of-lt z place inside in
     let shard = (is_place-parts z place inside).0 in
@@ -26,7 +26,7 @@ in-shards : (shard places index : ℕ) → shard * (places + 8) + index ≡ shar
 in-shards shard places index = omega arith
 
 -- two slots at one place of a row are of one place
-start-injective : (z : Shape) (p q : ℕ) → is_place z p ≡ true → is_place z q ≡ true → slot_start z p ≡ slot_start z q → p ≡ q
+pub start-injective : (z : Shape) (p q : ℕ) → is_place z p ≡ true → is_place z q ≡ true → slot_start z p ≡ slot_start z q → p ≡ q
 start-injective z p q p_inside q_inside same =
     let p_low = index_of-lt z p p_inside in
     let q_low = index_of-lt z q q_inside in

@@ -7,12 +7,11 @@ use Rattle.poolsteps.specs.Rule.{World, IsRecord, Stands}
 use Rattle.std.specs.Prelude.{◌≡◌, ◌<◌, ℕ, true, List, [], ◌∷◌, length, slice_get, Option, Some}
 use Rattle.atomic_table.specs.declared.shared.Seat.{Seat}
 use Rattle.keybits.specs.declared.shape.Shape.{Shape}
-use Rattle.keybits.specs.declared.step.Word.TheVariants.{Life, Link}
 use Rattle.keybits.specs.Shapes.{position_of, is_place}
 use Rattle.poolsteps.specs.declared.grid.Spot.{Spot}
 use Rattle.poolsteps.specs.declared.grid.Grid.{Grid}
 use Rattle.poolsteps.specs.declared.view.View.{View}
-use Rattle.poolsteps.specs.Layout.{index_in, slot_start}
+use Rattle.poolsteps.specs.Layout.{slot_start}
 use Rattle.poolsteps.specs.Views.{first_record, the_lane, IsOne}
 
 -- the spot is that of this place of the shape
@@ -20,9 +19,7 @@ pub record IsSpot (z : Shape) (spot : Spot) (place : ℕ) : Type 0 where
   pub place_is : spot.place ≡ place
   pub inside : is_place z place ≡ true
   pub position : spot.position ≡ position_of z place
-  pub life : spot.life ≡ index_in z (Life place)
-  pub link : spot.link ≡ index_in z (Link place)
-  pub slot : spot.slot ≡ slot_start z place
+  pub start : spot.start ≡ slot_start z place
 
 -- the hand is one of the grid
 abbrev pub IsOf : {T : Type 0} → Grid T → Seat (Option (Share T)) View → Type 0

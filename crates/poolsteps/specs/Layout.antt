@@ -6,34 +6,38 @@ use Rattle.keybits.specs.declared.shape.Shape.{Shape}
 use Rattle.keybits.specs.declared.step.Word.{Word}
 use Rattle.keybits.specs.declared.step.Word.TheVariants.{Life, Link, Stack}
 use Rattle.keybits.specs.Places.{shard_of}
-use Rattle.keybits.specs.Shapes.{page_size, shard_places, all_places, index_of, position_of, is_place}
+use Rattle.keybits.specs.Shapes.{page_size, all_places, position_of, is_place}
 use Rattle.slotcell.specs.Share.{Share}
 use Rattle.sharelaws.specs.Shares.{Slots}
 use Rattle.steplaws.specs.Facts.{Words}
 use Rattle.poolsteps.specs.declared.layout.PageRow.{PageRow}
-use Rattle.poolsteps.specs.declared.layout.TheConstants.{WORDS_APART, SHARDS_APART}
+use Rattle.poolsteps.specs.declared.layout.TheConstants.{WORDS_APART, SHARDS_APART, LIVES_START}
 
 -- a word of the lane's own, which no step changes
 abbrev pub look_word : ℕ → ℕ
 look_word lane = WORDS_APART * (1 + lane)
 
--- where the lifecycle word of the first place stands
-abbrev pub lives_start : Shape → ℕ
-lives_start z = WORDS_APART * (1 + z.lanes + z.lanes * z.lanes)
+-- where a place stands in each row of words or of slots
+abbrev pub slot_start : Shape → ℕ → ℕ
+slot_start z place = position_of z place + SHARDS_APART * shard_of place
 
--- how many words each shard has for its places: their lifecycle words, their link words, and those between it and the next shard
-abbrev pub shard_words : Shape → ℕ
-shard_words z = 2 * shard_places z + WORDS_APART
+-- how long such a row is
+abbrev pub slot_row : Shape → ℕ
+slot_row z = all_places z + SHARDS_APART * z.lanes
+
+-- where the row of link words begins: behind that of lifecycle words
+abbrev pub links_start : Shape → ℕ
+links_start z = LIVES_START + slot_row z
 
 -- how many words there are
 abbrev pub word_count : Shape → ℕ
-word_count z = lives_start z + z.lanes * shard_words z
+word_count z = LIVES_START + 2 * slot_row z + WORDS_APART * (z.lanes * z.lanes)
 
 -- where a word of the pool stands
 abbrev pub index_in : Shape → Word → ℕ
-index_in z (Life place) = lives_start z + shard_of place * shard_words z + index_of z place
-index_in z (Link place) = lives_start z + shard_of place * shard_words z + shard_places z + index_of z place
-index_in z (Stack shard lane) = WORDS_APART * (1 + z.lanes + (shard * z.lanes + lane))
+index_in z (Life place) = LIVES_START + slot_start z place
+index_in z (Link place) = links_start z + slot_start z place
+index_in z (Stack shard lane) = LIVES_START + 2 * slot_row z + WORDS_APART * (shard * z.lanes + lane)
 
 -- the pool has this word
 abbrev pub has_word : Shape → Word → Bool
@@ -53,24 +57,16 @@ words_in z words = record {
   stack = λ shard lane. value_in z words (Stack shard lane);
 }
 
--- where the slot of a place stands in each lane's row
-abbrev pub slot_start : Shape → ℕ → ℕ
-slot_start z place = position_of z place + SHARDS_APART * shard_of place
-
 -- where the places of a page stand, of those counted over all shards, 16 to each: those of its first place, and none where the shape has no such page
 abbrev pub page_row : Shape → ℕ → PageRow
 page_row z page = if nat_lt (page % 16) z.pages
-    then record { places = page_size z (page % 16); position = position_of z (4096 * page); life = index_in z (Life (4096 * page)); link = index_in z (Link (4096 * page)); slot = slot_start z (4096 * page) }
-    else record { places = 0; position = 0; life = 0; link = 0; slot = 0 }
+    then record { places = page_size z (page % 16); position = position_of z (4096 * page); start = slot_start z (4096 * page) }
+    else record { places = 0; position = 0; start = 0 }
 
 -- the rows of so many pages
 abbrev pub page_rows : Shape → ℕ → List PageRow
 page_rows z zero = []
 page_rows z (suc pages) = page_rows z pages ++ page_row z pages ∷ []
-
--- how many slots stand between those of a place for two lanes that follow each other
-abbrev pub slot_row : Shape → ℕ
-slot_row z = all_places z + SHARDS_APART * z.lanes
 
 -- how many slots there are
 abbrev pub slot_count : Shape → ℕ

@@ -2,7 +2,7 @@
 ghost use Rattle.std.specs.Prelude.{◌≡◌, ◌*◌};
 ghost use Rattle.keybits.specs.Shapes.{IsShape};
 ghost use Rattle.keybits.specs.SameShapes.{IsShape-prop};
-ghost use Rattle.poolsteps.specs.Layout.{word_count, page_rows, slot_count, slot_row};
+ghost use Rattle.poolsteps.specs.Layout.{word_count, page_rows, slot_count, slot_row, links_start};
 
 use crate::layout::PageRow;
 use crate::plays::PoolRule;
@@ -15,16 +15,15 @@ use std::alloc::Global;
 /// A lane's seat at the table of its pool.
 pub type Hand<T> = Seat<Slot<T>, View>;
 
-/// A place of a pool, and where its words and its slots stand.
+/// A place of a pool, and where it stands.
 #[derive(Clone, Copy, Debug, PartialEq, Eq)]
 pub struct Spot {
     /// The place's number.
     pub place: u32,
     /// Which place it is among all places of the pool.
-    pub position: usize,
-    pub(crate) life: usize,
-    pub(crate) link: usize,
-    pub(crate) slot: usize,
+    pub position: u32,
+    /// Where it stands in each row of words or of slots.
+    pub(crate) start: u32,
 }
 
 /// The words of a pool in one table, and a slot for each place and lane.
@@ -36,6 +35,8 @@ pub struct Grid<T: Clear> {
     pub shape: Shape,
     /// How many slots stand between those of a place for two lanes that follow each other.
     pub(crate) row: usize,
+    /// Where the link words begin.
+    pub(crate) links: usize,
     /// Where the places of each page stand.
     pub(crate) pages: Vec<PageRow>,
     ghost shape_is: { table.shared.key ≡ shape },
@@ -44,4 +45,5 @@ pub struct Grid<T: Clear> {
     ghost deep: { table.shared.table_id.slots ≡ slot_count shape },
     ghost pages_are: { pages.items ≡ page_rows shape (16 * shape.lanes) },
     ghost row_is: { row ≡ slot_row shape },
+    ghost links_are: { links ≡ links_start shape },
 }

@@ -6,7 +6,7 @@ ghost use Rattle.keybits.specs.Shapes.{IsShape, position_of, is_place};
 ghost use Rattle.keybits.specs.Places.{shard_of};
 ghost use Rattle.keybits.specs.declared.step.Word.TheVariants as words;
 ghost use Rattle.slotcell.specs.Share.{Share};
-ghost use Rattle.poolsteps.specs.Layout.{index_in, look_word, lives_start, shard_words, word_count, words_in, page_row, page_rows, slot_row, slot_count, slot_index};
+ghost use Rattle.poolsteps.specs.Layout.{index_in, look_word, links_start, word_count, words_in, page_row, page_rows, slot_start, slot_row, slot_count, slot_index};
 ghost use Rattle.steplaws.specs.MomentLaws.{AreFirst};
 
 use keybits::{Life, PAGE_NUMBERS, Shape, State, shard_of};
@@ -20,29 +20,29 @@ pub(crate) const WORDS_APART: usize = 8;
 /// line of a processor's cache.
 pub(crate) const SHARDS_APART: usize = 8;
 
-/// Where the lifecycle word of the first place stands.
-pub(crate) fn lives_start(shape: &Shape) -> usize
-    requires { IsShape shape.now }
-    ensures { result ≡ lives_start shape.now }
-{
-    let lanes = shape.lanes as usize;
-    WORDS_APART * (1 + lanes + lanes * lanes)
-}
-
-/// How many words each shard has for its places, and between them and those of the next shard.
-pub(crate) fn shard_words(shape: &Shape) -> usize
-    requires { IsShape shape.now }
-    ensures { result ≡ shard_words shape.now }
-{
-    2 * shape.shard_places() as usize + WORDS_APART
-}
+/// Where the lifecycle words begin: behind the very first word and, as far apart, one for each of the most lanes.
+pub(crate) const LIVES_START: usize = 136;
 
 /// How many words there are.
 pub(crate) fn word_count(shape: &Shape) -> usize
     requires { IsShape shape.now }
     ensures { result ≡ word_count shape.now }
 {
-    lives_start(shape) + shape.lanes as usize * shard_words(shape)
+    let lanes = shape.lanes as usize;
+    LIVES_START + 2 * slot_row(shape) + WORDS_APART * (lanes * lanes)
+}
+
+/// Where a place stands in each row of words or of slots; the place has this position among the places of the pool.
+fn slot_start(shape: &Shape, place: u32, position: usize) -> usize
+    requires shape { IsShape shape.now }
+    requires place { is_place shape.now place ≡ true }
+    requires position { position ≡ position_of shape.now place }
+    ensures start { result ≡ slot_start shape.now place }
+    ensures inside { result < slot_row shape.now }
+    ensures small { result < 65536 }
+{
+    let _ = shape;
+    position + SHARDS_APART * shard_of(place) as usize
 }
 
 /// Where the lifecycle word of a place stands, which has this position among the places of the pool.
@@ -53,8 +53,7 @@ pub fn life_word(shape: &Shape, place: u32, position: usize) -> usize
     ensures word { result ≡ index_in shape.now (words.Life place) }
     ensures inside { result < word_count shape.now }
 {
-    let apart = shape.shard_places() as usize + WORDS_APART;
-    lives_start(shape) + position + shard_of(place) as usize * apart
+    LIVES_START + slot_start(shape, place, position)
 }
 
 /// Where the link word of a place stands, which has this position among the places of the pool.
@@ -65,7 +64,16 @@ pub fn link_word(shape: &Shape, place: u32, position: usize) -> usize
     ensures word { result ≡ index_in shape.now (words.Link place) }
     ensures inside { result < word_count shape.now }
 {
-    life_word(shape, place, position) + shape.shard_places() as usize
+    links_start(shape) + slot_start(shape, place, position)
+}
+
+/// Where the link words begin, which stand in the order of the lifecycle words.
+pub(crate) fn links_start(shape: &Shape) -> usize
+    requires { IsShape shape.now }
+    ensures start { result ≡ links_start shape.now }
+    ensures small { result < 65536 }
+{
+    LIVES_START + slot_row(shape)
 }
 
 /// Where the stack word of a shard and another lane stands.
@@ -76,7 +84,7 @@ pub fn stack_word(shape: &Shape, shard: u32, lane: u32) -> usize
     ensures inside { result < word_count shape.now }
 {
     let lanes = shape.lanes as usize;
-    WORDS_APART * (1 + lanes + (shard as usize * lanes + lane as usize))
+    LIVES_START + 2 * slot_row(shape) + WORDS_APART * (shard as usize * lanes + lane as usize)
 }
 
 /// Where the word stands that a lane looks at.
@@ -104,27 +112,22 @@ pub fn slot_at(shape: &Shape, place: u32, position: usize, lane: u32) -> usize
     ensures slot { result ≡ slot_index shape.now place lane }
     ensures inside { result < slot_count shape.now }
 {
-    let start = position + SHARDS_APART * shard_of(place) as usize;
-    lane as usize * slot_row(shape) + start
+    lane as usize * slot_row(shape) + slot_start(shape, place, position)
 }
 
 /// Where the places of a page stand: those of its first place.
 #[derive(Clone, Copy, Debug, PartialEq, Eq)]
-pub(crate) struct PageRow {
+pub struct PageRow {
     /// How many places the page has; 0 where the shape has no such page.
     pub(crate) places: u32,
     /// The position of its first place among all places.
-    pub(crate) position: usize,
-    /// Where the lifecycle word of its first place stands.
-    pub(crate) life: usize,
-    /// Where the link word of its first place stands.
-    pub(crate) link: usize,
-    /// Where the slot of its first place stands in each lane's row.
-    pub(crate) slot: usize,
+    pub position: u32,
+    /// Where its first place stands in each row of words or of slots.
+    pub(crate) start: u32,
 }
 
 /// The rows of all pages, 16 to a shard. None where memory was refused.
-pub(crate) fn page_rows(alloc: Global, shape: &Shape) -> Option<Vec<PageRow>>
+pub fn page_rows(alloc: Global, shape: &Shape) -> Option<Vec<PageRow>>
     requires { IsShape shape.now }
     ensures { IfSome result (λ rows. rows.items ≡ page_rows shape.now (16 * shape.now.lanes)) }
 {
@@ -146,20 +149,15 @@ fn page_row(shape: &Shape, page: u32) -> PageRow
         return PageRow {
             places: 0,
             position: 0,
-            life: 0,
-            link: 0,
-            slot: 0,
+            start: 0,
         };
     }
     let first = page * PAGE_NUMBERS;
     let position = shape.position(first);
-    let life = life_word(shape, first, position);
     PageRow {
         places: shape.page_size(page % 16),
-        position,
-        life,
-        link: life + shape.shard_places() as usize,
-        slot: slot_at(shape, first, position, 0),
+        position: position as u32,
+        start: slot_start(shape, first, position) as u32,
     }
 }
 

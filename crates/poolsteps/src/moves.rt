@@ -136,7 +136,7 @@ impl<T: Clear> Grid<T> {
         requires number { number < self.now.shape.lanes }
         ensures { result ≡ slot_index self.now.shape spot.place number }
     {
-        number as usize * self.row + spot.slot
+        number as usize * self.row + spot.start as usize
     }
 
     /// A look that takes a slot which the lane left so.

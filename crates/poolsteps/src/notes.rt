@@ -107,6 +107,7 @@ impl<T: Clear> Grid<T> {
             table,
             shape: _,
             row: _,
+            links: _,
             pages: _,
         } = self;
         table.close_with(all)

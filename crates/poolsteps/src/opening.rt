@@ -1,6 +1,7 @@
 //! How a pool's table is made, and its places are found.
 ghost use Rattle.std.specs.Prelude.{◌≡◌, ◌/◌, ◌↔◌, [], true, IfSome, IsSome};
-ghost use Rattle.poolsteps.specs.Layout.{page_row};
+ghost use Rattle.keybits.specs.declared.step.Word.TheVariants as words;
+ghost use Rattle.poolsteps.specs.Layout.{page_row, index_in};
 ghost use Rattle.keybits.specs.declared.place.TheConstants.{PAGE_NUMBERS};
 ghost use Rattle.keybits.specs.Shapes.{IsShape, is_place};
 ghost use Rattle.poolsteps.specs.Rule.{first_view};
@@ -8,7 +9,7 @@ ghost use Rattle.poolsteps.specs.Seats.{without_first, first_alone};
 ghost use Rattle.poolsteps.specs.Grids.{IsSpot, IsOf, SameSeat, AreFirstHands};
 
 use crate::grid::{Grid, Hand, Spot};
-use crate::layout::{PageRow, first_slots, first_words, page_rows, slot_row};
+use crate::layout::{PageRow, first_slots, first_words, links_start, page_rows, slot_row};
 use crate::plays::Deal;
 use atomic_table::Table;
 use keybits::{PAGE_NUMBERS, Shape};
@@ -43,6 +44,7 @@ impl<T: Clear> Grid<T> {
         let grid = Grid {
             table,
             row: slot_row(&shape),
+            links: links_start(&shape),
             pages,
             shape,
         };
@@ -88,13 +90,20 @@ impl<T: Clear> Grid<T> {
         requires page { page.now ≡ page_row self.now.shape (place / PAGE_NUMBERS) }
         ensures { IsSpot self.now.shape result place }
     {
-        let index = (place % PAGE_NUMBERS) as usize;
+        let index = place % PAGE_NUMBERS;
         Spot {
             place,
             position: page.position + index,
-            life: page.life + index,
-            link: page.link + index,
-            slot: page.slot + index,
+            start: page.start + index,
         }
+    }
+
+    /// Where the link word of a place stands.
+    #[inline]
+    pub(crate) fn link_of(&self, spot: Spot) -> usize
+        requires { IsSpot self.now.shape spot spot.place }
+        ensures { result ≡ index_in self.now.shape (words.Link spot.place) }
+    {
+        self.links + spot.start as usize
     }
 }

@@ -1,6 +1,8 @@
 //! The steps by which a place of another shard is returned and returned places are taken, and the look. Each is one call of
 //! the table.
 ghost use Rattle.std.specs.Prelude.{◌≡◌, ◌≢◌, ◌<◌, ◌∷◌, Some};
+ghost use Rattle.keybits.specs.declared.step.Word.TheVariants as words;
+ghost use Rattle.poolsteps.specs.Layout.{index_in, word_count};
 ghost use Rattle.steplaws.specs.declared.pending.Pending.{Pending};
 ghost use Rattle.std.specs.Prelude.{Option, ℕ};
 ghost use Rattle.poolsteps.specs.Views.{the_lane, IsOne};
@@ -10,7 +12,7 @@ ghost use Rattle.seqpool.specs.Pool.{pool_after};
 ghost use Rattle.poolsteps.specs.Returned.{Links, Pushes, Takes, Follows, IsToReturn, AimsAt, IsAtRest, rest_of};
 
 use crate::grid::{Grid, Hand, Spot};
-use crate::layout::{look_word, stack_word};
+use crate::layout::{LIVES_START, WORDS_APART, look_word};
 use crate::plays::{Aim, Follow, Link, Push, See, SeeLife, Take};
 use keybits::{Life, link_to, shard_of};
 use slotcell::Clear;
@@ -38,7 +40,9 @@ impl<T: Clear> Grid<T> {
         ensures hand { SameSeat hand.old hand.new }
         ensures links { Links self.now.shape top hand.old.me hand.new.me }
     {
-        self.table.shared.store::<Link<J>>(hand, spot.link, top)
+        self.table
+            .shared
+            .store::<Link<J>>(hand, self.link_of(spot), top)
     }
 
     /// PUSH of a place to return, which is at rest, on its lane's stack at the place's shard, from the top that was linked:
@@ -70,10 +74,21 @@ impl<T: Clear> Grid<T> {
         ensures hand { SameSeat hand.old hand.new }
         ensures pushes { Pushes self.now.shape top hand.old.me result hand.new.me }
     {
-        let word = stack_word(&self.shape, shard_of(spot.place), lane);
+        let word = self.stack_of(shard_of(spot.place), lane);
         self.table
             .shared
             .compare_exchange::<Push<J>>(hand, word, top, link_to(spot.place))
+    }
+
+    /// Where the stack word of a shard and another lane stands.
+    #[inline]
+    fn stack_of(&self, shard: u32, lane: u32) -> usize
+        requires lanes { (shard < self.now.shape.lanes) × (lane < self.now.shape.lanes) }
+        ensures word { result ≡ index_in self.now.shape (words.Stack shard lane) }
+        ensures inside { result < word_count self.now.shape }
+    {
+        let stacks = self.links + self.row;
+        stacks + WORDS_APART * (shard as usize * self.shape.lanes as usize + lane as usize)
     }
 
     /// TAKE of all places that another lane has returned to the shard of this one: they are its taken chain. Answers the
@@ -98,7 +113,7 @@ impl<T: Clear> Grid<T> {
         ensures hand { SameSeat hand.old hand.new }
         ensures takes { Takes self.now.shape from hand.old.me result hand.new.me }
     {
-        let word = stack_word(&self.shape, lane, from);
+        let word = self.stack_of(lane, from);
         self.table.shared.swap::<Take<J>>(hand, word, 0)
     }
 
@@ -123,7 +138,9 @@ impl<T: Clear> Grid<T> {
         ensures hand { SameSeat hand.old hand.new }
         ensures follows { Follows self.now.shape hand.old.me result hand.new.me }
     {
-        self.table.shared.load::<Follow<J>>(hand, spot.link)
+        self.table
+            .shared
+            .load::<Follow<J>>(hand, self.link_of(spot))
     }
 
     /// SEE of a place's lifecycle word: answers the place's generation, as what the lane has then seen has it. Of a place that
@@ -147,7 +164,9 @@ impl<T: Clear> Grid<T> {
         ensures hand { SameSeat hand.old hand.new }
         ensures sees { SeesLife self.now.shape spot.place hand.old.me result hand.new.me }
     {
-        self.table.shared.load::<SeeLife<J>>(hand, spot.life)
+        self.table
+            .shared
+            .load::<SeeLife<J>>(hand, LIVES_START + spot.start as usize)
     }
 
     /// SEE: a look at a word of the lane's own, at which the lane sees what was done so far.

@@ -10,6 +10,7 @@ ghost use Rattle.poolsteps.specs.Told.{Enters, Leaves, Publishes, Marks, Claims,
 ghost use Rattle.poolsteps.specs.Moved.{stored_of};
 
 use crate::grid::{Grid, Hand, Spot};
+use crate::layout::LIVES_START;
 use crate::plays::{Aim, Claim, Enter, Leave, Mark, Publish, Purpose};
 use keybits::{MARK_BIT, ONE_COUNT, PUBLISHED_BIT, claimable, claimed};
 use slotcell::{Clear, Share};
@@ -47,7 +48,7 @@ impl<T: Clear> Grid<T> {
         let _ = purpose;
         self.table
             .shared
-            .fetch_add::<Enter<J>>(hand, spot.life, ONE_COUNT)
+            .fetch_add::<Enter<J>>(hand, LIVES_START + spot.start as usize, ONE_COUNT)
     }
 
     /// LEAVE: one is taken from the count of a key's place. It gives back a reference where nothing is under way, and else
@@ -75,7 +76,7 @@ impl<T: Clear> Grid<T> {
         let _ = key;
         self.table
             .shared
-            .fetch_sub::<Leave<J>>(hand, spot.life, ONE_COUNT)
+            .fetch_sub::<Leave<J>>(hand, LIVES_START + spot.start as usize, ONE_COUNT)
     }
 
     /// PUBLISH, without a reference, of the content of the cell at the place of a key: the place is with the lane, and each
@@ -147,7 +148,7 @@ impl<T: Clear> Grid<T> {
         };
         self.table
             .shared
-            .fetch_add::<Publish<J>>(hand, spot.life, added)
+            .fetch_add::<Publish<J>>(hand, LIVES_START + spot.start as usize, added)
     }
 
     /// MARK, after the ENTER of a clear that hit. Answers the word that was found; the clear is the one that marked the key
@@ -175,7 +176,7 @@ impl<T: Clear> Grid<T> {
         let _ = key;
         self.table
             .shared
-            .fetch_or::<Mark<J>>(hand, spot.life, MARK_BIT)
+            .fetch_or::<Mark<J>>(hand, LIVES_START + spot.start as usize, MARK_BIT)
     }
 
     /// CLAIM of the place and generation that the lane owes: it succeeds where the word found is (generation, MARKED, count
@@ -204,6 +205,6 @@ impl<T: Clear> Grid<T> {
         let new = claimed(old, self.shape.last_generation);
         self.table
             .shared
-            .compare_exchange::<Claim<J>>(hand, spot.life, old, new)
+            .compare_exchange::<Claim<J>>(hand, LIVES_START + spot.start as usize, old, new)
     }
 }

@@ -130,7 +130,7 @@ impl<T: Clear> Lane<T> {
         ensures { (j : ℕ) × PublishedAt self.now.book.seen j reference.now.key (T.content result.now) }
     {
         let key = reference.key;
-        self.read_at(self.state.shape.position(place_of(key)), key)
+        self.read_at(self.state.places.position(place_of(key)), key)
     }
 
     /// As `read`, of a key to which the lane has a reference, and whose place has this position among the places of the pool, which

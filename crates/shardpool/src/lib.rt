@@ -11,6 +11,7 @@ mod lane;
 mod laws;
 mod notes;
 mod opening;
+mod places;
 mod pool;
 mod returned_shares;
 mod rows;

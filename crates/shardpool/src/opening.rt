@@ -9,6 +9,7 @@ ghost use Rattle.shardpool.specs.Opened.{first_book, IsFirstLane, AreFirstLanes}
 use crate::closing::HandRow;
 use crate::fault::OpenFault;
 use crate::lane::Lane;
+use crate::places::Places;
 use crate::pool::Pool;
 use crate::state::{HeldKey, LaneState};
 use freelists::{LocalFree, Pages};
@@ -74,6 +75,7 @@ fn lane_of<T: Clear + Drop>(
         free: LocalFree::new(alloc, shard, shape.first_page, shape.pages)?,
         pages: Pages::new(shard, shape.first_page, shape.pages),
         objects: no_objects(alloc, shape.shard_places() as usize)?,
+        places: Places::of(alloc, shape)?,
         alloc,
     };
     let row = HandRow::new(alloc)?;

@@ -114,13 +114,13 @@ impl<T: Clear + Drop> Pool<T> {
             }
             Got::Hit => {}
         }
-        if lane.state.rows[spot.position].count > 0 {
-            add_reference(&mut lane.state, spot.position);
-            return Some(spot.position);
+        if lane.state.rows[spot.position as usize].count > 0 {
+            add_reference(&mut lane.state, spot.position as usize);
+            return Some(spot.position as usize);
         }
         let share = self.grid.out(&mut lane.hand, spot, number, number);
-        add_first_reference(&mut lane.state, spot.position, key, share);
-        Some(spot.position)
+        add_first_reference(&mut lane.state, spot.position as usize, key, share);
+        Some(spot.position as usize)
     }
 
     /// Gives a reference back. Where it was the last to a key that is cleared, the object is cleared in place.
@@ -158,7 +158,7 @@ impl<T: Clear + Drop> Pool<T> {
         let Some(spot) = self.find(key) else {
             return false;
         };
-        if count_to(&lane.state, spot.position, key) == 0 {
+        if count_to(&lane.state, spot.position as usize, key) == 0 {
             return false;
         }
         self.release_at(lane, spot, key);
@@ -187,7 +187,7 @@ impl<T: Clear + Drop> Pool<T> {
         };
         return_last_share(&self.grid, &mut lane.hand, &mut lane.state, spot, key);
         let reclaimed = release(lane.state.alloc, &self.grid, &mut lane.hand, at, key);
-        drop_reference(&mut lane.state, spot.position);
+        drop_reference(&mut lane.state, spot.position as usize);
         keep_reclaimed(&mut lane.state, spot.place, reclaimed);
     }
 
@@ -277,7 +277,7 @@ impl<T: Clear + Drop> Pool<T> {
             key,
             object,
         );
-        add_first_reference(&mut lane.state, spot.position, key, share);
+        add_first_reference(&mut lane.state, spot.position as usize, key, share);
         Ref::to(key)
     }
 

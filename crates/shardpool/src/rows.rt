@@ -98,7 +98,7 @@ pub(crate) fn return_last_share<T: Clear + Drop>(
 {
     shares_law();
     let number = state.number;
-    if let Some(share) = take_last_share(state, spot.position) {
+    if let Some(share) = take_last_share(state, spot.position as usize) {
         grid.back(hand, spot, number, number, share);
     }
 }

@@ -1,4 +1,5 @@
 //! What a lane keeps beside its seat.
+use crate::places::Places;
 use freelists::{LocalFree, Pages};
 use keybits::{Shape, shard_of};
 use slotcell::{Share, Whole};
@@ -31,6 +32,8 @@ pub(crate) struct LaneState<T> {
     pub(crate) pages: Pages,
     /// For each place of the own shard its object, where that is with the lane.
     pub(crate) objects: Vec<Option<Whole<T>>>,
+    /// Where the places of the pool stand.
+    pub(crate) places: Places,
     pub(crate) alloc: Global,
 }
 

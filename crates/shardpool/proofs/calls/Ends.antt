@@ -47,12 +47,13 @@ use Rattle.shardpool.proofs.references.RowChanges.{end-refs, end-held}
 -- what the lane keeps beside its rows fits what it has seen and did
 pub record FitsBeside {T : Type 0} (content : T → List ℕ) (room : T → ℕ) (z : Shape) (v : View) (s : LaneState T) : Type 0 where
   pub shape_is : s.shape ≡ z
+  pub placed : s.places.shape ≡ z
   pub seat : FitsSeat z v s.number
   pub last_pushed : FitsTops z v s.last_pushed.items
   pub stores : FitsStores content room z v s.free s.pages s.objects.items
 
 pub fits-beside : {T : Type 0} {content : T → List ℕ} {room : T → ℕ} {z : Shape} {v : View} {s : LaneState T} → Fits content room z v s → FitsBeside content room z v s
-fits-beside fits = record { shape_is = fits.shape_is; seat = fits.seat; last_pushed = fits.last_pushed; stores = fits.stores }
+fits-beside fits = record { shape_is = fits.shape_is; placed = fits.placed; seat = fits.seat; last_pushed = fits.last_pushed; stores = fits.stores }
 
 -- which slots such a call may have touched: those of the place where it was reclaimed, and none otherwise
 abbrev pub touched_by : {T : Type 0} → ℕ → Option (Reclaimed T) → ℕ → Bool
@@ -130,13 +131,13 @@ module _ {T : Type 0} {content : T → List ℕ} {room : T → ℕ} {z : Shape} 
 
 -- the rest of the state stays
 pub rows-by : {T : Type 0} (s t : LaneState T) (place : ℕ) (reclaimed : Option (Reclaimed T)) → Keeps place reclaimed s t
-    → (t.rows ≡ s.rows) × (t.references ≡ s.references) × (t.shape ≡ s.shape) × (t.number ≡ s.number) × (t.pages ≡ s.pages)
-rows-by s t place None kept = (ap (λ x. x.rows) kept, ap (λ x. x.references) kept, ap (λ x. x.shape) kept, ap (λ x. x.number) kept, ap (λ x. x.pages) kept)
+    → (t.rows ≡ s.rows) × (t.references ≡ s.references) × (t.shape ≡ s.shape) × (t.number ≡ s.number) × (t.pages ≡ s.pages) × (t.places ≡ s.places)
+rows-by s t place None kept = (ap (λ x. x.rows) kept, ap (λ x. x.references) kept, ap (λ x. x.shape) kept, ap (λ x. x.number) kept, ap (λ x. x.pages) kept, ap (λ x. x.places) kept)
 rows-by s t place (Some (Own whole)) kept =
-    (ap (λ x. x.rows) kept.rest, ap (λ x. x.references) kept.rest, ap (λ x. x.shape) kept.rest, ap (λ x. x.number) kept.rest, ap (λ x. x.pages) kept.rest)
+    (ap (λ x. x.rows) kept.rest, ap (λ x. x.references) kept.rest, ap (λ x. x.shape) kept.rest, ap (λ x. x.number) kept.rest, ap (λ x. x.pages) kept.rest, ap (λ x. x.places) kept.rest)
 rows-by s t place (Some Returned) kept =
-    (ap (λ x. x.rows) kept.rest, ap (λ x. x.references) kept.rest, ap (λ x. x.shape) kept.rest, ap (λ x. x.number) kept.rest, ap (λ x. x.pages) kept.rest)
-rows-by s t place (Some Retired) kept = (ap (λ x. x.rows) kept, ap (λ x. x.references) kept, ap (λ x. x.shape) kept, ap (λ x. x.number) kept, ap (λ x. x.pages) kept)
+    (ap (λ x. x.rows) kept.rest, ap (λ x. x.references) kept.rest, ap (λ x. x.shape) kept.rest, ap (λ x. x.number) kept.rest, ap (λ x. x.pages) kept.rest, ap (λ x. x.places) kept.rest)
+rows-by s t place (Some Retired) kept = (ap (λ x. x.rows) kept, ap (λ x. x.references) kept, ap (λ x. x.shape) kept, ap (λ x. x.number) kept, ap (λ x. x.pages) kept, ap (λ x. x.places) kept)
 
 -- the own list has what was freed
 abbrev more-own : FreePlaces → List Place → FreePlaces
@@ -179,7 +180,7 @@ pub record Ended {T : Type 0} (content : T → List ℕ) (room : T → ℕ) (z :
   pub last_pushed : FitsTops z w t.last_pushed.items
   pub stores : FitsStores content room z w t.free t.pages t.objects.items
   pub list : t.free ≡ more-own s.free (freed z s.number made)
-  pub same : (t.rows ≡ s.rows) × (t.references ≡ s.references) × (t.shape ≡ s.shape) × (t.number ≡ s.number) × (t.pages ≡ s.pages)
+  pub same : (t.rows ≡ s.rows) × (t.references ≡ s.references) × (t.shape ≡ s.shape) × (t.number ≡ s.number) × (t.pages ≡ s.pages) × (t.places ≡ s.places)
 
 module _ (z : Shape) (place generation : ℕ) (shape : IsShape z) (inside : is_place z place ≡ true) where
   small : place < 16777216

@@ -168,6 +168,7 @@ module _ {T : Type 0} {content : T → List ℕ} {room : T → ℕ} {z : Shape} 
           let stores = stores-apart fits.stores fits.seat.paired fits.seat.own hit.chain (onlyat-get (the_lane v).lane key (Some bytes)) hit.passes apart in
           subst (λ (x : LaneState T). Fits content room z w x) (sym rest) (record {
             shape_is = fits.shape_is;
+            placed = fits.placed;
             seat = seat-passes fits.seat hit.passes hit.idle (abroad-one z s.number (acts.Get (the_lane v).lane key (Some bytes)) (λ p within other. refl));
             last_pushed = last_pushed-same fits.last_pushed hit.pushed;
             rows = rows;

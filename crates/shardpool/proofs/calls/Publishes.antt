@@ -116,6 +116,7 @@ module _ {S T : Type 0} {content : T → List ℕ} {room : T → ℕ} {z : Shape
   fits-with : FitsRows content room z b.0 t.rows.items t.references → Fits content room z b.0 t
   fits-with rows = record {
     shape_is = ap (λ (x : LaneState T). x.shape) rest ∙ fits.shape_is;
+    placed = ap (λ (x : LaneState T). x.places.shape) rest ∙ fits.placed;
     seat = subst (λ (x : LaneState T). FitsSeat z b.0 x.number) (sym rest) seat;
     last_pushed = subst (λ (x : LaneState T). FitsTops z b.0 x.last_pushed.items) (sym rest) last_pushed;
     rows = rows;

@@ -1,5 +1,5 @@
 -- What a call that makes no reference and gives none back leaves of a lane: a clear, and a get that misses.
-use Rattle.std.proofs.Common.{◌≡◌, ℕ, ◌<◌, Bool, true, false, List, [], ◌∷◌, ◌++◌, Option, None, IfSome, refl, sym, ◌∙◌, subst}
+use Rattle.std.proofs.Common.{ap, ◌≡◌, ℕ, ◌<◌, Bool, true, false, List, [], ◌∷◌, ◌++◌, Option, None, IfSome, refl, sym, ◌∙◌, subst}
 use Rattle.std.proofs.lemmas.List.Elements.{All-nil, All-cons}
 use Rattle.std.specs.List.{All}
 use Rattle.atomic_table.specs.Table.{Me}
@@ -16,6 +16,7 @@ use Rattle.poolsteps.specs.Told.{IsIdle}
 use Rattle.poolsteps.specs.ViewLaws.{references_made}
 use Rattle.poolcalls.specs.declared.reclaimed.Reclaimed.{Reclaimed}
 use Rattle.poolcalls.specs.Called.{Did as DidSo, IsReclaimed, EndsWithActs, MovedNothing, end_acts}
+use Rattle.shardpool.specs.declared.places.Places.{Places}
 use Rattle.shardpool.specs.declared.state.LaneState.{LaneState}
 use Rattle.shardpool.specs.Places.{held_after}
 use Rattle.shardpool.specs.Tokens.{FillingOf}
@@ -57,6 +58,7 @@ module _ {S T : Type 0} {content : T → List ℕ} {room : T → ℕ} {z : Shape
       let e = quiet-ended in
       let rows = rows-ended {v = a.0} {w = b.0} place (the_lane a.0).lane acts_so.0.0 first reclaimed fits e.moved e.passes quiet.references quiet.held in record {
         shape_is = e.same.2 ∙ fits.shape_is;
+        placed = ap (λ (x : Places). x.shape) e.same.5 ∙ fits.placed;
         seat = e.seat;
         last_pushed = e.last_pushed;
         rows = subst (λ (n : ℕ). FitsRows content room z b.0 t.rows.items n) (sym e.same.1)

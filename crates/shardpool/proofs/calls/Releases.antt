@@ -36,6 +36,7 @@ use Rattle.poolcalls.specs.Called.{Did as DidSo, IsReclaimed, EndsWithActs, end_
 use Rattle.poolcalls.proofs.Doing.{did-carries, did-most}
 use Rattle.poolcalls.proofs.Ending.{did-nothing}
 use Rattle.shardpool.specs.declared.state.HeldKey.{HeldKey}
+use Rattle.shardpool.specs.declared.places.Places.{Places}
 use Rattle.shardpool.specs.declared.state.LaneState.{LaneState}
 use Rattle.shardpool.specs.Places.{held_after}
 use Rattle.shardpool.specs.Tokens.{PoolOf, LaneOf, FillingOf}
@@ -297,6 +298,7 @@ module _ {T : Type 0} {content : T → List ℕ} {room : T → ℕ} {z : Shape} 
         = stores-apart fits.stores fits.seat.paired fits.seat.own lent.did.chain (onlyat-none place) lent-passes (elsewhere-apart fits.stores place (away (the_lane a.0).lane)) in
         record {
           shape_is = ap (λ (x : LaneState T). x.shape) rest-so ∙ fits.shape_is;
+          placed = ap (λ (x : LaneState T). x.places.shape) rest-so ∙ fits.placed;
           seat = subst (λ (x : LaneState T). FitsSeat z b.0 x.number) (sym rest-so) seat;
           last_pushed = subst (λ (x : LaneState T). FitsTops z b.0 x.last_pushed.items) (sym rest-so) last_pushed;
           stores = subst (λ (x : LaneState T). FitsStores content room z b.0 x.free x.pages x.objects.items) (sym rest-so) stores;
@@ -388,7 +390,7 @@ module _ {T : Type 0} {content : T → List ℕ} {room : T → ℕ} {z : Shape} 
 
         pub released : Released content room z key a.0 d.0 s t
         released = record {
-          fits = record { shape_is = shape-now; seat = left.seat; last_pushed = left.last_pushed; rows = rows-now; stores = left.stores };
+          fits = record { shape_is = shape-now; placed = ap (λ (x : Places). x.shape) left.same.5 ∙ beside.placed; seat = left.seat; last_pushed = left.last_pushed; rows = rows-now; stores = left.stores };
           did = λ table table_now same. (
             behind,
             did-lane z (lane_of table a.0 s) (lane_of table_now d.0 t) fits.shape_is shape-now number-now same through fits.seat.own list-now pages-now,

@@ -120,6 +120,7 @@ fits-sees sees fits =
     let passes = passes-sees sees in
     let seat = fits.seat in record {
       shape_is = fits.shape_is;
+      placed = fits.placed;
       seat = seat-passes seat passes (still-idle sees seat.idle) (λ place inside other. refl);
       last_pushed = last_pushed-same fits.last_pushed (same-pushed sees);
       rows = rows-pass passes seat.own fits.rows (λ place row inside stands fit. ((λ some. refl), (λ key n here. refl))) refl;

@@ -81,6 +81,7 @@ module _ {T : Type 0} {content : T → List ℕ} {room : T → ℕ} {v : View} {
         = stores-popped fits.stores {p = first} {rest = t.free.own} None takes.list (subst AreFree takes.own takes.free) (subst (λ (f : FreePlaces). IsAway f first) takes.own takes.away) in
         let now : Fits content room s.shape v mid = record {
           shape_is = fits.shape_is;
+          placed = fits.placed;
           seat = fits.seat;
           last_pushed = fits.last_pushed;
           rows = fits.rows;

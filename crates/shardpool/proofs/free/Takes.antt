@@ -183,6 +183,7 @@ module _ {T : Type 0} {content : T → List ℕ} {room : T → ℕ} {v : View} {
             → Fits content room s.shape w (record s { free = free })
         followed-fits ends goes = record {
           shape_is = fits.shape_is;
+          placed = fits.placed;
           seat = seat-passes fits.seat passes (follows.went.under ∙ fits.seat.idle) (λ p within other. refl);
           last_pushed = last_pushed-same fits.last_pushed follows.went.pushed;
           rows = rows-pass passes fits.seat.own fits.rows
@@ -307,6 +308,7 @@ module _ {T : Type 0} {content : T → List ℕ} {room : T → ℕ} {v w : View}
         = took-first.0 ∙ ap (λ (n : ℕ). n ∷ rest_of t.places) (ap (λ (l : ℕ). linked_place l found) (sym fits.seat.number_is) ∙ sym (numbered (linked_place s.number found))) in
         let now : Fits content room s.shape w mid = record {
           shape_is = fits.shape_is;
+          placed = fits.placed;
           seat = seat-passes fits.seat took-passes (t.went.under ∙ fits.seat.idle) took-alone;
           last_pushed = last_pushed-same fits.last_pushed t.went.pushed;
           rows = rows-pass took-passes fits.seat.own fits.rows
@@ -369,6 +371,7 @@ module _ {T : Type 0} {content : T → List ℕ} {room : T → ℕ} {v w : View}
   pub none-fits : Fits content room s.shape w s
   none-fits = record {
     shape_is = fits.shape_is;
+    placed = fits.placed;
     seat = seat-passes fits.seat none-passes (none-idle ∙ fits.seat.idle) (λ place inside other. refl);
     last_pushed = last_pushed-same fits.last_pushed (ap (λ (r : LaneRecord). r.pushed) none-record);
     rows = rows-pass none-passes fits.seat.own fits.rows (λ place row inside stands fit. ((λ some. refl), (λ key n here. refl))) refl;

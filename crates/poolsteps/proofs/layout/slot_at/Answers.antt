@@ -4,7 +4,7 @@ use Rattle.poolsteps.proofs.SlotLemmas.{slot-below}
 use Rattle.poolsteps.proofs.layout.slot_at.Goals as goal
 
 pub returns-clause-slot : goal.returns-clause-slot
-returns-clause-slot c = rw (c.slot_row.ensures, c.shard_of.ensures, c.requires.position) refl
+returns-clause-slot c = rw (c.slot_row.ensures, c.slot_start.ensures.start) refl
 
 pub returns-clause-inside : goal.returns-clause-inside
 returns-clause-inside c = let z = c.args.shape.now in

@@ -17,11 +17,12 @@ invariant_of-result g c =
             free = c.in_ok-new.field-0;
             pages = c.new-2.result;
             objects = c.in_ok-no_objects.field-0;
+            places = c.in_ok-of.field-0;
             alloc = c.args.alloc;
           })
           (λ i. (hand i).0) c.requires.shape c.requires.number refl refl refl
           (c.in_ok-first_rows.ensures ∙ ap (λ (n : ℕ). replicate n first_row) c.all_places.ensures)
           (search rules)
           (c.in_ok-no_objects.ensures ∙ ap (λ (n : ℕ). replicate n None) c.shard_places.ensures)
-          c.in_ok-new.ensures.empty c.new-2.ensures,
+          c.in_ok-new.ensures.empty c.new-2.ensures c.in_ok-of.ensures,
     )

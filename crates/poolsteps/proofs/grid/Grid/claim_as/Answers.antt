@@ -6,6 +6,7 @@ use Rattle.keybits.specs.Words.{claimable}
 use Rattle.steplaws.specs.declared.pending.Pending.{Pending}
 use Rattle.poolsteps.specs.Told.{Claims, place_owed, generation_owed}
 use Rattle.poolsteps.proofs.LayoutLemmas.{index-below}
+use Rattle.poolsteps.proofs.PageLemmas.{life-at}
 use Rattle.poolsteps.proofs.Making.{life-allows}
 use Rattle.poolsteps.proofs.Claiming.{claim-given, claim-makes}
 use Rattle.poolsteps.proofs.grid.Grid.claim_as.Goals as goal
@@ -23,8 +24,8 @@ compare_exchange-requires g c =
     let asked = c.requires in
     let old : c.claimable-old.result ≡ claimable generation = c.claimable-old.ensures in (
       asked.hand.0,
-      rw (asked.spot.life, grid.sized) (index-below z grid.checked (Life place) asked.spot.inside),
-      rw (asked.aim, asked.spot.life, old, asked.owes, grid.shape_is)
+      rw (life-at asked.spot, grid.sized) (index-below z grid.checked (Life place) asked.spot.inside),
+      rw (asked.aim, life-at asked.spot, old, asked.owes, grid.shape_is)
           (life-allows content room z grid.table.shared.table_id.slots hand.id hand.me asked.hand.1 place asked.spot.inside
           (λ word. either (word == claimable generation) new word) (Claims z place generation hand.me)
           (λ words w slots point at small. claim-makes content room z words w slots point hand.me place generation new at asked.spot.inside asked.owes

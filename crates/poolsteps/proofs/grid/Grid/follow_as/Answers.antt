@@ -18,8 +18,8 @@ load-requires g c =
     let asked = c.requires in
     let spot = asked.spot in (
       asked.hand.0,
-      rw (spot.link, grid.sized) (index-below z grid.checked (Link place) spot.inside),
-      rw (asked.aim, spot.link, grid.shape_is)
+      rw (c.link_of.ensures, grid.sized) (index-below z grid.checked (Link place) spot.inside),
+      rw (asked.aim, c.link_of.ensures, grid.shape_is)
           (word-allows content room z grid.table.shared.table_id.slots hand.id hand.me asked.hand.1 (Link place) spot.inside (λ n. n) (Follows z hand.me)
           (λ words w slots point at below. follow-makes content room z words w slots point hand.me place at asked.chain)),
     )

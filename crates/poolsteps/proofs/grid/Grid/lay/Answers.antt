@@ -10,7 +10,7 @@ load-requires g c =
     let hand = c.args.hand.now in
     let asked = c.requires in (
       asked.hand.0,
-      rw (c.look_word.ensures, grid.sized) (look-below z c.args.lane asked.lanes.0),
+      rw (c.look_word.ensures, grid.sized) (look-below z grid.checked c.args.lane asked.lanes.0),
       rw (asked.aim.0, asked.aim.1, asked.aim.2, grid.shape_is, grid.deep)
           (lay-allows g.T.Clear.content g.T.Clear.room z hand.id hand.me asked.hand.1 c.args.spot.place c.args.number asked.spot.inside asked.lanes.1 asked.may
           c.look_word.result g.J.Move.status g.J.Move.stored asked.value.0 asked.left asked.value.1 asked.value.2 asked.cell),

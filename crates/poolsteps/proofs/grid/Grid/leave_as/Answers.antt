@@ -4,6 +4,7 @@ use Rattle.keybits.specs.declared.step.Word.TheVariants.{Life}
 use Rattle.keybits.specs.Keys.{place_of}
 use Rattle.poolsteps.specs.Told.{Leaves}
 use Rattle.poolsteps.proofs.LayoutLemmas.{index-below}
+use Rattle.poolsteps.proofs.PageLemmas.{life-at}
 use Rattle.poolsteps.proofs.Making.{life-allows}
 use Rattle.poolsteps.proofs.Leaving.{leave-makes}
 use Rattle.poolsteps.proofs.grid.Grid.leave_as.Goals as goal
@@ -18,8 +19,8 @@ fetch_sub-requires g c =
     let key : ℕ = c.args.key in
     let asked = c.requires in (
       asked.hand.0,
-      rw (asked.spot.life, grid.sized) (index-below z grid.checked (Life (place_of key)) asked.spot.inside),
-      rw (asked.aim.0, asked.aim.1, asked.spot.life, grid.shape_is)
+      rw (life-at asked.spot, grid.sized) (index-below z grid.checked (Life (place_of key)) asked.spot.inside),
+      rw (asked.aim.0, asked.aim.1, life-at asked.spot, grid.shape_is)
           (life-allows content room z grid.table.shared.table_id.slots hand.id hand.me asked.hand.1 (place_of key) asked.spot.inside
           (λ word. (word + (2 ^ 64 - 4)) % 2 ^ 64) (Leaves z key hand.me)
           (λ words w slots point at below. leave-makes content room z words w slots point hand.me key at below asked.spot.inside asked.may)),

@@ -18,8 +18,8 @@ store-requires g c =
     let top : ℕ = c.args.top in
     let asked = c.requires in (
       asked.hand.0,
-      rw (asked.spot.link, grid.sized) (index-below z grid.checked (Link place) asked.spot.inside),
-      rw (asked.aim, asked.spot.link, grid.shape_is)
+      rw (c.link_of.ensures, grid.sized) (index-below z grid.checked (Link place) asked.spot.inside),
+      rw (asked.aim, c.link_of.ensures, grid.shape_is)
           (word-allows content room z grid.table.shared.table_id.slots c.args.hand.now.id me asked.hand.1 (Link place) asked.spot.inside (λ _. top) (λ _. Links z top me)
           (λ words w slots point at small. link-makes content room z words w slots point me at place top asked.returns.0 asked.returns.1)),
     )

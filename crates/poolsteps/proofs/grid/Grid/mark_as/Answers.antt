@@ -4,6 +4,7 @@ use Rattle.keybits.specs.declared.step.Word.TheVariants.{Life}
 use Rattle.keybits.specs.Keys.{place_of}
 use Rattle.poolsteps.specs.Told.{Marks}
 use Rattle.poolsteps.proofs.LayoutLemmas.{index-below}
+use Rattle.poolsteps.proofs.PageLemmas.{life-at}
 use Rattle.poolsteps.proofs.Making.{life-allows}
 use Rattle.poolsteps.proofs.Marking.{mark-makes}
 use Rattle.poolsteps.proofs.grid.Grid.mark_as.Goals as goal
@@ -19,8 +20,8 @@ fetch_or-requires g c =
     let spot = c.requires.spot in
     let aim = c.requires.aim in (
       c.requires.hand.0,
-      rw (spot.life, grid.sized) (index-below z grid.checked (Life (place_of key)) spot.inside),
-      rw (aim.0, aim.1, spot.life, grid.shape_is)
+      rw (life-at spot, grid.sized) (index-below z grid.checked (Life (place_of key)) spot.inside),
+      rw (aim.0, aim.1, life-at spot, grid.shape_is)
           (life-allows content room z grid.table.shared.table_id.slots c.args.hand.now.id me c.requires.hand.1 (place_of key) spot.inside
           (λ word. bit_or word 2) (Marks z key me)
           (λ words w slots point at small. mark-makes content room z words w slots point me key at c.requires.under)),

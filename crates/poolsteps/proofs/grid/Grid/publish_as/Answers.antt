@@ -4,6 +4,7 @@ use Rattle.keybits.specs.declared.step.Word.TheVariants.{Life}
 use Rattle.keybits.specs.Keys.{place_of}
 use Rattle.poolsteps.specs.Told.{Publishes}
 use Rattle.poolsteps.proofs.LayoutLemmas.{index-below}
+use Rattle.poolsteps.proofs.PageLemmas.{life-at}
 use Rattle.poolsteps.proofs.Making.{life-allows}
 use Rattle.poolsteps.proofs.Publishing.{publish-makes}
 use Rattle.poolsteps.proofs.grid.Grid.publish_as.Goals.{then-with_ref, else-with_ref}
@@ -26,8 +27,8 @@ fetch_add-requires g c =
       | else-with_ref w ↦ w.added-is ∙ ap more (sym w.if-with_ref.false)
     ] in (
       asked.hand.0,
-      rw (asked.spot.life, grid.sized) (index-below z grid.checked (Life (place_of key)) asked.spot.inside),
-      rw (asked.aim.0, asked.aim.1, asked.aim.2, asked.spot.life, added, grid.shape_is)
+      rw (life-at asked.spot, grid.sized) (index-below z grid.checked (Life (place_of key)) asked.spot.inside),
+      rw (asked.aim.0, asked.aim.1, asked.aim.2, life-at asked.spot, added, grid.shape_is)
           (life-allows content room z grid.table.shared.table_id.slots hand.id hand.me asked.hand.1 (place_of key) asked.spot.inside
           (λ word. (word + more with_ref) % 2 ^ 64) (Publishes z key stored with_ref hand.me)
           (λ words w slots point at small. publish-makes content room z words w slots point hand.me key stored with_ref at asked.spot.inside asked.may asked.shares asked.cell small)),

@@ -27,7 +27,7 @@ compare_exchange-requires g c =
     let asked = c.requires in
     let stack : Word = Stack (shard_of place) lane in
     let inside : has_word z stack ≡ true = has-stack z place lane asked.spot.inside (subst (λ (n : ℕ). n < z.lanes) asked.lane.0 asked.lane.1) in
-    let index : c.stack_word-word.result ≡ index_in z stack = c.stack_word-word.ensures.word
+    let index : c.stack_of-word.result ≡ index_in z stack = c.stack_of-word.ensures.word
     ∙ (ap (λ (shard : ℕ). index_in z (Stack shard c.args.lane)) c.shard_of.ensures ∙ ap (λ (n : ℕ). index_in z (Stack (shard_of place) n)) asked.lane.0) in (
       asked.hand.0,
       rw (index, grid.sized) (index-below z grid.checked stack inside),
@@ -37,11 +37,8 @@ compare_exchange-requires g c =
           (λ words w slots point at small. push-makes content room z words w slots point me at top place asked.returns asked.aims asked.rests)),
     )
 
-pub stack_word-word-requires : goal.stack_word-word-requires
-stack_word-word-requires g c = record {
-  shape = c.args.self.now.checked;
-  lanes = (rw c.shard_of.ensures (is_place-parts c.args.self.now.shape c.args.spot.place c.requires.spot.inside).0, c.requires.lane.1);
-}
+pub stack_of-word-requires : goal.stack_of-word-requires
+stack_of-word-requires g c = record { lanes = (rw c.shard_of.ensures (is_place-parts c.args.self.now.shape c.args.spot.place c.requires.spot.inside).0, c.requires.lane.1) }
 
 pub returns-clause-hand : goal.returns-clause-hand
 returns-clause-hand g c = (c.compare_exchange.ensures.0, c.compare_exchange.ensures.1)

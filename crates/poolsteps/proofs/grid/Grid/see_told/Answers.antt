@@ -12,6 +12,6 @@ load-requires g c =
     let lane : ℕ = c.args.lane in
     let asked = c.requires in (
       asked.hand.0,
-      rw (c.look_word.ensures, grid.sized) (look-below z lane asked.lane),
+      rw (c.look_word.ensures, grid.sized) (look-below z grid.checked lane asked.lane),
       rw (asked.aim, grid.shape_is) (see-told-allows g.T.Clear.content g.T.Clear.room z grid.table.shared.table_id.slots hand.id hand.me asked.hand.1 c.look_word.result),
     )

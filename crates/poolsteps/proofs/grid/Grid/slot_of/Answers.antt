@@ -2,4 +2,4 @@ use Rattle.std.proofs.Common.{refl}
 use Rattle.poolsteps.proofs.grid.Grid.slot_of.Goals as goal
 
 pub returns : goal.returns
-returns g c = rw (c.args.self.now.row_is, c.requires.spot.slot) refl
+returns g c = rw (c.args.self.now.row_is, c.requires.spot.start) refl

@@ -21,18 +21,18 @@ swap-requires g c =
     let asked = c.requires in
     let lane : ℕ = (the_lane hand.me.0).lane in
     let own : c.args.lane ≡ lane = asked.lane.0 in
-    let word : c.stack_word-word.result ≡ index_in z (Stack lane from) = c.stack_word-word.ensures.word ∙ ap (λ (l : ℕ). index_in z (Stack l from)) own in
+    let word : c.stack_of-word.result ≡ index_in z (Stack lane from) = c.stack_of-word.ensures.word ∙ ap (λ (l : ℕ). index_in z (Stack l from)) own in
     let inside : has_word z (Stack lane from) ≡ true = both_true (rw (sym own) (lt-ltb c.args.lane z.lanes asked.lane.1)) (lt-ltb from z.lanes asked.from.0) in
     let apart : from ≢ lane = λ same. asked.from.1 (same ∙ sym own) in (
       asked.hand.0,
-      rw (grid.sized) c.stack_word-word.ensures.inside,
+      rw (grid.sized) c.stack_of-word.ensures.inside,
       rw (asked.aim.0, asked.aim.1, word, grid.shape_is)
           (word-allows content room z grid.table.shared.table_id.slots hand.id hand.me asked.hand.1 (Stack lane from) inside (λ n. 0) (Takes z from hand.me)
           (λ words w slots point at below. take-makes content room z words w slots point hand.me from at asked.from.0 apart)),
     )
 
-pub stack_word-word-requires : goal.stack_word-word-requires
-stack_word-word-requires g c = record { shape = c.args.self.now.checked; lanes = (c.requires.lane.1, c.requires.from.0) }
+pub stack_of-word-requires : goal.stack_of-word-requires
+stack_of-word-requires g c = record { lanes = (c.requires.lane.1, c.requires.from.0) }
 
 pub returns-clause-hand : goal.returns-clause-hand
 returns-clause-hand g c = (c.swap.ensures.0, c.swap.ensures.1)
