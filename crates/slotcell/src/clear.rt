@@ -1,6 +1,6 @@
 //! Objects that are cleared in place and used again.
 ghost use Rattle.std.specs.Vec.{vec_len, vec_capacity};
-ghost use Rattle.std.specs.Prelude.{◌≡◌, ◌+◌, ◌≤◌, ◌<◌, ◌↔◌, ℕ, List, [], ◌∷◌, ◌++◌, length, IsTrue, IsOk, OnOk, OnErr, if◌then◌else◌};
+ghost use Rattle.std.specs.Prelude.{◌≡◌, ◌+◌, ◌-◌, ◌≤◌, ◌<◌, ◌↔◌, ℕ, List, [], ◌∷◌, ◌++◌, length, take, replicate, IsTrue, IsOk, OnOk, OnErr, if◌then◌else◌};
 
 use arrayvec::ArrayVec;
 use std::alloc::Global;
@@ -117,6 +117,46 @@ impl ByteBuf {
         let bytes = mem::replace(&mut self.bytes, empty);
         self.bytes = with_appended(bytes, more);
         Ok(())
+    }
+
+    /// Appends `count` zeros. Where the new length is at most the room it succeeds.
+    ///
+    /// # Errors
+    ///
+    /// `Memory` where a growth was refused. The buffer, its room too, is then unchanged.
+    pub fn append_zeros(&mut self, count: usize) -> Result<(), Memory>
+        ensures ok { OnOk result (self.new.bytes ≡ self.old.bytes ++ replicate count 0) }
+        ensures err { OnErr result (self.new ≡ self.old) }
+        ensures within_room { length self.old.bytes + count ≤ self.old.room → IsOk result }
+        ensures room_kept { self.old.room ≤ self.new.room }
+    {
+        if self.bytes.reserve(count).is_ok() {
+            let end = self.bytes.len() + count;
+            match self.bytes.resize(end, 0) {
+                Ok(()) => Ok(()),
+                Err(_) => unreachable!(),
+            }
+        } else {
+            Err(Memory)
+        }
+    }
+
+    /// Drops the last `count` bytes. The room stays the same.
+    pub fn drop_last(&mut self, count: usize)
+        requires { count ≤ length self.old.bytes }
+        ensures { self.new ≡ record self.old { bytes = take (length self.old.bytes - count) self.old.bytes } }
+    {
+        let kept = self.bytes.len() - count;
+        self.bytes.truncate(kept);
+    }
+
+    /// Returns where the last `count` bytes stand, for a foreign program to write them before the next call on the buffer.
+    pub fn address_of_last(&mut self, count: usize) -> *mut u8
+        requires { (0 < count) × (count ≤ length self.old.bytes) }
+        ensures { self.new ≡ self.old }
+    {
+        let first = self.bytes.len() - count;
+        std::ptr::from_mut(&mut self.bytes[first])
     }
 
     /// Returns the bytes.
