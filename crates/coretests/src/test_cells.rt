@@ -160,6 +160,18 @@ fn a_cleared_buffer_keeps_its_room(rt: HostRuntime) {
     has_bytes(&rt, &buffer, &bytes);
 }
 
+#[test]
+fn zeros_are_appended_and_dropped(rt: HostRuntime) {
+    let mut buffer = ByteBuf::fresh(rt.alloc());
+    buffer.append(b"ab").expect(&rt, "memory for the bytes");
+    buffer.append_zeros(3).expect(&rt, "memory for the zeros");
+    has_bytes(&rt, &buffer, b"ab\0\0\0");
+    if buffer.len() > 2 {
+        buffer.drop_last(2);
+    }
+    has_bytes(&rt, &buffer, b"ab\0");
+}
+
 /// An empty record takes the numbers from 0 to 7, and no more.
 fn take_eight<R: Abort>(rt: &R, record: &mut Record) {
     for number in 0..8 {
