@@ -1,1 +1,3 @@
 pub mod LineLemmas
+pub mod HexLemmas
+pub mod WrongLemmas

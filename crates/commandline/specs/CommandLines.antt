@@ -1,13 +1,13 @@
 -- What the words of the command line stand for, by what `clap` matches.
-use Rattle.std.specs.Prelude.{◌≡◌, ◌↔◌, ℕ, Bool, IsTrue, List, [], ◌∷◌, Option, Some, true, codes, fold, option_and_then, string_bytes}
+use Rattle.std.specs.Prelude.{◌≡◌, ℕ, Bool, false, List, [], ◌∷◌, Option, Some, true, codes, fold, option_and_then, string_bytes}
 use Rattle.clap.specs.Simple.{new_shape}
 use Rattle.clap.specs.Words.{App, Row, Rule, first_of, new_app, new_rule, subcommand_of, with_rule, with_subcommand}
 use Rattle.clap.specs.declared.builder.action.ArgAction.TheVariants.{SetTrue}
 use Rattle.commandline.specs.declared.tasks.Stop.{Stop}
 use Rattle.commandline.specs.declared.tasks.Task.{Task}
-use Rattle.commandline.specs.declared.tasks.Task.TheVariants.{Replay, Check, Run, Key}
+use Rattle.commandline.specs.declared.tasks.Task.TheVariants.{Replay, Check, Run, Key, Word}
 use Rattle.commandline.specs.declared.tasks.Turns.{Turns}
-use Rattle.commandline.specs.Readings.{long_number, AreTurns, IsStop}
+use Rattle.commandline.specs.Readings.{flag_of, key_number, AreTurns, IsStop}
 
 -- a positional argument with this id, which must be there
 abbrev pub positional : List ℕ → Rule
@@ -29,23 +29,24 @@ line_of name arguments = fold with_rule (new_app name) arguments
 abbrev pub replay_line : App
 replay_line = line_of (codes "replay")
     (positional (codes "file") ∷ option_named (codes "schedule") ∷ option_named (codes "seed") ∷ option_named (codes "turns")
-    ∷ option_named (codes "stop") ∷ flag_named (codes "acts") ∷ [])
+    ∷ option_named (codes "stop") ∷ flag_named (codes "acts") ∷ flag_named (codes "explain") ∷ [])
 
 -- the subcommand `check`
 abbrev pub check_line : App
-check_line = line_of (codes "check") (positional (codes "acts") ∷ [])
+check_line = line_of (codes "check") (positional (codes "acts") ∷ flag_named (codes "explain") ∷ [])
 
 -- the subcommand `run`
 abbrev pub run_line : App
-run_line = line_of (codes "run") (positional (codes "file") ∷ [])
+run_line = line_of (codes "run") (positional (codes "file") ∷ flag_named (codes "explain") ∷ [])
 
 -- the subcommand `key`
 abbrev pub key_line : App
-key_line = line_of (codes "key") (positional (codes "number") ∷ [])
+key_line = line_of (codes "key")
+    (positional (codes "number") ∷ flag_named (codes "hex") ∷ flag_named (codes "word") ∷ flag_named (codes "explain") ∷ [])
 
--- the program, before its subcommands
+-- the program, before its subcommands; it has a version
 abbrev pub program : App
-program = record { top = record (new_shape (codes "poolrun")) { subcommand_required = true }; subs = [] }
+program = record { top = record (new_shape (codes "poolrun")) { subcommand_required = true; has_version = true }; subs = [] }
 
 -- the program's command line
 abbrev pub command_line : App
@@ -56,26 +57,35 @@ pub record IsReplayTask (rows : List Row) (file : List ℕ) (turns : Turns) (sto
   pub is_file : first_of (codes "file") rows ≡ Some file
   pub are_turns : AreTurns (first_of (codes "schedule") rows) (first_of (codes "seed") rows) (first_of (codes "turns") rows) turns
   pub is_stop : IsStop (first_of (codes "stop") rows) stop
-  pub are_acts : IsTrue acts ↔ (first_of (codes "acts") rows ≡ Some (codes "true"))
+  pub are_acts : acts ≡ flag_of (first_of (codes "acts") rows)
+
+-- the number of a key or a word, by the matches of `key`: in hexadecimal digits where that flag was used
+abbrev pub number_in : List Row → Option ℕ
+number_in rows = option_and_then (key_number (flag_of (first_of (codes "hex") rows))) (first_of (codes "number") rows)
 
 -- a task, by the name of a subcommand and its matches
 abbrev pub AreMatchesOf : List ℕ → List Row → Task → Type 0
 AreMatchesOf name rows (Replay file turns stop acts) = (name ≡ codes "replay") × IsReplayTask rows (string_bytes file) turns stop acts
 AreMatchesOf name rows (Check file) = (name ≡ codes "check") × (first_of (codes "acts") rows ≡ Some (string_bytes file))
 AreMatchesOf name rows (Run file) = (name ≡ codes "run") × (first_of (codes "file") rows ≡ Some (string_bytes file))
-AreMatchesOf name rows (Key number) = (name ≡ codes "key") × (option_and_then long_number (first_of (codes "number") rows) ≡ Some number)
+AreMatchesOf name rows (Key number) = (name ≡ codes "key") × (flag_of (first_of (codes "word") rows) ≡ false) × (number_in rows ≡ Some number)
+AreMatchesOf name rows (Word word) = (name ≡ codes "key") × (flag_of (first_of (codes "word") rows) ≡ true) × (number_in rows ≡ Some word)
 
--- the words stand for the task
-pub record AreWordsOf (words : List (List ℕ)) (task : Task) : Type 0 where
+-- what clap matched, a subcommand's name and its matches, stands for the task
+pub record IsTaskOf (matched : Option (List ℕ × List Row)) (task : Task) : Type 0 where
   pub name : List ℕ
   pub rows : List Row
-  pub matched : subcommand_of command_line words ≡ Some (name, rows)
+  pub is : matched ≡ Some (name, rows)
   pub matches : AreMatchesOf name rows task
 
--- the matches of a subcommand are those of no task
-abbrev pub AreMatchesOfNone : List ℕ → List Row → Type 0
-AreMatchesOfNone name rows = (task : Task) → AreMatchesOf name rows task → ⊥
+-- the words stand for the task
+abbrev pub AreWordsOf : List (List ℕ) → Task → Type 0
+AreWordsOf words task = IsTaskOf (subcommand_of command_line words) task
+
+-- what clap matched stands for no task
+abbrev pub IsTaskOfNone : Option (List ℕ × List Row) → Type 0
+IsTaskOfNone matched = (task : Task) → IsTaskOf matched task → ⊥
 
 -- the words stand for no task
 abbrev pub AreWordsOfNone : List (List ℕ) → Type 0
-AreWordsOfNone words = (task : Task) → AreWordsOf words task → ⊥
+AreWordsOfNone words = IsTaskOfNone (subcommand_of command_line words)

@@ -1,6 +1,8 @@
 -- What the texts of options stand for.
-use Rattle.std.specs.Prelude.{◌≡◌, ⊤, ℕ, List, Option, Some, None, option_map}
+use Rattle.std.specs.Prelude.{◌≡◌, ⊤, ℕ, Bool, true, false, List, Option, Some, None, codes, option_map}
 use Rattle.std.specs.Borrow.{Bor}
+use Rattle.std.specs.Str.{bytes_eq}
+use Rattle.commandline.specs.Hexadecimal.{hex_number}
 use Rattle.commandline.specs.declared.tasks.Stop.{Stop}
 use Rattle.commandline.specs.declared.tasks.Turns.{Turns}
 use Rattle.commandline.specs.declared.tasks.Turns.TheVariants.{Listed, Drawn}
@@ -15,6 +17,16 @@ text_of given = option_map (λ text. text.now) given
 abbrev pub long_number : List ℕ → Option ℕ
 long_number text = number_of 20 18446744073709551615 text
 
+-- the number of a key or a word: of hexadecimal digits, or decimal
+abbrev pub key_number : Bool → List ℕ → Option ℕ
+key_number true text = hex_number text
+key_number false text = long_number text
+
+-- whether a flag with this text was used
+abbrev pub flag_of : Option (List ℕ) → Bool
+flag_of None = false
+flag_of (Some text) = bytes_eq text (codes "true")
+
 -- a number of turns: of one to twenty digits, at most a million
 abbrev pub turn_count : List ℕ → Option ℕ
 turn_count text = number_of 20 1000000 text
@@ -25,16 +37,8 @@ AreTurns (Some schedule) None None (Listed lanes) = schedule_of schedule ≡ Som
 AreTurns None (Some seed) (Some turns) (Drawn from count) = (long_number seed ≡ Some from) × (turn_count turns ≡ Some count)
 AreTurns schedule seed turns other = ⊥
 
--- no turns are those of a schedule, a seed and a number of turns
-abbrev pub AreNoTurns : Option (List ℕ) → Option (List ℕ) → Option (List ℕ) → Type 0
-AreNoTurns schedule seed turns = (some : Turns) → AreTurns schedule seed turns some → ⊥
-
 -- the stop of a text, and none where no text is given
 abbrev pub IsStop : Option (List ℕ) → Option Stop → Type 0
 IsStop None None = ⊤
 IsStop (Some text) (Some stop) = stop_of text ≡ Some (stop.lane, stop.after)
 IsStop text other = ⊥
-
--- the text that is given is that of no stop
-abbrev pub IsNoStop : Option (List ℕ) → Type 0
-IsNoStop text = (stop : Option Stop) → IsStop text stop → ⊥

@@ -1,19 +1,21 @@
-ghost use Rattle.std.specs.Prelude.{◌≡◌};
+ghost use Rattle.std.specs.Prelude.{◌≡◌, Some, []};
+ghost use Rattle.commandline.specs.Mistakes.{Tells};
 ghost use Rattle.commandline.specs.declared.fault.TaskFault.TheVariants as faults;
 
+use crate::mistakes::{Mistake, Reason};
 use clap::Error as ClapError;
-use std::alloc::AllocError;
+use std::alloc::{AllocError, Global};
 use thiserror::Error;
 
 /// Why the words are no task.
 #[derive(Debug, Drop, Error)]
 pub enum TaskFault {
-    /// `clap` refused the words, or help was asked for.
+    /// `clap` refused the words, or help or the version was asked for.
     #[error(transparent)]
     Clap(ClapError),
     /// A word is wrong that `clap` took.
     #[error("words")]
-    Words,
+    Words(Mistake),
     /// Memory was refused (43).
     #[error("out of memory")]
     Memory(AllocError),
@@ -33,4 +35,24 @@ impl From<AllocError> for TaskFault {
     fn from(refused: AllocError) -> TaskFault {
         TaskFault::Memory(refused)
     }
+}
+
+/// The mistake of this reason, about this text; a want of memory where that is refused for the text.
+pub(crate) fn mistaken(alloc: Global, reason: Reason, found: &str) -> TaskFault
+    ensures { Tells (Some (reason, found.now)) result }
+{
+    match String::from_str(alloc, found) {
+        Ok(found) => TaskFault::Words(Mistake { reason, found }),
+        Err(refused) => TaskFault::Memory(refused),
+    }
+}
+
+/// The mistake of this reason, about a word that isn't there.
+pub(crate) fn mistaken_without(alloc: Global, reason: Reason) -> TaskFault
+    ensures { Tells (Some (reason, [])) result }
+{
+    TaskFault::Words(Mistake {
+        reason,
+        found: String::new(alloc),
+    })
 }

@@ -21,6 +21,10 @@ pub enum Task {
     Key {
         number: u64,
     },
+    /// Say what this lifecycle word says of its place.
+    Word {
+        word: u64,
+    },
 }
 
 impl Task {
@@ -28,7 +32,7 @@ impl Task {
     ghost use Rattle.commandline.specs.Readings.{text_of};
     ghost use Rattle.commandline.specs.Tasks.{path_of};
 
-    /// The path of the file that the task is about, where there is one.
+    /// The path of the file that the task is about, where there is one; `-` stands for standard input.
     pub fn path(&self) -> Option<&str>
         ensures { text_of result ≡ path_of self.now }
     {
@@ -36,7 +40,7 @@ impl Task {
             Task::Replay { file, .. } | Task::Check { file } | Task::Run { file } => {
                 Some(file.as_str())
             }
-            Task::Key { .. } => None,
+            Task::Key { .. } | Task::Word { .. } => None,
         }
     }
 }

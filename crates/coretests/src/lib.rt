@@ -21,6 +21,8 @@ mod test_key_lines;
 #[cfg(test)]
 mod test_keys;
 #[cfg(test)]
+mod test_mistakes;
+#[cfg(test)]
 mod test_places;
 #[cfg(test)]
 mod test_plans;

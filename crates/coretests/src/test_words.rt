@@ -33,7 +33,7 @@ fn task_text<R: Abort + AllocGlobal>(rt: &R, task: &Task) -> String {
 fn fault_name(fault: &TaskFault) -> &'static str {
     match fault {
         TaskFault::Clap(error) => if error.use_stderr() { "clap" } else { "help" },
-        TaskFault::Words => "words",
+        TaskFault::Words(_) => "words",
         TaskFault::Memory(_) => "memory",
     }
 }
@@ -68,7 +68,12 @@ poolrun|run|a.json => Run { file: \"a.json\" }
 poolrun|run|run => Run { file: \"run\" }
 poolrun|key|16777216 => Key { number: 16777216 }
 poolrun|key|00000000000000000000 => Key { number: 0 }
-poolrun|key|18446744073709551615 => Key { number: 18446744073709551615 }";
+poolrun|key|18446744073709551615 => Key { number: 18446744073709551615 }
+poolrun|key|--hex|1000000 => Key { number: 16777216 }
+poolrun|key|--hex|0xffffFFFFffffFFFF => Key { number: 18446744073709551615 }
+poolrun|key|4294967301|--word => Word { word: 4294967301 }
+poolrun|key|--word|--hex|0000000000000001 => Word { word: 1 }
+poolrun|check|-|--explain => Check { file: \"-\" }";
 
 // Words of a replay whose turns are none.
 const WRONG_TURNS: &str = "poolrun|replay|a.json
@@ -120,7 +125,14 @@ poolrun|key|+1
 poolrun|key|1 
 poolrun|key|1.0
 poolrun|key|18446744073709551616
-poolrun|key|000000000000000000000";
+poolrun|key|000000000000000000000
+poolrun|key|--hex|
+poolrun|key|--hex|0x
+poolrun|key|--hex|0X1
+poolrun|key|--hex|g
+poolrun|key|--hex|+1
+poolrun|key|--hex|0x10000000000000000
+poolrun|key|--hex|00000000000000001";
 
 // Words that `clap` refuses.
 const REFUSED: &str = "poolrun
@@ -156,7 +168,10 @@ poolrun|replay|--help => Example: poolrun replay
 poolrun|check|--help => Example: poolrun check
 poolrun|run|--help => Example: poolrun run
 poolrun|key|--help => Example: poolrun key
-poolrun|help|key => Example: poolrun key";
+poolrun|help|key => Example: poolrun key
+poolrun|replay|-h => --seed <N> --turns <M>
+poolrun|--version => poolrun 0.1.0
+poolrun|-V => poolrun 0.1.0";
 
 /// The two parts of a row.
 fn parts_of<'a, R: Abort>(rt: &R, row: &'a str) -> (&'a str, &'a str) {

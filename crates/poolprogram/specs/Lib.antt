@@ -2,6 +2,12 @@ pub mod Replays
 pub mod RunFaults
 pub mod Checks
 pub mod KeyTexts
+pub mod WordTexts
+pub mod Shown
+pub mod ScriptTexts
+pub mod ActsTexts
+pub mod Values
+pub mod Explanations
 pub mod Watching
 pub mod Runs
 pub mod Turns

@@ -8,6 +8,7 @@ use crate::key::key_text;
 use crate::run::run_text;
 use crate::run_fault::RunFault;
 use crate::turns::replay_turns;
+use crate::word::word_text;
 use crate::writer::Watched;
 use commandline::Task;
 use std::alloc::Global;
@@ -16,7 +17,7 @@ use std::io::Write;
 use std::sync::Wait;
 use std::thread::Threads;
 
-/// Does a task on the bytes of its file: a replay, a check, a run or what is said of a key. The answer is
+/// Does a task on the bytes of its file: a replay, a check, a run or what is said of a key or a word. The answer is
 /// false where acts are illegal or a number is no key's, and then this was said. The errors are those of
 /// the call for the task's kind, and all but `Output` come before the first byte.
 pub fn do_task<R: Threads + Wait + Sync, W: Write>(
@@ -49,6 +50,10 @@ pub fn do_task<R: Threads + Wait + Sync, W: Write>(
             Ok(true)
         }
         Task::Key { number } => key_text(alloc, number, out),
+        Task::Word { word } => {
+            word_text(alloc, word, out)?;
+            Ok(true)
+        }
     }
 }
 

@@ -1,6 +1,7 @@
 //! The program: it replays a script file over a schedule and prints the trace, checks that acts are a
-//! legal history, runs a script file on threads, or says what a key names. What each task says, its line of
-//! a fault and its exit status are calls of `poolprogram`: here are the words, the files and the streams.
+//! legal history, runs a script file on threads, or says what a key or a lifecycle word says. What each task
+//! says, its line of a fault and its exit status are calls of `poolprogram`: here are the words, the files and
+//! the streams.
 #![tactic(auto)]
 
 ghost use Rattle.std.specs.Prelude.{◌≡◌, ◌≤◌};
@@ -8,13 +9,17 @@ ghost use Rattle.std.specs.Process.{exit_status};
 ghost use Rattle.clap.specs.Values.{kind_of};
 ghost use Rattle.clap.specs.declared.error.Error.{Error as ClapError};
 ghost use Rattle.std.specs.declared.alloc.AllocError.{AllocError};
+ghost use Rattle.commandline.specs.declared.mistakes.Mistake.{Mistake};
 ghost use Rattle.poolprogram.specs.Tasks.{task_status};
 ghost use Rattle.poolrun.specs.Statuses.{IsHelp, IsMistake};
 
 use clap::Error as ClapError;
 use clap::error::ErrorKind;
-use commandline::{Task, TaskFault, task};
-use poolprogram::{RunFault, Watched, do_task, load, status_of, write_report};
+use commandline::{Mistake, Reason, Request, Task, TaskFault, read_request, write_mistake};
+use poolprogram::{
+    RunFault, Subject, Watched, do_task, explain, load, load_input, status_of, subject_of,
+    write_report,
+};
 use std::alloc::AllocError;
 use std::process::ExitCode;
 use std::sync::Wait;
@@ -49,23 +54,27 @@ fn report_clap(rt: &HostRuntime, error: &ClapError) -> ExitCode
     ExitCode::SUCCESS
 }
 
-/// Prints what is wrong with the words. The status is 2, but for a want of memory, which is a fault, and for help.
-fn report_words(rt: &HostRuntime, fault: TaskFault) -> ExitCode
-    ensures words { fault ≡ TaskFault.Words → exit_status result ≡ 2 }
+/// Prints what is wrong with the words, and behind it why, where that is wanted. The status is 2, but for a want
+/// of memory, which is a fault, and for help.
+fn report_words(rt: &HostRuntime, fault: TaskFault, explain: bool) -> ExitCode
+    ensures words { (mistake : Mistake) → fault ≡ TaskFault.Words mistake → exit_status result ≡ 2 }
     ensures memory { (refused : AllocError) → fault ≡ TaskFault.Memory refused → exit_status result ≡ 1 }
     ensures clap { (error : ClapError) → fault ≡ TaskFault.Clap error → IsMistake (kind_of error) → exit_status result ≡ 2 }
 {
     match fault {
         TaskFault::Clap(error) => report_clap(rt, &error),
-        TaskFault::Words => {
+        TaskFault::Words(mistake) => {
             let _ = eprintln!(rt; "words");
+            if explain {
+                let _ = write_mistake(&mistake, &mut rt.stderr());
+            }
             ExitCode::from(2)
         }
         TaskFault::Memory(_) => finish(rt, &Err(RunFault::Memory)),
     }
 }
 
-/// The words of the command line. One that is no text is a fault of the words.
+/// The words of the command line. One that is no text is a mistake in the words.
 fn read_args(rt: &HostRuntime) -> Result<Vec<String>, TaskFault> {
     match env::args(rt) {
         Ok(args) => Ok(args.collect(rt.alloc())?),
@@ -73,40 +82,89 @@ fn read_args(rt: &HostRuntime) -> Result<Vec<String>, TaskFault> {
             if error.kind() == io::ErrorKind::OutOfMemory {
                 return Err(TaskFault::Memory(AllocError));
             }
-            Err(TaskFault::Words)
+            Err(TaskFault::Words(Mistake {
+                reason: Reason::NoText,
+                found: String::new(rt.alloc()),
+            }))
         }
     }
 }
 
-/// The task that the command line names.
-fn read_task(rt: &HostRuntime) -> Result<Task, TaskFault> {
-    let words = read_args(rt)?;
-    task(rt.alloc(), words.as_slice())
+/// What the command line asks for.
+fn read_command_line(rt: &HostRuntime) -> Request {
+    match read_args(rt) {
+        Ok(words) => read_request(rt.alloc(), words.as_slice()),
+        Err(fault) => Request {
+            task: Err(fault),
+            explain: false,
+        },
+    }
 }
 
-/// The bytes of the file that a task is about; none where it is about no file.
+/// The bytes of the file that a task is about, or of standard input where it is named `-`; none where it is
+/// about no file.
 fn read_file(rt: &HostRuntime, task: &Task) -> Result<Vec<u8>, RunFault> {
     match task.path() {
+        Some("-") => load_input(rt.alloc(), &mut rt.stdin()),
         Some(path) => load(rt, path),
         None => Ok(Vec::new(rt.alloc())),
     }
 }
 
-/// Does a task on the file that it is about, with its output on standard output. Workers run on the
+/// Does a task on the bytes of the file that it is about, with its output on standard output. Workers run on the
 /// threads of a handle of their own.
 fn run<R: Threads + Wait + Sync>(
     rt: &HostRuntime,
     threads: &R,
     task: Task,
+    file: &[u8],
 ) -> Result<bool, RunFault> {
-    let file = read_file(rt, &task)?;
     let mut out = Watched::new(rt.stdout());
-    do_task(threads, rt.alloc(), task, file.as_slice(), &mut out)
+    do_task(threads, rt.alloc(), task, file, &mut out)
+}
+
+/// Prints why a task ended so; nothing where all is well, or memory was refused for the words.
+fn report_why(rt: &HostRuntime, subject: &Subject, file: &[u8], done: &Result<bool, RunFault>) {
+    if let Ok(why) = explain(rt.alloc(), subject, file, done) {
+        let _ = eprint!(rt; "{why}");
+    }
+}
+
+/// Does a task, and prints the line of its fault, where it has one, and behind it why. The status is the task's.
+fn run_and_explain<R: Threads + Wait + Sync>(
+    rt: &HostRuntime,
+    threads: &R,
+    task: Task,
+) -> ExitCode {
+    let subject = subject_of(rt.alloc(), &task);
+    let mut bytes = Vec::new(rt.alloc());
+    let done = match read_file(rt, &task) {
+        Ok(file) => {
+            bytes = file;
+            run(rt, threads, task, bytes.as_slice())
+        }
+        Err(fault) => Err(fault),
+    };
+    let status = finish(rt, &done);
+    if let Ok(subject) = &subject {
+        report_why(rt, subject, bytes.as_slice(), &done);
+    }
+    status
+}
+
+/// Does a task, and prints the line of its fault, where it has one. The status is the task's.
+fn run_task<R: Threads + Wait + Sync>(rt: &HostRuntime, threads: &R, task: Task) -> ExitCode {
+    match read_file(rt, &task) {
+        Ok(file) => finish(rt, &run(rt, threads, task, file.as_slice())),
+        Err(fault) => finish(rt, &Err(fault)),
+    }
 }
 
 fn main(rt: HostRuntime) -> ExitCode {
-    match read_task(&rt) {
-        Ok(task) => finish(&rt, &run(&rt, &rt, task)),
-        Err(fault) => report_words(&rt, fault),
+    let Request { task, explain } = read_command_line(&rt);
+    match task {
+        Ok(task) if explain => run_and_explain(&rt, &rt, task),
+        Ok(task) => run_task(&rt, &rt, task),
+        Err(fault) => report_words(&rt, fault, explain),
     }
 }

@@ -1,6 +1,7 @@
 //! The program: it shows a trace that `poolrun replay` printed, as a picture, by its lines with their words decoded, or in sum.
 #![tactic(auto)]
 
+mod fault;
 mod words;
 
 ghost use Rattle.std.specs.Prelude.{◌≡◌, ◌≤◌};
@@ -10,13 +11,12 @@ ghost use Rattle.clap.specs.declared.error.Error.{Error as ClapError};
 ghost use Rattle.std.specs.declared.alloc.AllocError.{AllocError};
 ghost use Rattle.poolview.specs.Statuses.{IsHelp, IsMistake};
 
+use crate::fault::WordsFault;
 use crate::words::{Show, Task, read_task};
 use clap::Error as ClapError;
 use clap::error::ErrorKind;
-use commandline::TaskFault;
-use poolprogram::{RunFault, Watched, load, write_and_flush, write_report};
+use poolprogram::{RunFault, Watched, load, load_input, write_and_flush, write_report};
 use std::alloc::{AllocError, Global};
-use std::io::Read;
 use std::process::ExitCode;
 use std::{env, io};
 use tracelines::{Line, ReadFault, read_trace};
@@ -51,44 +51,30 @@ fn report_clap(rt: &HostRuntime, error: &ClapError) -> ExitCode
 }
 
 /// Prints what is wrong with the words. The status is 2, but for a want of memory, which is a fault, and for help.
-fn report_words(rt: &HostRuntime, fault: TaskFault) -> ExitCode
-    ensures words { fault ≡ TaskFault.Words → exit_status result ≡ 2 }
-    ensures memory { (refused : AllocError) → fault ≡ TaskFault.Memory refused → exit_status result ≡ 1 }
-    ensures clap { (error : ClapError) → fault ≡ TaskFault.Clap error → IsMistake (kind_of error) → exit_status result ≡ 2 }
+fn report_words(rt: &HostRuntime, fault: WordsFault) -> ExitCode
+    ensures words { fault ≡ WordsFault.Words → exit_status result ≡ 2 }
+    ensures memory { (refused : AllocError) → fault ≡ WordsFault.Memory refused → exit_status result ≡ 1 }
+    ensures clap { (error : ClapError) → fault ≡ WordsFault.Clap error → IsMistake (kind_of error) → exit_status result ≡ 2 }
 {
     match fault {
-        TaskFault::Clap(error) => report_clap(rt, &error),
-        TaskFault::Words => {
+        WordsFault::Clap(error) => report_clap(rt, &error),
+        WordsFault::Words => {
             let _ = eprintln!(rt; "words");
             ExitCode::from(2)
         }
-        TaskFault::Memory(_) => fail(rt, RunFault::Memory),
+        WordsFault::Memory(_) => fail(rt, RunFault::Memory),
     }
 }
 
 /// The words of the command line. One that is no text is a fault of the words.
-fn read_args(rt: &HostRuntime) -> Result<Vec<String>, TaskFault> {
+fn read_args(rt: &HostRuntime) -> Result<Vec<String>, WordsFault> {
     match env::args(rt) {
         Ok(args) => Ok(args.collect(rt.alloc())?),
         Err(error) => {
             if error.kind() == io::ErrorKind::OutOfMemory {
-                return Err(TaskFault::Memory(AllocError));
+                return Err(WordsFault::Memory(AllocError));
             }
-            Err(TaskFault::Words)
-        }
-    }
-}
-
-/// The bytes of standard input.
-fn read_input(rt: &HostRuntime) -> Result<Vec<u8>, RunFault> {
-    let mut bytes = Vec::new(rt.alloc());
-    match rt.reader().read_to_end(&mut bytes) {
-        Ok(_) => Ok(bytes),
-        Err(error) => {
-            if error.kind() == io::ErrorKind::OutOfMemory {
-                return Err(RunFault::Memory);
-            }
-            Err(RunFault::File)
+            Err(WordsFault::Words)
         }
     }
 }
@@ -96,7 +82,7 @@ fn read_input(rt: &HostRuntime) -> Result<Vec<u8>, RunFault> {
 /// The bytes of the trace's file, or of standard input where its path is a dash.
 fn read_file(rt: &HostRuntime, path: &str) -> Result<Vec<u8>, RunFault> {
     if path == "-" {
-        return read_input(rt);
+        return load_input(rt.alloc(), &mut rt.stdin());
     }
     load(rt, path)
 }

@@ -4,8 +4,8 @@ ghost use Rattle.std.specs.Prelude.{◌≡◌, codes, IfOk, IsErrOf, option_map}
 ghost use Rattle.clap.specs.Words.{first_of, found_of, rows_of};
 ghost use Rattle.poolview.specs.Shows.{IsNumber, IsNoNumber, IsShow};
 
+use crate::fault::WordsFault;
 use clap::{Arg, ArgMatches, Command};
-use commandline::TaskFault;
 use schedules::read_number;
 use std::alloc::{AllocError, Global};
 use traceviews::Window;
@@ -101,21 +101,21 @@ fn given<'a>(matches: &ArgMatches<'a>, id: &str) -> Option<&'a str>
 }
 
 /// The number of a text, or this where none is given.
-fn number_or(text: Option<&str>, default: usize) -> Result<usize, TaskFault>
+fn number_or(text: Option<&str>, default: usize) -> Result<usize, WordsFault>
     ensures ok { IfOk result (IsNumber default (option_map (λ text. text.now) text.entry)) }
-    ensures words { IsErrOf result TaskFault.Words → IsNoNumber (option_map (λ text. text.now) text.entry) }
+    ensures words { IsErrOf result WordsFault.Words → IsNoNumber (option_map (λ text. text.now) text.entry) }
 {
     let Some(text) = text else {
         return Ok(default);
     };
     match read_number(text.as_bytes(), 20, 4_294_967_295) {
         Some(number) => Ok(number as usize),
-        None => Err(TaskFault::Words),
+        None => Err(WordsFault::Words),
     }
 }
 
 /// The turns of a picture.
-fn window_of(matches: &ArgMatches) -> Result<Window, TaskFault>
+fn window_of(matches: &ArgMatches) -> Result<Window, WordsFault>
     ensures { IfOk result (λ window. IsShow (codes "picture") (rows_of (found_of matches.now)) (Show.Picture window)) }
 {
     let first = number_or(given(matches, "from"), 0)?;
@@ -124,26 +124,26 @@ fn window_of(matches: &ArgMatches) -> Result<Window, TaskFault>
 }
 
 /// What a subcommand of this name asks for.
-fn show_of(name: &str, matches: &ArgMatches) -> Result<Show, TaskFault>
+fn show_of(name: &str, matches: &ArgMatches) -> Result<Show, WordsFault>
     ensures { IfOk result (IsShow name.now (rows_of (found_of matches.now))) }
 {
     match name {
         "picture" => Ok(Show::Picture(window_of(matches)?)),
         "words" => Ok(Show::Words),
         "summary" => Ok(Show::Summary),
-        _ => Err(TaskFault::Words),
+        _ => Err(WordsFault::Words),
     }
 }
 
 /// Reads the command line, the program's name first.
-pub(crate) fn read_task<'a>(alloc: Global, words: &'a [String]) -> Result<Task<'a>, TaskFault> {
+pub(crate) fn read_task<'a>(alloc: Global, words: &'a [String]) -> Result<Task<'a>, WordsFault> {
     let command = program_command(alloc)?;
     let matches = command.try_get_matches_from(words)?;
     let Some((name, matches)) = matches.subcommand() else {
-        return Err(TaskFault::Words);
+        return Err(WordsFault::Words);
     };
     let Some(file) = given(matches, "file") else {
-        return Err(TaskFault::Words);
+        return Err(WordsFault::Words);
     };
     let show = show_of(name, matches)?;
     Ok(Task { file, show })

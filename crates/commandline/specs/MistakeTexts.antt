@@ -1,0 +1,39 @@
+-- What is said of a mistake in the words.
+use Rattle.std.specs.Prelude.{ℕ, List, ◌++◌, codes, string_bytes}
+use Rattle.commandline.specs.declared.mistakes.Mistake.{Mistake}
+use Rattle.commandline.specs.declared.mistakes.Reason.{Reason}
+use Rattle.commandline.specs.declared.mistakes.Reason.TheVariants.{NoTurns, SeedAlone, TurnsAlone, ScheduleAndMore, BadSchedule, BadSeed, BadTurns, BadStop, BadNumber, BadHexadecimal, NoText, Missing}
+
+-- before the text that the reason is about: the option
+abbrev pub before_of : Reason → List ℕ
+before_of NoTurns = codes "no turns are given"
+before_of SeedAlone = codes "--seed "
+before_of TurnsAlone = codes "--turns "
+before_of ScheduleAndMore = codes "--schedule "
+before_of BadSchedule = codes "--schedule \""
+before_of BadSeed = codes "--seed \""
+before_of BadTurns = codes "--turns \""
+before_of BadStop = codes "--stop \""
+before_of BadNumber = codes "N \""
+before_of BadHexadecimal = codes "N \""
+before_of NoText = codes "a word is no text"
+before_of Missing = codes "a word is missing"
+
+-- behind it: what is wanted
+abbrev pub after_of : Reason → List ℕ
+after_of NoTurns = codes ": give --schedule, or --seed and --turns"
+after_of SeedAlone = codes " needs --turns"
+after_of TurnsAlone = codes " needs --seed"
+after_of ScheduleAndMore = codes " stands beside --seed or --turns: give --schedule alone, or --seed and --turns"
+after_of BadSchedule = codes "\" is no schedule: numbers of one to three digits, at most 255, with single commas between them"
+after_of BadSeed = codes "\" is no seed: one to twenty decimal digits, at most 18446744073709551615"
+after_of BadTurns = codes "\" is no number of turns: one to twenty decimal digits, at most 1000000"
+after_of BadStop = codes "\" is no stop: a lane, a colon and a number of turns, each of one to twenty decimal digits and at most 4294967295"
+after_of BadNumber = codes "\" is no number: one to twenty decimal digits, at most 18446744073709551615; with --hex hexadecimal digits"
+after_of BadHexadecimal = codes "\" is no hexadecimal number: one to sixteen hexadecimal digits, with or without 0x before them"
+after_of NoText = codes ": words are texts in UTF-8"
+after_of Missing = codes ": --help says which words there are"
+
+-- the line that explains a mistake
+abbrev pub mistake_text : Mistake → List ℕ
+mistake_text mistake = before_of mistake.reason ++ string_bytes mistake.found ++ after_of mistake.reason ++ codes "\n"
