@@ -1,0 +1,46 @@
+#!/usr/bin/env python3
+"""Builds the archive of the static library poolffi over the proofs and the libraries that `rt ci` or `rt check` left in the crates' out/.
+
+usage: python3 bindings/archive.py OUT.a
+
+It proves nothing anew: the compiler reads what was proved, and refuses a crate that isn't. Where out/ lacks a library below, run `rt check` in
+crates/poolffi first.
+"""
+import os
+import shutil
+import subprocess
+import sys
+
+NAME = "poolffi"
+
+
+def kit_folder():
+    """The folder of the toolchain, in which the page stands that `rt doc` names."""
+    page = subprocess.run(["rt", "doc"], capture_output=True, text=True, check=True).stdout.strip()
+    return os.path.dirname(page)
+
+
+def main():
+    if len(sys.argv) != 2:
+        sys.exit(__doc__.strip())
+    target = os.path.abspath(sys.argv[1])
+    sys.path.insert(0, os.path.join(kit_folder(), "bin"))
+    sys.dont_write_bytecode = True
+    import rtlib
+
+    root = os.path.dirname(os.path.dirname(os.path.abspath(__file__)))
+    crate = rtlib.Crate(os.path.join(root, "crates", NAME), root, {})
+    made = os.path.join(crate.folder, "out", f"lib{NAME}.a")
+    os.makedirs(os.path.dirname(made), exist_ok=True)
+    words = crate.words(["--jobs", "2"], keeps=False)
+    tools = ["--toolchain", f"{rtlib.KIT}/toolchain"]
+    status = crate.call(rtlib.RATTLE, "build", *words, *tools, "-o", f"out/lib{NAME}.a")
+    if status:
+        sys.exit(status)
+    if os.path.realpath(made) != os.path.realpath(target):
+        shutil.copyfile(made, target)
+    print(target)
+
+
+if __name__ == "__main__":
+    main()

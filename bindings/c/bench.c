@@ -1,0 +1,104 @@
+/* Rounds of the pool's calls through pardz.h, so many on so many threads. It reads no clock: it is timed from outside.
+ *
+ * bench CASE THREADS ROUNDS, where CASE is
+ *   get-many  a get of one of 16 own keys in turn, a read of the length, a release
+ *   cycle     a create, an append of 64 bytes, a publish and a clear
+ *
+ * Prints one number, so that the work is done. */
+#include "pardz.h"
+
+#include <pthread.h>
+#include <stdio.h>
+#include <stdlib.h>
+#include <string.h>
+
+#define MOST_THREADS 16
+#define MANY 16
+
+static const uint8_t BYTES[64] = { 7 };
+
+/* A lane, on a line of the cache of its own. */
+struct seat {
+    _Alignas(64) pardz_lane lane;
+    long rounds;
+    uint64_t count;
+};
+
+static struct seat seats[MOST_THREADS];
+
+static void must(uint32_t code) {
+    if (code != PARDZ_OK) {
+        fprintf(stderr, "a call answered %u\n", code);
+        exit(1);
+    }
+}
+
+static uint64_t put(pardz_lane *lane) {
+    uint64_t key;
+    must(pardz_create(lane, &key));
+    must(pardz_append(lane, key, BYTES, sizeof BYTES));
+    must(pardz_publish(lane, key));
+    return key;
+}
+
+static void *get_many(void *at) {
+    struct seat *seat = at;
+    uint64_t keys[MANY];
+    for (int i = 0; i < MANY; i++)
+        keys[i] = put(&seat->lane);
+    for (long round = 0; round < seat->rounds; round++) {
+        const uint8_t *bytes;
+        size_t len = 0;
+        must(pardz_get(&seat->lane, keys[round % MANY], &bytes, &len));
+        seat->count += len;
+        must(pardz_release(&seat->lane, keys[round % MANY]));
+    }
+    return NULL;
+}
+
+static void *cycle(void *at) {
+    struct seat *seat = at;
+    for (long round = 0; round < seat->rounds; round++) {
+        must(pardz_clear(&seat->lane, put(&seat->lane)));
+        seat->count++;
+    }
+    return NULL;
+}
+
+int main(int argc, char **argv) {
+    void *(*work)(void *) = NULL;
+    if (argc == 4 && strcmp(argv[1], "get-many") == 0)
+        work = get_many;
+    if (argc == 4 && strcmp(argv[1], "cycle") == 0)
+        work = cycle;
+    long threads = argc == 4 ? atol(argv[2]) : 0;
+    if (work == NULL || threads < 1 || threads > MOST_THREADS) {
+        fprintf(stderr, "words: get-many or cycle, a number of threads up to 16, and a number of rounds\n");
+        return 1;
+    }
+    const pardz_shape shape = { (uint32_t)threads, 32, 1, UINT32_MAX, 0 };
+    pardz_lane lanes[MOST_THREADS] = { PARDZ_EMPTY };
+    pthread_t running[MOST_THREADS];
+    must(pardz_open(&shape, lanes, (size_t)threads));
+    for (long i = 0; i < threads; i++) {
+        seats[i].lane = lanes[i];
+        seats[i].rounds = atol(argv[3]);
+    }
+    /* One thread needs no other. */
+    if (threads == 1)
+        work(&seats[0]);
+    else
+        for (long i = 0; i < threads; i++)
+            must((uint32_t)pthread_create(&running[i], NULL, work, &seats[i]));
+    uint64_t count = 0;
+    for (long i = 0; i < threads; i++) {
+        if (threads > 1)
+            must((uint32_t)pthread_join(running[i], NULL));
+        count += seats[i].count;
+        lanes[i] = seats[i].lane;
+    }
+    pardz_census census;
+    must(pardz_close_all(lanes, (size_t)threads, &census));
+    printf("%llu\n", (unsigned long long)count);
+    return 0;
+}

@@ -1,0 +1,160 @@
+/* A lock-free, sharded pool of byte buffers that are cleared in place and used again.
+ *
+ * A thread fills a buffer and publishes it under a key; any thread with a lane reads it under a reference; a clear makes the key
+ * unknown at once, and whoever lets go last empties the buffer, which keeps its memory and is filled again under a new key.
+ * No call blocks or waits for another thread.
+ *
+ * Link with libpoolffi.a and heap.c, in C11, C++11 or later. docs/FOREIGN.md tells what may be relied on.
+ *
+ * The caller's duties (nothing checks them):
+ *
+ * - A lane is in one call at a time. It may go from thread to thread, where a lock, the start or the join of a thread, or a
+ *   sequentially consistent atomic stands between the calls of one thread and those of the next. Two threads that call at once
+ *   need two lanes.
+ * - A slot (pardz_lane) is PARDZ_EMPTY before pardz_open. It may be moved by a plain copy, if the old copy isn't used again;
+ *   nothing else writes to it or makes one up. Slots of threads that run at once best stand 64 bytes apart.
+ * - A pointer that a call is given points to so much memory as the call reads or writes, for the time of the call, and to no slot
+ *   and nothing else that the call writes. It is never NULL, but for `bytes` where `len` is 0 and `lanes` where `count` is 0.
+ * - No call is made from a signal handler, or in the forked child of a process with threads.
+ *
+ * Each call answers a code. After any code but PARDZ_OK nothing has changed, and nothing was written through a pointer. Keys may
+ * be any numbers: a wrong one is answered by a code. A key may be sent to any thread; one that came by a lock, a channel or such an
+ * atomic is published for whoever hears it.
+ */
+#ifndef PARDZ_H
+#define PARDZ_H
+
+#include <stddef.h>
+#include <stdint.h>
+
+#ifdef __cplusplus
+extern "C" {
+#endif
+
+/* The place of a lane: 16 bytes of the caller's. */
+typedef struct pardz_lane {
+    void *at;
+    uint64_t full;
+} pardz_lane;
+
+/* A slot without a lane: pardz_lane slot = PARDZ_EMPTY; */
+#define PARDZ_EMPTY { NULL, 0 }
+
+/* What a pool is opened with. A lane's page p has first_page * 2^p places, so it has first_page * (2^pages - 1) in all. */
+typedef struct pardz_shape {
+    uint32_t lanes;           /* how many threads call at once: 1 to 16 */
+    uint32_t first_page;      /* places of a lane's first page: 1, 2, 4, 8, 16, 32 or 64 */
+    uint32_t pages;           /* pages of a lane: 1 to 6 */
+    uint32_t last_generation; /* how often a place is used before it is retired: from 1; UINT32_MAX for most programs */
+    uint32_t tag;             /* 0 to 255: stands in each key, so that a pool knows the keys of one with another tag for wrong */
+} pardz_shape;
+
+/* What the places of a pool were when it was closed. The six add up to lanes times places of a lane. */
+typedef struct pardz_census {
+    uint32_t free;
+    uint32_t unopened; /* in pages that were never needed */
+    uint32_t filling;  /* created, and neither published nor free again */
+    uint32_t present;  /* published and not cleared */
+    uint32_t marked;   /* cleared, with a reference that wasn't released */
+    uint32_t retired;  /* used up: its last generation was cleared */
+} pardz_census;
+
+enum {
+    PARDZ_OK = 0,
+    PARDZ_MEMORY = 1,       /* memory was refused */
+    PARDZ_EMPTY_LANE = 2,   /* the slot has no lane: it was never opened, or was joined or closed */
+    PARDZ_FULL_LANE = 3,    /* open: a slot already has a lane */
+    PARDZ_FULL = 4,         /* create: no place of the lane is free */
+    PARDZ_FILLINGS = 5,     /* create: the lane already has 16 fillings */
+    PARDZ_NO_FILLING = 6,   /* the lane has no filling under this key */
+    PARDZ_NO_REFERENCE = 7, /* the lane has no reference to this key */
+    PARDZ_GONE = 8,         /* get, clear: the key isn't published, or it is cleared already, or it is no key of this pool */
+    PARDZ_REFERENCES = 9,   /* get, downgrade: the lane has 1,048,575 references, the most that it can have */
+    PARDZ_OTHER_POOL = 10,  /* join: the lanes are of different pools */
+    PARDZ_LANES = 11,       /* open: count isn't the shape's number of lanes; join, close: not the lane whose turn it is */
+    PARDZ_SHAPE = 12,       /* open: the shape is outside its limits */
+    PARDZ_ROOM = 13         /* wrote: more bytes than the last pardz_room gave */
+};
+
+/* Opens a pool, and puts its lanes into so many empty slots, by rising number.
+ * PARDZ_MEMORY, PARDZ_FULL_LANE, PARDZ_LANES, PARDZ_SHAPE. */
+uint32_t pardz_open(const pardz_shape *shape, pardz_lane *lanes, size_t count);
+
+/* A lane's fillings: at most 16 at once, each named by the key under which it will be published.
+ *
+ * Begins an empty filling, and answers its key. It takes memory only where it opens a page.
+ * PARDZ_MEMORY, PARDZ_EMPTY_LANE, PARDZ_FULL, PARDZ_FILLINGS. */
+uint32_t pardz_create(pardz_lane *lane, uint64_t *key);
+
+/* Appends to a filling. An earlier room ends, even where memory is refused. `bytes` may belong to a reference, but not to this
+ * filling.
+ * PARDZ_MEMORY, PARDZ_EMPTY_LANE, PARDZ_NO_FILLING. */
+uint32_t pardz_append(pardz_lane *lane, uint64_t key, const uint8_t *bytes, size_t len);
+
+/* Lends `count` bytes, zeros at first, behind those of the filling, which they continue. They may be written to until the next
+ * call with this filling, and belong to it only as far as pardz_wrote says so. An earlier room ends, even where memory is refused.
+ * *at isn't written where count is 0.
+ * PARDZ_MEMORY, PARDZ_EMPTY_LANE, PARDZ_NO_FILLING. */
+uint32_t pardz_room(pardz_lane *lane, uint64_t key, size_t count, uint8_t **at);
+
+/* The first `count` of the bytes that the last pardz_room lent now belong to the filling, and the others don't.
+ * PARDZ_EMPTY_LANE, PARDZ_NO_FILLING, PARDZ_ROOM. */
+uint32_t pardz_wrote(pardz_lane *lane, uint64_t key, size_t count);
+
+/* Publishes a filling: from now on each lane finds its bytes under the key.
+ * PARDZ_EMPTY_LANE, PARDZ_NO_FILLING. */
+uint32_t pardz_publish(pardz_lane *lane, uint64_t key);
+
+/* Publishes a filling, and the lane has a reference to it (pardz_read tells its bytes).
+ * PARDZ_EMPTY_LANE, PARDZ_NO_FILLING, PARDZ_REFERENCES. */
+uint32_t pardz_downgrade(pardz_lane *lane, uint64_t key);
+
+/* Gives a filling up. Its place is lost until the pool is closed.
+ * PARDZ_EMPTY_LANE, PARDZ_NO_FILLING. */
+uint32_t pardz_leave(pardz_lane *lane, uint64_t key);
+
+/* References: a lane may have several, to one key too. The bytes of a key stand where they are, and don't change, until the lane
+ * has released the key as often as it took a reference to it, or the pool is closed; any thread may read them meanwhile. A
+ * reference stays with its lane: another lane gets its own by the key.
+ *
+ * Takes a reference, and tells the bytes. *at isn't written where *len is 0.
+ * PARDZ_EMPTY_LANE, PARDZ_GONE, PARDZ_REFERENCES. */
+uint32_t pardz_get(pardz_lane *lane, uint64_t key, const uint8_t **at, size_t *len);
+
+/* Tells the bytes of a key to which the lane has a reference, cleared or not. *at isn't written where *len is 0.
+ * PARDZ_EMPTY_LANE, PARDZ_NO_REFERENCE. */
+uint32_t pardz_read(pardz_lane *lane, uint64_t key, const uint8_t **at, size_t *len);
+
+/* Gives one reference back.
+ * PARDZ_EMPTY_LANE, PARDZ_NO_REFERENCE. */
+uint32_t pardz_release(pardz_lane *lane, uint64_t key);
+
+/* Clears a published key: no get finds it any more. Of all clears of a key one answers PARDZ_OK. The bytes stay until nobody has
+ * a reference; whoever lets go last empties the buffer, and its place is free again.
+ * PARDZ_EMPTY_LANE, PARDZ_GONE. */
+uint32_t pardz_clear(pardz_lane *lane, uint64_t key);
+
+/* The end: each lane but lane 0 is joined into lane 0, the last one first, then the one before it. Its slot is then empty. What it
+ * still fills is given up; what it still refers to stays until the close, and counts as present or marked.
+ * PARDZ_EMPTY_LANE, PARDZ_OTHER_POOL, PARDZ_LANES. */
+uint32_t pardz_join(pardz_lane *into, pardz_lane *lane);
+
+/* Closes a pool whose lane 0 has all others: frees its memory, that of all bytes too, and empties the slot. A pool that isn't
+ * closed keeps its memory. PARDZ_EMPTY_LANE, PARDZ_LANES. */
+uint32_t pardz_close(pardz_lane *lane, pardz_census *census);
+
+/* Joins and closes all lanes of one open, which stand in its order. */
+static inline uint32_t pardz_close_all(pardz_lane *lanes, size_t count, pardz_census *census) {
+    while (count > 1) {
+        uint32_t code = pardz_join(&lanes[0], &lanes[--count]);
+        if (code != PARDZ_OK)
+            return code;
+    }
+    return pardz_close(&lanes[0], census);
+}
+
+#ifdef __cplusplus
+}
+#endif
+
+#endif

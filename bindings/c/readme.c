@@ -1,0 +1,27 @@
+/* What README shows of C: one thread fills and publishes, and another reads and clears. */
+#include "pardz.h"
+
+#include <stdio.h>
+
+int main(void) {
+    const pardz_shape shape = { .lanes = 2, .first_page = 8, .pages = 2, .last_generation = UINT32_MAX, .tag = 0 };
+    pardz_lane lanes[2] = { PARDZ_EMPTY, PARDZ_EMPTY };      /* one for each thread */
+    if (pardz_open(&shape, lanes, 2) != PARDZ_OK)
+        return 1;
+
+    uint64_t key;                                            /* on the first thread */
+    if (pardz_create(&lanes[0], &key) != PARDZ_OK || pardz_append(&lanes[0], key, (const uint8_t *)"hello", 5) != PARDZ_OK)
+        return 1;
+    pardz_publish(&lanes[0], key);
+
+    const uint8_t *at;                                       /* on the second one, which was told the key */
+    size_t len;
+    if (pardz_get(&lanes[1], key, &at, &len) == PARDZ_OK) {
+        pardz_clear(&lanes[0], key);                         /* found no more; the bytes stay until the release */
+        printf("%.*s\n", (int)len, (const char *)at);
+        pardz_release(&lanes[1], key);                       /* the last to let go: empty, and free again */
+    }
+
+    pardz_census census;
+    return pardz_close_all(lanes, 2, &census) != PARDZ_OK || census.present != 0;
+}

@@ -1,0 +1,323 @@
+/* Each code of each call, provoked once; then that these were all. */
+#include "../pardz.h"
+#include "check.h"
+#include "counting_heap.h"
+
+#include <string.h>
+
+_Static_assert(sizeof(pardz_lane) == 16, "as the library has it");
+_Static_assert(sizeof(pardz_shape) == 20, "as the library has it");
+_Static_assert(sizeof(pardz_census) == 24, "as the library has it");
+
+enum call { OPEN, CREATE, APPEND, ROOM, WROTE, PUBLISH, DOWNGRADE, LEAVE, GET, READ, RELEASE, CLEAR, JOIN, CLOSE, CALLS };
+
+#define CODES 14
+#define BIT(code) (1u << PARDZ_##code)
+
+static const char *const NAMES[CALLS] = { "open", "create", "append", "room", "wrote", "publish", "downgrade", "leave", "get", "read",
+                                          "release", "clear", "join", "close" };
+
+/* The codes that each call can answer, as pardz.h has them. */
+static const uint32_t ALL[CALLS] = {
+    [OPEN] = BIT(OK) | BIT(MEMORY) | BIT(FULL_LANE) | BIT(LANES) | BIT(SHAPE),
+    [CREATE] = BIT(OK) | BIT(MEMORY) | BIT(EMPTY_LANE) | BIT(FULL) | BIT(FILLINGS),
+    [APPEND] = BIT(OK) | BIT(MEMORY) | BIT(EMPTY_LANE) | BIT(NO_FILLING),
+    [ROOM] = BIT(OK) | BIT(MEMORY) | BIT(EMPTY_LANE) | BIT(NO_FILLING),
+    [WROTE] = BIT(OK) | BIT(EMPTY_LANE) | BIT(NO_FILLING) | BIT(ROOM),
+    [PUBLISH] = BIT(OK) | BIT(EMPTY_LANE) | BIT(NO_FILLING),
+    [DOWNGRADE] = BIT(OK) | BIT(EMPTY_LANE) | BIT(NO_FILLING) | BIT(REFERENCES),
+    [LEAVE] = BIT(OK) | BIT(EMPTY_LANE) | BIT(NO_FILLING),
+    [GET] = BIT(OK) | BIT(EMPTY_LANE) | BIT(GONE) | BIT(REFERENCES),
+    [READ] = BIT(OK) | BIT(EMPTY_LANE) | BIT(NO_REFERENCE),
+    [RELEASE] = BIT(OK) | BIT(EMPTY_LANE) | BIT(NO_REFERENCE),
+    [CLEAR] = BIT(OK) | BIT(EMPTY_LANE) | BIT(GONE),
+    [JOIN] = BIT(OK) | BIT(EMPTY_LANE) | BIT(OTHER_POOL) | BIT(LANES),
+    [CLOSE] = BIT(OK) | BIT(EMPTY_LANE) | BIT(LANES),
+};
+
+static uint32_t seen[CALLS];
+
+static void expect(enum call call, uint32_t want, uint32_t got, int line) {
+    if (got != want) {
+        fprintf(stderr, "line %d: %s answered %u, not %u\n", line, NAMES[call], got, want);
+        exit(1);
+    }
+    seen[call] |= 1u << got;
+}
+
+#define EXPECT(call, want, got) expect(call, PARDZ_##want, got, __LINE__)
+
+static const pardz_shape SHAPE = { 2, 2, 2, UINT32_MAX, 7 };
+
+static uint64_t put(pardz_lane *lane, const char *text) {
+    uint64_t key = 0;
+    EXPECT(CREATE, OK, pardz_create(lane, &key));
+    EXPECT(APPEND, OK, pardz_append(lane, key, (const uint8_t *)text, strlen(text)));
+    EXPECT(PUBLISH, OK, pardz_publish(lane, key));
+    return key;
+}
+
+static void close_two(pardz_lane *lanes, pardz_census *census) {
+    EXPECT(JOIN, OK, pardz_join(&lanes[0], &lanes[1]));
+    EXPECT(CLOSE, OK, pardz_close(&lanes[0], census));
+    CHECK(heap_blocks == 0);
+}
+
+/* A wrong open leaves slots and heap as they were. */
+static void opens(void) {
+    pardz_lane lanes[2] = { PARDZ_EMPTY, PARDZ_EMPTY };
+    const pardz_shape wrong[] = { { 0, 2, 2, 1, 0 }, { 17, 2, 2, 1, 0 }, { 2, 0, 2, 1, 0 }, { 2, 3, 2, 1, 0 }, { 2, 128, 2, 1, 0 },
+                                  { 2, 2, 0, 1, 0 }, { 2, 2, 7, 1, 0 },  { 2, 2, 2, 0, 0 }, { 2, 2, 2, 1, 256 } };
+    EXPECT(OPEN, LANES, pardz_open(&SHAPE, lanes, 1));
+    EXPECT(OPEN, LANES, pardz_open(&SHAPE, NULL, 0));
+    for (size_t i = 0; i < sizeof wrong / sizeof *wrong; i++) {
+        pardz_lane slots[17] = { PARDZ_EMPTY };
+        EXPECT(OPEN, SHAPE, pardz_open(&wrong[i], slots, wrong[i].lanes));
+        for (int slot = 0; slot < 17; slot++)
+            CHECK(slots[slot].full == 0);
+    }
+    heap_begin(1, 1);
+    EXPECT(OPEN, MEMORY, pardz_open(&SHAPE, lanes, 2));
+    heap_begin(0, 0);
+    CHECK(lanes[0].full == 0 && lanes[1].full == 0 && heap_blocks == 0);
+    EXPECT(OPEN, OK, pardz_open(&SHAPE, lanes, 2));
+    EXPECT(OPEN, FULL_LANE, pardz_open(&SHAPE, lanes, 2));
+    pardz_census census;
+    close_two(lanes, &census);
+    CHECK(census.unopened == 12);
+}
+
+/* A slot without a lane: each call says so. */
+static void empty_lanes(pardz_lane *empty, pardz_lane *full) {
+    uint64_t key = 0;
+    uint8_t *to;
+    const uint8_t *at;
+    size_t len;
+    pardz_census census;
+    EXPECT(CREATE, EMPTY_LANE, pardz_create(empty, &key));
+    EXPECT(APPEND, EMPTY_LANE, pardz_append(empty, 1, NULL, 0));
+    EXPECT(ROOM, EMPTY_LANE, pardz_room(empty, 1, 1, &to));
+    EXPECT(WROTE, EMPTY_LANE, pardz_wrote(empty, 1, 0));
+    EXPECT(PUBLISH, EMPTY_LANE, pardz_publish(empty, 1));
+    EXPECT(DOWNGRADE, EMPTY_LANE, pardz_downgrade(empty, 1));
+    EXPECT(LEAVE, EMPTY_LANE, pardz_leave(empty, 1));
+    EXPECT(GET, EMPTY_LANE, pardz_get(empty, 1, &at, &len));
+    EXPECT(READ, EMPTY_LANE, pardz_read(empty, 1, &at, &len));
+    EXPECT(RELEASE, EMPTY_LANE, pardz_release(empty, 1));
+    EXPECT(CLEAR, EMPTY_LANE, pardz_clear(empty, 1));
+    EXPECT(JOIN, EMPTY_LANE, pardz_join(full, empty));
+    EXPECT(JOIN, EMPTY_LANE, pardz_join(empty, full));
+    EXPECT(CLOSE, EMPTY_LANE, pardz_close(empty, &census));
+    CHECK(empty->full == 0 && full->full == 1);
+}
+
+/* What isn't a filling, a reference or a published key of the lane. */
+static void wrong_keys(pardz_lane *lane, pardz_lane *other, uint64_t key) {
+    uint8_t *to = NULL;
+    const uint8_t *at = NULL;
+    size_t len = 99;
+    EXPECT(APPEND, NO_FILLING, pardz_append(lane, key, (const uint8_t *)"x", 1));
+    EXPECT(ROOM, NO_FILLING, pardz_room(lane, key, 1, &to));
+    EXPECT(WROTE, NO_FILLING, pardz_wrote(lane, key, 0));
+    EXPECT(PUBLISH, NO_FILLING, pardz_publish(lane, key));
+    EXPECT(DOWNGRADE, NO_FILLING, pardz_downgrade(lane, key));
+    EXPECT(LEAVE, NO_FILLING, pardz_leave(lane, key));
+    EXPECT(READ, NO_REFERENCE, pardz_read(other, key, &at, &len));
+    EXPECT(RELEASE, NO_REFERENCE, pardz_release(other, key));
+    CHECK(to == NULL && at == NULL && len == 99);
+}
+
+/* The life of one buffer, on two lanes. */
+static void life(pardz_lane *a, pardz_lane *b) {
+    uint64_t key = 0;
+    uint8_t *to = NULL;
+    const uint8_t *at = NULL, *again = NULL;
+    size_t len = 0;
+    EXPECT(CREATE, OK, pardz_create(a, &key));
+    wrong_keys(b, b, key);
+    EXPECT(GET, GONE, pardz_get(a, key, &at, &len));
+    EXPECT(CLEAR, GONE, pardz_clear(a, key));
+    EXPECT(APPEND, OK, pardz_append(a, key, NULL, 0));
+    EXPECT(APPEND, OK, pardz_append(a, key, (const uint8_t *)"abc", 3));
+    EXPECT(ROOM, OK, pardz_room(a, key, 5, &to));
+    CHECK(memcmp(to, "\0\0\0\0\0", 5) == 0 && memcmp(to - 3, "abc", 3) == 0);
+    memcpy(to, "defgh", 5);
+    EXPECT(WROTE, ROOM, pardz_wrote(a, key, 6));
+    EXPECT(WROTE, OK, pardz_wrote(a, key, 2));
+    EXPECT(WROTE, ROOM, pardz_wrote(a, key, 1));
+    EXPECT(ROOM, OK, pardz_room(a, key, 4, &to));
+    CHECK(memcmp(to, "\0\0\0\0", 4) == 0);
+    EXPECT(APPEND, OK, pardz_append(a, key, (const uint8_t *)"i", 1));
+    EXPECT(WROTE, ROOM, pardz_wrote(a, key, 1));
+    EXPECT(ROOM, OK, pardz_room(a, key, 4, &to));
+    memcpy(to, "zzzz", 4);
+    EXPECT(DOWNGRADE, OK, pardz_downgrade(a, key));
+    EXPECT(READ, OK, pardz_read(a, key, &at, &len));
+    CHECK(len == 6 && memcmp(at, "abcdei", 6) == 0);
+    wrong_keys(a, b, key);
+    EXPECT(GET, OK, pardz_get(b, key, &again, &len));
+    CHECK(len == 6 && again == at);
+    EXPECT(GET, OK, pardz_get(b, key, &again, &len));
+    EXPECT(CLEAR, OK, pardz_clear(b, key));
+    EXPECT(CLEAR, GONE, pardz_clear(a, key));
+    EXPECT(GET, GONE, pardz_get(a, key, &again, &len));
+    EXPECT(RELEASE, OK, pardz_release(b, key));
+    EXPECT(RELEASE, OK, pardz_release(b, key));
+    EXPECT(RELEASE, NO_REFERENCE, pardz_release(b, key));
+    EXPECT(READ, OK, pardz_read(a, key, &again, &len));
+    CHECK(len == 6 && again == at && memcmp(at, "abcdei", 6) == 0);
+    EXPECT(RELEASE, OK, pardz_release(a, key));
+    EXPECT(READ, NO_REFERENCE, pardz_read(a, key, &again, &len));
+    uint64_t empty = put(a, "");
+    CHECK(empty != key);
+    at = NULL;
+    EXPECT(GET, OK, pardz_get(b, empty, &at, &len));
+    CHECK(at == NULL && len == 0);
+    EXPECT(READ, OK, pardz_read(b, empty, &at, &len));
+    CHECK(at == NULL && len == 0);
+    EXPECT(RELEASE, OK, pardz_release(b, empty));
+    EXPECT(CLEAR, OK, pardz_clear(b, empty));
+    EXPECT(GET, GONE, pardz_get(b, UINT64_MAX, &at, &len));
+    EXPECT(CLEAR, GONE, pardz_clear(b, 0));
+}
+
+/* Bytes of a reference are appended to another filling. */
+static void from_a_reference(pardz_lane *lane) {
+    uint64_t first = put(lane, "once"), second = 0;
+    const uint8_t *at = NULL;
+    size_t len = 0;
+    EXPECT(GET, OK, pardz_get(lane, first, &at, &len));
+    EXPECT(CREATE, OK, pardz_create(lane, &second));
+    EXPECT(APPEND, OK, pardz_append(lane, second, at, len));
+    EXPECT(APPEND, OK, pardz_append(lane, second, at, len));
+    EXPECT(DOWNGRADE, OK, pardz_downgrade(lane, second));
+    EXPECT(RELEASE, OK, pardz_release(lane, first));
+    EXPECT(READ, OK, pardz_read(lane, second, &at, &len));
+    CHECK(len == 8 && memcmp(at, "onceonce", 8) == 0);
+    EXPECT(RELEASE, OK, pardz_release(lane, second));
+    EXPECT(CLEAR, OK, pardz_clear(lane, first));
+    EXPECT(CLEAR, OK, pardz_clear(lane, second));
+}
+
+/* As many fillings, places and references as there can be, and one more. */
+static void limits(void) {
+    const pardz_shape shape = { 2, 8, 2, UINT32_MAX, 0 };
+    pardz_lane lanes[2] = { PARDZ_EMPTY, PARDZ_EMPTY };
+    uint64_t keys[24], key = 99;
+    const uint8_t *at;
+    size_t len;
+    EXPECT(OPEN, OK, pardz_open(&shape, lanes, 2));
+    for (int i = 0; i < 16; i++)
+        EXPECT(CREATE, OK, pardz_create(&lanes[0], &keys[i]));
+    EXPECT(CREATE, FILLINGS, pardz_create(&lanes[0], &key));
+    for (int i = 0; i < 16; i++)
+        EXPECT(PUBLISH, OK, pardz_publish(&lanes[0], keys[i]));
+    for (int i = 16; i < 24; i++)
+        EXPECT(CREATE, OK, pardz_create(&lanes[0], &keys[i]));
+    EXPECT(CREATE, FULL, pardz_create(&lanes[0], &key));
+    CHECK(key == 99);
+    for (long i = 0; i < 1048575; i++)
+        CHECK(pardz_get(&lanes[0], keys[i % 16], &at, &len) == PARDZ_OK);
+    EXPECT(GET, REFERENCES, pardz_get(&lanes[0], keys[0], &at, &len));
+    EXPECT(DOWNGRADE, REFERENCES, pardz_downgrade(&lanes[0], keys[16]));
+    EXPECT(GET, OK, pardz_get(&lanes[1], keys[0], &at, &len));
+    EXPECT(RELEASE, OK, pardz_release(&lanes[0], keys[0]));
+    EXPECT(DOWNGRADE, OK, pardz_downgrade(&lanes[0], keys[16]));
+    EXPECT(LEAVE, OK, pardz_leave(&lanes[0], keys[17]));
+    EXPECT(LEAVE, NO_FILLING, pardz_leave(&lanes[0], keys[17]));
+    EXPECT(CLEAR, OK, pardz_clear(&lanes[1], keys[1]));
+    EXPECT(CREATE, OK, pardz_create(&lanes[1], &key));
+    pardz_census census;
+    close_two(lanes, &census);
+    CHECK(census.present == 16 && census.filling == 8 && census.marked == 1 && census.free == 7 && census.unopened == 16);
+}
+
+/* Memory is refused to a create, an append and a room; each goes on afterwards. */
+static void memory(void) {
+    pardz_lane lanes[2] = { PARDZ_EMPTY, PARDZ_EMPTY };
+    uint64_t key = 99;
+    uint8_t bytes[100] = { 1 }, *to = NULL;
+    EXPECT(OPEN, OK, pardz_open(&SHAPE, lanes, 2));
+    heap_begin(1, 1000);
+    EXPECT(CREATE, MEMORY, pardz_create(&lanes[0], &key));
+    CHECK(key == 99);
+    heap_begin(0, 0);
+    EXPECT(CREATE, OK, pardz_create(&lanes[0], &key));
+    heap_begin(1, 1000);
+    EXPECT(APPEND, MEMORY, pardz_append(&lanes[0], key, bytes, sizeof bytes));
+    EXPECT(ROOM, MEMORY, pardz_room(&lanes[0], key, sizeof bytes, &to));
+    CHECK(to == NULL);
+    heap_begin(0, 0);
+    EXPECT(APPEND, OK, pardz_append(&lanes[0], key, bytes, sizeof bytes));
+    EXPECT(PUBLISH, OK, pardz_publish(&lanes[0], key));
+    pardz_census census;
+    close_two(lanes, &census);
+    CHECK(census.present == 1);
+}
+
+/* The order of joins, and two pools of one shape and tag. */
+static void ends(void) {
+    const pardz_shape three = { 3, 2, 2, UINT32_MAX, 7 };
+    pardz_lane lanes[3] = { PARDZ_EMPTY, PARDZ_EMPTY, PARDZ_EMPTY }, others[3] = { PARDZ_EMPTY, PARDZ_EMPTY, PARDZ_EMPTY };
+    pardz_census census;
+    EXPECT(OPEN, OK, pardz_open(&three, lanes, 3));
+    EXPECT(OPEN, OK, pardz_open(&three, others, 3));
+    EXPECT(CLOSE, LANES, pardz_close(&lanes[0], &census));
+    EXPECT(CLOSE, LANES, pardz_close(&lanes[1], &census));
+    EXPECT(JOIN, LANES, pardz_join(&lanes[0], &lanes[1]));
+    EXPECT(JOIN, OTHER_POOL, pardz_join(&lanes[0], &others[2]));
+    EXPECT(JOIN, OTHER_POOL, pardz_join(&others[0], &lanes[2]));
+    EXPECT(JOIN, OK, pardz_join(&lanes[0], &lanes[2]));
+    CHECK(lanes[2].full == 0);
+    EXPECT(CLOSE, LANES, pardz_close(&lanes[0], &census));
+    uint64_t key = put(&lanes[0], "still open");
+    EXPECT(CLEAR, OK, pardz_clear(&lanes[1], key));
+    EXPECT(JOIN, OTHER_POOL, pardz_join(&lanes[0], &others[1]));
+    EXPECT(JOIN, OK, pardz_join(&lanes[0], &lanes[1]));
+    EXPECT(CLOSE, OK, pardz_close(&lanes[0], &census));
+    EXPECT(CLOSE, EMPTY_LANE, pardz_close(&lanes[0], &census));
+    CHECK(pardz_close_all(others, 3, &census) == PARDZ_OK && census.unopened == 18);
+    CHECK(heap_blocks == 0);
+}
+
+/* A slot that was moved by a plain copy goes on. */
+static void moved(void) {
+    struct {
+        pardz_lane first, second;
+    } place;
+    pardz_lane lanes[2] = { PARDZ_EMPTY, PARDZ_EMPTY };
+    pardz_census census;
+    EXPECT(OPEN, OK, pardz_open(&SHAPE, lanes, 2));
+    uint64_t key = put(&lanes[0], "moved");
+    memcpy(&place, lanes, sizeof lanes);
+    memset(lanes, 0xff, sizeof lanes);
+    EXPECT(CLEAR, OK, pardz_clear(&place.second, key));
+    close_two(&place.first, &census);
+    CHECK(census.free == 2 && census.unopened == 10);
+}
+
+int main(void) {
+    opens();
+    pardz_lane lanes[2] = { PARDZ_EMPTY, PARDZ_EMPTY }, empty = PARDZ_EMPTY;
+    EXPECT(OPEN, OK, pardz_open(&SHAPE, lanes, 2));
+    empty_lanes(&empty, &lanes[0]);
+    for (int i = 0; i < 20; i++)
+        life(&lanes[i % 2], &lanes[(i + 1) % 2]);
+    from_a_reference(&lanes[0]);
+    pardz_census census;
+    close_two(lanes, &census);
+    CHECK(census.present + census.marked + census.filling + census.retired == 0);
+    limits();
+    memory();
+    ends();
+    moved();
+    int pairs = 0;
+    for (int call = 0; call < CALLS; call++)
+        for (int code = 0; code < CODES; code++) {
+            CHECK((seen[call] >> code & 1) == (ALL[call] >> code & 1));
+            pairs += seen[call] >> code & 1;
+        }
+    CHECK(heap_blocks == 0);
+    printf("calls: %d pairs of a call and a code\n", pairs);
+    return 0;
+}

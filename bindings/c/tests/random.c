@@ -1,0 +1,339 @@
+/* Random calls of two lanes on one thread, with right and wrong keys, beside a model of the pool: each code, key, byte and
+ * address is what the model says, and so is the census.
+ *
+ * random CALLS: so many calls on each shape. */
+#include "../pardz.h"
+#include "check.h"
+
+#include <string.h>
+
+#define MOST_PLACES 96
+#define MOST_BYTES 96
+#define OLD_KEYS 64
+
+enum state { UNOPENED, FREE, FILLING, LEFT, PRESENT, MARKED, RETIRED };
+
+struct place {
+    enum state state;
+    uint32_t generation;
+    unsigned refs[2];
+    size_t len;
+    size_t lent; /* what the last room lent */
+    uint8_t bytes[MOST_BYTES];
+    uint8_t *to;
+    const uint8_t *at;
+};
+
+static pardz_shape shape;
+static uint32_t shard_places;
+static struct place places[2][MOST_PLACES];
+static uint32_t opened[2]; /* places in opened pages */
+static uint32_t fillings[2];
+static pardz_lane lanes[2];
+static uint64_t old_keys[OLD_KEYS];
+static long calls, wrong_keys, answers[14];
+
+static uint64_t seed = 88172645463325252u;
+
+static uint64_t draw(uint64_t below) {
+    seed ^= seed << 13;
+    seed ^= seed >> 7;
+    seed ^= seed << 17;
+    return (seed >> 11) % below;
+}
+
+/* The number of places in front of a page. */
+static uint32_t before(uint32_t page) {
+    return shape.first_page * ((1u << page) - 1);
+}
+
+static uint64_t key_of(int shard, uint32_t index) {
+    uint32_t page = 0;
+    while (before(page + 1) <= index)
+        page++;
+    return (uint64_t)shape.tag << 56 | (uint64_t)places[shard][index].generation << 24 | (uint64_t)shard << 16 | page << 12 |
+           (index - before(page));
+}
+
+/* The place whose key this is now. */
+static struct place *find(uint64_t key) {
+    for (int shard = 0; shard < 2; shard++)
+        for (uint32_t index = 0; index < shard_places; index++)
+            if (key_of(shard, index) == key)
+                return &places[shard][index];
+    return NULL;
+}
+
+static int is_filling(const struct place *place, int lane) {
+    return place->state == FILLING && place >= places[lane] && place < places[lane] + MOST_PLACES;
+}
+
+static int is_present(const struct place *place, int lane) {
+    (void)lane;
+    return place->state == PRESENT;
+}
+
+static int is_held(const struct place *place, int lane) {
+    return place->refs[lane] != 0;
+}
+
+/* A key, which mostly serves if there is one that does: else one of another place, an old one, one with a wrong bit, any number. */
+static uint64_t some_key(int serves(const struct place *, int), int lane) {
+    uint64_t key = 0;
+    for (int tries = 0; tries < 6; tries++) {
+        int shard = (int)draw(2);
+        uint32_t index = (uint32_t)draw(opened[shard] != 0 ? opened[shard] : 1);
+        key = key_of(shard, index);
+        if (serves(&places[shard][index], lane))
+            break;
+    }
+    switch (draw(12)) {
+    case 0:
+        key = old_keys[draw(OLD_KEYS)];
+        break;
+    case 1:
+        key ^= (uint64_t)1 << draw(64);
+        break;
+    case 2:
+        key = draw(UINT64_MAX);
+        break;
+    default:
+        return key;
+    }
+    wrong_keys += find(key) == NULL;
+    return key;
+}
+
+static struct place *filling(int lane, uint64_t key) {
+    struct place *place = find(key);
+    return place != NULL && is_filling(place, lane) ? place : NULL;
+}
+
+static void told(uint32_t code, uint32_t want) {
+    CHECK(code == want);
+    answers[code]++;
+    calls++;
+}
+
+static void same_bytes(struct place *place, const uint8_t *at, size_t len) {
+    CHECK(len == place->len && (len == 0 || memcmp(at, place->bytes, len) == 0));
+    CHECK(len == 0 || place->at == NULL || place->at == at);
+    place->at = len != 0 ? at : NULL;
+}
+
+static void reclaim(struct place *place) {
+    if (place->state != MARKED || place->refs[0] + place->refs[1] != 0)
+        return;
+    place->at = NULL;
+    place->len = 0;
+    place->state = place->generation == shape.last_generation ? RETIRED : FREE;
+    if (place->state == FREE)
+        place->generation++;
+}
+
+static uint32_t count(int shard, enum state state) {
+    uint32_t found = 0;
+    for (uint32_t index = 0; index < shard_places; index++)
+        found += places[shard][index].state == state;
+    return found;
+}
+
+static void create(int lane) {
+    uint64_t key = 0;
+    uint32_t code = pardz_create(&lanes[lane], &key);
+    int is_free = count(lane, FREE) != 0;
+    if (fillings[lane] == 16) {
+        told(code, PARDZ_FILLINGS);
+        return;
+    }
+    if (!is_free && opened[lane] == shard_places) {
+        told(code, PARDZ_FULL);
+        return;
+    }
+    told(code, PARDZ_OK);
+    if (!is_free) {
+        uint32_t page = 0;
+        while (before(page + 1) <= opened[lane])
+            page++;
+        for (uint32_t index = opened[lane]; index < before(page + 1); index++)
+            places[lane][index].state = FREE;
+        opened[lane] = before(page + 1);
+    }
+    struct place *place = find(key);
+    CHECK(place != NULL && place->state == FREE && place >= places[lane] && place < places[lane] + MOST_PLACES);
+    place->state = FILLING;
+    place->lent = 0;
+    fillings[lane]++;
+    old_keys[draw(OLD_KEYS)] = key;
+}
+
+static void append(int lane, uint64_t key) {
+    struct place *place = filling(lane, key);
+    uint8_t bytes[24];
+    size_t len = (size_t)draw(sizeof bytes + 1);
+    for (size_t i = 0; i < len; i++)
+        bytes[i] = (uint8_t)draw(256);
+    if (place != NULL && place->len + len > MOST_BYTES)
+        return;
+    told(pardz_append(&lanes[lane], key, len != 0 ? bytes : NULL, len), place != NULL ? PARDZ_OK : PARDZ_NO_FILLING);
+    if (place == NULL)
+        return;
+    memcpy(place->bytes + place->len, bytes, len);
+    place->len += len;
+    place->lent = 0;
+}
+
+static void room(int lane, uint64_t key) {
+    struct place *place = filling(lane, key);
+    size_t len = (size_t)draw(25);
+    uint8_t *at = NULL;
+    if (place != NULL && place->len + len > MOST_BYTES)
+        return;
+    told(pardz_room(&lanes[lane], key, len, &at), place != NULL ? PARDZ_OK : PARDZ_NO_FILLING);
+    CHECK((at != NULL) == (place != NULL && len != 0));
+    if (place == NULL)
+        return;
+    for (size_t i = 0; i < len; i++)
+        CHECK(at[i] == 0);
+    for (size_t i = 0; i < len; i++)
+        at[i] = (uint8_t)draw(256);
+    place->lent = len;
+    place->to = at;
+}
+
+static void wrote(int lane, uint64_t key) {
+    struct place *place = filling(lane, key);
+    size_t len = (size_t)draw(draw(4) == 0 ? 30 : 8);
+    uint8_t bytes[30];
+    int fits = place != NULL && len <= place->lent;
+    if (fits && len != 0)
+        memcpy(bytes, place->to, len);
+    told(pardz_wrote(&lanes[lane], key, len), place == NULL ? PARDZ_NO_FILLING : fits ? PARDZ_OK : PARDZ_ROOM);
+    if (!fits)
+        return;
+    memcpy(place->bytes + place->len, bytes, len);
+    place->len += len;
+    place->lent = 0;
+}
+
+static void publish(int lane, uint64_t key, int downgrade) {
+    struct place *place = filling(lane, key);
+    uint32_t code = downgrade ? pardz_downgrade(&lanes[lane], key) : pardz_publish(&lanes[lane], key);
+    told(code, place != NULL ? PARDZ_OK : PARDZ_NO_FILLING);
+    if (place == NULL)
+        return;
+    place->state = PRESENT;
+    place->refs[lane] += (unsigned)downgrade;
+    fillings[lane]--;
+}
+
+static void leave(int lane, uint64_t key) {
+    struct place *place = filling(lane, key);
+    if (place != NULL && (draw(100) != 0 || count(lane, LEFT) > shard_places / 4))
+        return;
+    told(pardz_leave(&lanes[lane], key), place != NULL ? PARDZ_OK : PARDZ_NO_FILLING);
+    if (place == NULL)
+        return;
+    place->state = LEFT;
+    fillings[lane]--;
+}
+
+static void get(int lane, uint64_t key) {
+    struct place *place = find(key);
+    const uint8_t *at = NULL;
+    size_t len = 0;
+    int found = place != NULL && is_present(place, lane);
+    told(pardz_get(&lanes[lane], key, &at, &len), found ? PARDZ_OK : PARDZ_GONE);
+    CHECK((at != NULL) == (found && len != 0));
+    if (!found)
+        return;
+    same_bytes(place, at, len);
+    place->refs[lane]++;
+}
+
+static void read(int lane, uint64_t key) {
+    struct place *place = find(key);
+    const uint8_t *at = NULL;
+    size_t len = 0;
+    int held = place != NULL && is_held(place, lane);
+    told(pardz_read(&lanes[lane], key, &at, &len), held ? PARDZ_OK : PARDZ_NO_REFERENCE);
+    CHECK((at != NULL) == (held && len != 0));
+    if (held)
+        same_bytes(place, at, len);
+}
+
+static void release(int lane, uint64_t key) {
+    struct place *place = find(key);
+    int held = place != NULL && is_held(place, lane);
+    if (held && place->at != NULL)
+        CHECK(memcmp(place->at, place->bytes, place->len) == 0);
+    told(pardz_release(&lanes[lane], key), held ? PARDZ_OK : PARDZ_NO_REFERENCE);
+    if (!held)
+        return;
+    place->refs[lane]--;
+    if (place->refs[0] + place->refs[1] == 0)
+        place->at = NULL;
+    reclaim(place);
+}
+
+static void clear(int lane, uint64_t key) {
+    struct place *place = find(key);
+    int found = place != NULL && is_present(place, lane);
+    told(pardz_clear(&lanes[lane], key), found ? PARDZ_OK : PARDZ_GONE);
+    if (!found)
+        return;
+    place->state = MARKED;
+    reclaim(place);
+}
+
+static void call(void) {
+    int lane = (int)draw(2);
+    switch (draw(13)) {
+    case 0: create(lane); break;
+    case 1: append(lane, some_key(is_filling, lane)); break;
+    case 2: room(lane, some_key(is_filling, lane)); break;
+    case 3: wrote(lane, some_key(is_filling, lane)); break;
+    case 4: publish(lane, some_key(is_filling, lane), (int)draw(2)); break;
+    case 5: leave(lane, some_key(is_filling, lane)); break;
+    case 6: case 7: get(lane, some_key(is_present, lane)); break;
+    case 8: read(lane, some_key(is_held, lane)); break;
+    case 9: case 10: case 11: release(lane, some_key(is_held, lane)); break;
+    default: clear(lane, some_key(is_present, lane)); break;
+    }
+}
+
+static void run(pardz_shape of, long rounds) {
+    shape = of;
+    shard_places = before(of.pages);
+    memset(places, 0, sizeof places);
+    memset(opened, 0, sizeof opened);
+    memset(fillings, 0, sizeof fillings);
+    for (int shard = 0; shard < 2; shard++)
+        for (uint32_t index = 0; index < shard_places; index++)
+            places[shard][index].generation = 1;
+    CHECK(pardz_open(&shape, lanes, 2) == PARDZ_OK);
+    for (long round = 0; round < rounds; round++)
+        call();
+    pardz_census census;
+    CHECK(pardz_close_all(lanes, 2, &census) == PARDZ_OK);
+    CHECK(census.free == count(0, FREE) + count(1, FREE));
+    CHECK(census.unopened == count(0, UNOPENED) + count(1, UNOPENED));
+    CHECK(census.filling == count(0, FILLING) + count(1, FILLING) + count(0, LEFT) + count(1, LEFT));
+    CHECK(census.present == count(0, PRESENT) + count(1, PRESENT));
+    CHECK(census.marked == count(0, MARKED) + count(1, MARKED));
+    CHECK(census.retired == count(0, RETIRED) + count(1, RETIRED));
+}
+
+int main(int argc, char **argv) {
+    long rounds = argc > 1 ? atol(argv[1]) : 100000;
+    const pardz_shape shapes[] = {
+        { 2, 4, 2, UINT32_MAX, 3 }, { 2, 1, 4, UINT32_MAX, 0 }, { 2, 16, 2, 60, 255 }, { 2, 2, 2, 3, 1 }
+    };
+    for (size_t i = 0; i < sizeof shapes / sizeof *shapes; i++)
+        run(shapes[i], rounds);
+    printf("random: %ld calls, %ld with a number that is no key now; ok %ld full %ld fillings %ld no filling %ld no reference %ld "
+           "gone %ld room %ld\n",
+           calls, wrong_keys, answers[PARDZ_OK], answers[PARDZ_FULL], answers[PARDZ_FILLINGS], answers[PARDZ_NO_FILLING],
+           answers[PARDZ_NO_REFERENCE], answers[PARDZ_GONE], answers[PARDZ_ROOM]);
+    return 0;
+}

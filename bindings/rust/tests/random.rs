@@ -1,0 +1,208 @@
+//! Drawn calls, beside a model.
+use pardz::typed::{Filling, Lane, Pool, Ref};
+use pardz::{CreateError, Key, Shape};
+use std::collections::HashMap;
+use std::io::Write;
+
+/// Marsaglia's xorshift.
+struct Draws(u64);
+
+impl Draws {
+    fn below(&mut self, limit: usize) -> usize {
+        self.0 ^= self.0 << 13;
+        self.0 ^= self.0 >> 7;
+        self.0 ^= self.0 << 17;
+        (self.0 >> 11) as usize % limit
+    }
+}
+
+/// A filling is what a vector is that is filled in the same ways.
+#[test]
+fn fillings_beside_a_vector() {
+    let pool = pardz::Pool::open(Shape {
+        lanes: 1,
+        first_page: 2,
+        pages: 1,
+        ..Shape::default()
+    })
+    .unwrap();
+    let lane = pool.lane().unwrap();
+    let mut draws = Draws(88_172_645_463_325_252);
+    for _ in 0..2000 {
+        let mut filling = lane.create().unwrap();
+        let mut model = Vec::new();
+        let mut lent = Vec::new();
+        for _ in 0..draws.below(20) {
+            let bytes: Vec<u8> = (0..draws.below(40))
+                .map(|_| draws.below(256) as u8)
+                .collect();
+            match draws.below(5) {
+                0 => {
+                    filling.append(&bytes).unwrap();
+                    model.extend_from_slice(&bytes);
+                    lent.clear();
+                }
+                1 => {
+                    filling.write_all(&bytes).unwrap();
+                    model.extend_from_slice(&bytes);
+                    // A write of nothing makes no call.
+                    if !bytes.is_empty() {
+                        lent.clear();
+                    }
+                }
+                2 => {
+                    let room = filling.room(bytes.len()).unwrap();
+                    assert!(room.iter().all(|byte| *byte == 0) && room.len() == bytes.len());
+                    room.copy_from_slice(&bytes);
+                    lent = bytes;
+                }
+                3 => {
+                    let count = draws.below(lent.len() + 1);
+                    filling.wrote(count);
+                    model.extend_from_slice(&lent[..count]);
+                    lent.clear();
+                }
+                _ => assert_eq!(&filling[..], model),
+            }
+        }
+        if draws.below(2) == 0 {
+            let bytes = filling.downgrade();
+            assert_eq!(&bytes[..], model);
+            assert!(lane.clear(bytes.key()));
+        } else {
+            let key = filling.publish();
+            assert_eq!(&lane.get(key).unwrap()[..], model);
+            assert!(lane.clear(key));
+        }
+    }
+}
+
+/// What two lanes have, and what the pool should.
+struct Run<'l> {
+    lanes: &'l [Lane<'l, Vec<u64>>; 2],
+    draws: Draws,
+    fillings: Vec<Filling<'l, Vec<u64>>>,
+    references: Vec<Ref<'l, Vec<u64>>>,
+    /// What is published and not cleared.
+    present: HashMap<Key, Vec<u64>>,
+    /// What each reference reads.
+    held: HashMap<Key, Vec<u64>>,
+    old: Vec<Key>,
+}
+
+impl<'l> Run<'l> {
+    fn lane(&mut self) -> &'l Lane<'l, Vec<u64>> {
+        &self.lanes[self.draws.below(2)]
+    }
+
+    fn key(&mut self) -> Key {
+        match self.draws.below(8) {
+            0 => Key::from(self.draws.0),
+            1 if !self.fillings.is_empty() => {
+                self.fillings[self.draws.below(self.fillings.len())].key()
+            }
+            _ if self.old.is_empty() => Key::from(0),
+            _ => self.old[self.old.len() - 1 - self.draws.below(self.old.len().min(40))],
+        }
+    }
+
+    fn fill(&mut self) {
+        match self.lane().create() {
+            Ok(mut list) => {
+                assert!(list.is_empty());
+                let number = u64::from(list.key());
+                list.extend((0..self.draws.below(9) as u64).map(|item| number ^ item));
+                self.fillings.push(list);
+            }
+            Err(error) => assert!(matches!(error, CreateError::Full | CreateError::Fillings)),
+        }
+    }
+
+    fn publish(&mut self) {
+        if self.fillings.is_empty() {
+            return;
+        }
+        let index = self.draws.below(self.fillings.len());
+        let filling = self.fillings.swap_remove(index);
+        let list = filling.to_vec();
+        let key = if self.draws.below(2) == 0 {
+            filling.publish()
+        } else {
+            let reference = filling.downgrade();
+            let key = reference.key();
+            self.references.push(reference);
+            self.held.insert(key, list.clone());
+            key
+        };
+        assert!(self.present.insert(key, list).is_none());
+        self.old.push(key);
+    }
+
+    fn get(&mut self) {
+        let key = self.key();
+        let found = self.lane().get(key);
+        assert_eq!(found.as_deref(), self.present.get(&key));
+        if let Some(reference) = found {
+            self.held.insert(key, reference.to_vec());
+            self.references.push(reference);
+        }
+    }
+
+    fn release(&mut self) {
+        if self.references.is_empty() {
+            return;
+        }
+        let index = self.draws.below(self.references.len());
+        let reference = self.references.swap_remove(index);
+        assert_eq!(*reference, self.held[&reference.key()]);
+    }
+
+    fn clear(&mut self) {
+        let key = self.key();
+        assert_eq!(self.lane().clear(key), self.present.remove(&key).is_some());
+    }
+}
+
+#[test]
+fn objects_beside_a_map() {
+    let pool = Pool::open(Shape {
+        lanes: 2,
+        first_page: 2,
+        pages: 3,
+        last_generation: u32::MAX,
+        tag: 9,
+    })
+    .unwrap();
+    let lanes = [pool.lane().unwrap(), pool.lane().unwrap()];
+    let mut run = Run {
+        lanes: &lanes,
+        draws: Draws(1_181_783_497_276_652_981),
+        fillings: Vec::new(),
+        references: Vec::new(),
+        present: HashMap::new(),
+        held: HashMap::new(),
+        old: Vec::new(),
+    };
+    for _ in 0..100_000 {
+        match run.draws.below(9) {
+            0 | 1 => run.fill(),
+            2 | 3 => run.publish(),
+            4 | 5 => run.get(),
+            6 | 7 => run.release(),
+            _ => run.clear(),
+        }
+    }
+    assert!(run
+        .references
+        .iter()
+        .all(|reference| **reference == run.held[&reference.key()]));
+    let present = run.present.len();
+    run.fillings.drain(..).for_each(Filling::discard);
+    drop(run);
+    drop(lanes);
+    let census = pool.close();
+    assert_eq!(
+        (census.present as usize, census.marked, census.filling),
+        (present, 0, 0)
+    );
+}

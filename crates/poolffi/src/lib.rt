@@ -1,0 +1,300 @@
+//! A pool of byte buffers for C and for Rust: one export for each call.
+//!
+//! Each lane stands in a slot of two words that the program keeps. A filling and a reference are named by their key.
+#![tactic(auto)]
+
+ghost use Rattle.std.specs.Prelude.{◌≡◌};
+ghost use Rattle.poolhandle.specs.Calls.{Appends, Rooms, Wrote, Publishes, Downgrades, Leaves, Releases, Clears};
+ghost use Rattle.poolffi.specs.Exports.{Calls, CreatesKey, Lends, Reads};
+
+mod lanes;
+mod slots;
+
+use crate::lanes::open_slots;
+use crate::slots::{EMPTY_LANE, LANES, OK, code, code_of, lift, lower, put};
+use keybits::Shape;
+use poolhandle::slot::Slot;
+use poolhandle::{close, join};
+use shardpool::Census;
+use std::alloc::Global;
+
+/// What a pool is opened with.
+#[repr(C)]
+#[derive(Drop)]
+pub struct PoolShape {
+    pub lanes: u32,
+    pub first_page: u32,
+    pub pages: u32,
+    pub last_generation: u32,
+    pub tag: u32,
+}
+
+/// How many places were what when the pool was closed.
+#[repr(C)]
+#[derive(Drop)]
+pub struct PoolCensus {
+    pub free: u32,
+    pub unopened: u32,
+    pub filling: u32,
+    pub present: u32,
+    pub marked: u32,
+    pub retired: u32,
+}
+
+/// Opens a pool, and puts a lane into each slot, by rising number.
+#[unsafe(no_mangle)]
+pub extern "C" fn pardz_open(alloc: Global, shape: &PoolShape, slots: &mut [Slot]) -> u32 {
+    let shape = Shape {
+        lanes: shape.lanes,
+        first_page: shape.first_page,
+        pages: shape.pages,
+        last_generation: shape.last_generation,
+        tag: shape.tag,
+    };
+    open_slots(alloc, shape, slots)
+}
+
+/// A place to be filled, by the key under which it will be published.
+#[unsafe(no_mangle)]
+pub extern "C" fn pardz_create(alloc: Global, slot: &mut Slot, key: &mut u64) -> u32
+    ensures { Calls (CreatesKey key.new) slot.old.items slot.new.items result }
+{
+    let Some(mut handle) = lift(alloc, slot) else {
+        return EMPTY_LANE;
+    };
+    let code = match handle.create() {
+        Ok(made) => {
+            *key = made;
+            OK
+        }
+        Err(refusal) => code_of(refusal),
+    };
+    lower(slot, handle);
+    code
+}
+
+/// Appends to a filling.
+#[unsafe(no_mangle)]
+pub extern "C" fn pardz_append(alloc: Global, slot: &mut Slot, key: u64, bytes: &[u8]) -> u32
+    ensures { Calls (Appends key bytes.now) slot.old.items slot.new.items result }
+{
+    let Some(mut handle) = lift(alloc, slot) else {
+        return EMPTY_LANE;
+    };
+    let answer = handle.append(key, bytes);
+    lower(slot, handle);
+    code(answer)
+}
+
+/// Gives room for so many bytes behind the content of a filling.
+#[unsafe(no_mangle)]
+pub extern "C" fn pardz_room(
+    alloc: Global,
+    slot: &mut Slot,
+    key: u64,
+    count: usize,
+    at: &mut *mut u8,
+) -> u32
+    ensures { Calls (Rooms key count) slot.old.items slot.new.items result }
+{
+    let Some(mut handle) = lift(alloc, slot) else {
+        return EMPTY_LANE;
+    };
+    let code = match handle.room(key, count) {
+        Ok(begins) => {
+            if count != 0 {
+                *at = begins;
+            }
+            OK
+        }
+        Err(refusal) => code_of(refusal),
+    };
+    lower(slot, handle);
+    code
+}
+
+/// The first so many bytes of the room belong to the filling, and the others don't.
+#[unsafe(no_mangle)]
+pub extern "C" fn pardz_wrote(alloc: Global, slot: &mut Slot, key: u64, count: usize) -> u32
+    ensures { Calls (Wrote key count) slot.old.items slot.new.items result }
+{
+    let Some(mut handle) = lift(alloc, slot) else {
+        return EMPTY_LANE;
+    };
+    let answer = handle.wrote(key, count);
+    lower(slot, handle);
+    code(answer)
+}
+
+/// Publishes a filling under its key.
+#[unsafe(no_mangle)]
+pub extern "C" fn pardz_publish(alloc: Global, slot: &mut Slot, key: u64) -> u32
+    ensures { Calls (Publishes key) slot.old.items slot.new.items result }
+{
+    let Some(mut handle) = lift(alloc, slot) else {
+        return EMPTY_LANE;
+    };
+    let answer = handle.publish(key);
+    lower(slot, handle);
+    code(answer)
+}
+
+/// Publishes a filling under its key, to which the lane then has a reference.
+#[unsafe(no_mangle)]
+pub extern "C" fn pardz_downgrade(alloc: Global, slot: &mut Slot, key: u64) -> u32
+    ensures { Calls (Downgrades key) slot.old.items slot.new.items result }
+{
+    let Some(mut handle) = lift(alloc, slot) else {
+        return EMPTY_LANE;
+    };
+    let answer = handle.downgrade(key);
+    lower(slot, handle);
+    code(answer)
+}
+
+/// A reference more to a key, and where its bytes are: they may be read until the lane has given back all its references to it.
+#[unsafe(no_mangle)]
+pub extern "C" fn pardz_get(
+    alloc: Global,
+    slot: &mut Slot,
+    key: u64,
+    at: &mut *const u8,
+    len: &mut usize,
+) -> u32
+    ensures { Calls (Lends key len.new) slot.old.items slot.new.items result }
+{
+    let Some(mut handle) = lift(alloc, slot) else {
+        return EMPTY_LANE;
+    };
+    let code = match handle.get(key) {
+        Ok(position) => {
+            let bytes = handle.bytes_at(position, key);
+            *len = bytes.len();
+            if !bytes.is_empty() {
+                put(at, std::ptr::from_ref(&bytes[0]));
+            }
+            OK
+        }
+        Err(refusal) => code_of(refusal),
+    };
+    lower(slot, handle);
+    code
+}
+
+/// Where the bytes of a key are to which the lane has a reference.
+#[unsafe(no_mangle)]
+pub extern "C" fn pardz_read(
+    alloc: Global,
+    slot: &mut Slot,
+    key: u64,
+    at: &mut *const u8,
+    len: &mut usize,
+) -> u32
+    ensures { Calls (Reads key len.new) slot.old.items slot.new.items result }
+{
+    let Some(handle) = lift(alloc, slot) else {
+        return EMPTY_LANE;
+    };
+    let code = match handle.read(key) {
+        Ok(bytes) => {
+            *len = bytes.len();
+            if !bytes.is_empty() {
+                put(at, std::ptr::from_ref(&bytes[0]));
+            }
+            OK
+        }
+        Err(refusal) => code_of(refusal),
+    };
+    lower(slot, handle);
+    code
+}
+
+/// Gives a reference back.
+#[unsafe(no_mangle)]
+pub extern "C" fn pardz_release(alloc: Global, slot: &mut Slot, key: u64) -> u32
+    ensures { Calls (Releases key) slot.old.items slot.new.items result }
+{
+    let Some(mut handle) = lift(alloc, slot) else {
+        return EMPTY_LANE;
+    };
+    let answer = handle.release(key);
+    lower(slot, handle);
+    code(answer)
+}
+
+/// Clears the object of a key.
+#[unsafe(no_mangle)]
+pub extern "C" fn pardz_clear(alloc: Global, slot: &mut Slot, key: u64) -> u32
+    ensures { Calls (Clears key) slot.old.items slot.new.items result }
+{
+    let Some(mut handle) = lift(alloc, slot) else {
+        return EMPTY_LANE;
+    };
+    let answer = handle.clear(key);
+    lower(slot, handle);
+    code(answer)
+}
+
+/// A filling ends unpublished.
+#[unsafe(no_mangle)]
+pub extern "C" fn pardz_leave(alloc: Global, slot: &mut Slot, key: u64) -> u32
+    ensures { Calls (Leaves key) slot.old.items slot.new.items result }
+{
+    let Some(mut handle) = lift(alloc, slot) else {
+        return EMPTY_LANE;
+    };
+    let answer = handle.leave(key);
+    lower(slot, handle);
+    code(answer)
+}
+
+/// Gives the lane of a slot to that of lane 0, which is to close the pool: the last lane first, and then the one before it.
+#[unsafe(no_mangle)]
+pub extern "C" fn pardz_join(alloc: Global, into: &mut Slot, slot: &mut Slot) -> u32 {
+    let Some(mut handle) = lift(alloc, into) else {
+        return EMPTY_LANE;
+    };
+    let Some(other) = lift(alloc, slot) else {
+        lower(into, handle);
+        return EMPTY_LANE;
+    };
+    let code = match join(&mut handle, other) {
+        Ok(()) => OK,
+        Err((refusal, other)) => {
+            lower(slot, other);
+            code_of(refusal)
+        }
+    };
+    lower(into, handle);
+    code
+}
+
+/// Closes a pool whose lane 0 was given all others.
+#[unsafe(no_mangle)]
+pub extern "C" fn pardz_close(alloc: Global, slot: &mut Slot, census: &mut PoolCensus) -> u32 {
+    let Some(handle) = lift(alloc, slot) else {
+        return EMPTY_LANE;
+    };
+    match close(handle) {
+        Ok(counts) => {
+            *census = counted(&counts);
+            OK
+        }
+        Err(Some(handle)) => {
+            lower(slot, handle);
+            LANES
+        }
+        Err(None) => LANES,
+    }
+}
+
+fn counted(counts: &Census) -> PoolCensus {
+    PoolCensus {
+        free: counts.free,
+        unopened: counts.unopened,
+        filling: counts.filling,
+        present: counts.present,
+        marked: counts.marked,
+        retired: counts.retired,
+    }
+}

@@ -1,0 +1,94 @@
+// A handle out of its slot, and back; and the codes.
+ghost use Rattle.std.specs.Prelude.{◌≡◌, [], ◌∷◌, IfSome, IsNone};
+ghost use Rattle.poolffi.specs.Codes.{code_of, answer_code};
+ghost use Rattle.poolffi.specs.Exports.{HasNoLane};
+
+use poolhandle::Refusal;
+use poolhandle::handle::Handle;
+use poolhandle::slot::Slot;
+use poolhandle::unboxed::Unboxed;
+use std::alloc::Global;
+use std::mem::replace;
+
+pub(crate) const OK: u32 = 0;
+
+pub(crate) const MEMORY: u32 = 1;
+
+pub(crate) const EMPTY_LANE: u32 = 2;
+
+pub(crate) const FULL_LANE: u32 = 3;
+
+pub(crate) const FULL: u32 = 4;
+
+pub(crate) const FILLINGS: u32 = 5;
+
+pub(crate) const NO_FILLING: u32 = 6;
+
+pub(crate) const NO_REFERENCE: u32 = 7;
+
+pub(crate) const GONE: u32 = 8;
+
+pub(crate) const REFERENCES: u32 = 9;
+
+pub(crate) const OTHER_POOL: u32 = 10;
+
+pub(crate) const LANES: u32 = 11;
+
+pub(crate) const SHAPE: u32 = 12;
+
+pub(crate) const ROOM: u32 = 13;
+
+/// The handle out of a full slot, which is then empty. An empty slot stays as it was.
+pub(crate) fn lift(alloc: Global, slot: &mut Slot) -> Option<Box<Handle>>
+    ensures full { IfSome result (λ handle. (slot.old.items ≡ handle.value ∷ []) × (slot.new.full ≡ 0) × (slot.new.items ≡ [])) }
+    ensures empty { IsNone result → (slot.new ≡ slot.old) × HasNoLane slot.old.items }
+{
+    let (full, whole) = replace(slot, Slot::empty()).with_full();
+    if full == 1 {
+        return Some(whole.take(alloc).into_box());
+    }
+    *slot = whole;
+    None
+}
+
+/// The handle into a slot.
+pub(crate) fn lower(slot: &mut Slot, handle: Box<Handle>)
+    ensures { (slot.new.full ≡ 1) × (slot.new.items ≡ handle.value ∷ []) }
+{
+    *slot = Slot::fill(Unboxed::from_box(handle));
+}
+
+/// Writes an address.
+pub(crate) fn put(at: &mut *const u8, address: *const u8)
+    ensures { at.new ≡ address }
+{
+    *at = address;
+}
+
+/// The code of a refusal.
+pub(crate) fn code_of(refusal: Refusal) -> u32
+    ensures { result ≡ code_of refusal }
+{
+    match refusal {
+        Refusal::Memory => MEMORY,
+        Refusal::Full => FULL,
+        Refusal::Fillings => FILLINGS,
+        Refusal::NoFilling => NO_FILLING,
+        Refusal::NoReference => NO_REFERENCE,
+        Refusal::Gone => GONE,
+        Refusal::References => REFERENCES,
+        Refusal::OtherPool => OTHER_POOL,
+        Refusal::Lanes => LANES,
+        Refusal::Room => ROOM,
+    }
+}
+
+/// The code of an answer.
+pub(crate) fn code(answer: Result<(), Refusal>) -> u32
+    ensures { result ≡ answer_code answer }
+{
+    match answer {
+        Ok(()) => OK,
+        Err(refusal) => code_of(refusal),
+    }
+}

@@ -1,0 +1,6 @@
+mod Counting
+mod Owned
+mod SlotFields
+mod Steps
+mod Turning
+mod UnboxedFields

@@ -1,0 +1,81 @@
+-- A filling that became another of its key.
+use Rattle.std.proofs.Common.{◌≡◌, Bool, true, false, IsTrue, IsFalse, ℕ, ◌+◌, ◌-◌, ◌<◌, ◌≤◌, List, [], ◌∷◌, ◌++◌, length, take, drop, slice_index_or, slice_set, Contains, refl, sym, ap, ◌∙◌, subst, arith}
+use Rattle.std.specs.List.{All}
+use Rattle.std.proofs.lemmas.List.{get_or_default, length-set, length-drop, take_all, drop_all}
+use Rattle.std.specs.List.Sorted.{IsPermutation}
+use Rattle.std.proofs.lemmas.List.Elements.{All-get_or, All-set, All-head, All-tail, Contains-push}
+use Rattle.std.proofs.lemmas.List.Sorted.{All-permutation}
+use Rattle.seqpool.specs.declared.act.Act.TheVariants as acts
+use Rattle.std.proofs.lemmas.Grind.{get_or-set_at}
+use Rattle.keybits.specs.Keys.{place_of}
+use Rattle.poolsteps.specs.Views.{the_lane}
+use Rattle.poolsteps.specs.Told.{MayPublish}
+use Rattle.poolcalls.specs.Carried.{AreEmptied}
+use Rattle.shardpool.specs.Tokens.{LaneOf, FillingOf}
+use Rattle.shardpool.specs.Lanes.{Made, IsFilling, Did}
+use Rattle.slotcell.specs.ByteBuf.{ByteBuf}
+use Rattle.poolhandle.specs.declared.kept.Kept.{Kept}
+use Rattle.poolhandle.specs.Filled.{content_of, room_of, SameToken, AreMade, Have}
+
+-- without room all bytes are content
+pub all-content : (kept : Kept) → kept.room ≡ 0 → content_of kept ≡ kept.filling.object.bytes
+all-content kept none = take_all (length kept.filling.object.bytes - kept.room) kept.filling.object.bytes (omega (arith, none))
+
+pub no-room : (kept : Kept) → kept.room ≡ 0 → room_of kept ≡ []
+no-room kept none = drop_all (length kept.filling.object.bytes - kept.room) kept.filling.object.bytes (omega (arith, none))
+
+pub room-length : (kept : Kept) → length (room_of kept) ≡ kept.room
+room-length kept = let fits = kept.fits in let long = length-drop (length kept.filling.object.bytes - kept.room) kept.filling.object.bytes in omega (arith, fits, long)
+
+-- what stands at an index is had
+pub had : (key index : ℕ) (places : List Kept) (kept : Kept) → index < length places → (slice_index_or places index kept).filling.key ≡ key
+    → Have key (content_of (slice_index_or places index kept)) (room_of (slice_index_or places index kept)) places
+had key index places kept low is =
+    let at = slice_index_or places index kept in let there : Contains places at = (index, low, get_or_default places index at kept low) in (at, there, is, refl, refl)
+
+-- what was put behind is had
+pub has-push : (key : ℕ) (places : List Kept) (kept : Kept) → kept.filling.key ≡ key → Have key (content_of kept) (room_of kept) (places ++ kept ∷ [])
+has-push key places kept is = (kept, Contains-push places kept, is, refl, refl)
+
+-- and what was put in place of another of its key
+pub has-set : (key index : ℕ) (old new : List Kept) (kept : Kept) → index < length old → kept.filling.key ≡ key → new ≡ slice_set old index kept → Have key (content_of kept) (room_of kept) new
+has-set key index old new kept low is same =
+    let there : Contains (slice_set old index kept) kept = (index, subst (λ (n : ℕ). index < n) (sym (length-set old index kept)) low, get_or-set_at old index index kept kept refl low) in
+    (kept, subst (λ (places : List Kept). Contains places kept) (sym same) there, is, refl, refl)
+
+-- what a lane made doesn't depend on the object
+pub made-same : (lane : LaneOf) (old new : FillingOf ByteBuf) → new.table ≡ old.table → new.key ≡ old.key → Made lane old → Made lane new
+made-same lane old new table key made = record {
+  table = table ∙ made.table;
+  place = subst (λ (k : ℕ). IsFilling lane (place_of k)) (sym key) made.place;
+  may = subst (λ (k : ℕ). MayPublish lane.shape lane.book k) (sym key) made.may;
+  emptied = subst (λ (k : ℕ). AreEmptied lane.shape (the_lane lane.book) (place_of k)) (sym key) made.emptied;
+}
+
+pub made-set : (lane : LaneOf) (index : ℕ) (old new : List Kept) (kept : Kept) → index < length old → new ≡ slice_set old index kept → SameToken (slice_index_or old index kept) kept
+    → AreMade lane old → AreMade lane new
+made-set lane index old new kept low same token made =
+    let before = slice_index_or old index kept in
+    let own = made-same lane before.filling kept.filling token.0 token.1 (All-get_or (λ (k : Kept). Made lane k.filling) old index kept low made) in
+    subst (AreMade lane) (sym same) (All-set (λ (k : Kept). Made lane k.filling) old index kept own made)
+
+-- what was taken out, and the others
+pub made-taken : (lane : LaneOf) (old rest : List Kept) (kept : Kept) → IsPermutation old (kept ∷ rest) → AreMade lane old → AreMade lane rest
+made-taken lane old rest kept same made =
+    let P = λ (k : Kept). Made lane k.filling in All-tail P kept rest (All-permutation P old (kept ∷ rest) same made)
+
+pub by-answer : (P : Type 0) (answer : Bool) → (IsTrue answer → P) → (IsFalse answer → P) → P
+by-answer P true if_true if_false = if_true refl
+by-answer P false if_true if_false = if_false refl
+
+-- a publish, as the handle tells it
+pub published-so : (lane other new : LaneOf) (key same_key : ℕ) (content same_content : List ℕ) (with_ref : Bool) → lane ≡ other → key ≡ same_key → content ≡ same_content
+    → Did (acts.Publish lane.number key content with_ref ∷ []) lane new → Did (acts.Publish other.number same_key same_content with_ref ∷ []) other new
+published-so lane other new key same_key content same_content with_ref one two three did =
+    subst (λ (c : List ℕ). Did (acts.Publish other.number same_key c with_ref ∷ []) other new) three
+    (subst (λ (k : ℕ). Did (acts.Publish other.number k content with_ref ∷ []) other new) two (subst (λ (l : LaneOf). Did (acts.Publish l.number key content with_ref ∷ []) l new) one did))
+
+-- a list with a place has an element
+pub any-of : (places : List Kept) (index : ℕ) → index < length places → Kept
+any-of [] index low = absurd (omega (arith, low))
+any-of (x ∷ xs) index low = x

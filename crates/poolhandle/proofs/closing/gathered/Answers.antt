@@ -1,0 +1,31 @@
+-- What was given for the close is a lane of the pool.
+use Rattle.std.proofs.Common.{rules, ◌≡◌, List, [], ◌∷◌, ◌++◌, All, Contains, sym, subst, ◌∙◌}
+use Rattle.std.proofs.lemmas.List.Elements.{All-head, All-tail, All-push, Contains-append_left}
+use Rattle.std.specs.Vec.Iter.{into_iter_items}
+use Rattle.shardpool.specs.Tokens.{PoolOf, LaneOf}
+use Rattle.shardpool.specs.Lanes.{Owns}
+use Rattle.poolhandle.proofs.closing.gathered.Goals as goal
+
+pub loop-place-preserved-in-Continue-branch-2 : goal.loop-place-preserved-in-Continue-branch-2
+loop-place-preserved-in-Continue-branch-2 c =
+    let IsTag = λ (tag : PoolOf). tag ≡ c.args.pool.now in
+    let Mine = λ (other : LaneOf). Owns c.args.pool.now other in
+    let rest = into_iter_items c.next.new.self in
+    let tags = subst (All IsTag) c.in-Some.ensures.steps.0 c.loop-place.invariant.0 in
+    let tag = All-head IsTag c.in-Some.place rest tags in
+    let lanes = c.loop-place.lanes.items in
+    let added = c.into_inner-in-Some-into_inner.result in
+    let items : c.push-in-Some-into_inner.new.self.items ≡ lanes ++ added ∷ [] = search rules in
+    let given : Owns c.in-Some.place c.in-Some-into_inner.given.lane.object = search rules in
+    let is : added ≡ c.in-Some-into_inner.given.lane.object = search rules in
+    let own = subst (λ (pool : PoolOf). Owns pool added) tag (subst (Owns c.in-Some.place) (sym is) given) in (
+      All-tail IsTag c.in-Some.place rest tags,
+      subst (λ (all : List LaneOf). Contains all c.args.lane) (sym items) (Contains-append_left lanes (added ∷ []) c.args.lane c.loop-place.invariant.1),
+      subst (All Mine) (sym items) (All-push Mine lanes added c.loop-place.invariant.2 own),
+    )
+
+pub loop-place-preserved : goal.loop-place-preserved
+loop-place-preserved c =
+    let IsTag = λ (tag : PoolOf). tag ≡ c.args.pool.now in
+    let tags = subst (All IsTag) c.in-Some.ensures.steps.0 c.loop-place.invariant.0 in
+    (All-tail IsTag c.in-Some.place (into_iter_items c.next.new.self) tags, c.loop-place.invariant.1, c.loop-place.invariant.2)

@@ -1,0 +1,36 @@
+-- The filling is taken out, and the others are of other keys.
+use Rattle.std.proofs.Common.{rules, ◌≡◌, ◌<◌, ◌≤◌, ◌++◌, ◌∙◌, ℕ, Bool, true, false, List, [], ◌∷◌, refl, sym, ap, subst, arith, length, take, replicate, Contains, slice_index_or, inl, inr, IsTrue, IsFalse, if◌then◌else◌}
+use Rattle.std.specs.List.{All}
+use Rattle.std.proofs.lemmas.List.Elements.{All-push, Contains-push}
+use Rattle.slotcell.specs.ByteBuf.{ByteBuf}
+use Rattle.shardpool.specs.Tokens.{LaneOf, FillingOf}
+use Rattle.shardpool.specs.Lanes.{Made}
+use Rattle.shardpool.specs.Creates.{Gives}
+use Rattle.poolhandle.specs.declared.kept.Kept.{Kept}
+use Rattle.poolhandle.specs.declared.fillings.Fillings.{Fillings}
+use Rattle.poolhandle.specs.Filled.{content_of, room_of, AreMade, HaveNot, Have}
+use Rattle.poolhandle.proofs.Turning.{all-content, no-room, room-length, had, has-push, has-set, made-set, made-taken, by-answer, published-so, any-of}
+use Rattle.poolhandle.proofs.handle.Handle.publish.Goals as goal
+
+pub invariant_of-self-2 : goal.invariant_of-self-2
+invariant_of-self-2 c =
+    let before = c.args.self.now in let old = before.fillings.list.items in let rest = c.take.new.self.list.items in let kept = c.take.result in let found = c.in-Some.ensures.some in
+    let did = c.publish.ensures in let token = c.into_content-filling.ensures.token in
+    let made : AreMade c.deref_mut.result.now rest = subst (λ (lane : LaneOf). AreMade lane rest) (sym c.deref_mut.ensures.value) (made-taken before.lane.value old rest kept c.take.ensures.rest before.made) in
+    record {
+      owned = (did.owns.0 ∙ search rules, did.owns.1 ∙ search rules);
+      made = λ k d low. did.fillings (slice_index_or rest k d).filling (λ same. c.take.ensures.apart k d low (same ∙ token.1)) (made k d low);
+      empty = before.empty;
+    }
+
+pub returns : goal.returns
+returns c =
+    let before = c.args.self.now in let old = before.fillings.list.items in let rest = c.take.new.self.list.items in let kept = c.take.result in let found = c.in-Some.ensures.some in
+    let under : kept.filling.key ≡ c.args.key = ap (λ (k : Kept). k.filling.key) c.take.ensures.is ∙ found.1 kept in
+    let there : Contains old kept = (c.in-Some.index, found.0, sym c.take.ensures.is) in (
+      content_of kept,
+      room_of kept,
+      (kept, there, under, refl, refl),
+      published-so c.deref_mut.result.now before.lane.value c.publish.new.lane c.into_content-filling.result.key c.args.key c.into_content-filling.result.object.bytes (content_of kept) false
+          c.deref_mut.ensures.value (c.into_content-filling.ensures.token.1 ∙ under) c.into_content-filling.ensures.content c.publish.ensures.publishes,
+    )

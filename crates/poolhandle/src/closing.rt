@@ -1,0 +1,140 @@
+// How lanes are joined, and the pool is closed.
+ghost use Rattle.std.specs.Prelude.{◌≡◌, ◌+◌, ◌⊎◌, List, [], ◌∷◌, All, IfSome, IfErr, IfOk, OnOk, IsOk, Contains, MatchResult};
+ghost use Rattle.std.specs.Arc.{arc_value};
+ghost use Rattle.shardpool.specs.Tokens.{LaneOf};
+ghost use Rattle.shardpool.specs.Lanes.{Owns};
+ghost use Rattle.shardpool.specs.Closings.{Closes};
+ghost use Rattle.poolhandle.specs.Calls.{lane_of, pool_of, Joins, JoinsNot};
+
+use crate::handle::Handle;
+use crate::refusal::Refusal;
+use crate::shared::{Given, Shared};
+use counted_slot::Counted;
+use shardpool::{Census, Lane, Pool};
+use slotcell::ByteBuf;
+use std::sync::Arc;
+use std::sync::atomic::Ordering::SeqCst;
+
+/// Gives the lane of another handle of the pool for the close, and ends that handle: the last lane first, and then the one before it. A filling
+/// is left.
+///
+/// # Errors
+///
+/// The other handle, where it is of another pool, or isn't the one that comes next.
+pub fn join(into: &mut Handle, other: Box<Handle>) -> Result<(), (Refusal, Box<Handle>)>
+    ensures ok { OnOk result (Joins into.old other.value into.new) }
+    ensures err { IfErr result (λ back. JoinsNot into.old other.value back.0 × (back.1 ≡ other) × (into.new ≡ into.old)) }
+{
+    if into.lane.number() != 0 || other.joined != 0 || into.joined >= 16 {
+        return Err((Refusal::Lanes, other));
+    }
+    let wanted = u64::from(other.lane.number()) + u64::from(into.joined) + 1;
+    if wanted != u64::from(into.shared.pool.shape().lanes) {
+        return Err((Refusal::Lanes, other));
+    }
+    if !is_one(&into.shared, &other.shared) {
+        return Err((Refusal::OtherPool, other));
+    }
+    into.joined += 1;
+    give(Box::into_inner(other));
+    Ok(())
+}
+
+/// Whether two handles share one pool: a count of the one is seen in the other. Nothing rests on the answer, since each lane is given into a
+/// place of its own pool.
+fn is_one(shared: &Shared, other: &Shared) -> bool {
+    let before = shared.joins.load(SeqCst);
+    other.joins.fetch_add(1, SeqCst);
+    shared.joins.load(SeqCst) != before
+}
+
+/// Gives the lane of a handle into its place.
+fn give(handle: Handle) {
+    let (shared, lane, _) = handle.into_parts();
+    let index = lane.number() as usize;
+    if index < shared.given.len() {
+        put(&shared.given[index], &shared.pool, Given::new(lane));
+    }
+}
+
+/// Puts a lane into its place, where that is empty.
+fn put(place: &Counted<Option<Given>>, pool: &Pool<ByteBuf>, given: Given)
+    requires place { place.now ≡ pool.now }
+    requires given { Owns pool.now given.lane.object }
+{
+    let (found, claim) = place.turn(0, 3);
+    if found != 0 {
+        claim.done();
+        return;
+    }
+    drop(claim.put(Some(given), 1));
+}
+
+/// Closes a pool whose lane 0 was given all others.
+///
+/// # Errors
+///
+/// The handle, where lanes are missing. None where the pool isn't let go by all handles though all lanes were given, which doesn't happen: the lanes are then
+/// dropped.
+pub fn close(handle: Box<Handle>) -> Result<Census, Option<Box<Handle>>>
+    ensures closes { IfOk result (λ census. (lanes : List LaneOf) × Contains lanes (lane_of handle.value) × Closes (pool_of handle.value) lanes census) }
+    ensures stays { IfErr result (λ back. IfSome back (λ same. same ≡ handle)) }
+{
+    let lanes = handle.shared.pool.shape().lanes;
+    if u64::from(handle.joined) + 1 != u64::from(lanes) || Arc::strong_count(&handle.shared) != 1 {
+        return Err(Some(handle));
+    }
+    close_handle(Box::into_inner(handle)).ok_or(None)
+}
+
+fn close_handle(handle: Handle) -> Option<Census>
+    ensures { IfSome result (λ census. (lanes : List LaneOf) × Contains lanes (lane_of handle) × Closes (pool_of handle) lanes census) }
+{
+    let (shared, lane, row) = handle.into_parts();
+    let Shared {
+        pool,
+        given,
+        joins: _,
+    } = Arc::into_inner(shared)?;
+    let lanes = gathered(&pool, row, Box::into_inner(lane), given)?;
+    close_lanes(pool, lanes)
+}
+
+/// A lane, and behind it those that were given. None where memory was refused, of which there is enough.
+fn gathered(
+    pool: &Pool<ByteBuf>,
+    row: Vec<Lane<ByteBuf>>,
+    lane: Lane<ByteBuf>,
+    given: Vec<Counted<Option<Given>>>,
+) -> Option<Vec<Lane<ByteBuf>>>
+    requires row { row.items ≡ [] }
+    requires lane { Owns pool.now lane }
+    requires given { All (λ tag. tag ≡ pool.now) given.items }
+    ensures { IfSome result (λ lanes. Contains lanes.items lane × All (λ other. Owns pool.now other) lanes.items) }
+{
+    let mut lanes = row;
+    lanes.push(lane).ok()?;
+    for place in given {
+        if let Some(given) = place.into_inner() {
+            lanes.push(Box::into_inner(given.into_lane())).ok()?;
+        }
+    }
+    Some(lanes)
+}
+
+/// Closes a pool with its lanes, by rising number. None where they aren't all of them.
+fn close_lanes(pool: Pool<ByteBuf>, lanes: Vec<Lane<ByteBuf>>) -> Option<Census>
+    requires owned { All (λ lane. Owns pool lane) lanes.items }
+    ensures closes { IfSome result (Closes pool lanes.items) }
+{
+    let count = lanes.len();
+    if count != pool.shape().lanes as usize {
+        return None;
+    }
+    for index in 0..count {
+        if lanes[index].number() as usize != index {
+            return None;
+        }
+    }
+    Some(shardpool::close(pool, lanes))
+}

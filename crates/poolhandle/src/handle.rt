@@ -1,0 +1,212 @@
+//! What a thread of a foreign program has: its lane, the share of the pool, and the places that the lane fills.
+ghost use Rattle.std.specs.Prelude.{◌≡◌, ◌≤◌, List, [], ◌∷◌};
+ghost use Rattle.std.specs.Arc.{arc_value};
+ghost use Rattle.shardpool.specs.Lanes.{Owns};
+ghost use Rattle.poolhandle.specs.Filled.{AreMade};
+
+use crate::fillings::Fillings;
+use crate::kept::Kept;
+use crate::refusal::Refusal;
+use crate::shared::Shared;
+use shardpool::{CreateFault, Lane};
+use slotcell::ByteBuf;
+use std::sync::Arc;
+
+/// The most references of a lane.
+const MOST_REFERENCES: u32 = 1_048_575;
+
+/// A lane, with its share of the pool and the places that it fills.
+#[derive(Drop)]
+pub struct Handle {
+    pub shared: Arc<Shared>,
+    pub lane: Box<Lane<ByteBuf>>,
+    pub fillings: Fillings,
+    /// How many lanes were joined to this one.
+    pub joined: u32,
+    /// Of lane 0, a row with room for all lanes, so that a close takes no memory.
+    pub row: Vec<Lane<ByteBuf>>,
+    ghost owned: { Owns (arc_value shared).pool lane.value },
+    ghost made: { AreMade lane.value fillings.list.items },
+    ghost empty: { row.items ≡ [] },
+}
+
+impl Handle {
+    ghost use Rattle.std.specs.Prelude.{◌≡◌, ◌<◌, ◌≤◌, ℕ, Ok, Err, IfOk, IfErr, MatchResult};
+    ghost use Rattle.keybits.specs.Keys.{place_of};
+    ghost use Rattle.keybits.specs.Shapes.{position_of};
+    ghost use Rattle.shardpool.specs.Lanes.{holds};
+    ghost use Rattle.poolhandle.specs.declared.refusal.Refusal.TheVariants.{NoReference};
+    ghost use Rattle.poolhandle.specs.Calls.{lane_of, filled, Creates, Appends, Rooms, Wrote, Publishes, Downgrades, Leaves, Got, NotGot, AreLent, Releases, Clears};
+
+    /// Takes a place to be filled. Answers the key under which it will be published.
+    pub fn create(&mut self) -> Result<u64, Refusal>
+        ensures { Creates self.old self.new result }
+    {
+        if self.fillings.is_full() {
+            return Err(Refusal::Fillings);
+        }
+        match self.shared.pool.create(&mut self.lane) {
+            Ok(filling) => {
+                let key = filling.key();
+                self.fillings.keep(Kept::new(filling));
+                Ok(key)
+            }
+            Err(CreateFault::Full) => Err(Refusal::Full),
+            Err(CreateFault::Memory) => Err(Refusal::Memory),
+        }
+    }
+
+    /// Appends to a filling.
+    pub fn append(&mut self, key: u64, bytes: &[u8]) -> Result<(), Refusal>
+        ensures { Appends key bytes.now self.old self.new result }
+    {
+        let Some(index) = self.fillings.find(key) else {
+            return Err(Refusal::NoFilling);
+        };
+        if self.fillings.append(index, bytes) {
+            Ok(())
+        } else {
+            Err(Refusal::Memory)
+        }
+    }
+
+    /// Gives room for so many bytes behind the content of a filling. They are zeros, and the program may write them until its next call on the
+    /// filling. Answers where they begin, if there are any.
+    pub fn room(&mut self, key: u64, count: usize) -> Result<*mut u8, Refusal>
+        ensures ok { IfOk result (λ at. Rooms key count self.old self.new (Ok tt)) }
+        ensures err { IfErr result (λ refusal. Rooms key count self.old self.new (Err refusal)) }
+    {
+        let Some(index) = self.fillings.find(key) else {
+            return Err(Refusal::NoFilling);
+        };
+        if !self.fillings.grow(index, count) {
+            return Err(Refusal::Memory);
+        }
+        Ok(self.fillings.room_address(index))
+    }
+
+    /// The first so many bytes of the room are content, and the others are gone.
+    pub fn wrote(&mut self, key: u64, count: usize) -> Result<(), Refusal>
+        ensures { Wrote key count self.old self.new result }
+    {
+        let Some(index) = self.fillings.find(key) else {
+            return Err(Refusal::NoFilling);
+        };
+        if self.fillings.wrote(index, count) {
+            Ok(())
+        } else {
+            Err(Refusal::Room)
+        }
+    }
+
+    /// Publishes the content of a filling.
+    pub fn publish(&mut self, key: u64) -> Result<(), Refusal>
+        ensures { Publishes key self.old self.new result }
+    {
+        let Some(index) = self.fillings.find(key) else {
+            return Err(Refusal::NoFilling);
+        };
+        let filling = self.fillings.take(index).into_content();
+        self.shared.pool.publish(&mut self.lane, filling);
+        Ok(())
+    }
+
+    /// Publishes the content of a filling. The lane then has a reference to it.
+    pub fn downgrade(&mut self, key: u64) -> Result<(), Refusal>
+        ensures { Downgrades key self.old self.new result }
+    {
+        let Some(index) = self.fillings.find(key) else {
+            return Err(Refusal::NoFilling);
+        };
+        if self.lane.refs() >= MOST_REFERENCES {
+            return Err(Refusal::References);
+        }
+        let filling = self.fillings.take(index).into_content();
+        let reference = self.shared.pool.downgrade(&mut self.lane, filling);
+        reference.leave();
+        Ok(())
+    }
+
+    /// A filling ends unpublished. Its place stays filling until the pool is closed.
+    pub fn leave(&mut self, key: u64) -> Result<(), Refusal>
+        ensures { Leaves key self.old self.new result }
+    {
+        let Some(index) = self.fillings.find(key) else {
+            return Err(Refusal::NoFilling);
+        };
+        self.fillings.take(index).into_content().leave();
+        Ok(())
+    }
+
+    /// A reference more to a key, where it is published and not cleared. Answers where `bytes_at` finds its bytes.
+    pub fn get(&mut self, key: u64) -> Result<usize, Refusal>
+        ensures got { IfOk result (λ at. (at ≡ position_of (lane_of self.new).shape (place_of key)) × Got key self.old self.new) }
+        ensures not_got { IfErr result (NotGot key self.old self.new) }
+    {
+        if self.lane.refs() >= MOST_REFERENCES {
+            return Err(Refusal::References);
+        }
+        self.shared
+            .pool
+            .get_at(&mut self.lane, key)
+            .ok_or(Refusal::Gone)
+    }
+
+    /// The bytes of a key to which the lane has a reference, and whose place has this position.
+    pub fn bytes_at(&self, position: usize, key: u64) -> &[u8]
+        requires held { 1 ≤ holds (lane_of self.now) key }
+        requires position { position ≡ position_of (lane_of self.now).shape (place_of key) }
+        ensures { AreLent key self.now result.now }
+    {
+        self.lane.read_at(position, key).as_slice()
+    }
+
+    /// The bytes of a key to which the lane has a reference.
+    pub fn read(&self, key: u64) -> Result<&[u8], Refusal>
+        ensures { MatchResult result (λ bytes. AreLent key self.now bytes.now) (λ refusal. (refusal ≡ NoReference) × (holds (lane_of self.now) key ≡ 0)) }
+    {
+        let Some(reference) = self.lane.reference(key) else {
+            return Err(Refusal::NoReference);
+        };
+        let bytes = self.lane.read(&reference).as_slice();
+        reference.leave();
+        Ok(bytes)
+    }
+
+    /// Gives a reference back.
+    pub fn release(&mut self, key: u64) -> Result<(), Refusal>
+        ensures { Releases key self.old self.new result }
+    {
+        if self.shared.pool.release_key(&mut self.lane, key) {
+            Ok(())
+        } else {
+            Err(Refusal::NoReference)
+        }
+    }
+
+    /// Clears the object of a key.
+    pub fn clear(&mut self, key: u64) -> Result<(), Refusal>
+        ensures { Clears key self.old self.new result }
+    {
+        if self.shared.pool.clear(&mut self.lane, key) {
+            Ok(())
+        } else {
+            Err(Refusal::Gone)
+        }
+    }
+
+    /// The share of the pool, the lane and its row. A filling is left.
+    pub(crate) fn into_parts(self) -> (Arc<Shared>, Box<Lane<ByteBuf>>, Vec<Lane<ByteBuf>>)
+        ensures parts { (arc_value result.0 ≡ arc_value self.shared) × (result.1.value ≡ self.lane.value) × (result.2.items ≡ []) }
+        ensures owned { Owns (arc_value result.0).pool result.1.value }
+    {
+        let Handle {
+            shared,
+            lane,
+            fillings: _,
+            joined: _,
+            row,
+        } = self;
+        (shared, lane, row)
+    }
+}

@@ -1,0 +1,17 @@
+//! What a thread of a foreign program has of a pool of buffers: its lane with a share of the pool, the places that it fills and the references
+//! that it has, each under its key alone.
+#![tactic(auto)]
+
+mod closing;
+pub mod fillings;
+pub mod handle;
+pub mod kept;
+mod opening;
+mod refusal;
+pub mod shared;
+pub mod slot;
+pub mod unboxed;
+
+pub use closing::{close, join};
+pub use opening::open_handles;
+pub use refusal::Refusal;

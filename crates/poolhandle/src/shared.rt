@@ -1,0 +1,57 @@
+// What the lanes of a pool share.
+ghost use Rattle.std.specs.Prelude.{◌≡◌, All};
+ghost use Rattle.shardpool.specs.Lanes.{Owns};
+
+use crate::unboxed::Unboxed;
+use counted_slot::{Counted, Fits};
+use shardpool::{Lane, Pool};
+use slotcell::ByteBuf;
+use std::alloc::Global;
+use std::sync::atomic::AtomicU64;
+
+/// A lane that was given for the close of its pool.
+pub struct Given {
+    pub lane: Unboxed<Lane<ByteBuf>, Global>,
+}
+
+impl Fits for Given {
+    type Tag = Pool<ByteBuf>;
+
+    ghost fits = { λ pool given. Owns pool given.lane.object };
+}
+
+impl Given {
+    /// A lane that is given.
+    pub(crate) fn new(lane: Box<Lane<ByteBuf>>) -> Given
+        ensures { result.lane.object ≡ lane.value }
+    {
+        Given {
+            lane: Unboxed::from_box(lane),
+        }
+    }
+
+    /// The lane.
+    pub(crate) fn into_lane(self) -> Box<Lane<ByteBuf>>
+        ensures { result.value ≡ self.lane.object }
+    {
+        let Given { lane } = self;
+        lane.into_box()
+    }
+}
+
+impl Drop for Given {
+    fn drop(self) {
+        let Given { lane } = self;
+        drop(lane.into_box());
+    }
+}
+
+/// A pool, and for each of its lanes the place into which a join gives it for the close.
+#[derive(Drop)]
+pub struct Shared {
+    pub pool: Pool<ByteBuf>,
+    pub given: Vec<Counted<Option<Given>>>,
+    /// How many joins asked whether their lane is of this pool.
+    pub joins: AtomicU64,
+    ghost of_pool: { All (λ tag. tag ≡ pool) given.items },
+}
