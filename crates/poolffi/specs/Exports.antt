@@ -1,11 +1,29 @@
 -- What an export did with a slot.
-use Rattle.std.specs.Prelude.{◌≡◌, ◌⊎◌, ℕ, List, [], ◌∷◌, length, Result, Ok, Err, IfOk}
+use Rattle.std.specs.Prelude.{◌≡◌, ◌≢◌, ◌⊎◌, ℕ, List, [], ◌∷◌, length, Contains, Result, Ok, Err, IfOk}
 use Rattle.poolhandle.specs.declared.refusal.Refusal.{Refusal}
 use Rattle.poolhandle.specs.declared.handle.Handle.{Handle}
 use Rattle.poolhandle.specs.declared.refusal.Refusal.TheVariants.{NoReference}
 use Rattle.shardpool.specs.Lanes.{holds}
-use Rattle.poolhandle.specs.Calls.{lane_of, Creates, Got, NotGot, AreLent}
-use Rattle.poolffi.specs.Codes.{answer_code}
+use Rattle.poolhandle.specs.Calls.{lane_of, pool_of, Creates, Got, NotGot, AreLent, Joins, JoinsNot}
+use Rattle.shardpool.specs.Tokens.{LaneOf}
+use Rattle.shardpool.specs.declared.census.Census.{Census}
+use Rattle.shardpool.specs.Closings.{Closes}
+use Rattle.keybits.specs.declared.shape.Shape.{Shape}
+use Rattle.keybits.specs.declared.shape.ShapeFault.{ShapeFault}
+use Rattle.keybits.specs.Shapes.{IsShape}
+use Rattle.keybits.specs.ShapeFaults.{IsFirstFault}
+use Rattle.poolffi.specs.declared.PoolShape.{PoolShape}
+use Rattle.poolffi.specs.declared.PoolCensus.{PoolCensus}
+use Rattle.poolffi.specs.Codes.{code_of, answer_code}
+
+-- the counts as they are written
+pub record AreCounts (counts : Census) (census : PoolCensus) : Type 0 where
+  pub free : census.free ≡ counts.free
+  pub unopened : census.unopened ≡ counts.unopened
+  pub filling : census.filling ≡ counts.filling
+  pub present : census.present ≡ counts.present
+  pub marked : census.marked ≡ counts.marked
+  pub retired : census.retired ≡ counts.retired
 
 -- the slot has no lane
 abbrev pub HasNoLane : List Handle → Type 0
@@ -29,3 +47,29 @@ Lends key len before after (Err refusal) = NotGot key before after refusal
 abbrev pub Reads : ℕ → ℕ → Handle → Handle → Result (List ℕ) Refusal → Type 0
 Reads key len before after (Ok bytes) = (after ≡ before) × AreLent key before bytes × (len ≡ length bytes)
 Reads key len before after (Err refusal) = (refusal ≡ NoReference) × (after ≡ before) × (holds (lane_of before) key ≡ 0)
+
+-- a join of two slots: where one has no lane, 2, and both stay; else the other lane was given for the close, and its slot is empty; or all is as before, and the code tells why
+abbrev pub JoinsSlots : List Handle → List Handle → List Handle → List Handle → ℕ → Type 0
+JoinsSlots into other into_now other_now code = ((HasNoLane into ⊎ HasNoLane other) × (code ≡ 2) × (into_now ≡ into) × (other_now ≡ other))
+    ⊎ ((before given after : Handle) × (into ≡ before ∷ []) × (other ≡ given ∷ []) × (into_now ≡ after ∷ [])
+    × (((code ≡ 0) × Joins before given after × (other_now ≡ []))
+    ⊎ ((refusal : Refusal) × (code ≡ code_of refusal) × JoinsNot before given refusal × (after ≡ before) × (other_now ≡ other))))
+
+-- a close: where the slot has no lane, 2, and it stays; else the pool is closed with lanes of which this is one, and these are its counts; or, for lanes that are missing, 11, and it stays, or its lane is dropped
+abbrev pub ClosesSlot : List Handle → List Handle → PoolCensus → ℕ → Type 0
+ClosesSlot old new census code = (HasNoLane old × (code ≡ 2) × (new ≡ old))
+    ⊎ ((handle : Handle) × (old ≡ handle ∷ [])
+    × (((code ≡ 0) × (new ≡ []) × ((lanes : List LaneOf) × Contains lanes (lane_of handle) × ((counts : Census) × Closes (pool_of handle) lanes counts × AreCounts counts census)))
+    ⊎ ((code ≡ 11) × ((new ≡ old) ⊎ (new ≡ [])))))
+
+-- the shape that a foreign one is
+abbrev pub shape_of : PoolShape → Shape
+shape_of shape = record { lanes = shape.lanes; first_page = shape.first_page; pages = shape.pages; last_generation = shape.last_generation; tag = shape.tag }
+
+-- an open of a shape into so many slots: 0 for a shape without a fault and as many slots as it has lanes; 11 for another number of slots; 3 where one has a lane; 12 for a shape with a fault; and 1, for want of memory, for one within its limits
+abbrev pub Opens : Shape → ℕ → ℕ → Type 0
+Opens shape slots code = ((code ≡ 0) × (slots ≡ shape.lanes) × ((fault : ShapeFault) → IsFirstFault shape fault → ⊥))
+    ⊎ (((code ≡ 11) × (slots ≢ shape.lanes))
+    ⊎ (((code ≡ 3) × (slots ≡ shape.lanes))
+    ⊎ (((code ≡ 12) × (slots ≡ shape.lanes) × ((fault : ShapeFault) × IsFirstFault shape fault))
+    ⊎ ((code ≡ 1) × (slots ≡ shape.lanes) × IsShape shape))))

@@ -1,5 +1,6 @@
 // A pool's lanes, into their slots.
-ghost use Rattle.std.specs.Prelude.{◌≡◌};
+ghost use Rattle.std.specs.Prelude.{◌≡◌, length};
+ghost use Rattle.poolffi.specs.Exports.{Opens};
 
 use crate::slots::{FULL_LANE, LANES, MEMORY, OK, SHAPE, lift, lower};
 use keybits::Shape;
@@ -20,7 +21,9 @@ fn is_full(alloc: Global, slot: &mut Slot) -> bool
 }
 
 /// Opens a pool into empty slots.
-pub(crate) fn open_slots(alloc: Global, shape: Shape, slots: &mut [Slot]) -> u32 {
+pub(crate) fn open_slots(alloc: Global, shape: Shape, slots: &mut [Slot]) -> u32
+    ensures { Opens shape (length slots.old) result }
+{
     if slots.len() != shape.lanes as usize {
         return LANES;
     }

@@ -3,9 +3,9 @@
 //! Each lane stands in a slot of two words that the program keeps. A filling and a reference are named by their key.
 #![tactic(auto)]
 
-ghost use Rattle.std.specs.Prelude.{◌≡◌};
+ghost use Rattle.std.specs.Prelude.{◌≡◌, length};
 ghost use Rattle.poolhandle.specs.Calls.{Appends, Rooms, Wrote, Publishes, Downgrades, Leaves, Releases, Clears};
-ghost use Rattle.poolffi.specs.Exports.{Calls, CreatesKey, Lends, Reads};
+ghost use Rattle.poolffi.specs.Exports.{Calls, CreatesKey, Lends, Reads, JoinsSlots, ClosesSlot, AreCounts, Opens, shape_of};
 
 mod lanes;
 mod slots;
@@ -43,7 +43,9 @@ pub struct PoolCensus {
 
 /// Opens a pool, and puts a lane into each slot, by rising number.
 #[unsafe(no_mangle)]
-pub extern "C" fn pardz_open(alloc: Global, shape: &PoolShape, slots: &mut [Slot]) -> u32 {
+pub extern "C" fn pardz_open(alloc: Global, shape: &PoolShape, slots: &mut [Slot]) -> u32
+    ensures { Opens (shape_of shape.now) (length slots.old) result }
+{
     let shape = Shape {
         lanes: shape.lanes,
         first_page: shape.first_page,
@@ -250,7 +252,9 @@ pub extern "C" fn pardz_leave(alloc: Global, slot: &mut Slot, key: u64) -> u32
 
 /// Gives the lane of a slot to that of lane 0, which is to close the pool: the last lane first, and then the one before it.
 #[unsafe(no_mangle)]
-pub extern "C" fn pardz_join(alloc: Global, into: &mut Slot, slot: &mut Slot) -> u32 {
+pub extern "C" fn pardz_join(alloc: Global, into: &mut Slot, slot: &mut Slot) -> u32
+    ensures { JoinsSlots into.old.items slot.old.items into.new.items slot.new.items result }
+{
     let Some(mut handle) = lift(alloc, into) else {
         return EMPTY_LANE;
     };
@@ -271,7 +275,9 @@ pub extern "C" fn pardz_join(alloc: Global, into: &mut Slot, slot: &mut Slot) ->
 
 /// Closes a pool whose lane 0 was given all others.
 #[unsafe(no_mangle)]
-pub extern "C" fn pardz_close(alloc: Global, slot: &mut Slot, census: &mut PoolCensus) -> u32 {
+pub extern "C" fn pardz_close(alloc: Global, slot: &mut Slot, census: &mut PoolCensus) -> u32
+    ensures { ClosesSlot slot.old.items slot.new.items census.new result }
+{
     let Some(handle) = lift(alloc, slot) else {
         return EMPTY_LANE;
     };
@@ -288,7 +294,9 @@ pub extern "C" fn pardz_close(alloc: Global, slot: &mut Slot, census: &mut PoolC
     }
 }
 
-fn counted(counts: &Census) -> PoolCensus {
+fn counted(counts: &Census) -> PoolCensus
+    ensures { AreCounts counts.now result }
+{
     PoolCensus {
         free: counts.free,
         unopened: counts.unopened,
