@@ -169,8 +169,8 @@ pub extern "C" fn pardz_get(
         return EMPTY_LANE;
     };
     let code = match handle.get(key) {
-        Ok(position) => {
-            let bytes = handle.bytes_at(position, key);
+        Ok(start) => {
+            let bytes = handle.bytes_at(start, key);
             *len = bytes.len();
             if !bytes.is_empty() {
                 put(at, std::ptr::from_ref(&bytes[0]));

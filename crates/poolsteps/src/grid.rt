@@ -20,10 +20,8 @@ pub type Hand<T> = Seat<Slot<T>, View>;
 pub struct Spot {
     /// The place's number.
     pub place: u32,
-    /// Which place it is among all places of the pool.
-    pub position: u32,
     /// Where it stands in each row of words or of slots.
-    pub(crate) start: u32,
+    pub start: u32,
 }
 
 /// The words of a pool in one table, and a slot for each place and lane.

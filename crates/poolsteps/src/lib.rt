@@ -18,6 +18,9 @@ mod view;
 pub use closing::{drop_cell, lay};
 pub use grid::{Grid, Hand, Spot};
 pub use laws::{acts_law, references_law, shares_law};
-pub use layout::{PageRow, life_word, link_word, page_rows, slot_at, stack_word};
+pub use layout::{
+    PageRow, life_word, link_word, page_rows, shard_start, slot_at, slot_row, slot_start,
+    stack_word,
+};
 pub use plays::{PoolRule, Purpose};
 pub use view::{Deed, LaneRecord, View};

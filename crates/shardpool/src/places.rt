@@ -1,5 +1,7 @@
-//! Where the places of a pool stand among all its places.
+//! Where the places of a pool stand in rows of words, of slots and of what a lane has of each.
 ghost use Rattle.std.specs.Prelude.{◌≡◌, ◌*◌};
+ghost use Rattle.keybits.specs.Shapes.{IsShape};
+ghost use Rattle.keybits.specs.SameShapes.{IsShape-prop};
 ghost use Rattle.poolsteps.specs.Layout.{page_rows};
 
 use keybits::{PAGE_NUMBERS, Shape};
@@ -13,12 +15,14 @@ pub(crate) struct Places {
     pub(crate) shape: Shape,
     /// The rows of its pages.
     pub(crate) rows: Vec<PageRow>,
+    ghost checked: { IsShape shape } by { IsShape-prop shape },
     ghost rows_are: { rows.items ≡ page_rows shape (16 * shape.lanes) },
 }
 
 impl Places {
     ghost use Rattle.std.specs.Prelude.{◌≡◌, ◌<◌, true, IfSome};
-    ghost use Rattle.keybits.specs.Shapes.{IsShape, is_place, position_of, all_places};
+    ghost use Rattle.keybits.specs.Shapes.{is_place};
+    ghost use Rattle.poolsteps.specs.Layout.{slot_start, slot_row};
 
     /// The places of a pool of this shape. None where memory was refused.
     pub(crate) fn of(alloc: Global, shape: &Shape) -> Option<Places>
@@ -32,14 +36,14 @@ impl Places {
         })
     }
 
-    /// Which place of all a place of the pool is, by the row of its page.
+    /// Where a place of the pool stands, by the row of its page.
     #[inline]
-    pub(crate) fn position(&self, place: u32) -> usize
+    pub(crate) fn start(&self, place: u32) -> u32
         requires { is_place self.now.shape place ≡ true }
-        ensures position { result ≡ position_of self.now.shape place }
-        ensures below { result < all_places self.now.shape }
+        ensures start { result ≡ slot_start self.now.shape place }
+        ensures below { result < slot_row self.now.shape }
     {
         let page = &self.rows[(place / PAGE_NUMBERS) as usize];
-        page.position as usize + (place % PAGE_NUMBERS) as usize
+        page.start + place % PAGE_NUMBERS
     }
 }

@@ -2,7 +2,7 @@
 ghost use Rattle.std.specs.Prelude.{◌≡◌, ◌≢◌, ◌==◌, ℕ, ◌+◌, ◌-◌, ◌<◌, ◌≤◌, ◌↔◌, true, false, is_some, option_map, IsNone, IfSome, IsSome, IsTrue, IsFalse, [], ◌∷◌, List, if◌then◌else◌};
 ghost use mathlib.Core.List.{IsPrefix};
 ghost use Rattle.keybits.specs.Keys.{is_key, place_of};
-ghost use Rattle.keybits.specs.Shapes.{position_of};
+ghost use Rattle.poolsteps.specs.Layout.{slot_start};
 ghost use Rattle.seqpool.specs.declared.act.Act.{Act};
 ghost use Rattle.seqpool.specs.declared.act.Act.TheVariants as acts;
 ghost use Rattle.steplaws.specs.Calls.Call.{Publishing, Getting, Releasing, Clearing};
@@ -73,14 +73,14 @@ impl<T: Clear + Drop> Pool<T> {
         ensures no_more { IsNone result → (k : ℕ) → holds lane.new k ≡ holds lane.old k }
         ensures fillings { (filling : FillingOf T) → Made lane.old filling → Made lane.new filling }
     {
-        let _ = self.get_at(lane, key)?;
-        Some(Ref::to(key))
+        let start = self.get_at(lane, key)?;
+        Some(Ref::to(key, start))
     }
 
     /// A get whose reference stays with the lane, for who keeps keys in place of references: answers where `Lane::read_at` finds the
     /// object without looking for the key's place again.
     #[inline]
-    pub fn get_at(&self, lane: &mut Lane<T>, key: u64) -> Option<usize>
+    pub fn get_at(&self, lane: &mut Lane<T>, key: u64) -> Option<u32>
         requires owns { Owns self.now lane.old }
         requires room { refs lane.old < most_references }
         ensures owns { Owns self.now lane.new }
@@ -92,7 +92,7 @@ impl<T: Clear + Drop> Pool<T> {
         ensures missed { IsNone result → MissedSince key lane.old lane.new }
         ensures seen { IsPrefix lane.old.book.seen lane.new.book.seen }
         ensures refs { refs lane.new ≡ refs lane.old + (if is_some result then 1 else 0) }
-        ensures held { IfSome result (λ at. (at ≡ position_of self.now.shape (place_of key)) × (1 ≤ holds lane.new key)) }
+        ensures held { IfSome result (λ at. (at ≡ slot_start self.now.shape (place_of key)) × (1 ≤ holds lane.new key)) }
         ensures one_more { IsSome result → (k : ℕ) → holds lane.new k ≡ (if key == k then holds lane.old k + 1 else holds lane.old k) }
         ensures no_more { IsNone result → (k : ℕ) → holds lane.new k ≡ holds lane.old k }
         ensures fillings { (filling : FillingOf T) → Made lane.old filling → Made lane.new filling }
@@ -114,13 +114,13 @@ impl<T: Clear + Drop> Pool<T> {
             }
             Got::Hit => {}
         }
-        if lane.state.rows[spot.position as usize].count > 0 {
-            add_reference(&mut lane.state, spot.position as usize);
-            return Some(spot.position as usize);
+        if lane.state.rows[spot.start as usize].count > 0 {
+            add_reference(&mut lane.state, spot.start as usize);
+            return Some(spot.start);
         }
         let share = self.grid.out(&mut lane.hand, spot, number, number);
-        add_first_reference(&mut lane.state, spot.position as usize, key, share);
-        Some(spot.position as usize)
+        add_first_reference(&mut lane.state, spot.start as usize, key, share);
+        Some(spot.start)
     }
 
     /// Gives a reference back. Where it was the last to a key that is cleared, the object is cleared in place.
@@ -135,8 +135,12 @@ impl<T: Clear + Drop> Pool<T> {
         ensures one_less { (k : ℕ) → holds lane.new k ≡ (if reference.key == k then holds lane.old k - 1 else holds lane.old k) }
         ensures fillings { (filling : FillingOf T) → Made lane.old filling → Made lane.new filling }
     {
+        let start = lane.state.start_of(reference.key, reference.start);
         let key = reference.spend();
-        let spot = self.grid.spot(place_of(key));
+        let spot = Spot {
+            place: place_of(key),
+            start,
+        };
         self.release_at(lane, spot, key);
     }
 
@@ -158,7 +162,7 @@ impl<T: Clear + Drop> Pool<T> {
         let Some(spot) = self.find(key) else {
             return false;
         };
-        if count_to(&lane.state, spot.position as usize, key) == 0 {
+        if count_to(&lane.state, spot.start as usize, key) == 0 {
             return false;
         }
         self.release_at(lane, spot, key);
@@ -187,7 +191,7 @@ impl<T: Clear + Drop> Pool<T> {
         };
         return_last_share(&self.grid, &mut lane.hand, &mut lane.state, spot, key);
         let reclaimed = release(lane.state.alloc, &self.grid, &mut lane.hand, at, key);
-        drop_reference(&mut lane.state, spot.position as usize);
+        drop_reference(&mut lane.state, spot.start as usize);
         keep_reclaimed(&mut lane.state, spot.place, reclaimed);
     }
 
@@ -277,8 +281,8 @@ impl<T: Clear + Drop> Pool<T> {
             key,
             object,
         );
-        add_first_reference(&mut lane.state, spot.position as usize, key, share);
-        Ref::to(key)
+        add_first_reference(&mut lane.state, spot.start as usize, key, share);
+        Ref::to(key, spot.start)
     }
 
     /// Where a key's place stands. None for a number that is no key of the pool.

@@ -82,6 +82,8 @@ impl<T> Filling<T> {
 /// A reference to a published object. It must be spent, by a release or `leave`.
 pub struct Ref<T> {
     pub(crate) key: u64,
+    /// Where the key's place stands in the pool that answered the reference.
+    pub(crate) start: u32,
     pub(crate) of: PhantomData<T>,
 }
 
@@ -96,12 +98,13 @@ impl<T> Model for Ref<T> {
 impl<T> Ref<T> {
     ghost use Rattle.std.specs.Prelude.{◌≡◌};
 
-    /// A reference to this key.
-    pub(crate) fn to(key: u64) -> Ref<T>
+    /// A reference to this key, whose place stands here.
+    pub(crate) fn to(key: u64, start: u32) -> Ref<T>
         ensures { result.key ≡ key }
     {
         Ref {
             key,
+            start,
             of: PhantomData,
         }
     }
@@ -117,7 +120,11 @@ impl<T> Ref<T> {
     pub(crate) fn spend(self) -> u64
         ensures { result ≡ self.key }
     {
-        let Ref { key, of: _ } = self;
+        let Ref {
+            key,
+            start: _,
+            of: _,
+        } = self;
         key
     }
 

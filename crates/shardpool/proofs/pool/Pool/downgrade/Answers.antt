@@ -1,7 +1,7 @@
 use Rattle.std.proofs.Common.{◌≡◌, ◌<◌, true, [], ◌∷◌, ℕ, length, slice_set, Some, refl, sym, ap, ◌∙◌, subst, arith}
 use Rattle.keybits.specs.declared.shape.Shape.{Shape}
-use Rattle.keybits.specs.Shapes.{position_of}
-use Rattle.keybits.specs.Keys.{place_of, generation_of}
+use Rattle.poolsteps.specs.Layout.{slot_start}
+use Rattle.keybits.specs.Keys.{place_of}
 use Rattle.seqpool.specs.declared.act.Act.{Act}
 use Rattle.seqpool.specs.declared.act.Act.TheVariants as acts
 use Rattle.steplaws.specs.Calls.Call.{Publishing}
@@ -45,7 +45,7 @@ add_first_reference-requires-clause-at g c =
     let shape : s.shape ≡ c.self.inside.grid.shape = ap (λ l. l.shape) c.lane.view_is ∙ (c.requires.owns.1 ∙ sym (ap (λ p. p.shape) c.self.view_is)) in
     let fits = subst (λ (y : Shape). Fits g.T.Clear.content g.T.Clear.room y c.lane.inside.hand.me.0 s) shape c.lane.invariant.1 in
     let spot = c.spot-spot.ensures in
-    subst (λ (n : ℕ). n < length s.rows.items) (sym spot.position) (rows-low c.place_of.result fits.rows spot.inside)
+    subst (λ (n : ℕ). n < length s.rows.items) (sym spot.start) (rows-low c.place_of.result fits.rows spot.inside)
 
 pub invariant_of-lane : goal.invariant_of-lane
 invariant_of-lane g c =
@@ -53,8 +53,8 @@ invariant_of-lane g c =
     let s = c.lane.inside.state in
     let told = c.downgrade-share.ensures in
     let share = c.downgrade-share.result in
-    let row : HeldKey g.row.T.Denot = record { generation = generation_of c.spend-key.result.0; count = 1; share = Some share } in
-    let at : c.spot-spot.result.position ≡ position_of z (place_of c.spend-key.result.0) = c.spot-spot.ensures.position ∙ ap (position_of z) c.place_of.ensures.place in
+    let row : HeldKey g.row.T.Denot = record { key = c.spend-key.result.0; count = 1; share = Some share } in
+    let at : c.spot-spot.result.start ≡ slot_start z (place_of c.spend-key.result.0) = c.spot-spot.ensures.start ∙ ap (slot_start z) c.place_of.ensures.place in
     let now = published-held-with s c.add_first_reference.new.state c.lane.inside.hand.table_id (filling g c) (g.T.Clear.content c.spend-key.result.1) true (fits g c) told.called.did told.called.idle told.acts (was g c)
     c.add_first_reference.ensures.rest share refl told.share.0 told.share.1 (ap g.T.Clear.content told.share.2) told.slot told.cell
     (c.add_first_reference.ensures.rows ∙ ap (λ (n : ℕ). slice_set s.rows.items n row) at) (ap (λ x. x.references) c.add_first_reference.ensures.rest) in

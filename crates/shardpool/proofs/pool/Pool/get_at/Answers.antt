@@ -78,7 +78,7 @@ add_reference-requires-clause-at g c =
 pub add_reference-requires-clause-within : goal.add_reference-requires-clause-within
 add_reference-requires-clause-within g c row stands =
     let before = ready c.lane.view_is c.requires.owns.1 c.self.view_is c.lane.invariant.1 c.in_ok-spot.ensures.spot in
-    rows-count-le c.in_ok-spot.spot.position row before.fits.rows stands
+    rows-count-le c.in_ok-spot.spot.start row before.fits.rows stands
 
 pub invariant_of-lane-then-index-gt0 : goal.invariant_of-lane-then-index-gt0
 invariant_of-lane-then-index-gt0 g c =
@@ -226,11 +226,11 @@ returns-clause-outside g c out = let bad : true ≡ false = sym (c.in_ok-spot.en
 
 pub returns-then-index-gt0-clause-held : goal.returns-then-index-gt0-clause-held
 returns-then-index-gt0-clause-held g c =
-    let gets = returns-then-index-gt0-clause-gets g c (c.in_ok-spot.ensures.some.0 refl) in (c.in_ok-spot.ensures.spot.position, gets.1)
+    let gets = returns-then-index-gt0-clause-gets g c (c.in_ok-spot.ensures.some.0 refl) in (c.in_ok-spot.ensures.spot.start, gets.1)
 
 pub returns-clause-held : goal.returns-clause-held
 returns-clause-held g c =
-    let gets = returns-clause-gets g c (c.in_ok-spot.ensures.some.0 refl) in (c.in_ok-spot.ensures.spot.position, gets.1)
+    let gets = returns-clause-gets g c (c.in_ok-spot.ensures.some.0 refl) in (c.in_ok-spot.ensures.spot.start, gets.1)
 
 -- ---- where its act stands
 
