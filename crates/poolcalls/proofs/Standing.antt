@@ -51,6 +51,7 @@ at-same {place = place} lane pushed is = record {
   spot = is.spot;
   lane = is.lane ∙ sym lane;
   below = is.below;
+  shard = is.shard;
   top = is.top ∙ ap (λ (pushes : List (ℕ × ℕ)). pushed_in pushes (shard_of place)) (sym pushed);
 }
 
@@ -170,9 +171,9 @@ pub to-return : {S : Type 0} {place : ℕ} {linked : Option ℕ} {failed : Bool}
 to-return {place = place} {linked = linked} is = is.under ∙ ap (λ (fails : Bool). Returns place linked fails) (sym (ap failed_under is.under))
 
 -- the first PUSH expects the word that was last pushed, and the second 0
-pub aims-first : {S : Type 0} {z : Shape} {place : ℕ} {linked : Option ℕ} {at : At} {a b : Me S View} → IsAt z a.0 place at → IsReturning place linked false a b
-    → AimsAt (the_lane b.0) place at.top
-aims-first {place = place} at is = inl (ap failed_under is.under, at.top ∙ ap (λ (pushes : List (ℕ × ℕ)). pushed_in pushes (shard_of place)) (sym is.pushed))
+pub aims-first : {S : Type 0} {place top : ℕ} {linked : Option ℕ} {a b : Me S View} → top ≡ pushed_in (the_lane a.0).pushed (shard_of place) → IsReturning place linked false a b
+    → AimsAt (the_lane b.0) place top
+aims-first {place = place} at is = inl (ap failed_under is.under, at ∙ ap (λ (pushes : List (ℕ × ℕ)). pushed_in pushes (shard_of place)) (sym is.pushed))
 
 pub aims-again : {S : Type 0} {place : ℕ} {linked : Option ℕ} {a b : Me S View} → IsReturning place linked true a b → AimsAt (the_lane b.0) place 0
 aims-again is = inr (ap failed_under is.under, refl)

@@ -60,8 +60,8 @@ pub fn release<T: Clear + Drop>(
     requires share { status_of (the_lane hand.old.me.0) (place_of key) at.lane ≢ Untouched → 1 < references_seen grid.now.shape hand.old.me.0 key }
     ensures hand { SameSeat hand.old hand.new }
     ensures called { Called grid.now.shape (Releasing key) 34 hand.old.me hand.new.me }
-    ensures acts { EndsWithActs grid.now.shape (place_of key) (acts.Release at.lane key ∷ []) hand.old.me.0 hand.new.me.0 result }
-    ensures reclaimed { IfSome result (IsReclaimed T.content T.room grid.now.shape (place_of key) at.lane hand.new.me.0) }
+    ensures acts { EndsWithActs grid.now.shape (place_of key) (acts.Release at.entry.lane key ∷ []) hand.old.me.0 hand.new.me.0 result }
+    ensures reclaimed { IfSome result (IsReclaimed T.content T.room grid.now.shape (place_of key) at.entry.lane hand.new.me.0) }
 {
     let left = grid.leave(hand, at.spot, key);
     finish_leave(alloc, grid, hand, at, left)
@@ -82,8 +82,8 @@ pub fn clear<T: Clear + Drop>(
     requires idle { IsIdle hand.old.me.0 }
     ensures hand { SameSeat hand.old hand.new }
     ensures called { Called grid.now.shape (Clearing key) 34 hand.old.me hand.new.me }
-    ensures acts { EndsWithActs grid.now.shape (place_of key) (acts.Clear at.lane key result.0 ∷ []) hand.old.me.0 hand.new.me.0 result.1 }
-    ensures reclaimed { IfSome result.1 (IsReclaimed T.content T.room grid.now.shape (place_of key) at.lane hand.new.me.0) }
+    ensures acts { EndsWithActs grid.now.shape (place_of key) (acts.Clear at.entry.lane key result.0 ∷ []) hand.old.me.0 hand.new.me.0 result.1 }
+    ensures reclaimed { IfSome result.1 (IsReclaimed T.content T.room grid.now.shape (place_of key) at.entry.lane hand.new.me.0) }
 {
     let found = grid.enter(hand, at.spot, key, Purpose::ToClear);
     let marked = is_hit(key, found) && is_present(grid.mark(hand, at.spot, key));

@@ -183,7 +183,7 @@ fn finish_leave_within<T: Clear + Drop>(
     requires seen { IsLawful grid.now.shape hand.old.me.0 }
     requires owes { (the_lane hand.old.me.0).under ≡ owed_after at.spot.place found }
     ensures hand { SameSeat hand.old hand.new }
-    ensures ends { EndsWithin grid.now.shape at.spot.place found limit hand.old.me hand.new.me }
+    ensures ends { EndsWithin grid.now.shape at.entry.spot.place found limit hand.old.me hand.new.me }
 {
     if limit == 0 {
         return;
@@ -217,7 +217,7 @@ fn reclaim_place_within<T: Clear + Drop>(
     requires room { (known_of (the_lane hand.old.me.0) at.spot.place).room ≡ room_of hand.old.me.0.seen hand.old.me.0.rooms at.spot.place }
     requires some { 0 < limit }
     ensures hand { SameSeat hand.old hand.new }
-    ensures tails { TailsWithin grid.now.shape at.spot.place generation limit hand.old.me hand.new.me }
+    ensures tails { TailsWithin grid.now.shape at.entry.spot.place generation limit hand.old.me hand.new.me }
 {
     if generation == grid.shape.last_generation || shard_of(at.spot.place) == at.lane {
         return;
@@ -238,15 +238,16 @@ fn give_home_within<T: Clear>(grid: &Grid<T>, hand: &mut Hand<T>, at: At, limit:
     requires rests { IsAtRest grid.now.shape hand.old.me.0 at.spot.place }
     requires some { 0 < limit }
     ensures hand { SameSeat hand.old hand.new }
-    ensures gives { GivesWithin grid.now.shape at.spot.place limit hand.old.me hand.new.me }
+    ensures gives { GivesWithin grid.now.shape at.entry.spot.place limit hand.old.me hand.new.me }
 {
     shares_law();
-    grid.link(hand, at.spot, at.top);
+    let top = at.top();
+    grid.link(hand, at.spot, top);
     if limit == 1 {
         return;
     }
-    let found = grid.push(hand, at.spot, at.lane, at.top);
-    if found == at.top || limit == 2 {
+    let found = grid.push(hand, at.spot, at.lane, top);
+    if found == top || limit == 2 {
         return;
     }
     grid.link(hand, at.spot, 0);

@@ -100,11 +100,10 @@ impl<T: Clear + Drop> Pool<T> {
         shares_law();
         let number = lane.state.number;
         let spot = self.find(key)?;
-        let top = lane.state.top(spot.place);
         let at = At {
             spot,
             lane: number,
-            top,
+            tops: &lane.state.last_pushed,
         };
         let got = get(lane.state.alloc, &self.grid, &mut lane.hand, at, key);
         match got {
@@ -183,13 +182,13 @@ impl<T: Clear + Drop> Pool<T> {
         ensures one_less { (k : ℕ) → holds lane.new k ≡ (if key == k then holds lane.old k - 1 else holds lane.old k) }
         ensures fillings { (filling : FillingOf T) → Made lane.old filling → Made lane.new filling }
     {
-        let top = lane.state.top(spot.place);
+        let number = lane.state.number;
+        return_last_share(&self.grid, &mut lane.hand, &mut lane.state, spot, key);
         let at = At {
             spot,
-            lane: lane.state.number,
-            top,
+            lane: number,
+            tops: &lane.state.last_pushed,
         };
-        return_last_share(&self.grid, &mut lane.hand, &mut lane.state, spot, key);
         let reclaimed = release(lane.state.alloc, &self.grid, &mut lane.hand, at, key);
         drop_reference(&mut lane.state, spot.start as usize);
         keep_reclaimed(&mut lane.state, spot.place, reclaimed);
@@ -216,11 +215,10 @@ impl<T: Clear + Drop> Pool<T> {
         let Some(spot) = self.find(key) else {
             return false;
         };
-        let top = lane.state.top(spot.place);
         let at = At {
             spot,
             lane: number,
-            top,
+            tops: &lane.state.last_pushed,
         };
         let (marked, reclaimed) = clear(lane.state.alloc, &self.grid, &mut lane.hand, at, key);
         keep_reclaimed(&mut lane.state, spot.place, reclaimed);

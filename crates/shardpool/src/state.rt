@@ -1,7 +1,7 @@
 //! What a lane keeps beside its seat.
 use crate::places::Places;
 use freelists::{LocalFree, Pages};
-use keybits::{Shape, place_of, shard_of};
+use keybits::{Shape, place_of};
 use slotcell::{Slot, Whole};
 use std::alloc::Global;
 
@@ -39,20 +39,10 @@ pub(crate) struct LaneState<T> {
 }
 
 impl<T> LaneState<T> {
-    ghost use Rattle.std.specs.Prelude.{◌≡◌, ◌<◌, true, length, slice_index};
-    ghost use Rattle.keybits.specs.Places.{shard_of};
+    ghost use Rattle.std.specs.Prelude.{◌≡◌, true};
     ghost use Rattle.keybits.specs.Keys.{place_of, is_key};
     ghost use Rattle.poolsteps.specs.Layout.{slot_start};
     ghost use Rattle.shardpool.specs.Rows.{AreKeyed};
-
-    /// The word that the lane last pushed to the shard of a place.
-    #[inline]
-    pub(crate) fn top(&self, place: u32) -> u64
-        requires { shard_of place < length self.now.last_pushed.items }
-        ensures { result ≡ slice_index self.now.last_pushed.items (shard_of place) }
-    {
-        self.last_pushed[shard_of(place) as usize]
-    }
 
     /// Where the place of a key of the pool stands: likely here, as its row then tells.
     #[inline]

@@ -67,14 +67,16 @@ module _ {T : Type 0} {content : T → List ℕ} {room : T → ℕ} {z : Shape} 
   ready-low = subst (λ (i : ℕ). i < length s.rows.items) (sym before.there.start) (rows-low (place_of key) before.fits.rows before.there.inside)
 
   -- and the call acts there
-  pub ready-at : (acting : At) → acting.spot ≡ spot → acting.lane ≡ s.number → acting.top ≡ slice_index s.last_pushed.items (shard_of spot.place) → IsAt z v (place_of key) acting
-  ready-at acting there number top =
+  pub ready-at : (acting : At) → acting.spot ≡ spot → acting.lane ≡ s.number → acting.tops.now ≡ s.last_pushed.items → IsAt z v (place_of key) acting
+  ready-at acting there number tops =
       let fits = before.fits in
       let at = before.there in record {
         spot = subst (λ (x : Spot). IsSpot z x (place_of key)) (sym there) at;
         lane = number ∙ fits.seat.number_is;
         below = subst (λ (n : ℕ). n < z.lanes) (sym number) fits.seat.below;
-        top = top ∙ (ap (λ (p : ℕ). slice_index s.last_pushed.items (shard_of p)) at.place_is ∙ fits.last_pushed.each (shard_of (place_of key)) (is_place-parts z (place_of key) at.inside).0);
+        shard = rw (tops, fits.last_pushed.wide) (is_place-parts z (place_of key) at.inside).0;
+        top = ap (λ (words : List ℕ). slice_index words (shard_of (place_of key))) tops
+            ∙ fits.last_pushed.each (shard_of (place_of key)) (is_place-parts z (place_of key) at.inside).0;
       }
 
   -- an object that a call answers may be kept

@@ -241,18 +241,21 @@ module _ {T : Type 0} {content : T → List ℕ} {room : T → ℕ} {z : Shape} 
       (λ (several : lent.row.count ≢ 1). let same = lent-some in let is = of.3 in let any = of.2 in omega (arith, same, is, any, several))
 
   -- and the word that the lane pushed last there is the same
-  lent-top : (p : ℕ) → p ≡ place → slice_index s.last_pushed.items (shard_of p) ≡ pushed_in (the_lane b.0).pushed (shard_of place)
-  lent-top p there =
-      ap (λ (q : ℕ). slice_index s.last_pushed.items (shard_of q)) there
-      ∙ (fits.last_pushed.each (shard_of place) (is_place-parts z place (place-inside s key fits some)).0 ∙ ap (λ (pushed : List (ℕ × ℕ)). pushed_in pushed (shard_of place)) (sym lent.pushed))
+  lent-top : slice_index s.last_pushed.items (shard_of place) ≡ pushed_in (the_lane b.0).pushed (shard_of place)
+  lent-top =
+      fits.last_pushed.each (shard_of place) (is_place-parts z place (place-inside s key fits some)).0 ∙ ap (λ (pushed : List (ℕ × ℕ)). pushed_in pushed (shard_of place)) (sym lent.pushed)
+
+  last_pushed-lent : m.last_pushed.items ≡ s.last_pushed.items
+  last_pushed-lent = ap (λ (x : LaneState T). x.last_pushed.items) lent.rest
 
   -- so the call acts at the key's place
-  pub lent-at : (acting : At) → IsSpot z acting.spot place → acting.lane ≡ s.number → acting.top ≡ slice_index s.last_pushed.items (shard_of acting.spot.place) → IsAt z b.0 place acting
-  lent-at acting spot lane top = record {
+  pub lent-at : (acting : At) → IsSpot z acting.spot place → acting.lane ≡ s.number → acting.tops.now ≡ m.last_pushed.items → IsAt z b.0 place acting
+  lent-at acting spot lane tops = record {
     spot = spot;
     lane = lane ∙ (fits.seat.number_is ∙ sym lent.did.acted.lane);
     below = subst (λ (n : ℕ). n < z.lanes) (sym lane) fits.seat.below;
-    top = top ∙ lent-top acting.spot.place spot.place_is;
+    shard = rw (tops ∙ last_pushed-lent, fits.last_pushed.wide) (is_place-parts z place (place-inside s key fits some)).0;
+    top = ap (λ (words : List ℕ). slice_index words (shard_of place)) (tops ∙ last_pushed-lent) ∙ lent-top;
   }
 
   stood-now : slice_get m.rows.items at ≡ Some row-lent

@@ -11,7 +11,7 @@ use Rattle.shardpool.proofs.pool.Pool.clear.Goals as goal
 pub clear-marked-requires-clause-at : goal.clear-marked-requires-clause-at
 clear-marked-requires-clause-at g c =
     let before = ready c.lane.view_is c.requires.owns.1 c.self.view_is c.lane.invariant.1 c.in-Some.ensures.spot in
-    ready-at before _ refl refl c.top-top.ensures
+    ready-at before _ refl refl c.deref.ensures.value
 
 pub clear-marked-requires-clause-key : goal.clear-marked-requires-clause-key
 clear-marked-requires-clause-key g c = ap (λ p. is_key p.shape c.args.key) c.self.view_is ∙ c.in-Some.ensures.some.0 refl

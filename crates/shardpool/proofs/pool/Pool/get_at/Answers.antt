@@ -16,7 +16,7 @@ use Rattle.shardpool.proofs.pool.Pool.get_at.Goals as goal
 pub get-got-requires-clause-at : goal.get-got-requires-clause-at
 get-got-requires-clause-at g c =
     let before = ready c.lane.view_is c.requires.owns.1 c.self.view_is c.lane.invariant.1 c.in_ok-spot.ensures.spot in
-    ready-at before _ refl refl c.top-top.ensures
+    ready-at before _ refl refl c.deref.ensures.value
 
 pub get-got-requires-clause-key : goal.get-got-requires-clause-key
 get-got-requires-clause-key g c = ap (λ p. is_key p.shape c.args.key) c.self.view_is ∙ c.in_ok-spot.ensures.some.0 refl

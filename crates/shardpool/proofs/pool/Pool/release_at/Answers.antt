@@ -40,7 +40,7 @@ pub release-reclaimed-requires-clause-at : goal.release-reclaimed-requires-claus
 release-reclaimed-requires-clause-at g c =
     let refers = refers-held c.lane.view_is c.requires.owns.1 c.self.view_is c.lane.invariant.1 c.requires.held refl in
     let spot = subst (λ (p : PoolOf). IsSpot p.shape c.args.spot (place_of c.args.key)) (sym c.self.view_is) c.requires.spot in
-    lent-at refers c.return_last_share.ensures.lends _ spot refl c.top-top.ensures
+    lent-at refers c.return_last_share.ensures.lends _ spot refl c.deref.ensures.value
 
 pub drop_reference-requires-clause-at : goal.drop_reference-requires-clause-at
 drop_reference-requires-clause-at g c =
