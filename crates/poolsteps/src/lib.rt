@@ -3,6 +3,7 @@
 //! dropped.
 #![tactic(auto)]
 
+mod batches;
 mod closing;
 mod grid;
 mod laws;

@@ -131,7 +131,7 @@ impl<T: Clear> Grid<T> {
 
     /// Where the slot of a place and a lane stands.
     #[inline]
-    fn slot_of(&self, spot: Spot, number: u32) -> usize
+    pub(crate) fn slot_of(&self, spot: Spot, number: u32) -> usize
         requires spot { IsSpot self.now.shape spot spot.place }
         requires number { number < self.now.shape.lanes }
         ensures { result ≡ slot_index self.now.shape spot.place number }
