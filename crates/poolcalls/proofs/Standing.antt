@@ -66,6 +66,7 @@ pub record HasLeft {S : Type 0} (z : Shape) (key found : ℕ) (a b : Me S View) 
   pub made : List Act
   pub acted : Acted z made a.0 b.0
   pub pushed : (the_lane b.0).pushed ≡ (the_lane a.0).pushed
+  pub held : b.1 ≡ a.1
   pub owes : (the_lane b.0).under ≡ owed_after (place_of key) found
 
 life-left : {S : Type 0} {z : Shape} {key found left : ℕ} {act : Option Act} {a b : Me S View}
@@ -74,6 +75,7 @@ life-left {key = key} {found = found} {act = act} {a = a} steps = record {
   made = acts_in act;
   acted = (did-step steps (life-next (the_lane a.0) (place_of key) act (owed_after (place_of key) found))).acted;
   pushed = ap (λ (lanes : List LaneRecord). (head_record lanes).pushed) steps.goes.lanes;
+  held = steps.held;
   owes = life-under steps;
 }
 
@@ -100,6 +102,7 @@ pub record HasClaimed {S : Type 0} (z : Shape) (place generation : ℕ) (a b : M
   pub made : List Act
   pub acted : Acted z made a.0 b.0
   pub pushed : (the_lane b.0).pushed ≡ (the_lane a.0).pushed
+  pub held : b.1 ≡ a.1
   pub under : (the_lane b.0).under ≡ claimed_under z (the_lane a.0).lane place generation
   pub place_has : HasPlace z b.0 place × LeftAlone z (the_lane b.0) place
   pub room : (known_of (the_lane b.0) place).room ≡ room_of b.0.seen b.0.rooms place
@@ -116,6 +119,7 @@ has-claimed {z = z} {place = place} {generation = generation} {a = a} {b = b} cl
       made = acts_in act;
       acted = (did-step steps (cell-next r place act (claimed_under z r.lane place generation) told.0)).acted;
       pushed = ap (λ (x : LaneRecord). x.pushed) now;
+      held = steps.held;
       under = ap (λ (x : LaneRecord). x.under) now;
       place_has = (told.1, λ number below. ap (λ (x : LaneRecord). status_of x place number) now ∙ told.3 number below);
       room = ap (λ (x : LaneRecord). (known_of x place).room) now

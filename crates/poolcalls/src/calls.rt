@@ -28,6 +28,7 @@ pub fn get<T: Clear + Drop>(
     key: u64,
 ) -> Got<T>
     requires hand { IsOf grid.now hand.old × IsOne hand.old.me.0 }
+    requires bare { hand.old.me.1 ≡ [] }
     requires at { IsAt grid.now.shape hand.old.me.0 (place_of key) at }
     requires key { is_key grid.now.shape key ≡ true }
     requires idle { IsIdle hand.old.me.0 }
@@ -54,6 +55,7 @@ pub fn release<T: Clear + Drop>(
     key: u64,
 ) -> Option<Reclaimed<T>>
     requires hand { IsOf grid.now hand.old × IsOne hand.old.me.0 }
+    requires bare { hand.old.me.1 ≡ [] }
     requires at { IsAt grid.now.shape hand.old.me.0 (place_of key) at }
     requires idle { IsIdle hand.old.me.0 }
     requires held { 0 < references_seen grid.now.shape hand.old.me.0 key }
@@ -77,6 +79,7 @@ pub fn clear<T: Clear + Drop>(
     key: u64,
 ) -> (bool, Option<Reclaimed<T>>)
     requires hand { IsOf grid.now hand.old × IsOne hand.old.me.0 }
+    requires bare { hand.old.me.1 ≡ [] }
     requires at { IsAt grid.now.shape hand.old.me.0 (place_of key) at }
     requires key { is_key grid.now.shape key ≡ true }
     requires idle { IsIdle hand.old.me.0 }

@@ -34,6 +34,7 @@ pub fn get_within<T: Clear + Drop>(
     limit: u32,
 )
     requires hand { IsOf grid.now hand.old × IsOne hand.old.me.0 }
+    requires bare { hand.old.me.1 ≡ [] }
     requires at { IsAt grid.now.shape hand.old.me.0 (place_of key) at }
     requires key { is_key grid.now.shape key ≡ true }
     requires idle { IsIdle hand.old.me.0 }
@@ -62,6 +63,7 @@ pub fn release_within<T: Clear + Drop>(
     limit: u32,
 )
     requires hand { IsOf grid.now hand.old × IsOne hand.old.me.0 }
+    requires bare { hand.old.me.1 ≡ [] }
     requires at { IsAt grid.now.shape hand.old.me.0 (place_of key) at }
     requires idle { IsIdle hand.old.me.0 }
     requires seen { IsLawful grid.now.shape hand.old.me.0 }
@@ -83,6 +85,7 @@ pub fn clear_within<T: Clear + Drop>(
     limit: u32,
 )
     requires hand { IsOf grid.now hand.old × IsOne hand.old.me.0 }
+    requires bare { hand.old.me.1 ≡ [] }
     requires at { IsAt grid.now.shape hand.old.me.0 (place_of key) at }
     requires key { is_key grid.now.shape key ≡ true }
     requires idle { IsIdle hand.old.me.0 }
@@ -157,6 +160,7 @@ fn leave_within<T: Clear + Drop>(
     limit: u32,
 )
     requires hand { IsOf grid.now hand.old × IsOne hand.old.me.0 }
+    requires bare { hand.old.me.1 ≡ [] }
     requires at { IsAt grid.now.shape hand.old.me.0 (place_of key) at }
     requires may { 0 < limit → MayLeave grid.now.shape hand.old.me.0 key }
     ensures hand { SameSeat hand.old hand.new }
@@ -179,6 +183,7 @@ fn finish_leave_within<T: Clear + Drop>(
     limit: u32,
 )
     requires hand { IsOf grid.now hand.old × IsOne hand.old.me.0 }
+    requires bare { hand.old.me.1 ≡ [] }
     requires at { IsAt grid.now.shape hand.old.me.0 at.spot.place at }
     requires seen { IsLawful grid.now.shape hand.old.me.0 }
     requires owes { (the_lane hand.old.me.0).under ≡ owed_after at.spot.place found }
@@ -210,6 +215,7 @@ fn reclaim_place_within<T: Clear + Drop>(
     limit: u32,
 )
     requires hand { IsOf grid.now hand.old × IsOne hand.old.me.0 }
+    requires bare { hand.old.me.1 ≡ [] }
     requires at { IsAt grid.now.shape hand.old.me.0 at.spot.place at }
     requires seen { IsLawful grid.now.shape hand.old.me.0 }
     requires under { (the_lane hand.old.me.0).under ≡ claimed_under grid.now.shape at.lane at.spot.place generation }
