@@ -1,9 +1,8 @@
 -- A filling that became another of its key.
-use Rattle.std.proofs.Common.{◌≡◌, Bool, true, false, IsTrue, IsFalse, ℕ, ◌+◌, ◌-◌, ◌<◌, ◌≤◌, List, [], ◌∷◌, ◌++◌, length, take, drop, slice_index_or, slice_set, Contains, refl, sym, ap, ◌∙◌, subst, arith}
-use Rattle.std.specs.List.{All}
+use Rattle.std.proofs.Common.{◌≡◌, Bool, true, false, IsTrue, IsFalse, ℕ, ◌-◌, ◌<◌, List, [], ◌∷◌, ◌++◌, length, slice_index_or, slice_set, Contains, refl, sym, ◌∙◌, subst, arith}
 use Rattle.std.proofs.lemmas.List.{get_or_default, length-set, length-drop, take_all, drop_all}
 use Rattle.std.specs.List.Sorted.{IsPermutation}
-use Rattle.std.proofs.lemmas.List.Elements.{All-get_or, All-set, All-head, All-tail, Contains-push}
+use Rattle.std.proofs.lemmas.List.Elements.{All-get_or, All-set, All-tail, Contains-push}
 use Rattle.std.proofs.lemmas.List.Sorted.{All-permutation}
 use Rattle.seqpool.specs.declared.act.Act.TheVariants as acts
 use Rattle.std.proofs.lemmas.Grind.{get_or-set_at}
@@ -15,7 +14,7 @@ use Rattle.shardpool.specs.Tokens.{LaneOf, FillingOf}
 use Rattle.shardpool.specs.Lanes.{Made, IsFilling, Did}
 use Rattle.slotcell.specs.ByteBuf.{ByteBuf}
 use Rattle.poolhandle.specs.declared.kept.Kept.{Kept}
-use Rattle.poolhandle.specs.Filled.{content_of, room_of, SameToken, AreMade, Have}
+use Rattle.poolhandle.specs.Filled.{content_of, room_of, SameToken, AreMade, Have, MustGrow, HaveTight}
 
 -- without room all bytes are content
 pub all-content : (kept : Kept) → kept.room ≡ 0 → content_of kept ≡ kept.filling.object.bytes
@@ -32,6 +31,12 @@ pub had : (key index : ℕ) (places : List Kept) (kept : Kept) → index < lengt
     → Have key (content_of (slice_index_or places index kept)) (room_of (slice_index_or places index kept)) places
 had key index places kept low is =
     let at = slice_index_or places index kept in let there : Contains places at = (index, low, get_or_default places index at kept low) in (at, there, is, refl, refl)
+
+-- and so is a buffer that must grow
+pub had-tight : (key index count : ℕ) (places : List Kept) (kept : Kept) → index < length places → (slice_index_or places index kept).filling.key ≡ key
+    → MustGrow (slice_index_or places index kept) count → HaveTight key count places
+had-tight key index count places kept low is tight =
+    let at = slice_index_or places index kept in let there : Contains places at = (index, low, get_or_default places index at kept low) in (at, there, is, tight)
 
 -- what was put behind is had
 pub has-push : (key : ℕ) (places : List Kept) (kept : Kept) → kept.filling.key ≡ key → Have key (content_of kept) (room_of kept) (places ++ kept ∷ [])

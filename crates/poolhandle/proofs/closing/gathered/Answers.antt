@@ -1,5 +1,5 @@
 -- What was given for the close is a lane of the pool.
-use Rattle.std.proofs.Common.{rules, ◌≡◌, List, [], ◌∷◌, ◌++◌, All, Contains, sym, subst, ◌∙◌}
+use Rattle.std.proofs.Common.{rules, ◌≡◌, List, [], ◌∷◌, ◌++◌, All, Contains, sym, subst}
 use Rattle.std.proofs.lemmas.List.Elements.{All-head, All-tail, All-push, Contains-append_left}
 use Rattle.std.specs.Vec.Iter.{into_iter_items}
 use Rattle.shardpool.specs.Tokens.{PoolOf, LaneOf}
