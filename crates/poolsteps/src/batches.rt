@@ -55,16 +55,17 @@ impl<T: Clear> Grid<T> {
 
     /// Takes the share out of the slot of a place and a lane, which is the first in hand; the slot goes behind the others.
     #[inline]
-    fn take_next(&self, hand: &mut Hand<T>, spot: Spot, number: u32) -> Share<T>
+    fn take_next(&self, hand: &mut Hand<T>, row: usize, spot: Spot, number: u32) -> Share<T>
         requires hand { IsOf self.now hand.old }
         requires spot { IsSpot self.now.shape spot spot.place }
+        requires row { row ≡ self.now.row }
         requires number { number < self.now.shape.lanes }
         requires held { (share : Shown T) × (hand.old.me.1 ≡ (slot_index self.now.shape spot.place number, Some share) ∷ rest hand.old.me.1) }
         ensures hand { SameSeat hand.old hand.new }
         ensures share { hand.old.me.1 ≡ (slot_index self.now.shape spot.place number, Some result) ∷ rest hand.old.me.1 }
         ensures held { hand.new.me ≡ (hand.old.me.0, rest hand.old.me.1 ++ (slot_index self.now.shape spot.place number, None) ∷ []) }
     {
-        let slot = self.slot_of(spot, number);
+        let slot = self.slot_in(row, spot, number);
         let share = self
             .table
             .shared
@@ -76,15 +77,16 @@ impl<T: Clear> Grid<T> {
 
     /// Puts a share into the slot of a place and a lane, which is the first in hand; the slot goes behind the others.
     #[inline]
-    fn put_next(&self, hand: &mut Hand<T>, spot: Spot, number: u32, share: Share<T>)
+    fn put_next(&self, hand: &mut Hand<T>, row: usize, spot: Spot, number: u32, share: Share<T>)
         requires hand { IsOf self.now hand.old }
         requires spot { IsSpot self.now.shape spot spot.place }
+        requires row { row ≡ self.now.row }
         requires number { number < self.now.shape.lanes }
         requires held { (value : Option (Shown T)) × (hand.old.me.1 ≡ (slot_index self.now.shape spot.place number, value) ∷ rest hand.old.me.1) }
         ensures hand { SameSeat hand.old hand.new }
         ensures held { hand.new.me ≡ (hand.old.me.0, rest hand.old.me.1 ++ (slot_index self.now.shape spot.place number, Some share) ∷ []) }
     {
-        let slot = self.slot_of(spot, number);
+        let slot = self.slot_in(row, spot, number);
         self.table.shared.exchange(hand, slot, Slot::filled(share));
         hand.turn();
     }
@@ -99,12 +101,13 @@ impl<T: Clear> Grid<T> {
         ensures held { hand.new.me ≡ (hand.old.me.0, held_of self.now.shape spot.place (λ position. position) (λ _. None) self.now.shape.lanes) }
         ensures rest { AreOf T.content T.room self.now.shape J.stored result }
     {
+        let row = self.row;
         let last = self.shape.lanes - 1;
-        let mut rest = Rest::of_last(self.take_next(hand, spot, last));
+        let mut rest = Rest::of_last(self.take_next(hand, row, spot, last));
         let mut number = last;
         while number > 0 {
             number -= 1;
-            rest.merge(self.take_next(hand, spot, number));
+            rest.merge(self.take_next(hand, row, spot, number));
         }
         rest
     }
@@ -119,12 +122,13 @@ impl<T: Clear> Grid<T> {
         ensures hand { SameSeat hand.old hand.new × (hand.new.me.0 ≡ hand.old.me.0) }
         ensures held { (values : ℕ → Option (Shown T)) × AreLeft T.content T.room self.now.shape Untouched J.stored values × (hand.new.me.1 ≡ held_of self.now.shape spot.place (λ position. self.now.shape.lanes - 1 - position) values self.now.shape.lanes) }
     {
+        let row = self.row;
         let last = self.shape.lanes - 1;
         let mut rest = rest;
         for number in 0..last {
-            self.put_next(hand, spot, number, rest.cut());
+            self.put_next(hand, row, spot, number, rest.cut());
         }
-        self.put_next(hand, spot, last, rest.into_share());
+        self.put_next(hand, row, spot, last, rest.into_share());
     }
 
     /// OUT of all shares of a place that is with the lane, by two looks: they are in its hands, and the slots are empty.

@@ -2,11 +2,11 @@ use Rattle.std.proofs.Common.{◌≡◌, ◌∙◌, IsSome, Some, refl, ap, sym,
 use Rattle.poolsteps.proofs.Carrying.{first_value}
 use Rattle.poolsteps.proofs.grid.Grid.take_next.Goals as goal
 
-pub slot_of-slot-requires : goal.slot_of-slot-requires
-slot_of-slot-requires g c = record { spot = c.requires.spot; number = c.requires.number }
+pub slot_in-slot-requires : goal.slot_in-slot-requires
+slot_in-slot-requires g c = record { row = c.requires.row; spot = c.requires.spot; number = c.requires.number }
 
 pub exchange-requires : goal.exchange-requires
-exchange-requires g c = rw c.slot_of-slot.ensures (c.requires.hand, (Some c.requires.held.0, c.requires.held.1))
+exchange-requires g c = rw c.slot_in-slot.ensures (c.requires.hand, (Some c.requires.held.0, c.requires.held.1))
 
 pub into_share-share-requires : goal.into_share-share-requires
 into_share-share-requires g c =
