@@ -7,6 +7,7 @@ use Rattle.std.proofs.lemmas.List.Sorted.{All-permutation}
 use Rattle.seqpool.specs.declared.act.Act.TheVariants as acts
 use Rattle.std.proofs.lemmas.Grind.{get_or-set_at}
 use Rattle.keybits.specs.Keys.{place_of}
+use Rattle.poolsteps.specs.Layout.{slot_start}
 use Rattle.poolsteps.specs.Views.{the_lane}
 use Rattle.poolsteps.specs.Told.{MayPublish}
 use Rattle.poolcalls.specs.Carried.{AreEmptied}
@@ -49,9 +50,10 @@ has-set key index old new kept low is same =
     (kept, subst (λ (places : List Kept). Contains places kept) (sym same) there, is, refl, refl)
 
 -- what a lane made doesn't depend on the object
-pub made-same : (lane : LaneOf) (old new : FillingOf ByteBuf) → new.table ≡ old.table → new.key ≡ old.key → Made lane old → Made lane new
-made-same lane old new table key made = record {
+pub made-same : (lane : LaneOf) (old new : FillingOf ByteBuf) → new.table ≡ old.table → new.key ≡ old.key → new.start ≡ old.start → Made lane old → Made lane new
+made-same lane old new table key start made = record {
   table = table ∙ made.table;
+  start = start ∙ (made.start ∙ ap (λ (k : ℕ). slot_start lane.shape (place_of k)) (sym key));
   place = subst (λ (k : ℕ). IsFilling lane (place_of k)) (sym key) made.place;
   may = subst (λ (k : ℕ). MayPublish lane.shape lane.book k) (sym key) made.may;
   emptied = subst (λ (k : ℕ). AreEmptied lane.shape (the_lane lane.book) (place_of k)) (sym key) made.emptied;
@@ -61,7 +63,7 @@ pub made-set : (lane : LaneOf) (index : ℕ) (old new : List Kept) (kept : Kept)
     → AreMade lane old → AreMade lane new
 made-set lane index old new kept low same token made =
     let before = slice_index_or old index kept in
-    let own = made-same lane before.filling kept.filling token.0 token.1 (All-get_or (λ (k : Kept). Made lane k.filling) old index kept low made) in
+    let own = made-same lane before.filling kept.filling token.0 token.1 token.2 (All-get_or (λ (k : Kept). Made lane k.filling) old index kept low made) in
     subst (AreMade lane) (sym same) (All-set (λ (k : Kept). Made lane k.filling) old index kept own made)
 
 -- what was taken out, and the others

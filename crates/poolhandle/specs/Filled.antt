@@ -19,7 +19,7 @@ MustGrow kept count = kept.filling.object.room < length (content_of kept) + coun
 
 -- it is the filling of the same key
 abbrev pub SameToken : Kept → Kept → Type 0
-SameToken old new = (new.filling.table ≡ old.filling.table) × (new.filling.key ≡ old.filling.key)
+SameToken old new = (new.filling.table ≡ old.filling.table) × (new.filling.key ≡ old.filling.key) × (new.filling.start ≡ old.filling.start)
 
 -- the lane made each
 abbrev pub AreMade : LaneOf → List Kept → Type 0

@@ -38,7 +38,7 @@ impl Kept {
 
     /// The filling, with its content alone.
     pub(crate) fn into_content(self) -> Filling<ByteBuf>
-        ensures token { (result.table ≡ self.filling.table) × (result.key ≡ self.filling.key) }
+        ensures token { (result.table ≡ self.filling.table) × (result.key ≡ self.filling.key) × (result.start ≡ self.filling.start) }
         ensures content { result.object.bytes ≡ content_of self }
     {
         let mut kept = self;

@@ -92,7 +92,7 @@ module _ {T : Type 0} (content : T → List ℕ) (room : T → ℕ) (z : Shape) 
   -- what the lane keeps beside its seat fits what it has seen and did
   pub record Fits (v : View) (s : LaneState T) : Type 0 where
     pub shape_is : s.shape ≡ z
-    pub placed : s.places.shape ≡ z
+    pub placed : (s.places.shape ≡ z) × (s.places.shard ≡ s.number)
     pub seat : FitsSeat z v s.number
     pub last_pushed : FitsTops z v s.last_pushed.items
     pub rows : FitsRows v s.rows.items s.references

@@ -75,7 +75,7 @@ fn lane_of<T: Clear + Drop>(
         free: LocalFree::new(alloc, shard, shape.first_page, shape.pages)?,
         pages: Pages::new(shard, shape.first_page, shape.pages),
         objects: no_objects(alloc, shape.shard_places() as usize)?,
-        places: Places::of(alloc, shape)?,
+        places: Places::of(alloc, shape, number)?,
         alloc,
     };
     let row = HandRow::new(alloc)?;

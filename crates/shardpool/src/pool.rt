@@ -108,7 +108,7 @@ impl<T: Clear + Drop> Pool<T> {
         let got = get(lane.state.alloc, &self.grid, &mut lane.hand, at, key);
         match got {
             Got::Miss(reclaimed) => {
-                keep_reclaimed(&mut lane.state, spot.place, reclaimed);
+                keep_reclaimed(&mut lane.state, spot, reclaimed);
                 return None;
             }
             Got::Hit => {}
@@ -191,7 +191,7 @@ impl<T: Clear + Drop> Pool<T> {
         };
         let reclaimed = release(lane.state.alloc, &self.grid, &mut lane.hand, at, key);
         drop_reference(&mut lane.state, spot.start as usize);
-        keep_reclaimed(&mut lane.state, spot.place, reclaimed);
+        keep_reclaimed(&mut lane.state, spot, reclaimed);
     }
 
     /// Clears the object of a key: true where it is this call that marked the key, which a get then finds no more. The last
@@ -221,7 +221,7 @@ impl<T: Clear + Drop> Pool<T> {
             tops: &lane.state.last_pushed,
         };
         let (marked, reclaimed) = clear(lane.state.alloc, &self.grid, &mut lane.hand, at, key);
-        keep_reclaimed(&mut lane.state, spot.place, reclaimed);
+        keep_reclaimed(&mut lane.state, spot, reclaimed);
         marked
     }
 
@@ -240,8 +240,11 @@ impl<T: Clear + Drop> Pool<T> {
         ensures room { room_of lane.new.book.seen lane.new.book.rooms (place_of filling.key) ≡ T.room filling.object }
         ensures fillings { (other : FillingOf T) → other.key ≢ filling.key → Made lane.old other → Made lane.new other }
     {
-        let (key, object) = filling.spend();
-        let spot = self.grid.spot(place_of(key));
+        let (key, start, object) = filling.spend();
+        let spot = Spot {
+            place: place_of(key),
+            start,
+        };
         publish(
             &self.grid,
             &mut lane.hand,
@@ -269,8 +272,11 @@ impl<T: Clear + Drop> Pool<T> {
         ensures room { room_of lane.new.book.seen lane.new.book.rooms (place_of filling.key) ≡ T.room filling.object }
         ensures fillings { (other : FillingOf T) → other.key ≢ filling.key → Made lane.old other → Made lane.new other }
     {
-        let (key, object) = filling.spend();
-        let spot = self.grid.spot(place_of(key));
+        let (key, start, object) = filling.spend();
+        let spot = Spot {
+            place: place_of(key),
+            start,
+        };
         let share = downgrade(
             &self.grid,
             &mut lane.hand,
@@ -280,7 +286,7 @@ impl<T: Clear + Drop> Pool<T> {
             object,
         );
         add_first_reference(&mut lane.state, spot.start as usize, key, share);
-        Ref::to(key, spot.start)
+        Ref::to(key, start)
     }
 
     /// Where a key's place stands. None for a number that is no key of the pool.

@@ -95,11 +95,11 @@ module _ {T : Type 0} (content : T → List ℕ) (room : T → ℕ) (z : Shape) 
   pub first-fits : (v : View) (s : LaneState T) → v ≡ first_book lane → IsShape z → lane < z.lanes → s.shape ≡ z → s.number ≡ lane → s.references ≡ 0
       → s.rows.items ≡ replicate (slot_row z) first_row → s.last_pushed.items ≡ replicate z.lanes 0 → s.objects.items ≡ replicate (shard_places z) None
       → s.free ≡ record { shard = lane; shape = shape_of z.first_page z.pages; own = []; chain = None; room = s.free.room }
-      → s.pages ≡ record { shard = lane; shape = shape_of z.first_page z.pages; opened = 0 } → s.places.shape ≡ z → Fits content room z v s
+      → s.pages ≡ record { shard = lane; shape = shape_of z.first_page z.pages; opened = 0 } → (s.places.shape ≡ z) × (s.places.shard ≡ lane) → Fits content room z v s
   first-fits v s book shape below shape_is number references rows last_pushed objects free pages placed =
       let fits : Fits content room z (first_book lane) s = record {
         shape_is = shape_is;
-        placed = placed;
+        placed = (placed.0, placed.1 ∙ sym number);
         seat = subst (FitsSeat z (first_book lane)) (sym number) (first-seat z lane shape below);
         last_pushed = subst (FitsTops z (first_book lane)) (sym last_pushed) (first-last_pushed z lane);
         rows = subst (λ (r : List (HeldKey T)). FitsRows content room z (first_book lane) r s.references) (sym rows)

@@ -19,6 +19,9 @@ use Rattle.seqpool.proofs.Ranks.{same-key, current-key}
 use Rattle.sharelaws.specs.declared.stored.Status.TheVariants.{Emptied}
 use Rattle.slotcell.specs.Share.{Share}
 use Rattle.sharelaws.proofs.HeldContents.{held-current}
+use Rattle.keybits.specs.Shapes.{is_place}
+use Rattle.poolsteps.specs.declared.grid.Spot.{Spot}
+use Rattle.poolsteps.specs.Grids.{IsSpot}
 use Rattle.poolsteps.specs.Layout.{slot_start}
 use Rattle.poolsteps.proofs.SlotLemmas.{start-injective}
 use Rattle.poolsteps.specs.declared.view.View.{View}
@@ -29,7 +32,7 @@ use Rattle.poolcalls.specs.Called.{Did as DidSo, MadeOne}
 use Rattle.shardpool.specs.declared.state.HeldKey.{HeldKey}
 use Rattle.shardpool.specs.declared.state.LaneState.{LaneState}
 use Rattle.shardpool.specs.Places.{held_after}
-use Rattle.shardpool.specs.Tokens.{FillingOf}
+use Rattle.shardpool.specs.Tokens.{LaneOf, FillingOf}
 use Rattle.shardpool.specs.LaneStates.{FitsSeat, FitsTops, FitsStores, IsHeld, FitsRow, FitsRows, Fits}
 use Rattle.shardpool.specs.Lanes.{Made, Did}
 use Rattle.shardpool.proofs.frame.OtherShards.{abroad-one}
@@ -58,6 +61,15 @@ published-last lane l key bytes with_ref history mine same =
       length last.before,
       (l, with_ref, subst (λ (xs : List Act). At xs (length last.before) act) (sym last.is) (at-seam last.before last.behind act)),
     )
+
+-- the place of a filling stands where the filling says
+pub made-spot : {T : Type 0} {lane : LaneOf} {z : Shape} {filling : FillingOf T} (spot : Spot) (key : ℕ) → Made lane filling → lane.shape ≡ z → key ≡ filling.key → spot.start ≡ filling.start
+    → spot.place ≡ place_of key → IsSpot z spot (place_of key)
+made-spot {z = z} {filling = filling} spot key made shape key_is start place = record {
+  place_is = place;
+  inside = ap (is_place z) (ap place_of key_is) ∙ subst (λ (y : Shape). is_place y (place_of filling.key) ≡ true) shape made.place.inside;
+  start = start ∙ (made.start ∙ λ i. slot_start (shape i) (place_of (sym key_is i)));
+}
 
 -- a row for none
 abbrev pub empty-row : {T : Type 0} → HeldKey T
@@ -117,7 +129,7 @@ module _ {S T : Type 0} {content : T → List ℕ} {room : T → ℕ} {z : Shape
   fits-with : FitsRows content room z b.0 t.rows.items t.references → Fits content room z b.0 t
   fits-with rows = record {
     shape_is = ap (λ (x : LaneState T). x.shape) rest ∙ fits.shape_is;
-    placed = ap (λ (x : LaneState T). x.places.shape) rest ∙ fits.placed;
+    placed = (ap (λ (x : LaneState T). x.places.shape) rest ∙ fits.placed.0, ap (λ (x : LaneState T). x.places.shard) rest ∙ (fits.placed.1 ∙ sym (ap (λ (x : LaneState T). x.number) rest)));
     seat = subst (λ (x : LaneState T). FitsSeat z b.0 x.number) (sym rest) seat;
     last_pushed = subst (λ (x : LaneState T). FitsTops z b.0 x.last_pushed.items) (sym rest) last_pushed;
     rows = rows;

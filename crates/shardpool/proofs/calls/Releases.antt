@@ -302,7 +302,7 @@ module _ {T : Type 0} {content : T → List ℕ} {room : T → ℕ} {z : Shape} 
         = stores-apart fits.stores fits.seat.paired fits.seat.own lent.did.chain (onlyat-none place) lent-passes (elsewhere-apart fits.stores place (away (the_lane a.0).lane)) in
         record {
           shape_is = ap (λ (x : LaneState T). x.shape) rest-so ∙ fits.shape_is;
-          placed = ap (λ (x : LaneState T). x.places.shape) rest-so ∙ fits.placed;
+          placed = (ap (λ (x : LaneState T). x.places.shape) rest-so ∙ fits.placed.0, ap (λ (x : LaneState T). x.places.shard) rest-so ∙ (fits.placed.1 ∙ sym (ap (λ (x : LaneState T). x.number) rest-so)));
           seat = subst (λ (x : LaneState T). FitsSeat z b.0 x.number) (sym rest-so) seat;
           last_pushed = subst (λ (x : LaneState T). FitsTops z b.0 x.last_pushed.items) (sym rest-so) last_pushed;
           stores = subst (λ (x : LaneState T). FitsStores content room z b.0 x.free x.pages x.objects.items) (sym rest-so) stores;
@@ -394,7 +394,7 @@ module _ {T : Type 0} {content : T → List ℕ} {room : T → ℕ} {z : Shape} 
 
         pub released : Released content room z key a.0 d.0 s t
         released = record {
-          fits = record { shape_is = shape-now; placed = ap (λ (x : Places). x.shape) left.same.5 ∙ beside.placed; seat = left.seat; last_pushed = left.last_pushed; rows = rows-now; stores = left.stores };
+          fits = record { shape_is = shape-now; placed = (ap (λ (x : Places). x.shape) left.same.5 ∙ beside.placed.0, ap (λ (x : Places). x.shard) left.same.5 ∙ (beside.placed.1 ∙ sym left.same.3)); seat = left.seat; last_pushed = left.last_pushed; rows = rows-now; stores = left.stores };
           did = λ table table_now same. (
             behind,
             did-lane z (lane_of table a.0 s) (lane_of table_now d.0 t) fits.shape_is shape-now number-now same through fits.seat.own list-now pages-now,

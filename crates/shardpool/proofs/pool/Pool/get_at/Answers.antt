@@ -8,6 +8,7 @@ use Rattle.shardpool.proofs.calls.CallParts.{calls-more}
 use Rattle.shardpool.proofs.calls.Gets.{called-then, seen-within}
 use Rattle.shardpool.proofs.calls.Halts.{fits-own}
 use Rattle.shardpool.proofs.references.Holdings.{get-holds}
+use Rattle.shardpool.proofs.calls.Ends.{fits-beside, own-spot, own-placed}
 use Rattle.shardpool.proofs.calls.KeyCalls.{ready, ready-low, ready-at, missed-away, missed, hit-touches, hit-untouched, gained-again, gained-first}
 use Rattle.shardpool.proofs.references.RowChanges.{rows-count-le}
 use Rattle.shardpool.proofs.frame.Standing.{missed-outside, found-since, missed-since, seen-of}
@@ -29,6 +30,14 @@ get-got-requires-clause-room g c =
     let all = before.fits.rows.by_acts in omega (arith, most, few, all)
 
 -- ---- a miss
+
+pub keep_reclaimed-requires-clause-spot : goal.keep_reclaimed-requires-clause-spot
+keep_reclaimed-requires-clause-spot g c =
+    let before = ready c.lane.view_is c.requires.owns.1 c.self.view_is c.lane.invariant.1 c.in_ok-spot.ensures.spot in
+    own-spot (fits-beside before.fits) before.there
+
+pub keep_reclaimed-requires-clause-placed : goal.keep_reclaimed-requires-clause-placed
+keep_reclaimed-requires-clause-placed g c = own-placed (fits-beside c.lane.invariant.1)
 
 pub keep_reclaimed-requires-clause-away : goal.keep_reclaimed-requires-clause-away
 keep_reclaimed-requires-clause-away g c =

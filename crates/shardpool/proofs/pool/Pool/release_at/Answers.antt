@@ -11,6 +11,7 @@ use Rattle.shardpool.specs.Stores.{Keeps}
 use Rattle.shardpool.specs.LaneStates.{Fits}
 use Rattle.shardpool.specs.Lanes.{Made}
 use Rattle.shardpool.proofs.calls.CallParts.{calls-more, calls-behind}
+use Rattle.shardpool.proofs.calls.Ends.{own-spot, own-placed}
 use Rattle.shardpool.proofs.calls.Releases.{EndsAt, Released, refers-held, lent-some, lent-share, lent-at, end-low, end-more, end-within, beside, released-away, released}
 use Rattle.shardpool.proofs.references.Holdings.{release-holds}
 use Rattle.shardpool.proofs.pool.Pool.release_at.Given.{Over}
@@ -65,6 +66,20 @@ keep_reclaimed-requires-clause-shape g c =
     let ends = subst (λ (n : ℕ). EndsAt n c.return_last_share.new.state c.drop_reference.new.state) spot.start (c.drop_reference.ensures.rows, c.drop_reference.ensures.rest) in
     let so = beside refers c.return_last_share.ensures.lends c.drop_reference.new.state ends in
     subst IsShape (sym so.shape_is) so.seat.shape
+
+pub keep_reclaimed-requires-clause-spot : goal.keep_reclaimed-requires-clause-spot
+keep_reclaimed-requires-clause-spot g c =
+    let refers = refers-held c.lane.view_is c.requires.owns.1 c.self.view_is c.lane.invariant.1 c.requires.held refl in
+    let spot = subst (λ (p : PoolOf). IsSpot p.shape c.args.spot (place_of c.args.key)) (sym c.self.view_is) c.requires.spot in
+    let ends = subst (λ (n : ℕ). EndsAt n c.return_last_share.new.state c.drop_reference.new.state) spot.start (c.drop_reference.ensures.rows, c.drop_reference.ensures.rest) in
+    own-spot (beside refers c.return_last_share.ensures.lends c.drop_reference.new.state ends) spot
+
+pub keep_reclaimed-requires-clause-placed : goal.keep_reclaimed-requires-clause-placed
+keep_reclaimed-requires-clause-placed g c =
+    let refers = refers-held c.lane.view_is c.requires.owns.1 c.self.view_is c.lane.invariant.1 c.requires.held refl in
+    let spot = subst (λ (p : PoolOf). IsSpot p.shape c.args.spot (place_of c.args.key)) (sym c.self.view_is) c.requires.spot in
+    let ends = subst (λ (n : ℕ). EndsAt n c.return_last_share.new.state c.drop_reference.new.state) spot.start (c.drop_reference.ensures.rows, c.drop_reference.ensures.rest) in
+    own-placed (beside refers c.return_last_share.ensures.lends c.drop_reference.new.state ends)
 
 pub keep_reclaimed-requires-clause-away : goal.keep_reclaimed-requires-clause-away
 keep_reclaimed-requires-clause-away g c =
