@@ -16,7 +16,7 @@ mod returns;
 mod steps;
 mod view;
 
-pub use closing::{drop_cell, lay};
+pub use closing::drop_cell;
 pub use grid::{Grid, Hand, Spot};
 pub use laws::{acts_law, references_law, shares_law};
 pub use layout::{
