@@ -1,10 +1,10 @@
 -- What becomes of the shares under references when a pool is closed.
-use Rattle.std.specs.Prelude.{◌≡◌, ◌≢◌, ℕ, ◌<◌, Bool, true, List, length, Option, Some, slice_get}
+use Rattle.std.specs.Prelude.{◌≡◌, ◌≢◌, ℕ, ◌<◌, ◌≤◌, Bool, true, List, length, Option, Some, slice_get}
 use Rattle.core.specs.declared.slots.Slots.{Slots}
 use Rattle.core.specs.Mem.Slots.{slots_items, slots_len, slots_ptr, IsFull}
 use Rattle.keybits.specs.declared.shape.Shape.{Shape}
 use Rattle.keybits.specs.Places.{shard_of}
-use Rattle.keybits.specs.Shapes.{is_place}
+use Rattle.keybits.specs.Shapes.{is_place, position_of}
 use Rattle.seqpool.specs.declared.act.Act.{Act}
 use Rattle.seqpool.specs.Pool.{published, home, has, pool_after}
 use Rattle.slotcell.specs.Share.{Share}
@@ -38,6 +38,16 @@ module _ {T : Type 0} where
   pub record GivesBack (z : Shape) (number : ℕ) (rows : List (HeldKey T)) (old new : Slots (Option (Share T))) : Type 0 where
     pub back : IsBack z number rows (slots_items new)
     pub kept : (index : ℕ) → IsOff z number rows index → slice_get (slots_items new) index ≡ slice_get (slots_items old) index
+    pub row : IsSlotRow z new
+    pub start : slots_ptr new ≡ slots_ptr old
+
+  -- the shares of the rows of the first places are in the lane's slots, and the others are left
+  pub record GivesTo (z : Shape) (number : ℕ) (rows : List (HeldKey T)) (count : ℕ) (left : List (HeldKey T)) (old new : Slots (Option (Share T))) : Type 0 where
+    pub back : (place : ℕ) → is_place z place ≡ true → position_of z place < count → (row : HeldKey T) (s : Share T) → slice_get rows (slot_start z place) ≡ Some row
+        → 0 < row.count → row.share ≡ Some s → slice_get (slots_items new) (slot_index z place number) ≡ Some (Some s)
+    pub kept : (index : ℕ) → IsOff z number rows index → slice_get (slots_items new) index ≡ slice_get (slots_items old) index
+    pub stay : (place : ℕ) → is_place z place ≡ true → count ≤ position_of z place → slice_get left (slot_start z place) ≡ slice_get rows (slot_start z place)
+    pub wide : length left ≡ length rows
     pub row : IsSlotRow z new
     pub start : slots_ptr new ≡ slots_ptr old
 

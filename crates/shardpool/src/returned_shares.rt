@@ -1,17 +1,19 @@
 //! How the shares under references go back into their slots when a pool is closed.
-ghost use Rattle.std.specs.Prelude.{◌≡◌, ◌<◌, Some, None, length, slice_get, slice_set};
+ghost use Rattle.std.specs.Prelude.{◌≡◌, ◌+◌, ◌*◌, ◌<◌, List, Option, Some, None, length, slice_get, slice_set};
+ghost use Rattle.core.specs.declared.slots.Slots.{Slots as SlotsOf};
 ghost use Rattle.core.specs.Mem.Slots.{slots_len, IsFull};
-ghost use Rattle.keybits.specs.Shapes.{IsShape};
+ghost use Rattle.keybits.specs.Shapes.{IsShape, shard_places};
+ghost use Rattle.slotcell.specs.Share.{Share};
 ghost use Rattle.poolsteps.specs.Layout.{slot_row};
 ghost use Rattle.poolsteps.specs.Joins.{IsSlotRow};
 ghost use Rattle.shardpool.specs.declared.state.HeldKey.{HeldKey as Row};
 ghost use Rattle.shardpool.specs.declared.state.LaneState.{LaneState as Shown};
-ghost use Rattle.shardpool.specs.Remains.{GivesRow, GivesBack, MayHandBack, IsStripped, HandsBack, AreStripped};
+ghost use Rattle.shardpool.specs.Remains.{GivesRow, GivesTo, GivesBack, MayHandBack, IsStripped, HandsBack, AreStripped};
 
 use crate::state::{HeldKey, LaneState};
 use core::slots::Slots;
 use keybits::Shape;
-use poolsteps::{slot_at, slot_start};
+use poolsteps::{shard_start, slot_row};
 use slotcell::Slot;
 use std::mem;
 
@@ -58,10 +60,36 @@ fn give_back<T: Drop>(
     requires row { IsSlotRow shape.now slots.old }
     ensures { GivesBack shape.now number rows.items slots.old slots.new }
 {
-    for position in 0..shape.all_places() {
-        let place = shape.place_at(position);
-        let row = take_row(&mut rows, slot_start(shape, place, position));
-        give_row(slot_at(shape, place, position, number), row, slots);
+    for shard in 0..shape.lanes {
+        give_shard(shape, number, shard, &mut rows, slots);
+    }
+}
+
+/// The shares under a lane's references to the places of a shard go back into the lane's slots.
+fn give_shard<T: Drop>(
+    shape: &Shape,
+    number: u32,
+    shard: u32,
+    rows: &mut Vec<HeldKey<T>>,
+    slots: &mut Slots<Slot<T>>,
+)
+    requires shape { IsShape shape.now }
+    requires lanes { (number < shape.now.lanes) × (shard < shape.now.lanes) }
+    requires wide { length rows.old.items ≡ slot_row shape.now }
+    requires row { IsSlotRow shape.now slots.old }
+    ensures wide { length rows.new.items ≡ slot_row shape.now }
+    ensures row { IsSlotRow shape.now slots.new }
+    ensures gives { (all : List (Row T)) (first : SlotsOf (Option (Share T))) → GivesTo shape.now number all (shard * shard_places shape.now) rows.old.items first slots.old
+        → GivesTo shape.now number all ((shard + 1) * shard_places shape.now) rows.new.items first slots.new }
+{
+    let places = shape.shard_places() as usize;
+    let start = shard_start(shape, shard);
+    let wide = slot_row(shape);
+    for index in 0..places {
+        // (Which place it is, is asked for the proof alone: a division for each would take longer than all else.)
+        let _ = shape.place_at(shard as usize * places + index);
+        let row = take_row(rows, start + index);
+        give_row(number as usize * wide + (start + index), row, slots);
     }
 }
 

@@ -8,16 +8,17 @@ use native.Mathlib.Decide.{ℕ_discrete}
 use Rattle.core.specs.declared.slots.Slots.{Slots}
 use Rattle.core.specs.Mem.Slots.{slots_items, slots_ptr}
 use Rattle.keybits.specs.declared.shape.Shape.{Shape}
-use Rattle.keybits.specs.Shapes.{IsShape, is_place, all_places, position_of}
+use Rattle.keybits.specs.Places.{shard_of}
+use Rattle.keybits.specs.Shapes.{IsShape, is_place, all_places, position_of, index_of}
 use Rattle.keybits.proofs.ShapeLemmas.{position_of-lt, position_of-injective}
 use Rattle.slotcell.specs.Share.{Share}
-use Rattle.poolsteps.specs.Layout.{slot_start, slot_index}
+use Rattle.poolsteps.specs.Layout.{slot_start, slot_index, shard_start}
 use Rattle.poolsteps.proofs.SlotLemmas.{start-injective, slot-apart}
 use Rattle.poolsteps.specs.Joins.{IsSlotRow}
 use Rattle.poolsteps.proofs.Joining.{get-elsewhere}
 use Rattle.shardpool.specs.declared.state.HeldKey.{HeldKey}
 use Rattle.shardpool.specs.declared.state.LaneState.{LaneState}
-use Rattle.shardpool.specs.Remains.{GivesRow, IsBack, IsOff, GivesBack, MayHandBack, IsStripped, AreStripped, HandsBack}
+use Rattle.shardpool.specs.Remains.{GivesRow, GivesTo, IsBack, IsOff, GivesBack, MayHandBack, IsStripped, AreStripped, HandsBack}
 use Rattle.shardpool.proofs.free.Stores.{stands-here}
 
 -- ---- lists
@@ -39,17 +40,7 @@ state-moves all done left rest next whole first = append_assoc done (next ∷ []
 -- ---- the rows of one lane
 
 module _ {T : Type 0} (z : Shape) (number : ℕ) (rows : List (HeldKey T)) where
-  -- the shares of the rows of the first places are in their slots, and the others are left
-  pub record GivesTo (count : ℕ) (left : List (HeldKey T)) (old new : Slots (Option (Share T))) : Type 0 where
-    pub back : (place : ℕ) → is_place z place ≡ true → position_of z place < count → (row : HeldKey T) (s : Share T) → slice_get rows (slot_start z place) ≡ Some row
-        → 0 < row.count → row.share ≡ Some s → slice_get (slots_items new) (slot_index z place number) ≡ Some (Some s)
-    pub kept : (index : ℕ) → IsOff z number rows index → slice_get (slots_items new) index ≡ slice_get (slots_items old) index
-    pub stay : (place : ℕ) → is_place z place ≡ true → count ≤ position_of z place → slice_get left (slot_start z place) ≡ slice_get rows (slot_start z place)
-    pub wide : length left ≡ length rows
-    pub row : IsSlotRow z new
-    pub start : slots_ptr new ≡ slots_ptr old
-
-  pub none-back : (slots : Slots (Option (Share T))) → IsSlotRow z slots → GivesTo 0 rows slots slots
+  pub none-back : (slots : Slots (Option (Share T))) → IsSlotRow z slots → GivesTo z number rows 0 rows slots slots
   none-back slots row = record {
     back = λ place inside low. absurd (omega (arith, low));
     kept = λ index off. refl;
@@ -59,7 +50,7 @@ module _ {T : Type 0} (z : Shape) (number : ℕ) (rows : List (HeldKey T)) where
     start = refl;
   }
 
-  pub all-back : (count : ℕ) (left : List (HeldKey T)) (old new : Slots (Option (Share T))) → count ≡ all_places z → GivesTo count left old new → GivesBack z number rows old new
+  pub all-back : (count : ℕ) (left : List (HeldKey T)) (old new : Slots (Option (Share T))) → count ≡ all_places z → GivesTo z number rows count left old new → GivesBack z number rows old new
   all-back count left old new is h = record {
     back = λ place inside row s. h.back place inside (let low = position_of-lt z place inside in omega (arith, low, is)) row s;
     kept = h.kept;
@@ -70,7 +61,7 @@ module _ {T : Type 0} (z : Shape) (number : ℕ) (rows : List (HeldKey T)) where
   -- one row more
   pub back-more : IsShape z → (count : ℕ) (left then : List (HeldKey T)) (next none : HeldKey T) (a b c : Slots (Option (Share T))) (here i : ℕ) → is_place z here ≡ true
       → position_of z here ≡ count → i ≡ slot_index z here number → slice_get rows (slot_start z here) ≡ Some next → then ≡ slice_set left (slot_start z here) none
-      → GivesTo count left a b → GivesRow i next b c → GivesTo (count + 1) then a c
+      → GivesTo z number rows count left a b → GivesRow i next b c → GivesTo z number rows (count + 1) then a c
   back-more ok count left then next none a b c here i here_inside deep is stands taken h k = record {
     back = λ place inside low r s at some has. dite (ℕ_discrete (position_of z place) count)
         (λ (now : position_of z place ≡ count).
@@ -100,6 +91,10 @@ module _ {T : Type 0} (z : Shape) (number : ℕ) (rows : List (HeldKey T)) where
     row = (k.full, k.count ∙ h.row.1);
     start = k.start ∙ h.start;
   }
+
+-- where a place of a shard stands
+pub stands-from : (z : Shape) (place shard : ℕ) → shard_of place ≡ shard → slot_start z place ≡ shard_start z shard + index_of z place
+stands-from z place shard own = subst (λ (n : ℕ). slot_start z place ≡ shard_start z n + index_of z place) own (omega arith)
 
 -- ---- the states, one after another
 
