@@ -18,14 +18,17 @@ TICKS = os.sysconf("SC_CLK_TCK")
 
 
 def part_of(pid):
-    """Returns the crate and the part that a process works for, or None if it is no process of the checker."""
+    """Returns the crate and the part that a process works for, or None if it is no process of the checker for this repository."""
     with open(f"/proc/{pid}/cmdline", encoding="utf-8") as it:
         words = it.read().split("\0")
     if os.path.basename(words[0]) != "rattle" or "--crate-name" not in words:
         return None
     crate = words[words.index("--crate-name") + 1]
-    if "/rt-edit-" in os.readlink(f"/proc/{pid}/cwd"):
+    folder = os.readlink(f"/proc/{pid}/cwd")
+    if "/rt-edit-" in folder:
         return crate, "edits"
+    if not folder.startswith(os.getcwd() + "/"):
+        return None
     return crate, "tests" if "--test" in words else "proof"
 
 
