@@ -5,12 +5,12 @@ ghost use Rattle.std.specs.Prelude.{◌≡◌, ◌<◌, ◌*◌, ℕ, true, None
 ghost use Rattle.keybits.specs.Shapes.{IsShape, position_of, is_place};
 ghost use Rattle.keybits.specs.Places.{shard_of};
 ghost use Rattle.keybits.specs.declared.step.Word.TheVariants as words;
-ghost use Rattle.slotcell.specs.Share.{Share};
+ghost use Rattle.placecell.specs.Share.{Share};
 ghost use Rattle.poolsteps.specs.Layout.{index_in, look_word, links_start, word_count, words_in, page_row, page_rows, slot_start, slot_row, slot_count, slot_index};
 ghost use Rattle.steplaws.specs.MomentLaws.{AreFirst};
 
 use keybits::{Life, PAGE_NUMBERS, Shape, State, shard_of};
-use slotcell::Slot;
+use placecell::Slot;
 use std::alloc::Global;
 
 /// How many words stand between two that different lanes change by themselves.
@@ -33,7 +33,7 @@ pub(crate) fn word_count(shape: &Shape) -> usize
 }
 
 /// Where a place stands in each row of words or of slots; the place has this position among the places of the pool.
-fn slot_start(shape: &Shape, place: u32, position: usize) -> usize
+pub(crate) fn slot_start(shape: &Shape, place: u32, position: usize) -> usize
     requires shape { IsShape shape.now }
     requires place { is_place shape.now place ≡ true }
     requires position { position ≡ position_of shape.now place }

@@ -16,7 +16,7 @@ mod steps;
 mod view;
 
 pub use closing::{drop_cell, lay};
-pub use grid::{Grid, Hand, Spot};
+pub use grid::{Board, Grid, Hand, Spot};
 pub use laws::{acts_law, references_law, shares_law};
 pub use layout::{PageRow, life_word, link_word, page_rows, slot_at, stack_word};
 pub use plays::{PoolRule, Purpose};
