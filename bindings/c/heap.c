@@ -1,6 +1,9 @@
-/* The heap that libpoolffi.a calls, over the C library's. To be linked with it, once a program.
+/* The heap that libpoolffi.a calls, over the C library's, and the numbers of pools. To be linked with it, once a program.
  *
  * A block is aligned to 16 bytes, and an answer of NULL is handed on as refused. */
+#include "pardz.h"
+
+#include <stdatomic.h>
 #include <stddef.h>
 #include <stdlib.h>
 
@@ -32,4 +35,9 @@ struct tried rattle_realloc(void *at, size_t kept, size_t size, size_t align) {
 
 void rattle_dealloc(void *at) {
     free(at);
+}
+
+uint64_t pardz_next_number(void) {
+    static atomic_uint_fast64_t next;
+    return atomic_fetch_add(&next, 1);
 }

@@ -73,12 +73,21 @@ enum {
     PARDZ_OTHER_POOL = 10,  /* join: the lanes are of different pools */
     PARDZ_LANES = 11,       /* open: count isn't the shape's number of lanes; join, close: not the lane whose turn it is */
     PARDZ_SHAPE = 12,       /* open: the shape is outside its limits */
-    PARDZ_ROOM = 13         /* wrote: more bytes than the last pardz_room gave */
+    PARDZ_ROOM = 13,        /* wrote: more bytes than the last pardz_room gave */
+    PARDZ_SHARED = 14       /* close: all lanes were joined, but some into another pool that was opened under the same number */
 };
+
+/* A number that this process wasn't given before: heap.c has it. */
+uint64_t pardz_next_number(void);
+
+/* pardz_open, with a number that no other pool of the process has: by it a join knows the lanes of its pool. */
+uint32_t pardz_open_numbered(const pardz_shape *shape, pardz_lane *lanes, size_t count, uint64_t number);
 
 /* Opens a pool, and puts its lanes into so many empty slots, by rising number.
  * PARDZ_MEMORY, PARDZ_FULL_LANE, PARDZ_LANES, PARDZ_SHAPE. */
-uint32_t pardz_open(const pardz_shape *shape, pardz_lane *lanes, size_t count);
+static inline uint32_t pardz_open(const pardz_shape *shape, pardz_lane *lanes, size_t count) {
+    return pardz_open_numbered(shape, lanes, count, pardz_next_number());
+}
 
 /* A lane's fillings: at most 16 at once, each named by the key under which it will be published.
  *
@@ -140,7 +149,7 @@ uint32_t pardz_clear(pardz_lane *lane, uint64_t key);
 uint32_t pardz_join(pardz_lane *into, pardz_lane *lane);
 
 /* Closes a pool whose lane 0 has all others: frees its memory, that of all bytes too, and empties the slot. A pool that isn't
- * closed keeps its memory. PARDZ_EMPTY_LANE, PARDZ_LANES. */
+ * closed keeps its memory. PARDZ_EMPTY_LANE, PARDZ_LANES; PARDZ_SHARED, where two pools have one number. */
 uint32_t pardz_close(pardz_lane *lane, pardz_census *census);
 
 /* Joins and closes all lanes of one open, which stand in its order. */

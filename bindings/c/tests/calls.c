@@ -11,7 +11,7 @@ _Static_assert(sizeof(pardz_census) == 24, "as the library has it");
 
 enum call { OPEN, CREATE, APPEND, ROOM, WROTE, PUBLISH, DOWNGRADE, LEAVE, GET, READ, RELEASE, CLEAR, JOIN, CLOSE, CALLS };
 
-#define CODES 14
+#define CODES 15
 #define BIT(code) (1u << PARDZ_##code)
 
 static const char *const NAMES[CALLS] = { "open", "create", "append", "room", "wrote", "publish", "downgrade", "leave", "get", "read",
@@ -32,7 +32,7 @@ static const uint32_t ALL[CALLS] = {
     [RELEASE] = BIT(OK) | BIT(EMPTY_LANE) | BIT(NO_REFERENCE),
     [CLEAR] = BIT(OK) | BIT(EMPTY_LANE) | BIT(GONE),
     [JOIN] = BIT(OK) | BIT(EMPTY_LANE) | BIT(OTHER_POOL) | BIT(LANES),
-    [CLOSE] = BIT(OK) | BIT(EMPTY_LANE) | BIT(LANES),
+    [CLOSE] = BIT(OK) | BIT(EMPTY_LANE) | BIT(LANES) | BIT(SHARED),
 };
 
 static uint32_t seen[CALLS];
@@ -280,6 +280,23 @@ static void ends(void) {
     CHECK(heap_blocks == 0);
 }
 
+/* Two pools under one number, whose lanes are joined crosswise: each lane still goes to its own pool. */
+static void one_number(void) {
+    pardz_lane lanes[2] = { PARDZ_EMPTY, PARDZ_EMPTY }, others[2] = { PARDZ_EMPTY, PARDZ_EMPTY };
+    pardz_census census;
+    EXPECT(OPEN, OK, pardz_open_numbered(&SHAPE, lanes, 2, UINT64_MAX));
+    EXPECT(OPEN, OK, pardz_open_numbered(&SHAPE, others, 2, UINT64_MAX));
+    uint64_t key = put(&lanes[1], "kept");
+    EXPECT(JOIN, OK, pardz_join(&lanes[0], &others[1]));
+    EXPECT(CLOSE, SHARED, pardz_close(&lanes[0], &census));
+    EXPECT(CLEAR, OK, pardz_clear(&lanes[0], key));
+    EXPECT(JOIN, OK, pardz_join(&others[0], &lanes[1]));
+    EXPECT(CLOSE, OK, pardz_close(&lanes[0], &census));
+    CHECK(census.free == 2 && census.unopened == 10);
+    EXPECT(CLOSE, OK, pardz_close(&others[0], &census));
+    CHECK(census.unopened == 12 && heap_blocks == 0);
+}
+
 /* A slot that was moved by a plain copy goes on. */
 static void moved(void) {
     struct {
@@ -310,6 +327,7 @@ int main(void) {
     limits();
     memory();
     ends();
+    one_number();
     moved();
     int pairs = 0;
     for (int call = 0; call < CALLS; call++)

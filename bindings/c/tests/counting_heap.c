@@ -1,4 +1,5 @@
 #include "counting_heap.h"
+#include "../pardz.h"
 
 #include <stddef.h>
 #include <stdlib.h>
@@ -49,4 +50,10 @@ struct tried rattle_realloc(void *at, size_t kept, size_t size, size_t align) {
 void rattle_dealloc(void *at) {
     heap_blocks--;
     free(at);
+}
+
+/* These tests open pools on one thread. */
+uint64_t pardz_next_number(void) {
+    static uint64_t next;
+    return next++;
 }

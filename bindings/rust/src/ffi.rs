@@ -25,7 +25,12 @@ pub(crate) const REFERENCES: u32 = 9;
 pub(crate) const SHAPE: u32 = 12;
 
 extern "C" {
-    pub(crate) fn pardz_open(shape: *const Shape, lanes: *mut Slot, count: usize) -> u32;
+    pub(crate) fn pardz_open_numbered(
+        shape: *const Shape,
+        lanes: *mut Slot,
+        count: usize,
+        number: u64,
+    ) -> u32;
     pub(crate) fn pardz_create(lane: *mut Slot, key: *mut u64) -> u32;
     pub(crate) fn pardz_append(lane: *mut Slot, key: u64, bytes: *const u8, len: usize) -> u32;
     pub(crate) fn pardz_room(lane: *mut Slot, key: u64, count: usize, at: *mut *mut u8) -> u32;

@@ -6,11 +6,17 @@ use crate::key::Key;
 use std::cell::UnsafeCell;
 use std::fmt;
 use std::ptr::NonNull;
-use std::sync::atomic::{AtomicU32, Ordering::SeqCst};
+use std::sync::atomic::{AtomicU32, AtomicU64, Ordering::SeqCst};
 use std::sync::Arc;
 
 /// The most lanes of a pool.
 const MOST_LANES: u32 = 16;
+
+/// A number that no other pool of the process has.
+fn next_number() -> u64 {
+    static NEXT: AtomicU64 = AtomicU64::new(0);
+    NEXT.fetch_add(1, SeqCst)
+}
 
 /// What a pool is opened with. [`Default`] has 4 lanes of 224 places each.
 ///
@@ -106,7 +112,10 @@ impl Pool {
         }
         let mut slots: Vec<Slot> = (0..shape.lanes).map(|_| Slot::EMPTY).collect();
         // SAFETY: so many empty slots, which are ours.
-        match unsafe { ffi::pardz_open(&shape, slots.as_mut_ptr(), slots.len()) } {
+        let opened = unsafe {
+            ffi::pardz_open_numbered(&shape, slots.as_mut_ptr(), slots.len(), next_number())
+        };
+        match opened {
             ffi::OK => {}
             ffi::MEMORY => return Err(OpenError::Memory),
             ffi::SHAPE => return Err(OpenError::Shape),

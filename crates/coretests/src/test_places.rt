@@ -48,49 +48,71 @@ const FILES: &str = "|NotJson File
 {\"shape\":{\"lanes\":1,\"first_page\":2,\"pages\":1,\"last_generation\":4294967295},\"scripts\":[[[\"get\",0,1],[\"get\",0,\"@16\"]]]}|Register Item { lane: 0, line: 1, item: 2 }
 {\"shape\":{\"lanes\":1,\"first_page\":2,\"pages\":1,\"last_generation\":4294967295},\"scripts\":[[[\"get\",0,null]]]}|Number Item { lane: 0, line: 0, item: 2 }";
 
-// Texts of acts, each with its first fault and the place of that.
-const TEXTS: [(&str, &str); 19] = [
-    ("", "ActsLine Line(1)"),
-    ("\n", "ActsLine Line(1)"),
-    ("shape 2 1 1\n", "ActsLine Line(1)"),
-    ("shape 2 1 1 1 0 0\n0 pop\n", "ActsLine Line(1)"),
-    (" shape 2 1 1 4294967295\n", "ActsLine Line(1)"),
-    ("0 home 0\nshape 2 1 1 4294967295\n", "ActsLine Line(1)"),
-    ("shape 17 3 1 1\n0 pop\n", "Shape(Lanes) Line(1)"),
-    ("shape 2 3 7 1\n", "Shape(FirstPage) Line(1)"),
-    ("shape 2 1 7 0\n", "Shape(Pages) Line(1)"),
-    ("shape 2 1 1 0 256\n", "Shape(Generation) Line(1)"),
-    ("shape 2 1 1 1 256\n", "Shape(Tag) Line(1)"),
-    ("shape 2 1 1 4294967295\n\n", "ActsLine Line(2)"),
-    (
-        "shape 2 1 1 4294967295\n0 pop 1\n0 pop 1\n",
-        "ActsLine Line(2)",
-    ),
-    (
-        "shape 2 1 1 4294967295\n0 home 0\n0 home 0\n\n0 home 0\n",
-        "ActsLine Line(4)",
-    ),
-    (
-        "shape 2 1 1 4294967295\n0 clear 1 true\n0 home 0\r\n",
-        "ActsLine Line(3)",
-    ),
-    (
-        "shape 2 1 1 4294967295\n0 clear 1 true\n0 publish 1 6A 0\n0 publish 1 6g 0\n",
-        "ActsLine Line(3)",
-    ),
-    (
-        "shape 2 1 1 4294967295\n0 clear 1 true\n0 home 1\n0 collect 1,",
-        "ActsLine Line(4)",
-    ),
-    (
-        "shape 2 1 1 4294967295\n0 home 1\n1  home 1",
-        "ActsLine Line(3)",
-    ),
-    (
-        "shape 2 1 1 4294967295\n0 home 1\n0 home 1\n0 home 1\n0 home 1\n0 home 1\n0 home 1\n0 home 1\n0 home 1\n0 home 16777216\n",
-        "ActsLine Line(10)",
-    ),
-];
+// First faults of texts of acts with their places, and the texts.
+const TEXTS: &str = "ActsLine Line(1)|~
+ActsLine Line(1)|
+~
+ActsLine Line(1)|shape 2 1 1
+~
+ActsLine Line(1)|shape 2 1 1 1 0 0
+0 pop
+~
+ActsLine Line(1)| shape 2 1 1 4294967295
+~
+ActsLine Line(1)|0 home 0
+shape 2 1 1 4294967295
+~
+Shape(Lanes) Line(1)|shape 17 3 1 1
+0 pop
+~
+Shape(FirstPage) Line(1)|shape 2 3 7 1
+~
+Shape(Pages) Line(1)|shape 2 1 7 0
+~
+Shape(Generation) Line(1)|shape 2 1 1 0 256
+~
+Shape(Tag) Line(1)|shape 2 1 1 1 256
+~
+ActsLine Line(2)|shape 2 1 1 4294967295
+
+~
+ActsLine Line(2)|shape 2 1 1 4294967295
+0 pop 1
+0 pop 1
+~
+ActsLine Line(4)|shape 2 1 1 4294967295
+0 home 0
+0 home 0
+
+0 home 0
+~
+ActsLine Line(3)|shape 2 1 1 4294967295
+0 clear 1 true
+0 home 0\r
+~
+ActsLine Line(3)|shape 2 1 1 4294967295
+0 clear 1 true
+0 publish 1 6A 0
+0 publish 1 6g 0
+~
+ActsLine Line(4)|shape 2 1 1 4294967295
+0 clear 1 true
+0 home 1
+0 collect 1,~
+ActsLine Line(3)|shape 2 1 1 4294967295
+0 home 1
+1  home 1~
+ActsLine Line(10)|shape 2 1 1 4294967295
+0 home 1
+0 home 1
+0 home 1
+0 home 1
+0 home 1
+0 home 1
+0 home 1
+0 home 1
+0 home 16777216
+";
 
 /// A file is refused with this fault at this place.
 fn file_is_refused<R: Abort + AllocGlobal>(rt: &R, file: &str, wanted: &str) {
@@ -116,7 +138,8 @@ fn first_faults_have_places(rt: HostRuntime) {
         let (file, wanted) = row.split_once('|').expect(&rt, "a row");
         file_is_refused(&rt, file, wanted);
     }
-    for (text, wanted) in &TEXTS {
+    for row in TEXTS.split('~') {
+        let (wanted, text) = row.trim_start().split_once('|').expect(&rt, "a row");
         text_is_refused(&rt, text, wanted);
     }
 }

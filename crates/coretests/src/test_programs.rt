@@ -63,6 +63,16 @@ pub(crate) fn around<R: Abort + AllocGlobal>(
     text
 }
 
+/// Some words, with a bar between each two.
+pub(crate) fn words_of<R: Abort + AllocGlobal>(rt: &R, words: &str) -> Vec<String> {
+    let mut list = Vec::new(rt.alloc());
+    for word in words.split('|') {
+        let word = String::from_str(rt.alloc(), word).expect(rt, "memory for a word");
+        list.push(word).expect(rt, "memory for a word");
+    }
+    list
+}
+
 /// The schedule that a text stands for.
 pub(crate) fn schedule_of<R: Abort + AllocGlobal>(rt: &R, text: &str) -> Vec<u32> {
     read_schedule(rt.alloc(), text.as_bytes())

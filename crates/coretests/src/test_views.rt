@@ -1,7 +1,6 @@
-use crate::test_texts::reads;
+use crate::test_texts::{reads, shows};
 use std::alloc::{AllocError, AllocGlobal};
 use std::process::Abort;
-use std::test::Fail;
 use tracelines::{Line, ReadFault, read_trace};
 use traceviews::{Window, picture_text, summary_text, words_text};
 
@@ -93,53 +92,62 @@ fn sums_up(rt: HostRuntime) -> Result<(), AllocError> {
     Ok(())
 }
 
+// Messages, and texts that are no traces.
+const REFUSED: &str = "line 1: a lane's number is wanted|
+~
+line 1: a lane's number is wanted|-1 = ok
+~
+line 1: a lane's number is wanted|01 = ok
+~
+line 2: the name of a step, or an equals sign before a reply, is wanted|0 = ok
+7
+~
+line 2: the name of a step, or an equals sign before a reply, is wanted|0 = ok
+0 enter 0 1 5
+~
+line 1: a place's number is wanted|0 ENTER
+~
+line 1: a place's number is wanted|0 ENTER 0.1 1 5
+~
+line 1: a place's number is wanted|0 LINK 16777216 1 5
+~
+line 1: a stack, as 0.1, is wanted|0 PUSH 3 1 5
+~
+line 1: a step's word before is wanted|0 MARK 0
+~
+line 1: a step's word before is wanted|0 MARK 0 x 5
+~
+line 3: a step's word after is wanted|0 = ok
+1 = ok
+0 MARK 0 5
+~
+line 3: a step's word after is wanted|0 = ok
+1 = ok
+0 MARK 0 5 18446744073709551616
+~
+line 1: a reply is wanted|0 = okay
+~
+line 1: a reply is wanted|0 = some 6G
+~
+line 1: a reply is wanted|0 =
+~
+line 2: a line feed is wanted|0 = ok
+0 = ok";
+
 /// A text is refused with this message.
-fn refuses<R: Abort + AllocGlobal>(rt: &R, text: &str, message: &str) -> Result<(), AllocError> {
-    let answer = match read_trace(rt.alloc(), text.as_bytes()) {
-        Ok(_) => String::from_str(rt.alloc(), "read")?,
-        Err(fault) => format!(in rt.alloc(); "{fault}")?,
-    };
-    assert_eq!(rt; answer.as_str(), message, "{text}");
-    Ok(())
+fn refuses<R: Abort + AllocGlobal>(rt: &R, text: &str, message: &str) {
+    let fault = read_trace(rt.alloc(), text.as_bytes())
+        .err()
+        .expect(rt, "a fault");
+    shows(rt, rt.alloc(), &fault, message);
 }
 
 #[test]
-fn says_what_is_wanted(rt: HostRuntime) -> Result<(), AllocError> {
-    refuses(&rt, "\n", "line 1: a lane's number is wanted")?;
-    refuses(&rt, "-1 = ok\n", "line 1: a lane's number is wanted")?;
-    refuses(&rt, "01 = ok\n", "line 1: a lane's number is wanted")?;
-    let entry = "line 2: the name of a step, or an equals sign before a reply, is wanted";
-    refuses(&rt, "0 = ok\n7\n", entry)?;
-    refuses(&rt, "0 = ok\n0 enter 0 1 5\n", entry)?;
-    refuses(&rt, "0 ENTER\n", "line 1: a place's number is wanted")?;
-    refuses(
-        &rt,
-        "0 ENTER 0.1 1 5\n",
-        "line 1: a place's number is wanted",
-    )?;
-    refuses(
-        &rt,
-        "0 LINK 16777216 1 5\n",
-        "line 1: a place's number is wanted",
-    )?;
-    refuses(&rt, "0 PUSH 3 1 5\n", "line 1: a stack, as 0.1, is wanted")?;
-    refuses(&rt, "0 MARK 0\n", "line 1: a step's word before is wanted")?;
-    refuses(
-        &rt,
-        "0 MARK 0 x 5\n",
-        "line 1: a step's word before is wanted",
-    )?;
-    let after = "line 3: a step's word after is wanted";
-    refuses(&rt, "0 = ok\n1 = ok\n0 MARK 0 5\n", after)?;
-    refuses(
-        &rt,
-        "0 = ok\n1 = ok\n0 MARK 0 5 18446744073709551616\n",
-        after,
-    )?;
-    refuses(&rt, "0 = okay\n", "line 1: a reply is wanted")?;
-    refuses(&rt, "0 = some 6G\n", "line 1: a reply is wanted")?;
-    refuses(&rt, "0 =\n", "line 1: a reply is wanted")?;
-    refuses(&rt, "0 = ok\n0 = ok", "line 2: a line feed is wanted")
+fn says_what_is_wanted(rt: HostRuntime) {
+    for row in REFUSED.split('~') {
+        let (message, text) = row.trim_start().split_once('|').expect(&rt, "a row");
+        refuses(&rt, text, message);
+    }
 }
 
 #[test]
@@ -149,47 +157,34 @@ fn reads_no_lines(rt: HostRuntime) -> Result<(), ReadFault> {
     Ok(())
 }
 
-/// The picture of some turns has these texts, and not that one.
-fn draws<R: Abort + AllocGlobal>(
-    rt: &R,
-    window: Window,
-    there: &[&str],
-    missing: &str,
-) -> Result<(), Fail> {
+/// The picture of these turns has the texts of these lines, and not that one.
+fn draws<R: Abort + AllocGlobal>(rt: &R, first: usize, count: usize, there: &str, missing: &str) {
     let lines = lines_of(rt, TRACE);
-    let out = picture_text(rt.alloc(), lines.as_slice(), &window)?;
-    let text = String::from_utf8(out)?;
-    for words in there {
-        assert!(rt; text.as_str().contains(*words), "{words}");
+    let window = Window { first, count };
+    let out = picture_text(rt.alloc(), lines.as_slice(), &window).expect(rt, "memory");
+    let text = String::from_utf8(out).ok().expect(rt, "a text");
+    for words in there.split('\n') {
+        assert!(rt; text.as_str().contains(words));
     }
-    assert!(rt; !text.as_str().contains(missing), "{missing}");
-    Ok(())
+    assert!(rt; !text.as_str().contains(missing));
 }
 
+// What the picture of all turns has.
+const THERE: &str = "<title>A trace of the pool: turns 0 to 13 of 14, lanes 3</title>
+>CLAIM 0/0/0 <tspan class=\"fail\">failed</tspan></text>
+>IDLE 0 g1 → PRESENT 1 g1</text>
+= key 0/0/0 g1</text>
+class=\"arrow\"";
+
 #[test]
-fn draws_turns(rt: HostRuntime) -> Result<(), Fail> {
-    let all = Window {
-        first: 0,
-        count: usize::MAX,
-    };
-    let there = [
-        "<title>A trace of the pool: turns 0 to 13 of 14, lanes 3</title>",
-        ">CLAIM 0/0/0 <tspan class=\"fail\">failed</tspan></text>",
-        ">IDLE 0 g1 → PRESENT 1 g1</text>",
-        "= key 0/0/0 g1</text>",
-        "class=\"arrow\"",
-    ];
-    draws(&rt, all, &there, "no turns")?;
-    let two = Window { first: 1, count: 2 };
+fn draws_turns(rt: HostRuntime) {
+    draws(&rt, 0, usize::MAX, THERE, "no turns");
     draws(
         &rt,
-        two,
-        &["turns 1 to 2 of 14", ">ENTER 0/0/0</text>"],
+        1,
+        2,
+        "turns 1 to 2 of 14\n>ENTER 0/0/0</text>",
         ">PUBLISH",
-    )?;
-    let none = Window {
-        first: 14,
-        count: 2,
-    };
-    draws(&rt, none, &["no turns of 14"], ">ENTER")
+    );
+    draws(&rt, 14, 2, "no turns of 14", ">ENTER");
 }

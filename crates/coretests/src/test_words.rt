@@ -1,4 +1,4 @@
-use crate::test_programs::{around, schedule_of};
+use crate::test_programs::{around, schedule_of, words_of};
 use crate::test_texts::{same, same_at};
 use commandline::{Task, TaskFault, task};
 use std::alloc::AllocGlobal;
@@ -16,12 +16,7 @@ fn reads_a_thousand_entries(rt: HostRuntime) {
 
 /// The task of some words, with a bar between each two.
 fn task_of<R: Abort + AllocGlobal>(rt: &R, words: &str) -> Result<Task, TaskFault> {
-    let mut list = Vec::new(rt.alloc());
-    for word in words.split('|') {
-        let word = String::from_str(rt.alloc(), word).expect(rt, "memory for a word");
-        list.push(word).expect(rt, "memory for a word");
-    }
-    task(rt.alloc(), list.as_slice())
+    task(rt.alloc(), words_of(rt, words).as_slice())
 }
 
 /// The text of a task.

@@ -6,7 +6,6 @@ pub mod Calling
 pub mod Standing
 pub mod Having
 pub mod Moves
-pub mod CellTakes
 pub mod Spreads
 pub mod Going
 pub mod Following

@@ -12,6 +12,7 @@ use Rattle.poolsteps.specs.declared.view.View.{View}
 use Rattle.poolsteps.specs.Views.{head_record, the_lane, status_of, known_of, IsOne}
 use Rattle.poolsteps.specs.Told.{GoesOn, HasPlace}
 use Rattle.poolsteps.specs.Moved.{moved_record, stored_of, Outs, Backs}
+use Rattle.poolsteps.specs.Batches.{GoesAll}
 use Rattle.poolsteps.specs.ViewLaws.{SharesLaw}
 use Rattle.poolsteps.proofs.Keeping.{goes-two}
 use Rattle.poolsteps.proofs.OwnShares.{may-touch}
@@ -95,6 +96,25 @@ module _ {T : Type 0} {content : T → List ℕ} {room : T → ℕ} {z : Shape} 
 
   pub carries-back : Backs content room z place number status before share after → Carries z place 2 before after
   carries-back backs = moves-carry (back-moves backs)
+
+-- and so are moves of all shares of the place
+pub carries-all : {S : Type 0} {z : Shape} {place looks : ℕ} {status : Status} {c : Stored} {before after : Me S View} → GoesAll z place status c looks before.0 after.0 → before.1 ≡ []
+    → after.1 ≡ [] → Carries z place looks before after
+carries-all all bare held = record {
+  goes = all.goes;
+  elsewhere = record {
+    lane = all.leaves.lane;
+    mine = all.leaves.mine;
+    under = all.leaves.under;
+    pushed = all.leaves.pushed;
+    chain = all.leaves.chain;
+    deeds = all.leaves.deeds;
+    cells = all.leaves.cells;
+  };
+  held = held ∙ sym bare;
+  steps = all.steps;
+  looked = all.looked;
+}
 
 -- moves of a place after moves of it
 pub carries-more : {S : Type 0} {z : Shape} {place n m : ℕ} {a b c : Me S View} → Carries z place n a b → Carries z place m b c → Carries z place (n + m) a c

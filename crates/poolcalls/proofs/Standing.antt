@@ -51,6 +51,7 @@ at-same {place = place} lane pushed is = record {
   spot = is.spot;
   lane = is.lane ∙ sym lane;
   below = is.below;
+  shard = is.shard;
   top = is.top ∙ ap (λ (pushes : List (ℕ × ℕ)). pushed_in pushes (shard_of place)) (sym pushed);
 }
 
@@ -65,6 +66,7 @@ pub record HasLeft {S : Type 0} (z : Shape) (key found : ℕ) (a b : Me S View) 
   pub made : List Act
   pub acted : Acted z made a.0 b.0
   pub pushed : (the_lane b.0).pushed ≡ (the_lane a.0).pushed
+  pub held : b.1 ≡ a.1
   pub owes : (the_lane b.0).under ≡ owed_after (place_of key) found
 
 life-left : {S : Type 0} {z : Shape} {key found left : ℕ} {act : Option Act} {a b : Me S View}
@@ -73,6 +75,7 @@ life-left {key = key} {found = found} {act = act} {a = a} steps = record {
   made = acts_in act;
   acted = (did-step steps (life-next (the_lane a.0) (place_of key) act (owed_after (place_of key) found))).acted;
   pushed = ap (λ (lanes : List LaneRecord). (head_record lanes).pushed) steps.goes.lanes;
+  held = steps.held;
   owes = life-under steps;
 }
 
@@ -99,6 +102,7 @@ pub record HasClaimed {S : Type 0} (z : Shape) (place generation : ℕ) (a b : M
   pub made : List Act
   pub acted : Acted z made a.0 b.0
   pub pushed : (the_lane b.0).pushed ≡ (the_lane a.0).pushed
+  pub held : b.1 ≡ a.1
   pub under : (the_lane b.0).under ≡ claimed_under z (the_lane a.0).lane place generation
   pub place_has : HasPlace z b.0 place × LeftAlone z (the_lane b.0) place
   pub room : (known_of (the_lane b.0) place).room ≡ room_of b.0.seen b.0.rooms place
@@ -115,6 +119,7 @@ has-claimed {z = z} {place = place} {generation = generation} {a = a} {b = b} cl
       made = acts_in act;
       acted = (did-step steps (cell-next r place act (claimed_under z r.lane place generation) told.0)).acted;
       pushed = ap (λ (x : LaneRecord). x.pushed) now;
+      held = steps.held;
       under = ap (λ (x : LaneRecord). x.under) now;
       place_has = (told.1, λ number below. ap (λ (x : LaneRecord). status_of x place number) now ∙ told.3 number below);
       room = ap (λ (x : LaneRecord). (known_of x place).room) now
@@ -170,9 +175,9 @@ pub to-return : {S : Type 0} {place : ℕ} {linked : Option ℕ} {failed : Bool}
 to-return {place = place} {linked = linked} is = is.under ∙ ap (λ (fails : Bool). Returns place linked fails) (sym (ap failed_under is.under))
 
 -- the first PUSH expects the word that was last pushed, and the second 0
-pub aims-first : {S : Type 0} {z : Shape} {place : ℕ} {linked : Option ℕ} {at : At} {a b : Me S View} → IsAt z a.0 place at → IsReturning place linked false a b
-    → AimsAt (the_lane b.0) place at.top
-aims-first {place = place} at is = inl (ap failed_under is.under, at.top ∙ ap (λ (pushes : List (ℕ × ℕ)). pushed_in pushes (shard_of place)) (sym is.pushed))
+pub aims-first : {S : Type 0} {place top : ℕ} {linked : Option ℕ} {a b : Me S View} → top ≡ pushed_in (the_lane a.0).pushed (shard_of place) → IsReturning place linked false a b
+    → AimsAt (the_lane b.0) place top
+aims-first {place = place} at is = inl (ap failed_under is.under, at ∙ ap (λ (pushes : List (ℕ × ℕ)). pushed_in pushes (shard_of place)) (sym is.pushed))
 
 pub aims-again : {S : Type 0} {place : ℕ} {linked : Option ℕ} {a b : Me S View} → IsReturning place linked true a b → AimsAt (the_lane b.0) place 0
 aims-again is = inr (ap failed_under is.under, refl)

@@ -1,5 +1,5 @@
 -- Where a call acts, and for which lane.
-use Rattle.std.specs.Prelude.{◌≡◌, ◌<◌, ℕ}
+use Rattle.std.specs.Prelude.{◌≡◌, ◌<◌, ℕ, length, slice_index}
 use Rattle.keybits.specs.declared.shape.Shape.{Shape}
 use Rattle.keybits.specs.Places.{shard_of}
 use Rattle.poolsteps.specs.declared.view.View.{View}
@@ -7,9 +7,10 @@ use Rattle.poolsteps.specs.Views.{the_lane, pushed_in}
 use Rattle.poolsteps.specs.Grids.{IsSpot}
 use Rattle.poolcalls.specs.declared.at_place.At.{At}
 
--- the spot is that of the place, the lane is the seat's and one of the shape's, and the top is the word that it last pushed to the place's shard
+-- the spot is that of the place, the lane is the seat's and one of the shape's, and the tops have the word that it last pushed to the place's shard
 pub record IsAt (z : Shape) (view : View) (place : ℕ) (at : At) : Type 0 where
   pub spot : IsSpot z at.spot place
   pub lane : at.lane ≡ (the_lane view).lane
   pub below : at.lane < z.lanes
-  pub top : at.top ≡ pushed_in (the_lane view).pushed (shard_of place)
+  pub shard : shard_of place < length at.tops.now
+  pub top : slice_index at.tops.now (shard_of place) ≡ pushed_in (the_lane view).pushed (shard_of place)

@@ -28,6 +28,7 @@ pub fn get<T: Clear + Drop>(
     key: u64,
 ) -> Got<T>
     requires hand { IsOf grid.now hand.old × IsOne hand.old.me.0 }
+    requires bare { hand.old.me.1 ≡ [] }
     requires at { IsAt grid.now.shape hand.old.me.0 (place_of key) at }
     requires key { is_key grid.now.shape key ≡ true }
     requires idle { IsIdle hand.old.me.0 }
@@ -54,14 +55,15 @@ pub fn release<T: Clear + Drop>(
     key: u64,
 ) -> Option<Reclaimed<T>>
     requires hand { IsOf grid.now hand.old × IsOne hand.old.me.0 }
+    requires bare { hand.old.me.1 ≡ [] }
     requires at { IsAt grid.now.shape hand.old.me.0 (place_of key) at }
     requires idle { IsIdle hand.old.me.0 }
     requires held { 0 < references_seen grid.now.shape hand.old.me.0 key }
     requires share { status_of (the_lane hand.old.me.0) (place_of key) at.lane ≢ Untouched → 1 < references_seen grid.now.shape hand.old.me.0 key }
     ensures hand { SameSeat hand.old hand.new }
     ensures called { Called grid.now.shape (Releasing key) 34 hand.old.me hand.new.me }
-    ensures acts { EndsWithActs grid.now.shape (place_of key) (acts.Release at.lane key ∷ []) hand.old.me.0 hand.new.me.0 result }
-    ensures reclaimed { IfSome result (IsReclaimed T.content T.room grid.now.shape (place_of key) at.lane hand.new.me.0) }
+    ensures acts { EndsWithActs grid.now.shape (place_of key) (acts.Release at.entry.lane key ∷ []) hand.old.me.0 hand.new.me.0 result }
+    ensures reclaimed { IfSome result (IsReclaimed T.content T.room grid.now.shape (place_of key) at.entry.lane hand.new.me.0) }
 {
     let left = grid.leave(hand, at.spot, key);
     finish_leave(alloc, grid, hand, at, left)
@@ -77,13 +79,14 @@ pub fn clear<T: Clear + Drop>(
     key: u64,
 ) -> (bool, Option<Reclaimed<T>>)
     requires hand { IsOf grid.now hand.old × IsOne hand.old.me.0 }
+    requires bare { hand.old.me.1 ≡ [] }
     requires at { IsAt grid.now.shape hand.old.me.0 (place_of key) at }
     requires key { is_key grid.now.shape key ≡ true }
     requires idle { IsIdle hand.old.me.0 }
     ensures hand { SameSeat hand.old hand.new }
     ensures called { Called grid.now.shape (Clearing key) 34 hand.old.me hand.new.me }
-    ensures acts { EndsWithActs grid.now.shape (place_of key) (acts.Clear at.lane key result.0 ∷ []) hand.old.me.0 hand.new.me.0 result.1 }
-    ensures reclaimed { IfSome result.1 (IsReclaimed T.content T.room grid.now.shape (place_of key) at.lane hand.new.me.0) }
+    ensures acts { EndsWithActs grid.now.shape (place_of key) (acts.Clear at.entry.lane key result.0 ∷ []) hand.old.me.0 hand.new.me.0 result.1 }
+    ensures reclaimed { IfSome result.1 (IsReclaimed T.content T.room grid.now.shape (place_of key) at.entry.lane hand.new.me.0) }
 {
     let found = grid.enter(hand, at.spot, key, Purpose::ToClear);
     let marked = is_hit(key, found) && is_present(grid.mark(hand, at.spot, key));

@@ -1,5 +1,5 @@
 //! The moves of whole cells. Each is made by a lane that has all shares of the place, and makes moves of that place alone.
-ghost use Rattle.std.specs.Prelude.{◌≡◌, ◌≢◌, ◌<◌, ◌≤◌, ◌*◌, ◌-◌, ℕ, true};
+ghost use Rattle.std.specs.Prelude.{◌≡◌, ◌≢◌, ◌<◌, ◌≤◌, ◌*◌, ◌-◌, ℕ, true, []};
 ghost use Rattle.keybits.specs.declared.shape.Shape.{Shape};
 ghost use Rattle.sharelaws.specs.declared.stored.Status.TheVariants.{Untouched, Emptied};
 ghost use Rattle.poolsteps.specs.Views.{the_lane, known_of, status_of, IsOne};
@@ -14,7 +14,7 @@ use slotcell::{Clear, Rest, Share, Whole};
 use std::alloc::Global;
 
 /// Takes all shares of a place out of its slots, in which the lane left them alone: they are the whole cell that the lane
-/// knows. It takes two looks for each lane of the pool, and no memory.
+/// knows. It takes two looks, and no memory.
 pub fn take_cell<T: Clear + Drop>(
     alloc: Global,
     grid: &Grid<T>,
@@ -23,25 +23,19 @@ pub fn take_cell<T: Clear + Drop>(
     lane: u32,
 ) -> Whole<T>
     requires hand { IsOf grid.now hand.old × IsOne hand.old.me.0 }
+    requires bare { hand.old.me.1 ≡ [] }
     requires spot { IsSpot grid.now.shape spot spot.place }
     requires lane { lane < grid.now.shape.lanes }
     requires place { HasPlace grid.now.shape hand.old.me.0 spot.place }
     requires slots { LeftAlone grid.now.shape (the_lane hand.old.me.0) spot.place }
     ensures hand { SameSeat hand.old hand.new × IsOne hand.new.me.0 }
     ensures place { HasPlace grid.now.shape hand.new.me.0 spot.place }
-    ensures carries { Carries grid.now.shape spot.place (2 * grid.now.shape.lanes) hand.old.me hand.new.me }
+    ensures carries { Carries grid.now.shape spot.place 2 hand.old.me hand.new.me }
     ensures slots { AreEmptied grid.now.shape (the_lane hand.new.me.0) spot.place }
     ensures cell { ShowsCell T.content T.room (known_of (the_lane hand.old.me.0) spot.place) result }
 {
     shares_law();
-    let last = grid.shape.lanes - 1;
-    let mut rest = Rest::of_last(grid.out(hand, spot, lane, last));
-    let mut number = last;
-    while number > 0 {
-        number -= 1;
-        rest.merge(grid.out(hand, spot, lane, number));
-    }
-    rest.into_whole(alloc)
+    grid.out_all(hand, spot, lane).into_whole(alloc)
 }
 
 /// Takes the only share of a place at rest out of its slot: it is the whole cell that the lane knows. It takes two looks, and
@@ -68,8 +62,8 @@ pub fn take_resting<T: Clear + Drop>(
     Rest::of_last(grid.out_whole(hand, spot, lane)).into_whole(alloc)
 }
 
-/// Puts a whole cell into the slots of a place, which the lane has emptied: a share into each. It takes two looks for each
-/// lane of the pool, and no memory.
+/// Puts a whole cell into the slots of a place, which the lane has emptied: a share into each. It takes two looks, and no
+/// memory.
 pub fn spread_cell<T: Clear + Drop>(
     grid: &Grid<T>,
     hand: &mut Hand<T>,
@@ -78,21 +72,19 @@ pub fn spread_cell<T: Clear + Drop>(
     whole: Whole<T>,
 )
     requires hand { IsOf grid.now hand.old × IsOne hand.old.me.0 }
+    requires bare { hand.old.me.1 ≡ [] }
     requires spot { IsSpot grid.now.shape spot spot.place }
     requires lane { lane < grid.now.shape.lanes }
     requires place { HasPlace grid.now.shape hand.old.me.0 spot.place }
     requires slots { AreEmptied grid.now.shape (the_lane hand.old.me.0) spot.place }
     ensures hand { SameSeat hand.old hand.new × IsOne hand.new.me.0 }
     ensures place { HasPlace grid.now.shape hand.new.me.0 spot.place }
-    ensures carries { Carries grid.now.shape spot.place (2 * grid.now.shape.lanes) hand.old.me hand.new.me }
+    ensures carries { Carries grid.now.shape spot.place 2 hand.old.me hand.new.me }
     ensures slots { LeftAlone grid.now.shape (the_lane hand.new.me.0) spot.place }
     ensures cell { ShowsCell T.content T.room (known_of (the_lane hand.new.me.0) spot.place) whole }
 {
     shares_law();
-    let last = grid.shape.lanes - 1;
-    let mut rest = whole.lend(grid.shape.lanes as usize);
-    put_shares(grid, hand, spot, lane, &mut rest, 0, last);
-    grid.back(hand, spot, lane, last, rest.into_share());
+    grid.back_all(hand, spot, lane, whole.lend(grid.shape.lanes as usize));
 }
 
 /// Puts the shares of a rest from its lowest number up to another into the slots of their place, which the lane has emptied.

@@ -30,13 +30,14 @@ pub(crate) fn finish_leave<T: Clear + Drop>(
     found: u64,
 ) -> Option<Reclaimed<T>>
     requires hand { IsOf grid.now hand.old × IsOne hand.old.me.0 }
+    requires bare { hand.old.me.1 ≡ [] }
     requires at { IsAt grid.now.shape hand.old.me.0 at.spot.place at }
     requires seen { IsLawful grid.now.shape hand.old.me.0 }
     requires owes { (the_lane hand.old.me.0).under ≡ owed_after at.spot.place found }
     ensures hand { SameSeat hand.old hand.new }
-    ensures ends { Ends grid.now.shape at.spot.place found hand.old.me hand.new.me }
-    ensures acts { EndsWithActs grid.now.shape at.spot.place [] hand.old.me.0 hand.new.me.0 result }
-    ensures reclaimed { IfSome result (IsReclaimed T.content T.room grid.now.shape at.spot.place at.lane hand.new.me.0) }
+    ensures ends { Ends grid.now.shape at.entry.spot.place found hand.old.me hand.new.me }
+    ensures acts { EndsWithActs grid.now.shape at.entry.spot.place [] hand.old.me.0 hand.new.me.0 result }
+    ensures reclaimed { IfSome result (IsReclaimed T.content T.room grid.now.shape at.entry.spot.place at.entry.lane hand.new.me.0) }
 {
     let generation = owed_by(found)?;
     let word = grid.claim(hand, at.spot, generation);
@@ -68,14 +69,15 @@ fn reclaim_place<T: Clear + Drop>(
     generation: u32,
 ) -> Reclaimed<T>
     requires hand { IsOf grid.now hand.old × IsOne hand.old.me.0 }
+    requires bare { hand.old.me.1 ≡ [] }
     requires at { IsAt grid.now.shape hand.old.me.0 at.spot.place at }
     requires under { (the_lane hand.old.me.0).under ≡ claimed_under grid.now.shape at.lane at.spot.place generation }
     requires place { HasPlace grid.now.shape hand.old.me.0 at.spot.place × LeftAlone grid.now.shape (the_lane hand.old.me.0) at.spot.place }
     requires room { (known_of (the_lane hand.old.me.0) at.spot.place).room ≡ room_of hand.old.me.0.seen hand.old.me.0.rooms at.spot.place }
     ensures hand { SameSeat hand.old hand.new }
-    ensures tails { Tails grid.now.shape at.spot.place generation hand.old.me hand.new.me }
-    ensures acts { TailActs grid.now.shape at.spot.place generation hand.old.me.0 hand.new.me.0 result }
-    ensures reclaimed { IsReclaimed T.content T.room grid.now.shape at.spot.place at.lane hand.new.me.0 result }
+    ensures tails { Tails grid.now.shape at.entry.spot.place generation hand.old.me hand.new.me }
+    ensures acts { TailActs grid.now.shape at.entry.spot.place generation hand.old.me.0 hand.new.me.0 result }
+    ensures reclaimed { IsReclaimed T.content T.room grid.now.shape at.entry.spot.place at.entry.lane hand.new.me.0 result }
 {
     shares_law();
     let mut whole = take_cell(alloc, grid, hand, at.spot, at.lane);

@@ -1,5 +1,5 @@
 //! The calls that publish what was filled in.
-ghost use Rattle.std.specs.Prelude.{◌≡◌, ◌<◌, true, false};
+ghost use Rattle.std.specs.Prelude.{◌≡◌, ◌<◌, true, false, []};
 ghost use Rattle.keybits.specs.Keys.{place_of};
 ghost use Rattle.seqpool.specs.declared.act.Act.TheVariants as acts;
 ghost use Rattle.sharelaws.specs.declared.stored.Status.TheVariants.{Emptied};
@@ -27,6 +27,7 @@ pub fn publish<T: Clear + Drop>(
     whole: Whole<T>,
 )
     requires hand { IsOf grid.now hand.old × IsOne hand.old.me.0 }
+    requires bare { hand.old.me.1 ≡ [] }
     requires spot { IsSpot grid.now.shape spot (place_of key) }
     requires lane { (lane ≡ (the_lane hand.old.me.0).lane) × (lane < grid.now.shape.lanes) }
     requires may { MayPublish grid.now.shape hand.old.me.0 key }

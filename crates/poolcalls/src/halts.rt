@@ -34,6 +34,7 @@ pub fn get_within<T: Clear + Drop>(
     limit: u32,
 )
     requires hand { IsOf grid.now hand.old × IsOne hand.old.me.0 }
+    requires bare { hand.old.me.1 ≡ [] }
     requires at { IsAt grid.now.shape hand.old.me.0 (place_of key) at }
     requires key { is_key grid.now.shape key ≡ true }
     requires idle { IsIdle hand.old.me.0 }
@@ -62,6 +63,7 @@ pub fn release_within<T: Clear + Drop>(
     limit: u32,
 )
     requires hand { IsOf grid.now hand.old × IsOne hand.old.me.0 }
+    requires bare { hand.old.me.1 ≡ [] }
     requires at { IsAt grid.now.shape hand.old.me.0 (place_of key) at }
     requires idle { IsIdle hand.old.me.0 }
     requires seen { IsLawful grid.now.shape hand.old.me.0 }
@@ -83,6 +85,7 @@ pub fn clear_within<T: Clear + Drop>(
     limit: u32,
 )
     requires hand { IsOf grid.now hand.old × IsOne hand.old.me.0 }
+    requires bare { hand.old.me.1 ≡ [] }
     requires at { IsAt grid.now.shape hand.old.me.0 (place_of key) at }
     requires key { is_key grid.now.shape key ≡ true }
     requires idle { IsIdle hand.old.me.0 }
@@ -157,6 +160,7 @@ fn leave_within<T: Clear + Drop>(
     limit: u32,
 )
     requires hand { IsOf grid.now hand.old × IsOne hand.old.me.0 }
+    requires bare { hand.old.me.1 ≡ [] }
     requires at { IsAt grid.now.shape hand.old.me.0 (place_of key) at }
     requires may { 0 < limit → MayLeave grid.now.shape hand.old.me.0 key }
     ensures hand { SameSeat hand.old hand.new }
@@ -179,11 +183,12 @@ fn finish_leave_within<T: Clear + Drop>(
     limit: u32,
 )
     requires hand { IsOf grid.now hand.old × IsOne hand.old.me.0 }
+    requires bare { hand.old.me.1 ≡ [] }
     requires at { IsAt grid.now.shape hand.old.me.0 at.spot.place at }
     requires seen { IsLawful grid.now.shape hand.old.me.0 }
     requires owes { (the_lane hand.old.me.0).under ≡ owed_after at.spot.place found }
     ensures hand { SameSeat hand.old hand.new }
-    ensures ends { EndsWithin grid.now.shape at.spot.place found limit hand.old.me hand.new.me }
+    ensures ends { EndsWithin grid.now.shape at.entry.spot.place found limit hand.old.me hand.new.me }
 {
     if limit == 0 {
         return;
@@ -210,6 +215,7 @@ fn reclaim_place_within<T: Clear + Drop>(
     limit: u32,
 )
     requires hand { IsOf grid.now hand.old × IsOne hand.old.me.0 }
+    requires bare { hand.old.me.1 ≡ [] }
     requires at { IsAt grid.now.shape hand.old.me.0 at.spot.place at }
     requires seen { IsLawful grid.now.shape hand.old.me.0 }
     requires under { (the_lane hand.old.me.0).under ≡ claimed_under grid.now.shape at.lane at.spot.place generation }
@@ -217,7 +223,7 @@ fn reclaim_place_within<T: Clear + Drop>(
     requires room { (known_of (the_lane hand.old.me.0) at.spot.place).room ≡ room_of hand.old.me.0.seen hand.old.me.0.rooms at.spot.place }
     requires some { 0 < limit }
     ensures hand { SameSeat hand.old hand.new }
-    ensures tails { TailsWithin grid.now.shape at.spot.place generation limit hand.old.me hand.new.me }
+    ensures tails { TailsWithin grid.now.shape at.entry.spot.place generation limit hand.old.me hand.new.me }
 {
     if generation == grid.shape.last_generation || shard_of(at.spot.place) == at.lane {
         return;
@@ -238,15 +244,16 @@ fn give_home_within<T: Clear>(grid: &Grid<T>, hand: &mut Hand<T>, at: At, limit:
     requires rests { IsAtRest grid.now.shape hand.old.me.0 at.spot.place }
     requires some { 0 < limit }
     ensures hand { SameSeat hand.old hand.new }
-    ensures gives { GivesWithin grid.now.shape at.spot.place limit hand.old.me hand.new.me }
+    ensures gives { GivesWithin grid.now.shape at.entry.spot.place limit hand.old.me hand.new.me }
 {
     shares_law();
-    grid.link(hand, at.spot, at.top);
+    let top = at.top();
+    grid.link(hand, at.spot, top);
     if limit == 1 {
         return;
     }
-    let found = grid.push(hand, at.spot, at.lane, at.top);
-    if found == at.top || limit == 2 {
+    let found = grid.push(hand, at.spot, at.lane, top);
+    if found == top || limit == 2 {
         return;
     }
     grid.link(hand, at.spot, 0);

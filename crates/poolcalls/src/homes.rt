@@ -21,12 +21,13 @@ pub(crate) fn give_home<T: Clear>(grid: &Grid<T>, hand: &mut Hand<T>, at: At)
     requires place { HasPlace grid.now.shape hand.old.me.0 at.spot.place }
     requires rests { IsAtRest grid.now.shape hand.old.me.0 at.spot.place }
     ensures hand { SameSeat hand.old hand.new }
-    ensures acts { MadeHome at.spot.place hand.old.me.0 hand.new.me.0 }
-    ensures gives { GivesHome grid.now.shape at.spot.place hand.old.me hand.new.me }
+    ensures acts { MadeHome at.entry.spot.place hand.old.me.0 hand.new.me.0 }
+    ensures gives { GivesHome grid.now.shape at.entry.spot.place hand.old.me hand.new.me }
 {
     shares_law();
-    grid.link(hand, at.spot, at.top);
-    if grid.push(hand, at.spot, at.lane, at.top) != at.top {
+    let top = at.top();
+    grid.link(hand, at.spot, top);
+    if grid.push(hand, at.spot, at.lane, top) != top {
         grid.link(hand, at.spot, 0);
         grid.push(hand, at.spot, at.lane, 0);
     }

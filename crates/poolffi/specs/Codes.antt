@@ -1,7 +1,7 @@
 -- The codes of the exports.
 use Rattle.std.specs.Prelude.{ℕ, Result, Ok, Err}
 use Rattle.poolhandle.specs.declared.refusal.Refusal.{Refusal}
-use Rattle.poolhandle.specs.declared.refusal.Refusal.TheVariants.{Memory, Full, Fillings, NoFilling, NoReference, Gone, References, OtherPool, Lanes, Room}
+use Rattle.poolhandle.specs.declared.refusal.Refusal.TheVariants.{Memory, Full, Fillings, NoFilling, NoReference, Gone, References, OtherPool, Lanes, Room, Shared}
 
 -- the code of a refusal; 2 is for a slot without a lane, 3 for one with a lane where none is to be, and 12 for a shape outside its limits
 abbrev pub code_of : Refusal → ℕ
@@ -15,6 +15,7 @@ code_of References = 9
 code_of OtherPool = 10
 code_of Lanes = 11
 code_of Room = 13
+code_of Shared = 14
 
 -- the code of an answer
 abbrev pub answer_code : {A : Type 0} → Result A Refusal → ℕ

@@ -1,10 +1,14 @@
 -- What an export did with a slot.
-use Rattle.std.specs.Prelude.{◌≡◌, ◌≢◌, ◌⊎◌, ℕ, List, [], ◌∷◌, length, Contains, Result, Ok, Err, IfOk}
+use Rattle.std.specs.Prelude.{◌≡◌, ◌≢◌, ◌⊎◌, ℕ, List, [], ◌∷◌, length, All, Contains, slice_get, Option, Some, None, Result, Ok, Err, IfOk, Box}
+use Rattle.std.specs.declared.alloc.Global.{Global}
+use Rattle.poolhandle.specs.declared.shared.Shared.{Shared}
+use Rattle.poolhandle.specs.declared.slot.Slot.{Slot}
+use Rattle.poolhandle.specs.Opened.{IsOf, IsFirstHandle}
 use Rattle.poolhandle.specs.declared.refusal.Refusal.{Refusal}
 use Rattle.poolhandle.specs.declared.handle.Handle.{Handle}
 use Rattle.poolhandle.specs.declared.refusal.Refusal.TheVariants.{NoReference}
 use Rattle.shardpool.specs.Lanes.{holds}
-use Rattle.poolhandle.specs.Calls.{lane_of, pool_of, Creates, Got, NotGot, AreLent, Joins, JoinsNot}
+use Rattle.poolhandle.specs.Calls.{lane_of, pool_of, Creates, Got, NotGot, AreLent, Joins, JoinsNot, ClosesNot}
 use Rattle.shardpool.specs.Tokens.{LaneOf}
 use Rattle.shardpool.specs.declared.census.Census.{Census}
 use Rattle.shardpool.specs.Closings.{Closes}
@@ -28,6 +32,10 @@ pub record AreCounts (counts : Census) (census : PoolCensus) : Type 0 where
 -- the slot has no lane
 abbrev pub HasNoLane : List Handle → Type 0
 HasNoLane items = (handle : Handle) → items ≡ handle ∷ [] → ⊥
+
+-- it has one
+abbrev pub HasLane : List Handle → Type 0
+HasLane items = (handle : Handle) × (items ≡ handle ∷ [])
 
 -- a slot without a lane answers 2 and stays as it was; else its lane made the call, whose answer the code tells
 abbrev pub Calls : {A : Type 0} → (Handle → Handle → Result A Refusal → Type 0) → List Handle → List Handle → ℕ → Type 0
@@ -55,21 +63,44 @@ JoinsSlots into other into_now other_now code = ((HasNoLane into ⊎ HasNoLane o
     × (((code ≡ 0) × Joins before given after × (other_now ≡ []))
     ⊎ ((refusal : Refusal) × (code ≡ code_of refusal) × JoinsNot before given refusal × (after ≡ before) × (other_now ≡ other))))
 
--- a close: where the slot has no lane, 2, and it stays; else the pool is closed with lanes of which this is one, and these are its counts; or, for lanes that are missing, 11, and it stays, or its lane is dropped
+-- the slot has the handle again, or is empty
+abbrev pub items_of : Option Handle → List Handle
+items_of None = []
+items_of (Some handle) = handle ∷ []
+
+-- a close: where the slot has no lane, 2, and it stays; else the pool is closed with lanes of which this is one, and these are its counts; or it isn't, and the code tells why
 abbrev pub ClosesSlot : List Handle → List Handle → PoolCensus → ℕ → Type 0
 ClosesSlot old new census code = (HasNoLane old × (code ≡ 2) × (new ≡ old))
     ⊎ ((handle : Handle) × (old ≡ handle ∷ [])
     × (((code ≡ 0) × (new ≡ []) × ((lanes : List LaneOf) × Contains lanes (lane_of handle) × ((counts : Census) × Closes (pool_of handle) lanes counts × AreCounts counts census)))
-    ⊎ ((code ≡ 11) × ((new ≡ old) ⊎ (new ≡ [])))))
+    ⊎ ((refusal : Refusal) × (back : Option Handle) × (code ≡ code_of refusal) × (new ≡ items_of back) × ClosesNot handle back refusal)))
 
 -- the shape that a foreign one is
 abbrev pub shape_of : PoolShape → Shape
 shape_of shape = record { lanes = shape.lanes; first_page = shape.first_page; pages = shape.pages; last_generation = shape.last_generation; tag = shape.tag }
 
--- an open of a shape into so many slots: 0 for a shape without a fault and as many slots as it has lanes; 11 for another number of slots; 3 where one has a lane; 12 for a shape with a fault; and 1, for want of memory, for one within its limits
-abbrev pub Opens : Shape → ℕ → ℕ → Type 0
-Opens shape slots code = ((code ≡ 0) × (slots ≡ shape.lanes) × ((fault : ShapeFault) → IsFirstFault shape fault → ⊥))
-    ⊎ (((code ≡ 11) × (slots ≢ shape.lanes))
-    ⊎ (((code ≡ 3) × (slots ≡ shape.lanes))
-    ⊎ (((code ≡ 12) × (slots ≡ shape.lanes) × ((fault : ShapeFault) × IsFirstFault shape fault))
-    ⊎ ((code ≡ 1) × (slots ≡ shape.lanes) × IsShape shape))))
+-- some slot has a lane; none has one
+abbrev pub AnyHasLane : List Slot → Type 0
+AnyHasLane slots = (slot : Slot) × Contains slots slot × HasLane slot.items
+
+abbrev pub NoneHasLane : List Slot → Type 0
+NoneHasLane slots = All (λ slot. HasNoLane slot.items) slots
+
+-- each slot has the handle of its index
+abbrev pub AreLowered : List (Box Handle Global) → List Slot → Type 0
+AreLowered handles slots = (index : ℕ) (slot : Slot) → slice_get slots index ≡ Some slot → (handle : Box Handle Global) × (slice_get handles index ≡ Some handle) × (slot.items ≡ handle.value ∷ [])
+
+-- by rising number the slots have the lanes of one pool, of this shape and opened under this number
+abbrev pub HaveOpened : Shape → ℕ → List Slot → Type 0
+HaveOpened shape number slots = (shared : Shared) × IsOf shape number shared
+    × ((index : ℕ) (slot : Slot) → slice_get slots index ≡ Some slot → (handle : Handle) × (slot.items ≡ handle ∷ []) × IsFirstHandle shared index handle)
+
+-- an open of a shape into slots: 11 for another number of slots than it has lanes; 3 where one has a lane; 12 for a shape with a fault; 1, for want of memory, for one within its limits; and 0 for a shape without a fault, whose lanes the slots then have. At other codes they are as before
+abbrev pub Opens : Shape → ℕ → List Slot → List Slot → ℕ → Type 0
+Opens shape number old new code = ((code ≡ 11) × (length old ≢ shape.lanes) × (new ≡ old))
+    ⊎ ((length old ≡ shape.lanes)
+    × (((code ≡ 3) × AnyHasLane old × (new ≡ old))
+    ⊎ (NoneHasLane old
+    × (((code ≡ 12) × ((fault : ShapeFault) × IsFirstFault shape fault) × (new ≡ old))
+    ⊎ (((code ≡ 1) × IsShape shape × (new ≡ old))
+    ⊎ ((code ≡ 0) × ((fault : ShapeFault) → IsFirstFault shape fault → ⊥) × (length new ≡ length old) × HaveOpened shape number new))))))

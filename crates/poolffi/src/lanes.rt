@@ -1,44 +1,70 @@
 // A pool's lanes, into their slots.
-ghost use Rattle.std.specs.Prelude.{◌≡◌, length};
-ghost use Rattle.poolffi.specs.Exports.{Opens};
+ghost use Rattle.std.specs.Prelude.{◌≡◌, length, IsTrue, IsFalse};
+ghost use Rattle.poolffi.specs.Exports.{Opens, HasLane, HasNoLane, AnyHasLane, NoneHasLane, AreLowered};
 
-use crate::slots::{FULL_LANE, LANES, MEMORY, OK, SHAPE, lift, lower};
+use crate::slots::{FULL_LANE, LANES, MEMORY, OK, SHAPE, lower};
 use keybits::Shape;
+use poolhandle::handle::Handle;
 use poolhandle::open_handles;
 use poolhandle::slot::Slot;
 use shardpool::OpenFault;
 use std::alloc::Global;
+use std::mem::replace;
 
-/// Whether a slot has a lane.
-fn is_full(alloc: Global, slot: &mut Slot) -> bool
-    ensures { slot.new.items ≡ slot.old.items }
+/// Whether a slot has a lane. The slot stays as it is.
+fn has_lane(slot: &mut Slot) -> bool
+    ensures same { slot.new ≡ slot.old }
+    ensures yes { IsTrue result → HasLane slot.old.items }
+    ensures no { IsFalse result → HasNoLane slot.old.items }
 {
-    let Some(handle) = lift(alloc, slot) else {
-        return false;
-    };
-    lower(slot, handle);
-    true
+    let (full, whole) = replace(slot, Slot::empty()).with_full();
+    *slot = whole;
+    full == 1
+}
+
+/// Whether any of these slots has a lane. They stay as they are.
+fn any_has_lane(slots: &mut [Slot]) -> bool
+    ensures same { slots.new ≡ slots.old }
+    ensures yes { IsTrue result → AnyHasLane slots.old }
+    ensures no { IsFalse result → NoneHasLane slots.old }
+{
+    for index in 0..slots.len() {
+        if has_lane(&mut slots[index]) {
+            return true;
+        }
+    }
+    false
+}
+
+/// Puts handles into as many slots.
+fn lower_all(slots: &mut [Slot], handles: Vec<Box<Handle>>)
+    requires { length handles.items ≡ length slots.old }
+    ensures count { length slots.new ≡ length slots.old }
+    ensures lowered { AreLowered handles.items slots.new }
+{
+    let mut index = 0;
+    for handle in handles {
+        lower(&mut slots[index], handle);
+        index += 1;
+    }
 }
 
 /// Opens a pool into empty slots.
-pub(crate) fn open_slots(alloc: Global, shape: Shape, slots: &mut [Slot]) -> u32
-    ensures { Opens shape (length slots.old) result }
+pub(crate) fn open_slots(alloc: Global, shape: Shape, number: u64, slots: &mut [Slot]) -> u32
+    ensures { Opens shape number slots.old slots.new result }
 {
     if slots.len() != shape.lanes as usize {
         return LANES;
     }
-    for slot in slots.iter_mut() {
-        if is_full(alloc, slot) {
-            return FULL_LANE;
+    if any_has_lane(slots) {
+        return FULL_LANE;
+    }
+    match open_handles(alloc, shape, number) {
+        Ok(handles) => {
+            lower_all(slots, handles);
+            OK
         }
+        Err(OpenFault::Memory) => MEMORY,
+        Err(OpenFault::Shape(_)) => SHAPE,
     }
-    let handles = match open_handles(alloc, shape) {
-        Ok(handles) => handles,
-        Err(OpenFault::Memory) => return MEMORY,
-        Err(OpenFault::Shape(_)) => return SHAPE,
-    };
-    for (slot, handle) in slots.iter_mut().zip(handles) {
-        lower(slot, handle);
-    }
-    OK
 }

@@ -3,7 +3,7 @@
 //! Each lane stands in a slot of two words that the program keeps. A filling and a reference are named by their key.
 #![tactic(auto)]
 
-ghost use Rattle.std.specs.Prelude.{◌≡◌, length};
+ghost use Rattle.std.specs.Prelude.{◌≡◌};
 ghost use Rattle.poolhandle.specs.Calls.{Appends, Rooms, Wrote, Publishes, Downgrades, Leaves, Releases, Clears};
 ghost use Rattle.poolffi.specs.Exports.{Calls, CreatesKey, Lends, Reads, JoinsSlots, ClosesSlot, AreCounts, Opens, shape_of};
 
@@ -11,7 +11,7 @@ mod lanes;
 mod slots;
 
 use crate::lanes::open_slots;
-use crate::slots::{EMPTY_LANE, LANES, OK, code, code_of, lift, lower, put};
+use crate::slots::{EMPTY_LANE, OK, code, code_of, lift, lower, put};
 use keybits::Shape;
 use poolhandle::slot::Slot;
 use poolhandle::{close, join};
@@ -41,10 +41,15 @@ pub struct PoolCensus {
     pub retired: u32,
 }
 
-/// Opens a pool, and puts a lane into each slot, by rising number.
+/// Opens a pool, and puts a lane into each slot, by rising number. By its own number, which no other pool has, a join knows its lanes.
 #[unsafe(no_mangle)]
-pub extern "C" fn pardz_open(alloc: Global, shape: &PoolShape, slots: &mut [Slot]) -> u32
-    ensures { Opens (shape_of shape.now) (length slots.old) result }
+pub extern "C" fn pardz_open_numbered(
+    alloc: Global,
+    shape: &PoolShape,
+    slots: &mut [Slot],
+    number: u64,
+) -> u32
+    ensures { Opens (shape_of shape.now) number slots.old slots.new result }
 {
     let shape = Shape {
         lanes: shape.lanes,
@@ -53,7 +58,7 @@ pub extern "C" fn pardz_open(alloc: Global, shape: &PoolShape, slots: &mut [Slot
         last_generation: shape.last_generation,
         tag: shape.tag,
     };
-    open_slots(alloc, shape, slots)
+    open_slots(alloc, shape, number, slots)
 }
 
 /// A place to be filled, by the key under which it will be published.
@@ -169,8 +174,8 @@ pub extern "C" fn pardz_get(
         return EMPTY_LANE;
     };
     let code = match handle.get(key) {
-        Ok(position) => {
-            let bytes = handle.bytes_at(position, key);
+        Ok(start) => {
+            let bytes = handle.bytes_at(start, key);
             *len = bytes.len();
             if !bytes.is_empty() {
                 put(at, std::ptr::from_ref(&bytes[0]));
@@ -286,11 +291,11 @@ pub extern "C" fn pardz_close(alloc: Global, slot: &mut Slot, census: &mut PoolC
             *census = counted(&counts);
             OK
         }
-        Err(Some(handle)) => {
+        Err((refusal, Some(handle))) => {
             lower(slot, handle);
-            LANES
+            code_of(refusal)
         }
-        Err(None) => LANES,
+        Err((refusal, None)) => code_of(refusal),
     }
 }
 

@@ -38,6 +38,8 @@ pub(crate) const SHAPE: u32 = 12;
 
 pub(crate) const ROOM: u32 = 13;
 
+pub(crate) const SHARED: u32 = 14;
+
 /// The handle out of a full slot, which is then empty. An empty slot stays as it was.
 pub(crate) fn lift(alloc: Global, slot: &mut Slot) -> Option<Box<Handle>>
     ensures full { IfSome result (λ handle. (slot.old.items ≡ handle.value ∷ []) × (slot.new.full ≡ 0) × (slot.new.items ≡ [])) }
@@ -80,6 +82,7 @@ pub(crate) fn code_of(refusal: Refusal) -> u32
         Refusal::OtherPool => OTHER_POOL,
         Refusal::Lanes => LANES,
         Refusal::Room => ROOM,
+        Refusal::Shared => SHARED,
     }
 }
 

@@ -1,13 +1,13 @@
 -- A filling that became another of its key.
-use Rattle.std.proofs.Common.{◌≡◌, Bool, true, false, IsTrue, IsFalse, ℕ, ◌+◌, ◌-◌, ◌<◌, ◌≤◌, List, [], ◌∷◌, ◌++◌, length, take, drop, slice_index_or, slice_set, Contains, refl, sym, ap, ◌∙◌, subst, arith}
-use Rattle.std.specs.List.{All}
+use Rattle.std.proofs.Common.{◌≡◌, Bool, true, false, IsTrue, IsFalse, ℕ, ◌-◌, ◌<◌, List, [], ◌∷◌, ◌++◌, length, slice_index_or, slice_set, Contains, refl, sym, ◌∙◌, subst, arith}
 use Rattle.std.proofs.lemmas.List.{get_or_default, length-set, length-drop, take_all, drop_all}
 use Rattle.std.specs.List.Sorted.{IsPermutation}
-use Rattle.std.proofs.lemmas.List.Elements.{All-get_or, All-set, All-head, All-tail, Contains-push}
+use Rattle.std.proofs.lemmas.List.Elements.{All-get_or, All-set, All-tail, Contains-push}
 use Rattle.std.proofs.lemmas.List.Sorted.{All-permutation}
 use Rattle.seqpool.specs.declared.act.Act.TheVariants as acts
 use Rattle.std.proofs.lemmas.Grind.{get_or-set_at}
 use Rattle.keybits.specs.Keys.{place_of}
+use Rattle.poolsteps.specs.Layout.{slot_start}
 use Rattle.poolsteps.specs.Views.{the_lane}
 use Rattle.poolsteps.specs.Told.{MayPublish}
 use Rattle.poolcalls.specs.Carried.{AreEmptied}
@@ -15,7 +15,7 @@ use Rattle.shardpool.specs.Tokens.{LaneOf, FillingOf}
 use Rattle.shardpool.specs.Lanes.{Made, IsFilling, Did}
 use Rattle.slotcell.specs.ByteBuf.{ByteBuf}
 use Rattle.poolhandle.specs.declared.kept.Kept.{Kept}
-use Rattle.poolhandle.specs.Filled.{content_of, room_of, SameToken, AreMade, Have}
+use Rattle.poolhandle.specs.Filled.{content_of, room_of, SameToken, AreMade, Have, MustGrow, HaveTight}
 
 -- without room all bytes are content
 pub all-content : (kept : Kept) → kept.room ≡ 0 → content_of kept ≡ kept.filling.object.bytes
@@ -33,6 +33,12 @@ pub had : (key index : ℕ) (places : List Kept) (kept : Kept) → index < lengt
 had key index places kept low is =
     let at = slice_index_or places index kept in let there : Contains places at = (index, low, get_or_default places index at kept low) in (at, there, is, refl, refl)
 
+-- and so is a buffer that must grow
+pub had-tight : (key index count : ℕ) (places : List Kept) (kept : Kept) → index < length places → (slice_index_or places index kept).filling.key ≡ key
+    → MustGrow (slice_index_or places index kept) count → HaveTight key count places
+had-tight key index count places kept low is tight =
+    let at = slice_index_or places index kept in let there : Contains places at = (index, low, get_or_default places index at kept low) in (at, there, is, tight)
+
 -- what was put behind is had
 pub has-push : (key : ℕ) (places : List Kept) (kept : Kept) → kept.filling.key ≡ key → Have key (content_of kept) (room_of kept) (places ++ kept ∷ [])
 has-push key places kept is = (kept, Contains-push places kept, is, refl, refl)
@@ -44,9 +50,10 @@ has-set key index old new kept low is same =
     (kept, subst (λ (places : List Kept). Contains places kept) (sym same) there, is, refl, refl)
 
 -- what a lane made doesn't depend on the object
-pub made-same : (lane : LaneOf) (old new : FillingOf ByteBuf) → new.table ≡ old.table → new.key ≡ old.key → Made lane old → Made lane new
-made-same lane old new table key made = record {
+pub made-same : (lane : LaneOf) (old new : FillingOf ByteBuf) → new.table ≡ old.table → new.key ≡ old.key → new.start ≡ old.start → Made lane old → Made lane new
+made-same lane old new table key start made = record {
   table = table ∙ made.table;
+  start = start ∙ (made.start ∙ ap (λ (k : ℕ). slot_start lane.shape (place_of k)) (sym key));
   place = subst (λ (k : ℕ). IsFilling lane (place_of k)) (sym key) made.place;
   may = subst (λ (k : ℕ). MayPublish lane.shape lane.book k) (sym key) made.may;
   emptied = subst (λ (k : ℕ). AreEmptied lane.shape (the_lane lane.book) (place_of k)) (sym key) made.emptied;
@@ -56,7 +63,7 @@ pub made-set : (lane : LaneOf) (index : ℕ) (old new : List Kept) (kept : Kept)
     → AreMade lane old → AreMade lane new
 made-set lane index old new kept low same token made =
     let before = slice_index_or old index kept in
-    let own = made-same lane before.filling kept.filling token.0 token.1 (All-get_or (λ (k : Kept). Made lane k.filling) old index kept low made) in
+    let own = made-same lane before.filling kept.filling token.0 token.1 token.2 (All-get_or (λ (k : Kept). Made lane k.filling) old index kept low made) in
     subst (AreMade lane) (sym same) (All-set (λ (k : Kept). Made lane k.filling) old index kept own made)
 
 -- what was taken out, and the others

@@ -1,23 +1,20 @@
 -- What the calls of a handle answer, and what each does.
-use Rattle.std.specs.Prelude.{◌≡◌, ◌⊎◌, ℕ, ◌+◌, ◌<◌, ◌≤◌, Bool, true, false, List, [], ◌∷◌, ◌++◌, length, take, replicate, Contains, Result, Option, Ok, Err, Some, None}
+use Rattle.std.specs.Prelude.{◌≡◌, ◌≢◌, ◌⊎◌, ℕ, ◌+◌, ◌<◌, ◌≤◌, Bool, true, false, List, [], ◌∷◌, ◌++◌, length, take, replicate, Result, Option, Ok, Err, Some, None}
 use Rattle.std.specs.Arc.{arc_value}
-use Rattle.keybits.specs.Keys.{is_key}
 use Rattle.seqpool.specs.declared.act.Act.{Act}
 use Rattle.seqpool.specs.declared.act.Act.TheVariants as acts
 use Rattle.seqpool.specs.Histories.{PublishedAt}
 use Rattle.steplaws.specs.Facts.{most_references}
 use Rattle.slotcell.specs.ByteBuf.{ByteBuf}
 use Rattle.shardpool.specs.Tokens.{PoolOf, LaneOf, FillingOf}
-use Rattle.shardpool.specs.Lanes.{Did, SameLane, holds, refs}
+use Rattle.shardpool.specs.Lanes.{Did, holds, refs}
 use Rattle.shardpool.specs.Creates.{Gives, GivesNone}
 use Rattle.shardpool.specs.Seen.{MissedSince, ClearedSince}
-use Rattle.shardpool.specs.Closings.{Closes}
-use Rattle.shardpool.specs.declared.census.Census.{Census}
 use Rattle.poolhandle.specs.declared.refusal.Refusal.{Refusal}
-use Rattle.poolhandle.specs.declared.refusal.Refusal.TheVariants.{Memory, Full, Fillings, NoFilling, NoReference, Gone, References, OtherPool, Lanes, Room}
+use Rattle.poolhandle.specs.declared.refusal.Refusal.TheVariants.{Memory, Full, Fillings, NoFilling, NoReference, Gone, References, OtherPool, Lanes, Room, Shared}
 use Rattle.poolhandle.specs.declared.kept.Kept.{Kept}
 use Rattle.poolhandle.specs.declared.handle.Handle.{Handle}
-use Rattle.poolhandle.specs.Filled.{HaveNot, Have}
+use Rattle.poolhandle.specs.Filled.{HaveNot, Have, HaveTight}
 
 -- the lane of a handle
 abbrev pub lane_of : Handle → LaneOf
@@ -52,17 +49,19 @@ Creates before after (Err refusal) = ((refusal ≡ Fillings) × (16 ≤ length (
     ⊎ (((refusal ≡ Full) × GivesNone (lane_of before) (lane_of after) × ((lane_of before).pages.opened ≡ (lane_of before).shape.pages))
     ⊎ ((refusal ≡ Memory) × GivesNone (lane_of before) (lane_of after) × ((lane_of before).pages.opened < (lane_of before).shape.pages)))
 
--- an append: these bytes stand behind the content; where memory was refused, the content is as before
+-- an append: these bytes stand behind the content; or memory was refused of which there was need, and the content is as before
 abbrev pub Appends : ℕ → List ℕ → Handle → Handle → Result (Unit {0}) Refusal → Type 0
 Appends key bytes before after (Ok done) = Turns key (λ content room content_now room_now. (content_now ≡ content ++ bytes) × (room_now ≡ [])) before after
 Appends key bytes before after (Err refusal) = ((refusal ≡ NoFilling) × HasNone key before after)
-    ⊎ ((refusal ≡ Memory) × Turns key (λ content room content_now room_now. (content_now ≡ content) × (room_now ≡ [])) before after)
+    ⊎ ((refusal ≡ Memory) × HaveTight key (length bytes) (filled before)
+    × Turns key (λ content room content_now room_now. (content_now ≡ content) × (room_now ≡ [])) before after)
 
--- room: so many zeros stand behind the content, which is as before
+-- room: so many zeros stand behind the content, which is as before; or memory was refused of which there was need
 abbrev pub Rooms : ℕ → ℕ → Handle → Handle → Result (Unit {0}) Refusal → Type 0
 Rooms key count before after (Ok done) = Turns key (λ content room content_now room_now. (content_now ≡ content) × (room_now ≡ replicate count 0)) before after
 Rooms key count before after (Err refusal) = ((refusal ≡ NoFilling) × HasNone key before after)
-    ⊎ ((refusal ≡ Memory) × Turns key (λ content room content_now room_now. (content_now ≡ content) × (room_now ≡ [])) before after)
+    ⊎ ((refusal ≡ Memory) × HaveTight key count (filled before)
+    × Turns key (λ content room content_now room_now. (content_now ≡ content) × (room_now ≡ [])) before after)
 
 -- the room was written: the first bytes of it, so many, are content, and the others are gone
 abbrev pub Wrote : ℕ → ℕ → Handle → Handle → Result (Unit {0}) Refusal → Type 0
@@ -119,10 +118,23 @@ pub record IsNext (into other : Handle) : Type 0 where
   pub few : into.joined < 16
   pub next : (lane_of other).number + into.joined + 1 ≡ (pool_of into).shape.lanes
 
--- a join: the other lane was the next one, and is given for the close; the lane is as before
-abbrev pub Joins : Handle → Handle → Handle → Type 0
-Joins before other after = IsNext before other × (lane_of after ≡ lane_of before) × (after.joined ≡ before.joined + 1)
+-- the number under which its pool was opened
+abbrev pub pool_number : Handle → ℕ
+pool_number handle = (arc_value handle.shared).number
 
--- no join, for this reason: another lane comes next, or the other is of another pool
+-- a join: the other lane was the next one, of a pool of the same number, and is given for the close; the lane is as before
+abbrev pub Joins : Handle → Handle → Handle → Type 0
+Joins before other after = IsNext before other × (pool_number other ≡ pool_number before) × (lane_of after ≡ lane_of before) × (after.joined ≡ before.joined + 1)
+
+-- no join, for this reason: another lane comes next, or the other is of another pool, which was opened under another number
 abbrev pub JoinsNot : Handle → Handle → Refusal → Type 0
-JoinsNot before other refusal = ((refusal ≡ Lanes) × (IsNext before other → ⊥)) ⊎ ((refusal ≡ OtherPool) × IsNext before other)
+JoinsNot before other refusal = ((refusal ≡ Lanes) × (IsNext before other → ⊥)) ⊎ ((refusal ≡ OtherPool) × IsNext before other × (pool_number other ≢ pool_number before))
+
+-- all other lanes were joined
+abbrev pub AllJoined : Handle → Type 0
+AllJoined handle = handle.joined + 1 ≡ (pool_of handle).shape.lanes
+
+-- no close, for this reason: lanes weren't joined, and the handle is as before; or they were, and the pool is still shared, which doesn't happen
+abbrev pub ClosesNot : Handle → Option Handle → Refusal → Type 0
+ClosesNot handle back refusal = ((refusal ≡ Lanes) × (AllJoined handle → ⊥) × (back ≡ Some handle))
+    ⊎ ((refusal ≡ Shared) × AllJoined handle × ((back ≡ Some handle) ⊎ (back ≡ None)))

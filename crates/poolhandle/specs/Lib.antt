@@ -1,3 +1,4 @@
 pub mod Calls
 pub mod Filled
+pub mod Opened
 pub mod Slot

@@ -1,10 +1,10 @@
 // How lanes are joined, and the pool is closed.
-ghost use Rattle.std.specs.Prelude.{◌≡◌, ◌+◌, ◌⊎◌, List, [], ◌∷◌, All, IfSome, IfErr, IfOk, OnOk, IsOk, Contains, MatchResult};
+ghost use Rattle.std.specs.Prelude.{◌≡◌, ◌+◌, ◌⊎◌, List, [], ◌∷◌, All, IfSome, IfErr, IfOk, OnOk, IsOk, Contains, MatchResult, option_map};
 ghost use Rattle.std.specs.Arc.{arc_value};
 ghost use Rattle.shardpool.specs.Tokens.{LaneOf};
 ghost use Rattle.shardpool.specs.Lanes.{Owns};
 ghost use Rattle.shardpool.specs.Closings.{Closes};
-ghost use Rattle.poolhandle.specs.Calls.{lane_of, pool_of, Joins, JoinsNot};
+ghost use Rattle.poolhandle.specs.Calls.{lane_of, pool_of, Joins, JoinsNot, ClosesNot};
 
 use crate::handle::Handle;
 use crate::refusal::Refusal;
@@ -13,7 +13,6 @@ use counted_slot::Counted;
 use shardpool::{Census, Lane, Pool};
 use slotcell::ByteBuf;
 use std::sync::Arc;
-use std::sync::atomic::Ordering::SeqCst;
 
 /// Gives the lane of another handle of the pool for the close, and ends that handle: the last lane first, and then the one before it. A filling
 /// is left.
@@ -32,7 +31,7 @@ pub fn join(into: &mut Handle, other: Box<Handle>) -> Result<(), (Refusal, Box<H
     if wanted != u64::from(into.shared.pool.shape().lanes) {
         return Err((Refusal::Lanes, other));
     }
-    if !is_one(&into.shared, &other.shared) {
+    if other.shared.number != into.shared.number {
         return Err((Refusal::OtherPool, other));
     }
     into.joined += 1;
@@ -40,15 +39,7 @@ pub fn join(into: &mut Handle, other: Box<Handle>) -> Result<(), (Refusal, Box<H
     Ok(())
 }
 
-/// Whether two handles share one pool: a count of the one is seen in the other. Nothing rests on the answer, since each lane is given into a
-/// place of its own pool.
-fn is_one(shared: &Shared, other: &Shared) -> bool {
-    let before = shared.joins.load(SeqCst);
-    other.joins.fetch_add(1, SeqCst);
-    shared.joins.load(SeqCst) != before
-}
-
-/// Gives the lane of a handle into its place.
+/// Gives the lane of a handle into its place, which is of its own pool.
 fn give(handle: Handle) {
     let (shared, lane, _) = handle.into_parts();
     let index = lane.number() as usize;
@@ -74,17 +65,20 @@ fn put(place: &Counted<Option<Given>>, pool: &Pool<ByteBuf>, given: Given)
 ///
 /// # Errors
 ///
-/// The handle, where lanes are missing. None where the pool isn't let go by all handles though all lanes were given, which doesn't happen: the lanes are then
-/// dropped.
-pub fn close(handle: Box<Handle>) -> Result<Census, Option<Box<Handle>>>
+/// The handle, where lanes are missing. Where the pool isn't let go by all handles though all lanes were given, the handle, or none where that is seen
+/// late: the lanes are then dropped. It happens only where the program opened two pools under one number.
+pub fn close(handle: Box<Handle>) -> Result<Census, (Refusal, Option<Box<Handle>>)>
     ensures closes { IfOk result (λ census. (lanes : List LaneOf) × Contains lanes (lane_of handle.value) × Closes (pool_of handle.value) lanes census) }
-    ensures stays { IfErr result (λ back. IfSome back (λ same. same ≡ handle)) }
+    ensures stays { IfErr result (λ back. ClosesNot handle.value (option_map (λ same. same.value) back.1) back.0) }
 {
     let lanes = handle.shared.pool.shape().lanes;
-    if u64::from(handle.joined) + 1 != u64::from(lanes) || Arc::strong_count(&handle.shared) != 1 {
-        return Err(Some(handle));
+    if u64::from(handle.joined) + 1 != u64::from(lanes) {
+        return Err((Refusal::Lanes, Some(handle)));
     }
-    close_handle(Box::into_inner(handle)).ok_or(None)
+    if Arc::strong_count(&handle.shared) != 1 {
+        return Err((Refusal::Shared, Some(handle)));
+    }
+    close_handle(Box::into_inner(handle)).ok_or((Refusal::Shared, None))
 }
 
 fn close_handle(handle: Handle) -> Option<Census>
@@ -94,7 +88,7 @@ fn close_handle(handle: Handle) -> Option<Census>
     let Shared {
         pool,
         given,
-        joins: _,
+        number: _,
     } = Arc::into_inner(shared)?;
     let lanes = gathered(&pool, row, Box::into_inner(lane), given)?;
     close_lanes(pool, lanes)

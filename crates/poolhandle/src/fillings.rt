@@ -3,7 +3,7 @@ ghost use Rattle.std.specs.Prelude.{◌≡◌, ◌<◌, ◌≤◌, [], ◌∷◌
 ghost use Rattle.std.specs.Vec.{vec_capacity};
 ghost use Rattle.std.specs.List.Sorted.{IsPermutation};
 ghost use Rattle.poolhandle.specs.declared.kept.Kept.{Kept as One};
-ghost use Rattle.poolhandle.specs.Filled.{AreDistinct, HaveNot, Changes, content_of, room_of};
+ghost use Rattle.poolhandle.specs.Filled.{AreDistinct, HaveNot, Changes, MustGrow, content_of, room_of};
 
 use crate::kept::Kept;
 use std::alloc::Global;
@@ -72,7 +72,8 @@ impl Fillings {
     /// Appends to a filling: whether there was memory.
     pub(crate) fn append(&mut self, index: usize, bytes: &[u8]) -> bool
         requires { index < length self.old.list.items }
-        ensures { Changes index (λ old new. (new.filling.object.bytes ≡ (if result then content_of old ++ bytes.now else content_of old)) × (new.room ≡ 0)) self.old.list.items self.new.list.items }
+        ensures changes { Changes index (λ old new. (new.filling.object.bytes ≡ (if result then content_of old ++ bytes.now else content_of old)) × (new.room ≡ 0)) self.old.list.items self.new.list.items }
+        ensures grown { IsFalse result → (d : One) → MustGrow (slice_index_or self.old.list.items index d) (length bytes.now) }
     {
         self.list[index].append(bytes)
     }
@@ -80,7 +81,8 @@ impl Fillings {
     /// Gives room behind the content of a filling: whether there was memory.
     pub(crate) fn grow(&mut self, index: usize, count: usize) -> bool
         requires { index < length self.old.list.items }
-        ensures { Changes index (λ old new. (content_of new ≡ content_of old) × (room_of new ≡ replicate new.room 0) × (new.room ≡ (if result then count else 0))) self.old.list.items self.new.list.items }
+        ensures changes { Changes index (λ old new. (content_of new ≡ content_of old) × (room_of new ≡ replicate new.room 0) × (new.room ≡ (if result then count else 0))) self.old.list.items self.new.list.items }
+        ensures grown { IsFalse result → (d : One) → MustGrow (slice_index_or self.old.list.items index d) count }
     {
         self.list[index].grow(count)
     }

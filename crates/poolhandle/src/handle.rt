@@ -33,7 +33,7 @@ pub struct Handle {
 impl Handle {
     ghost use Rattle.std.specs.Prelude.{◌≡◌, ◌<◌, ◌≤◌, ℕ, Ok, Err, IfOk, IfErr, MatchResult};
     ghost use Rattle.keybits.specs.Keys.{place_of};
-    ghost use Rattle.keybits.specs.Shapes.{position_of};
+    ghost use Rattle.poolsteps.specs.Layout.{slot_start};
     ghost use Rattle.shardpool.specs.Lanes.{holds};
     ghost use Rattle.poolhandle.specs.declared.refusal.Refusal.TheVariants.{NoReference};
     ghost use Rattle.poolhandle.specs.Calls.{lane_of, filled, Creates, Appends, Rooms, Wrote, Publishes, Downgrades, Leaves, Got, NotGot, AreLent, Releases, Clears};
@@ -139,8 +139,8 @@ impl Handle {
     }
 
     /// A reference more to a key, where it is published and not cleared. Answers where `bytes_at` finds its bytes.
-    pub fn get(&mut self, key: u64) -> Result<usize, Refusal>
-        ensures got { IfOk result (λ at. (at ≡ position_of (lane_of self.new).shape (place_of key)) × Got key self.old self.new) }
+    pub fn get(&mut self, key: u64) -> Result<u32, Refusal>
+        ensures got { IfOk result (λ at. (at ≡ slot_start (lane_of self.new).shape (place_of key)) × Got key self.old self.new) }
         ensures not_got { IfErr result (NotGot key self.old self.new) }
     {
         if self.lane.refs() >= MOST_REFERENCES {
@@ -152,13 +152,13 @@ impl Handle {
             .ok_or(Refusal::Gone)
     }
 
-    /// The bytes of a key to which the lane has a reference, and whose place has this position.
-    pub fn bytes_at(&self, position: usize, key: u64) -> &[u8]
+    /// The bytes of a key to which the lane has a reference, and whose place stands here.
+    pub fn bytes_at(&self, start: u32, key: u64) -> &[u8]
         requires held { 1 ≤ holds (lane_of self.now) key }
-        requires position { position ≡ position_of (lane_of self.now).shape (place_of key) }
+        requires start { start ≡ slot_start (lane_of self.now).shape (place_of key) }
         ensures { AreLent key self.now result.now }
     {
-        self.lane.read_at(position, key).as_slice()
+        self.lane.read_at(start, key).as_slice()
     }
 
     /// The bytes of a key to which the lane has a reference.

@@ -19,7 +19,7 @@ impl Drop for Kept {
 }
 
 impl Kept {
-    ghost use Rattle.poolhandle.specs.Filled.{content_of, room_of, SameToken};
+    ghost use Rattle.poolhandle.specs.Filled.{content_of, room_of, SameToken, MustGrow};
 
     /// A filling without room.
     pub(crate) fn new(filling: Filling<ByteBuf>) -> Kept
@@ -38,7 +38,7 @@ impl Kept {
 
     /// The filling, with its content alone.
     pub(crate) fn into_content(self) -> Filling<ByteBuf>
-        ensures token { (result.table ≡ self.filling.table) × (result.key ≡ self.filling.key) }
+        ensures token { (result.table ≡ self.filling.table) × (result.key ≡ self.filling.key) × (result.start ≡ self.filling.start) }
         ensures content { result.object.bytes ≡ content_of self }
     {
         let mut kept = self;
@@ -52,6 +52,7 @@ impl Kept {
         requires { unwritten ≤ self.old.room }
         ensures token { SameToken self.old self.new }
         ensures bytes { self.new.filling.object.bytes ≡ take (length self.old.filling.object.bytes - unwritten) self.old.filling.object.bytes }
+        ensures capacity { self.new.filling.object.room ≡ self.old.filling.object.room }
         ensures none { self.new.room ≡ 0 }
     {
         self.room = 0;
@@ -65,6 +66,7 @@ impl Kept {
         ensures token { SameToken self.old self.new }
         ensures bytes { self.new.filling.object.bytes ≡ (if result then content_of self.old ++ bytes.now else content_of self.old) }
         ensures none { self.new.room ≡ 0 }
+        ensures grown { IsFalse result → MustGrow self.old (length bytes.now) }
     {
         self.end_room(self.room);
         self.filling.value_mut().append(bytes).is_ok()
@@ -76,6 +78,7 @@ impl Kept {
         ensures content { content_of self.new ≡ content_of self.old }
         ensures zeros { room_of self.new ≡ replicate self.new.room 0 }
         ensures room { self.new.room ≡ (if result then count else 0) }
+        ensures grown { IsFalse result → MustGrow self.old count }
     {
         self.end_room(self.room);
         if self.filling.value_mut().append_zeros(count).is_ok() {

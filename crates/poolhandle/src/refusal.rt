@@ -23,4 +23,6 @@ pub enum Refusal {
     Lanes,
     /// There is no room of so many bytes.
     Room,
+    /// All lanes were given, and yet the pool isn't let go.
+    Shared,
 }

@@ -7,7 +7,6 @@ use counted_slot::{Counted, Fits};
 use shardpool::{Lane, Pool};
 use slotcell::ByteBuf;
 use std::alloc::Global;
-use std::sync::atomic::AtomicU64;
 
 /// A lane that was given for the close of its pool.
 pub struct Given {
@@ -51,7 +50,7 @@ impl Drop for Given {
 pub struct Shared {
     pub pool: Pool<ByteBuf>,
     pub given: Vec<Counted<Option<Given>>>,
-    /// How many joins asked whether their lane is of this pool.
-    pub joins: AtomicU64,
+    /// The number under which the pool was opened: lanes of other numbers are of other pools.
+    pub number: u64,
     ghost of_pool: { All (λ tag. tag ≡ pool) given.items },
 }

@@ -31,15 +31,15 @@ first-held {A = A} {before = before} {value = value} index other same is =
 
 -- after a move the lane left each other slot of the place as before, and it knows the cell
 module _ (r : LaneRecord) (place number : ℕ) (status : Status) (c : Stored) where
-  status-beside : (k : ℕ) → k ≢ number → status_of (moved_record r place number status c) place k ≡ status_of r place k
+  pub status-beside : (k : ℕ) → k ≢ number → status_of (moved_record r place number status c) place k ≡ status_of r place k
   status-beside k other = ap (λ (b : Bool). cond b status (status_of r place k)) (and_right (eqb place place) (eqb k number) (ne_eqb k number other))
 
-  status-here : status_of (moved_record r place number status c) place number ≡ status
+  pub status-here : status_of (moved_record r place number status c) place number ≡ status
   status-here =
       let here : (place == place) && (number == number) ≡ true = ap (λ (b : Bool). b && (number == number)) (eq-eqb place place refl) ∙ eq-eqb number number refl in
       ap (λ (b : Bool). cond b status (status_of r place number)) here
 
-  known-moved : known_of (moved_record r place number status c) place ≡ c
+  pub known-moved : known_of (moved_record r place number status c) place ≡ c
   known-moved = ap (λ (b : Bool). cond b c (known_of r place)) (eq-eqb place place refl)
 
 module _ {T : Type 0} (content : T → List ℕ) (room : T → ℕ) where
@@ -50,7 +50,7 @@ module _ {T : Type 0} (content : T → List ℕ) (room : T → ℕ) where
 
 module _ {T : Type 0} (content : T → List ℕ) (room : T → ℕ) (spots : ℕ → CellSpot) where
   -- a share's cell is the one that it is of
-  stored-is : (place : ℕ) (c : Stored) (number of : ℕ) (share : Share T) → IsShareOf content room spots place c number of share → c ≡ stored_of content room share
+  pub stored-is : (place : ℕ) (c : Stored) (number of : ℕ) (share : Share T) → IsShareOf content room spots place c number of share → c ≡ stored_of content room share
   stored-is place c number of share is = λ k. record { cell = sym is.cell k; content = sym is.content_is k; room = sym is.room_is k }
 
   module _ (place : ℕ) (z : Shape) (number : ℕ) where

@@ -9,6 +9,9 @@ pub mod Making
 pub mod SlotLemmas
 pub mod Keeping
 pub mod Moving
+mod AllShares
+mod Batching
+mod Turning
 pub mod Carrying
 pub mod Knowing
 pub mod Entering

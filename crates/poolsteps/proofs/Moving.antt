@@ -66,7 +66,7 @@ module _ {T : Type 0} (content : T → List ℕ) (room : T → ℕ) (spots : ℕ
         (λ some. other (one-holder (reclaimer w.history place) l lane number phase (st.shared.touched l place number less below some).0 still.may)))
 
     -- what stands in the slot, as the lane left it
-    stands-there : (status : Status) → status_of r place number ≡ status → status ≢ InHand
+    pub stands-there : (status : Status) → status_of r place number ≡ status → status ≢ InHand
         → (value : Option (Share T)) × (slots_in z homes place number ≡ at_home value) × Leaves content room spots place z number (q.stored place) status (at_home value)
     stands-there Untouched left aside =
         let old : StandsAs content room spots z (slots_in z homes) place number (q.stored place) (is_home phase) = st.shared.untouched place number inside below (none-touched left) in

@@ -6,7 +6,7 @@ use mathlib.Core.Logic.{dite}
 use native.Mathlib.Decide.{ℕ_discrete}
 use Rattle.keybits.specs.declared.shape.Shape.{Shape}
 use Rattle.keybits.specs.Places.{shard_of, page_of, slot_of}
-use Rattle.keybits.specs.Shapes.{page_size, position_of, is_place}
+use Rattle.keybits.specs.Shapes.{page_size, is_place}
 use Rattle.keybits.specs.declared.step.Word.TheVariants.{Life}
 use Rattle.keybits.proofs.ShapeLemmas.{is_place-parts, is_place-from_parts}
 use Rattle.poolsteps.specs.declared.layout.PageRow.{PageRow}
@@ -40,8 +40,8 @@ row-found z rows are page other row below is =
 -- the row of a page, by whether the shape has it
 abbrev row-of : Shape → ℕ → Bool → PageRow
 row-of z page has = cond has
-    record { places = page_size z (page % 16); position = position_of z (4096 * page); start = slot_start z (4096 * page) }
-    record { places = 0; position = 0; start = 0 }
+    record { places = page_size z (page % 16); start = slot_start z (4096 * page) }
+    record { places = 0; start = 0 }
 
 -- how many places the row of a page has, by whether the shape has the page
 row-places : (z : Shape) (page : ℕ) (has : Bool) → nat_lt (page % 16) z.pages ≡ has → (page_row z page).places ≡ cond has (page_size z (page % 16)) 0
@@ -65,16 +65,14 @@ place-found z place inside =
 
 -- the row of a page, which tells where each of its places stands
 pub row-spot : (z : Shape) (place : ℕ) (row : PageRow) → is_place z place ≡ true → row ≡ page_row z (place / 4096)
-    → (row.position + place % 4096 ≡ position_of z place) × (row.start + place % 4096 ≡ slot_start z place)
+    → row.start + place % 4096 ≡ slot_start z place
 row-spot z place row inside is =
     let first : ℕ = 4096 * (place / 4096) in
     let has : row ≡ row-of z (place / 4096) true = is ∙ ap (row-of z (place / 4096)) (lt-ltb (page_of place) z.pages (is_place-parts z place inside).1) in
     let shard : shard_of first ≡ shard_of place = omega arith in
     let page : page_of first ≡ page_of place = omega arith in
-    let slot : slot_of first ≡ 0 = omega arith in (
-      rw (has, shard, page, slot) (omega arith),
-      rw (has, shard, page, slot) (omega arith),
-    )
+    let slot : slot_of first ≡ 0 = omega arith in
+    rw (has, shard, page, slot) (omega arith)
 
 -- where the lifecycle word of a place stands
 pub life-at : {z : Shape} {spot : Spot} {place : ℕ} → IsSpot z spot place → LIVES_START + spot.start ≡ index_in z (Life place)

@@ -7,7 +7,7 @@ use Rattle.poolsteps.specs.Rule.{World, IsRecord, Stands}
 use Rattle.std.specs.Prelude.{◌≡◌, ◌<◌, ℕ, true, List, [], ◌∷◌, length, slice_get, Option, Some}
 use Rattle.atomic_table.specs.declared.shared.Seat.{Seat}
 use Rattle.keybits.specs.declared.shape.Shape.{Shape}
-use Rattle.keybits.specs.Shapes.{position_of, is_place}
+use Rattle.keybits.specs.Shapes.{is_place}
 use Rattle.poolsteps.specs.declared.grid.Spot.{Spot}
 use Rattle.poolsteps.specs.declared.grid.Grid.{Grid}
 use Rattle.poolsteps.specs.declared.view.View.{View}
@@ -18,7 +18,6 @@ use Rattle.poolsteps.specs.Views.{first_record, the_lane, IsOne}
 pub record IsSpot (z : Shape) (spot : Spot) (place : ℕ) : Type 0 where
   pub place_is : spot.place ≡ place
   pub inside : is_place z place ≡ true
-  pub position : spot.position ≡ position_of z place
   pub start : spot.start ≡ slot_start z place
 
 -- the hand is one of the grid

@@ -8,7 +8,7 @@ use Rattle.keybits.specs.declared.shape.Shape.{Shape}
 use Rattle.keybits.specs.declared.step.Word.{Word}
 use Rattle.keybits.specs.declared.step.Word.TheVariants.{Life, Link, Stack}
 use Rattle.keybits.specs.Places.{shard_of}
-use Rattle.keybits.specs.Shapes.{page_size, all_places, position_of, is_place}
+use Rattle.keybits.specs.Shapes.{page_size, shard_places, all_places, position_of, is_place}
 use Rattle.placecell.specs.Share.{Share}
 use Rattle.sharelaws.specs.Shares.{Slots}
 use Rattle.steplaws.specs.Facts.{Words}
@@ -22,6 +22,10 @@ look_word lane = WORDS_APART * (1 + lane)
 -- where a place stands in each row of words or of slots
 abbrev pub slot_start : Shape → ℕ → ℕ
 slot_start z place = position_of z place + SHARDS_APART * shard_of place
+
+-- where the places of a shard begin in such a row
+abbrev pub shard_start : Shape → ℕ → ℕ
+shard_start z shard = shard * shard_places z + SHARDS_APART * shard
 
 -- how long such a row is
 abbrev pub slot_row : Shape → ℕ
@@ -62,8 +66,8 @@ words_in z words = record {
 -- where the places of a page stand, of those counted over all shards, 16 to each: those of its first place, and none where the shape has no such page
 abbrev pub page_row : Shape → ℕ → PageRow
 page_row z page = if nat_lt (page % 16) z.pages
-    then record { places = page_size z (page % 16); position = position_of z (4096 * page); start = slot_start z (4096 * page) }
-    else record { places = 0; position = 0; start = 0 }
+    then record { places = page_size z (page % 16); start = slot_start z (4096 * page) }
+    else record { places = 0; start = 0 }
 
 -- the rows of so many pages
 abbrev pub page_rows : Shape → ℕ → List PageRow

@@ -4,6 +4,7 @@ pub mod Rule
 pub mod Told
 pub mod Seats
 pub mod Moved
+pub mod Batches
 pub mod Grids
 pub mod Returned
 pub mod ViewLaws

@@ -11,15 +11,6 @@ use keybits::{Life, Shape, State, shard_of};
 use placecell::{Base, Rest, Share, Slot, Vacancy};
 use std::alloc::Global;
 
-/// The share goes into the slot at this index. What the slot had is forgotten.
-pub fn lay<T: Drop>(index: usize, share: Share<T>, slots: &mut Slots<Slot<T>>)
-    requires full { IsFull slots.old }
-    requires index { index < slots_len slots.old }
-    ensures { IsSet index (Some share) slots.old slots.new }
-{
-    slots.put(index, Slot::filled(share));
-}
-
 /// The share in the slot at this index, which is then empty.
 fn lift<T: Drop>(index: usize, slots: &mut Slots<Slot<T>>) -> Share<T>
     requires full { IsFull slots.old }

@@ -21,10 +21,8 @@ pub type Hand<T> = Seat<Slot<T>, View>;
 pub struct Spot {
     /// The place's number.
     pub place: u32,
-    /// Which place it is among all places of the pool.
-    pub position: u32,
     /// Where it stands in each row of words or of slots.
-    pub(crate) start: u32,
+    pub start: u32,
 }
 
 /// What holds of a pool's table for good: its shape, and where the directory of its objects begins.

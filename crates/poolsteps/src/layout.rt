@@ -6,7 +6,7 @@ ghost use Rattle.keybits.specs.Shapes.{IsShape, position_of, is_place};
 ghost use Rattle.keybits.specs.Places.{shard_of};
 ghost use Rattle.keybits.specs.declared.step.Word.TheVariants as words;
 ghost use Rattle.placecell.specs.Share.{Share};
-ghost use Rattle.poolsteps.specs.Layout.{index_in, look_word, links_start, word_count, words_in, page_row, page_rows, slot_start, slot_row, slot_count, slot_index};
+ghost use Rattle.poolsteps.specs.Layout.{index_in, look_word, links_start, word_count, words_in, page_row, page_rows, slot_start, slot_row, slot_count, slot_index, shard_start};
 ghost use Rattle.steplaws.specs.MomentLaws.{AreFirst};
 
 use keybits::{Life, PAGE_NUMBERS, Shape, State, shard_of};
@@ -32,8 +32,9 @@ pub(crate) fn word_count(shape: &Shape) -> usize
     LIVES_START + 2 * slot_row(shape) + WORDS_APART * (lanes * lanes)
 }
 
-/// Where a place stands in each row of words or of slots; the place has this position among the places of the pool.
-pub(crate) fn slot_start(shape: &Shape, place: u32, position: usize) -> usize
+/// Where a place stands in each row of words, of slots or of what a lane has of each place; the place has this position among the
+/// places of the pool.
+pub fn slot_start(shape: &Shape, place: u32, position: usize) -> usize
     requires shape { IsShape shape.now }
     requires place { is_place shape.now place ≡ true }
     requires position { position ≡ position_of shape.now place }
@@ -43,6 +44,15 @@ pub(crate) fn slot_start(shape: &Shape, place: u32, position: usize) -> usize
 {
     let _ = shape;
     position + SHARDS_APART * shard_of(place) as usize
+}
+
+/// Where the places of a shard begin in each such row.
+pub fn shard_start(shape: &Shape, shard: u32) -> usize
+    requires shape { IsShape shape.now }
+    requires shard { shard < shape.now.lanes }
+    ensures { result ≡ shard_start shape.now shard }
+{
+    shard as usize * shape.shard_places() as usize + SHARDS_APART * shard as usize
 }
 
 /// Where the lifecycle word of a place stands, which has this position among the places of the pool.
@@ -95,8 +105,8 @@ pub(crate) fn look_word(lane: u32) -> usize
     WORDS_APART * (1 + lane as usize)
 }
 
-/// How many slots stand between those of a place for two lanes that follow each other.
-pub(crate) fn slot_row(shape: &Shape) -> usize
+/// How long each row is: of words, of the slots of one lane, and of what a lane has of each place.
+pub fn slot_row(shape: &Shape) -> usize
     requires { IsShape shape.now }
     ensures { result ≡ slot_row shape.now }
 {
@@ -120,10 +130,8 @@ pub fn slot_at(shape: &Shape, place: u32, position: usize, lane: u32) -> usize
 pub struct PageRow {
     /// How many places the page has; 0 where the shape has no such page.
     pub(crate) places: u32,
-    /// The position of its first place among all places.
-    pub position: u32,
     /// Where its first place stands in each row of words or of slots.
-    pub(crate) start: u32,
+    pub start: u32,
 }
 
 /// The rows of all pages, 16 to a shard. None where memory was refused.
@@ -148,16 +156,13 @@ fn page_row(shape: &Shape, page: u32) -> PageRow
     if page % 16 >= shape.pages {
         return PageRow {
             places: 0,
-            position: 0,
             start: 0,
         };
     }
     let first = page * PAGE_NUMBERS;
-    let position = shape.position(first);
     PageRow {
         places: shape.page_size(page % 16),
-        position: position as u32,
-        start: slot_start(shape, first, position) as u32,
+        start: slot_start(shape, first, shape.position(first)) as u32,
     }
 }
 

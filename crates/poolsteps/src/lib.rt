@@ -3,6 +3,7 @@
 //! dropped.
 #![tactic(auto)]
 
+mod batches;
 mod closing;
 mod grid;
 mod laws;
@@ -15,9 +16,12 @@ mod returns;
 mod steps;
 mod view;
 
-pub use closing::{drop_cell, lay};
+pub use closing::drop_cell;
 pub use grid::{Board, Grid, Hand, Spot};
 pub use laws::{acts_law, references_law, shares_law};
-pub use layout::{PageRow, life_word, link_word, page_rows, slot_at, stack_word};
+pub use layout::{
+    PageRow, life_word, link_word, page_rows, shard_start, slot_at, slot_row, slot_start,
+    stack_word,
+};
 pub use plays::{PoolRule, Purpose};
 pub use view::{Deed, LaneRecord, View};

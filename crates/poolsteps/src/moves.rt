@@ -132,12 +132,23 @@ impl<T: Clear> Grid<T> {
 
     /// Where the slot of a place and a lane stands.
     #[inline]
-    fn slot_of(&self, spot: Spot, number: u32) -> usize
+    pub(crate) fn slot_of(&self, spot: Spot, number: u32) -> usize
         requires spot { IsSpot self.now.shape spot spot.place }
         requires number { number < self.now.shape.lanes }
         ensures { result ≡ slot_index self.now.shape spot.place number }
     {
-        number as usize * self.row + spot.start as usize
+        self.slot_in(self.row, spot, number)
+    }
+
+    /// The same, by how many slots stand between those of neighbouring lanes, for who goes over several.
+    #[inline]
+    pub(crate) fn slot_in(&self, row: usize, spot: Spot, number: u32) -> usize
+        requires row { row ≡ self.now.row }
+        requires spot { IsSpot self.now.shape spot spot.place }
+        requires number { number < self.now.shape.lanes }
+        ensures { result ≡ slot_index self.now.shape spot.place number }
+    {
+        number as usize * row + spot.start as usize
     }
 
     /// A look that takes a slot which the lane left so.

@@ -104,11 +104,9 @@ impl<T: Clear> Grid<T> {
         requires page { page.now ≡ page_row self.now.shape (place / PAGE_NUMBERS) }
         ensures { IsSpot self.now.shape result place }
     {
-        let index = place % PAGE_NUMBERS;
         Spot {
             place,
-            position: page.position + index,
-            start: page.start + index,
+            start: page.start + place % PAGE_NUMBERS,
         }
     }
 

@@ -102,6 +102,47 @@ impl Move for Brand {
     ghost stored = { nothing_stored };
 }
 
+/// Of which place a look moves all slots, in which order of the lanes, how its lane leaves them, and with which cell.
+pub(crate) trait MoveAll {
+    ghost use Rattle.std.specs.Prelude.{ℕ};
+    ghost use Rattle.keybits.specs.declared.shape.Shape.{Shape};
+    ghost use Rattle.sharelaws.specs.declared.stored.Status.{Status};
+    ghost use Rattle.sharelaws.specs.declared.stored.Stored.{Stored};
+
+    ghost use denote.RawPtr.{Ptr};
+
+    ghost shape: { Shape };
+
+    ghost directory: { Ptr };
+
+    ghost place: { ℕ };
+
+    ghost order: { ℕ → ℕ };
+
+    ghost status: { Status };
+
+    ghost stored: { Stored };
+}
+
+impl MoveAll for Brand {
+    ghost use Rattle.sharelaws.specs.declared.stored.Status.TheVariants.{Untouched};
+    ghost use Rattle.sharelaws.specs.Shares.{nothing_stored};
+
+    ghost use denote.RawPtr.{null_ptr};
+
+    ghost shape = { record { lanes = 1; first_page = 1; pages = 1; last_generation = 1; tag = 0 } };
+
+    ghost directory = { null_ptr };
+
+    ghost place = { 0 };
+
+    ghost order = { λ position. position };
+
+    ghost status = { Untouched };
+
+    ghost stored = { nothing_stored };
+}
+
 /// ENTER.
 pub(crate) struct Enter<J: Aim> {
     of: PhantomData<J>,
@@ -267,6 +308,30 @@ impl<T: Clear, J: Move> Play<Slot<T>, View> for Lay<T, J> {
     ghost use Rattle.poolsteps.specs.Moved.{Lays};
 
     ghost then = { λ step before found after. Lays T.content T.room (spots_at J.directory J.shape) J.shape J.place J.number J.status J.stored before after };
+}
+
+/// A look that takes all slots of a place.
+pub(crate) struct LiftAll<T, J: MoveAll> {
+    of: PhantomData<(T, J)>,
+}
+
+impl<T: Clear, J: MoveAll> Play<Slot<T>, View> for LiftAll<T, J> {
+    ghost use Rattle.poolsteps.specs.Layout.{spots_at};
+    ghost use Rattle.poolsteps.specs.Batches.{LiftsAll};
+
+    ghost then = { λ step before found after. LiftsAll T.content T.room (spots_at J.directory J.shape) J.shape J.place J.order J.status before after };
+}
+
+/// A look that gives all slots of a place back.
+pub(crate) struct LayAll<T, J: MoveAll> {
+    of: PhantomData<(T, J)>,
+}
+
+impl<T: Clear, J: MoveAll> Play<Slot<T>, View> for LayAll<T, J> {
+    ghost use Rattle.poolsteps.specs.Layout.{spots_at};
+    ghost use Rattle.poolsteps.specs.Batches.{LaysAll};
+
+    ghost then = { λ step before found after. LaysAll T.content T.room (spots_at J.directory J.shape) J.shape J.place J.status J.stored before after };
 }
 
 /// A lane's seat is cut from that of all lanes.

@@ -47,7 +47,7 @@ fn clear_alone<T: Clear + Drop, R: Abort>(
     let at = At {
         spot,
         lane: 1,
-        top: 0,
+        tops: &[0, 0],
     };
     let (marked, reclaimed) = clear(alloc, grid, hand, at, KEY);
     assert!(rt; marked);
@@ -70,7 +70,7 @@ fn get_and_release<T: Clear + Drop, R: Abort>(
     let at = At {
         spot,
         lane: 1,
-        top: 0,
+        tops: &[0, 0],
     };
     let Got::Hit = get(alloc, grid, hand, at, KEY) else {
         panic!(rt; "a miss")

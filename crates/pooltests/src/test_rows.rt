@@ -246,10 +246,10 @@ fn get_by_key<T: Clear + Drop, R: Abort>(
     ensures owns { Owns pool.now lane.new }
     ensures refs { refs lane.new ≡ refs lane.old + 1 }
 {
-    let Some(position) = pool.get_at(lane, key) else {
+    let Some(start) = pool.get_at(lane, key) else {
         panic!(rt; "{key} isn't found")
     };
-    same(rt, &lane.read_at(position, key).room(), &room);
+    same(rt, &lane.read_at(start, key).room(), &room);
 }
 
 /// A reference is given back by its key.

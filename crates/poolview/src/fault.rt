@@ -3,19 +3,15 @@ ghost use Rattle.poolview.specs.declared.fault.WordsFault.TheVariants as faults;
 
 use clap::Error as ClapError;
 use std::alloc::AllocError;
-use thiserror::Error;
 
 /// Why the words ask for nothing.
-#[derive(Debug, Drop, Error)]
+#[derive(Drop)]
 pub(crate) enum WordsFault {
     /// `clap` refused the words, or help was asked for.
-    #[error(transparent)]
     Clap(ClapError),
     /// A word is wrong that `clap` took.
-    #[error("words")]
     Words,
     /// Memory was refused.
-    #[error("out of memory")]
     Memory(AllocError),
 }
 
@@ -32,5 +28,27 @@ impl From<AllocError> for WordsFault {
 
     fn from(refused: AllocError) -> WordsFault {
         WordsFault::Memory(refused)
+    }
+}
+
+/// Why a trace isn't shown: a fault that `poolrun` has too.
+#[derive(Clone, Copy)]
+pub(crate) enum Fault {
+    /// The file can't be opened or read to its end.
+    File,
+    /// A write failed.
+    Output,
+    /// Memory was refused.
+    Memory,
+}
+
+impl Fault {
+    /// The line of the fault.
+    pub(crate) fn line(self) -> &'static str {
+        match self {
+            Fault::File => "fault 41 File",
+            Fault::Output => "fault 42 Output",
+            Fault::Memory => "fault 43 Memory",
+        }
     }
 }

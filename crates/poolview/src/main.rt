@@ -11,22 +11,22 @@ ghost use Rattle.clap.specs.declared.error.Error.{Error as ClapError};
 ghost use Rattle.std.specs.declared.alloc.AllocError.{AllocError};
 ghost use Rattle.poolview.specs.Statuses.{IsHelp, IsMistake};
 
-use crate::fault::WordsFault;
+use crate::fault::{Fault, WordsFault};
 use crate::words::{Show, Task, read_task};
 use clap::Error as ClapError;
 use clap::error::ErrorKind;
-use poolprogram::{RunFault, Watched, load, load_input, write_and_flush, write_report};
 use std::alloc::{AllocError, Global};
+use std::io::{Read, Write};
 use std::process::ExitCode;
-use std::{env, io};
+use std::{env, fs, io};
 use tracelines::{Line, ReadFault, read_trace};
 use traceviews::{picture_text, summary_text, words_text};
 
 /// Prints the line of a fault, and ends with its status, 1.
-fn fail(rt: &HostRuntime, fault: RunFault) -> ExitCode
+fn fail(rt: &HostRuntime, fault: Fault) -> ExitCode
     ensures { exit_status result ≡ 1 }
 {
-    let _ = write_report(&Err(fault), &mut rt.stderr());
+    let _ = eprintln!(rt; "{}", fault.line());
     ExitCode::FAILURE
 }
 
@@ -38,14 +38,14 @@ fn report_clap(rt: &HostRuntime, error: &ClapError) -> ExitCode
     ensures mistake { IsMistake (kind_of error.now) → exit_status result ≡ 2 }
 {
     if error.kind() == ErrorKind::OutOfMemory {
-        return fail(rt, RunFault::Memory);
+        return fail(rt, Fault::Memory);
     }
     let printed = error.print(rt);
     if error.use_stderr() {
         return ExitCode::from(2);
     }
     if printed.is_err() {
-        return fail(rt, RunFault::Output);
+        return fail(rt, Fault::Output);
     }
     ExitCode::SUCCESS
 }
@@ -62,7 +62,7 @@ fn report_words(rt: &HostRuntime, fault: WordsFault) -> ExitCode
             let _ = eprintln!(rt; "words");
             ExitCode::from(2)
         }
-        WordsFault::Memory(_) => fail(rt, RunFault::Memory),
+        WordsFault::Memory(_) => fail(rt, Fault::Memory),
     }
 }
 
@@ -79,12 +79,25 @@ fn read_args(rt: &HostRuntime) -> Result<Vec<String>, WordsFault> {
     }
 }
 
+/// What is left of standard input.
+fn read_input(rt: &HostRuntime) -> io::Result<Vec<u8>> {
+    let mut bytes = Vec::new(rt.alloc());
+    rt.stdin().read_to_end(&mut bytes)?;
+    Ok(bytes)
+}
+
 /// The bytes of the trace's file, or of standard input where its path is a dash.
-fn read_file(rt: &HostRuntime, path: &str) -> Result<Vec<u8>, RunFault> {
-    if path == "-" {
-        return load_input(rt.alloc(), &mut rt.stdin());
+fn read_file(rt: &HostRuntime, path: &str) -> Result<Vec<u8>, Fault> {
+    let read = if path == "-" {
+        read_input(rt)
+    } else {
+        fs::read(rt, path)
+    };
+    match read {
+        Ok(bytes) => Ok(bytes),
+        Err(error) if error.kind() == io::ErrorKind::OutOfMemory => Err(Fault::Memory),
+        Err(_) => Err(Fault::File),
     }
-    load(rt, path)
 }
 
 /// What is shown of a trace.
@@ -96,12 +109,22 @@ fn shown(alloc: Global, show: &Show, lines: &[Line]) -> Result<Vec<u8>, AllocErr
     }
 }
 
+/// Prints a text on standard output.
+fn print_text(rt: &HostRuntime, text: &[u8]) -> io::Result<()> {
+    let mut out = rt.stdout();
+    out.write_all(text)?;
+    out.flush()
+}
+
 /// Shows the lines of a trace on standard output.
-fn show_lines(rt: &HostRuntime, show: &Show, lines: &[Line]) -> Result<(), RunFault> {
-    let text = shown(rt.alloc(), show, lines)?;
-    let mut out = Watched::new(rt.stdout());
-    write_and_flush(text.as_slice(), &mut out)?;
-    Ok(())
+fn show_lines(rt: &HostRuntime, show: &Show, lines: &[Line]) -> Result<(), Fault> {
+    let Ok(text) = shown(rt.alloc(), show, lines) else {
+        return Err(Fault::Memory);
+    };
+    match print_text(rt, text.as_slice()) {
+        Ok(()) => Ok(()),
+        Err(_) => Err(Fault::Output),
+    }
 }
 
 /// Prints why a text is no trace: the number of its first line that is none, and what is wanted there.
@@ -109,7 +132,7 @@ fn report_line(rt: &HostRuntime, fault: ReadFault) -> ExitCode
     ensures { exit_status result ≡ 1 }
 {
     if fault == ReadFault::Memory {
-        return fail(rt, RunFault::Memory);
+        return fail(rt, Fault::Memory);
     }
     let _ = eprintln!(rt; "{fault}");
     ExitCode::FAILURE

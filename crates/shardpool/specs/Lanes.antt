@@ -12,6 +12,7 @@ use Rattle.seqpool.specs.Pool.{with, has, references_in, is_marked, pool_after, 
 use Rattle.seqpool.specs.Histories.{acts_of}
 use Rattle.steplaws.specs.Calls.{Call}
 use Rattle.poolsteps.specs.declared.view.View.{View}
+use Rattle.poolsteps.specs.Layout.{slot_start}
 use Rattle.poolsteps.specs.Views.{the_lane}
 use Rattle.poolsteps.specs.Told.{MayPublish, references_seen}
 use Rattle.poolsteps.specs.ViewLaws.{references_made}
@@ -62,9 +63,10 @@ pub record IsFilling (lane : LaneOf) (place : ℕ) : Type 0 where
   pub unlisted : (at : Place) → Contains lane.free.own at → number_of at ≡ place → ⊥
   pub unchained : has (the_lane lane.book).chain place ≡ false
 
--- the lane made the filling: the key is the next of a place that is a filling of the lane
+-- the lane made the filling: the key is the next of a place that is a filling of the lane, and stands where the filling says
 pub record Made {T : Type 0} (lane : LaneOf) (filling : FillingOf T) : Type 0 where
   pub table : filling.table ≡ lane.table
+  pub start : filling.start ≡ slot_start lane.shape (place_of filling.key)
   pub place : IsFilling lane (place_of filling.key)
   pub may : MayPublish lane.shape lane.book filling.key
   pub emptied : AreEmptied lane.shape (the_lane lane.book) (place_of filling.key)

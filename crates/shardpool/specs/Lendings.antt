@@ -2,7 +2,7 @@
 use Rattle.std.specs.Prelude.{◌≡◌, ℕ, ◌<◌, [], Option, Some, slice_get, slice_set}
 use Rattle.atomic_table.specs.Table.{Me}
 use Rattle.keybits.specs.declared.shape.Shape.{Shape}
-use Rattle.keybits.specs.Shapes.{position_of}
+use Rattle.poolsteps.specs.Layout.{slot_start}
 use Rattle.keybits.specs.Keys.{place_of}
 use Rattle.sharelaws.specs.declared.stored.Status.TheVariants.{Untouched}
 use Rattle.slotcell.specs.Share.{Share}
@@ -16,13 +16,13 @@ use Rattle.shardpool.specs.declared.state.LaneState.{LaneState}
 -- where the row of the key's place counts one reference, its share is back in the lane's slot, and where it counts more, nothing is moved; nothing else of the state is changed
 pub record LendsHome {T : Type 0} (z : Shape) (key : ℕ) (before after : Me (Option (Share T)) View) (old new : LaneState T) : Type 0 where
   pub row : HeldKey T
-  pub stands : slice_get old.rows.items (position_of z (place_of key)) ≡ Some row
+  pub stands : slice_get old.rows.items (slot_start z (place_of key)) ≡ Some row
   pub did : Did z (place_of key) [] 0 2 before after
   pub pushed : (the_lane after.0).pushed ≡ (the_lane before.0).pushed
   pub idle : IsIdle after.0
   -- what is then left of the row's share
   pub share : Option (Share T)
-  pub rows : new.rows.items ≡ slice_set old.rows.items (position_of z (place_of key)) (record row { share = share })
+  pub rows : new.rows.items ≡ slice_set old.rows.items (slot_start z (place_of key)) (record row { share = share })
   pub rest : new ≡ record old { rows = new.rows }
   pub last : row.count ≡ 1 → status_of (the_lane after.0) (place_of key) old.number ≡ Untouched
   pub still : 1 < row.count → IsUnmoved (place_of key) (the_lane before.0) (the_lane after.0) × (share ≡ row.share)

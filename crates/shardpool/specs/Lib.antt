@@ -1,6 +1,7 @@
 pub mod Tokens
 pub mod Places
 pub mod Remains
+pub mod Rows
 pub mod LaneStates
 pub mod Lanes
 pub mod Seen

@@ -4,12 +4,12 @@ use Rattle.core.specs.declared.slots.Slots.{Slots}
 use Rattle.core.specs.Mem.Slots.{slots_items, slots_len, slots_ptr, IsFull}
 use Rattle.keybits.specs.declared.shape.Shape.{Shape}
 use Rattle.keybits.specs.Places.{shard_of}
-use Rattle.keybits.specs.Shapes.{all_places, is_place, position_of}
+use Rattle.keybits.specs.Shapes.{is_place}
 use Rattle.seqpool.specs.declared.act.Act.{Act}
 use Rattle.seqpool.specs.Pool.{published, home, has, pool_after}
 use Rattle.slotcell.specs.Share.{Share}
 use Rattle.poolsteps.specs.Views.{the_lane}
-use Rattle.poolsteps.specs.Layout.{slot_index}
+use Rattle.poolsteps.specs.Layout.{slot_start, slot_row, slot_index}
 use Rattle.poolsteps.specs.Joins.{IsSlotRow, IsSpread, IsResting, IsUnspread, IsUnrested, HasNoCell}
 use Rattle.shardpool.specs.declared.state.HeldKey.{HeldKey}
 use Rattle.shardpool.specs.declared.state.LaneState.{LaneState}
@@ -27,12 +27,12 @@ module _ {T : Type 0} where
 
   -- the share under a lane's references to a place is in the lane's slot of it
   abbrev pub IsBack : Shape → ℕ → List (HeldKey T) → List (Option (Share T)) → Type 0
-  IsBack z number rows slots = (place : ℕ) → is_place z place ≡ true → (row : HeldKey T) (s : Share T) → slice_get rows (position_of z place) ≡ Some row → 0 < row.count → row.share ≡ Some s
+  IsBack z number rows slots = (place : ℕ) → is_place z place ≡ true → (row : HeldKey T) (s : Share T) → slice_get rows (slot_start z place) ≡ Some row → 0 < row.count → row.share ≡ Some s
       → slice_get slots (slot_index z place number) ≡ Some (Some s)
 
   -- no row of the lane that counts a reference has its slot at this index
   abbrev pub IsOff : Shape → ℕ → List (HeldKey T) → ℕ → Type 0
-  IsOff z number rows index = (place : ℕ) → is_place z place ≡ true → (row : HeldKey T) → slice_get rows (position_of z place) ≡ Some row → 0 < row.count → index ≢ slot_index z place number
+  IsOff z number rows index = (place : ℕ) → is_place z place ≡ true → (row : HeldKey T) → slice_get rows (slot_start z place) ≡ Some row → 0 < row.count → index ≢ slot_index z place number
 
   -- the shares of a lane's rows are in the lane's slots, and every other slot is as before
   pub record GivesBack (z : Shape) (number : ℕ) (rows : List (HeldKey T)) (old new : Slots (Option (Share T))) : Type 0 where
@@ -41,10 +41,10 @@ module _ {T : Type 0} where
     pub row : IsSlotRow z new
     pub start : slots_ptr new ≡ slots_ptr old
 
-  -- the states are those of different lanes of the pool, and each has a row for each place
+  -- the states are those of different lanes of the pool, and each has a row where each place stands
   pub record MayHandBack (z : Shape) (states : List (LaneState T)) : Type 0 where
     pub below : (i : ℕ) (state : LaneState T) → slice_get states i ≡ Some state → state.number < z.lanes
-    pub wide : (i : ℕ) (state : LaneState T) → slice_get states i ≡ Some state → length state.rows.items ≡ all_places z
+    pub wide : (i : ℕ) (state : LaneState T) → slice_get states i ≡ Some state → length state.rows.items ≡ slot_row z
     pub once : (i j : ℕ) (one other : LaneState T) → slice_get states i ≡ Some one → slice_get states j ≡ Some other → one.number ≡ other.number → i ≡ j
 
   -- it is the state without its rows

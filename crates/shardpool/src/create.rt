@@ -4,6 +4,7 @@ ghost use Rattle.std.specs.Prelude.{◌≡◌, ◌≢◌, ◌<◌, ◌≤◌, �
 ghost use mathlib.Core.List.{IsPrefix};
 ghost use Rattle.shardpool.specs.Tokens.{FillingOf};
 ghost use Rattle.shardpool.specs.Lanes.{Owns, Made, holds, refs};
+ghost use Rattle.poolsteps.specs.Grids.{IsSpot};
 ghost use Rattle.poolsteps.specs.Views.{the_lane};
 ghost use Rattle.shardpool.specs.Creates.{Pops, TakesReturned, FollowsChain, OpensPage, Fills, IsLoose, Gives, GivesNone};
 ghost use Rattle.shardpool.specs.declared.create.CreateFault.TheVariants.{Full, Memory};
@@ -13,6 +14,7 @@ use crate::pool::Pool;
 use crate::stores::{hang, open_next, take_own};
 use crate::token::Filling;
 use poolcalls::{collect, follow, next_key};
+use poolsteps::Spot;
 use slotcell::{Clear, Whole};
 use std::alloc::Global;
 use std::error::Error;
@@ -74,16 +76,16 @@ impl<T: Clear + Drop> Pool<T> {
     {
         // A proof knows the invariant of a lane once a field of it is seen.
         let _ = &lane.state;
-        if let Some((place, object)) = pop(lane) {
-            return Ok(self.fill(lane, place, object));
+        if let Some((spot, object)) = pop(lane) {
+            return Ok(self.fill(lane, spot, object));
         }
         self.take_returned(lane);
-        if let Some((place, object)) = self.follow(lane) {
-            return Ok(self.fill(lane, place, object));
+        if let Some((spot, object)) = self.follow(lane) {
+            return Ok(self.fill(lane, spot, object));
         }
         open_page(lane)?;
         match pop(lane) {
-            Some((place, object)) => Ok(self.fill(lane, place, object)),
+            Some((spot, object)) => Ok(self.fill(lane, spot, object)),
             None => unreachable!(),
         }
     }
@@ -105,10 +107,11 @@ impl<T: Clear + Drop> Pool<T> {
     }
 
     /// Follows the taken chain: its first place, with its object. None where no taken place is still to be followed.
-    fn follow(&self, lane: &mut Lane<T>) -> Option<(u32, Whole<T>)>
+    fn follow(&self, lane: &mut Lane<T>) -> Option<(Spot, Whole<T>)>
         requires owns { Owns self.now lane.old }
         ensures none { IsNone result → (lane.new ≡ lane.old) × ((the_lane lane.old.book).chain ≡ []) }
-        ensures some { IfSome result (λ taken. FollowsChain T.content T.room lane.old lane.new taken.0 taken.1) }
+        ensures some { IfSome result (λ taken. FollowsChain T.content T.room lane.old lane.new taken.0.place taken.1) }
+        ensures spot { IfSome result (λ taken. IsSpot self.now.shape taken.0 taken.0.place) }
         ensures fillings { (filling : FillingOf T) → Made lane.old filling → Made lane.new filling }
     {
         let first = lane.state.free.chain()?;
@@ -116,30 +119,35 @@ impl<T: Clear + Drop> Pool<T> {
         let number = lane.state.number;
         let (link, object) = follow(lane.state.alloc, &self.grid, &mut lane.hand, spot, number);
         lane.state.free.follow(link);
-        Some((spot.place, object))
+        Some((spot, object))
     }
 
     /// A look at the generation of a place of the lane that nobody has: a filling of it.
-    fn fill(&self, lane: &mut Lane<T>, place: u32, object: Whole<T>) -> Filling<T>
+    fn fill(&self, lane: &mut Lane<T>, spot: Spot, object: Whole<T>) -> Filling<T>
         requires owns { Owns self.now lane.old }
-        requires loose { IsLoose T.content T.room lane.old place object }
-        ensures fills { Fills lane.old lane.new place object result }
+        requires spot { IsSpot self.now.shape spot spot.place }
+        requires loose { IsLoose T.content T.room lane.old spot.place object }
+        ensures fills { Fills lane.old lane.new spot.place object result }
         ensures fillings { (filling : FillingOf T) → Made lane.old filling → Made lane.new filling }
     {
-        let spot = self.grid.spot(place);
         let key = next_key(&self.grid, &mut lane.hand, spot);
-        Filling::of(&lane.hand, key, object)
+        Filling::of(&lane.hand, key, spot.start, object)
     }
 }
 
-/// The first place of the lane's own list, with its object. None where the list is empty.
-fn pop<T: Clear + Drop>(lane: &mut Lane<T>) -> Option<(u32, Whole<T>)>
+/// Where the first place of the lane's own list stands, and its object. None where the list is empty.
+fn pop<T: Clear + Drop>(lane: &mut Lane<T>) -> Option<(Spot, Whole<T>)>
     ensures none { IsNone result → (lane.new ≡ lane.old) × (lane.old.free.own ≡ []) }
-    ensures some { IfSome result (λ taken. Pops T.content T.room lane.old lane.new taken.0 taken.1) }
+    ensures some { IfSome result (λ taken. Pops T.content T.room lane.old lane.new taken.0.place taken.1) }
+    ensures spot { IfSome result (λ taken. IsSpot lane.old.shape taken.0 taken.0.place) }
     ensures fillings { (filling : FillingOf T) → Made lane.old filling → Made lane.new filling }
 {
-    let (place, object) = take_own(&mut lane.state)?;
-    Some((place.number(), object))
+    let (place, start, object) = take_own(&mut lane.state)?;
+    let spot = Spot {
+        place: place.number(),
+        start,
+    };
+    Some((spot, object))
 }
 
 /// Opens the lane's next page: an object for each of its places, which are then the lane's own list.

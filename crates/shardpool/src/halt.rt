@@ -95,11 +95,10 @@ impl<T: Clear + Drop> Pool<T> {
         let Some(spot) = self.find(key) else {
             return;
         };
-        let top = state.top(spot.place);
         let at = At {
             spot,
             lane: state.number,
-            top,
+            tops: &state.last_pushed,
         };
         get_within(state.alloc, &self.grid, hand, at, key, limit);
     }
@@ -114,11 +113,10 @@ impl<T: Clear + Drop> Pool<T> {
         let Some(spot) = self.find(key) else {
             return;
         };
-        let top = state.top(spot.place);
         let at = At {
             spot,
             lane: state.number,
-            top,
+            tops: &state.last_pushed,
         };
         clear_within(state.alloc, &self.grid, hand, at, key, limit);
     }
@@ -135,13 +133,13 @@ impl<T: Clear + Drop> Pool<T> {
             return;
         }
         let spot = self.grid.spot(place_of(key));
-        let top = state.top(spot.place);
+        let number = state.number;
+        return_last_share(&self.grid, hand, state, spot, key);
         let at = At {
             spot,
-            lane: state.number,
-            top,
+            lane: number,
+            tops: &state.last_pushed,
         };
-        return_last_share(&self.grid, hand, state, spot, key);
         release_within(state.alloc, &self.grid, hand, at, key, limit);
     }
 

@@ -40,7 +40,8 @@ impl<T: Clear> Lane<T> {
     ghost use Rattle.keybits.specs.declared.place.Place.{Place};
     ghost use Rattle.keybits.specs.Places.{shard_of, page_of, number_of};
     ghost use Rattle.keybits.specs.Keys.{place_of};
-    ghost use Rattle.keybits.specs.Shapes.{is_place, position_of};
+    ghost use Rattle.keybits.specs.Shapes.{is_place};
+    ghost use Rattle.poolsteps.specs.Layout.{slot_start};
     ghost use Rattle.freelists.specs.Queues.{numbers};
     ghost use Rattle.seqpool.specs.Pool.{with, has, NoRepeats, pool_after, IsLegal};
     ghost use Rattle.seqpool.specs.Histories.{PublishedAt, acts_of};
@@ -76,8 +77,11 @@ impl<T: Clear> Lane<T> {
         if !keybits::fits(key, &self.state.shape) {
             return 0;
         }
-        let position = self.state.shape.position(place_of(key));
-        count_to(&self.state, position, key)
+        count_to(
+            &self.state,
+            self.state.places.start(place_of(key)) as usize,
+            key,
+        )
     }
 
     /// A reference to a key to which the lane has one: so a program may keep keys in place of references. None where it has none.
@@ -88,7 +92,7 @@ impl<T: Clear> Lane<T> {
         if self.holds(key) == 0 {
             return None;
         }
-        Some(Ref::to(key))
+        Some(Ref::to(key, self.state.places.start(place_of(key))))
     }
 
     /// As a law: the lane has nothing under way, and what it has seen is a legal history of the pool, with a room beside each act, and with
@@ -130,19 +134,15 @@ impl<T: Clear> Lane<T> {
         ensures { (j : ℕ) × PublishedAt self.now.book.seen j reference.now.key (T.content result.now) }
     {
         let key = reference.key;
-        self.read_at(self.state.places.position(place_of(key)), key)
+        self.read_at(self.state.start_of(key, reference.start), key)
     }
 
-    /// As `read`, of a key to which the lane has a reference, and whose place has this position among the places of the pool, which
-    /// `Pool::get_at` answers.
-    pub fn read_at(&self, position: usize, key: u64) -> &T
+    /// As `read`, of a key to which the lane has a reference, and whose place stands here, as `Pool::get_at` answers.
+    pub fn read_at(&self, start: u32, key: u64) -> &T
         requires held { 1 ≤ holds self.now key }
-        requires position { position ≡ position_of self.now.shape (place_of key) }
+        requires start { start ≡ slot_start self.now.shape (place_of key) }
         ensures { (j : ℕ) × PublishedAt self.now.book.seen j key (T.content result.now) }
     {
-        match &self.state.rows[position].share {
-            Some(share) => share.read(),
-            None => unreachable!(),
-        }
+        self.state.rows[start as usize].share.read()
     }
 }

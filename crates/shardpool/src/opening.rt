@@ -14,8 +14,8 @@ use crate::pool::Pool;
 use crate::state::{HeldKey, LaneState};
 use freelists::{LocalFree, Pages};
 use keybits::Shape;
-use poolsteps::{Grid, Hand};
-use slotcell::{Clear, Whole};
+use poolsteps::{Grid, Hand, slot_row};
+use slotcell::{Clear, Slot, Whole};
 use std::alloc::Global;
 
 /// Opens a pool of this shape. Its lanes stand by rising number; none has a free place yet, and no page is opened.
@@ -70,12 +70,12 @@ fn lane_of<T: Clear + Drop>(
         shape: *shape,
         number,
         references: 0,
-        rows: first_rows(alloc, shape.all_places())?,
+        rows: first_rows(alloc, slot_row(shape))?,
         last_pushed: vec![in alloc; 0; shape.lanes as usize].ok()?,
         free: LocalFree::new(alloc, shard, shape.first_page, shape.pages)?,
         pages: Pages::new(shard, shape.first_page, shape.pages),
         objects: no_objects(alloc, shape.shard_places() as usize)?,
-        places: Places::of(alloc, shape)?,
+        places: Places::of(alloc, shape, number)?,
         alloc,
     };
     let row = HandRow::new(alloc)?;
@@ -84,14 +84,14 @@ fn lane_of<T: Clear + Drop>(
 
 /// So many rows, each without a reference. None where memory was refused.
 fn first_rows<T: Drop>(alloc: Global, count: usize) -> Option<Vec<HeldKey<T>>>
-    ensures { IfSome result (λ rows. rows.items ≡ replicate count (record { generation = 1; count = 0; share = None })) }
+    ensures { IfSome result (λ rows. rows.items ≡ replicate count (record { key = 0; count = 0; share = None })) }
 {
     let mut rows = Vec::with_capacity(alloc, count).ok()?;
     for _ in 0..count {
         rows.push_reserved(HeldKey {
-            generation: 1,
+            key: 0,
             count: 0,
-            share: None,
+            share: Slot::empty(),
         });
     }
     Some(rows)

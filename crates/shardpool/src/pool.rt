@@ -2,7 +2,7 @@
 ghost use Rattle.std.specs.Prelude.{◌≡◌, ◌≢◌, ◌==◌, ℕ, ◌+◌, ◌-◌, ◌<◌, ◌≤◌, ◌↔◌, true, false, is_some, option_map, IsNone, IfSome, IsSome, IsTrue, IsFalse, [], ◌∷◌, List, if◌then◌else◌};
 ghost use mathlib.Core.List.{IsPrefix};
 ghost use Rattle.keybits.specs.Keys.{is_key, place_of};
-ghost use Rattle.keybits.specs.Shapes.{position_of};
+ghost use Rattle.poolsteps.specs.Layout.{slot_start};
 ghost use Rattle.seqpool.specs.declared.act.Act.{Act};
 ghost use Rattle.seqpool.specs.declared.act.Act.TheVariants as acts;
 ghost use Rattle.steplaws.specs.Calls.Call.{Publishing, Getting, Releasing, Clearing};
@@ -73,14 +73,14 @@ impl<T: Clear + Drop> Pool<T> {
         ensures no_more { IsNone result → (k : ℕ) → holds lane.new k ≡ holds lane.old k }
         ensures fillings { (filling : FillingOf T) → Made lane.old filling → Made lane.new filling }
     {
-        let _ = self.get_at(lane, key)?;
-        Some(Ref::to(key))
+        let start = self.get_at(lane, key)?;
+        Some(Ref::to(key, start))
     }
 
     /// A get whose reference stays with the lane, for who keeps keys in place of references: answers where `Lane::read_at` finds the
     /// object without looking for the key's place again.
     #[inline]
-    pub fn get_at(&self, lane: &mut Lane<T>, key: u64) -> Option<usize>
+    pub fn get_at(&self, lane: &mut Lane<T>, key: u64) -> Option<u32>
         requires owns { Owns self.now lane.old }
         requires room { refs lane.old < most_references }
         ensures owns { Owns self.now lane.new }
@@ -92,7 +92,7 @@ impl<T: Clear + Drop> Pool<T> {
         ensures missed { IsNone result → MissedSince key lane.old lane.new }
         ensures seen { IsPrefix lane.old.book.seen lane.new.book.seen }
         ensures refs { refs lane.new ≡ refs lane.old + (if is_some result then 1 else 0) }
-        ensures held { IfSome result (λ at. (at ≡ position_of self.now.shape (place_of key)) × (1 ≤ holds lane.new key)) }
+        ensures held { IfSome result (λ at. (at ≡ slot_start self.now.shape (place_of key)) × (1 ≤ holds lane.new key)) }
         ensures one_more { IsSome result → (k : ℕ) → holds lane.new k ≡ (if key == k then holds lane.old k + 1 else holds lane.old k) }
         ensures no_more { IsNone result → (k : ℕ) → holds lane.new k ≡ holds lane.old k }
         ensures fillings { (filling : FillingOf T) → Made lane.old filling → Made lane.new filling }
@@ -100,27 +100,26 @@ impl<T: Clear + Drop> Pool<T> {
         shares_law();
         let number = lane.state.number;
         let spot = self.find(key)?;
-        let top = lane.state.top(spot.place);
         let at = At {
             spot,
             lane: number,
-            top,
+            tops: &lane.state.last_pushed,
         };
         let got = get(lane.state.alloc, &self.grid, &mut lane.hand, at, key);
         match got {
             Got::Miss(reclaimed) => {
-                keep_reclaimed(&mut lane.state, spot.place, reclaimed);
+                keep_reclaimed(&mut lane.state, spot, reclaimed);
                 return None;
             }
             Got::Hit => {}
         }
-        if lane.state.rows[spot.position as usize].count > 0 {
-            add_reference(&mut lane.state, spot.position as usize);
-            return Some(spot.position as usize);
+        if lane.state.rows[spot.start as usize].count > 0 {
+            add_reference(&mut lane.state, spot.start as usize);
+            return Some(spot.start);
         }
         let share = self.grid.out(&mut lane.hand, spot, number, number);
-        add_first_reference(&mut lane.state, spot.position as usize, key, share);
-        Some(spot.position as usize)
+        add_first_reference(&mut lane.state, spot.start as usize, key, share);
+        Some(spot.start)
     }
 
     /// Gives a reference back. Where it was the last to a key that is cleared, the object is cleared in place.
@@ -135,8 +134,12 @@ impl<T: Clear + Drop> Pool<T> {
         ensures one_less { (k : ℕ) → holds lane.new k ≡ (if reference.key == k then holds lane.old k - 1 else holds lane.old k) }
         ensures fillings { (filling : FillingOf T) → Made lane.old filling → Made lane.new filling }
     {
+        let start = lane.state.start_of(reference.key, reference.start);
         let key = reference.spend();
-        let spot = self.grid.spot(place_of(key));
+        let spot = Spot {
+            place: place_of(key),
+            start,
+        };
         self.release_at(lane, spot, key);
     }
 
@@ -158,7 +161,7 @@ impl<T: Clear + Drop> Pool<T> {
         let Some(spot) = self.find(key) else {
             return false;
         };
-        if count_to(&lane.state, spot.position as usize, key) == 0 {
+        if count_to(&lane.state, spot.start as usize, key) == 0 {
             return false;
         }
         self.release_at(lane, spot, key);
@@ -179,16 +182,16 @@ impl<T: Clear + Drop> Pool<T> {
         ensures one_less { (k : ℕ) → holds lane.new k ≡ (if key == k then holds lane.old k - 1 else holds lane.old k) }
         ensures fillings { (filling : FillingOf T) → Made lane.old filling → Made lane.new filling }
     {
-        let top = lane.state.top(spot.place);
+        let number = lane.state.number;
+        return_last_share(&self.grid, &mut lane.hand, &mut lane.state, spot, key);
         let at = At {
             spot,
-            lane: lane.state.number,
-            top,
+            lane: number,
+            tops: &lane.state.last_pushed,
         };
-        return_last_share(&self.grid, &mut lane.hand, &mut lane.state, spot, key);
         let reclaimed = release(lane.state.alloc, &self.grid, &mut lane.hand, at, key);
-        drop_reference(&mut lane.state, spot.position as usize);
-        keep_reclaimed(&mut lane.state, spot.place, reclaimed);
+        drop_reference(&mut lane.state, spot.start as usize);
+        keep_reclaimed(&mut lane.state, spot, reclaimed);
     }
 
     /// Clears the object of a key: true where it is this call that marked the key, which a get then finds no more. The last
@@ -212,14 +215,13 @@ impl<T: Clear + Drop> Pool<T> {
         let Some(spot) = self.find(key) else {
             return false;
         };
-        let top = lane.state.top(spot.place);
         let at = At {
             spot,
             lane: number,
-            top,
+            tops: &lane.state.last_pushed,
         };
         let (marked, reclaimed) = clear(lane.state.alloc, &self.grid, &mut lane.hand, at, key);
-        keep_reclaimed(&mut lane.state, spot.place, reclaimed);
+        keep_reclaimed(&mut lane.state, spot, reclaimed);
         marked
     }
 
@@ -238,8 +240,11 @@ impl<T: Clear + Drop> Pool<T> {
         ensures room { room_of lane.new.book.seen lane.new.book.rooms (place_of filling.key) ≡ T.room filling.object }
         ensures fillings { (other : FillingOf T) → other.key ≢ filling.key → Made lane.old other → Made lane.new other }
     {
-        let (key, object) = filling.spend();
-        let spot = self.grid.spot(place_of(key));
+        let (key, start, object) = filling.spend();
+        let spot = Spot {
+            place: place_of(key),
+            start,
+        };
         publish(
             &self.grid,
             &mut lane.hand,
@@ -267,8 +272,11 @@ impl<T: Clear + Drop> Pool<T> {
         ensures room { room_of lane.new.book.seen lane.new.book.rooms (place_of filling.key) ≡ T.room filling.object }
         ensures fillings { (other : FillingOf T) → other.key ≢ filling.key → Made lane.old other → Made lane.new other }
     {
-        let (key, object) = filling.spend();
-        let spot = self.grid.spot(place_of(key));
+        let (key, start, object) = filling.spend();
+        let spot = Spot {
+            place: place_of(key),
+            start,
+        };
         let share = downgrade(
             &self.grid,
             &mut lane.hand,
@@ -277,8 +285,8 @@ impl<T: Clear + Drop> Pool<T> {
             key,
             object,
         );
-        add_first_reference(&mut lane.state, spot.position as usize, key, share);
-        Ref::to(key)
+        add_first_reference(&mut lane.state, spot.start as usize, key, share);
+        Ref::to(key, start)
     }
 
     /// Where a key's place stands. None for a number that is no key of the pool.

@@ -1,15 +1,17 @@
 //! How the shares under references go back into their slots when a pool is closed.
-ghost use Rattle.std.specs.Prelude.{◌≡◌, ◌<◌, Some, length, slice_get, slice_set};
+ghost use Rattle.std.specs.Prelude.{◌≡◌, ◌<◌, Some, None, length, slice_get, slice_set};
 ghost use Rattle.core.specs.Mem.Slots.{slots_len, IsFull};
-ghost use Rattle.keybits.specs.Shapes.{IsShape, all_places};
+ghost use Rattle.keybits.specs.Shapes.{IsShape};
+ghost use Rattle.poolsteps.specs.Layout.{slot_row};
 ghost use Rattle.poolsteps.specs.Joins.{IsSlotRow};
+ghost use Rattle.shardpool.specs.declared.state.HeldKey.{HeldKey as Row};
 ghost use Rattle.shardpool.specs.declared.state.LaneState.{LaneState as Shown};
 ghost use Rattle.shardpool.specs.Remains.{GivesRow, GivesBack, MayHandBack, IsStripped, HandsBack, AreStripped};
 
 use crate::state::{HeldKey, LaneState};
 use core::slots::Slots;
 use keybits::Shape;
-use poolsteps::{lay, slot_at};
+use poolsteps::{slot_at, slot_start};
 use slotcell::Slot;
 use std::mem;
 
@@ -44,19 +46,37 @@ fn take_rows<T: Drop>(states: &mut Vec<LaneState<T>>, index: usize) -> (u32, Vec
 }
 
 /// The shares under a lane's references go back into the lane's slots.
-fn give_back<T: Drop>(shape: &Shape, number: u32, rows: Vec<HeldKey<T>>, slots: &mut Slots<Slot<T>>)
+fn give_back<T: Drop>(
+    shape: &Shape,
+    number: u32,
+    mut rows: Vec<HeldKey<T>>,
+    slots: &mut Slots<Slot<T>>,
+)
     requires shape { IsShape shape.now }
     requires number { number < shape.now.lanes }
-    requires wide { length rows.items ≡ all_places shape.now }
+    requires wide { length rows.items ≡ slot_row shape.now }
     requires row { IsSlotRow shape.now slots.old }
     ensures { GivesBack shape.now number rows.items slots.old slots.new }
 {
-    let mut position = 0;
-    for row in rows {
+    for position in 0..shape.all_places() {
         let place = shape.place_at(position);
+        let row = take_row(&mut rows, slot_start(shape, place, position));
         give_row(slot_at(shape, place, position, number), row, slots);
-        position += 1;
     }
+}
+
+/// The row at this index, in whose stead there is then one without a reference.
+fn take_row<T: Drop>(rows: &mut Vec<HeldKey<T>>, index: usize) -> HeldKey<T>
+    requires { index < length rows.old.items }
+    ensures taken { (row : Row T) → slice_get rows.old.items index ≡ Some row → result ≡ row }
+    ensures left { rows.new.items ≡ slice_set rows.old.items index (record { key = 0; count = 0; share = None }) }
+{
+    let none = HeldKey {
+        key: 0,
+        count: 0,
+        share: Slot::empty(),
+    };
+    mem::replace(&mut rows[index], none)
 }
 
 /// The share of a row that counts a reference goes into the slot at this index.
@@ -66,8 +86,6 @@ fn give_row<T: Drop>(index: usize, row: HeldKey<T>, slots: &mut Slots<Slot<T>>)
     ensures { GivesRow index row slots.old slots.new }
 {
     if row.count > 0 {
-        if let Some(share) = row.share {
-            lay(index, share, slots);
-        }
+        slots.put(index, row.share);
     }
 }

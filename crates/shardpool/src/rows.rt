@@ -1,6 +1,6 @@
 //! The rows of a lane: its references to each place, and its shares under them.
 ghost use Rattle.std.specs.Prelude.{◌≡◌, ◌≢◌, ◌==◌, ◌+◌, ◌-◌, ◌<◌, ◌≤◌, Some, None, IsSome, slice_get, slice_set, length, if◌then◌else◌};
-ghost use Rattle.keybits.specs.Keys.{generation_of, place_of};
+ghost use Rattle.keybits.specs.Keys.{place_of};
 ghost use Rattle.steplaws.specs.Facts.{most_references};
 ghost use Rattle.poolsteps.specs.Grids.{IsOf, IsSpot, SameSeat};
 ghost use Rattle.poolsteps.specs.Told.{references_seen};
@@ -9,22 +9,18 @@ ghost use Rattle.shardpool.specs.LaneStates.{Fits};
 ghost use Rattle.shardpool.specs.Lendings.{LendsHome};
 
 use crate::state::{HeldKey, LaneState};
-use keybits::generation_of;
 use poolsteps::{Grid, Hand, Spot, shares_law};
-use slotcell::{Clear, Share};
+use slotcell::{Clear, Share, Slot};
+use std::mem;
 
 /// How many references the lane has to a key, by the row of the key's place.
 #[inline]
 pub(crate) fn count_to<T>(state: &LaneState<T>, at: usize, key: u64) -> u32
     requires at { at < length state.now.rows.items }
-    ensures { (row : Shown T) → slice_get state.now.rows.items at ≡ Some row → result ≡ (if generation_of key == row.generation then row.count else 0) }
+    ensures { (row : Shown T) → slice_get state.now.rows.items at ≡ Some row → result ≡ (if key == row.key then row.count else 0) }
 {
     let row = &state.rows[at];
-    if row.generation == generation_of(key) {
-        row.count
-    } else {
-        0
-    }
+    if row.key == key { row.count } else { 0 }
 }
 
 /// The row has the first reference to a key, with the share under it.
@@ -37,13 +33,13 @@ pub(crate) fn add_first_reference<T: Drop>(
 )
     requires at { at < length state.old.rows.items }
     requires room { state.old.references < most_references }
-    ensures rows { state.new.rows.items ≡ slice_set state.old.rows.items at (record { generation = generation_of key; count = 1; share = Some share }) }
+    ensures rows { state.new.rows.items ≡ slice_set state.old.rows.items at (record { key = key; count = 1; share = Some share }) }
     ensures rest { state.new ≡ record state.old { rows = state.new.rows; references = state.old.references + 1 } }
 {
     state.rows[at] = HeldKey {
-        generation: generation_of(key),
+        key,
         count: 1,
-        share: Some(share),
+        share: Slot::filled(share),
     };
     state.references += 1;
 }
@@ -73,7 +69,7 @@ pub(crate) fn take_last_share<T: Drop>(state: &mut LaneState<T>, at: usize) -> O
 {
     let row = &mut state.rows[at];
     if row.count == 1 {
-        row.share.take()
+        Some(mem::replace(&mut row.share, Slot::empty()).into_share())
     } else {
         None
     }
@@ -98,7 +94,7 @@ pub(crate) fn return_last_share<T: Clear + Drop>(
 {
     shares_law();
     let number = state.number;
-    if let Some(share) = take_last_share(state, spot.position as usize) {
+    if let Some(share) = take_last_share(state, spot.start as usize) {
         grid.back(hand, spot, number, number, share);
     }
 }

@@ -1,16 +1,17 @@
 //! What a lane keeps beside its seat.
 use crate::places::Places;
 use freelists::{LocalFree, Pages};
-use keybits::{Shape, shard_of};
-use slotcell::{Share, Whole};
+use keybits::{Shape, place_of};
+use slotcell::{Slot, Whole};
 use std::alloc::Global;
 
-/// What a lane has of a place: how many references to its key of which generation, and the share under them.
+/// What a lane has of a place: how many references to which of its keys, and the share under them.
 #[derive(Drop)]
 pub(crate) struct HeldKey<T> {
-    pub(crate) generation: u32,
+    /// The last key of the place to which the lane had a reference; 0, which is no key, before the first.
+    pub(crate) key: u64,
     pub(crate) count: u32,
-    pub(crate) share: Option<Share<T>>,
+    pub(crate) share: Slot<T>,
 }
 
 /// What a lane keeps beside its seat.
@@ -22,7 +23,7 @@ pub(crate) struct LaneState<T> {
     pub(crate) number: u32,
     /// How many references the lane has.
     pub(crate) references: u32,
-    /// A row for each place of the pool.
+    /// A row for each place of the pool, where the place stands.
     pub(crate) rows: Vec<HeldKey<T>>,
     /// For each shard the word that the lane last pushed there.
     pub(crate) last_pushed: Vec<u64>,
@@ -38,15 +39,31 @@ pub(crate) struct LaneState<T> {
 }
 
 impl<T> LaneState<T> {
-    ghost use Rattle.std.specs.Prelude.{◌≡◌, ◌<◌, length, slice_index};
-    ghost use Rattle.keybits.specs.Places.{shard_of};
+    ghost use Rattle.std.specs.Prelude.{◌≡◌, true};
+    ghost use Rattle.keybits.specs.Keys.{place_of, is_key};
+    ghost use Rattle.poolsteps.specs.Layout.{slot_start};
+    ghost use Rattle.shardpool.specs.Rows.{AreKeyed};
 
-    /// The word that the lane last pushed to the shard of a place.
+    /// Where the place of a key of the pool stands: likely here, as its row then tells.
     #[inline]
-    pub(crate) fn top(&self, place: u32) -> u64
-        requires { shard_of place < length self.now.last_pushed.items }
-        ensures { result ≡ slice_index self.now.last_pushed.items (shard_of place) }
+    pub(crate) fn start_of(&self, key: u64, likely: u32) -> u32
+        requires key { is_key self.now.places.shape key ≡ true }
+        requires keyed { AreKeyed self.now.places.shape self.now.rows.items }
+        ensures { result ≡ slot_start self.now.places.shape (place_of key) }
     {
-        self.last_pushed[shard_of(place) as usize]
+        match self.rows.get(likely as usize) {
+            Some(row) if row.key == key => likely,
+            _ => self.searched(key),
+        }
+    }
+
+    /// Where the place of a key of the pool stands, by its page.
+    #[cold]
+    #[inline(never)]
+    fn searched(&self, key: u64) -> u32
+        requires { is_key self.now.places.shape key ≡ true }
+        ensures { result ≡ slot_start self.now.places.shape (place_of key) }
+    {
+        self.places.start(place_of(key))
     }
 }

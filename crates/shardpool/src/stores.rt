@@ -8,6 +8,8 @@ ghost use Rattle.keybits.specs.Shapes.{IsShape, is_place, index_of, page_size, s
 ghost use Rattle.keybits.specs.Links.{linked_place};
 ghost use Rattle.freelists.specs.Shards.{shape_of, place_numbered};
 ghost use Rattle.freelists.specs.Queues.{IsAway};
+ghost use Rattle.poolsteps.specs.Grids.{IsSpot};
+ghost use Rattle.poolsteps.specs.Layout.{slot_start};
 ghost use Rattle.poolcalls.specs.declared.reclaimed.Reclaimed.TheVariants.{Own};
 ghost use Rattle.shardpool.specs.Stores.{KeepsOwn, Keeps, TakesOwn, Hangs};
 ghost use Rattle.shardpool.specs.Openings.{OpensNext};
@@ -15,18 +17,19 @@ ghost use Rattle.shardpool.specs.Openings.{OpensNext};
 use crate::state::LaneState;
 use keybits::{Place, link_to, linked_place, shard_of};
 use poolcalls::Reclaimed;
+use poolsteps::Spot;
 use slotcell::{Clear, Whole};
 
-/// An emptied object of an own place rests with the lane, and the place goes to the end of the lane's list.
+/// An emptied object of an own place rests with the lane, at the place's index, and the place goes to the end of the lane's list.
 #[inline(always)]
-pub(crate) fn keep<T: Drop>(state: &mut LaneState<T>, place: u32, whole: Whole<T>)
+pub(crate) fn keep<T: Drop>(state: &mut LaneState<T>, place: u32, index: usize, whole: Whole<T>)
     requires shape { IsShape state.old.shape }
     requires place { is_place state.old.shape place ≡ true }
+    requires index { index ≡ index_of state.old.shape place }
     requires narrow { length state.old.objects.items ≡ shard_places state.old.shape }
     requires away { IsAway state.old.free (place_numbered place) }
     ensures { KeepsOwn place whole state.old state.new }
 {
-    let index = state.shape.index(place);
     state.objects[index] = Some(whole);
     state.free.push(Place::of_number(place));
 }
@@ -35,36 +38,46 @@ pub(crate) fn keep<T: Drop>(state: &mut LaneState<T>, place: u32, whole: Whole<T
 #[inline(always)]
 pub(crate) fn keep_reclaimed<T: Drop>(
     state: &mut LaneState<T>,
-    place: u32,
+    spot: Spot,
     reclaimed: Option<Reclaimed<T>>,
 )
     requires shape { IsShape state.old.shape }
-    requires place { is_place state.old.shape place ≡ true }
+    requires spot { IsSpot state.old.shape spot spot.place }
+    requires placed { (state.old.places.shape ≡ state.old.shape) × (state.old.places.shard ≡ state.old.free.shard) }
     requires narrow { length state.old.objects.items ≡ shard_places state.old.shape }
     requires wide { length state.old.last_pushed.items ≡ state.old.shape.lanes }
-    requires away { (whole : T) → reclaimed ≡ Some (Own whole) → IsAway state.old.free (place_numbered place) }
-    ensures { Keeps place reclaimed state.old state.new }
+    requires away { (whole : T) → reclaimed ≡ Some (Own whole) → IsAway state.old.free (place_numbered spot.place) }
+    ensures { Keeps spot.place reclaimed state.old state.new }
 {
     match reclaimed {
-        Some(Reclaimed::Own(whole)) => keep(state, place, whole),
-        Some(Reclaimed::Returned) => state.last_pushed[shard_of(place) as usize] = link_to(place),
+        Some(Reclaimed::Own(whole)) => {
+            let index = state.places.index(spot.start);
+            keep(state, spot.place, index, whole);
+        }
+        Some(Reclaimed::Returned) => {
+            state.last_pushed[shard_of(spot.place) as usize] = link_to(spot.place);
+        }
         Some(Reclaimed::Retired) | None => {}
     }
 }
 
-/// The first place of the lane's list, with its object. None where the list is empty, which changes nothing.
-pub(crate) fn take_own<T: Drop>(state: &mut LaneState<T>) -> Option<(Place, Whole<T>)>
+/// The first place of the lane's list, where it stands, and its object. None where the list is empty, which changes nothing.
+#[inline]
+pub(crate) fn take_own<T: Drop>(state: &mut LaneState<T>) -> Option<(Place, u32, Whole<T>)>
     requires shape { IsShape state.old.shape }
     requires lane { state.old.free.shard < state.old.shape.lanes }
     requires lists { state.old.free.shape ≡ shape_of state.old.shape.first_page state.old.shape.pages }
+    requires placed { (state.old.places.shape ≡ state.old.shape) × (state.old.places.shard ≡ state.old.free.shard) }
     requires objects { (place : Shown) → Contains state.old.free.own place
         → (object : T) × (slice_get state.old.objects.items (index_of state.old.shape (number_of place)) ≡ Some (Some object)) }
-    ensures { MatchOption result ((state.old.free.own ≡ []) × (state.new ≡ state.old)) (λ taken. TakesOwn taken.0 taken.1 state.old state.new) }
+    ensures { MatchOption result ((state.old.free.own ≡ []) × (state.new ≡ state.old)) (λ taken. TakesOwn taken.0 taken.2 state.old state.new
+        × (taken.1 ≡ slot_start state.old.shape (number_of taken.0))) }
 {
     let place = state.free.pop()?;
-    let index = state.shape.index(place.number());
+    let start = state.places.start(place.number());
+    let index = state.places.index(start);
     match state.objects[index].take() {
-        Some(whole) => Some((place, whole)),
+        Some(whole) => Some((place, start, whole)),
         None => unreachable!(),
     }
 }
@@ -103,6 +116,8 @@ pub(crate) fn open_next<T: Clear + Drop>(state: &mut LaneState<T>, objects: Vec<
             page: page as u8,
             slot: state.free.len() as u16,
         };
-        keep(state, place.number(), object);
+        let number = place.number();
+        let index = state.shape.index(number);
+        keep(state, number, index, object);
     }
 }

@@ -7,6 +7,8 @@ use std::snapshot::Snapshot;
 /// A place that is to be filled, with its object. It must be spent, by a publish, a downgrade or `leave`.
 pub struct Filling<T> {
     pub(crate) key: u64,
+    /// Where the key's place stands.
+    pub(crate) start: u32,
     pub(crate) object: Whole<T>,
     pub(crate) of: Snapshot<Hand<T>>,
 }
@@ -18,7 +20,7 @@ impl<T> Model for Filling<T> {
 
     ghost coded = { filling_code T.code };
 
-    ghost view = { λ f. record { table = f.of.value.table_id; key = f.key; object = f.object } };
+    ghost view = { λ f. record { table = f.of.value.table_id; key = f.key; start = f.start; object = f.object } };
 }
 
 impl<T> Filling<T> {
@@ -48,24 +50,30 @@ impl<T> Filling<T> {
         self.object.get_mut()
     }
 
-    /// The filling of a key with this object, by a lane with this hand.
-    pub(crate) fn of(hand: &Hand<T>, key: u64, object: Whole<T>) -> Filling<T>
-        ensures { result ≡ record { table = hand.now.table_id; key = key; object = object } }
+    /// The filling of a key, whose place stands here, with this object, by a lane with this hand.
+    pub(crate) fn of(hand: &Hand<T>, key: u64, start: u32, object: Whole<T>) -> Filling<T>
+        ensures { result ≡ record { table = hand.now.table_id; key = key; start = start; object = object } }
     {
         Filling {
             key,
+            start,
             object,
             of: Snapshot::of(hand),
         }
     }
 
-    /// The token's key and object.
-    pub(crate) fn spend(self) -> (u64, Whole<T>)
-        ensures { (result.0 ≡ self.key) × (result.1 ≡ self.object) }
+    /// The token's key, where its place stands, and the object.
+    pub(crate) fn spend(self) -> (u64, u32, Whole<T>)
+        ensures { (result.0 ≡ self.key) × (result.1 ≡ self.start) × (result.2 ≡ self.object) }
     {
-        let Filling { key, object, of } = self;
+        let Filling {
+            key,
+            start,
+            object,
+            of,
+        } = self;
         drop(of);
-        (key, object)
+        (key, start, object)
     }
 
     /// The token ends, and the pool isn't told: the place stays filling until the pool is closed. The object is dropped.
@@ -73,7 +81,12 @@ impl<T> Filling<T> {
     where
         T: Drop,
     {
-        let Filling { key: _, object, of } = self;
+        let Filling {
+            key: _,
+            start: _,
+            object,
+            of,
+        } = self;
         drop(object);
         drop(of);
     }
@@ -82,6 +95,8 @@ impl<T> Filling<T> {
 /// A reference to a published object. It must be spent, by a release or `leave`.
 pub struct Ref<T> {
     pub(crate) key: u64,
+    /// Where the key's place stands in the pool that answered the reference.
+    pub(crate) start: u32,
     pub(crate) of: PhantomData<T>,
 }
 
@@ -96,12 +111,13 @@ impl<T> Model for Ref<T> {
 impl<T> Ref<T> {
     ghost use Rattle.std.specs.Prelude.{◌≡◌};
 
-    /// A reference to this key.
-    pub(crate) fn to(key: u64) -> Ref<T>
+    /// A reference to this key, whose place stands here.
+    pub(crate) fn to(key: u64, start: u32) -> Ref<T>
         ensures { result.key ≡ key }
     {
         Ref {
             key,
+            start,
             of: PhantomData,
         }
     }
@@ -117,7 +133,11 @@ impl<T> Ref<T> {
     pub(crate) fn spend(self) -> u64
         ensures { result ≡ self.key }
     {
-        let Ref { key, of: _ } = self;
+        let Ref {
+            key,
+            start: _,
+            of: _,
+        } = self;
         key
     }
 

@@ -65,3 +65,8 @@ parts_of n i = if i + 1 == n then 2 ^ 63 - i else 1
 abbrev pub maybe_portion_owns : (R : RattleType) → Ptr → ℕ → Option (Shown R.Denot) → Fml
 maybe_portion_owns R p a None = ftrue
 maybe_portion_owns R p a (Some s) = portion_owns R p s.object a s.cell (parts_of s.of s.number) (s.number + 1 == s.of)
+
+-- what a `&` to that gives: what one to the portion gives, or nothing
+abbrev pub maybe_portion_shares : (R : RattleType) → Ptr → ℕ → Option (Shown R.Denot) → Lft → Fml
+maybe_portion_shares R p a None κ = ftrue
+maybe_portion_shares R p a (Some s) κ = portion_shares R p s.object a s.cell κ

@@ -1,7 +1,7 @@
 // A cell that is lent to readers, in equal parts.
-ghost use Rattle.std.specs.Prelude.{◌≡◌, ℕ, ◌+◌, ◌-◌, ◌^◌, ◌<◌, ◌≤◌, ◌==◌, Bool, true, false, ◌||◌, Option, Some, None, IsSome};
+ghost use Rattle.std.specs.Prelude.{◌≡◌, ℕ, ◌+◌, ◌-◌, ◌^◌, ◌<◌, ◌≤◌, ◌==◌, Bool, true, false, ◌||◌, Option, Some, None, IsSome, IfSome};
 ghost use Rattle.std.specs.Coded.{coded_option};
-ghost use Rattle.slotcell.specs.Portion.{maybe_portion_owns, parts_of, portion_owns, portion_shares};
+ghost use Rattle.slotcell.specs.Portion.{maybe_portion_owns, maybe_portion_shares, parts_of, portion_owns, portion_shares};
 ghost use Rattle.slotcell.specs.Share.{Share, share_code};
 
 use crate::unboxed::Unboxed;
@@ -90,6 +90,8 @@ pub(crate) struct MaybePortion<T> {
 
 impl<T> Model for MaybePortion<T> {
     ghost also_owns = { λ p. maybe_portion_owns T.row p.at p.lifetime p.share };
+
+    ghost also_shares = { λ p _ κ. maybe_portion_shares T.row p.at p.lifetime p.share κ };
 }
 
 impl<T> MaybePortion<T> {
@@ -107,6 +109,13 @@ impl<T> MaybePortion<T> {
     {
         let Portion { at } = portion;
         MaybePortion { at }
+    }
+
+    pub(crate) fn read(&self) -> &T
+        requires { IsSome self.now.share }
+        ensures { IfSome self.now.share (λ share. result.now ≡ share.object) }
+    {
+        unsafe { &*self.at }
     }
 
     pub(crate) fn into_portion(self) -> Portion<T>

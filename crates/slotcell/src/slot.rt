@@ -1,5 +1,5 @@
 //! A place for a share.
-ghost use Rattle.std.specs.Prelude.{◌≡◌, Some, None, IsSome};
+ghost use Rattle.std.specs.Prelude.{◌≡◌, Some, None, IsSome, IfSome};
 
 use crate::portion::MaybePortion;
 use crate::share::Share;
@@ -7,7 +7,7 @@ use std::marker::Model;
 
 /// A place for a share of a cell, or for none, of the size of a pointer.
 ///
-/// A contract sees an `Option` of a share. At run time nothing tells whether there is one: who takes it out has proved it.
+/// A contract sees an `Option` of a share. At run time nothing tells whether there is one: who takes it out, or reads it, has proved it.
 /// Where `T` is `Send` and `Sync` a slot crosses threads.
 ///
 /// A slot that is dropped frees nothing: the cell of its share can then never be whole again, and its memory is lost.
@@ -47,6 +47,14 @@ impl<T> Slot<T> {
         Slot {
             place: MaybePortion::some(share.into_portion()),
         }
+    }
+
+    /// Returns the object that the share shows.
+    pub fn read(&self) -> &T
+        requires { IsSome self.now }
+        ensures { IfSome self.now (λ share. result.now ≡ share.object) }
+    {
+        self.place.read()
     }
 
     /// Takes the share out.

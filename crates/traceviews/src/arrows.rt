@@ -1,20 +1,21 @@
 //! Arrows from a turn to the turn of another lane that finds what it left.
 
-use crate::boxes::{BOX, Columns};
+use crate::boxes::Columns;
+use crate::head::TOP;
 use crate::page::Page;
 use keybits::Word;
 use std::alloc::{AllocError, Global};
 use std::collections::BTreeMap;
 use tracelines::{NamedStep, StepName};
 
-/// A word, as a key of a map.
-#[derive(Clone, Copy, PartialEq, Eq, PartialOrd, Ord, Drop)]
-struct WordKey(u8, u32, u32);
+/// A word, as a key of a map: its kind, and its place or the lanes of its stack.
+type WordKey = (u8, u32, u32);
 
-/// The turn that left what a word has: in which column its box is, at which heights that begins and ends, and at which its step
-/// stands.
+/// The turn that left what a word has: its number and its column, and the heights at which its box begins, its step stands and the
+/// box ends.
 #[derive(Clone, Copy)]
 pub(crate) struct Writer {
+    pub(crate) turn: usize,
     pub(crate) column: usize,
     pub(crate) top: u64,
     pub(crate) step: u64,
@@ -27,11 +28,12 @@ pub(crate) struct Writers {
     writers: BTreeMap<WordKey, Writer>,
 }
 
+/// The key of a word.
 fn key_of(word: Word) -> WordKey {
     match word {
-        Word::Life { place } => WordKey(0, place, 0),
-        Word::Link { place } => WordKey(1, place, 0),
-        Word::Stack { shard, lane } => WordKey(2, shard, lane),
+        Word::Life { place } => (0, place, 0),
+        Word::Link { place } => (1, place, 0),
+        Word::Stack { shard, lane } => (2, shard, lane),
     }
 }
 
@@ -62,63 +64,34 @@ impl Writers {
     }
 }
 
-/// Appends an arrow from one turn to another, where they are in different columns.
-pub(crate) fn push_arrow(columns: &Columns, from: Writer, to: Writer, out: &mut Page) {
+/// How far the paths of arrows are from each other, left of the column to which they lead.
+const PATH: u64 = 5;
+
+/// How many of them there are.
+const PATHS: usize = 11;
+
+/// Appends an arrow from one turn to the step of another, where they are in different columns: between two rows to a path that is
+/// the earlier turn's, and down along it. From a turn above the picture it comes down its own column.
+pub(crate) fn push_arrow(columns: &Columns, from: &Writer, to: &Writer, out: &mut Page) {
     if from.column == to.column {
         return;
     }
-    if columns.are_apart() {
-        push_across(columns, from, to, out);
+    let across = if from.bottom > TOP {
+        from.bottom.saturating_add(5)
     } else {
-        push_down(columns, from, to, out);
-    }
-}
-
-/// Appends a curve between two places, by its four points.
-fn push_curve(points: [(u64, u64); 4], out: &mut Page) {
-    let [start, bent, bending, end] = points;
-    out.named(
-        "<path class=\"arrow\" marker-end=\"url(#tip)\" d=\"M",
-        start.0,
-    );
-    out.named(" ", start.1);
-    out.named("C", bent.0);
-    out.named(" ", bent.1);
-    out.named(" ", bending.0);
-    out.named(" ", bending.1);
-    out.named(" ", end.0);
-    out.named(" ", end.1);
-    out.text("\"/>\n");
-}
-
-/// Appends an arrow from one box's side to the other's: the sides that face each other.
-fn push_across(columns: &Columns, from: Writer, to: Writer, out: &mut Page) {
-    let left = columns.at(from.column);
-    let right = columns.at(to.column);
-    let (start, end) = if from.column < to.column {
-        (left.saturating_add(BOX), right)
-    } else {
-        (left, right.saturating_add(BOX))
+        to.top.saturating_sub(6)
     };
-    let middle = (start / 2).saturating_add(end / 2);
-    let points = [
-        (start, from.step),
-        (middle, from.step),
-        (middle, to.step),
-        (end, to.step),
-    ];
-    push_curve(points, out);
-}
-
-/// Appends an arrow from below one box to the other's top.
-fn push_down(columns: &Columns, from: Writer, to: Writer, out: &mut Page) {
-    let start = columns.at(from.column).saturating_add(3);
-    let end = columns.at(to.column).saturating_add(3);
-    let points = [
-        (start, from.bottom),
-        (start, from.bottom.saturating_add(10)),
-        (end, from.bottom),
-        (end, to.top),
-    ];
-    push_curve(points, out);
+    let end = columns.at(to.column);
+    let path = PATH.saturating_mul((from.turn % PATHS) as u64);
+    out.fill(
+        "<path class=\"arrow\" marker-end=\"url(#tip)\" d=\"M% %V%H%V%H%\"/>\n",
+        &[
+            columns.at(from.column).saturating_add(14),
+            from.bottom,
+            across,
+            end.saturating_sub(path.saturating_add(10)),
+            to.step,
+            end,
+        ],
+    );
 }

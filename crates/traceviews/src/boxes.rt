@@ -1,21 +1,31 @@
 //! A turn as a box in its lane's column.
 
+use crate::arrows::Writer;
 use crate::decoded::{is_failed, state_name, step_name};
 use crate::page::Page;
-use crate::shapes::{Area, begin_text, end_text, push_rect};
+use crate::shapes::{Area, END, begin_text, push_rect};
 use keybits::{Life, Word, generation_of, place_of, tag_of};
 use seqpool::hex_pair;
 use tracelines::{Entry, Line, NamedStep};
 use traces::Reply;
 
 /// How wide a box is.
-pub(crate) const BOX: u64 = 244;
+pub(crate) const BOX: u64 = 268;
 
 /// How many lanes have columns side by side. Those of more lanes overlap, which their boxes don't: each turn has its own height.
 const SIDE_BY_SIDE: usize = 4;
 
+/// How far columns are from each other at least: the arrows to a column have room left of it.
+const DISTANCE: u64 = 80;
+
+/// What is beside the columns begins here at least: the legend has room left of it.
+const LEAST_END: u64 = 460;
+
 /// Where the first column is.
-pub(crate) const LEFT: u64 = 56;
+pub(crate) const LEFT: u64 = 122;
+
+/// Where the numbers of turns end.
+const NUMBERS: u64 = 44;
 
 /// How high a line of text is.
 pub(crate) const LINE: u64 = 16;
@@ -36,14 +46,13 @@ impl Columns {
         Columns { count }
     }
 
-    /// Whether they are side by side.
-    pub(crate) fn are_apart(&self) -> bool {
-        self.count <= SIDE_BY_SIDE
-    }
-
     /// Where a column is.
     pub(crate) fn at(&self, column: usize) -> u64 {
-        let distance = if self.are_apart() { BOX + 32 } else { 80 };
+        let distance = if self.count <= SIDE_BY_SIDE {
+            BOX + DISTANCE
+        } else {
+            DISTANCE
+        };
         LEFT.saturating_add((column as u64).saturating_mul(distance))
     }
 
@@ -51,6 +60,7 @@ impl Columns {
     pub(crate) fn end(&self) -> u64 {
         self.at(self.count.saturating_sub(1))
             .saturating_add(BOX + 32)
+            .max(LEAST_END)
     }
 }
 
@@ -140,12 +150,12 @@ fn push_name(step: &NamedStep, out: &mut Page) {
 fn push_step(step: &NamedStep, x: u64, y: u64, out: &mut Page) {
     begin_text("name", x, y, out);
     push_name(step, out);
-    end_text(out);
+    out.text(END);
     begin_text("faint", x, y.saturating_add(LINE), out);
     push_short(step.word, step.before, out);
     out.text(" → ");
     push_short(step.word, step.after, out);
-    end_text(out);
+    out.text(END);
 }
 
 /// Appends a line of a turn. The answer is how high it is.
@@ -158,7 +168,7 @@ fn push_entry(entry: &Entry, x: u64, y: u64, out: &mut Page) -> u64 {
         Entry::Reply(reply) => {
             begin_text("reply", x, y, out);
             push_reply(reply, out);
-            end_text(out);
+            out.text(END);
             LINE
         }
     }
@@ -183,16 +193,9 @@ fn push_frame(step: Option<&NamedStep>, area: &Area, out: &mut Page) {
     push_rect(class_of(step), &stripe, out);
 }
 
-/// Appends a text and a number that end at a place.
-fn push_mark(name: &str, number: u64, x: u64, y: u64, out: &mut Page) {
-    begin_text("number", x, y, out);
-    out.named(name, number);
-    end_text(out);
-}
-
-/// Appends a turn of a lane: its number, its frame and its lines.
+/// Appends a turn of a lane: its frame, its number, the lane at the height of its step, and its lines.
 pub(crate) fn push_box(
-    number: usize,
+    turn: &Writer,
     lane: u32,
     lines: &[Line],
     step: Option<&NamedStep>,
@@ -200,14 +203,17 @@ pub(crate) fn push_box(
     out: &mut Page,
 ) {
     let y = area.y.saturating_add(LINE);
-    push_mark("", number as u64, LEFT - 12, y, out);
     push_frame(step, area, out);
-    push_mark(
-        "lane ",
-        u64::from(lane),
-        area.x.saturating_add(BOX - 8),
-        y,
-        out,
+    out.fill(
+        "<text class=\"number\" x=\"%\" y=\"%\">%</text>\n<text class=\"number\" x=\"%\" y=\"%\">lane %</text>\n",
+        &[
+            NUMBERS,
+            y,
+            turn.turn as u64,
+            area.x.saturating_add(BOX - 8),
+            turn.step.saturating_add(4),
+            u64::from(lane),
+        ],
     );
     push_entries(lines, area.x.saturating_add(14), y, out);
 }

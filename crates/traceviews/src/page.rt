@@ -58,6 +58,18 @@ impl Page {
         self.note(done);
     }
 
+    /// Appends a text with these numbers in the places of its `%`.
+    pub(crate) fn fill(&mut self, text: &str, numbers: &[u64]) {
+        let mut parts = text.split('%');
+        if let Some(first) = parts.next() {
+            self.text(first);
+        }
+        for (part, number) in parts.zip(numbers) {
+            self.number(*number);
+            self.text(part);
+        }
+    }
+
     /// Appends a place.
     pub(crate) fn place(&mut self, place: u32)
         ensures { self.new.refused ≡ false → (self.old.refused ≡ false) × (self.new.bytes.items ≡ self.old.bytes.items ++ place_text place) }

@@ -3,11 +3,11 @@
 use crate::arrows::{Writer, Writers, push_arrow};
 use crate::boxes::{BOX, Columns, LINE, height_of, push_box};
 use crate::found::{lanes_of, places_of};
-use crate::head::{Extent, TOP, push_begin, push_ground, push_lane, push_legend, push_strip_name};
+use crate::head::{Extent, TOP, push_head, push_lane, push_strip_name};
 use crate::numbers::position_of;
 use crate::page::Page;
 use crate::rows::{Row, rows_of};
-use crate::shapes::{Area, push_column};
+use crate::shapes::Area;
 use crate::strips::Strips;
 use keybits::Word;
 use std::alloc::{AllocError, Global};
@@ -82,10 +82,11 @@ struct Canvas {
 
 /// Notes who left what words have when the first turn is drawn.
 fn note_earlier(lines: &[Line], rows: &[Row], canvas: &mut Canvas) -> Result<(), AllocError> {
-    for row in rows {
+    for (turn, row) in rows.iter().enumerate() {
         if let Some(step) = step_of(lines_of(lines, row)) {
             let column = position_of(canvas.lanes.as_slice(), row.lane);
             let writer = Writer {
+                turn,
                 column,
                 top: TOP,
                 step: TOP,
@@ -108,7 +109,7 @@ fn begin_strips(lines: &[Line], rows: &[Row], strips: &mut Strips) {
     }
 }
 
-/// How high the lines before a turn's step are.
+/// How high the lines before a turn's step are; 0 where it makes none.
 fn above_step(lines: &[Line]) -> u64 {
     let mut high = 0u64;
     for line in lines {
@@ -117,13 +118,13 @@ fn above_step(lines: &[Line]) -> u64 {
         }
         high = high.saturating_add(LINE);
     }
-    high
+    0
 }
 
 /// Draws the step of a turn: its arrow, and the strip of its place.
 fn draw_step(step: &NamedStep, to: Writer, canvas: &mut Canvas) -> Result<(), AllocError> {
     if let Some(from) = canvas.writers.before(step) {
-        push_arrow(&canvas.columns, from, to, &mut canvas.arrows);
+        push_arrow(&canvas.columns, &from, &to, &mut canvas.arrows);
     }
     canvas.writers.note(step, to)?;
     if let Word::Life { place } = step.word {
@@ -151,19 +152,20 @@ fn draw_row(
         width: BOX,
         height: height_of(lines.len(), row.has_step),
     };
+    let turn = Writer {
+        turn: number,
+        column,
+        top: area.y,
+        step: area
+            .y
+            .saturating_add(above_step(lines))
+            .saturating_add(LINE - 4),
+        bottom: area.y.saturating_add(area.height),
+    };
     if let Some(step) = step {
-        let writer = Writer {
-            column,
-            top: area.y,
-            step: area
-                .y
-                .saturating_add(above_step(lines))
-                .saturating_add(LINE - 4),
-            bottom: area.y.saturating_add(area.height),
-        };
-        draw_step(step, writer, canvas)?;
+        draw_step(step, turn, canvas)?;
     }
-    push_box(number, row.lane, lines, step, &area, &mut canvas.boxes);
+    push_box(&turn, row.lane, lines, step, &area, &mut canvas.boxes);
     canvas.y = area.y.saturating_add(area.height).saturating_add(GAP);
     Ok(())
 }
@@ -184,16 +186,14 @@ fn draw_rows(
 /// Appends the names of the lanes, and a line down each column.
 fn push_lanes(canvas: &Canvas, out: &mut Page) {
     for (column, lane) in canvas.lanes.iter().enumerate() {
-        let x = canvas.columns.at(column);
-        push_lane(x, *lane, out);
-        push_column("lane", x.saturating_add(3), TOP, canvas.y, out);
+        push_lane(canvas.columns.at(column), *lane, canvas.y, out);
     }
 }
 
 /// Appends the names of the places.
 fn push_strip_names(strips: &Strips, out: &mut Page) {
-    for (index, place) in strips.places().iter().enumerate() {
-        push_strip_name(strips.left_of(index), *place, out);
+    for (index, strip) in strips.strips().iter().enumerate() {
+        push_strip_name(strips.left_of(index), strip.place, out);
     }
 }
 
@@ -218,7 +218,7 @@ fn canvas_for(
     let lanes = lanes_of(alloc, lines)?;
     let places = places_of(alloc, lines_of_all(lines, shown(rows, window)))?;
     let columns = Columns::new(lanes.len());
-    let strips = Strips::new(alloc, places, columns.end(), TOP)?;
+    let strips = Strips::new(alloc, places.as_slice(), columns.end(), TOP)?;
     Ok(Canvas {
         lanes,
         columns,
@@ -233,8 +233,8 @@ fn canvas_for(
 
 /// What of a trace is drawn on a canvas.
 fn extent_of(canvas: &Canvas, first: usize, drawn: usize, count: usize) -> Extent {
-    let places = canvas.strips.places().len();
-    let width = canvas.strips.left_of(places).saturating_add(16);
+    let places = canvas.strips.strips().len();
+    let width = canvas.strips.left_of(places).saturating_add(26);
     Extent {
         lanes: canvas.lanes.len(),
         first,
@@ -274,9 +274,7 @@ pub fn picture_text(alloc: Global, lines: &[Line], window: &Window) -> Result<Ve
     let first = window.first.min(rows.len());
     let extent = extent_of(&canvas, first, shown(rows, window).len(), rows.len());
     let mut out = Page::new(alloc);
-    push_begin(&extent, &mut out);
-    push_ground(&extent, &mut out);
-    push_legend(&mut out);
+    push_head(&extent, &mut out);
     push_layers(&canvas, &mut out);
     out.finish()
 }

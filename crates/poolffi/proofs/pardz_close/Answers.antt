@@ -1,6 +1,6 @@
--- The handle that was lifted closes its pool, or is lowered as it was.
-use Rattle.std.proofs.Common.{◌≡◌, ◌∙◌, ◌∷◌, [], refl, sym, ap, inl, inr, Box, Global}
-use Rattle.poolhandle.specs.declared.handle.Handle.{Handle}
+-- The handle that was lifted closes its pool, or is lowered where it came back.
+use Rattle.std.proofs.Common.{refl, inl, inr, Some, None}
+use Rattle.poolhandle.specs.Calls.{ClosesNot}
 use Rattle.poolffi.proofs.pardz_close.Goals as goal
 
 pub returns-in-Ok : goal.returns-in-Ok
@@ -8,11 +8,14 @@ returns-in-Ok c =
     let closes = c.in-Ok.ensures.closes in
     inr (c.in-Some.handle.value, c.in-Some.ensures.full.0, inl (refl, c.in-Some.ensures.full.2, (closes.0, closes.1, (c.in-Ok.counts, closes.2, c.counted.ensures))))
 
-pub returns-in-Err-Some : goal.returns-in-Err-Some
-returns-in-Err-Some c =
-    let same : c.in-Err-Some.handle ≡ c.in-Some.handle = rw c.in-Err-Some.field-0-is at c.in-Err-Some.ensures.stays in
-    let stays = ap (λ (h : Box Handle Global). h.value ∷ []) same in
-    inr (c.in-Some.handle.value, c.in-Some.ensures.full.0, inr (refl, inl (c.lower.ensures.1 ∙ (stays ∙ sym c.in-Some.ensures.full.0))))
+pub returns-in-Err-default-Some : goal.returns-in-Err-default-Some
+returns-in-Err-default-Some c =
+    let e = c.in-Err-default-Some in
+    let stays : ClosesNot c.in-Some.handle.value (Some e.handle.value) e.refusal = rw e.field-0-1-is at e.ensures.stays in
+    inr (c.in-Some.handle.value, c.in-Some.ensures.full.0, inr (e.refusal, Some e.handle.value, c.code_of.ensures, c.lower.ensures.1, stays))
 
-pub returns-in-Err-None : goal.returns-in-Err-None
-returns-in-Err-None c = inr (c.in-Some.handle.value, c.in-Some.ensures.full.0, inr (refl, inr c.in-Some.ensures.full.2))
+pub returns-in-Err-default-None : goal.returns-in-Err-default-None
+returns-in-Err-default-None c =
+    let e = c.in-Err-default-None in
+    let stays : ClosesNot c.in-Some.handle.value None e.refusal = rw e.field-0-1-is at e.ensures.stays in
+    inr (c.in-Some.handle.value, c.in-Some.ensures.full.0, inr (e.refusal, None, c.code_of-in-Err-default-None.ensures, c.in-Some.ensures.full.2, stays))

@@ -15,13 +15,13 @@ returns c =
       | in-Ok+then-not-is_empty w ↦
           let bytes : List ℕ = w.bytes_at-bytes.result.now in
           let got = subst (λ (h : Handle). Got key h c.get.new.self) value w.in-Ok.ensures.got.1 in
-          let lent : AreLent key c.get.new.self bytes = search rules in
+          let lent : AreLent key c.get.new.self bytes = w.bytes_at-bytes.ensures in
           let len : c.match-get.len ≡ length bytes = search rules in
           inr (c.in-Some.handle.value, c.get.new.self, full, lowered, Ok bytes, w.code-is, (got, lent, len))
       | in-Ok+else-not-is_empty w ↦
           let bytes : List ℕ = w.bytes_at-bytes.result.now in
           let got = subst (λ (h : Handle). Got key h c.get.new.self) value w.in-Ok.ensures.got.1 in
-          let lent : AreLent key c.get.new.self bytes = search rules in
+          let lent : AreLent key c.get.new.self bytes = w.bytes_at-bytes.ensures in
           let len : c.match-get.len ≡ length bytes = search rules in
           inr (c.in-Some.handle.value, c.get.new.self, full, lowered, Ok bytes, w.code-is, (got, lent, len))
       | in-Err w ↦

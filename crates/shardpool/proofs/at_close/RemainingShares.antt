@@ -13,8 +13,8 @@ use Rattle.core.specs.Mem.Slots.{slots_items}
 use Rattle.keybits.specs.declared.shape.Shape.{Shape}
 use Rattle.keybits.specs.Keys.{key_number, place_of, generation_of, is_key}
 use Rattle.keybits.specs.Places.{shard_of}
-use Rattle.keybits.specs.Shapes.{IsShape, is_place, position_of}
-use Rattle.keybits.proofs.ShapeLemmas.{is_place-parts, position_of-lt}
+use Rattle.keybits.specs.Shapes.{IsShape, is_place}
+use Rattle.keybits.proofs.ShapeLemmas.{is_place-parts}
 use Rattle.seqpool.specs.Pool.{Phase, with, published, home, retired, has, references_in, is_current, references, pool_after}
 use Rattle.seqpool.proofs.Ranks.{current-from}
 use Rattle.steplaws.specs.Facts.{Words, Rule, moment, is_home}
@@ -25,9 +25,9 @@ use Rattle.sharelaws.specs.Shares.{Slots as Cells, HasShare, StandsAs, RestsAs, 
 use Rattle.sharelaws.proofs.Cases.{untouched-is}
 use Rattle.slotcell.specs.Share.{Share}
 use Rattle.poolsteps.specs.Views.{the_lane, known_of}
-use Rattle.poolsteps.specs.Layout.{slot_index, slots_in}
+use Rattle.poolsteps.specs.Layout.{slot_start, slot_index, slots_in}
 use Rattle.poolsteps.specs.Rule.{World}
-use Rattle.poolsteps.proofs.SlotLemmas.{slot-is, slot-apart}
+use Rattle.poolsteps.proofs.SlotLemmas.{in-row, slot-is, slot-apart}
 use Rattle.poolsteps.specs.Joins.{HasPart, IsSpread, IsResting}
 use Rattle.shardpool.specs.declared.state.HeldKey.{HeldKey}
 use Rattle.shardpool.specs.declared.state.LaneState.{LaneState}
@@ -86,7 +86,7 @@ module _ {z : Shape} (w : World) {words : Words} (rule : Rule z (moment words w.
 
 module _ {T : Type 0} {content : T → List ℕ} {room : T → ℕ} {z : Shape} {w : World} {words : Words} (rule : Rule z (moment words w.history w.lanes))
     (place : ℕ) (inside : is_place z place ≡ true) where
-  module _ {lane : LaneOf} {s : LaneState T} (e : IsEnded content room z w lane s) (row : HeldKey T) (stands : slice_get s.rows.items (position_of z place) ≡ Some row) where
+  module _ {lane : LaneOf} {s : LaneState T} (e : IsEnded content room z w lane s) (row : HeldKey T) (stands : slice_get s.rows.items (slot_start z place) ≡ Some row) where
     fit : FitsRow content room z lane.book place row
     fit = e.fits.rows.each place row inside stands
 
@@ -96,18 +96,18 @@ module _ {T : Type 0} {content : T → List ℕ} {room : T → ℕ} {z : Shape} 
         let k = key-is w rule place inside in
         ap (references_in (phase-at z w place)) e.fits.seat.number_is
         ∙ (sym (refs-here w rule place inside (the_lane lane.book).lane) ∙ (still-refs rule lane.table e.fits e.seen e.record_is (key-at z w place)
-        ∙ (fit.counts (key-at z w place) k.0 k.1 ∙ count-zero (eqb (generation_of (key-at z w place)) row.generation) row.count none)))
+        ∙ (fit.counts (key-at z w place) k.0 k.1 ∙ count-zero (eqb (key-at z w place) row.key) row.count none)))
 
     -- a row with references: the place is published
     some-referred : 0 < row.count → 0 < references_in (phase-at z w place) s.number
     some-referred some =
         let k = fit.keyed some in
-        let counted = fit.counts k.0 k.1 k.2 ∙ ap (λ (b : Bool). cond b row.count 0) (eq-eqb (generation_of k.0) row.generation k.3) in
-        let still = still-refs rule lane.table e.fits e.seen e.record_is k.0 in
-        let there = current-some (is_current z (pool_after z w.history) k.0) (references_in (pool_after z w.history (place_of k.0)).phase (the_lane lane.book).lane)
+        let counted = fit.counts row.key k.0 k.1 ∙ ap (λ (b : Bool). cond b row.count 0) (eq-eqb row.key row.key refl) in
+        let still = still-refs rule lane.table e.fits e.seen e.record_is row.key in
+        let there = current-some (is_current z (pool_after z w.history) row.key) (references_in (pool_after z w.history (place_of row.key)).phase (the_lane lane.book).lane)
         (subst (λ (n : ℕ). 0 < n) (sym (still ∙ counted)) some) in
-        subst (λ (p : ℕ). 0 < references_in (pool_after z w.history p).phase s.number) k.2
-        (subst (λ (l : ℕ). 0 < references_in (pool_after z w.history (place_of k.0)).phase l) (sym e.fits.seat.number_is) there)
+        subst (λ (p : ℕ). 0 < references_in (pool_after z w.history p).phase s.number) k.1
+        (subst (λ (l : ℕ). 0 < references_in (pool_after z w.history (place_of row.key)).phase l) (sym e.fits.seat.number_is) there)
 
     module _ {slots : Cells T} (shared : Shared content room z w.history w.kept slots w.stock) where
       -- the cell of the place
@@ -183,7 +183,7 @@ module _ {T : Type 0} {content : T → List ℕ} {room : T → ℕ} {z : Shape} 
       slot-stays number none = hands.kept (slot_index z place number) (λ j other at q q_inside row there some same.
           let l = lane-of j other at in
           let both = slot-apart z ok place number q other.number inside q_inside same in
-          let refs = some-referred rule place inside l.2 row (ap (λ (p : ℕ). slice_get other.rows.items (position_of z p)) both.0 ∙ there) some in
+          let refs = some-referred rule place inside l.2 row (ap (λ (p : ℕ). slice_get other.rows.items (slot_start z p)) both.0 ∙ there) some in
           let zero_refs = subst (λ (n : ℕ). references_in (phase-at z w place) n ≡ 0) both.1 none in
           absurd (omega (arith, refs, zero_refs)))
 
@@ -210,9 +210,9 @@ module _ {T : Type 0} {content : T → List ℕ} {room : T → ℕ} {z : Shape} 
               let f = state-of-number number low in
               let s : LaneState T = f.2 in
               let e = f.4 in
-              let p_low = position_of-lt z place inside in
+              let p_low = in-row z place inside in
               let rows_wide = e.fits.rows.wide in
-              let row = entry-at s.rows.items (position_of z place) (omega (arith, p_low, rows_wide)) in
+              let row = entry-at s.rows.items (slot_start z place) (omega (arith, p_low, rows_wide)) in
               subst (λ (n : ℕ). HasPart (slots_items new) (slot_index z place n) (w.stock.stored place).cell n z.lanes) f.5
               (dite (ℕ_discrete row.0.count 0)
               (λ none. part-now s.number s.number z.lanes e.fits.seat.below (none-referred rule place inside e row.0 row.1 none)

@@ -1,19 +1,18 @@
 -- The shares under references go back into their slots when a pool is closed.
-use Rattle.std.proofs.Common.{◌≡◌, ◌≢◌, ◌⊎◌, ⊎_elim, inl, inr, ℕ, ◌+◌, ◌<◌, true, List, [], ◌∷◌, ◌++◌, length, refl, ap, sym, ◌∙◌, subst, arith, append_assoc, length-append, length-set}
+use Rattle.std.proofs.Common.{◌≡◌, ◌≢◌, ℕ, ◌+◌, ◌<◌, true, List, [], ◌∷◌, ◌++◌, length, refl, ap, sym, ◌∙◌, subst, arith, append_assoc, length-append, length-set}
 use Rattle.std.specs.Prelude.{◌≤◌, Option, Some, slice_get, slice_set}
 use Rattle.std.proofs.Math.Seq.{get_or-append_seam}
-use Rattle.std.proofs.lemmas.List.{get_or_append_left}
-use Rattle.std.proofs.lemmas.Option.{slice_get_cases, slice_get-get_or, slice_get_within}
+use Rattle.std.proofs.lemmas.Option.{slice_get-get_or, slice_get_within}
 use mathlib.Core.Logic.{dite}
 use native.Mathlib.Decide.{ℕ_discrete}
 use Rattle.core.specs.declared.slots.Slots.{Slots}
 use Rattle.core.specs.Mem.Slots.{slots_items, slots_ptr}
 use Rattle.keybits.specs.declared.shape.Shape.{Shape}
-use Rattle.keybits.specs.Shapes.{IsShape, is_place, position_of}
-use Rattle.keybits.proofs.ShapeLemmas.{position_of-injective}
+use Rattle.keybits.specs.Shapes.{IsShape, is_place, all_places, position_of}
+use Rattle.keybits.proofs.ShapeLemmas.{position_of-lt, position_of-injective}
 use Rattle.slotcell.specs.Share.{Share}
-use Rattle.poolsteps.specs.Layout.{slot_index}
-use Rattle.poolsteps.proofs.SlotLemmas.{slot-apart}
+use Rattle.poolsteps.specs.Layout.{slot_start, slot_index}
+use Rattle.poolsteps.proofs.SlotLemmas.{start-injective, slot-apart}
 use Rattle.poolsteps.specs.Joins.{IsSlotRow}
 use Rattle.poolsteps.proofs.Joining.{get-elsewhere}
 use Rattle.shardpool.specs.declared.state.HeldKey.{HeldKey}
@@ -21,43 +20,10 @@ use Rattle.shardpool.specs.declared.state.LaneState.{LaneState}
 use Rattle.shardpool.specs.Remains.{GivesRow, IsBack, IsOff, GivesBack, MayHandBack, IsStripped, AreStripped, HandsBack}
 use Rattle.shardpool.proofs.free.Stores.{stands-here}
 
--- ---- lists with one more behind
+-- ---- lists
 
 pub some-same : {X : Type 0} (a b : X) → Some a ≡ Some b → a ≡ b
 some-same a b e = cc e
-
--- what stands in a list with one more is of the list, or is the one
-pub at-push : {X : Type 0} (xs : List X) (x : X) (i : ℕ) (y : X) → slice_get (xs ++ x ∷ []) i ≡ Some y
-    → ((i < length xs) × (slice_get xs i ≡ Some y)) ⊎ ((i ≡ length xs) × (y ≡ x))
-at-push {X} xs x i y at =
-    let within = slice_get_within (xs ++ x ∷ []) i y at in
-    let long = length-append xs (x ∷ []) in
-    ⊎_elim
-    (λ there. inl (there.1, sym (front there.0 there.1) ∙ at))
-    (λ past. let far = past.0 in let is : i ≡ length xs = omega (arith, far, within, long) in inr (is, sym (some-same x y (sym (last is) ∙ at))))
-    (slice_get_cases xs i).1
-  where
-    front : X → i < length xs → slice_get (xs ++ x ∷ []) i ≡ slice_get xs i
-    front d low =
-        let wide = length-append xs (x ∷ []) in
-        slice_get-get_or (xs ++ x ∷ []) i d (omega (arith, low, wide)) ∙ (ap Some (get_or_append_left xs (x ∷ []) d i low) ∙ sym (slice_get-get_or xs i d low))
-
-    last : i ≡ length xs → slice_get (xs ++ x ∷ []) i ≡ Some x
-    last is =
-        let wide = length-append xs (x ∷ []) in
-        ap (slice_get (xs ++ x ∷ [])) is ∙ (slice_get-get_or (xs ++ x ∷ []) (length xs) x (omega (arith, wide)) ∙ ap Some (get_or-append_seam xs x [] x))
-
--- and so does what stood in the list
-pub at-front : {X : Type 0} (xs : List X) (x : X) (i : ℕ) (y : X) → slice_get xs i ≡ Some y → slice_get (xs ++ x ∷ []) i ≡ Some y
-at-front xs x i y at =
-    let low = slice_get_within xs i y at in
-    let wide = length-append xs (x ∷ []) in
-    slice_get-get_or (xs ++ x ∷ []) i y (omega (arith, low, wide)) ∙ (ap Some (get_or_append_left xs (x ∷ []) y i low) ∙ (sym (slice_get-get_or xs i y low) ∙ at))
-
-pub at-last : {X : Type 0} (xs : List X) (x : X) → slice_get (xs ++ x ∷ []) (length xs) ≡ Some x
-at-last xs x =
-    let wide = length-append xs (x ∷ []) in
-    slice_get-get_or (xs ++ x ∷ []) (length xs) x (omega (arith, wide)) ∙ ap Some (get_or-append_seam xs x [] x)
 
 -- the first of those that are left stands behind those that are done
 pub next-state : {X : Type 0} (all done left rest : List X) (next : X) → done ++ left ≡ all → left ≡ next ∷ rest → slice_get all (length done) ≡ Some next
@@ -72,47 +38,68 @@ state-moves all done left rest next whole first = append_assoc done (next ∷ []
 
 -- ---- the rows of one lane
 
-module _ {T : Type 0} (z : Shape) (number : ℕ) where
-  -- no row was given back yet
-  pub none-back : (slots : Slots (Option (Share T))) → IsSlotRow z slots → GivesBack z number [] slots slots
+module _ {T : Type 0} (z : Shape) (number : ℕ) (rows : List (HeldKey T)) where
+  -- the shares of the rows of the first places are in their slots, and the others are left
+  pub record GivesTo (count : ℕ) (left : List (HeldKey T)) (old new : Slots (Option (Share T))) : Type 0 where
+    pub back : (place : ℕ) → is_place z place ≡ true → position_of z place < count → (row : HeldKey T) (s : Share T) → slice_get rows (slot_start z place) ≡ Some row
+        → 0 < row.count → row.share ≡ Some s → slice_get (slots_items new) (slot_index z place number) ≡ Some (Some s)
+    pub kept : (index : ℕ) → IsOff z number rows index → slice_get (slots_items new) index ≡ slice_get (slots_items old) index
+    pub stay : (place : ℕ) → is_place z place ≡ true → count ≤ position_of z place → slice_get left (slot_start z place) ≡ slice_get rows (slot_start z place)
+    pub wide : length left ≡ length rows
+    pub row : IsSlotRow z new
+    pub start : slots_ptr new ≡ slots_ptr old
+
+  pub none-back : (slots : Slots (Option (Share T))) → IsSlotRow z slots → GivesTo 0 rows slots slots
   none-back slots row = record {
-    back = λ place inside r s at. absurd (let low = slice_get_within [] (position_of z place) r at in omega (arith, low));
+    back = λ place inside low. absurd (omega (arith, low));
     kept = λ index off. refl;
+    stay = λ place inside high. refl;
+    wide = refl;
     row = row;
     start = refl;
   }
 
+  pub all-back : (count : ℕ) (left : List (HeldKey T)) (old new : Slots (Option (Share T))) → count ≡ all_places z → GivesTo count left old new → GivesBack z number rows old new
+  all-back count left old new is h = record {
+    back = λ place inside row s. h.back place inside (let low = position_of-lt z place inside in omega (arith, low, is)) row s;
+    kept = h.kept;
+    row = h.row;
+    start = h.start;
+  }
+
   -- one row more
-  pub back-more : IsShape z → (rows : List (HeldKey T)) (next : HeldKey T) (a b c : Slots (Option (Share T))) (here i : ℕ) → is_place z here ≡ true → position_of z here ≡ length rows
-      → i ≡ slot_index z here number → GivesBack z number rows a b → GivesRow i next b c → GivesBack z number (rows ++ next ∷ []) a c
-  back-more ok rows next a b c here i here_inside deep is h k = record {
-    back = λ place inside r s at some has. ⊎_elim
-        (λ earlier.
-        let low = earlier.0 in
+  pub back-more : IsShape z → (count : ℕ) (left then : List (HeldKey T)) (next none : HeldKey T) (a b c : Slots (Option (Share T))) (here i : ℕ) → is_place z here ≡ true
+      → position_of z here ≡ count → i ≡ slot_index z here number → slice_get rows (slot_start z here) ≡ Some next → then ≡ slice_set left (slot_start z here) none
+      → GivesTo count left a b → GivesRow i next b c → GivesTo (count + 1) then a c
+  back-more ok count left then next none a b c here i here_inside deep is stands taken h k = record {
+    back = λ place inside low r s at some has. dite (ℕ_discrete (position_of z place) count)
+        (λ (now : position_of z place ≡ count).
+        let there : place ≡ here = position_of-injective z ok place here inside here_inside (now ∙ sym deep) in
+        let same : next ≡ r = some-same next r (sym stands ∙ (ap (λ (p : ℕ). slice_get rows (slot_start z p)) (sym there) ∙ at)) in
+        ap (slice_get (slots_items c)) (ap (λ (p : ℕ). slot_index z p number) there ∙ sym is)
+        ∙ k.here s (subst (λ (x : HeldKey T). 0 < x.count) (sym same) some) (ap (λ (x : HeldKey T). x.share) same ∙ has))
+        (λ (earlier : position_of z place ≢ count).
         k.kept (slot_index z place number) (λ same.
         let both = slot-apart z ok place number here number inside here_inside (same ∙ is) in
-        let position : position_of z place ≡ position_of z here = ap (position_of z) both.0 in
-        absurd (omega (arith, deep, low, position)))
-        ∙ h.back place inside r s earlier.1 some has)
-        (λ now.
-        let there : place ≡ here = position_of-injective z ok place here inside here_inside (now.0 ∙ sym deep) in
-        ap (slice_get (slots_items c)) (ap (λ (p : ℕ). slot_index z p number) there ∙ sym is)
-        ∙ k.here s (subst (λ (x : HeldKey T). 0 < x.count) now.1 some) (ap (λ (x : HeldKey T). x.share) (sym now.1) ∙ has))
-        (at-push rows next (position_of z place) r at);
+        earlier (ap (position_of z) both.0 ∙ deep))
+        ∙ h.back place inside (omega (arith, low, earlier)) r s at some has);
     kept = λ index off.
-        let before = h.kept index (λ place inside r at. off place inside r (at-front rows next (position_of z place) r at)) in
+        let before = h.kept index off in
         dite (ℕ_discrete index i)
         (λ (same : index ≡ i). dite (ℕ_discrete next.count 0)
-        (λ (none : next.count ≡ 0). ap (slice_get (slots_items c)) same ∙ (k.still none ∙ (ap (slice_get (slots_items b)) (sym same) ∙ before)))
-        (λ (some : next.count ≢ 0).
-        absurd (off here here_inside next (subst (λ (n : ℕ). slice_get (rows ++ next ∷ []) n ≡ Some next) (sym deep) (at-last rows next)) (positive next.count some) (same ∙ is))))
+        (λ (none_held : next.count ≡ 0). ap (slice_get (slots_items c)) same ∙ (k.still none_held ∙ (ap (slice_get (slots_items b)) (sym same) ∙ before)))
+        (λ (some : next.count ≢ 0). absurd (off here here_inside next stands (omega (arith, some)) (same ∙ is))))
         (λ (other : index ≢ i). k.kept index other ∙ before);
+    stay = λ place inside high.
+        ap (λ (l : List (HeldKey T)). slice_get l (slot_start z place)) taken
+        ∙ (get-elsewhere left (slot_start z here) (slot_start z place) none (λ same.
+        let there : place ≡ here = start-injective z place here inside here_inside same in
+        let position = ap (position_of z) there in absurd (omega (arith, high, deep, position)))
+        ∙ h.stay place inside (omega (arith, high)));
+    wide = ap length taken ∙ (length-set left (slot_start z here) none ∙ h.wide);
     row = (k.full, k.count ∙ h.row.1);
     start = k.start ∙ h.start;
   }
-    where
-      positive : (n : ℕ) → n ≢ 0 → 0 < n
-      positive n some = dite (ℕ_discrete n 0) (λ none. absurd (some none)) (λ other. omega (arith, other))
 
 -- ---- the states, one after another
 

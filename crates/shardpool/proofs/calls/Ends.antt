@@ -20,6 +20,8 @@ use Rattle.seqpool.proofs.Ranks.{current-key}
 use Rattle.seqpool.specs.Histories.{acts_of}
 use Rattle.steplaws.specs.StepLaws.{reclaim}
 use Rattle.sharelaws.specs.PlaceLaws.{gives_away}
+use Rattle.poolsteps.specs.declared.grid.Spot.{Spot}
+use Rattle.poolsteps.specs.Grids.{IsSpot}
 use Rattle.poolsteps.specs.declared.view.View.{View}
 use Rattle.poolsteps.specs.Views.{the_lane, status_of}
 use Rattle.poolsteps.specs.ViewLaws.{references_with, references_made}
@@ -47,13 +49,23 @@ use Rattle.shardpool.proofs.references.RowChanges.{end-refs, end-held}
 -- what the lane keeps beside its rows fits what it has seen and did
 pub record FitsBeside {T : Type 0} (content : T → List ℕ) (room : T → ℕ) (z : Shape) (v : View) (s : LaneState T) : Type 0 where
   pub shape_is : s.shape ≡ z
-  pub placed : s.places.shape ≡ z
+  pub placed : (s.places.shape ≡ z) × (s.places.shard ≡ s.number)
   pub seat : FitsSeat z v s.number
   pub last_pushed : FitsTops z v s.last_pushed.items
   pub stores : FitsStores content room z v s.free s.pages s.objects.items
 
 pub fits-beside : {T : Type 0} {content : T → List ℕ} {room : T → ℕ} {z : Shape} {v : View} {s : LaneState T} → Fits content room z v s → FitsBeside content room z v s
 fits-beside fits = record { shape_is = fits.shape_is; placed = fits.placed; seat = fits.seat; last_pushed = fits.last_pushed; stores = fits.stores }
+
+-- so what it knows of places is that of its shard
+pub own-placed : {T : Type 0} {content : T → List ℕ} {room : T → ℕ} {z : Shape} {v : View} {s : LaneState T} → FitsBeside content room z v s
+    → (s.places.shape ≡ s.shape) × (s.places.shard ≡ s.free.shard)
+own-placed fits = (fits.placed.0 ∙ sym fits.shape_is, fits.placed.1 ∙ (fits.seat.number_is ∙ sym fits.stores.lists.0))
+
+-- and a spot of the pool is one of its shape
+pub own-spot : {T : Type 0} {content : T → List ℕ} {room : T → ℕ} {z : Shape} {v : View} {s : LaneState T} {spot : Spot} {place : ℕ} → FitsBeside content room z v s
+    → IsSpot z spot place → IsSpot s.shape spot spot.place
+own-spot {s = s} {spot = spot} fits there = subst (λ (y : Shape). IsSpot y spot spot.place) (sym fits.shape_is) (subst (IsSpot _ spot) (sym there.place_is) there)
 
 -- which slots such a call may have touched: those of the place where it was reclaimed, and none otherwise
 abbrev pub touched_by : {T : Type 0} → ℕ → Option (Reclaimed T) → ℕ → Bool

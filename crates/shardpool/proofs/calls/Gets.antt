@@ -9,8 +9,8 @@ use native.Mathlib.Decide.{ℕ_discrete}
 use Rattle.atomic_table.specs.Table.{Me}
 use Rattle.atomic_table.specs.Seated.{TableId}
 use Rattle.keybits.specs.declared.shape.Shape.{Shape}
-use Rattle.keybits.specs.Shapes.{is_place, position_of}
-use Rattle.keybits.specs.Keys.{place_of, generation_of, is_key}
+use Rattle.keybits.specs.Shapes.{is_place}
+use Rattle.keybits.specs.Keys.{place_of, is_key}
 use Rattle.seqpool.specs.declared.act.Act.{Act}
 use Rattle.seqpool.specs.declared.act.Act.TheVariants as acts
 use Rattle.seqpool.specs.Pool.{with, published, pool_after}
@@ -21,6 +21,7 @@ use Rattle.steplaws.specs.Calls.{Call, key_in}
 use Rattle.steplaws.specs.Calls.Call.{Getting}
 use Rattle.sharelaws.specs.PlaceLaws.{gives_away}
 use Rattle.sharelaws.proofs.HeldContents.{held-content-law}
+use Rattle.poolsteps.specs.Layout.{slot_start}
 use Rattle.poolsteps.specs.declared.view.View.{View}
 use Rattle.poolsteps.specs.Views.{the_lane, status_of}
 use Rattle.poolsteps.specs.Told.{IsIdle, MayTouch, references_seen}
@@ -112,14 +113,14 @@ module _ {T : Type 0} {content : T → List ℕ} {room : T → ℕ} {z : Shape} 
   seen-within key inside =
       let low = rows-low (place_of key) fits.rows inside in
       let all = fits.rows.by_acts in ⊎_elim
-      (λ (there : (row : HeldKey T) × (position_of z (place_of key) < length s.rows.items) × (slice_get s.rows.items (position_of z (place_of key)) ≡ Some row) × _).
+      (λ (there : (row : HeldKey T) × (slot_start z (place_of key) < length s.rows.items) × (slice_get s.rows.items (slot_start z (place_of key)) ≡ Some row) × _).
       let fit = fits.rows.each (place_of key) there.0 inside there.2 in
-      let most = rows-count-le (position_of z (place_of key)) there.0 fits.rows there.2 in
+      let most = rows-count-le (slot_start z (place_of key)) there.0 fits.rows there.2 in
       dite (ℕ_discrete (references_seen z v key) 0)
       (λ (none : references_seen z v key ≡ 0). omega (arith, none))
       (λ (some : references_seen z v key ≢ 0). let is = (row-of-refs key fit (omega (arith, some))).3 in omega (arith, is, most, all)))
-      (λ (past : (length s.rows.items ≤ position_of z (place_of key)) × _). let high = past.0 in absurd (omega (arith, high, low)))
-      (slice_get_cases s.rows.items (position_of z (place_of key))).1
+      (λ (past : (length s.rows.items ≤ slot_start z (place_of key)) × _). let high = past.0 in absurd (omega (arith, high, low)))
+      (slice_get_cases s.rows.items (slot_start z (place_of key))).1
 
   pub none-seen : (key : ℕ) (row : HeldKey T) → FitsRow content room z v (place_of key) row → row.count ≡ 0 → references_seen z v key ≡ 0
   none-seen key row fit none = dite (ℕ_discrete (references_seen z v key) 0)
@@ -204,16 +205,16 @@ module _ {T : Type 0} {content : T → List ℕ} {room : T → ℕ} {z : Shape} 
 
 module _ {T : Type 0} {content : T → List ℕ} {room : T → ℕ} {z : Shape} {key n : ℕ} {a b : Me (Option (Share T)) View} {s : LaneState T} (fits : Fits content room z a.0 s)
     (called : Called z (Getting key) n a b) (bytes : List ℕ) (one : MadeOne a.0 b.0 (acts.Get (the_lane a.0).lane key (Some bytes)))
-    (unmoved : IsUnmoved (place_of key) (the_lane a.0) (the_lane b.0)) (row : HeldKey T) (stood : slice_get s.rows.items (position_of z (place_of key)) ≡ Some row) where
+    (unmoved : IsUnmoved (place_of key) (the_lane a.0) (the_lane b.0)) (row : HeldKey T) (stood : slice_get s.rows.items (slot_start z (place_of key)) ≡ Some row) where
   -- the row has one more
-  pub rows-again : 0 < row.count → FitsRows content room z b.0 (slice_set s.rows.items (position_of z (place_of key)) (record row { count = row.count + 1 })) (s.references + 1)
+  pub rows-again : 0 < row.count → FitsRows content room z b.0 (slice_set s.rows.items (slot_start z (place_of key)) (record row { count = row.count + 1 })) (s.references + 1)
   rows-again some =
       (rows-got-again fits.seat.own fits.seat.shape fits.rows (the_lane a.0).lane key (hit-key fits (hit-again called bytes one unmoved)) row stood (λ p other. refl) bytes
       (hit-still called bytes one unmoved) some refl).1
 
   -- it has the first, with the share that was taken out
   pub rows-begun : {share : Share T} {c : Me (Option (Share T)) View} → Outs content room z (place_of key) s.number Untouched b share c → row.count ≡ 0
-      → FitsRows content room z c.0 (slice_set s.rows.items (position_of z (place_of key)) (record { generation = generation_of key; count = 1; share = Some share })) (s.references + 1)
+      → FitsRows content room z c.0 (slice_set s.rows.items (slot_start z (place_of key)) (record { key = key; count = 1; share = Some share })) (s.references + 1)
   rows-begun {share = share} {c = c} outs none =
       let hit = hit-moved called bytes one unmoved (carries-out outs) in
       let number : s.number ≡ (the_lane c.0).lane = fits.seat.number_is ∙ sym hit.passes.acted.lane in

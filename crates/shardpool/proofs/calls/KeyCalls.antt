@@ -3,10 +3,9 @@ use Rattle.std.proofs.Common.{◌≡◌, ◌==◌, ℕ, ◌+◌, ◌<◌, Bool, 
 use Rattle.atomic_table.specs.Table.{Me}
 use Rattle.slotcell.specs.Share.{Share}
 use Rattle.keybits.specs.declared.shape.Shape.{Shape}
-use Rattle.keybits.specs.Shapes.{position_of}
 use Rattle.keybits.specs.Places.{shard_of}
 use Rattle.keybits.proofs.ShapeLemmas.{is_place-parts}
-use Rattle.keybits.specs.Keys.{place_of, generation_of, is_key}
+use Rattle.keybits.specs.Keys.{place_of, is_key}
 use Rattle.freelists.specs.Queues.{IsAway}
 use Rattle.freelists.specs.Shards.{place_numbered}
 use Rattle.seqpool.specs.declared.act.Act.{Act}
@@ -14,6 +13,7 @@ use Rattle.seqpool.specs.declared.act.Act.TheVariants as acts
 use Rattle.sharelaws.specs.declared.stored.Status.TheVariants.{Untouched}
 use Rattle.steplaws.specs.Calls.Call.{Getting, Clearing}
 use Rattle.poolsteps.specs.declared.grid.Spot.{Spot}
+use Rattle.poolsteps.specs.Layout.{slot_start}
 use Rattle.poolsteps.specs.declared.view.View.{View}
 use Rattle.poolsteps.specs.Views.{the_lane, status_of}
 use Rattle.poolsteps.specs.Grids.{IsSpot}
@@ -56,25 +56,27 @@ ready {content = content} {room = room} {view = view} {s = s} {key = key} {spot 
 -- what the row of its place counts is how many references the lane has to the key
 pub counts-held : {T : Type 0} {content : T → List ℕ} {room : T → ℕ} {view lane : LaneOf} {z : Shape} {s : LaneState T} {key : ℕ} {spot : Spot} → view ≡ lane
     → lane.shape ≡ z → Ready content room z key spot view.book s → is_key z key ≡ true → (count : ℕ)
-    → ((row : HeldKey T) → slice_get s.rows.items spot.position ≡ Some row → count ≡ (if generation_of key == row.generation then row.count else 0)) → count ≡ holds lane key
+    → ((row : HeldKey T) → slice_get s.rows.items spot.start ≡ Some row → count ≡ (if key == row.key then row.count else 0)) → count ≡ holds lane key
 counts-held {lane = lane} {z = z} {key = key} {spot = spot} seen owned before inside count counts =
-    rows-counts key spot.position before.fits.rows inside before.there.position count counts
+    rows-counts key spot.start before.fits.rows inside before.there.start count counts
     ∙ (ap (λ (l : LaneOf). references_seen z l.book key) seen ∙ ap (λ (y : Shape). references_seen y lane.book key) (sym owned))
 
 module _ {T : Type 0} {content : T → List ℕ} {room : T → ℕ} {z : Shape} {key : ℕ} {spot : Spot} {v : View} {s : LaneState T} (before : Ready content room z key spot v s) where
   -- the place has a row
-  pub ready-low : spot.position < length s.rows.items
-  ready-low = subst (λ (i : ℕ). i < length s.rows.items) (sym before.there.position) (rows-low (place_of key) before.fits.rows before.there.inside)
+  pub ready-low : spot.start < length s.rows.items
+  ready-low = subst (λ (i : ℕ). i < length s.rows.items) (sym before.there.start) (rows-low (place_of key) before.fits.rows before.there.inside)
 
   -- and the call acts there
-  pub ready-at : (acting : At) → acting.spot ≡ spot → acting.lane ≡ s.number → acting.top ≡ slice_index s.last_pushed.items (shard_of spot.place) → IsAt z v (place_of key) acting
-  ready-at acting there number top =
+  pub ready-at : (acting : At) → acting.spot ≡ spot → acting.lane ≡ s.number → acting.tops.now ≡ s.last_pushed.items → IsAt z v (place_of key) acting
+  ready-at acting there number tops =
       let fits = before.fits in
       let at = before.there in record {
         spot = subst (λ (x : Spot). IsSpot z x (place_of key)) (sym there) at;
         lane = number ∙ fits.seat.number_is;
         below = subst (λ (n : ℕ). n < z.lanes) (sym number) fits.seat.below;
-        top = top ∙ (ap (λ (p : ℕ). slice_index s.last_pushed.items (shard_of p)) at.place_is ∙ fits.last_pushed.each (shard_of (place_of key)) (is_place-parts z (place_of key) at.inside).0);
+        shard = rw (tops, fits.last_pushed.wide) (is_place-parts z (place_of key) at.inside).0;
+        top = ap (λ (words : List ℕ). slice_index words (shard_of (place_of key))) tops
+            ∙ fits.last_pushed.each (shard_of (place_of key)) (is_place-parts z (place_of key) at.inside).0;
       }
 
   -- an object that a call answers may be kept
@@ -122,9 +124,9 @@ module _ {T : Type 0} {content : T → List ℕ} {room : T → ℕ} {z : Shape} 
   pub hit-touches : HeldLaw → MayTouch z b.0 spot.place s.number
   hit-touches law = subst (λ (p : ℕ). MayTouch z b.0 p s.number) (sym before.there.place_is) (hit-may before.fits (hit-again called got.0 got.1 got.2) law)
 
-  module _ (row : HeldKey T) (read : row ≡ slice_index_or s.rows.items spot.position row) where
-    stood : slice_get s.rows.items (position_of z (place_of key)) ≡ Some row
-    stood = rows-stand (place_of key) spot.position row before.fits.rows before.there.inside before.there.position read
+  module _ (row : HeldKey T) (read : row ≡ slice_index_or s.rows.items spot.start row) where
+    stood : slice_get s.rows.items (slot_start z (place_of key)) ≡ Some row
+    stood = rows-stand (place_of key) spot.start row before.fits.rows before.there.inside before.there.start read
 
     -- and left it in its slot, where it had no reference
     pub hit-untouched : row.count ≡ 0 → status_of (the_lane b.0) spot.place s.number ≡ Untouched
@@ -133,22 +135,22 @@ module _ {T : Type 0} {content : T → List ℕ} {room : T → ℕ} {z : Shape} 
 
     module _ (t : LaneState T) (rest : t ≡ record s { rows = t.rows; references = s.references + 1 }) where
       -- its row has one more
-      pub gained-again : 0 < row.count → ((r : HeldKey T) → slice_get s.rows.items spot.position ≡ Some r → t.rows.items ≡ slice_set s.rows.items spot.position (record r { count = r.count + 1 }))
+      pub gained-again : 0 < row.count → ((r : HeldKey T) → slice_get s.rows.items spot.start ≡ Some r → t.rows.items ≡ slice_set s.rows.items spot.start (record r { count = r.count + 1 }))
           → Gained content room z key got.0 a.0 b.0 s t
       gained-again some written =
-          let there = before.there.position in
+          let there = before.there.start in
           let more : HeldKey T = record row { count = row.count + 1 } in
-          let items : t.rows.items ≡ slice_set s.rows.items (position_of z (place_of key)) more
+          let items : t.rows.items ≡ slice_set s.rows.items (slot_start z (place_of key)) more
           = written row (ap (slice_get s.rows.items) there ∙ stood) ∙ ap (λ (i : ℕ). slice_set s.rows.items i more) there in
           gained before.fits (hit-again called got.0 got.1 got.2) t rest
           (subst (λ xs. FitsRows content room z b.0 xs (s.references + 1)) (sym items) (rows-again before.fits called got.0 got.1 got.2 row stood some))
 
       -- or its first, with the share that was taken out
       pub gained-first : {share : Share T} {c : Me (Option (Share T)) View} → row.count ≡ 0 → Outs content room z spot.place s.number Untouched b share c
-          → t.rows.items ≡ slice_set s.rows.items spot.position (record { generation = generation_of key; count = 1; share = Some share }) → Gained content room z key got.0 a.0 c.0 s t
+          → t.rows.items ≡ slice_set s.rows.items spot.start (record { key = key; count = 1; share = Some share }) → Gained content room z key got.0 a.0 c.0 s t
       gained-first {share = share} {c = c} none taken written =
           let outs = subst (λ (p : ℕ). Outs content room z p s.number Untouched b share c) before.there.place_is taken in
-          let first : HeldKey T = record { generation = generation_of key; count = 1; share = Some share } in
-          let items : t.rows.items ≡ slice_set s.rows.items (position_of z (place_of key)) first = written ∙ ap (λ (i : ℕ). slice_set s.rows.items i first) before.there.position in
+          let first : HeldKey T = record { key = key; count = 1; share = Some share } in
+          let items : t.rows.items ≡ slice_set s.rows.items (slot_start z (place_of key)) first = written ∙ ap (λ (i : ℕ). slice_set s.rows.items i first) before.there.start in
           gained before.fits (hit-moved called got.0 got.1 got.2 (carries-out outs)) t rest
           (subst (λ xs. FitsRows content room z c.0 xs (s.references + 1)) (sym items) (rows-begun before.fits called got.0 got.1 got.2 row stood outs none))

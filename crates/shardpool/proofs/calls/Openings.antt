@@ -1,5 +1,5 @@
 -- What a lane keeps fits at first, when it has seen and done nothing.
-use Rattle.std.proofs.Common.{◌≡◌, ⊎_elim, ℕ, ◌+◌, ◌<◌, Bool, cond, List, [], ◌∷◌, ◌++◌, length, replicate, Option, Some, None, refl, ap, sym, ◌∙◌, subst, arith, eq-eqb, slice_get, append_assoc, append-nil}
+use Rattle.std.proofs.Common.{◌≡◌, ⊎_elim, ℕ, ◌+◌, ◌<◌, Bool, true, cond, List, [], ◌∷◌, ◌++◌, length, replicate, Option, Some, None, refl, ap, sym, ◌∙◌, subst, arith, eq-eqb, slice_get, append_assoc, append-nil}
 use Rattle.std.specs.List.{Contains}
 use Rattle.std.proofs.lemmas.List.{length_push, length-replicate, get_or-replicate}
 use Rattle.std.proofs.lemmas.Bool.{cond_both}
@@ -7,7 +7,10 @@ use Rattle.std.proofs.lemmas.Option.{slice_get_within, get_or_from_slice_get}
 use Rattle.std.proofs.lemmas.List.Folds.{sum_by-replicate}
 use Rattle.keybits.specs.declared.shape.Shape.{Shape}
 use Rattle.keybits.specs.Places.{shard_of}
-use Rattle.keybits.specs.Shapes.{IsShape, all_places, shard_places}
+use Rattle.keybits.specs.Shapes.{IsShape, shard_places}
+use Rattle.keybits.specs.Keys.{is_key, generation_of}
+use Rattle.keybits.proofs.KeyLemmas.{key_parts}
+use Rattle.poolsteps.specs.Layout.{slot_row}
 use Rattle.freelists.specs.Shards.{ShardPages, shape_of}
 use Rattle.freelists.specs.Queues.{FreePlaces}
 use Rattle.seqpool.specs.Pool.{fresh, with, is_current}
@@ -29,7 +32,13 @@ use Rattle.shardpool.proofs.references.Rows.{row-none}
 
 -- a row without references
 abbrev pub first_row : {T : Type 0} → HeldKey T
-first_row = record { generation = 1; count = 0; share = None }
+first_row = record { key = 0; count = 0; share = None }
+
+-- 0 is no key
+no-key : (z : Shape) (key : ℕ) → key ≡ 0 → is_key z key ≡ true → ⊥
+no-key z key none is =
+    let first = (key_parts z key is).first in
+    let generation : generation_of key ≡ 0 = ap generation_of none in omega (arith, first, generation)
 
 -- an entry of a list of one thing over and over is that thing
 entry-is : {A : Type 0} → (n at : ℕ) (a entry : A) → slice_get (replicate n a) at ≡ Some entry → entry ≡ a
@@ -58,12 +67,13 @@ first-blank z lane place own = record {
 }
 
 module _ {T : Type 0} (content : T → List ℕ) (room : T → ℕ) (z : Shape) (lane : ℕ) where
-  first-rows : FitsRows content room z (first_book lane) (replicate (all_places z) first_row) 0
-  first-rows = let n : ℕ = all_places z in record {
+  first-rows : FitsRows content room z (first_book lane) (replicate (slot_row z) first_row) 0
+  first-rows = let n : ℕ = slot_row z in record {
     wide = length-replicate n first_row;
+    keyed = λ at row is key. absurd (no-key z row.key (ap (λ (r : HeldKey T). r.key) (entry-is n at first_row row is)) key);
     total = let sum = sum_by-replicate (λ (row : HeldKey T). row.count) n first_row in omega (arith, sum);
     by_acts = refl;
-    each = λ place row _ is. subst (FitsRow content room z (first_book lane) place) (sym (entry-is n _ first_row row is)) (row-none place 1 None (λ key _ _. none-referred z lane key));
+    each = λ place row _ is. subst (FitsRow content room z (first_book lane) place) (sym (entry-is n _ first_row row is)) (row-none place 0 None (λ key _ _. none-referred z lane key));
   }
 
   first-stores : (free : FreePlaces) (pages : ShardPages)
@@ -83,17 +93,17 @@ module _ {T : Type 0} (content : T → List ℕ) (room : T → ℕ) (z : Shape) 
 
   -- so all that the lane keeps fits
   pub first-fits : (v : View) (s : LaneState T) → v ≡ first_book lane → IsShape z → lane < z.lanes → s.shape ≡ z → s.number ≡ lane → s.references ≡ 0
-      → s.rows.items ≡ replicate (all_places z) first_row → s.last_pushed.items ≡ replicate z.lanes 0 → s.objects.items ≡ replicate (shard_places z) None
+      → s.rows.items ≡ replicate (slot_row z) first_row → s.last_pushed.items ≡ replicate z.lanes 0 → s.objects.items ≡ replicate (shard_places z) None
       → s.free ≡ record { shard = lane; shape = shape_of z.first_page z.pages; own = []; chain = None; room = s.free.room }
-      → s.pages ≡ record { shard = lane; shape = shape_of z.first_page z.pages; opened = 0 } → s.places.shape ≡ z → Fits content room z v s
+      → s.pages ≡ record { shard = lane; shape = shape_of z.first_page z.pages; opened = 0 } → (s.places.shape ≡ z) × (s.places.shard ≡ lane) → Fits content room z v s
   first-fits v s book shape below shape_is number references rows last_pushed objects free pages placed =
       let fits : Fits content room z (first_book lane) s = record {
         shape_is = shape_is;
-        placed = placed;
+        placed = (placed.0, placed.1 ∙ sym number);
         seat = subst (FitsSeat z (first_book lane)) (sym number) (first-seat z lane shape below);
         last_pushed = subst (FitsTops z (first_book lane)) (sym last_pushed) (first-last_pushed z lane);
         rows = subst (λ (r : List (HeldKey T)). FitsRows content room z (first_book lane) r s.references) (sym rows)
-            (subst (FitsRows content room z (first_book lane) (replicate (all_places z) first_row)) (sym references) first-rows);
+            (subst (FitsRows content room z (first_book lane) (replicate (slot_row z) first_row)) (sym references) first-rows);
         stores = subst (FitsStores content room z (first_book lane) s.free s.pages) (sym objects) (first-stores s.free s.pages free pages);
       } in subst (λ (w : View). Fits content room z w s) (sym book) fits
 

@@ -8,7 +8,6 @@ use native.Mathlib.Decide.{ℕ_discrete}
 use Rattle.atomic_table.specs.Table.{Me}
 use Rattle.atomic_table.specs.Seated.{TableId}
 use Rattle.keybits.specs.declared.shape.Shape.{Shape}
-use Rattle.keybits.specs.Shapes.{position_of}
 use Rattle.keybits.specs.Keys.{place_of, generation_of, is_key}
 use Rattle.keybits.proofs.KeyLemmas.{key_parts}
 use Rattle.freelists.specs.Queues.{FreePlaces}
@@ -20,6 +19,11 @@ use Rattle.seqpool.proofs.Ranks.{same-key, current-key}
 use Rattle.sharelaws.specs.declared.stored.Status.TheVariants.{Emptied}
 use Rattle.slotcell.specs.Share.{Share}
 use Rattle.sharelaws.proofs.HeldContents.{held-current}
+use Rattle.keybits.specs.Shapes.{is_place}
+use Rattle.poolsteps.specs.declared.grid.Spot.{Spot}
+use Rattle.poolsteps.specs.Grids.{IsSpot}
+use Rattle.poolsteps.specs.Layout.{slot_start}
+use Rattle.poolsteps.proofs.SlotLemmas.{start-injective}
 use Rattle.poolsteps.specs.declared.view.View.{View}
 use Rattle.poolsteps.specs.Views.{the_lane, status_of, known_of}
 use Rattle.poolsteps.specs.Told.{IsIdle, MayPublish, references_seen}
@@ -28,7 +32,7 @@ use Rattle.poolcalls.specs.Called.{Did as DidSo, MadeOne}
 use Rattle.shardpool.specs.declared.state.HeldKey.{HeldKey}
 use Rattle.shardpool.specs.declared.state.LaneState.{LaneState}
 use Rattle.shardpool.specs.Places.{held_after}
-use Rattle.shardpool.specs.Tokens.{FillingOf}
+use Rattle.shardpool.specs.Tokens.{LaneOf, FillingOf}
 use Rattle.shardpool.specs.LaneStates.{FitsSeat, FitsTops, FitsStores, IsHeld, FitsRow, FitsRows, Fits}
 use Rattle.shardpool.specs.Lanes.{Made, Did}
 use Rattle.shardpool.proofs.frame.OtherShards.{abroad-one}
@@ -58,9 +62,18 @@ published-last lane l key bytes with_ref history mine same =
       (l, with_ref, subst (λ (xs : List Act). At xs (length last.before) act) (sym last.is) (at-seam last.before last.behind act)),
     )
 
+-- the place of a filling stands where the filling says
+pub made-spot : {T : Type 0} {lane : LaneOf} {z : Shape} {filling : FillingOf T} (spot : Spot) (key : ℕ) → Made lane filling → lane.shape ≡ z → key ≡ filling.key → spot.start ≡ filling.start
+    → spot.place ≡ place_of key → IsSpot z spot (place_of key)
+made-spot {z = z} {filling = filling} spot key made shape key_is start place = record {
+  place_is = place;
+  inside = ap (is_place z) (ap place_of key_is) ∙ subst (λ (y : Shape). is_place y (place_of filling.key) ≡ true) shape made.place.inside;
+  start = start ∙ (made.start ∙ λ i. slot_start (shape i) (place_of (sym key_is i)));
+}
+
 -- a row for none
 abbrev pub empty-row : {T : Type 0} → HeldKey T
-empty-row = record { generation = 0; count = 0; share = None }
+empty-row = record { key = 0; count = 0; share = None }
 
 module _ {S T : Type 0} {content : T → List ℕ} {room : T → ℕ} {z : Shape} {steps looks count : ℕ} {made : List Act} {a b : Me S View} (s t : LaneState T) (table : TableId) (filling : FillingOf T)
     (bytes : List ℕ) (with_ref : Bool) (fits : Fits content room z a.0 s) (did : DidSo z (place_of filling.key) made steps looks a b) (idle : IsIdle b.0)
@@ -116,7 +129,7 @@ module _ {S T : Type 0} {content : T → List ℕ} {room : T → ℕ} {z : Shape
   fits-with : FitsRows content room z b.0 t.rows.items t.references → Fits content room z b.0 t
   fits-with rows = record {
     shape_is = ap (λ (x : LaneState T). x.shape) rest ∙ fits.shape_is;
-    placed = ap (λ (x : LaneState T). x.places.shape) rest ∙ fits.placed;
+    placed = (ap (λ (x : LaneState T). x.places.shape) rest ∙ fits.placed.0, ap (λ (x : LaneState T). x.places.shard) rest ∙ (fits.placed.1 ∙ sym (ap (λ (x : LaneState T). x.number) rest)));
     seat = subst (λ (x : LaneState T). FitsSeat z b.0 x.number) (sym rest) seat;
     last_pushed = subst (λ (x : LaneState T). FitsTops z b.0 x.last_pushed.items) (sym rest) last_pushed;
     rows = rows;
@@ -137,10 +150,10 @@ module _ {S T : Type 0} {content : T → List ℕ} {room : T → ℕ} {z : Shape
       absurd (omega (arith, held, none)))
 
   abbrev row : HeldKey T
-  row = slice_index_or s.rows.items (position_of z place) empty-row
+  row = slice_index_or s.rows.items (slot_start z place) empty-row
 
-  stood : slice_get s.rows.items (position_of z place) ≡ Some row
-  stood = slice_get-get_or s.rows.items (position_of z place) empty-row (rows-low place fits.rows (key_parts z filling.key inside).place)
+  stood : slice_get s.rows.items (slot_start z place) ≡ Some row
+  stood = slice_get-get_or s.rows.items (slot_start z place) empty-row (rows-low place fits.rows (key_parts z filling.key inside).place)
 
   row-was : FitsRow content room z a.0 place row
   row-was = fits.rows.each place row (key_parts z filling.key inside).place stood
@@ -151,8 +164,8 @@ module _ {S T : Type 0} {content : T → List ℕ} {room : T → ℕ} {z : Shape
       (λ (none : row.count ≡ 0). none)
       (λ (some : row.count ≢ 0).
       let k = row-was.keyed (omega (arith, some)) in
-      let counts = row-was.counts k.0 k.1 k.2 ∙ ap (λ (b : Bool). cond b row.count 0) (eq-eqb (generation_of k.0) row.generation k.3) in
-      let none = refs-none k.0 k.2 in absurd (omega (arith, counts, none, some)))
+      let counts = row-was.counts row.key k.0 k.1 ∙ ap (λ (b : Bool). cond b row.count 0) (eq-eqb row.key row.key refl) in
+      let none = refs-none row.key k.1 in absurd (omega (arith, counts, none, some)))
 
   -- ---- what the call leaves
 
@@ -192,15 +205,17 @@ module _ {S T : Type 0} {content : T → List ℕ} {room : T → ℕ} {z : Shape
       let none : (k : ℕ) → is_key z k ≡ true → place_of k ≡ place → references_seen z b.0 k ≡ 0
       = λ k inside_k here.
       passes-refs lone fits.seat.own k ∙ (ap (λ (n : ℕ). cond (eqb filling.key k) 0 n) (refs-none k here) ∙ either-same (eqb filling.key k) 0) in
-      let fit : FitsRow content room z b.0 place row = subst (λ (n : ℕ). FitsRow content room z b.0 place (record row { count = n })) (sym row-zero) (row-none place row.generation row.share none) in
-      let rows = rows-set lone fits.seat.own place row row fits.seat.shape fits.rows (key_parts z filling.key inside).place stood off (onlyat-publish s.number filling.key bytes false) fit refl refl in
+      let fit : FitsRow content room z b.0 place row = subst (λ (n : ℕ). FitsRow content room z b.0 place (record row { count = n })) (sym row-zero) (row-none place row.key row.share none) in
+      let of_place : is_key z row.key ≡ true → place_of row.key ≡ place
+      = λ key. sym (start-injective z place (place_of row.key) (key_parts z filling.key inside).place (key_parts z row.key key).place (fits.rows.keyed (slot_start z place) row stood key)) in
+      let rows = rows-set lone fits.seat.own place row row fits.seat.shape fits.rows (key_parts z filling.key inside).place stood off (onlyat-publish s.number filling.key bytes false) fit of_place refl refl in
       fits-with (subst (λ (n : ℕ). FitsRows content room z b.0 t.rows.items n) (sym same_count)
-      (subst (λ (xs : List (HeldKey T)). FitsRows content room z b.0 xs s.references) (set-get_or s.rows.items (position_of z place) empty-row ∙ sym same_rows) rows))
+      (subst (λ (xs : List (HeldKey T)). FitsRows content room z b.0 xs s.references) (set-get_or s.rows.items (slot_start z place) empty-row ∙ sym same_rows) rows))
 
   -- and where it was with one, under which this share stands
   pub published-held-with : (share : Share T) → with_ref ≡ true → share.number ≡ s.number → share.of ≡ z.lanes → content share.object ≡ bytes
       → status_of (the_lane b.0) place s.number ≡ Emptied → known_of (the_lane b.0) place ≡ stored_of content room share
-      → t.rows.items ≡ slice_set s.rows.items (position_of z place) (record { generation = generation_of filling.key; count = 1; share = Some share })
+      → t.rows.items ≡ slice_set s.rows.items (slot_start z place) (record { key = filling.key; count = 1; share = Some share })
       → t.references ≡ s.references + 1 → Fits content room z b.0 t
   published-held-with share referred number of shown emptied known set_so counted =
       let taken : Passes z (λ p. eqb p place) (acts.Publish s.number filling.key bytes true ∷ []) a.0 b.0

@@ -8,7 +8,7 @@ use native.Mathlib.Decide.{ℕ_discrete}
 use Rattle.atomic_table.specs.Table.{Me}
 use Rattle.atomic_table.specs.Seated.{TableId}
 use Rattle.keybits.specs.declared.shape.Shape.{Shape}
-use Rattle.keybits.specs.Shapes.{is_place, position_of}
+use Rattle.keybits.specs.Shapes.{is_place}
 use Rattle.keybits.specs.Places.{shard_of}
 use Rattle.keybits.specs.Keys.{place_of, generation_of, is_key}
 use Rattle.keybits.proofs.ShapeLemmas.{is_place-parts}
@@ -22,6 +22,7 @@ use Rattle.sharelaws.specs.declared.stored.Status.TheVariants.{Untouched}
 use Rattle.slotcell.specs.Share.{Share}
 use Rattle.sharelaws.specs.PlaceLaws.{gives_away}
 use Rattle.sharelaws.proofs.HeldContents.{held-content-law}
+use Rattle.poolsteps.specs.Layout.{slot_start}
 use Rattle.poolsteps.specs.declared.view.View.{View}
 use Rattle.poolsteps.specs.Grids.{IsSpot}
 use Rattle.poolsteps.specs.Views.{the_lane, status_of, pushed_in}
@@ -78,22 +79,22 @@ module _ {T : Type 0} {content : T → List ℕ} {room : T → ℕ} {z : Shape} 
   pub place-inside : is_place z (place_of key) ≡ true
   place-inside = (key_parts z key key-inside).place
 
-  pub row-low : position_of z (place_of key) < length s.rows.items
+  pub row-low : slot_start z (place_of key) < length s.rows.items
   row-low = rows-low (place_of key) fits.rows place-inside
 
-  pub standing : (row : HeldKey T) × (slice_get s.rows.items (position_of z (place_of key)) ≡ Some row)
-  standing = (slice_index_or s.rows.items (position_of z (place_of key)) empty-row, slice_get-get_or s.rows.items (position_of z (place_of key)) empty-row row-low)
+  pub standing : (row : HeldKey T) × (slice_get s.rows.items (slot_start z (place_of key)) ≡ Some row)
+  standing = (slice_index_or s.rows.items (slot_start z (place_of key)) empty-row, slice_get-get_or s.rows.items (slot_start z (place_of key)) empty-row row-low)
 
-  module _ (row : HeldKey T) (stands : slice_get s.rows.items (position_of z (place_of key)) ≡ Some row) where
+  module _ (row : HeldKey T) (stands : slice_get s.rows.items (slot_start z (place_of key)) ≡ Some row) where
     pub row-fits : FitsRow content room z v (place_of key) row
     row-fits = fits.rows.each (place_of key) row place-inside stands
 
     -- it counts the lane's references to the key
-    pub row-counts : (is_key z key ≡ true) × (generation_of key ≡ row.generation) × (0 < row.count) × (references_seen z v key ≡ row.count)
+    pub row-counts : (is_key z key ≡ true) × (key ≡ row.key) × (0 < row.count) × (references_seen z v key ≡ row.count)
     row-counts = row-of-refs key row-fits some
 
     pub row-most : row.count ≤ s.references
-    row-most = rows-count-le (position_of z (place_of key)) row fits.rows stands
+    row-most = rows-count-le (slot_start z (place_of key)) row fits.rows stands
 
 -- ---- the share of the last reference is put back
 
@@ -105,7 +106,7 @@ pub record LendsBack {T : Type 0} (i : ℕ) (s m : LaneState T) (result : Option
 
 module _ {T : Type 0} {content : T → List ℕ} {room : T → ℕ} {z : Shape} (s m : LaneState T) (key : ℕ) (result : Option (Share T)) where
   -- a share is taken out of the row of the last reference alone
-  lent-single : {v : View} (fits : Fits content room z v s) (some : 0 < references_seen z v key) → LendsBack (position_of z (place_of key)) s m result
+  lent-single : {v : View} (fits : Fits content room z v s) (some : 0 < references_seen z v key) → LendsBack (slot_start z (place_of key)) s m result
       → (share : Share T) → result ≡ Some share → (standing s key fits some).0.count ≡ 1
   lent-single fits some lends share is =
       let stands = standing s key fits some in
@@ -115,7 +116,7 @@ module _ {T : Type 0} {content : T → List ℕ} {room : T → ℕ} {z : Shape} 
       let e : Some share ≡ None = sym is ∙ (lends.more stands.0 stands.1 several).0 in absurd (cc e))
 
   -- and it is the one under that reference
-  pub lent-held : {v : View} (fits : Fits content room z v s) (some : 0 < references_seen z v key) → LendsBack (position_of z (place_of key)) s m result
+  pub lent-held : {v : View} (fits : Fits content room z v s) (some : 0 < references_seen z v key) → LendsBack (slot_start z (place_of key)) s m result
       → (share : Share T) → result ≡ Some share → IsHeld content room z v (place_of key) (generation_of key) share
   lent-held {v = v} fits some lends share is =
       let stands = standing s key fits some in
@@ -124,9 +125,9 @@ module _ {T : Type 0} {content : T → List ℕ} {room : T → ℕ} {z : Shape} 
       let e : Some h.0 ≡ Some share = sym h.1 ∙ (sym (lends.one stands.0 stands.1 (lent-single fits some lends share is)).0 ∙ is) in
       let same : h.0 ≡ share = cc e in
       subst (λ (x : Share T). IsHeld content room z v (place_of key) (generation_of key) x) same
-      (subst (λ (n : ℕ). IsHeld content room z v (place_of key) n h.0) (sym counts.1) h.2)
+      (subst (λ (k : ℕ). IsHeld content room z v (place_of key) (generation_of k) h.0) (sym counts.1) h.2)
 
-  module _ {a : Me (Option (Share T)) View} (fits : Fits content room z a.0 s) (some : 0 < references_seen z a.0 key) (lends : LendsBack (position_of z (place_of key)) s m result) where
+  module _ {a : Me (Option (Share T)) View} (fits : Fits content room z a.0 s) (some : 0 < references_seen z a.0 key) (lends : LendsBack (slot_start z (place_of key)) s m result) where
     pub lent-back : {b : Me (Option (Share T)) View} (share : Share T) → result ≡ Some share → Backs content room z (place_of key) s.number Untouched a share b → LendsHome z key a b s m
     lent-back share is backs =
         let stands = standing s key fits some in
@@ -160,8 +161,8 @@ module _ {T : Type 0} {content : T → List ℕ} {room : T → ℕ} {z : Shape} 
           idle = fits.seat.idle;
           share = row.share;
           rows = (lends.more row stands.1 several).1
-              ∙ (sym (set-get_or s.rows.items (position_of z (place_of key)) row)
-              ∙ ap (λ (x : HeldKey T). slice_set s.rows.items (position_of z (place_of key)) x) (get_or_from_slice_get s.rows.items (position_of z (place_of key)) row row stands.1));
+              ∙ (sym (set-get_or s.rows.items (slot_start z (place_of key)) row)
+              ∙ ap (λ (x : HeldKey T). slice_set s.rows.items (slot_start z (place_of key)) x) (get_or_from_slice_get s.rows.items (slot_start z (place_of key)) row row stands.1));
           rest = lends.rest;
           last = λ single. absurd (several single);
           still = λ _. (record { deeds = λ number. refl; cell = refl }, refl);
@@ -208,12 +209,12 @@ module _ {T : Type 0} {content : T → List ℕ} {room : T → ℕ} {z : Shape} 
   place = place_of key
 
   abbrev at : ℕ
-  at = position_of z place
+  at = slot_start z place
 
   low : at < length s.rows.items
   low = row-low s key fits some
 
-  of : (is_key z key ≡ true) × (generation_of key ≡ lent.row.generation) × (0 < lent.row.count) × (references_seen z a.0 key ≡ lent.row.count)
+  of : (is_key z key ≡ true) × (key ≡ lent.row.key) × (0 < lent.row.count) × (references_seen z a.0 key ≡ lent.row.count)
   of = row-counts s key fits some lent.row lent.stands
 
   fit : FitsRow content room z a.0 place lent.row
@@ -240,18 +241,21 @@ module _ {T : Type 0} {content : T → List ℕ} {room : T → ℕ} {z : Shape} 
       (λ (several : lent.row.count ≢ 1). let same = lent-some in let is = of.3 in let any = of.2 in omega (arith, same, is, any, several))
 
   -- and the word that the lane pushed last there is the same
-  lent-top : (p : ℕ) → p ≡ place → slice_index s.last_pushed.items (shard_of p) ≡ pushed_in (the_lane b.0).pushed (shard_of place)
-  lent-top p there =
-      ap (λ (q : ℕ). slice_index s.last_pushed.items (shard_of q)) there
-      ∙ (fits.last_pushed.each (shard_of place) (is_place-parts z place (place-inside s key fits some)).0 ∙ ap (λ (pushed : List (ℕ × ℕ)). pushed_in pushed (shard_of place)) (sym lent.pushed))
+  lent-top : slice_index s.last_pushed.items (shard_of place) ≡ pushed_in (the_lane b.0).pushed (shard_of place)
+  lent-top =
+      fits.last_pushed.each (shard_of place) (is_place-parts z place (place-inside s key fits some)).0 ∙ ap (λ (pushed : List (ℕ × ℕ)). pushed_in pushed (shard_of place)) (sym lent.pushed)
+
+  last_pushed-lent : m.last_pushed.items ≡ s.last_pushed.items
+  last_pushed-lent = ap (λ (x : LaneState T). x.last_pushed.items) lent.rest
 
   -- so the call acts at the key's place
-  pub lent-at : (acting : At) → IsSpot z acting.spot place → acting.lane ≡ s.number → acting.top ≡ slice_index s.last_pushed.items (shard_of acting.spot.place) → IsAt z b.0 place acting
-  lent-at acting spot lane top = record {
+  pub lent-at : (acting : At) → IsSpot z acting.spot place → acting.lane ≡ s.number → acting.tops.now ≡ m.last_pushed.items → IsAt z b.0 place acting
+  lent-at acting spot lane tops = record {
     spot = spot;
     lane = lane ∙ (fits.seat.number_is ∙ sym lent.did.acted.lane);
     below = subst (λ (n : ℕ). n < z.lanes) (sym lane) fits.seat.below;
-    top = top ∙ lent-top acting.spot.place spot.place_is;
+    shard = rw (tops ∙ last_pushed-lent, fits.last_pushed.wide) (is_place-parts z place (place-inside s key fits some)).0;
+    top = ap (λ (words : List ℕ). slice_index words (shard_of place)) (tops ∙ last_pushed-lent) ∙ lent-top;
   }
 
   stood-now : slice_get m.rows.items at ≡ Some row-lent
@@ -298,7 +302,7 @@ module _ {T : Type 0} {content : T → List ℕ} {room : T → ℕ} {z : Shape} 
         = stores-apart fits.stores fits.seat.paired fits.seat.own lent.did.chain (onlyat-none place) lent-passes (elsewhere-apart fits.stores place (away (the_lane a.0).lane)) in
         record {
           shape_is = ap (λ (x : LaneState T). x.shape) rest-so ∙ fits.shape_is;
-          placed = ap (λ (x : LaneState T). x.places.shape) rest-so ∙ fits.placed;
+          placed = (ap (λ (x : LaneState T). x.places.shape) rest-so ∙ fits.placed.0, ap (λ (x : LaneState T). x.places.shard) rest-so ∙ (fits.placed.1 ∙ sym (ap (λ (x : LaneState T). x.number) rest-so)));
           seat = subst (λ (x : LaneState T). FitsSeat z b.0 x.number) (sym rest-so) seat;
           last_pushed = subst (λ (x : LaneState T). FitsTops z b.0 x.last_pushed.items) (sym rest-so) last_pushed;
           stores = subst (λ (x : LaneState T). FitsStores content room z b.0 x.free x.pages x.objects.items) (sym rest-so) stores;
@@ -349,7 +353,7 @@ module _ {T : Type 0} {content : T → List ℕ} {room : T → ℕ} {z : Shape} 
             let still = lent.still several in
             let none : Passes z (λ p. false) [] a.0 b.0 = passes-still lent.did still.0 in
             let h = fit.held of.2 in
-            let held : IsHeld content room z b.0 place lent.row.generation h.0 = held-passes none fits.seat.own h.2 refl in
+            let held : IsHeld content room z b.0 place (generation_of lent.row.key) h.0 = held-passes none fits.seat.own h.2 refl in
             let seat : FitsSeat z b.0 (the_lane b.0).lane = subst (λ (n : ℕ). FitsSeat z b.0 n) beside.seat.number_is beside.seat in
             let off : touched_by place reclaimed place ≡ false = untouched-held seat held d.0 place reclaimed acts_so.2 in
             let wider : Passes z (touched_by place reclaimed) [] a.0 b.0 = passes-wider (λ p is. absurd (cc is)) none in
@@ -390,7 +394,7 @@ module _ {T : Type 0} {content : T → List ℕ} {room : T → ℕ} {z : Shape} 
 
         pub released : Released content room z key a.0 d.0 s t
         released = record {
-          fits = record { shape_is = shape-now; placed = ap (λ (x : Places). x.shape) left.same.5 ∙ beside.placed; seat = left.seat; last_pushed = left.last_pushed; rows = rows-now; stores = left.stores };
+          fits = record { shape_is = shape-now; placed = (ap (λ (x : Places). x.shape) left.same.5 ∙ beside.placed.0, ap (λ (x : Places). x.shard) left.same.5 ∙ (beside.placed.1 ∙ sym left.same.3)); seat = left.seat; last_pushed = left.last_pushed; rows = rows-now; stores = left.stores };
           did = λ table table_now same. (
             behind,
             did-lane z (lane_of table a.0 s) (lane_of table_now d.0 t) fits.shape_is shape-now number-now same through fits.seat.own list-now pages-now,

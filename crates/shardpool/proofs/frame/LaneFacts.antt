@@ -20,6 +20,7 @@ use Rattle.seqpool.specs.Histories.{acts_of}
 use Rattle.sharelaws.specs.declared.stored.Status.TheVariants.{Untouched, Emptied}
 use Rattle.sharelaws.specs.PlaceLaws.{gives_away, brings}
 use Rattle.poolsteps.specs.declared.view.View.{View}
+use Rattle.poolsteps.specs.Layout.{slot_start}
 use Rattle.poolsteps.specs.Views.{the_lane, status_of}
 use Rattle.poolsteps.specs.Told.{IsIdle, references_seen, MayPublish}
 use Rattle.poolsteps.specs.ViewLaws.{references_made}
@@ -93,6 +94,7 @@ made-passes {made = made} z old new filling shape shape_now number same table pa
             (Contains-append_cases old.free.own (freed z old.number made) at (subst (λ (x : FreePlaces). Contains x.own at) list within));
         unchained = ap (λ (ps : List ℕ). has ps p) chain ∙ was.place.unchained;
       };
+      start = subst (λ (y : Shape). filling.start ≡ slot_start y (place_of filling.key)) (shape ∙ sym shape_now) was.start;
       may = subst (λ (y : Shape). MayPublish y new.book filling.key) (sym shape_now)
           (may-passes passes paired own (subst (λ (y : Shape). MayPublish y old.book filling.key) shape was.may) keeps idle
           (ap (λ (ps : List ℕ). times p ps) chain ∙ was.may.unchained));

@@ -20,6 +20,7 @@ use Rattle.seqpool.specs.Pool.{with, has, pool_after}
 use Rattle.sharelaws.specs.PlaceLaws.{gives_away}
 use Rattle.poolsteps.specs.declared.view.LaneRecord.{LaneRecord}
 use Rattle.poolsteps.specs.declared.view.View.{View}
+use Rattle.poolsteps.specs.Layout.{slot_start}
 use Rattle.poolsteps.specs.Views.{head_record, the_lane}
 use Rattle.poolsteps.specs.Told.{Sees, IsIdle, MayPublish, references_seen}
 use Rattle.poolcalls.specs.Carried.{AreEmptied}
@@ -63,6 +64,7 @@ made-passes old new filling passes seat same idle off kept unlisted unchained op
         unlisted = unlisted;
         unchained = unchained;
       };
+      start = made.start ∙ ap (λ (z : Shape). slot_start z place) (sym same.1);
       may = subst (λ (z : Shape). MayPublish z new.book filling.key) (sym same.1)
           (may-passes passes seat.paired seat.own made.may kept idle (has-not place (the_lane new.book).chain unchained));
       emptied = subst (λ (z : Shape). AreEmptied z (the_lane new.book) place) (sym same.1) (λ n below. passes.deeds place n off ∙ made.emptied n below);

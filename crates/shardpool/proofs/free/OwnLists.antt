@@ -43,6 +43,7 @@ made-stays old free pages filling unlisted opened made =
         unlisted = unlisted;
         unchained = was.unchained;
       };
+      start = made.start;
       may = made.may;
       emptied = made.emptied;
     }

@@ -5,9 +5,8 @@ use Rattle.std.proofs.lemmas.List.Sums.{sum_by-set}
 use mathlib.Core.Logic.{dite}
 use native.Mathlib.Decide.{ℕ_discrete}
 use Rattle.keybits.specs.declared.shape.Shape.{Shape}
-use Rattle.keybits.specs.Shapes.{IsShape, is_place, position_of}
+use Rattle.keybits.specs.Shapes.{IsShape, is_place}
 use Rattle.keybits.specs.Keys.{place_of, generation_of, is_key}
-use Rattle.keybits.proofs.ShapeLemmas.{position_of-injective}
 use Rattle.seqpool.specs.declared.act.Act.{Act}
 use Rattle.seqpool.specs.Pool.{Phase, pool_after, IsLegal}
 use Rattle.seqpool.specs.Histories.{PublishedAt, acts_of}
@@ -21,6 +20,8 @@ use Rattle.poolsteps.specs.Views.{the_lane, status_of, known_of}
 use Rattle.poolsteps.specs.Told.{references_seen}
 use Rattle.poolsteps.specs.ViewLaws.{references_made}
 use Rattle.poolsteps.specs.Moved.{stored_of}
+use Rattle.poolsteps.specs.Layout.{slot_start}
+use Rattle.poolsteps.proofs.SlotLemmas.{start-injective}
 use Rattle.shardpool.specs.declared.state.HeldKey.{HeldKey}
 use Rattle.shardpool.specs.Places.{held_with, held_after}
 use Rattle.shardpool.specs.LaneStates.{IsHeld, FitsRow, FitsRows}
@@ -28,16 +29,6 @@ use Rattle.shardpool.proofs.frame.Frames.{Passes, OnlyAt}
 use Rattle.shardpool.proofs.frame.LaneFrames.{passes-refs, refs-elsewhere}
 use Rattle.shardpool.proofs.frame.KeptPlaces.{published-passes}
 use Rattle.shardpool.proofs.free.Stores.{stands-here}
-
--- ---- keys of a place
-
--- of two keys of a place of the shape, one is the other just where their generations agree
-same-generation : (z : Shape) (k key : ℕ) → is_key z k ≡ true → is_key z key ≡ true → place_of k ≡ place_of key
-    → eqb (generation_of k) (generation_of key) ≡ eqb k key
-same-generation z k key inside_k inside here = dite (ℕ_discrete k key)
-    (λ (same : k ≡ key). eq-eqb (generation_of k) (generation_of key) (ap generation_of same) ∙ sym (eq-eqb k key same))
-    (λ (other : k ≢ key).
-    ne_eqb (generation_of k) (generation_of key) (λ is. other (same-key z k key inside_k inside here is)) ∙ sym (ne_eqb k key other))
 
 pub either-same : (b : Bool) (n : ℕ) → cond b n n ≡ n
 either-same true n = refl
@@ -57,47 +48,46 @@ module _ {T : Type 0} {content : T → List ℕ} {room : T → ℕ} {z : Shape} 
 
   -- a key to which the lane refers is that of its row
   pub row-of-refs : {v : View} (key : ℕ) {row : HeldKey T} → FitsRow content room z v (place_of key) row → 0 < references_seen z v key
-      → (is_key z key ≡ true) × (generation_of key ≡ row.generation) × (0 < row.count) × (references_seen z v key ≡ row.count)
+      → (is_key z key ≡ true) × (key ≡ row.key) × (0 < row.count) × (references_seen z v key ≡ row.count)
   row-of-refs {v = v} key {row = row} fits some =
       let inside = (current-key z (pool_after z v.seen) key (held-current z (pool_after z v.seen) (the_lane v).lane key some).0).0 in
-      let counts = fits.counts key inside refl in dite (ℕ_discrete (generation_of key) row.generation)
-      (λ (same : generation_of key ≡ row.generation).
-      let is = ap (λ (b : Bool). cond b row.count 0) (eq-eqb (generation_of key) row.generation same) in (inside, same, omega (arith, some, counts, is), counts ∙ is))
-      (λ (other : generation_of key ≢ row.generation).
-      let is = ap (λ (b : Bool). cond b row.count 0) (ne_eqb (generation_of key) row.generation other) in absurd (omega (arith, some, counts, is)))
+      let counts = fits.counts key inside refl in dite (ℕ_discrete key row.key)
+      (λ (same : key ≡ row.key).
+      let is = ap (λ (b : Bool). cond b row.count 0) (eq-eqb key row.key same) in (inside, same, omega (arith, some, counts, is), counts ∙ is))
+      (λ (other : key ≢ row.key).
+      let is = ap (λ (b : Bool). cond b row.count 0) (ne_eqb key row.key other) in absurd (omega (arith, some, counts, is)))
 
   -- a row of so many references to one key of the place, under which this share stands
   pub row-made : {w : View} (place key n : ℕ) (share : Share T) → is_key z key ≡ true → place_of key ≡ place
       → ((k : ℕ) → is_key z k ≡ true → place_of k ≡ place → references_seen z w k ≡ (if k == key then n else 0))
       → IsHeld content room z w place (generation_of key) share
-      → FitsRow content room z w place (record { generation = generation_of key; count = n; share = Some share })
+      → FitsRow content room z w place (record { key = key; count = n; share = Some share })
   row-made place key n share inside here counts held = record {
-    counts = λ k inside_k here_k. counts k inside_k here_k ∙ ap (λ (b : Bool). cond b n 0) (sym (same-generation z k key inside_k inside (here_k ∙ sym here)));
-    keyed = λ some. (key, inside, here, refl);
+    counts = counts;
+    keyed = λ some. (inside, here);
     held = λ some. (share, refl, held);
   }
 
   -- a row without references
-  pub row-none : {w : View} (place generation : ℕ) (share : Option (Share T)) → ((k : ℕ) → is_key z k ≡ true → place_of k ≡ place → references_seen z w k ≡ 0)
-      → FitsRow content room z w place (record { generation = generation; count = 0; share = share })
-  row-none place generation share counts = record {
-    counts = λ k inside here. counts k inside here ∙ sym (either-same (eqb (generation_of k) generation) 0);
+  pub row-none : {w : View} (place key : ℕ) (share : Option (Share T)) → ((k : ℕ) → is_key z k ≡ true → place_of k ≡ place → references_seen z w k ≡ 0)
+      → FitsRow content room z w place (record { key = key; count = 0; share = share })
+  row-none place key share counts = record {
+    counts = λ k inside here. counts k inside here ∙ sym (either-same (eqb k key) 0);
     keyed = λ some. absurd (omega (arith, some));
     held = λ some. absurd (omega (arith, some));
   }
 
   -- the keys of a row's place have the references of its key, and no others have any
   pub row-counts : {v : View} {place : ℕ} (key : ℕ) {row : HeldKey T} → FitsRow content room z v place row → is_key z key ≡ true → place_of key ≡ place
-      → (0 < row.count → generation_of key ≡ row.generation)
+      → (0 < row.count → key ≡ row.key)
       → (k : ℕ) → is_key z k ≡ true → place_of k ≡ place → references_seen z v k ≡ (if k == key then row.count else 0)
   row-counts {v = v} {place = place} key {row = row} fits inside here same k inside_k here_k = dite (ℕ_discrete row.count 0)
       (λ (none : row.count ≡ 0).
       let is = fits.counts k inside_k here_k in
-      is ∙ ap (λ (n : ℕ). cond (eqb (generation_of k) row.generation) n 0) none ∙ either-same (eqb (generation_of k) row.generation) 0 ∙ sym (either-same (eqb k key) 0) ∙ ap (λ (n : ℕ). cond (eqb k key) n 0) (sym none))
+      is ∙ ap (λ (n : ℕ). cond (eqb k row.key) n 0) none ∙ either-same (eqb k row.key) 0 ∙ sym (either-same (eqb k key) 0) ∙ ap (λ (n : ℕ). cond (eqb k key) n 0) (sym none))
       (λ (some : row.count ≢ 0).
       let is = same (omega (arith, some)) in
-      fits.counts k inside_k here_k ∙ ap (λ (g : ℕ). cond (eqb (generation_of k) g) row.count 0) (sym is)
-      ∙ ap (λ (b : Bool). cond b row.count 0) (same-generation z k key inside_k inside (here_k ∙ sym here)))
+      fits.counts k inside_k here_k ∙ ap (λ (other : ℕ). cond (eqb k other) row.count 0) (sym is))
 
   -- the share that shows the content of a key to which the lane refers is held under it
   pub held-made : {w : View} (key r : ℕ) (share : Share T) → IsLegal z w.seen → 0 < references_seen z w key
@@ -144,11 +134,12 @@ module _ {T : Type 0} {content : T → List ℕ} {room : T → ℕ} {z : Shape} 
 
     -- all rows, none of which was written
     pub rows-pass : {rows : List (HeldKey T)} {refs : ℕ} → FitsRows content room z v rows refs
-        → ((place : ℕ) (row : HeldKey T) → is_place z place ≡ true → slice_get rows (position_of z place) ≡ Some row → FitsRow content room z v place row
+        → ((place : ℕ) (row : HeldKey T) → is_place z place ≡ true → slice_get rows (slot_start z place) ≡ Some row → FitsRow content room z v place row
         → (0 < row.count → at place ≡ false) × ((key n : ℕ) → place_of key ≡ place → references_made made key n ≡ n))
         → held_after made refs ≡ refs → FitsRows content room z w rows refs
     rows-pass {refs = refs} fits still same = record {
       wide = fits.wide;
+      keyed = fits.keyed;
       total = fits.total;
       by_acts = sym same ∙ by-acts (the_lane v).mine made (the_lane w).mine refs passes.acted.mine fits.by_acts;
       each = λ place row inside is.
@@ -158,14 +149,24 @@ module _ {T : Type 0} {content : T → List ℕ} {room : T → ℕ} {z : Shape} 
 
     -- one row was written
     pub rows-set : {rows : List (HeldKey T)} {refs now : ℕ} (place : ℕ) (old row : HeldKey T) → IsShape z → FitsRows content room z v rows refs → is_place z place ≡ true
-        → slice_get rows (position_of z place) ≡ Some old → ((p : ℕ) → p ≢ place → at p ≡ false) → OnlyAt place made
-        → FitsRow content room z w place row → now ≡ held_after made refs → now + old.count ≡ refs + row.count
-        → FitsRows content room z w (slice_set rows (position_of z place) row) now
-    rows-set {rows = rows} {refs = refs} {now = now} place old row shape fits inside stood off only fit is sum =
-        let i : ℕ = position_of z place in
+        → slice_get rows (slot_start z place) ≡ Some old → ((p : ℕ) → p ≢ place → at p ≡ false) → OnlyAt place made
+        → FitsRow content room z w place row → (is_key z row.key ≡ true → place_of row.key ≡ place) → now ≡ held_after made refs → now + old.count ≡ refs + row.count
+        → FitsRows content room z w (slice_set rows (slot_start z place) row) now
+    rows-set {rows = rows} {refs = refs} {now = now} place old row shape fits inside stood off only fit of_place is sum =
+        let i : ℕ = slot_start z place in
         let low : i < length rows = slice_get_within rows i old stood in
         let count : HeldKey T → ℕ = λ r. r.count in record {
           wide = length-set rows i row ∙ fits.wide;
+          keyed = λ at r stands key. dite (ℕ_discrete at i)
+              (λ (here : at ≡ i).
+              let so : Some row ≡ Some r = sym (stands-here rows i row low) ∙ (ap (slice_get (slice_set rows i row)) (sym here) ∙ stands) in
+              let same : row ≡ r = cc so in
+              here ∙ ap (slot_start z) (subst (λ (x : HeldKey T). is_key z x.key ≡ true → place ≡ place_of x.key) same (λ inside_key. sym (of_place inside_key)) key))
+              (λ (there : at ≢ i).
+              let within : at < length rows = subst (λ (n : ℕ). at < n) (length-set rows i row) (slice_get_within (slice_set rows i row) at r stands) in
+              let before : slice_get rows at ≡ Some r
+              = slice_get-get_or rows at r within ∙ ap Some (sym (get_or-set_other rows i at row r there) ∙ get_or_from_slice_get (slice_set rows i row) at r r stands) in
+              fits.keyed at r before key);
           total =
               let set_so = sum_by-set count rows i row row low in
               let was = ap count (get_or_from_slice_get rows i old row stood) in
@@ -173,12 +174,12 @@ module _ {T : Type 0} {content : T → List ℕ} {room : T → ℕ} {z : Shape} 
           by_acts = is ∙ by-acts (the_lane v).mine made (the_lane w).mine refs passes.acted.mine fits.by_acts;
           each = λ p r inside_p stands. dite (ℕ_discrete p place)
               (λ (here : p ≡ place).
-              let so : Some row ≡ Some r = sym (stands-here rows i row low) ∙ (ap (λ (q : ℕ). slice_get (slice_set rows i row) (position_of z q)) (sym here) ∙ stands) in
+              let so : Some row ≡ Some r = sym (stands-here rows i row low) ∙ (ap (λ (q : ℕ). slice_get (slice_set rows i row) (slot_start z q)) (sym here) ∙ stands) in
               let same : row ≡ r = cc so in
               subst (λ (x : HeldKey T). FitsRow content room z w p x) same (subst (λ (q : ℕ). FitsRow content room z w q row) (sym here) fit))
               (λ (there : p ≢ place).
-              let j : ℕ = position_of z p in
-              let apart : j ≢ i = λ same. there (position_of-injective z shape p place inside_p inside same) in
+              let j : ℕ = slot_start z p in
+              let apart : j ≢ i = λ same. there (start-injective z p place inside_p inside same) in
               let inside_j : j < length rows = subst (λ (n : ℕ). j < n) (length-set rows i row) (slice_get_within (slice_set rows i row) j r stands) in
               let before : slice_get rows j ≡ Some r
               = slice_get-get_or rows j r inside_j ∙ ap Some (sym (get_or-set_other rows i j row r apart) ∙ get_or_from_slice_get (slice_set rows i row) j r r stands) in

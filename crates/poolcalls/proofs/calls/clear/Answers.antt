@@ -79,6 +79,7 @@ finish_leave-requires g c =
     let at = at-same opened.opens.did.acted.lane opened.opens.pushed c.requires.at in
     record {
       hand = (c.leave-left.ensures.hand.0 ∙ (same.0 ∙ c.requires.hand.0), left.acted.one);
+      bare = left.held ∙ (opened.opens.did.held ∙ c.requires.bare);
       at = left-at left at;
       seen = lawful {made = left.made} left.acted;
       owes = left-owes left at;

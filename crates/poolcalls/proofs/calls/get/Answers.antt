@@ -55,6 +55,7 @@ finish_leave-requires g c =
     let at = at-same missed.opens.did.acted.lane missed.opens.pushed c.requires.at in
     record {
       hand = (c.leave-left.ensures.hand.0 ∙ (c.enter-found.ensures.hand.0 ∙ c.requires.hand.0), left.acted.one);
+      bare = left.held ∙ (missed.opens.did.held ∙ c.requires.bare);
       at = left-at left at;
       seen = lawful {made = left.made} left.acted;
       owes = left-owes left at;

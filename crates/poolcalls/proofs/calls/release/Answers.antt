@@ -22,6 +22,7 @@ finish_leave-requires g c =
     = has-left (inl (c.requires.idle, c.requires.held, share)) c.leave-left.ensures.leaves in
     record {
       hand = (c.leave-left.ensures.hand.0 ∙ c.requires.hand.0, left.acted.one);
+      bare = left.held ∙ c.requires.bare;
       at = left-at left c.requires.at;
       seen = lawful {made = left.made} left.acted;
       owes = left-owes left c.requires.at;

@@ -47,6 +47,7 @@ reclaim_place-requires g c =
     = has-claimed c.claim-word.ensures.claims (c.if-word-claimable.false ∙ c.claimable.ensures) in
     record {
       hand = (c.claim-word.ensures.hand.0 ∙ c.requires.hand.0, claimed.acted.one);
+      bare = claimed.held ∙ c.requires.bare;
       at = at-same claimed.acted.lane claimed.pushed c.requires.at;
       under = rw c.requires.at.lane claimed.under;
       place = claimed.place_has;

@@ -1,4 +1,4 @@
-use Rattle.std.proofs.Common.{◌≤◌, ◌+◌, ◌*◌, ◌∷◌, [], ℕ, sym, ap, ◌∙◌, arith}
+use Rattle.std.proofs.Common.{◌≤◌, ◌+◌, ◌∷◌, [], ℕ, sym, ap, ◌∙◌, arith}
 use Rattle.keybits.specs.declared.shape.Shape.{Shape}
 use Rattle.steplaws.specs.Calls.{is_claimed}
 use Rattle.poolcalls.proofs.Moves.{carried-place, carries-more}
@@ -14,8 +14,7 @@ returns-then-generation-grid-clause-tails g c leave claim is claimed =
     let place : ℕ = c.args.at.spot.place in
     let carries = c.take_cell-whole.ensures.carries in
     let last = c.if-generation-grid.true in
-    let most = c.args.grid.now.checked.lanes.1 in
-    let few : 2 * z.lanes ≤ 34 = omega arith in
+    let few : 2 ≤ 34 = omega arith in
     goes-most
     (goes-none (leave ∷ claim ∷ []) (did-carries carries few) (ends-at-last (caller_of z c.args.hand.now.me.0) place leave claim (is ∙ last))
     (carries.elsewhere.under ∙ (c.requires.under ∙ none-at-last z c.args.at.lane place c.args.generation last))) (omega arith) (omega arith)
@@ -26,8 +25,7 @@ returns-then-shard_of-at-clause-tails g c leave claim is claimed =
     let place : ℕ = c.args.at.spot.place in
     let carries = c.take_cell-whole.ensures.carries in
     let own = sym c.shard_of.ensures ∙ c.if-shard_of-at.true in
-    let most = c.args.grid.now.checked.lanes.1 in
-    let few : 2 * z.lanes ≤ 34 = omega arith in
+    let few : 2 ≤ 34 = omega arith in
     goes-most
     (goes-none (leave ∷ claim ∷ []) (did-carries carries few) (ends-at-own (caller_of z c.args.hand.now.me.0) place leave claim (own ∙ c.requires.at.lane))
     (carries.elsewhere.under ∙ (c.requires.under ∙ none-at-own z c.args.at.lane place c.args.generation own))) (omega arith) (omega arith)
@@ -47,7 +45,7 @@ returns-then-shard_of-at-clause-reclaimed g c =
 
 pub take_cell-whole-requires : goal.take_cell-whole-requires
 take_cell-whole-requires g c =
-    record { hand = c.requires.hand; spot = c.requires.at.spot; lane = c.requires.at.below; place = c.requires.place.0; slots = c.requires.place.1 }
+    record { hand = c.requires.hand; bare = c.requires.bare; spot = c.requires.at.spot; lane = c.requires.at.below; place = c.requires.place.0; slots = c.requires.place.1 }
 
 pub returns-then-generation-grid-clause-hand : goal.returns-then-generation-grid-clause-hand
 returns-then-generation-grid-clause-hand g c = c.take_cell-whole.ensures.hand.0
@@ -91,8 +89,7 @@ returns-clause-tails g c leave claim is claimed =
     let z : Shape = c.args.grid.now.shape in
     let took = c.take_cell-whole.ensures.carries in
     let rests = c.rest_cell.ensures.carries in
-    let most = c.args.grid.now.checked.lanes.1 in
-    let few : 2 * z.lanes + 2 ≤ 34 = omega arith in
+    let few : 2 + 2 ≤ 34 = omega arith in
     let lane_is = rests.elsewhere.lane ∙ took.elsewhere.lane in
     goes-moves (leave ∷ claim ∷ []) (caller-still rests ∙ caller-still took) (did-carries (carries-more took rests) few)
     (c.give_home.ensures.gives leave claim (ap (λ n. is_claimed n claim.before) is ∙ claimed) (λ last. c.if-generation-grid.false (sym is ∙ last))

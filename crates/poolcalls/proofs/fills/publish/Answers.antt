@@ -1,4 +1,4 @@
-use Rattle.std.proofs.Common.{◌≡◌, inr, ℕ, ◌*◌, ◌≤◌, sym, ap, ◌∙◌, subst, arith}
+use Rattle.std.proofs.Common.{◌≡◌, inr, ℕ, ◌≤◌, sym, ap, ◌∙◌, subst, arith}
 use Rattle.keybits.specs.declared.shape.Shape.{Shape}
 use Rattle.sharelaws.specs.declared.stored.Status.TheVariants.{Untouched, Emptied}
 use Rattle.poolsteps.specs.Views.{the_lane, status_of, known_of}
@@ -11,6 +11,7 @@ pub spread_cell-requires : goal.spread_cell-requires
 spread_cell-requires g c =
     let at = c.requires.spot.place_is in record {
       hand = c.requires.hand;
+      bare = c.requires.bare;
       spot = spot-own c.requires.spot;
       lane = c.requires.lane.1;
       place = publish-place c.args.grid.now.shape c.args.hand.now.me.0 c.args.key c.args.spot.place at c.requires.may;
@@ -46,9 +47,8 @@ returns-clause-called g c =
     let z : Shape = c.args.grid.now.shape in
     let at = c.requires.spot.place_is in
     let filled = c.spread_cell.ensures in
-    let most = c.args.grid.now.checked.lanes.1 in
-    let few : 2 * z.lanes ≤ 34 = omega arith in
-    publish-called (subst (λ (place : ℕ). MayCarry z place (2 * z.lanes) c.args.hand.now.me c.spread_cell.new.hand.me) at (inr filled.carries)) few
+    let few : 2 ≤ 34 = omega arith in
+    publish-called (subst (λ (place : ℕ). MayCarry z place 2 c.args.hand.now.me c.spread_cell.new.hand.me) at (inr filled.carries)) few
     (sym (filled.cell.0 ∙ ap (λ (place : ℕ). (known_of (the_lane c.spread_cell.new.hand.me.0) place).content) at)) c.publish.ensures.publishes
 
 pub returns-clause-room : goal.returns-clause-room

@@ -55,6 +55,7 @@ leave_within-requires g c =
     = clear-missed c.requires.key enters miss in
     record {
       hand = (c.enter-found.ensures.hand.0 ∙ c.requires.hand.0, missed.did.acted.one);
+      bare = missed.did.held ∙ c.requires.bare;
       at = at-same missed.did.acted.lane missed.pushed c.requires.at;
       may = λ _. inr (false, life-under (enters.1 miss));
     }
@@ -86,6 +87,7 @@ leave_within-requires-2 g c =
     = clear-marked c.requires.key c.enter-found.ensures.enters hit c.mark.ensures.marks in
     record {
       hand = (c.mark.ensures.hand.0 ∙ (c.enter-found.ensures.hand.0 ∙ c.requires.hand.0), marked.did.acted.one);
+      bare = marked.did.held ∙ c.requires.bare;
       at = at-same marked.did.acted.lane marked.pushed c.requires.at;
       may = λ _. inr (true, life-under c.mark.ensures.marks);
     }

@@ -50,6 +50,7 @@ reclaim_place_within-requires g c =
     let more = c.if-limit-gt1.true in
     record {
       hand = (c.claim-word.ensures.hand.0 ∙ c.requires.hand.0, claimed.acted.one);
+      bare = claimed.held ∙ c.requires.bare;
       at = at-same claimed.acted.lane claimed.pushed c.requires.at;
       seen = lawful {made = claimed.made} claimed.acted;
       under = rw c.requires.at.lane claimed.under;

@@ -44,6 +44,7 @@ leave_within-requires g c =
     = get-missed c.requires.key enters miss in
     record {
       hand = (c.enter-found.ensures.hand.0 ∙ c.requires.hand.0, missed.did.acted.one);
+      bare = missed.did.held ∙ c.requires.bare;
       at = at-same missed.did.acted.lane missed.pushed c.requires.at;
       may = λ _. inr (false, life-under (enters.1 miss));
     }

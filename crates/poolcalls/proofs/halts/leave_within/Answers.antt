@@ -17,6 +17,7 @@ finish_leave_within-requires g c =
     = has-left (c.requires.may (omega (arith, some))) leave.leaves in
     record {
       hand = (leave.hand.0 ∙ c.requires.hand.0, left.acted.one);
+      bare = left.held ∙ c.requires.bare;
       at = left-at left c.requires.at;
       seen = lawful {made = left.made} left.acted;
       owes = left-owes left c.requires.at;

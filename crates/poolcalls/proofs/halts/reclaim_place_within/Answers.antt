@@ -1,4 +1,4 @@
-use Rattle.std.proofs.Common.{refl, ◌≤◌, ◌+◌, ◌*◌, ◌∷◌, [], ℕ, sym, ap, ◌∙◌, arith}
+use Rattle.std.proofs.Common.{refl, ◌≤◌, ◌+◌, ◌∷◌, [], ℕ, sym, ap, ◌∙◌, arith}
 use Rattle.keybits.specs.declared.shape.Shape.{Shape}
 use Rattle.steplaws.specs.Calls.{is_claimed}
 use Rattle.poolcalls.proofs.Moves.{carried-place, carries-more}
@@ -41,7 +41,7 @@ returns-clause-tails g c leave claim is claimed =
     let z : Shape = c.args.grid.now.shape in
     let took = c.take_cell-whole.ensures.carries in
     let rests = c.rest_cell.ensures.carries in
-    let few : 2 * z.lanes + 2 ≤ 2 * z.lanes + 2 = omega arith in
+    let few : 2 + 2 ≤ 4 = omega arith in
     let lane_is = rests.elsewhere.lane ∙ took.elsewhere.lane in
     within-moves (leave ∷ claim ∷ []) (caller-still rests ∙ caller-still took) (did-carries (carries-more took rests) few)
     (c.give_home_within.ensures.gives leave claim (ap (λ n. is_claimed n claim.before) is ∙ claimed) (λ last. c.if-generation-grid.false (sym is ∙ last))
@@ -52,7 +52,7 @@ returns-then-generation-grid-clause-hand g c = (refl, refl)
 
 pub take_cell-whole-requires : goal.take_cell-whole-requires
 take_cell-whole-requires g c =
-    record { hand = c.requires.hand; spot = c.requires.at.spot; lane = c.requires.at.below; place = c.requires.place.0; slots = c.requires.place.1 }
+    record { hand = c.requires.hand; bare = c.requires.bare; spot = c.requires.at.spot; lane = c.requires.at.below; place = c.requires.place.0; slots = c.requires.place.1 }
 
 pub rest_cell-requires : goal.rest_cell-requires
 rest_cell-requires g c =

@@ -8,4 +8,4 @@ returns-clause-called g c = called-releases c.args.limit c.requires.hand.1 c.req
 pub leave_within-requires : goal.leave_within-requires
 leave_within-requires g c =
     let share = rw c.requires.at.lane at c.requires.share in
-    record { hand = c.requires.hand; at = c.requires.at; may = λ some. inl (c.requires.idle, c.requires.held, share some) }
+    record { hand = c.requires.hand; bare = c.requires.bare; at = c.requires.at; may = λ some. inl (c.requires.idle, c.requires.held, share some) }

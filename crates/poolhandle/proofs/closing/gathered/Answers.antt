@@ -1,10 +1,21 @@
 -- What was given for the close is a lane of the pool.
-use Rattle.std.proofs.Common.{rules, ◌≡◌, List, [], ◌∷◌, ◌++◌, All, Contains, sym, subst, ◌∙◌}
-use Rattle.std.proofs.lemmas.List.Elements.{All-head, All-tail, All-push, Contains-append_left}
+use Rattle.std.proofs.Common.{rules, ◌≡◌, List, [], ◌∷◌, ◌++◌, All, Contains, sym, ap, subst, ◌∙◌}
+use Rattle.std.proofs.lemmas.List.Elements.{All-nil, All-head, All-tail, All-push, Contains-push, Contains-append_left}
 use Rattle.std.specs.Vec.Iter.{into_iter_items}
 use Rattle.shardpool.specs.Tokens.{PoolOf, LaneOf}
 use Rattle.shardpool.specs.Lanes.{Owns}
 use Rattle.poolhandle.proofs.closing.gathered.Goals as goal
+
+pub loop-place-init : goal.loop-place-init
+loop-place-init c =
+    let IsTag = λ (tag : PoolOf). tag ≡ c.args.pool.now in
+    let Mine = λ (other : LaneOf). Owns c.args.pool.now other in
+    let items : c.push.new.self.items ≡ c.args.row.items ++ c.args.lane ∷ [] = search rules in
+    let whole : c.push.new.self.items ≡ [] ++ c.args.lane ∷ [] = items ∙ ap (λ (lanes : List LaneOf). lanes ++ c.args.lane ∷ []) c.requires.row in (
+      subst (All IsTag) (sym c.into_iter-place-iterator.ensures.into_iter_gives.0) c.requires.given,
+      subst (λ (all : List LaneOf). Contains all c.args.lane) (sym whole) (Contains-push [] c.args.lane),
+      subst (All Mine) (sym whole) (All-push Mine [] c.args.lane (All-nil Mine) c.requires.lane),
+    )
 
 pub loop-place-preserved-in-Continue-branch-2 : goal.loop-place-preserved-in-Continue-branch-2
 loop-place-preserved-in-Continue-branch-2 c =

@@ -1,8 +1,14 @@
--- Each lane that is left is the pool's.
-use Rattle.std.specs.Vec.Iter.{into_iter_items}
+-- The handles so far are those of the lanes so far.
+use Rattle.std.proofs.Common.{◌≡◌, ◌+◌, length}
+use Rattle.std.specs.Vec.Iter.{into_iter_items, into_iter_len}
 use Rattle.std.specs.Arc.{arc_value}
-use Rattle.poolhandle.proofs.Owned.{AreOwned}
+use Rattle.poolhandle.proofs.Owned.{AreNext, AreFirst}
 use Rattle.poolhandle.proofs.opening.handles_of.Given as goal
 
 abbrev pub invariant-loop-lane : goal.invariant-loop-lane
-invariant-loop-lane l = AreOwned (arc_value l.shared).pool (into_iter_items l.lane-iterator)
+invariant-loop-lane l = record {
+  next : AreNext (arc_value l.shared).pool (length l.handles.items) (into_iter_items l.lane-iterator);
+  first : AreFirst (arc_value l.shared) l.handles.items;
+  all : length l.handles.items + length (into_iter_items l.lane-iterator) ≡ (arc_value l.shared).pool.shape.lanes;
+  rest : into_iter_len l.lane-iterator ≡ length (into_iter_items l.lane-iterator);
+}

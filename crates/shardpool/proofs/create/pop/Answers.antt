@@ -1,8 +1,12 @@
 -- The first place of the list comes off it.
-use Rattle.std.proofs.Common.{ℕ, sym, subst}
+use Rattle.std.proofs.Common.{◌≡◌, true, ℕ, refl, ap, sym, ◌∙◌, subst}
+use Rattle.keybits.specs.Shapes.{is_place}
+use Rattle.poolsteps.specs.Grids.{IsSpot}
+use Rattle.poolsteps.specs.Layout.{slot_start}
 use Rattle.shardpool.specs.Tokens.{LaneOf}
 use Rattle.shardpool.specs.Creates.{Pops}
 use Rattle.shardpool.specs.Lanes.{Made}
+use Rattle.shardpool.proofs.calls.Ends.{fits-beside, own-placed}
 use Rattle.shardpool.proofs.frame.LaneFacts.{lane_of}
 use Rattle.shardpool.proofs.free.OwnLists.{listed-object, popped-inside, popped-fits, popped, popped-fillings}
 use Rattle.shardpool.proofs.create.pop.Goals as goal
@@ -10,11 +14,14 @@ use Rattle.shardpool.proofs.create.pop.Goals as goal
 pub take_own-requires-clause-objects : goal.take_own-requires-clause-objects
 take_own-requires-clause-objects g c = listed-object c.lane.invariant.1
 
+pub take_own-requires-clause-placed : goal.take_own-requires-clause-placed
+take_own-requires-clause-placed g c = own-placed (fits-beside c.lane.invariant.1)
+
 pub number-requires-clause-slot : goal.number-requires-clause-slot
-number-requires-clause-slot g c = (popped-inside c.lane.invariant.1 c.in_ok-place.ensures).low_slot
+number-requires-clause-slot g c = (popped-inside c.lane.invariant.1 c.in_ok-place.ensures.0).low_slot
 
 pub invariant_of-lane-2 : goal.invariant_of-lane-2
-invariant_of-lane-2 g c = (c.lane.invariant.0, popped-fits c.lane.invariant.1 c.in_ok-place.ensures)
+invariant_of-lane-2 g c = (c.lane.invariant.0, popped-fits c.lane.invariant.1 c.in_ok-place.ensures.0)
 
 pub returns-clause-some : goal.returns-clause-some
 returns-clause-some g c =
@@ -23,8 +30,18 @@ returns-clause-some g c =
     let new : LaneOf = lane_of c.lane.inside.hand.table_id c.lane.inside.hand.me.0 c.take_own.new.state in
     subst (λ (lane : LaneOf). Pops content room lane new c.number.result c.in_ok-place.object) c.lane.view_is
     (subst (λ (n : ℕ). Pops content room (lane_of c.lane.inside.hand.table_id c.lane.inside.hand.me.0 c.lane.inside.state) new n c.in_ok-place.object) (sym c.number.ensures)
-    (popped c.lane.invariant.1 c.in_ok-place.ensures c.lane.inside.hand.table_id))
+    (popped c.lane.invariant.1 c.in_ok-place.ensures.0 c.lane.inside.hand.table_id))
+
+pub returns-clause-spot : goal.returns-clause-spot
+returns-clause-spot g c =
+    let z = c.lane.inside.state.shape in
+    let spot : IsSpot z (record { place = c.number.result; start = c.in_ok-place.start }) c.number.result = record {
+      place_is = refl;
+      inside = subst (λ (n : ℕ). is_place z n ≡ true) (sym c.number.ensures) (popped-inside c.lane.invariant.1 c.in_ok-place.ensures.0).is_in;
+      start = c.in_ok-place.ensures.1 ∙ ap (slot_start z) (sym c.number.ensures);
+    } in
+    subst (λ (lane : LaneOf). IsSpot lane.shape (record { place = c.number.result; start = c.in_ok-place.start }) c.number.result) c.lane.view_is spot
 
 pub returns-clause-fillings : goal.returns-clause-fillings
 returns-clause-fillings g c = λ filling made.
-    popped-fillings c.lane.invariant.1 c.in_ok-place.ensures c.lane.inside.hand.table_id filling (subst (λ (lane : LaneOf). Made lane filling) (sym c.lane.view_is) made)
+    popped-fillings c.lane.invariant.1 c.in_ok-place.ensures.0 c.lane.inside.hand.table_id filling (subst (λ (lane : LaneOf). Made lane filling) (sym c.lane.view_is) made)

@@ -1,17 +1,18 @@
 -- Each round adds the same row.
-use Rattle.std.proofs.Common.{◌≡◌, ◌++◌, ℕ, [], ◌∷◌, None, replicate, ap, ◌∙◌, arith}
+use Rattle.std.proofs.Common.{◌≡◌, ◌++◌, ℕ, [], ◌∷◌, Option, None, replicate, ap, ◌∙◌, arith}
 use Rattle.std.proofs.lemmas.List.{replicate-append-replicate}
+use Rattle.slotcell.specs.Share.{Share}
 use Rattle.shardpool.specs.declared.state.HeldKey.{HeldKey}
 use Rattle.shardpool.proofs.opening.first_rows.Goals as goal
 
 pub loop-preserved : goal.loop-preserved
 loop-preserved g c =
     let pushed = c.push_reserved.ensures in
-    let row : HeldKey g.row.T.Denot = record { generation = 1; count = 0; share = None } in
-    (pushed.items ∙ (ap (λ rows. rows ++ row ∷ []) c.loop.invariant.0 ∙ replicate-append-replicate c.loop.counter 1 row), rw pushed.capacity c.loop.invariant.1)
+    let row : HeldKey g.row.T.Denot = record { key = 0; count = 0; share = None } in
+    (pushed.items ∙ (ap (λ (share : Option (Share g.row.T.Denot)). c.loop.rows.items ++ (record { key = 0; count = 0; share = share }) ∷ []) c.empty.ensures ∙ ap (λ rows. rows ++ row ∷ []) c.loop.invariant.0 ∙ replicate-append-replicate c.loop.counter 1 row), rw pushed.capacity c.loop.invariant.1)
 
 pub returns : goal.returns
 returns g c =
-    let row : HeldKey g.row.T.Denot = record { generation = 1; count = 0; share = None } in
+    let row : HeldKey g.row.T.Denot = record { key = 0; count = 0; share = None } in
     let end : c.loop.counter ≡ c.args.count = omega arith in
     c.loop.invariant.0 ∙ ap (λ (n : ℕ). replicate n row) end

@@ -21,7 +21,7 @@ invariant_of-result g c =
             alloc = c.args.alloc;
           })
           (λ i. (hand i).0) c.requires.shape c.requires.number refl refl refl
-          (c.in_ok-first_rows.ensures ∙ ap (λ (n : ℕ). replicate n first_row) c.all_places.ensures)
+          (c.in_ok-first_rows.ensures ∙ ap (λ (n : ℕ). replicate n first_row) c.slot_row.ensures)
           (search rules)
           (c.in_ok-no_objects.ensures ∙ ap (λ (n : ℕ). replicate n None) c.shard_places.ensures)
           c.in_ok-new.ensures.empty c.new-2.ensures c.in_ok-of.ensures,

@@ -1,6 +1,6 @@
 -- The share of the last reference goes back into its slot.
 use Rattle.std.proofs.Common.{◌≡◌, inl, ℕ, ◌<◌, length, Some, slice_get, sym, ap, ◌∙◌, subst, arith}
-use Rattle.keybits.specs.Shapes.{position_of}
+use Rattle.poolsteps.specs.Layout.{slot_start}
 use Rattle.keybits.specs.Keys.{place_of, generation_of}
 use Rattle.sharelaws.specs.declared.stored.Status.TheVariants.{Untouched}
 use Rattle.slotcell.specs.Share.{Share}
@@ -14,8 +14,8 @@ use Rattle.shardpool.proofs.rows.return_last_share.Goals.{After-take_last_share}
 use Rattle.shardpool.proofs.rows.return_last_share.Goals as goal
 
 module _ (g : Over) (c : After-take_last_share g) where
-  lends : LendsBack (position_of c.args.grid.now.shape (place_of c.args.key)) c.args.state.now c.take_last_share.new.state c.take_last_share.result
-  lends = subst (λ (n : ℕ). LendsBack n c.args.state.now c.take_last_share.new.state c.take_last_share.result) c.requires.spot.position
+  lends : LendsBack (slot_start c.args.grid.now.shape (place_of c.args.key)) c.args.state.now c.take_last_share.new.state c.take_last_share.result
+  lends = subst (λ (n : ℕ). LendsBack n c.args.state.now c.take_last_share.new.state c.take_last_share.result) c.requires.spot.start
       (record { one = c.take_last_share.ensures.some; more = c.take_last_share.ensures.none; rest = c.take_last_share.ensures.rest })
 
   held : (share : Share g.row.T.Denot) → c.take_last_share.result ≡ Some share → IsHeld g.T.Clear.content g.T.Clear.room c.args.grid.now.shape c.args.hand.now.me.0 (place_of c.args.key) (generation_of c.args.key) share
@@ -23,12 +23,12 @@ module _ (g : Over) (c : After-take_last_share g) where
 
 pub take_last_share-requires-clause-at : goal.take_last_share-requires-clause-at
 take_last_share-requires-clause-at g c =
-    subst (λ (n : ℕ). n < length c.args.state.now.rows.items) (sym c.requires.spot.position) (row-low c.args.state.now c.args.key c.requires.fits c.requires.held)
+    subst (λ (n : ℕ). n < length c.args.state.now.rows.items) (sym c.requires.spot.start) (row-low c.args.state.now c.args.key c.requires.fits c.requires.held)
 
 pub take_last_share-requires-clause-share : goal.take_last_share-requires-clause-share
 take_last_share-requires-clause-share g c row stands single =
     row-lends (place_of c.args.key) row
-    (c.requires.fits.rows.each (place_of c.args.key) row c.requires.spot.inside (ap (slice_get c.args.state.now.rows.items) (sym c.requires.spot.position) ∙ stands))
+    (c.requires.fits.rows.each (place_of c.args.key) row c.requires.spot.inside (ap (slice_get c.args.state.now.rows.items) (sym c.requires.spot.start) ∙ stands))
     (omega (arith, single))
 
 pub back-requires-clause-left : goal.back-requires-clause-left

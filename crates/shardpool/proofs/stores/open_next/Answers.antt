@@ -46,8 +46,8 @@ overflow_cast-place g c =
     let low = low-shard content room old may now on in
     omega (arith, same, low)
 
-pub number-requires-clause-slot : goal.number-requires-clause-slot
-number-requires-clause-slot g c =
+pub number-number-requires-clause-slot : goal.number-number-requires-clause-slot
+number-number-requires-clause-slot g c =
     let old = c.args.state.now in
     let content = g.T.Clear.content in
     let room = g.T.Clear.room in
@@ -64,6 +64,43 @@ number-requires-clause-slot g c =
     let slot = c.len.ensures.len ∙ slot-is content room old may now on in
     let small = small-slot content room old may now on in
     omega (arith, slot, small)
+
+pub index-index-requires-clause-shape : goal.index-index-requires-clause-shape
+index-index-requires-clause-shape g c =
+    let old = c.args.state.now in
+    let content = g.T.Clear.content in
+    let room = g.T.Clear.room in
+    let may : MayOpen old = record {
+      shape = c.requires.shape;
+      lane = c.requires.lane;
+      shard = c.requires.lists.0;
+      list = c.requires.lists.1;
+      unopened = c.requires.unopened;
+      chain = c.requires.chain;
+    } in
+    let now = c.loop-object.state in
+    let on = subst (λ (left : List g.row.T.Denot). OpensSlots content room old left now) c.in-Some.ensures.steps.0 c.loop-object.invariant.on in
+    subst IsShape (sym (same-shape content room old may now on)) c.requires.shape
+
+pub index-index-requires-clause-place : goal.index-index-requires-clause-place
+index-index-requires-clause-place g c =
+    let old = c.args.state.now in
+    let content = g.T.Clear.content in
+    let room = g.T.Clear.room in
+    let may : MayOpen old = record {
+      shape = c.requires.shape;
+      lane = c.requires.lane;
+      shard = c.requires.lists.0;
+      list = c.requires.lists.1;
+      unopened = c.requires.unopened;
+      chain = c.requires.chain;
+    } in
+    let now = c.loop-object.state in
+    let on = subst (λ (left : List g.row.T.Denot). OpensSlots content room old left now) c.in-Some.ensures.steps.0 c.loop-object.invariant.on in
+    let at : c.number-number.result ≡ place_at old.number old.pages.opened on.slots
+    = c.number-number.ensures ∙ (λ i. place_at (same-number content room old may now on i) (c.opened-page.ensures.opened i) ((c.len.ensures.len ∙ slot-is content room old may now on) i)) in
+    ap (λ (n : ℕ). is_place now.shape n) at ∙ (ap (λ (z : Shape). is_place z (place_at old.number old.pages.opened on.slots)) (same-shape content room old may now on)
+    ∙ inside content room old may now on)
 
 pub keep-requires-clause-shape : goal.keep-requires-clause-shape
 keep-requires-clause-shape g c =
@@ -97,8 +134,8 @@ keep-requires-clause-place g c =
     } in
     let now = c.loop-object.state in
     let on = subst (λ (left : List g.row.T.Denot). OpensSlots content room old left now) c.in-Some.ensures.steps.0 c.loop-object.invariant.on in
-    let at : c.number.result ≡ place_at old.number old.pages.opened on.slots
-    = c.number.ensures ∙ (λ i. place_at (same-number content room old may now on i) (c.opened-page.ensures.opened i) ((c.len.ensures.len ∙ slot-is content room old may now on) i)) in
+    let at : c.number-number.result ≡ place_at old.number old.pages.opened on.slots
+    = c.number-number.ensures ∙ (λ i. place_at (same-number content room old may now on i) (c.opened-page.ensures.opened i) ((c.len.ensures.len ∙ slot-is content room old may now on) i)) in
     ap (λ (n : ℕ). is_place now.shape n) at ∙ (ap (λ (z : Shape). is_place z (place_at old.number old.pages.opened on.slots)) (same-shape content room old may now on)
     ∙ inside content room old may now on)
 
@@ -134,8 +171,8 @@ keep-requires-clause-away g c =
     } in
     let now = c.loop-object.state in
     let on = subst (λ (left : List g.row.T.Denot). OpensSlots content room old left now) c.in-Some.ensures.steps.0 c.loop-object.invariant.on in
-    let at : c.number.result ≡ place_at old.number old.pages.opened on.slots
-    = c.number.ensures ∙ (λ i. place_at (same-number content room old may now on i) (c.opened-page.ensures.opened i) ((c.len.ensures.len ∙ slot-is content room old may now on) i)) in
+    let at : c.number-number.result ≡ place_at old.number old.pages.opened on.slots
+    = c.number-number.ensures ∙ (λ i. place_at (same-number content room old may now on i) (c.opened-page.ensures.opened i) ((c.len.ensures.len ∙ slot-is content room old may now on) i)) in
     subst (λ (n : ℕ). IsAway now.free (place_numbered n)) (sym at) (slot-away content room old may now on)
 
 pub loop-object-preserved : goal.loop-object-preserved
@@ -153,8 +190,8 @@ loop-object-preserved g c =
     } in
     let now = c.loop-object.state in
     let on = subst (λ (left : List g.row.T.Denot). OpensSlots content room old left now) c.in-Some.ensures.steps.0 c.loop-object.invariant.on in
-    let at : c.number.result ≡ place_at old.number old.pages.opened on.slots
-    = c.number.ensures ∙ (λ i. place_at (same-number content room old may now on i) (c.opened-page.ensures.opened i) ((c.len.ensures.len ∙ slot-is content room old may now on) i)) in
+    let at : c.number-number.result ≡ place_at old.number old.pages.opened on.slots
+    = c.number-number.ensures ∙ (λ i. place_at (same-number content room old may now on i) (c.opened-page.ensures.opened i) ((c.len.ensures.len ∙ slot-is content room old may now on) i)) in
     record {
       on = one-on content room old may now on c.keep.new.state (subst (λ (n : ℕ). KeepsOwn n c.in-Some.object now c.keep.new.state) at c.keep.ensures);
       rest = let was = c.loop-object.invariant.rest in let gone = c.in-Some.ensures.steps.1 in let shorter = ap length c.in-Some.ensures.steps.0 in omega arith;

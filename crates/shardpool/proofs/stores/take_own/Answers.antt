@@ -1,35 +1,73 @@
-use Rattle.std.proofs.Common.{rules, ◌≡◌, ◌<◌, true, Some, None, refl, sym, ap, ◌∙◌, subst, length}
+use Rattle.std.proofs.Common.{rules, ◌≡◌, ◌<◌, ℕ, true, Some, None, refl, sym, ap, ◌∙◌, subst, length}
 use Rattle.std.specs.Prelude.{slice_get, slice_set}
 use Rattle.std.proofs.lemmas.Option.{slice_get_within, get_or_from_slice_get}
+use Rattle.keybits.specs.declared.shape.Shape.{Shape}
+use Rattle.keybits.specs.declared.place.Place.{Place}
+use Rattle.keybits.specs.Places.{shard_of, number_of}
 use Rattle.keybits.specs.Shapes.{index_of, is_place}
 use Rattle.freelists.specs.Shards.{IsOwn}
 use Rattle.freelists.specs.Queues.{FreePlaces}
+use Rattle.freelists.proofs.ShardLemmas.{OwnNumber}
+use Rattle.poolsteps.specs.Layout.{slot_start}
 use Rattle.shardpool.proofs.free.Stores.{own-inside, first-in}
+use Rattle.shardpool.proofs.stores.take_own.Given.{Over}
+use Rattle.shardpool.proofs.stores.take_own.Goals.{After-number, After-start-start, After-index-index}
 use Rattle.shardpool.proofs.stores.take_own.Goals as goal
+
+-- the place is one of the lane's shard
+inside : (g : Over) (c : After-number g) → OwnNumber c.args.state.now.shape (number_of c.in_ok-place.place) c.in_ok-place.place
+inside g c =
+    let e = c.in_ok-place.ensures in
+    own-inside c.args.state.now.shape c.args.state.now.free c.in_ok-place.place c.requires.shape c.requires.lane c.requires.lists
+    (subst (λ (f : FreePlaces). IsOwn f.shard f.shape c.in_ok-place.place) e.rest e.away.own)
+
+-- and of that of the pool's which the lane knows
+shard : (g : Over) (c : After-number g) → shard_of (number_of c.in_ok-place.place) ≡ c.args.state.now.places.shard
+shard g c =
+    let e = c.in_ok-place.ensures in
+    ap (λ (place : Place). place.shard) (inside g c).back
+    ∙ ((subst (λ (f : FreePlaces). IsOwn f.shard f.shape c.in_ok-place.place) e.rest e.away.own).of_shard ∙ sym c.requires.placed.1)
+
+-- where it stands
+stands : (g : Over) (c : After-start-start g) → c.start-start.result ≡ slot_start c.args.state.now.places.shape (number_of c.in_ok-place.place)
+stands g c = c.start-start.ensures.start ∙ ap (slot_start c.args.state.now.places.shape) c.number.ensures
+
+-- its index
+index : (g : Over) (c : After-index-index g) → shard_of (number_of c.in_ok-place.place) ≡ c.args.state.now.places.shard
+    → c.start-start.result ≡ slot_start c.args.state.now.places.shape (number_of c.in_ok-place.place) → c.index-index.result ≡ index_of c.args.state.now.shape (number_of c.in_ok-place.place)
+index g c own at =
+    c.index-index.ensures (number_of c.in_ok-place.place) own at
+    ∙ ap (λ (z : Shape). index_of z (number_of c.in_ok-place.place)) c.requires.placed.0
 
 pub number-requires-clause-slot : goal.number-requires-clause-slot
 number-requires-clause-slot g c =
     let e = c.in_ok-place.ensures in let z = c.args.state.now.shape in let p = c.in_ok-place.place in
     (own-inside z c.args.state.now.free p c.requires.shape c.requires.lane c.requires.lists (subst (λ (f : FreePlaces). IsOwn f.shard f.shape p) e.rest e.away.own)).low_slot
 
-pub index-index-requires-clause-place : goal.index-index-requires-clause-place
-index-index-requires-clause-place g c =
-    let e = c.in_ok-place.ensures in let z = c.args.state.now.shape in let p = c.in_ok-place.place in
-    let is = (own-inside z c.args.state.now.free p c.requires.shape c.requires.lane c.requires.lists (subst (λ (f : FreePlaces). IsOwn f.shard f.shape p) e.rest e.away.own)).is_in in
-    subst (λ n. is_place z n ≡ true) (sym c.number.ensures) is
+pub start-start-requires : goal.start-start-requires
+start-start-requires g c =
+    subst (λ (z : Shape). is_place z c.number.result ≡ true) (sym c.requires.placed.0)
+    (subst (λ (n : ℕ). is_place c.args.state.now.shape n ≡ true) (sym c.number.ensures) (inside g (goal.at.start-start-requires g c).After-number).is_in)
+
+pub index-index-requires : goal.index-index-requires
+index-index-requires g c = (
+  number_of c.in_ok-place.place,
+  shard g (goal.at.index-index-requires g c).After-number,
+  stands g (goal.at.index-index-requires g c).After-start-start,
+)
 
 pub index_mut-requires : goal.index_mut-requires
 index_mut-requires g c =
     let old = c.args.state.now in let p = c.in_ok-place.place in
     let stood = c.requires.objects p (first-in p c.pop.new.self.own old.free.own c.in_ok-place.ensures.first) in
-    let low = subst (λ n. n < length old.objects.items) (sym (c.index-index.ensures.index ∙ ap (index_of old.shape) c.number.ensures)) (slice_get_within old.objects.items _ _ stood.1) in
+    let low = subst (λ n. n < length old.objects.items) (sym (index g (goal.at.index_mut-requires g c).After-index-index (shard g (goal.at.index_mut-requires g c).After-number) (stands g (goal.at.index_mut-requires g c).After-start-start))) (slice_get_within old.objects.items _ _ stood.1) in
     search (rules, low)
 
 pub unreachable-requires : goal.unreachable-requires
 unreachable-requires g c =
     let old = c.args.state.now in let p = c.in_ok-place.place in
     let stood = c.requires.objects p (first-in p c.pop.new.self.own old.free.own c.in_ok-place.ensures.first) in
-    let there = subst (λ n. slice_get old.objects.items n ≡ Some (Some stood.0)) (sym (c.index-index.ensures.index ∙ ap (index_of old.shape) c.number.ensures)) stood.1 in
+    let there = subst (λ n. slice_get old.objects.items n ≡ Some (Some stood.0)) (sym (index g (goal.at.unreachable-requires g c).After-index-index (shard g (goal.at.unreachable-requires g c).After-number) (stands g (goal.at.unreachable-requires g c).After-start-start))) stood.1 in
     let bad = sym c.in-None.is ∙ (c.take.ensures.value ∙ (c.index_mut.ensures.value ∙ get_or_from_slice_get old.objects.items c.index-index.result (Some stood.0) c.index_mut.result.now there)) in
     cc bad
 
@@ -37,15 +75,17 @@ pub returns : goal.returns
 returns g c =
     let old = c.args.state.now in let p = c.in_ok-place.place in let e = c.in_ok-place.ensures in
     let stood = c.requires.objects p (first-in p c.pop.new.self.own old.free.own e.first) in
-    let at = c.index-index.ensures.index ∙ ap (index_of old.shape) c.number.ensures in
+    let at = index g (goal.at.returns g c).After-index-index (shard g (goal.at.returns g c).After-number) (stands g (goal.at.returns g c).After-start-start) in
     let there = subst (λ n. slice_get old.objects.items n ≡ Some (Some stood.0)) (sym at) stood.1 in
-    let same = sym (get_or_from_slice_get old.objects.items c.index-index.result (Some stood.0) c.index_mut.result.now there) ∙ (sym c.index_mut.ensures.value ∙ (sym c.take.ensures.value ∙ c.in-Some.is)) in
-    record {
-      list = e.first;
-      stood = stood.1 ∙ ap Some same;
-      objects = ap (λ x. slice_set old.objects.items c.index-index.result x) c.take.ensures.after ∙ ap (λ i. slice_set old.objects.items i None) at;
-      away = e.away;
-      free = e.places;
-      own = e.rest;
-      rest = refl;
-    }
+    let same = sym (get_or_from_slice_get old.objects.items c.index-index.result (Some stood.0) c.index_mut.result.now there) ∙ (sym c.index_mut.ensures.value ∙ (sym c.take.ensures.value ∙ c.in-Some.is)) in (
+      record {
+        list = e.first;
+        stood = stood.1 ∙ ap Some same;
+        objects = ap (λ x. slice_set old.objects.items c.index-index.result x) c.take.ensures.after ∙ ap (λ i. slice_set old.objects.items i None) at;
+        away = e.away;
+        free = e.places;
+        own = e.rest;
+        rest = refl;
+      },
+      stands g (goal.at.returns g c).After-start-start ∙ ap (λ (z : Shape). slot_start z (number_of p)) c.requires.placed.0,
+    )

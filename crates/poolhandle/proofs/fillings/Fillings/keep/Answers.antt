@@ -1,5 +1,4 @@
-use Rattle.std.proofs.Common.{rules, List, sym, subst, arith}
-use Rattle.poolhandle.specs.declared.kept.Kept.{Kept}
+use Rattle.std.proofs.Common.{sym, subst}
 use Rattle.poolhandle.specs.Filled.{AreDistinct}
 use Rattle.poolhandle.proofs.Counting.{distinct-push}
 use Rattle.poolhandle.proofs.fillings.Fillings.keep.Goals as goal

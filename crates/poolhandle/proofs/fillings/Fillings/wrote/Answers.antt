@@ -1,5 +1,5 @@
 -- What stood at the index was given to the call.
-use Rattle.std.proofs.Common.{rules, ◌≡◌, ◌<◌, ◌≤◌, ◌++◌, ◌∙◌, refl, subst, length, take, replicate, slice_index_or, if◌then◌else◌}
+use Rattle.std.proofs.Common.{rules, ◌≡◌, ◌<◌, ◌≤◌, ◌++◌, ◌∙◌, refl, subst, length, take, slice_index_or}
 use Rattle.std.proofs.lemmas.List.{get_or_default}
 use Rattle.poolhandle.specs.declared.kept.Kept.{Kept}
 use Rattle.poolhandle.specs.Filled.{content_of, room_of, SameToken}

@@ -1,15 +1,13 @@
 -- The new filling stands behind the others.
-use Rattle.std.proofs.Common.{rules, ◌≡◌, ◌<◌, ◌≤◌, ◌++◌, ◌∙◌, ℕ, Bool, true, false, List, [], ◌∷◌, refl, sym, ap, subst, arith, length, take, replicate, Contains, slice_index_or, inl, inr, IsTrue, IsFalse, if◌then◌else◌}
-use Rattle.std.specs.List.{All}
+use Rattle.std.proofs.Common.{rules, ◌≡◌, ◌∙◌, List, sym, ap, subst, Contains, slice_index_or}
 use Rattle.std.proofs.lemmas.List.Elements.{All-push, Contains-push}
 use Rattle.slotcell.specs.ByteBuf.{ByteBuf}
 use Rattle.shardpool.specs.Tokens.{LaneOf, FillingOf}
 use Rattle.shardpool.specs.Lanes.{Made}
 use Rattle.shardpool.specs.Creates.{Gives}
 use Rattle.poolhandle.specs.declared.kept.Kept.{Kept}
-use Rattle.poolhandle.specs.declared.fillings.Fillings.{Fillings}
-use Rattle.poolhandle.specs.Filled.{content_of, room_of, AreMade, HaveNot, Have}
-use Rattle.poolhandle.proofs.Turning.{all-content, no-room, room-length, had, has-push, has-set, made-set, made-taken, by-answer, published-so, any-of}
+use Rattle.poolhandle.specs.Filled.{AreMade}
+use Rattle.poolhandle.proofs.Turning.{all-content, no-room}
 use Rattle.poolhandle.proofs.handle.Handle.create.Goals as goal
 
 pub invariant_of-self-in-Ok : goal.invariant_of-self-in-Ok

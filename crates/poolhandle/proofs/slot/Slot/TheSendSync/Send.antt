@@ -3,7 +3,6 @@ use Rattle.std.specs.Prelude.{List}
 use mathlib.Core.List.{[], ◌∷◌}
 use mir.Raw.{raw}
 use base.Shift.{Keyless}
-use denote.RattleType.{RattleType}
 use denote.RawPtr.{Ptr}
 use denote.Memory.{lone}
 use denote.Param.Send.{IsSend, IsSync, owning_send, struct_send, sendable}

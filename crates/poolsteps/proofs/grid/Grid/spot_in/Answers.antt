@@ -1,5 +1,5 @@
 use Rattle.std.proofs.Common.{refl, arith}
-use Rattle.keybits.proofs.ShapeLemmas.{shape_bounds, position_of-lt}
+use Rattle.keybits.proofs.ShapeLemmas.{shape_bounds}
 use Rattle.poolsteps.proofs.PageLemmas.{row-spot}
 use Rattle.poolsteps.proofs.SlotLemmas.{in-row}
 use Rattle.poolsteps.proofs.grid.Grid.spot_in.Goals as goal
@@ -8,19 +8,13 @@ pub overflow_add-result : goal.overflow_add-result
 overflow_add-result g c =
     let z = c.args.self.now.shape in
     let at = row-spot z c.args.place c.args.page.now c.requires.place c.requires.page in
-    let low = position_of-lt z c.args.place c.requires.place in
-    let bounds = shape_bounds z c.args.self.now.checked in
-    omega (arith, at.0, low, bounds.all)
-
-pub overflow_add-result-2 : goal.overflow_add-result-2
-overflow_add-result-2 g c =
-    let z = c.args.self.now.shape in
-    let at = row-spot z c.args.place c.args.page.now c.requires.place c.requires.page in
     let low = in-row z c.args.place c.requires.place in
     let bounds = shape_bounds z c.args.self.now.checked in
-    omega (arith, at.1, low, bounds.all, bounds.lanes)
+    omega (arith, at, low, bounds.all, bounds.lanes)
 
 pub returns : goal.returns
-returns g c =
-    let at = row-spot c.args.self.now.shape c.args.place c.args.page.now c.requires.place c.requires.page in
-    record { place_is = refl; inside = c.requires.place; position = at.0; start = at.1 }
+returns g c = record {
+  place_is = refl;
+  inside = c.requires.place;
+  start = row-spot c.args.self.now.shape c.args.place c.args.page.now c.requires.place c.requires.page;
+}

@@ -1,6 +1,8 @@
 -- A create gives what its parts make together.
 use Rattle.std.proofs.Common.{◌≢◌, ⊎_elim, [], refl, sym, ap, ◌∙◌, subst, IsSome, is_err}
 use Rattle.std.proofs.lemmas.Result.{err_from_is_err_and}
+use Rattle.keybits.specs.declared.shape.Shape.{Shape}
+use Rattle.poolsteps.specs.Grids.{IsSpot}
 use Rattle.shardpool.specs.Tokens.{LaneOf}
 use Rattle.shardpool.specs.Lanes.{Owns}
 use Rattle.shardpool.specs.Creates.{TakesReturned, OpensPage, GivesNone}
@@ -17,6 +19,9 @@ fill-requires-clause-owns g c = subst (Owns c.args.self.now) (sym c.in-Some.ensu
 
 pub fill-requires-clause-loose : goal.fill-requires-clause-loose
 fill-requires-clause-loose g c = c.in-Some.ensures.some.4
+
+pub fill-requires-clause-spot : goal.fill-requires-clause-spot
+fill-requires-clause-spot g c = subst (λ (z : Shape). IsSpot z c.in-Some.spot c.in-Some.spot.place) c.requires.owns.1 c.in-Some.ensures.spot
 
 pub take_returned-requires-clause-owns : goal.take_returned-requires-clause-owns
 take_returned-requires-clause-owns g c = subst (Owns c.args.self.now) (sym (c.in_default.ensures.none refl).0) c.requires.owns

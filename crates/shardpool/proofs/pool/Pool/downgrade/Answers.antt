@@ -1,7 +1,7 @@
 use Rattle.std.proofs.Common.{◌≡◌, ◌<◌, true, [], ◌∷◌, ℕ, length, slice_set, Some, refl, sym, ap, ◌∙◌, subst, arith}
 use Rattle.keybits.specs.declared.shape.Shape.{Shape}
-use Rattle.keybits.specs.Shapes.{position_of}
-use Rattle.keybits.specs.Keys.{place_of, generation_of}
+use Rattle.poolsteps.specs.Layout.{slot_start}
+use Rattle.keybits.specs.Keys.{place_of}
 use Rattle.seqpool.specs.declared.act.Act.{Act}
 use Rattle.seqpool.specs.declared.act.Act.TheVariants as acts
 use Rattle.steplaws.specs.Calls.Call.{Publishing}
@@ -11,7 +11,7 @@ use Rattle.shardpool.specs.LaneStates.{Fits}
 use Rattle.shardpool.specs.Lanes.{Made, Did, Calls}
 use Rattle.shardpool.proofs.calls.CallParts.{calls-more}
 use Rattle.shardpool.proofs.references.RowChanges.{rows-low}
-use Rattle.shardpool.proofs.calls.Publishes.{published-did, published-held, published-one, published-others, published-held-with}
+use Rattle.shardpool.proofs.calls.Publishes.{made-spot, published-did, published-held, published-one, published-others, published-held-with}
 use Rattle.shardpool.proofs.frame.LaneFacts.{lane_of}
 use Rattle.shardpool.proofs.pool.Pool.downgrade.Given.{Over}
 use Rattle.shardpool.proofs.references.Holdings.{publish-holds}
@@ -31,21 +31,27 @@ module _ (g : Over) (c : goal.After-to g) where
 
   -- the filling by its parts
   abbrev filling : FillingOf g.row.T.Denot
-  filling = record { table = c.args.filling.table; key = c.spend-key.result.0; object = c.spend-key.result.1 }
+  filling = record { table = c.args.filling.table; key = c.spend-key.result.0; start = c.spend-key.result.1; object = c.spend-key.result.2 }
 
   same : filling ≡ c.args.filling
-  same = λ i. record { table = c.args.filling.table; key = c.spend-key.ensures.0 i; object = c.spend-key.ensures.1 i }
+  same = λ i. record { table = c.args.filling.table; key = c.spend-key.ensures.0 i; start = c.spend-key.ensures.1 i; object = c.spend-key.ensures.2 i }
 
   was : Made before filling
   was = subst (λ (f : FillingOf g.row.T.Denot). Made before f) (sym same) (subst (λ (l : LaneOf). Made l c.args.filling) (sym c.lane.view_is) c.requires.made)
+
+pub downgrade-share-requires-clause-spot : goal.downgrade-share-requires-clause-spot
+downgrade-share-requires-clause-spot g c =
+    made-spot (record { place = c.place_of.result; start = c.spend-key.result.1 }) c.spend-key.result.0 c.requires.made (c.requires.owns.1 ∙ sym (ap (λ p. p.shape) c.self.view_is))
+    c.spend-key.ensures.0 c.spend-key.ensures.1 c.place_of.ensures.place
 
 pub add_first_reference-requires-clause-at : goal.add_first_reference-requires-clause-at
 add_first_reference-requires-clause-at g c =
     let s = c.lane.inside.state in
     let shape : s.shape ≡ c.self.inside.grid.shape = ap (λ l. l.shape) c.lane.view_is ∙ (c.requires.owns.1 ∙ sym (ap (λ p. p.shape) c.self.view_is)) in
     let fits = subst (λ (y : Shape). Fits g.T.Clear.content g.T.Clear.room y c.lane.inside.hand.me.0 s) shape c.lane.invariant.1 in
-    let spot = c.spot-spot.ensures in
-    subst (λ (n : ℕ). n < length s.rows.items) (sym spot.position) (rows-low c.place_of.result fits.rows spot.inside)
+    let spot = made-spot (record { place = c.place_of.result; start = c.spend-key.result.1 }) c.spend-key.result.0 c.requires.made (c.requires.owns.1 ∙ sym (ap (λ p. p.shape) c.self.view_is))
+    c.spend-key.ensures.0 c.spend-key.ensures.1 c.place_of.ensures.place in
+    subst (λ (n : ℕ). n < length s.rows.items) (sym spot.start) (rows-low (place_of c.spend-key.result.0) fits.rows spot.inside)
 
 pub invariant_of-lane : goal.invariant_of-lane
 invariant_of-lane g c =
@@ -53,9 +59,11 @@ invariant_of-lane g c =
     let s = c.lane.inside.state in
     let told = c.downgrade-share.ensures in
     let share = c.downgrade-share.result in
-    let row : HeldKey g.row.T.Denot = record { generation = generation_of c.spend-key.result.0; count = 1; share = Some share } in
-    let at : c.spot-spot.result.position ≡ position_of z (place_of c.spend-key.result.0) = c.spot-spot.ensures.position ∙ ap (position_of z) c.place_of.ensures.place in
-    let now = published-held-with s c.add_first_reference.new.state c.lane.inside.hand.table_id (filling g c) (g.T.Clear.content c.spend-key.result.1) true (fits g c) told.called.did told.called.idle told.acts (was g c)
+    let row : HeldKey g.row.T.Denot = record { key = c.spend-key.result.0; count = 1; share = Some share } in
+    let at : c.spend-key.result.1 ≡ slot_start z (place_of c.spend-key.result.0)
+    = (made-spot (record { place = c.place_of.result; start = c.spend-key.result.1 }) c.spend-key.result.0 c.requires.made (c.requires.owns.1 ∙ sym (ap (λ p. p.shape) c.self.view_is))
+    c.spend-key.ensures.0 c.spend-key.ensures.1 c.place_of.ensures.place).start in
+    let now = published-held-with s c.add_first_reference.new.state c.lane.inside.hand.table_id (filling g c) (g.T.Clear.content c.spend-key.result.2) true (fits g c) told.called.did told.called.idle told.acts (was g c)
     c.add_first_reference.ensures.rest share refl told.share.0 told.share.1 (ap g.T.Clear.content told.share.2) told.slot told.cell
     (c.add_first_reference.ensures.rows ∙ ap (λ (n : ℕ). slice_set s.rows.items n row) at) (ap (λ x. x.references) c.add_first_reference.ensures.rest) in
     (told.called.did.held ∙ c.lane.invariant.0, subst (λ (y : Shape). Fits g.T.Clear.content g.T.Clear.room y c.downgrade-share.new.hand.me.0 c.add_first_reference.new.state) (sym now.shape_is) now)
@@ -64,7 +72,7 @@ pub returns-clause-key : goal.returns-clause-key
 returns-clause-key g c =
     let s = c.lane.inside.state in
     let told = c.downgrade-share.ensures in
-    let one = published-one s c.add_first_reference.new.state c.lane.inside.hand.table_id (filling g c) (g.T.Clear.content c.spend-key.result.1) true (fits g c) told.called.did told.called.idle told.acts (was g c)
+    let one = published-one s c.add_first_reference.new.state c.lane.inside.hand.table_id (filling g c) (g.T.Clear.content c.spend-key.result.2) true (fits g c) told.called.did told.called.idle told.acts (was g c)
     c.add_first_reference.ensures.rest refl in
     (c.to.ensures ∙ c.spend-key.ensures.0, rw (← c.spend-key.ensures.0) (omega (arith, one)))
 
@@ -79,9 +87,9 @@ pub returns-clause-publishes : goal.returns-clause-publishes
 returns-clause-publishes g c =
     let s = c.lane.inside.state in
     let told = c.downgrade-share.ensures in
-    let did = published-did s c.add_first_reference.new.state c.lane.inside.hand.table_id (filling g c) (g.T.Clear.content c.spend-key.result.1) true (fits g c) told.called.did told.called.idle told.acts (was g c)
+    let did = published-did s c.add_first_reference.new.state c.lane.inside.hand.table_id (filling g c) (g.T.Clear.content c.spend-key.result.2) true (fits g c) told.called.did told.called.idle told.acts (was g c)
     c.add_first_reference.ensures.rest c.downgrade-share.new.hand.table_id told.hand.0 in
-    let one : acts.Publish s.number c.spend-key.result.0 (g.T.Clear.content c.spend-key.result.1) true ≡ acts.Publish s.number c.args.filling.key (g.T.Clear.content c.args.filling.object) true
+    let one : acts.Publish s.number c.spend-key.result.0 (g.T.Clear.content c.spend-key.result.2) true ≡ acts.Publish s.number c.args.filling.key (g.T.Clear.content c.args.filling.object) true
     = ap (λ (f : FillingOf g.row.T.Denot). acts.Publish s.number f.key (g.T.Clear.content f.object) true) (same g c) in
     rw (← c.lane.view_is) (subst (λ (x : Act). Did (x ∷ []) (before g c) (lane_of c.downgrade-share.new.hand.table_id c.downgrade-share.new.hand.me.0 c.add_first_reference.new.state)) one did)
 
@@ -89,14 +97,14 @@ pub returns-clause-refs : goal.returns-clause-refs
 returns-clause-refs g c =
     let s = c.lane.inside.state in
     let told = c.downgrade-share.ensures in
-    rw (← c.lane.view_is) (published-held s c.add_first_reference.new.state c.lane.inside.hand.table_id (filling g c) (g.T.Clear.content c.spend-key.result.1) true (fits g c) told.called.did told.called.idle told.acts (was g c)
+    rw (← c.lane.view_is) (published-held s c.add_first_reference.new.state c.lane.inside.hand.table_id (filling g c) (g.T.Clear.content c.spend-key.result.2) true (fits g c) told.called.did told.called.idle told.acts (was g c)
     c.add_first_reference.ensures.rest)
 
 pub returns-clause-fillings : goal.returns-clause-fillings
 returns-clause-fillings g c other differs is =
     let s = c.lane.inside.state in
     let told = c.downgrade-share.ensures in
-    published-others s c.add_first_reference.new.state c.lane.inside.hand.table_id (filling g c) (g.T.Clear.content c.spend-key.result.1) true (fits g c) told.called.did told.called.idle told.acts (was g c)
+    published-others s c.add_first_reference.new.state c.lane.inside.hand.table_id (filling g c) (g.T.Clear.content c.spend-key.result.2) true (fits g c) told.called.did told.called.idle told.acts (was g c)
     c.add_first_reference.ensures.rest c.downgrade-share.new.hand.table_id told.hand.0 other (λ e. differs (e ∙ c.spend-key.ensures.0)) (subst (λ (l : LaneOf). Made l other) (sym c.lane.view_is) is)
 
 pub returns-clause-one_more : goal.returns-clause-one_more

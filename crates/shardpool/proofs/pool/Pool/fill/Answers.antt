@@ -1,14 +1,15 @@
 -- The place is in nobody's hands, and the look moves nothing.
-use Rattle.std.proofs.Common.{◌≡◌, ◌<◌, ℕ, List, refl, sym, ap, ◌∙◌, subst}
+use Rattle.std.proofs.Common.{◌≡◌, ℕ, List, refl, sym, ap, ◌∙◌, subst}
 use Rattle.keybits.specs.declared.shape.Shape.{Shape}
-use Rattle.keybits.specs.Counts.{times}
 use Rattle.keybits.specs.Keys.{place_of}
 use Rattle.keybits.proofs.KeyLemmas.{place_of-key_number}
 use Rattle.keybits.proofs.ShapeLemmas.{place_bounds}
 use Rattle.seqpool.specs.Pool.{pool_after}
 use Rattle.poolsteps.specs.Views.{the_lane}
 use Rattle.poolsteps.specs.Told.{Sees, MayPublish}
-use Rattle.shardpool.specs.Tokens.{LaneOf, FillingOf}
+use Rattle.poolsteps.specs.Grids.{IsSpot}
+use Rattle.poolsteps.specs.Layout.{slot_start}
+use Rattle.shardpool.specs.Tokens.{PoolOf, LaneOf, FillingOf}
 use Rattle.shardpool.specs.Creates.{IsLoose, Fills}
 use Rattle.shardpool.proofs.frame.LaneFrames.{passes-sees}
 use Rattle.shardpool.proofs.frame.SeenHistories.{has-not, made-still, same-shape, same-chain, still-idle, fits-sees}
@@ -18,8 +19,8 @@ use Rattle.shardpool.proofs.pool.Pool.fill.Goals as goal
 pub next_key-key-requires-clause-unchained : goal.next_key-key-requires-clause-unchained
 next_key-key-requires-clause-unchained g c =
     let chain : List ℕ = (the_lane c.lane.inside.hand.me.0).chain in
-    let loose = subst (λ (lane : LaneOf). IsLoose g.T.Clear.content g.T.Clear.room lane c.args.place c.args.object) (sym c.lane.view_is) c.requires.loose in
-    ap (λ (place : ℕ). times place chain) c.spot-spot.ensures.place_is ∙ has-not c.args.place chain loose.filling.unchained
+    let loose = subst (λ (lane : LaneOf). IsLoose g.T.Clear.content g.T.Clear.room lane c.args.spot.place c.args.object) (sym c.lane.view_is) c.requires.loose in
+    has-not c.args.spot.place chain loose.filling.unchained
 
 pub invariant_of-lane : goal.invariant_of-lane
 invariant_of-lane g c =
@@ -45,16 +46,16 @@ returns-clause-fills g c =
       pages = c.lane.inside.state.pages;
     } in
     let new : LaneOf = record was { table = c.next_key-key.new.hand.table_id; book = c.next_key-key.new.hand.me.0 } in
-    let loose = subst (λ (lane : LaneOf). IsLoose content room lane c.args.place c.args.object) (sym c.lane.view_is) c.requires.loose in
+    let loose = subst (λ (lane : LaneOf). IsLoose content room lane c.args.spot.place c.args.object) (sym c.lane.view_is) c.requires.loose in
     let seat = c.lane.invariant.1.seat in
-    let small = (place_bounds was.shape seat.shape c.args.place loose.filling.inside).number in
-    let at : place_of c.next_key-key.result ≡ c.args.place = ap place_of c.next_key-key.ensures.key
-    ∙ (place_of-key_number c.self.inside.grid.shape.tag c.spot-spot.result.place (pool_after c.self.inside.grid.shape c.next_key-key.new.hand.me.0.seen c.spot-spot.result.place).generation
-    (subst (λ (p : ℕ). p < 16777216) (sym c.spot-spot.ensures.place_is) small)
-    ∙ c.spot-spot.ensures.place_is) in
-    subst (λ (lane : LaneOf). Fills lane new c.args.place c.args.object c.of.result) c.lane.view_is
-    (filled content room was new c.args.place c.args.object c.of.result seat loose (bare-sees sees) (c.next_key-key.ensures.hand.0, refl, refl) refl refl
+    let small = (place_bounds was.shape seat.shape c.args.spot.place loose.filling.inside).number in
+    let at : place_of c.next_key-key.result ≡ c.args.spot.place = ap place_of c.next_key-key.ensures.key
+    ∙ place_of-key_number c.self.inside.grid.shape.tag c.args.spot.place (pool_after c.self.inside.grid.shape c.next_key-key.new.hand.me.0.seen c.args.spot.place).generation small in
+    let spot : IsSpot c.self.inside.grid.shape c.args.spot c.args.spot.place = subst (λ (p : PoolOf). IsSpot p.shape c.args.spot c.args.spot.place) (sym c.self.view_is) c.requires.spot in
+    subst (λ (lane : LaneOf). Fills lane new c.args.spot.place c.args.object c.of.result) c.lane.view_is
+    (filled content room was new c.args.spot.place c.args.object c.of.result seat loose (bare-sees sees) (c.next_key-key.ensures.hand.0, refl, refl) refl refl
     (ap (λ (filling : FillingOf g.row.T.Denot). filling.table) c.of.ensures ∙ c.next_key-key.ensures.hand.0)
+    (ap (λ (filling : FillingOf g.row.T.Denot). filling.start) c.of.ensures ∙ (spot.start ∙ ap (λ (y : Shape). slot_start y c.args.spot.place) shape))
     (ap (λ (filling : FillingOf g.row.T.Denot). place_of filling.key) c.of.ensures ∙ at)
     (ap (λ (filling : FillingOf g.row.T.Denot). filling.object) c.of.ensures)
     (subst (MayPublish was.shape new.book) (ap (λ (filling : FillingOf g.row.T.Denot). filling.key) (sym c.of.ensures)) may))

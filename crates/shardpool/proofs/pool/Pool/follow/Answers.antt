@@ -3,7 +3,7 @@ use Rattle.std.proofs.Common.{◌≡◌, ◌<◌, Some, ap, sym, ◌∙◌, subs
 use Rattle.keybits.specs.declared.shape.Shape.{Shape}
 use Rattle.seqpool.specs.Pool.{with}
 use Rattle.poolsteps.specs.Grids.{IsSpot}
-use Rattle.shardpool.specs.Tokens.{LaneOf}
+use Rattle.shardpool.specs.Tokens.{PoolOf, LaneOf}
 use Rattle.shardpool.specs.Lanes.{Made}
 use Rattle.shardpool.specs.Creates.{FollowsChain}
 use Rattle.shardpool.proofs.frame.LaneFacts.{lane_of}
@@ -87,3 +87,7 @@ returns-clause-fillings g c = λ filling made.
     let follows = follows-here c.lane.view_is c.requires.owns.1 c.self.view_is c.follow-link.ensures.follows in
     followed-fillings fits hung at follows c.follow.ensures.rest c.lane.inside.hand.table_id c.follow-link.new.hand.table_id c.follow-link.ensures.hand.0 filling
     (subst (λ (lane : LaneOf). Made lane filling) (sym c.lane.view_is) made)
+
+pub returns-clause-spot : goal.returns-clause-spot
+returns-clause-spot g c = subst (λ (p : PoolOf). IsSpot p.shape c.spot-spot.result c.spot-spot.result.place) c.self.view_is
+    (subst (IsSpot c.self.inside.grid.shape c.spot-spot.result) (sym c.spot-spot.ensures.place_is) c.spot-spot.ensures)

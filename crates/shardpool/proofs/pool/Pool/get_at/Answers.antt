@@ -8,6 +8,7 @@ use Rattle.shardpool.proofs.calls.CallParts.{calls-more}
 use Rattle.shardpool.proofs.calls.Gets.{called-then, seen-within}
 use Rattle.shardpool.proofs.calls.Halts.{fits-own}
 use Rattle.shardpool.proofs.references.Holdings.{get-holds}
+use Rattle.shardpool.proofs.calls.Ends.{fits-beside, own-spot, own-placed}
 use Rattle.shardpool.proofs.calls.KeyCalls.{ready, ready-low, ready-at, missed-away, missed, hit-touches, hit-untouched, gained-again, gained-first}
 use Rattle.shardpool.proofs.references.RowChanges.{rows-count-le}
 use Rattle.shardpool.proofs.frame.Standing.{missed-outside, found-since, missed-since, seen-of}
@@ -16,7 +17,7 @@ use Rattle.shardpool.proofs.pool.Pool.get_at.Goals as goal
 pub get-got-requires-clause-at : goal.get-got-requires-clause-at
 get-got-requires-clause-at g c =
     let before = ready c.lane.view_is c.requires.owns.1 c.self.view_is c.lane.invariant.1 c.in_ok-spot.ensures.spot in
-    ready-at before _ refl refl c.top-top.ensures
+    ready-at before _ refl refl c.deref.ensures.value
 
 pub get-got-requires-clause-key : goal.get-got-requires-clause-key
 get-got-requires-clause-key g c = ap (λ p. is_key p.shape c.args.key) c.self.view_is ∙ c.in_ok-spot.ensures.some.0 refl
@@ -29,6 +30,14 @@ get-got-requires-clause-room g c =
     let all = before.fits.rows.by_acts in omega (arith, most, few, all)
 
 -- ---- a miss
+
+pub keep_reclaimed-requires-clause-spot : goal.keep_reclaimed-requires-clause-spot
+keep_reclaimed-requires-clause-spot g c =
+    let before = ready c.lane.view_is c.requires.owns.1 c.self.view_is c.lane.invariant.1 c.in_ok-spot.ensures.spot in
+    own-spot (fits-beside before.fits) before.there
+
+pub keep_reclaimed-requires-clause-placed : goal.keep_reclaimed-requires-clause-placed
+keep_reclaimed-requires-clause-placed g c = own-placed (fits-beside c.lane.invariant.1)
 
 pub keep_reclaimed-requires-clause-away : goal.keep_reclaimed-requires-clause-away
 keep_reclaimed-requires-clause-away g c =
@@ -78,7 +87,7 @@ add_reference-requires-clause-at g c =
 pub add_reference-requires-clause-within : goal.add_reference-requires-clause-within
 add_reference-requires-clause-within g c row stands =
     let before = ready c.lane.view_is c.requires.owns.1 c.self.view_is c.lane.invariant.1 c.in_ok-spot.ensures.spot in
-    rows-count-le c.in_ok-spot.spot.position row before.fits.rows stands
+    rows-count-le c.in_ok-spot.spot.start row before.fits.rows stands
 
 pub invariant_of-lane-then-index-gt0 : goal.invariant_of-lane-then-index-gt0
 invariant_of-lane-then-index-gt0 g c =
@@ -226,11 +235,11 @@ returns-clause-outside g c out = let bad : true ≡ false = sym (c.in_ok-spot.en
 
 pub returns-then-index-gt0-clause-held : goal.returns-then-index-gt0-clause-held
 returns-then-index-gt0-clause-held g c =
-    let gets = returns-then-index-gt0-clause-gets g c (c.in_ok-spot.ensures.some.0 refl) in (c.in_ok-spot.ensures.spot.position, gets.1)
+    let gets = returns-then-index-gt0-clause-gets g c (c.in_ok-spot.ensures.some.0 refl) in (c.in_ok-spot.ensures.spot.start, gets.1)
 
 pub returns-clause-held : goal.returns-clause-held
 returns-clause-held g c =
-    let gets = returns-clause-gets g c (c.in_ok-spot.ensures.some.0 refl) in (c.in_ok-spot.ensures.spot.position, gets.1)
+    let gets = returns-clause-gets g c (c.in_ok-spot.ensures.some.0 refl) in (c.in_ok-spot.ensures.spot.start, gets.1)
 
 -- ---- where its act stands
 

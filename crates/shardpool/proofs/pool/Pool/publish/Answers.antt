@@ -7,7 +7,7 @@ use Rattle.shardpool.specs.Tokens.{LaneOf, FillingOf}
 use Rattle.shardpool.specs.LaneStates.{Fits}
 use Rattle.shardpool.specs.Lanes.{Made, Did, Calls}
 use Rattle.shardpool.proofs.calls.CallParts.{calls-more}
-use Rattle.shardpool.proofs.calls.Publishes.{published-did, published-held, published-others, published-alone}
+use Rattle.shardpool.proofs.calls.Publishes.{made-spot, published-did, published-held, published-others, published-alone}
 use Rattle.shardpool.proofs.frame.LaneFacts.{lane_of}
 use Rattle.shardpool.proofs.pool.Pool.publish.Given.{Over}
 use Rattle.shardpool.proofs.references.Holdings.{publish-alone}
@@ -27,19 +27,24 @@ module _ (g : Over) (c : goal.After-publish g) where
 
   -- the filling by its parts
   abbrev filling : FillingOf g.row.T.Denot
-  filling = record { table = c.args.filling.table; key = c.spend-key.result.0; object = c.spend-key.result.1 }
+  filling = record { table = c.args.filling.table; key = c.spend-key.result.0; start = c.spend-key.result.1; object = c.spend-key.result.2 }
 
   same : filling ≡ c.args.filling
-  same = λ i. record { table = c.args.filling.table; key = c.spend-key.ensures.0 i; object = c.spend-key.ensures.1 i }
+  same = λ i. record { table = c.args.filling.table; key = c.spend-key.ensures.0 i; start = c.spend-key.ensures.1 i; object = c.spend-key.ensures.2 i }
 
   was : Made before filling
   was = subst (λ (f : FillingOf g.row.T.Denot). Made before f) (sym same) (subst (λ (l : LaneOf). Made l c.args.filling) (sym c.lane.view_is) c.requires.made)
+
+pub publish-requires-clause-spot : goal.publish-requires-clause-spot
+publish-requires-clause-spot g c =
+    made-spot (record { place = c.place_of.result; start = c.spend-key.result.1 }) c.spend-key.result.0 c.requires.made (c.requires.owns.1 ∙ sym (ap (λ p. p.shape) c.self.view_is))
+    c.spend-key.ensures.0 c.spend-key.ensures.1 c.place_of.ensures.place
 
 pub invariant_of-lane : goal.invariant_of-lane
 invariant_of-lane g c =
     let s = c.lane.inside.state in
     let told = c.publish.ensures in
-    let now = published-alone s s c.lane.inside.hand.table_id (filling g c) (g.T.Clear.content c.spend-key.result.1) false (fits g c) told.called.did told.called.idle told.acts (was g c) refl refl refl refl in
+    let now = published-alone s s c.lane.inside.hand.table_id (filling g c) (g.T.Clear.content c.spend-key.result.2) false (fits g c) told.called.did told.called.idle told.acts (was g c) refl refl refl refl in
     (told.called.did.held ∙ c.lane.invariant.0, subst (λ (y : Shape). Fits g.T.Clear.content g.T.Clear.room y c.publish.new.hand.me.0 s) (sym (shape g c)) now)
 
 pub returns-clause-called : goal.returns-clause-called
@@ -53,9 +58,9 @@ pub returns-clause-publishes : goal.returns-clause-publishes
 returns-clause-publishes g c =
     let s = c.lane.inside.state in
     let told = c.publish.ensures in
-    let did = published-did s s c.lane.inside.hand.table_id (filling g c) (g.T.Clear.content c.spend-key.result.1) false (fits g c) told.called.did told.called.idle told.acts (was g c) refl
+    let did = published-did s s c.lane.inside.hand.table_id (filling g c) (g.T.Clear.content c.spend-key.result.2) false (fits g c) told.called.did told.called.idle told.acts (was g c) refl
     c.publish.new.hand.table_id told.hand.0 in
-    let one : acts.Publish s.number c.spend-key.result.0 (g.T.Clear.content c.spend-key.result.1) false ≡ acts.Publish s.number c.args.filling.key (g.T.Clear.content c.args.filling.object) false
+    let one : acts.Publish s.number c.spend-key.result.0 (g.T.Clear.content c.spend-key.result.2) false ≡ acts.Publish s.number c.args.filling.key (g.T.Clear.content c.args.filling.object) false
     = ap (λ (f : FillingOf g.row.T.Denot). acts.Publish s.number f.key (g.T.Clear.content f.object) false) (same g c) in
     rw (← c.lane.view_is) (subst (λ (x : Act). Did (x ∷ []) (before g c) (lane_of c.publish.new.hand.table_id c.publish.new.hand.me.0 s)) one did)
 
@@ -66,13 +71,13 @@ pub returns-clause-refs : goal.returns-clause-refs
 returns-clause-refs g c =
     let s = c.lane.inside.state in
     let told = c.publish.ensures in
-    rw (← c.lane.view_is) (published-held s s c.lane.inside.hand.table_id (filling g c) (g.T.Clear.content c.spend-key.result.1) false (fits g c) told.called.did told.called.idle told.acts (was g c) refl)
+    rw (← c.lane.view_is) (published-held s s c.lane.inside.hand.table_id (filling g c) (g.T.Clear.content c.spend-key.result.2) false (fits g c) told.called.did told.called.idle told.acts (was g c) refl)
 
 pub returns-clause-fillings : goal.returns-clause-fillings
 returns-clause-fillings g c other differs is =
     let s = c.lane.inside.state in
     let told = c.publish.ensures in
-    published-others s s c.lane.inside.hand.table_id (filling g c) (g.T.Clear.content c.spend-key.result.1) false (fits g c) told.called.did told.called.idle told.acts (was g c) refl
+    published-others s s c.lane.inside.hand.table_id (filling g c) (g.T.Clear.content c.spend-key.result.2) false (fits g c) told.called.did told.called.idle told.acts (was g c) refl
     c.publish.new.hand.table_id told.hand.0 other (λ e. differs (e ∙ c.spend-key.ensures.0)) (subst (λ (l : LaneOf). Made l other) (sym c.lane.view_is) is)
 
 pub returns-clause-held : goal.returns-clause-held

@@ -11,6 +11,7 @@ use Rattle.shardpool.specs.Stores.{Keeps}
 use Rattle.shardpool.specs.LaneStates.{Fits}
 use Rattle.shardpool.specs.Lanes.{Made}
 use Rattle.shardpool.proofs.calls.CallParts.{calls-more, calls-behind}
+use Rattle.shardpool.proofs.calls.Ends.{own-spot, own-placed}
 use Rattle.shardpool.proofs.calls.Releases.{EndsAt, Released, refers-held, lent-some, lent-share, lent-at, end-low, end-more, end-within, beside, released-away, released}
 use Rattle.shardpool.proofs.references.Holdings.{release-holds}
 use Rattle.shardpool.proofs.pool.Pool.release_at.Given.{Over}
@@ -40,19 +41,19 @@ pub release-reclaimed-requires-clause-at : goal.release-reclaimed-requires-claus
 release-reclaimed-requires-clause-at g c =
     let refers = refers-held c.lane.view_is c.requires.owns.1 c.self.view_is c.lane.invariant.1 c.requires.held refl in
     let spot = subst (λ (p : PoolOf). IsSpot p.shape c.args.spot (place_of c.args.key)) (sym c.self.view_is) c.requires.spot in
-    lent-at refers c.return_last_share.ensures.lends _ spot refl c.top-top.ensures
+    lent-at refers c.return_last_share.ensures.lends _ spot refl c.deref.ensures.value
 
 pub drop_reference-requires-clause-at : goal.drop_reference-requires-clause-at
 drop_reference-requires-clause-at g c =
     let refers = refers-held c.lane.view_is c.requires.owns.1 c.self.view_is c.lane.invariant.1 c.requires.held refl in
     let spot = subst (λ (p : PoolOf). IsSpot p.shape c.args.spot (place_of c.args.key)) (sym c.self.view_is) c.requires.spot in
-    subst (λ (n : ℕ). n < length c.return_last_share.new.state.rows.items) (sym spot.position) (end-low refers c.return_last_share.ensures.lends)
+    subst (λ (n : ℕ). n < length c.return_last_share.new.state.rows.items) (sym spot.start) (end-low refers c.return_last_share.ensures.lends)
 
 pub drop_reference-requires-clause-more : goal.drop_reference-requires-clause-more
 drop_reference-requires-clause-more g c row stands =
     let refers = refers-held c.lane.view_is c.requires.owns.1 c.self.view_is c.lane.invariant.1 c.requires.held refl in
     let spot = subst (λ (p : PoolOf). IsSpot p.shape c.args.spot (place_of c.args.key)) (sym c.self.view_is) c.requires.spot in
-    end-more refers c.return_last_share.ensures.lends row (ap (slice_get c.return_last_share.new.state.rows.items) (sym spot.position) ∙ stands)
+    end-more refers c.return_last_share.ensures.lends row (ap (slice_get c.return_last_share.new.state.rows.items) (sym spot.start) ∙ stands)
 
 pub drop_reference-requires-clause-within : goal.drop_reference-requires-clause-within
 drop_reference-requires-clause-within g c =
@@ -62,15 +63,29 @@ pub keep_reclaimed-requires-clause-shape : goal.keep_reclaimed-requires-clause-s
 keep_reclaimed-requires-clause-shape g c =
     let refers = refers-held c.lane.view_is c.requires.owns.1 c.self.view_is c.lane.invariant.1 c.requires.held refl in
     let spot = subst (λ (p : PoolOf). IsSpot p.shape c.args.spot (place_of c.args.key)) (sym c.self.view_is) c.requires.spot in
-    let ends = subst (λ (n : ℕ). EndsAt n c.return_last_share.new.state c.drop_reference.new.state) spot.position (c.drop_reference.ensures.rows, c.drop_reference.ensures.rest) in
+    let ends = subst (λ (n : ℕ). EndsAt n c.return_last_share.new.state c.drop_reference.new.state) spot.start (c.drop_reference.ensures.rows, c.drop_reference.ensures.rest) in
     let so = beside refers c.return_last_share.ensures.lends c.drop_reference.new.state ends in
     subst IsShape (sym so.shape_is) so.seat.shape
+
+pub keep_reclaimed-requires-clause-spot : goal.keep_reclaimed-requires-clause-spot
+keep_reclaimed-requires-clause-spot g c =
+    let refers = refers-held c.lane.view_is c.requires.owns.1 c.self.view_is c.lane.invariant.1 c.requires.held refl in
+    let spot = subst (λ (p : PoolOf). IsSpot p.shape c.args.spot (place_of c.args.key)) (sym c.self.view_is) c.requires.spot in
+    let ends = subst (λ (n : ℕ). EndsAt n c.return_last_share.new.state c.drop_reference.new.state) spot.start (c.drop_reference.ensures.rows, c.drop_reference.ensures.rest) in
+    own-spot (beside refers c.return_last_share.ensures.lends c.drop_reference.new.state ends) spot
+
+pub keep_reclaimed-requires-clause-placed : goal.keep_reclaimed-requires-clause-placed
+keep_reclaimed-requires-clause-placed g c =
+    let refers = refers-held c.lane.view_is c.requires.owns.1 c.self.view_is c.lane.invariant.1 c.requires.held refl in
+    let spot = subst (λ (p : PoolOf). IsSpot p.shape c.args.spot (place_of c.args.key)) (sym c.self.view_is) c.requires.spot in
+    let ends = subst (λ (n : ℕ). EndsAt n c.return_last_share.new.state c.drop_reference.new.state) spot.start (c.drop_reference.ensures.rows, c.drop_reference.ensures.rest) in
+    own-placed (beside refers c.return_last_share.ensures.lends c.drop_reference.new.state ends)
 
 pub keep_reclaimed-requires-clause-away : goal.keep_reclaimed-requires-clause-away
 keep_reclaimed-requires-clause-away g c =
     let refers = refers-held c.lane.view_is c.requires.owns.1 c.self.view_is c.lane.invariant.1 c.requires.held refl in
     let spot = subst (λ (p : PoolOf). IsSpot p.shape c.args.spot (place_of c.args.key)) (sym c.self.view_is) c.requires.spot in
-    let ends = subst (λ (n : ℕ). EndsAt n c.return_last_share.new.state c.drop_reference.new.state) spot.position (c.drop_reference.ensures.rows, c.drop_reference.ensures.rest) in
+    let ends = subst (λ (n : ℕ). EndsAt n c.return_last_share.new.state c.drop_reference.new.state) spot.start (c.drop_reference.ensures.rows, c.drop_reference.ensures.rest) in
     let told = c.release-reclaimed.ensures in
     λ whole is. subst (λ (p : ℕ). IsAway c.drop_reference.new.state.free (place_numbered p)) (sym spot.place_is)
     (released-away refers c.return_last_share.ensures.lends c.drop_reference.new.state ends c.release-reclaimed.result told.called.did told.acts told.reclaimed whole is)
@@ -82,7 +97,7 @@ module _ (g : Over) (c : goal.After-keep_reclaimed g) where
   leaves =
       let refers = refers-held c.lane.view_is c.requires.owns.1 c.self.view_is c.lane.invariant.1 c.requires.held refl in
       let spot = subst (λ (p : PoolOf). IsSpot p.shape c.args.spot (place_of c.args.key)) (sym c.self.view_is) c.requires.spot in
-      let ends = subst (λ (n : ℕ). EndsAt n c.return_last_share.new.state c.drop_reference.new.state) spot.position (c.drop_reference.ensures.rows, c.drop_reference.ensures.rest) in
+      let ends = subst (λ (n : ℕ). EndsAt n c.return_last_share.new.state c.drop_reference.new.state) spot.start (c.drop_reference.ensures.rows, c.drop_reference.ensures.rest) in
       let told = c.release-reclaimed.ensures in
       released refers c.return_last_share.ensures.lends c.drop_reference.new.state ends c.release-reclaimed.result told.called.did told.acts told.reclaimed told.called.idle c.keep_reclaimed.new.state
       (subst (λ (p : ℕ). Keeps p c.release-reclaimed.result c.drop_reference.new.state c.keep_reclaimed.new.state) spot.place_is c.keep_reclaimed.ensures)

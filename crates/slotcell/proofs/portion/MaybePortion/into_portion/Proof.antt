@@ -1,21 +1,17 @@
 -- `into_portion` keeps the pointer, and the portion.
 use Rattle.slotcell.proofs.Steps.{◌≡◌, ◌+◌, [], ◌∷◌, refl, a_type, Val, inst_fn, SProp, emp, guard_i, Fml, sem, ‵, raw, ◌⊛◌, given, ◌$◌, ◌∵◌, !, qed, by, move, keep, drop, split, fsplit, fjoin, learn, use0, use1, rewrite, stop, fld, of_opd, no_more, and_then, returns, enter, alloc_all, pass_all, free_all, look_at, get, get_in, sets, agg, sub, whole, tables, fact, fact_i, fact_use, no, RattleType, owns, types_at, plain, Ptr, InBlock, nothing, heard, alive, param, layouts, Stays, stay_dropped, walk_of, Goes-dropped, proved, leaves}
-use Rattle.std.specs.Prelude.{◌==◌, Option, Some, None, IsSome}
+use Rattle.std.specs.Prelude.{◌==◌, Option, Some, IsSome}
 use Rattle.slotcell.specs.Parts.{shown_by}
 use Rattle.slotcell.specs.Portion.{parts_of, portion_owns, maybe_portion_owns}
 use Rattle.slotcell.specs.Share.{Share}
 use Rattle.slotcell.specs.contracts.portion.Portion as portion
 use Rattle.slotcell.specs.contracts.portion.MaybePortion as maybe
 use Rattle.slotcell.proofs.PortionFields.{word, pointer_good, word_good, Data, data_is, data_made}
-use Rattle.slotcell.proofs.PortionSteps.{portion_lies}
+use Rattle.slotcell.proofs.PortionSteps.{portion_lies, value_of}
 use Rattle.slotcell.specs.contracts.portion.MaybePortion.into_portion.{ended, clauses}
 use Rattle.slotcell.specs.contracts.portion.MaybePortion.into_portion.Key.{name as #self}
 use Rattle.slotcell.proofs.portion.MaybePortion.into_portion.Statement.{statement}
 use Rattle.slotcell.proofs.portion.MaybePortion.into_portion.Code as code
-
-value_of : {A : Type 0} (o : Option A) → IsSome o → (x : A) × (o ≡ Some x)
-value_of (Some x) is = (x, refl)
-value_of None is = absurd (cc is)
 
 pub into_portion_spec : {M : Type 1} → statement M
 into_portion_spec 𝓤 𝓛 𝓜 𝓡 wired X L =

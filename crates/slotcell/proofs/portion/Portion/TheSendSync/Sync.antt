@@ -1,13 +1,12 @@
 -- What a `&` to a portion gives says the same to every thread.
-use mathlib.Core.List.{[], ◌∷◌}
 use denote.RattleType.{RattleType}
 use denote.Param.Send.{IsSend, IsSync, struct_sync, sendable}
 use denote.Builtin.{RawPtr}
 use denote.Struct.Owning.{shape, to}
-use Rattle.std_alloc.proofs.SendSync.{seen}
+use Rattle.slotcell.proofs.PortionSent.{shares_keyless}
 use Rattle.slotcell.specs.contracts.portion.Portion.{the_row, the_type}
 
 pub sync : (T : RattleType) → IsSend T → IsSync T → IsSync (the_row T)
 sync T s y = let pointer : IsSync RawPtr = search sendable in record {
-  shared = λ d b o κ. ((struct_sync (shape (the_type T)) (pointer, tt)).shared (to (the_type T) d) b o κ, (((λ q. tt), seen T y d.at d.object (d.lifetime ∷ [])), tt));
+  shared = λ d b o κ. ((struct_sync (shape (the_type T)) (pointer, tt)).shared (to (the_type T) d) b o κ, shares_keyless T y d.at d.object d.lifetime d.cell κ);
 }

@@ -1,0 +1,2 @@
+mod Emptiness
+mod Lowering
