@@ -1,4 +1,4 @@
-//! The fields of a line of acts.
+//! The fields of a line, of acts or of a trace.
 
 ghost use Rattle.std.specs.Prelude.{◌≡◌, ◌↔◌, ◌==◌, ◌≤◌, ◌<◌, ◌++◌, ◌∷◌, ℕ, List, [], IsTrue, MatchOption, decimal, codes, position};
 ghost use Rattle.seqpool.specs.ActsText.{hex_digit, hex_pair, content_text, flag_text, truth_text, AreBytes};
@@ -12,7 +12,7 @@ use std::alloc::Global;
 use std::str::from_utf8;
 
 /// Whether a text is this word.
-pub(crate) fn is_word(text: &[u8], word: &str) -> bool
+pub fn is_word(text: &[u8], word: &str) -> bool
     ensures { IsTrue result ↔ text.now ≡ word.now }
 {
     text == word.as_bytes()
@@ -26,7 +26,7 @@ fn first_of(text: &[u8], separator: u8) -> Option<usize>
 }
 
 /// What is before the first such byte of a text, and what is after it.
-pub(crate) fn cut(text: &[u8], separator: u8) -> Option<(&[u8], &[u8])>
+pub fn cut(text: &[u8], separator: u8) -> Option<(&[u8], &[u8])>
     ensures { MatchOption result (Without separator text.now)
         (λ p. (text.now ≡ p.0.now ++ separator ∷ p.1.now) × Without separator p.0.now) }
 {
@@ -56,7 +56,7 @@ fn read_number(text: &[u8], limit: u64) -> Option<u64>
 }
 
 /// A lane, or a number of a shape: at most 4294967295.
-pub(crate) fn read_u32(text: &[u8]) -> Option<u32>
+pub fn read_u32(text: &[u8]) -> Option<u32>
     ensures { MatchOption result ((n : ℕ) → n ≤ 4294967295 → text.now ≡ decimal n → ⊥)
         (λ n. (n ≤ 4294967295) × (text.now ≡ decimal n)) }
 {
@@ -65,7 +65,7 @@ pub(crate) fn read_u32(text: &[u8]) -> Option<u32>
 }
 
 /// A key: at most 18446744073709551615.
-pub(crate) fn read_key(text: &[u8]) -> Option<u64>
+pub fn read_key(text: &[u8]) -> Option<u64>
     ensures { MatchOption result ((n : ℕ) → n ≤ 18446744073709551615 → text.now ≡ decimal n → ⊥)
         (λ n. (n ≤ 18446744073709551615) × (text.now ≡ decimal n)) }
 {
@@ -73,7 +73,7 @@ pub(crate) fn read_key(text: &[u8]) -> Option<u64>
 }
 
 /// A place: at most `GREATEST_PLACE`.
-pub(crate) fn read_place(text: &[u8]) -> Option<u32>
+pub fn read_place(text: &[u8]) -> Option<u32>
     ensures { MatchOption result ((n : ℕ) → n ≤ GREATEST_PLACE → text.now ≡ decimal n → ⊥)
         (λ n. (n ≤ GREATEST_PLACE) × (text.now ≡ decimal n)) }
 {
@@ -163,7 +163,7 @@ fn read_bytes(alloc: Global, text: &[u8]) -> Result<Bytes, ActsFault>
 }
 
 /// A content: a dash for none, or pairs of hexadecimal digits.
-pub(crate) fn read_content(alloc: Global, text: &[u8]) -> Result<Bytes, ActsFault>
+pub fn read_content(alloc: Global, text: &[u8]) -> Result<Bytes, ActsFault>
     ensures { Reads IsContent text.now result }
 {
     if is_word(text, "-") {

@@ -23,6 +23,7 @@ mod tally;
 
 pub use act::Act;
 pub use acts_fault::ActsFault;
+pub use acts_fields::{cut, is_word, read_content, read_key, read_place, read_u32};
 pub use acts_reader::read_acts;
 pub use acts_refusal::{ActsPlace, ActsRefusal};
 pub use acts_text::{hex_pair, write_acts};

@@ -2,7 +2,7 @@ use keybits::Word;
 use traces::Reply;
 
 /// The name of a kind of step. Of the step's operands a line says nothing.
-#[derive(Clone, Copy, Debug, PartialEq, Eq)]
+#[derive(Clone, Copy, PartialEq, Eq)]
 pub enum StepName {
     Enter,
     Leave,
@@ -16,7 +16,7 @@ pub enum StepName {
 }
 
 /// A step by its name: on which word it was made, and the word before and after it.
-#[derive(Clone, Copy, Debug, PartialEq, Eq)]
+#[derive(Clone, Copy)]
 pub struct NamedStep {
     pub name: StepName,
     pub word: Word,

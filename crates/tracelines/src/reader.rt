@@ -11,10 +11,11 @@ ghost use Rattle.tracelines.specs.Lines.{AreLines, HasLine, IsFirstWrong, trace_
 ghost use Rattle.tracelines.specs.ReadLines.{Reads, HasWord, IsEntryText, IsLineText};
 
 use crate::fault::{LineFault, ReadFault, Wanted};
-use crate::fields::{cut, is_word, read_name, read_u32};
+use crate::fields::read_name;
 use crate::line::{Entry, Line};
 use crate::replies::read_reply;
 use crate::steps::{read_step, wanted_word};
+use seqpool::{cut, is_word, read_u32};
 use std::alloc::Global;
 
 /// What is wanted in a text without a space, where a lane's entry should stand.

@@ -4,7 +4,8 @@ ghost use Rattle.seqpool.specs.ReadTexts.{Without, Finds};
 ghost use Rattle.tracelines.specs.ReadLines.{Reads, IsPlainText, HasOperand, IsReplyText};
 
 use crate::fault::{LineFault, Wanted};
-use crate::fields::{cut, is_word, read_content, read_u64};
+use crate::fields::read_content;
+use seqpool::{cut, is_word, read_key};
 use std::alloc::Global;
 use traces::Reply;
 
@@ -54,12 +55,12 @@ fn read_long(alloc: Global, word: &[u8], operand: &[u8]) -> Result<Reply, LineFa
         let content = read_content(alloc, operand)?;
         Ok(Reply::Found(content))
     } else if is_word(word, "filling") {
-        let Some(key) = read_u64(operand) else {
+        let Some(key) = read_key(operand) else {
             return Err(LineFault::Lacks(Wanted::Reply));
         };
         Ok(Reply::Filling(key))
     } else if is_word(word, "key") {
-        let Some(key) = read_u64(operand) else {
+        let Some(key) = read_key(operand) else {
             return Err(LineFault::Lacks(Wanted::Reply));
         };
         Ok(Reply::Key(key))

@@ -4,21 +4,12 @@ ghost use Rattle.seqpool.specs.ReadTexts.{Finds};
 ghost use Rattle.tracelines.specs.Lines.{IsLifeWord, IsLinkWord, IsStackWord};
 ghost use Rattle.tracelines.specs.ReadLines.{Yields, IsWordText, AreValues, IsStepOf};
 ghost use Rattle.traces.specs.Text.{word_text};
-ghost use Rattle.std.specs.Prelude.{◌≡◌, ◌≤◌, ℕ, MatchOption, decimal};
+ghost use Rattle.std.specs.Prelude.{◌≡◌};
 
 use crate::fault::Wanted;
-use crate::fields::{cut, read_number, read_u32, read_u64};
 use crate::line::{NamedStep, StepName};
-use keybits::{GREATEST_PLACE, Word};
-
-/// The number of a place: at most `GREATEST_PLACE`.
-fn read_place(text: &[u8]) -> Option<u32>
-    ensures { MatchOption result ((n : ℕ) → n ≤ GREATEST_PLACE → text.now ≡ decimal n → ⊥)
-        (λ n. (n ≤ GREATEST_PLACE) × (text.now ≡ decimal n)) }
-{
-    let number = read_number(text, u64::from(GREATEST_PLACE))?;
-    Some(number as u32)
-}
+use keybits::Word;
+use seqpool::{cut, read_key, read_place, read_u32};
 
 /// A stack, by its shard and the returning lane.
 fn read_stack(text: &[u8]) -> Option<Word>
@@ -68,7 +59,7 @@ pub(crate) fn wanted_word(name: StepName) -> Wanted {
 
 /// What is wanted in a text without a space, where a word's values should stand.
 fn wanted_value(text: &[u8]) -> Wanted {
-    if read_u64(text).is_some() {
+    if read_key(text).is_some() {
         Wanted::After
     } else {
         Wanted::Before
@@ -91,10 +82,10 @@ fn read_values(text: &[u8]) -> Result<(u64, u64), Wanted>
     let Some((before, after)) = cut(text, b' ') else {
         return Err(wanted_value(text));
     };
-    let Some(before) = read_u64(before) else {
+    let Some(before) = read_key(before) else {
         return Err(Wanted::Before);
     };
-    let Some(after) = read_u64(after) else {
+    let Some(after) = read_key(after) else {
         return Err(Wanted::After);
     };
     Ok((before, after))
