@@ -1,8 +1,7 @@
 use crate::test_texts::{reads, shows};
 use std::alloc::{AllocError, AllocGlobal};
 use std::process::Abort;
-use tracelines::{Line, ReadFault, read_trace};
-use traceviews::{Window, picture_text, summary_text, words_text};
+use traceviews::{Line, ReadFault, Window, picture_text, read_trace, summary_text, words_text};
 
 // A trace in which the places of one lane are cleared by another, with a claim and a push that fail.
 const TRACE: &str = "0 = filling 16777216

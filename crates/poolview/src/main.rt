@@ -19,8 +19,7 @@ use std::alloc::{AllocError, Global};
 use std::io::{Read, Write};
 use std::process::ExitCode;
 use std::{env, fs, io};
-use tracelines::{Line, ReadFault, read_trace};
-use traceviews::{picture_text, summary_text, words_text};
+use traceviews::{Line, ReadFault, picture_text, read_trace, summary_text, words_text};
 
 /// Prints the line of a fault, and ends with its status, 1.
 fn fail(rt: &HostRuntime, fault: Fault) -> ExitCode

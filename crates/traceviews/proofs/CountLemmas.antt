@@ -4,7 +4,7 @@ use Rattle.std.proofs.lemmas.List.{at_drop_more}
 use Rattle.keybits.specs.Words.{state_bits, state_in, count_in, generation_in}
 use Rattle.keybits.specs.declared.life.State.{State}
 use Rattle.keybits.specs.declared.life.State.TheVariants as states
-use Rattle.tracelines.specs.declared.line.Line.{Line}
+use Rattle.traceviews.specs.declared.line.Line.{Line}
 use Rattle.traceviews.specs.Counts.{is_step, unfinished_after, unfinished_from, steps_after, longest_from}
 use Rattle.traceviews.specs.Decoded.{state_text, state_with, counts_text, life_text}
 

@@ -1,1 +1,4 @@
+pub mod LineTexts
+pub mod LineRefusals
+pub mod TraceTexts
 pub mod CountLemmas

@@ -1,10 +1,10 @@
 -- What is counted in a trace.
 use Rattle.std.specs.Prelude.{ℕ, ◌+◌, ◌==◌, ◌&&◌, max, Bool, true, false, List, [], ◌∷◌, if◌then◌else◌}
-use Rattle.tracelines.specs.declared.line.Entry.{Entry}
-use Rattle.tracelines.specs.declared.line.Entry.TheVariants as entries
-use Rattle.tracelines.specs.declared.line.Line.{Line}
-use Rattle.tracelines.specs.declared.line.StepName.{StepName}
-use Rattle.tracelines.specs.declared.line.StepName.TheVariants as names
+use Rattle.traceviews.specs.declared.line.Entry.{Entry}
+use Rattle.traceviews.specs.declared.line.Entry.TheVariants as entries
+use Rattle.traceviews.specs.declared.line.Line.{Line}
+use Rattle.traceviews.specs.declared.line.StepName.{StepName}
+use Rattle.traceviews.specs.declared.line.StepName.TheVariants as names
 use Rattle.traceviews.specs.Decoded.{is_failed}
 
 -- two names are the same

@@ -7,13 +7,13 @@ use Rattle.keybits.specs.declared.life.State.TheVariants as states
 use Rattle.keybits.specs.declared.step.Word.{Word}
 use Rattle.keybits.specs.declared.step.Word.TheVariants as words
 use Rattle.traces.specs.Text.{kind_text, reply_line}
-use Rattle.tracelines.specs.Lines.{kind_of}
-use Rattle.tracelines.specs.declared.line.Entry.{Entry}
-use Rattle.tracelines.specs.declared.line.Entry.TheVariants as entries
-use Rattle.tracelines.specs.declared.line.Line.{Line}
-use Rattle.tracelines.specs.declared.line.NamedStep.{NamedStep}
-use Rattle.tracelines.specs.declared.line.StepName.{StepName}
-use Rattle.tracelines.specs.declared.line.StepName.TheVariants as names
+use Rattle.traceviews.specs.Lines.{kind_of}
+use Rattle.traceviews.specs.declared.line.Entry.{Entry}
+use Rattle.traceviews.specs.declared.line.Entry.TheVariants as entries
+use Rattle.traceviews.specs.declared.line.Line.{Line}
+use Rattle.traceviews.specs.declared.line.NamedStep.{NamedStep}
+use Rattle.traceviews.specs.declared.line.StepName.{StepName}
+use Rattle.traceviews.specs.declared.line.StepName.TheVariants as names
 
 -- the name of a state
 abbrev pub state_text : State → List ℕ

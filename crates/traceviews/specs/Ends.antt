@@ -4,9 +4,9 @@ use Rattle.keybits.specs.Words.{state_bits, state_in}
 use Rattle.keybits.specs.declared.life.State.{State}
 use Rattle.keybits.specs.declared.step.Word.{Word}
 use Rattle.keybits.specs.declared.step.Word.TheVariants as words
-use Rattle.tracelines.specs.declared.line.Entry.{Entry}
-use Rattle.tracelines.specs.declared.line.Entry.TheVariants as entries
-use Rattle.tracelines.specs.declared.line.Line.{Line}
+use Rattle.traceviews.specs.declared.line.Entry.{Entry}
+use Rattle.traceviews.specs.declared.line.Entry.TheVariants as entries
+use Rattle.traceviews.specs.declared.line.Line.{Line}
 
 -- the place whose lifecycle word it is, with what is left in it
 abbrev pub life_in : Word → ℕ → Option (ℕ × ℕ)

@@ -2,11 +2,11 @@
 
 use crate::boxes::Columns;
 use crate::head::TOP;
+use crate::line::{NamedStep, StepName};
 use crate::page::Page;
 use keybits::Word;
 use std::alloc::{AllocError, Global};
 use std::collections::BTreeMap;
-use tracelines::{NamedStep, StepName};
 
 /// A word, as a key of a map: its kind, and its place or the lanes of its stack.
 type WordKey = (u8, u32, u32);

@@ -2,11 +2,11 @@
 
 use crate::arrows::Writer;
 use crate::decoded::{is_failed, state_name, step_name};
+use crate::line::{Entry, Line, NamedStep};
 use crate::page::Page;
 use crate::shapes::{Area, END, begin_text, push_rect};
 use keybits::{Life, Word, generation_of, place_of, tag_of};
 use seqpool::hex_pair;
-use tracelines::{Entry, Line, NamedStep};
 use traces::Reply;
 
 /// How wide a box is.

@@ -4,7 +4,7 @@ ghost use Rattle.std.specs.Prelude.{◌≡◌, ◌<◌, count_by};
 ghost use Rattle.traceviews.specs.Counts.{is_step_of, is_failed_of, is_reply_of, unfinished_after, is_unfinished, steps_after, longest_call};
 
 use crate::decoded::is_failed;
-use tracelines::{Entry, Line, StepName};
+use crate::line::{Entry, Line, StepName};
 
 /// Whether a line is a step of this name and this lane.
 fn is_step_of(line: &Line, lane: u32, name: StepName) -> bool

@@ -3,13 +3,13 @@
 ghost use Rattle.std.specs.Prelude.{◌≡◌, ◌++◌, codes, OnOk, decimal};
 ghost use Rattle.keybits.specs.Words.{state_in};
 ghost use Rattle.traces.specs.Text.{kind_text};
-ghost use Rattle.tracelines.specs.Lines.{kind_of};
+ghost use Rattle.traceviews.specs.Lines.{kind_of};
 ghost use Rattle.traceviews.specs.Decoded.{state_text, state_with, place_text, counts_text, life_text, link_text, value_text, aim_text, is_failed};
 
+use crate::line::{NamedStep, StepName};
 use crate::pieces::{push_named, push_number, push_text};
 use keybits::{Life, State, Word};
 use std::alloc::AllocError;
-use tracelines::{NamedStep, StepName};
 
 /// The state that a lifecycle word says.
 pub(crate) fn state_of(word: u64) -> State

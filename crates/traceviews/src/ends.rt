@@ -4,8 +4,8 @@ ghost use Rattle.std.specs.Prelude.{◌≡◌, count_by};
 ghost use Rattle.traceviews.specs.Ends.{word_after, last_word, is_in, ends_in};
 
 use crate::found::life_of;
+use crate::line::Line;
 use keybits::{Life, State};
-use tracelines::Line;
 
 /// The word of a place behind a line, where it was this before: a step on it leaves another.
 fn word_behind(before: Option<u64>, line: &Line, place: u32) -> Option<u64>

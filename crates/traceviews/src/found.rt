@@ -3,10 +3,10 @@
 ghost use Rattle.std.specs.Prelude.{◌≡◌};
 ghost use Rattle.traceviews.specs.Ends.{life_of};
 
+use crate::line::{Entry, Line};
 use crate::numbers::insert_number;
 use keybits::Word;
 use std::alloc::{AllocError, Global};
-use tracelines::{Entry, Line};
 
 /// The lanes of some lines, sorted.
 pub(crate) fn lanes_of(alloc: Global, lines: &[Line]) -> Result<Vec<u32>, AllocError> {

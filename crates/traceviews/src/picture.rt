@@ -4,6 +4,7 @@ use crate::arrows::{Writer, Writers, push_arrow};
 use crate::boxes::{BOX, Columns, LINE, height_of, push_box};
 use crate::found::{lanes_of, places_of};
 use crate::head::{Extent, TOP, push_head, push_lane, push_strip_name};
+use crate::line::{Entry, Line, NamedStep};
 use crate::numbers::position_of;
 use crate::page::Page;
 use crate::rows::{Row, rows_of};
@@ -11,7 +12,6 @@ use crate::shapes::Area;
 use crate::strips::Strips;
 use keybits::Word;
 use std::alloc::{AllocError, Global};
-use tracelines::{Entry, Line, NamedStep};
 
 /// Which turns a picture shows, counted from 0.
 #[derive(Clone, Copy)]

@@ -1,7 +1,7 @@
 //! The turns of a trace, by its lines.
 
+use crate::line::{Entry, Line};
 use std::alloc::{AllocError, Global};
-use tracelines::{Entry, Line};
 
 /// A turn of a lane: its lines, from the first up to `end`, with its step among them.
 #[derive(Clone, Copy)]

@@ -4,11 +4,11 @@ use crate::counts::{failed_steps, is_unfinished, longest_call, replies_of, steps
 use crate::decoded::{state_name, step_name};
 use crate::ends::{last_word, places_in};
 use crate::found::{lanes_of, places_of};
+use crate::line::{Line, StepName};
 use crate::page::Page;
 use crate::rows::turn_count;
 use keybits::State;
 use std::alloc::{AllocError, Global};
-use tracelines::{Line, StepName};
 
 /// The names of steps, in the order of the summary.
 static NAMES: [StepName; 9] = [

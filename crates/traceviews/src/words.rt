@@ -4,10 +4,10 @@ ghost use Rattle.std.specs.Prelude.{◌≡◌, ◌++◌, OnOk, IfOk, codes, flat
 ghost use Rattle.traceviews.specs.Decoded.{failed_text, step_words, entry_words, line_words, value_text};
 
 use crate::decoded::{is_failed, push_aim, push_value, step_name};
+use crate::line::{Entry, Line, NamedStep};
 use crate::pieces::{push_named, push_number, push_text};
 use keybits::Word;
 use std::alloc::{AllocError, Global};
-use tracelines::{Entry, Line, NamedStep};
 use traces::write_reply_line;
 
 /// Appends what a step found, an arrow, what it left, and whether it failed.

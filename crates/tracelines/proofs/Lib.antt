@@ -1,3 +1,0 @@
-pub mod LineTexts
-pub mod LineRefusals
-pub mod TraceTexts

@@ -1,0 +1,104 @@
+ghost use Rattle.std.specs.Prelude.{◌≡◌};
+ghost use Rattle.traceviews.specs.declared.fault.LineFault.TheVariants as line_faults;
+ghost use Rattle.traceviews.specs.declared.fault.ReadFault.TheVariants as read_faults;
+
+use std::alloc::{AllocError, AllocFailed};
+use std::error::Error;
+use std::fmt;
+
+/// What is wanted where a line is none.
+#[derive(Clone, Copy, Debug, PartialEq, Eq)]
+pub enum Wanted {
+    /// The number of a lane.
+    Lane,
+    /// The name of a step, or an equals sign before a reply.
+    Entry,
+    /// The number of a place.
+    Place,
+    /// A stack, by the numbers of its shard and its lane.
+    Stack,
+    /// The word that a step found.
+    Before,
+    /// The word that a step left.
+    After,
+    /// A reply.
+    Reply,
+    /// A line feed, which each line ends with.
+    LineFeed,
+}
+
+impl fmt::Display for Wanted {
+    fn fmt<W: fmt::Write>(&self, f: &mut fmt::Formatter<W>) -> fmt::Result {
+        f.write_str(match self {
+            Wanted::Lane => "a lane's number",
+            Wanted::Entry => "the name of a step, or an equals sign before a reply,",
+            Wanted::Place => "a place's number",
+            Wanted::Stack => "a stack, as 0.1,",
+            Wanted::Before => "a step's word before",
+            Wanted::After => "a step's word after",
+            Wanted::Reply => "a reply",
+            Wanted::LineFeed => "a line feed",
+        })
+    }
+}
+
+/// Why a line, or a part of it, is not read.
+#[derive(Clone, Copy)]
+pub(crate) enum LineFault {
+    /// It is the text of none, and this is wanted.
+    Lacks(Wanted),
+    /// Memory was refused.
+    Memory,
+}
+
+impl From<Wanted> for LineFault {
+    ghost from_gives = { λ wanted fault. fault ≡ line_faults.Lacks wanted };
+
+    fn from(wanted: Wanted) -> LineFault {
+        LineFault::Lacks(wanted)
+    }
+}
+
+impl From<AllocError> for LineFault {
+    ghost from_gives = { λ _ fault. fault ≡ line_faults.Memory };
+
+    fn from(_refused: AllocError) -> LineFault {
+        LineFault::Memory
+    }
+}
+
+impl<T: Drop> From<AllocFailed<T>> for LineFault {
+    ghost from_gives = { λ _ fault. fault ≡ line_faults.Memory };
+
+    fn from(_refused: AllocFailed<T>) -> LineFault {
+        LineFault::Memory
+    }
+}
+
+/// Why a text is not read as that of a trace.
+#[derive(Clone, Copy, Debug, PartialEq, Eq)]
+pub enum ReadFault {
+    /// The line of this number, counted from 1, is the first that is none.
+    Line { number: usize, wanted: Wanted },
+    /// Memory was refused.
+    Memory,
+}
+
+impl<T: Drop> From<AllocFailed<T>> for ReadFault {
+    ghost from_gives = { λ _ fault. fault ≡ read_faults.Memory };
+
+    fn from(_refused: AllocFailed<T>) -> ReadFault {
+        ReadFault::Memory
+    }
+}
+
+impl fmt::Display for ReadFault {
+    fn fmt<W: fmt::Write>(&self, f: &mut fmt::Formatter<W>) -> fmt::Result {
+        match self {
+            ReadFault::Line { number, wanted } => write!(f, "line {number}: {wanted} is wanted"),
+            ReadFault::Memory => f.write_str("out of memory"),
+        }
+    }
+}
+
+impl Error for ReadFault {}
