@@ -130,11 +130,13 @@ fn show_lines(rt: &HostRuntime, show: &Show, lines: &[Line]) -> Result<(), Fault
 fn report_line(rt: &HostRuntime, fault: ReadFault) -> ExitCode
     ensures { exit_status result ≡ 1 }
 {
-    if fault == ReadFault::Memory {
-        return fail(rt, Fault::Memory);
+    match fault {
+        ReadFault::Memory => fail(rt, Fault::Memory),
+        ReadFault::Line { .. } => {
+            let _ = eprintln!(rt; "{fault}");
+            ExitCode::FAILURE
+        }
     }
-    let _ = eprintln!(rt; "{fault}");
-    ExitCode::FAILURE
 }
 
 /// Does what a task asks for.

@@ -40,24 +40,39 @@ fn is_reply_of(line: &Line, lane: u32) -> bool
 pub fn steps_of(lines: &[Line], lane: u32, name: StepName) -> usize
     ensures { result ≡ count_by (is_step_of lane name) lines.now }
 {
-    lines
-        .iter()
-        .filter(|line| is_step_of(line, lane, name))
-        .count()
+    let mut count = 0;
+    for line in lines {
+        if is_step_of(line, lane, name) {
+            count += 1;
+        }
+    }
+    count
 }
 
 /// How many steps of a lane fail: pushes and claims that leave the word as they find it.
 pub fn failed_steps(lines: &[Line], lane: u32) -> usize
     ensures { result ≡ count_by (is_failed_of lane) lines.now }
 {
-    lines.iter().filter(|line| is_failed_of(line, lane)).count()
+    let mut count = 0;
+    for line in lines {
+        if is_failed_of(line, lane) {
+            count += 1;
+        }
+    }
+    count
 }
 
 /// How many replies of a lane there are.
 pub fn replies_of(lines: &[Line], lane: u32) -> usize
     ensures { result ≡ count_by (is_reply_of lane) lines.now }
 {
-    lines.iter().filter(|line| is_reply_of(line, lane)).count()
+    let mut count = 0;
+    for line in lines {
+        if is_reply_of(line, lane) {
+            count += 1;
+        }
+    }
+    count
 }
 
 /// How many steps a lane's call has made after one line more: none behind a reply, which ends it.

@@ -49,8 +49,11 @@ fn ends_in(lines: &[Line], place: u32, state: State) -> bool
 pub fn places_in(lines: &[Line], places: &[u32], state: State) -> usize
     ensures { result ≡ count_by (ends_in lines.now state) places.now }
 {
-    places
-        .iter()
-        .filter(|place| ends_in(lines, **place, state))
-        .count()
+    let mut count = 0;
+    for place in places {
+        if ends_in(lines, *place, state) {
+            count += 1;
+        }
+    }
+    count
 }

@@ -7,7 +7,7 @@ use std::error::Error;
 use std::fmt;
 
 /// What is wanted where a line is none.
-#[derive(Clone, Copy, Debug, PartialEq, Eq)]
+#[derive(Clone, Copy, Debug)]
 pub enum Wanted {
     /// The number of a lane.
     Lane,
@@ -76,7 +76,7 @@ impl<T: Drop> From<AllocFailed<T>> for LineFault {
 }
 
 /// Why a text is not read as that of a trace.
-#[derive(Clone, Copy, Debug, PartialEq, Eq)]
+#[derive(Clone, Copy, Debug)]
 pub enum ReadFault {
     /// The line of this number, counted from 1, is the first that is none.
     Line { number: usize, wanted: Wanted },

@@ -218,7 +218,7 @@ fn canvas_for(
     let lanes = lanes_of(alloc, lines)?;
     let places = places_of(alloc, lines_of_all(lines, shown(rows, window)))?;
     let columns = Columns::new(lanes.len());
-    let strips = Strips::new(alloc, places.as_slice(), columns.end(), TOP)?;
+    let strips = Strips::new(alloc, places, columns.end(), TOP)?;
     Ok(Canvas {
         lanes,
         columns,

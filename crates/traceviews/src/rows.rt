@@ -44,27 +44,33 @@ fn joined(row: Row, line: &Line, at: usize) -> Option<Row> {
     })
 }
 
+/// The turn with the line at this index: the last one with it more, or one that it begins, and then the last one is appended.
+fn next_row(
+    last: Option<Row>,
+    line: &Line,
+    at: usize,
+    rows: &mut Vec<Row>,
+) -> Result<Row, AllocError> {
+    if let Some(row) = last {
+        if let Some(longer) = joined(row, line, at) {
+            return Ok(longer);
+        }
+        rows.push(row)?;
+    }
+    Ok(begun(line, at))
+}
+
 /// The turns of some lines.
 pub(crate) fn rows_of(alloc: Global, lines: &[Line]) -> Result<Vec<Row>, AllocError> {
     let mut rows = Vec::new(alloc);
     let mut last: Option<Row> = None;
     for (at, line) in lines.iter().enumerate() {
-        let longer = last.and_then(|row| joined(row, line, at));
-        if longer.is_none() {
-            push_row(last, &mut rows)?;
-        }
-        last = Some(longer.unwrap_or(begun(line, at)));
+        last = Some(next_row(last, line, at, &mut rows)?);
     }
-    push_row(last, &mut rows)?;
-    Ok(rows)
-}
-
-/// Appends a turn, where there is one.
-fn push_row(row: Option<Row>, rows: &mut Vec<Row>) -> Result<(), AllocError> {
-    if let Some(row) = row {
+    if let Some(row) = last {
         rows.push(row)?;
     }
-    Ok(())
+    Ok(rows)
 }
 
 /// How many turns the lines of a trace have: a step with the replies of its lane before and behind it is one, and so are the

@@ -1,6 +1,7 @@
 //! What each place is beside the turns: its state and its count.
 
 use crate::decoded::state_name;
+use crate::numbers::position_of;
 use crate::page::Page;
 use crate::shapes::{Area, END, push_rect};
 use keybits::{Life, State};
@@ -23,6 +24,7 @@ pub(crate) struct Strip {
 /// The strips of some places, which are sorted.
 #[derive(Drop)]
 pub(crate) struct Strips {
+    places: Vec<u32>,
     strips: Vec<Strip>,
     left: u64,
     top: u64,
@@ -97,19 +99,24 @@ impl Strips {
     /// The strips of these places, which are sorted, before anything is known of them.
     pub(crate) fn new(
         alloc: Global,
-        places: &[u32],
+        places: Vec<u32>,
         left: u64,
         top: u64,
     ) -> Result<Strips, AllocError> {
         let mut strips = Vec::new(alloc);
-        for place in places {
+        for place in &places {
             strips.push(Strip {
                 place: *place,
                 word: 0,
                 since: top,
             })?;
         }
-        Ok(Strips { strips, left, top })
+        Ok(Strips {
+            places,
+            strips,
+            left,
+            top,
+        })
     }
 
     /// Where the strip at this index is.
@@ -124,13 +131,7 @@ impl Strips {
 
     /// The index of a place, or where it would stand.
     fn index_of(&self, place: u32) -> usize {
-        match self
-            .strips
-            .as_slice()
-            .binary_search_by_key(&place, |strip| strip.place)
-        {
-            Ok(at) | Err(at) => at,
-        }
+        position_of(self.places.as_slice(), place)
     }
 
     /// A place has this word from the top on.

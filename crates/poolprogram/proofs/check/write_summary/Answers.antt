@@ -1,5 +1,0 @@
-use Rattle.std.proofs.Common.{append_assoc}
-use Rattle.poolprogram.proofs.check.write_summary.Goals as goal
-
-pub returns : goal.returns
-returns c = simp append_assoc (simp append_assoc at c.write.ensures.bytes)
