@@ -7,7 +7,7 @@ use std::io;
 use std::io::Write;
 
 /// Why the words are no task.
-#[derive(Clone, Copy, Debug, PartialEq, Eq)]
+#[derive(Clone, Copy, Debug)]
 pub enum Reason {
     /// Neither a schedule is given, nor a seed or a number of turns.
     NoTurns,

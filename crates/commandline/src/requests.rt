@@ -11,7 +11,7 @@ use clap::ArgMatches;
 use std::alloc::Global;
 
 /// What the words of a command line ask for.
-#[derive(Drop, Debug)]
+#[derive(Drop)]
 pub struct Request {
     /// The task, or why there is none.
     pub task: Result<Task, TaskFault>,

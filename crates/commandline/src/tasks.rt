@@ -55,7 +55,7 @@ pub enum Turns {
 }
 
 /// Where a lane stops: after so many of its entries in the schedule.
-#[derive(Clone, Copy, Debug, PartialEq, Eq)]
+#[derive(Clone, Copy, Debug)]
 pub struct Stop {
     /// The number of the lane.
     pub lane: u32,

@@ -3,7 +3,7 @@ use std::error::Error;
 use std::fmt;
 
 /// Why a script file is no plan: the first fault that is found.
-#[derive(Clone, Copy, Debug, PartialEq, Eq)]
+#[derive(Clone, Copy, Debug)]
 pub enum ScriptFault {
     /// The bytes are no JSON (31).
     NotJson,

@@ -1,7 +1,7 @@
 use keybits::ShapeFault;
 
 /// A field of a script file: `Shape` and `Scripts` of the file itself, the others of its shape.
-#[derive(Clone, Copy, Debug, PartialEq, Eq)]
+#[derive(Clone, Copy, Debug)]
 pub enum FieldName {
     Shape,
     Scripts,
@@ -47,7 +47,7 @@ impl FieldName {
 
 /// A place in a script file. Lanes, the lines of a lane's script and the items of a line are counted
 /// from 0: item 0 is the command's name, its operands are 1 and 2.
-#[derive(Clone, Copy, Debug, PartialEq, Eq)]
+#[derive(Clone, Copy, Debug)]
 pub enum ScriptPlace {
     /// The file as a whole.
     File,

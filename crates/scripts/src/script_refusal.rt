@@ -8,7 +8,7 @@ use std::error::Error;
 use std::fmt;
 
 /// Why a script file is no plan, and where: its first fault, with the place.
-#[derive(Clone, Copy, Debug, PartialEq, Eq)]
+#[derive(Clone, Copy, Debug)]
 pub struct ScriptRefusal {
     pub fault: ScriptFault,
     /// Where the fault is. It is `File` for bytes that are no JSON, and where memory was refused.
