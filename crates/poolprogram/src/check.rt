@@ -1,4 +1,4 @@
-ghost use Rattle.std.specs.Prelude.{◌≡◌, ◌≢◌, ◌↔◌, true, false, ◌++◌, IfOk, IfErr, OnOk, IsErrOf, string_bytes};
+ghost use Rattle.std.specs.Prelude.{◌≡◌, ◌≢◌, ◌↔◌, true, false, IfOk, IfErr, IsErrOf, string_bytes};
 ghost use Rattle.poolprogram.specs.Checks.{summary_text, illegal_text, IsVerdict, WritesVerdict, RefusesActs};
 ghost use Rattle.seqpool.specs.ActsText.{StandsFor};
 
@@ -19,9 +19,9 @@ struct Verdict {
     line: String,
 }
 
-/// Appends the line of a legal history.
-fn write_summary(line: &mut String, summary: &Summary) -> Result<(), AllocError>
-    ensures { OnOk result (string_bytes line.new ≡ string_bytes line.old ++ summary_text summary.now) }
+/// The line of a legal history.
+fn summary_line(alloc: Global, summary: &Summary) -> Result<String, AllocError>
+    ensures { IfOk result (λ line. string_bytes line ≡ summary_text summary.now) }
 {
     let Summary {
         acts,
@@ -32,19 +32,9 @@ fn write_summary(line: &mut String, summary: &Summary) -> Result<(), AllocError>
         home,
         retired,
     } = *summary;
-    write!(
-        line,
+    format!(in alloc;
         "legal acts {acts} published {published} reclaimed {reclaimed} present {present} marked {marked} home {home} retired {retired}\n"
     )
-}
-
-/// The line of a legal history.
-fn summary_line(alloc: Global, summary: &Summary) -> Result<String, AllocError>
-    ensures { IfOk result (λ line. string_bytes line ≡ summary_text summary.now) }
-{
-    let mut line = String::new(alloc);
-    write_summary(&mut line, summary)?;
-    Ok(line)
 }
 
 /// The line of a history whose act at this index is refused.
@@ -53,9 +43,7 @@ fn illegal_line(alloc: Global, index: usize, fault: ApplyFault) -> Result<String
 {
     let number = fault.number();
     let name = fault.name();
-    let mut line = String::new(alloc);
-    write!(line, "illegal {index} {number} {name}\n")?;
-    Ok(line)
+    format!(in alloc; "illegal {index} {number} {name}\n")
 }
 
 /// The shape and the acts that a text stands for.

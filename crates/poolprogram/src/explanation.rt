@@ -12,7 +12,7 @@ use scripts::ScriptRefusal;
 use std::alloc::{AllocError, Global};
 
 /// What a task is about: the path of its file, or its number.
-#[derive(Debug, Drop)]
+#[derive(Drop)]
 pub enum Subject {
     Path(String),
     Number(u64),
@@ -36,12 +36,7 @@ pub fn subject_of(alloc: Global, task: &Task) -> Result<Subject, AllocError>
 fn explain_no_key(alloc: Global, number: u64) -> Result<String, AllocError>
     ensures { IfOk result (λ text. string_bytes text ≡ no_key_text number) }
 {
-    let mut text = String::new(alloc);
-    write!(
-        text,
-        "{number} is no key: its generation, which is its bits 24 to 55, is 0\n"
-    )?;
-    Ok(text)
+    format!(in alloc; "{number} is no key: its generation, which is its bits 24 to 55, is 0\n")
 }
 
 /// The line that explains why a file wasn't read.

@@ -70,10 +70,7 @@ pub(crate) fn census_line(alloc: Global, census: &Census) -> Result<String, Allo
         marked,
         retired,
     } = *census;
-    let mut line = String::new(alloc);
-    write!(
-        line,
+    format!(in alloc;
         "census free {free} unopened {unopened} filling {filling} present {present} marked {marked} retired {retired}\n"
-    )?;
-    Ok(line)
+    )
 }

@@ -33,9 +33,7 @@ fn life_line(alloc: Global, life: &Life) -> Result<String, AllocError>
         state,
     } = *life;
     let name = state_name(state);
-    let mut line = String::new(alloc);
-    write!(line, "{name} count {count} generation {generation}\n")?;
-    Ok(line)
+    format!(in alloc; "{name} count {count} generation {generation}\n")
 }
 
 /// The line of a word.

@@ -2,7 +2,7 @@ use std::error::Error;
 use std::fmt;
 
 /// A write failed, or took none of some bytes, or a flush failed.
-#[derive(Clone, Copy, Debug, PartialEq, Eq)]
+#[derive(Clone, Copy, Debug)]
 pub struct WriteFailed;
 
 impl fmt::Display for WriteFailed {
