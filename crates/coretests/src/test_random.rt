@@ -37,36 +37,36 @@ fn push_key(text: &mut String, numbers: &mut Numbers, lanes: u32) -> Result<(), 
     write!(text, "{key}")
 }
 
-/// The first text of a command that has a register alone.
-const fn name_of(kind: u32) -> &'static str {
-    match kind {
-        0 | 1 => "create",
-        3 | 4 => "publish",
-        5 => "downgrade",
-        6 => "read",
-        _ => "release",
-    }
-}
+/// Commands, each with an R for a register and a K for a key.
+static COMMANDS: [&str; 12] = [
+    "[\"create\",R]",
+    "[\"create\",R]",
+    "[\"write\",R,\"0R\"]",
+    "[\"publish\",R]",
+    "[\"publish\",R]",
+    "[\"downgrade\",R]",
+    "[\"read\",R]",
+    "[\"release\",R]",
+    "[\"get\",R,K]",
+    "[\"get\",R,K]",
+    "[\"clear\",K]",
+    "[\"clear\",K]",
+];
 
 /// A command of a script.
 fn push_command(text: &mut String, numbers: &mut Numbers, lanes: u32) -> Result<(), AllocError>
     requires { 1 ≤ lanes }
 {
-    let kind = numbers.below(12);
+    let command = COMMANDS[numbers.below(12) as usize];
     let register = numbers.below(3);
-    if kind == 2 {
-        return write!(text, "[\"write\",{register},\"0{register}\"]");
+    for part in command.chars() {
+        match part {
+            'R' => write!(text, "{register}")?,
+            'K' => push_key(text, numbers, lanes)?,
+            _ => text.push(part)?,
+        }
     }
-    if kind < 8 {
-        return write!(text, "[\"{}\",{register}]", name_of(kind));
-    }
-    if kind < 10 {
-        write!(text, "[\"get\",{register},")?;
-    } else {
-        text.push_str("[\"clear\",")?;
-    }
-    push_key(text, numbers, lanes)?;
-    text.push_str("]")
+    Ok(())
 }
 
 /// A script of one lane.

@@ -152,7 +152,7 @@ fn says_what_is_wanted(rt: HostRuntime) {
 #[test]
 fn reads_no_lines(rt: HostRuntime) -> Result<(), ReadFault> {
     let lines = read_trace(rt.alloc(), b"")?;
-    assert_eq!(rt; lines.len(), 0);
+    assert!(rt; lines.is_empty());
     Ok(())
 }
 
