@@ -407,9 +407,9 @@ fn leaves_some_words_to_clap(rt: HostRuntime) {
 
 #[test]
 fn explains_a_missing_file(rt: HostRuntime) {
-    let done = load(&rt, "nosuch.json").map(|_bytes| true);
+    let fault = load(&rt, "nosuch.json").err().expect(&rt, "a fault");
     let task = task_of(&rt, "run|nosuch.json");
     let subject = subject_of(rt.alloc(), &task).expect(&rt, "memory for a path");
     let said = "fault 41 File\n\"nosuch.json\" can't be opened, or not read to its end\n";
-    explains(&rt, &subject, "", &done, said);
+    explains(&rt, &subject, "", &Err(fault), said);
 }
