@@ -1,15 +1,21 @@
 -- Slots with a lane and without.
-use Rattle.std.proofs.Common.{◌≡◌, ℕ, ◌+◌, ◌<◌, List, [], ◌∷◌, length, slice_index_or, slice_set, refl, sym, ap, ◌∙◌, subst, arith}
+use Rattle.std.proofs.Common.{◌≡◌, ℕ, ◌+◌, ◌<◌, ◌==◌, true, false, List, [], ◌∷◌, length, slice_index_or, slice_set, refl, sym, ap, ◌∙◌, subst, arith, eqb-true, eq-eqb}
 use Rattle.std.proofs.lemmas.List.{get_or_default, set-get_or}
 use mathlib.Core.Logic.{dite}
 use native.Mathlib.Decide.{ℕ_discrete}
 use Rattle.poolhandle.specs.declared.slot.Slot.{Slot}
-use Rattle.poolffi.specs.Exports.{HasNoLane}
+use Rattle.poolffi.specs.Exports.{HasLane, HasNoLane}
 
 pub one-of : {X : Type 0} (items : List X) (count : ℕ) → count ≡ length items → count ≡ 1 → (x : X) × (items ≡ x ∷ [])
 one-of [] count is one = absurd (omega arith)
 one-of (x ∷ []) count is one = (x, refl)
 one-of (x ∷ y ∷ more) count is one = absurd (omega arith)
+
+pub full-has : (slot : Slot) → (slot.full == 1) ≡ true → HasLane slot.items
+full-has slot full = one-of slot.items slot.full slot.counted (eqb-true slot.full 1 full)
+
+pub empty-has-not : (slot : Slot) → (slot.full == 1) ≡ false → HasNoLane slot.items
+empty-has-not slot empty = λ handle is. absurd (cc (sym empty ∙ eq-eqb slot.full 1 (slot.counted ∙ ap length is)))
 
 -- what is put back changes nothing
 pub put-back : {X : Type 0} (entries : List X) (index : ℕ) (entry other : X) → entry ≡ slice_index_or entries index other → slice_set entries index entry ≡ entries

@@ -1,6 +1,6 @@
 // A pool's lanes, into their slots.
 ghost use Rattle.std.specs.Prelude.{◌≡◌, length, IsTrue, IsFalse};
-ghost use Rattle.poolffi.specs.Exports.{Opens, HasLane, HasNoLane, AnyHasLane, NoneHasLane, AreLowered};
+ghost use Rattle.poolffi.specs.Exports.{Opens, AnyHasLane, NoneHasLane, AreLowered};
 
 use crate::slots::{FULL_LANE, LANES, MEMORY, OK, SHAPE, lower};
 use keybits::Shape;
@@ -9,18 +9,6 @@ use poolhandle::open_handles;
 use poolhandle::slot::Slot;
 use shardpool::OpenFault;
 use std::alloc::Global;
-use std::mem::replace;
-
-/// Whether a slot has a lane. The slot stays as it is.
-fn has_lane(slot: &mut Slot) -> bool
-    ensures same { slot.new ≡ slot.old }
-    ensures yes { IsTrue result → HasLane slot.old.items }
-    ensures no { IsFalse result → HasNoLane slot.old.items }
-{
-    let (full, whole) = replace(slot, Slot::empty()).with_full();
-    *slot = whole;
-    full == 1
-}
 
 /// Whether any of these slots has a lane. They stay as they are.
 fn any_has_lane(slots: &mut [Slot]) -> bool
@@ -29,7 +17,7 @@ fn any_has_lane(slots: &mut [Slot]) -> bool
     ensures no { IsFalse result → NoneHasLane slots.old }
 {
     for index in 0..slots.len() {
-        if has_lane(&mut slots[index]) {
+        if slots[index].is_full() {
             return true;
         }
     }

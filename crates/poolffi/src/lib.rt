@@ -63,51 +63,41 @@ pub extern "C" fn pardz_open_numbered(
 
 /// A place to be filled, by the key under which it will be published.
 #[unsafe(no_mangle)]
-pub extern "C" fn pardz_create(alloc: Global, slot: &mut Slot, key: &mut u64) -> u32
+pub extern "C" fn pardz_create(slot: &mut Slot, key: &mut u64) -> u32
     ensures { Calls (CreatesKey key.new) slot.old.items slot.new.items result }
 {
-    let Some(mut handle) = lift(alloc, slot) else {
+    let Some(handle) = slot.lend() else {
         return EMPTY_LANE;
     };
-    let code = match handle.create() {
+    match handle.create() {
         Ok(made) => {
             *key = made;
             OK
         }
         Err(refusal) => code_of(refusal),
-    };
-    lower(slot, handle);
-    code
+    }
 }
 
 /// Appends to a filling.
 #[unsafe(no_mangle)]
-pub extern "C" fn pardz_append(alloc: Global, slot: &mut Slot, key: u64, bytes: &[u8]) -> u32
+pub extern "C" fn pardz_append(slot: &mut Slot, key: u64, bytes: &[u8]) -> u32
     ensures { Calls (Appends key bytes.now) slot.old.items slot.new.items result }
 {
-    let Some(mut handle) = lift(alloc, slot) else {
+    let Some(handle) = slot.lend() else {
         return EMPTY_LANE;
     };
-    let answer = handle.append(key, bytes);
-    lower(slot, handle);
-    code(answer)
+    code(handle.append(key, bytes))
 }
 
 /// Gives room for so many bytes behind the content of a filling.
 #[unsafe(no_mangle)]
-pub extern "C" fn pardz_room(
-    alloc: Global,
-    slot: &mut Slot,
-    key: u64,
-    count: usize,
-    at: &mut *mut u8,
-) -> u32
+pub extern "C" fn pardz_room(slot: &mut Slot, key: u64, count: usize, at: &mut *mut u8) -> u32
     ensures { Calls (Rooms key count) slot.old.items slot.new.items result }
 {
-    let Some(mut handle) = lift(alloc, slot) else {
+    let Some(handle) = slot.lend() else {
         return EMPTY_LANE;
     };
-    let code = match handle.room(key, count) {
+    match handle.room(key, count) {
         Ok(begins) => {
             if count != 0 {
                 *at = begins;
@@ -115,65 +105,51 @@ pub extern "C" fn pardz_room(
             OK
         }
         Err(refusal) => code_of(refusal),
-    };
-    lower(slot, handle);
-    code
+    }
 }
 
 /// The first so many bytes of the room belong to the filling, and the others don't.
 #[unsafe(no_mangle)]
-pub extern "C" fn pardz_wrote(alloc: Global, slot: &mut Slot, key: u64, count: usize) -> u32
+pub extern "C" fn pardz_wrote(slot: &mut Slot, key: u64, count: usize) -> u32
     ensures { Calls (Wrote key count) slot.old.items slot.new.items result }
 {
-    let Some(mut handle) = lift(alloc, slot) else {
+    let Some(handle) = slot.lend() else {
         return EMPTY_LANE;
     };
-    let answer = handle.wrote(key, count);
-    lower(slot, handle);
-    code(answer)
+    code(handle.wrote(key, count))
 }
 
 /// Publishes a filling under its key.
 #[unsafe(no_mangle)]
-pub extern "C" fn pardz_publish(alloc: Global, slot: &mut Slot, key: u64) -> u32
+pub extern "C" fn pardz_publish(slot: &mut Slot, key: u64) -> u32
     ensures { Calls (Publishes key) slot.old.items slot.new.items result }
 {
-    let Some(mut handle) = lift(alloc, slot) else {
+    let Some(handle) = slot.lend() else {
         return EMPTY_LANE;
     };
-    let answer = handle.publish(key);
-    lower(slot, handle);
-    code(answer)
+    code(handle.publish(key))
 }
 
 /// Publishes a filling under its key, to which the lane then has a reference.
 #[unsafe(no_mangle)]
-pub extern "C" fn pardz_downgrade(alloc: Global, slot: &mut Slot, key: u64) -> u32
+pub extern "C" fn pardz_downgrade(slot: &mut Slot, key: u64) -> u32
     ensures { Calls (Downgrades key) slot.old.items slot.new.items result }
 {
-    let Some(mut handle) = lift(alloc, slot) else {
+    let Some(handle) = slot.lend() else {
         return EMPTY_LANE;
     };
-    let answer = handle.downgrade(key);
-    lower(slot, handle);
-    code(answer)
+    code(handle.downgrade(key))
 }
 
 /// A reference more to a key, and where its bytes are: they may be read until the lane has given back all its references to it.
 #[unsafe(no_mangle)]
-pub extern "C" fn pardz_get(
-    alloc: Global,
-    slot: &mut Slot,
-    key: u64,
-    at: &mut *const u8,
-    len: &mut usize,
-) -> u32
+pub extern "C" fn pardz_get(slot: &mut Slot, key: u64, at: &mut *const u8, len: &mut usize) -> u32
     ensures { Calls (Lends key len.new) slot.old.items slot.new.items result }
 {
-    let Some(mut handle) = lift(alloc, slot) else {
+    let Some(handle) = slot.lend() else {
         return EMPTY_LANE;
     };
-    let code = match handle.get(key) {
+    match handle.get(key) {
         Ok(start) => {
             let bytes = handle.bytes_at(start, key);
             *len = bytes.len();
@@ -183,26 +159,18 @@ pub extern "C" fn pardz_get(
             OK
         }
         Err(refusal) => code_of(refusal),
-    };
-    lower(slot, handle);
-    code
+    }
 }
 
 /// Where the bytes of a key are to which the lane has a reference.
 #[unsafe(no_mangle)]
-pub extern "C" fn pardz_read(
-    alloc: Global,
-    slot: &mut Slot,
-    key: u64,
-    at: &mut *const u8,
-    len: &mut usize,
-) -> u32
+pub extern "C" fn pardz_read(slot: &mut Slot, key: u64, at: &mut *const u8, len: &mut usize) -> u32
     ensures { Calls (Reads key len.new) slot.old.items slot.new.items result }
 {
-    let Some(handle) = lift(alloc, slot) else {
+    let Some(handle) = slot.lend() else {
         return EMPTY_LANE;
     };
-    let code = match handle.read(key) {
+    match handle.read(key) {
         Ok(bytes) => {
             *len = bytes.len();
             if !bytes.is_empty() {
@@ -211,48 +179,40 @@ pub extern "C" fn pardz_read(
             OK
         }
         Err(refusal) => code_of(refusal),
-    };
-    lower(slot, handle);
-    code
+    }
 }
 
 /// Gives a reference back.
 #[unsafe(no_mangle)]
-pub extern "C" fn pardz_release(alloc: Global, slot: &mut Slot, key: u64) -> u32
+pub extern "C" fn pardz_release(slot: &mut Slot, key: u64) -> u32
     ensures { Calls (Releases key) slot.old.items slot.new.items result }
 {
-    let Some(mut handle) = lift(alloc, slot) else {
+    let Some(handle) = slot.lend() else {
         return EMPTY_LANE;
     };
-    let answer = handle.release(key);
-    lower(slot, handle);
-    code(answer)
+    code(handle.release(key))
 }
 
 /// Clears the object of a key.
 #[unsafe(no_mangle)]
-pub extern "C" fn pardz_clear(alloc: Global, slot: &mut Slot, key: u64) -> u32
+pub extern "C" fn pardz_clear(slot: &mut Slot, key: u64) -> u32
     ensures { Calls (Clears key) slot.old.items slot.new.items result }
 {
-    let Some(mut handle) = lift(alloc, slot) else {
+    let Some(handle) = slot.lend() else {
         return EMPTY_LANE;
     };
-    let answer = handle.clear(key);
-    lower(slot, handle);
-    code(answer)
+    code(handle.clear(key))
 }
 
 /// A filling ends unpublished.
 #[unsafe(no_mangle)]
-pub extern "C" fn pardz_leave(alloc: Global, slot: &mut Slot, key: u64) -> u32
+pub extern "C" fn pardz_leave(slot: &mut Slot, key: u64) -> u32
     ensures { Calls (Leaves key) slot.old.items slot.new.items result }
 {
-    let Some(mut handle) = lift(alloc, slot) else {
+    let Some(handle) = slot.lend() else {
         return EMPTY_LANE;
     };
-    let answer = handle.leave(key);
-    lower(slot, handle);
-    code(answer)
+    code(handle.leave(key))
 }
 
 /// Gives the lane of a slot to that of lane 0, which is to close the pool: the last lane first, and then the one before it.
@@ -260,22 +220,19 @@ pub extern "C" fn pardz_leave(alloc: Global, slot: &mut Slot, key: u64) -> u32
 pub extern "C" fn pardz_join(alloc: Global, into: &mut Slot, slot: &mut Slot) -> u32
     ensures { JoinsSlots into.old.items slot.old.items into.new.items slot.new.items result }
 {
-    let Some(mut handle) = lift(alloc, into) else {
+    let Some(handle) = into.lend() else {
         return EMPTY_LANE;
     };
     let Some(other) = lift(alloc, slot) else {
-        lower(into, handle);
         return EMPTY_LANE;
     };
-    let code = match join(&mut handle, other) {
+    match join(handle, other) {
         Ok(()) => OK,
         Err((refusal, other)) => {
             lower(slot, other);
             code_of(refusal)
         }
-    };
-    lower(into, handle);
-    code
+    }
 }
 
 /// Closes a pool whose lane 0 was given all others.

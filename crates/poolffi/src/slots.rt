@@ -1,4 +1,4 @@
-// A handle out of its slot, and back; and the codes.
+// A handle out of its slot, and into one; and the codes.
 ghost use Rattle.std.specs.Prelude.{◌≡◌, [], ◌∷◌, IfSome, IsNone};
 ghost use Rattle.poolffi.specs.Codes.{code_of, answer_code};
 ghost use Rattle.poolffi.specs.Exports.{HasNoLane};
@@ -45,12 +45,10 @@ pub(crate) fn lift(alloc: Global, slot: &mut Slot) -> Option<Box<Handle>>
     ensures full { IfSome result (λ handle. (slot.old.items ≡ handle.value ∷ []) × (slot.new.full ≡ 0) × (slot.new.items ≡ [])) }
     ensures empty { IsNone result → (slot.new ≡ slot.old) × HasNoLane slot.old.items }
 {
-    let (full, whole) = replace(slot, Slot::empty()).with_full();
-    if full == 1 {
-        return Some(whole.take(alloc).into_box());
+    if !slot.is_full() {
+        return None;
     }
-    *slot = whole;
-    None
+    Some(replace(slot, Slot::empty()).take(alloc).into_box())
 }
 
 /// The handle into a slot.
@@ -67,7 +65,9 @@ pub(crate) fn put(at: &mut *const u8, address: *const u8)
     *at = address;
 }
 
-/// The code of a refusal.
+/// The code of a refusal. Away from the calls' own paths: what leads only here needs no registers there.
+#[cold]
+#[inline(never)]
 pub(crate) fn code_of(refusal: Refusal) -> u32
     ensures { result ≡ code_of refusal }
 {

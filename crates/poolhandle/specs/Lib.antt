@@ -2,3 +2,4 @@ pub mod Calls
 pub mod Filled
 pub mod Opened
 pub mod Slot
+pub mod SlotLends

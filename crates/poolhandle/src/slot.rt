@@ -1,5 +1,6 @@
 // What a foreign program keeps of a handle.
-ghost use Rattle.std.specs.Prelude.{◌≡◌, ℕ, List, [], ◌∷◌, length};
+ghost use Rattle.std.specs.Prelude.{◌≡◌, ◌==◌, ℕ, List, [], ◌∷◌, length, IfSome, IsNone};
+ghost use Rattle.std.specs.Borrow.{sem};
 ghost use base.Stored.{coded_list};
 ghost use Rattle.poolhandle.specs.declared.handle.Handle.{Handle as Kept};
 ghost use Rattle.poolhandle.specs.contracts.handle.Handle.{the_row as handle_row};
@@ -26,6 +27,8 @@ impl Model for Slot {
 }
 
 impl Slot {
+    ghost use Rattle.poolhandle.specs.SlotLends.{LendsHandle, LendsIfFull};
+
     /// An empty slot.
     pub fn empty() -> Slot
         ensures { (result.full ≡ 0) × (result.items ≡ []) }
@@ -36,12 +39,36 @@ impl Slot {
         }
     }
 
-    /// Whether it is full, by 1 or 0, and the slot again.
-    pub fn with_full(self) -> (u64, Slot)
-        ensures { (result.0 ≡ self.full) × (result.1 ≡ self) }
+    /// Whether the slot is full. It stays as it is.
+    #[inline]
+    pub fn is_full(&mut self) -> bool
+        ensures { (self.new ≡ self.old) × (result ≡ (self.old.full == 1)) }
     {
-        let Slot { at, full } = self;
-        (full, Slot { at, full })
+        self.full == 1
+    }
+
+    /// The handle of a full slot, where it stands.
+    #[inline]
+    fn handle_mut(&mut self) -> &mut Handle
+        requires { self.old.full ≡ 1 }
+        ensures* writes_back { sem 𝓛 (LendsHandle self.entry result) }
+        ensures handle { self.old.items ≡ result.now ∷ [] }
+    {
+        unsafe { &mut *(self.at as *mut Handle) }
+    }
+
+    /// The handle, where the slot is full.
+    #[inline]
+    pub fn lend(&mut self) -> Option<&mut Handle>
+        ensures* writes_back { sem 𝓛 (LendsIfFull self.entry result) }
+        ensures some { IfSome result (λ handle. self.old.items ≡ handle.now ∷ []) }
+        ensures none { IsNone result → (handle : Kept) → self.old.items ≡ handle ∷ [] → ⊥ }
+    {
+        if self.is_full() {
+            Some(self.handle_mut())
+        } else {
+            None
+        }
     }
 
     /// A slot with this handle.

@@ -1,16 +1,6 @@
--- The lane that was lifted made the call, and is lowered.
-use Rattle.std.proofs.Common.{subst, inr}
-use Rattle.poolhandle.specs.declared.handle.Handle.{Handle}
-use Rattle.poolhandle.specs.Calls.{Clears}
+-- The lane that was lent made the call.
+use Rattle.std.proofs.Common.{refl, inr}
 use Rattle.poolffi.proofs.pardz_clear.Goals as goal
 
 pub returns : goal.returns
-returns c = inr (
-  c.in-Some.handle.value,
-  c.clear-answer.new.self,
-  c.in-Some.ensures.full.0,
-  c.lower.ensures.1,
-  c.clear-answer.result,
-  c.code.ensures,
-  subst (λ (h : Handle). Clears c.args.key h c.clear-answer.new.self c.clear-answer.result) c.deref_mut.ensures.value c.clear-answer.ensures,
-)
+returns c = inr (c.in-Some.handle.now, c.clear.new.self, c.in-Some.ensures.some, refl, c.clear.result, c.code.ensures, c.clear.ensures)

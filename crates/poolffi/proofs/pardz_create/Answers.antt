@@ -1,26 +1,15 @@
--- The lane that was lifted made the call, and is lowered.
-use Rattle.std.proofs.Common.{◌∙◌, ℕ, Result, Ok, Err, subst, inr}
-use Rattle.poolhandle.specs.declared.handle.Handle.{Handle}
+-- The lane that was lent made the call.
+use Rattle.std.proofs.Common.{ℕ, Result, Ok, Err, refl, subst, inr}
 use Rattle.poolhandle.specs.declared.refusal.Refusal.{Refusal}
 use Rattle.poolhandle.specs.Calls.{Creates}
-use Rattle.poolffi.proofs.pardz_create.Goals.{in-Ok, in-Err}
 use Rattle.poolffi.proofs.pardz_create.Goals as goal
 
-pub returns : goal.returns
-returns c =
-    let did = subst (λ (h : Handle). Creates h c.create.new.self c.create.result) c.deref_mut.ensures.value c.create.ensures in
-    let Made = λ (answer : Result ℕ Refusal). Creates c.in-Some.handle.value c.create.new.self answer in
-    elim c.match-create.branch [
-      | in-Ok w ↦
-          inr (c.in-Some.handle.value, c.create.new.self, c.in-Some.ensures.full.0, c.lower.ensures.1, Ok w.in-Ok.made, w.code-is, (subst Made w.in-Ok.is did, w.key-is))
-      | in-Err w ↦
-          inr (
-            c.in-Some.handle.value,
-            c.create.new.self,
-            c.in-Some.ensures.full.0,
-            c.lower.ensures.1,
-            Err w.in-Err.refusal,
-            w.code-is ∙ w.code_of-code.ensures,
-            (subst Made w.in-Err.is did, tt),
-          )
-    ]
+pub returns-in-Ok : goal.returns-in-Ok
+returns-in-Ok c =
+    let Made = λ (answer : Result ℕ Refusal). Creates c.in-Some.handle.now c.create.new.self answer in
+    inr (c.in-Some.handle.now, c.create.new.self, c.in-Some.ensures.some, refl, Ok c.in-Ok.made, refl, (subst Made c.in-Ok.is c.create.ensures, refl))
+
+pub returns-in-Err : goal.returns-in-Err
+returns-in-Err c =
+    let Made = λ (answer : Result ℕ Refusal). Creates c.in-Some.handle.now c.create.new.self answer in
+    inr (c.in-Some.handle.now, c.create.new.self, c.in-Some.ensures.some, refl, Err c.in-Err.refusal, c.code_of.ensures, (subst Made c.in-Err.is c.create.ensures, tt))

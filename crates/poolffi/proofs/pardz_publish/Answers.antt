@@ -1,16 +1,6 @@
--- The lane that was lifted made the call, and is lowered.
-use Rattle.std.proofs.Common.{subst, inr}
-use Rattle.poolhandle.specs.declared.handle.Handle.{Handle}
-use Rattle.poolhandle.specs.Calls.{Publishes}
+-- The lane that was lent made the call.
+use Rattle.std.proofs.Common.{refl, inr}
 use Rattle.poolffi.proofs.pardz_publish.Goals as goal
 
 pub returns : goal.returns
-returns c = inr (
-  c.in-Some.handle.value,
-  c.publish-answer.new.self,
-  c.in-Some.ensures.full.0,
-  c.lower.ensures.1,
-  c.publish-answer.result,
-  c.code.ensures,
-  subst (λ (h : Handle). Publishes c.args.key h c.publish-answer.new.self c.publish-answer.result) c.deref_mut.ensures.value c.publish-answer.ensures,
-)
+returns c = inr (c.in-Some.handle.now, c.publish.new.self, c.in-Some.ensures.some, refl, c.publish.result, c.code.ensures, c.publish.ensures)

@@ -1,16 +1,6 @@
--- The lane that was lifted made the call, and is lowered.
-use Rattle.std.proofs.Common.{subst, inr}
-use Rattle.poolhandle.specs.declared.handle.Handle.{Handle}
-use Rattle.poolhandle.specs.Calls.{Releases}
+-- The lane that was lent made the call.
+use Rattle.std.proofs.Common.{refl, inr}
 use Rattle.poolffi.proofs.pardz_release.Goals as goal
 
 pub returns : goal.returns
-returns c = inr (
-  c.in-Some.handle.value,
-  c.release-answer.new.self,
-  c.in-Some.ensures.full.0,
-  c.lower.ensures.1,
-  c.release-answer.result,
-  c.code.ensures,
-  subst (λ (h : Handle). Releases c.args.key h c.release-answer.new.self c.release-answer.result) c.deref_mut.ensures.value c.release-answer.ensures,
-)
+returns c = inr (c.in-Some.handle.now, c.release.new.self, c.in-Some.ensures.some, refl, c.release.result, c.code.ensures, c.release.ensures)

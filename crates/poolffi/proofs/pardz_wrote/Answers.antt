@@ -1,16 +1,6 @@
--- The lane that was lifted made the call, and is lowered.
-use Rattle.std.proofs.Common.{subst, inr}
-use Rattle.poolhandle.specs.declared.handle.Handle.{Handle}
-use Rattle.poolhandle.specs.Calls.{Wrote}
+-- The lane that was lent made the call.
+use Rattle.std.proofs.Common.{refl, inr}
 use Rattle.poolffi.proofs.pardz_wrote.Goals as goal
 
 pub returns : goal.returns
-returns c = inr (
-  c.in-Some.handle.value,
-  c.wrote-answer.new.self,
-  c.in-Some.ensures.full.0,
-  c.lower.ensures.1,
-  c.wrote-answer.result,
-  c.code.ensures,
-  subst (λ (h : Handle). Wrote c.args.key c.args.count h c.wrote-answer.new.self c.wrote-answer.result) c.deref_mut.ensures.value c.wrote-answer.ensures,
-)
+returns c = inr (c.in-Some.handle.now, c.wrote.new.self, c.in-Some.ensures.some, refl, c.wrote.result, c.code.ensures, c.wrote.ensures)
