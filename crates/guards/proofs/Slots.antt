@@ -138,6 +138,5 @@ are-lanes lanes row are is =
           (slice_get_cases row number).1;
     }
 
-pub same-pool : (one other : PoolOf) → one.table ≡ other.table → one.shape ≡ other.shape → one ≡ other
-same-pool one other tables shapes =
-    ap (λ (t : TableId). record { table = t; shape = one.shape }) tables ∙ ap (λ (s : Shape). record { table = other.table; shape = s }) shapes
+pub same-pool : (one other : PoolOf) → one.table ≡ other.table → one.directory ≡ other.directory → one.shape ≡ other.shape → one ≡ other
+same-pool one other tables directories shapes = λ i. record { table = tables i; directory = directories i; shape = shapes i }

@@ -50,6 +50,7 @@ pub struct Opened<T: Clear> {
     pub pool: Pool<T>,
     pub lanes: Lanes<T>,
     pub ghost table: { lanes.pool.table ≡ pool.table },
+    pub ghost directory: { lanes.pool.directory ≡ pool.directory },
     pub ghost shape: { lanes.pool.shape ≡ pool.shape },
 }
 

@@ -34,7 +34,7 @@ numbered-stays : (pool : PoolOf) (from : ℕ) (rest : List LaneOf) (old new : La
 numbered-stays pool from [] old new same are zero lane is =
     let here : new ≡ lane = cc is in
     let was = are 0 old refl in
-    subst (λ (l : LaneOf). Owns pool l × (l.number ≡ from + 0)) here ((same.0 ∙ was.0.0, same.1 ∙ was.0.1), same.2 ∙ was.1)
+    subst (λ (l : LaneOf). Owns pool l × (l.number ≡ from + 0)) here ((same.0 ∙ was.0.0, same.1 ∙ was.0.1, same.3 ∙ was.0.2), same.2 ∙ was.1)
 numbered-stays pool from [] old new same are (suc at) lane is = absurd (cc is)
 numbered-stays pool from (first ∷ rest) old new same are zero lane is = are zero lane is
 numbered-stays pool from (first ∷ rest) old new same are (suc at) lane is =

@@ -20,6 +20,7 @@ pub struct Worker<'a> {
     pool: &'a Pool<ByteBuf>,
     lane: Lane<ByteBuf>,
     ghost table: { lane.table ≡ pool.now.table },
+    ghost directory: { lane.directory ≡ pool.now.directory },
     ghost shape: { lane.shape ≡ pool.now.shape },
     ghost unburdened: { refs lane ≡ 0 },
 }

@@ -3,7 +3,8 @@ use Rattle.std.proofs.Common.{◌≡◌, ◌≢◌, ℕ, ◌+◌, ◌==◌, ◌&
 use Rattle.std.proofs.lemmas.Bool.{and_right}
 use Rattle.atomic_table.specs.Table.{Me}
 use Rattle.keybits.specs.declared.shape.Shape.{Shape}
-use Rattle.slotcell.specs.Share.{Share}
+use Rattle.placecell.specs.Spot.{Spot as CellSpot}
+use Rattle.placecell.specs.Share.{Share}
 use Rattle.sharelaws.specs.declared.stored.Stored.{Stored}
 use Rattle.sharelaws.specs.declared.stored.Status.{Status}
 use Rattle.sharelaws.specs.declared.stored.Status.TheVariants.{Emptied, InHand}
@@ -82,19 +83,19 @@ module _ {S : Type 0} {z : Shape} {place number : ℕ} {status : Status} {c : St
   pub moves-known : known_of (the_lane after.0) place ≡ c
   moves-known = ap (λ (r : LaneRecord). known_of r place) lane-after ∙ moved-known taken place number status c
 
-module _ {T : Type 0} {content : T → List ℕ} {room : T → ℕ} {z : Shape} {place number : ℕ} {status : Status} {before after : Me (Option (Share T)) View} {share : Share T} where
+module _ {T : Type 0} {content : T → List ℕ} {room : T → ℕ} {spots : ℕ → CellSpot} {z : Shape} {place number : ℕ} {status : Status} {before after : Me (Option (Share T)) View} {share : Share T} where
   -- an OUT is such a move, which leaves the slot emptied
-  pub out-moves : Outs content room z place number status before share after → Moves z place number Emptied (stored_of content room share) before after
+  pub out-moves : Outs content room spots z place number status before share after → Moves z place number Emptied (stored_of content room share) before after
   out-moves outs = record { first = stored_of content room share; goes = outs.goes; held = outs.held; steps = outs.steps; looks = outs.looks }
 
-  pub carries-out : Outs content room z place number status before share after → Carries z place 2 before after
+  pub carries-out : Outs content room spots z place number status before share after → Carries z place 2 before after
   carries-out outs = moves-carry (out-moves outs)
 
   -- and so is a BACK
-  pub back-moves : Backs content room z place number status before share after → Moves z place number status (stored_of content room share) before after
+  pub back-moves : Backs content room spots z place number status before share after → Moves z place number status (stored_of content room share) before after
   back-moves backs = record { first = known_of (the_lane before.0) place; goes = backs.goes; held = backs.held; steps = backs.steps; looks = backs.looks }
 
-  pub carries-back : Backs content room z place number status before share after → Carries z place 2 before after
+  pub carries-back : Backs content room spots z place number status before share after → Carries z place 2 before after
   carries-back backs = moves-carry (back-moves backs)
 
 -- and so are moves of all shares of the place

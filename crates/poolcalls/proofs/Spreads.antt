@@ -5,7 +5,8 @@ use Rattle.std.proofs.Common.{◌≡◌, ◌≢◌, inl, inr, ⊎_elim, ℕ, ◌
 use Rattle.std.proofs.lemmas.Bool.{cases_Bool, ltb-true, ltb-false}
 use Rattle.atomic_table.specs.Table.{Me}
 use Rattle.keybits.specs.declared.shape.Shape.{Shape}
-use Rattle.slotcell.specs.Share.{Share}
+use Rattle.placecell.specs.Spot.{Spot as CellSpot}
+use Rattle.placecell.specs.Share.{Share}
 use Rattle.sharelaws.specs.declared.stored.Stored.{Stored}
 use Rattle.sharelaws.specs.declared.stored.Status.TheVariants.{Untouched}
 use Rattle.poolsteps.specs.declared.view.View.{View}
@@ -43,8 +44,8 @@ pub may-store : (z : Shape) (v : View) (place number : ℕ) (c : Stored) → Has
 may-store z v place number c has renew = ⊎_elim (λ same. inl same) (λ new. inr (has, λ k below other. new k below)) renew
 
 -- and one share more
-pub one-more : {T : Type 0} {content : T → List ℕ} {room : T → ℕ} {z : Shape} {place from n : ℕ} {a b c : Me (Option (Share T)) View} {share : Share T} → from ≤ n
-    → Spreads z place from n a b → Backs content room z place n Untouched b share c → Spreads z place from (n + 1) a c
+pub one-more : {T : Type 0} {content : T → List ℕ} {room : T → ℕ} {spots : ℕ → CellSpot} {z : Shape} {place from n : ℕ} {a b c : Me (Option (Share T)) View} {share : Share T} → from ≤ n
+    → Spreads z place from n a b → Backs content room spots z place n Untouched b share c → Spreads z place from (n + 1) a c
 one-more {z = z} {place = place} {from = from} {n = n} {a = a} {c = c} low spreads backs =
     let looks : 2 * (n - from) + 2 ≡ 2 * (n + 1 - from) = omega arith in
     record {

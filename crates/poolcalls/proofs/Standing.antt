@@ -3,6 +3,8 @@ use mathlib.Core.Logic.{dite}
 use native.Mathlib.Decide.{ℕ_discrete}
 use Rattle.std.proofs.Common.{◌≡◌, ◌≢◌, ◌==◌, inl, inr, ⊎_elim, ℕ, Bool, true, false, cond, List, [], ◌∷◌, ◌++◌, Option, Some, None, refl, sym, ap, ◌∙◌, subst, eq-eqb, ne_eqb}
 use Rattle.atomic_table.specs.Table.{Me}
+use denote.RawPtr.{Ptr}
+use Rattle.placecell.specs.Spot.{Spot as CellSpot, IsAt as IsIn}
 use Rattle.keybits.specs.declared.shape.Shape.{Shape}
 use Rattle.keybits.specs.declared.step.Kind.TheVariants as kinds
 use Rattle.keybits.specs.Keys.{place_of}
@@ -23,6 +25,7 @@ use Rattle.poolsteps.specs.declared.view.LaneRecord.{LaneRecord}
 use Rattle.poolsteps.specs.declared.view.View.{View}
 use Rattle.poolsteps.specs.Views.{head_record, the_lane, pushed_in, status_of, known_of, acts_in}
 use Rattle.poolsteps.specs.Grids.{IsSpot}
+use Rattle.poolsteps.specs.Layout.{spots_at}
 use Rattle.poolsteps.specs.Returned.{Links, Pushes, IsToReturn, AimsAt, with_return, failed_under}
 use Rattle.poolsteps.specs.Told.{Steps, LifeSteps, Leaves, Claims, Publishes, MayLeave, MayPublish, HasPlace, LeftAlone, claimed_under}
 use Rattle.poolcalls.specs.declared.at_place.At.{At}
@@ -43,6 +46,10 @@ spot-own {z = z} {spot = spot} is = subst (λ (p : ℕ). IsSpot z spot p) (sym i
 
 pub at-own : {z : Shape} {v : View} {place : ℕ} {at : At} → IsAt z v place at → IsAt z v at.spot.place at
 at-own {z = z} {v = v} {at = at} is = subst (λ (p : ℕ). IsAt z v p at) (sym is.spot.place_is) is
+
+-- what stands where the spot's place does stands at the spot's start
+pub stands-in : {z : Shape} {spot : Spot} {place : ℕ} {p : Ptr} {cell : CellSpot} → IsSpot z spot place → cell ≡ spots_at p z place → IsIn cell p spot.start
+stands-in is same = (ap (λ (s : CellSpot). s.directory) same, ap (λ (s : CellSpot). s.index) same ∙ sym is.start)
 
 -- it stays so while the lane pushes nothing
 pub at-same : {z : Shape} {v w : View} {place : ℕ} {at : At} → (the_lane w).lane ≡ (the_lane v).lane → (the_lane w).pushed ≡ (the_lane v).pushed → IsAt z v place at

@@ -1,6 +1,7 @@
 -- What calls did, and parts of calls: their steps, the acts that these made, and nothing more.
 use Rattle.std.specs.Prelude.{◌≡◌, ◌≢◌, ℕ, ◌+◌, ◌≤◌, true, List, [], ◌∷◌, ◌++◌, length, Option, Some, None, IfSome}
 use Rattle.atomic_table.specs.Table.{Me}
+use Rattle.placecell.specs.Spot.{Spot as CellSpot}
 use Rattle.keybits.specs.declared.shape.Shape.{Shape}
 use Rattle.keybits.specs.declared.step.Step.{Step}
 use Rattle.keybits.specs.Keys.{place_of}
@@ -89,23 +90,30 @@ Ends z place found before after = (leave : Step) → leave.before ≡ found → 
 -- what became of the place, by what the seat then saw and knows: the object of an own place is empty, with at least the place's room
 abbrev pub IsReclaimed : {T : Type 0} → (T → List ℕ) → (T → ℕ) → Shape → ℕ → ℕ → View → Reclaimed T → Type 0
 IsReclaimed content room z place lane v (Own whole) = (shard_of place ≡ lane) × HasPlace z v place × AreEmptied z (the_lane v) place
-    × (content whole ≡ []) × (room_of v.seen v.rooms place ≤ room whole)
+    × (content whole.object ≡ []) × (room_of v.seen v.rooms place ≤ room whole.object)
 IsReclaimed content room z place lane v Returned = shard_of place ≢ lane
-IsReclaimed content room z place lane v Retired = Unit {0}
+IsReclaimed content room z place lane v (Retired vacancy) = Unit {0}
+
+-- what became of a reclaimed place stands in this word
+abbrev pub StandsAt : {T : Type 0} → CellSpot → Option (Reclaimed T) → Type 0
+StandsAt spot None = Unit {0}
+StandsAt spot (Some (Own whole)) = whole.spot ≡ spot
+StandsAt spot (Some Returned) = Unit {0}
+StandsAt spot (Some (Retired vacancy)) = vacancy ≡ spot
 
 -- the acts by which a place was reclaimed at a generation, by what became of it
 abbrev pub end_acts : {T : Type 0} → Shape → ℕ → ℕ → ℕ → Option (Reclaimed T) → List Act
 end_acts z lane place generation None = []
 end_acts z lane place generation (Some (Own whole)) = reclaim z lane place generation ∷ []
 end_acts z lane place generation (Some Returned) = reclaim z lane place generation ∷ acts.Home lane place ∷ []
-end_acts z lane place generation (Some Retired) = reclaim z lane place generation ∷ []
+end_acts z lane place generation (Some (Retired vacancy)) = reclaim z lane place generation ∷ []
 
 -- the generation is the last exactly where the place is retired
 abbrev pub FitsGeneration : {T : Type 0} → Shape → ℕ → Option (Reclaimed T) → Type 0
 FitsGeneration z generation None = Unit {0}
 FitsGeneration z generation (Some (Own whole)) = generation ≢ z.last_generation
 FitsGeneration z generation (Some Returned) = generation ≢ z.last_generation
-FitsGeneration z generation (Some Retired) = generation ≡ z.last_generation
+FitsGeneration z generation (Some (Retired vacancy)) = generation ≡ z.last_generation
 
 -- where no place was reclaimed, the lane moved nothing; where one was, it had left its slots alone before
 abbrev pub MovedNothing : {T : Type 0} → Shape → ℕ → LaneRecord → LaneRecord → Option (Reclaimed T) → Type 0
@@ -117,7 +125,7 @@ abbrev pub end_pushed : {T : Type 0} → List (ℕ × ℕ) → ℕ → Option (R
 end_pushed pushed place None = pushed
 end_pushed pushed place (Some (Own whole)) = pushed
 end_pushed pushed place (Some Returned) = (shard_of place, link_to place) ∷ pushed
-end_pushed pushed place (Some Retired) = pushed
+end_pushed pushed place (Some (Retired vacancy)) = pushed
 
 -- the lane made these acts, and after them those by which the place was reclaimed, if it was, and pushed it where it was returned; where it was not, the lane moved nothing
 abbrev pub EndsWithActs : {T : Type 0} → Shape → ℕ → List Act → View → View → Option (Reclaimed T) → Type 0
@@ -134,7 +142,7 @@ MadeHome place before after = let r : LaneRecord = the_lane before in
 abbrev pub TailActs : {T : Type 0} → Shape → ℕ → ℕ → View → View → Reclaimed T → Type 0
 TailActs z place generation before after (Own whole) = (generation ≢ z.last_generation) × ((the_lane after).mine ≡ (the_lane before).mine) × ((the_lane after).pushed ≡ (the_lane before).pushed)
 TailActs z place generation before after Returned = (generation ≢ z.last_generation) × MadeHome place before after
-TailActs z place generation before after Retired = (generation ≡ z.last_generation) × ((the_lane after).mine ≡ (the_lane before).mine) × ((the_lane after).pushed ≡ (the_lane before).pushed)
+TailActs z place generation before after (Retired vacancy) = (generation ≡ z.last_generation) × ((the_lane after).mine ≡ (the_lane before).mine) × ((the_lane after).pushed ≡ (the_lane before).pushed)
 
 -- the lane made just this act, and pushed nothing
 abbrev pub MadeOne : View → View → Act → Type 0
@@ -150,6 +158,11 @@ pub record Called {S : Type 0} (z : Shape) (call : Call) (looks : ℕ) (before a
   pub did : Did z (place_of (key_in call)) made (length steps) looks before after
   pub few : length steps ≤ 8
   pub idle : IsIdle after.0
+
+-- what a get answers of a reclaimed place stands in this word
+abbrev pub GotStandsAt : {T : Type 0} → CellSpot → Got T → Type 0
+GotStandsAt spot Hit = Unit {0}
+GotStandsAt spot (Miss reclaimed) = StandsAt spot reclaimed
 
 -- what a get answered: at a hit the reply is a content, the lane moved nothing, and its slot is left alone where it had no reference
 abbrev pub HasGot : {S T : Type 0} → (T → List ℕ) → (T → ℕ) → Shape → ℕ → Me S View → Me S View → Got T → Type 0

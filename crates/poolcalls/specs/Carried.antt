@@ -1,6 +1,8 @@
 -- What moves of one place's shares leave of a lane's view.
 use Rattle.std.specs.Prelude.{◌≡◌, ◌≢◌, ◌⊎◌, ℕ, ◌+◌, ◌-◌, ◌*◌, ◌<◌, ◌≤◌, List, []}
 use Rattle.atomic_table.specs.Table.{Me}
+use Rattle.placecell.specs.Spot.{Spot as CellSpot}
+use Rattle.placecell.specs.Whole.{Whole}
 use Rattle.keybits.specs.declared.shape.Shape.{Shape}
 use Rattle.sharelaws.specs.declared.stored.Stored.{Stored}
 use Rattle.sharelaws.specs.declared.stored.Status.TheVariants.{Untouched, Emptied}
@@ -46,6 +48,6 @@ AreEmptied z r place = (number : ℕ) → number < z.lanes → status_of r place
 abbrev pub AreAtRest : Shape → LaneRecord → ℕ → Type 0
 AreAtRest z r place = (number : ℕ) → number < z.lanes → status_of r place number ≡ at_rest place number
 
--- the cell has the content and the room of this object
-abbrev pub ShowsCell : {T : Type 0} → (T → List ℕ) → (T → ℕ) → Stored → T → Type 0
-ShowsCell content room c object = (content object ≡ c.content) × (room object ≡ c.room)
+-- the cell has the content and the room of the whole's object, which stands where the place does
+abbrev pub ShowsCell : {T : Type 0} → (T → List ℕ) → (T → ℕ) → (ℕ → CellSpot) → ℕ → Stored → Whole T → Type 0
+ShowsCell content room spots place c whole = (content whole.object ≡ c.content) × (room whole.object ≡ c.room) × (whole.spot ≡ spots place)

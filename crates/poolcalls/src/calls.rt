@@ -5,11 +5,12 @@ ghost use Rattle.seqpool.specs.declared.act.Act.TheVariants as acts;
 ghost use Rattle.sharelaws.specs.declared.stored.Status.TheVariants.{Untouched};
 ghost use Rattle.steplaws.specs.Calls.Call.{Getting, Releasing, Clearing};
 ghost use Rattle.steplaws.specs.Facts.{most_references};
+ghost use Rattle.poolsteps.specs.Layout.{spots_at};
 ghost use Rattle.poolsteps.specs.Views.{the_lane, status_of, IsOne};
 ghost use Rattle.poolsteps.specs.Grids.{IsOf, SameSeat};
 ghost use Rattle.poolsteps.specs.Told.{IsIdle, references_seen};
 ghost use Rattle.poolcalls.specs.AtPlace.{IsAt};
-ghost use Rattle.poolcalls.specs.Called.{Called, EndsWithActs, IsReclaimed, HasGot};
+ghost use Rattle.poolcalls.specs.Called.{Called, EndsWithActs, IsReclaimed, StandsAt, HasGot, GotStandsAt};
 
 use crate::at_place::At;
 use crate::ends::finish_leave;
@@ -17,16 +18,9 @@ use crate::reclaimed::{Got, Reclaimed};
 use keybits::{is_hit, is_present};
 use poolsteps::{Grid, Hand, Purpose};
 use slotcell::Clear;
-use std::alloc::Global;
 
 /// A get of a key: where it hits, the lane has one reference more. It takes no memory.
-pub fn get<T: Clear + Drop>(
-    alloc: Global,
-    grid: &Grid<T>,
-    hand: &mut Hand<T>,
-    at: At,
-    key: u64,
-) -> Got<T>
+pub fn get<T: Clear + Drop>(grid: &Grid<T>, hand: &mut Hand<T>, at: At, key: u64) -> Got<T>
     requires hand { IsOf grid.now hand.old × IsOne hand.old.me.0 }
     requires bare { hand.old.me.1 ≡ [] }
     requires at { IsAt grid.now.shape hand.old.me.0 (place_of key) at }
@@ -36,19 +30,19 @@ pub fn get<T: Clear + Drop>(
     ensures hand { SameSeat hand.old hand.new }
     ensures called { Called grid.now.shape (Getting key) 34 hand.old.me hand.new.me }
     ensures got { HasGot T.content T.room grid.now.shape key hand.old.me hand.new.me result }
+    ensures at { GotStandsAt (spots_at grid.now.objects.ptr grid.now.shape (place_of key)) result }
 {
     let found = grid.enter(hand, at.spot, key, Purpose::ToGet);
     if is_hit(key, found) {
         return Got::Hit;
     }
     let left = grid.leave(hand, at.spot, key);
-    Got::Miss(finish_leave(alloc, grid, hand, at, left))
+    Got::Miss(finish_leave(grid, hand, at, left))
 }
 
 /// A release of a key to which the lane has a reference; its share is back in its slot where that is the last. It takes no
 /// memory.
 pub fn release<T: Clear + Drop>(
-    alloc: Global,
     grid: &Grid<T>,
     hand: &mut Hand<T>,
     at: At,
@@ -64,15 +58,15 @@ pub fn release<T: Clear + Drop>(
     ensures called { Called grid.now.shape (Releasing key) 34 hand.old.me hand.new.me }
     ensures acts { EndsWithActs grid.now.shape (place_of key) (acts.Release at.entry.lane key ∷ []) hand.old.me.0 hand.new.me.0 result }
     ensures reclaimed { IfSome result (IsReclaimed T.content T.room grid.now.shape (place_of key) at.entry.lane hand.new.me.0) }
+    ensures at { StandsAt (spots_at grid.now.objects.ptr grid.now.shape (place_of key)) result }
 {
     let left = grid.leave(hand, at.spot, key);
-    finish_leave(alloc, grid, hand, at, left)
+    finish_leave(grid, hand, at, left)
 }
 
 /// A clear of a key. Answers whether it is the one that marked it, and what became of its place where that was reclaimed. It
 /// takes no memory.
 pub fn clear<T: Clear + Drop>(
-    alloc: Global,
     grid: &Grid<T>,
     hand: &mut Hand<T>,
     at: At,
@@ -87,9 +81,10 @@ pub fn clear<T: Clear + Drop>(
     ensures called { Called grid.now.shape (Clearing key) 34 hand.old.me hand.new.me }
     ensures acts { EndsWithActs grid.now.shape (place_of key) (acts.Clear at.entry.lane key result.0 ∷ []) hand.old.me.0 hand.new.me.0 result.1 }
     ensures reclaimed { IfSome result.1 (IsReclaimed T.content T.room grid.now.shape (place_of key) at.entry.lane hand.new.me.0) }
+    ensures at { StandsAt (spots_at grid.now.objects.ptr grid.now.shape (place_of key)) result.1 }
 {
     let found = grid.enter(hand, at.spot, key, Purpose::ToClear);
     let marked = is_hit(key, found) && is_present(grid.mark(hand, at.spot, key));
     let left = grid.leave(hand, at.spot, key);
-    (marked, finish_leave(alloc, grid, hand, at, left))
+    (marked, finish_leave(grid, hand, at, left))
 }

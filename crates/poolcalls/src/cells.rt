@@ -2,21 +2,21 @@
 ghost use Rattle.std.specs.Prelude.{◌≡◌, ◌≢◌, ◌<◌, ◌≤◌, ◌*◌, ◌-◌, ℕ, true, []};
 ghost use Rattle.keybits.specs.declared.shape.Shape.{Shape};
 ghost use Rattle.sharelaws.specs.declared.stored.Status.TheVariants.{Untouched, Emptied};
+ghost use Rattle.poolsteps.specs.Layout.{spots_at};
 ghost use Rattle.poolsteps.specs.Views.{the_lane, known_of, status_of, IsOne};
 ghost use Rattle.poolsteps.specs.Grids.{IsSpot, IsOf, SameSeat};
 ghost use Rattle.poolsteps.specs.Told.{HasPlace, LeftAlone, MayRenew};
 ghost use Rattle.poolsteps.specs.Moved.{stored_of};
 ghost use Rattle.poolcalls.specs.Carried.{Carries, MayCarry, Spreads, AreEmptied, AreAtRest, ShowsCell};
-ghost use Rattle.slotcell.specs.Rest.{lowest_share};
+ghost use Rattle.placecell.specs.Rest.{lowest_share};
 
+use placecell::{Rest, Share, Whole};
 use poolsteps::{Grid, Hand, Spot, shares_law};
-use slotcell::{Clear, Rest, Share, Whole};
-use std::alloc::Global;
+use slotcell::Clear;
 
 /// Takes all shares of a place out of its slots, in which the lane left them alone: they are the whole cell that the lane
 /// knows. It takes two looks, and no memory.
 pub fn take_cell<T: Clear + Drop>(
-    alloc: Global,
     grid: &Grid<T>,
     hand: &mut Hand<T>,
     spot: Spot,
@@ -32,16 +32,15 @@ pub fn take_cell<T: Clear + Drop>(
     ensures place { HasPlace grid.now.shape hand.new.me.0 spot.place }
     ensures carries { Carries grid.now.shape spot.place 2 hand.old.me hand.new.me }
     ensures slots { AreEmptied grid.now.shape (the_lane hand.new.me.0) spot.place }
-    ensures cell { ShowsCell T.content T.room (known_of (the_lane hand.old.me.0) spot.place) result }
+    ensures cell { ShowsCell T.content T.room (spots_at grid.now.objects.ptr grid.now.shape) spot.place (known_of (the_lane hand.old.me.0) spot.place) result }
 {
     shares_law();
-    grid.out_all(hand, spot, lane).into_whole(alloc)
+    grid.out_all(hand, spot, lane).into_whole()
 }
 
 /// Takes the only share of a place at rest out of its slot: it is the whole cell that the lane knows. It takes two looks, and
 /// no memory.
 pub fn take_resting<T: Clear + Drop>(
-    alloc: Global,
     grid: &Grid<T>,
     hand: &mut Hand<T>,
     spot: Spot,
@@ -56,10 +55,10 @@ pub fn take_resting<T: Clear + Drop>(
     ensures place { HasPlace grid.now.shape hand.new.me.0 spot.place }
     ensures carries { Carries grid.now.shape spot.place 2 hand.old.me hand.new.me }
     ensures slots { AreEmptied grid.now.shape (the_lane hand.new.me.0) spot.place }
-    ensures cell { ShowsCell T.content T.room (known_of (the_lane hand.old.me.0) spot.place) result }
+    ensures cell { ShowsCell T.content T.room (spots_at grid.now.objects.ptr grid.now.shape) spot.place (known_of (the_lane hand.old.me.0) spot.place) result }
 {
     shares_law();
-    Rest::of_last(grid.out_whole(hand, spot, lane)).into_whole(alloc)
+    Rest::of_last(grid.out_whole(hand, spot, lane)).into_whole()
 }
 
 /// Puts a whole cell into the slots of a place, which the lane has emptied: a share into each. It takes two looks, and no
@@ -77,11 +76,12 @@ pub fn spread_cell<T: Clear + Drop>(
     requires lane { lane < grid.now.shape.lanes }
     requires place { HasPlace grid.now.shape hand.old.me.0 spot.place }
     requires slots { AreEmptied grid.now.shape (the_lane hand.old.me.0) spot.place }
+    requires at { whole.spot ≡ spots_at grid.now.objects.ptr grid.now.shape spot.place }
     ensures hand { SameSeat hand.old hand.new × IsOne hand.new.me.0 }
     ensures place { HasPlace grid.now.shape hand.new.me.0 spot.place }
     ensures carries { Carries grid.now.shape spot.place 2 hand.old.me hand.new.me }
     ensures slots { LeftAlone grid.now.shape (the_lane hand.new.me.0) spot.place }
-    ensures cell { ShowsCell T.content T.room (known_of (the_lane hand.new.me.0) spot.place) whole }
+    ensures cell { ShowsCell T.content T.room (spots_at grid.now.objects.ptr grid.now.shape) spot.place (known_of (the_lane hand.new.me.0) spot.place) whole }
 {
     shares_law();
     grid.back_all(hand, spot, lane, whole.lend(grid.shape.lanes as usize));
@@ -103,7 +103,7 @@ fn put_shares<T: Clear>(
     requires lane { lane < grid.now.shape.lanes }
     requires place { HasPlace grid.now.shape hand.old.me.0 spot.place }
     requires numbers { (from ≤ to) × (to < grid.now.shape.lanes) }
-    requires rest { (rest.old.number ≡ from) × (rest.old.of ≡ grid.now.shape.lanes) }
+    requires rest { (rest.old.number ≡ from) × (rest.old.of ≡ grid.now.shape.lanes) × (rest.old.spot ≡ spots_at grid.now.objects.ptr grid.now.shape spot.place) }
     requires slots { (number : ℕ) → from ≤ number → number < to → status_of (the_lane hand.old.me.0) spot.place number ≡ Emptied }
     requires cell { MayRenew grid.now.shape hand.old.me.0 spot.place (stored_of T.content T.room (lowest_share rest.old)) }
     ensures hand { SameSeat hand.old hand.new }
@@ -132,12 +132,13 @@ pub fn spread_others<T: Clear + Drop>(
     requires lane { lane < grid.now.shape.lanes }
     requires place { HasPlace grid.now.shape hand.old.me.0 spot.place }
     requires slots { AreEmptied grid.now.shape (the_lane hand.old.me.0) spot.place }
+    requires at { whole.spot ≡ spots_at grid.now.objects.ptr grid.now.shape spot.place }
     ensures hand { SameSeat hand.old hand.new × IsOne hand.new.me.0 }
     ensures place { HasPlace grid.now.shape hand.new.me.0 spot.place }
     ensures carries { MayCarry grid.now.shape spot.place (2 * (grid.now.shape.lanes - 1)) hand.old.me hand.new.me }
     ensures others { (number : ℕ) → number < grid.now.shape.lanes → number ≢ lane → status_of (the_lane hand.new.me.0) spot.place number ≡ Untouched }
     ensures own { status_of (the_lane hand.new.me.0) spot.place lane ≡ Emptied }
-    ensures share { (result.number ≡ lane) × (result.of ≡ grid.now.shape.lanes) × (result.object ≡ whole) }
+    ensures share { (result.number ≡ lane) × (result.of ≡ grid.now.shape.lanes) × (result.object ≡ whole.object) × (result.spot ≡ spots_at grid.now.objects.ptr grid.now.shape spot.place) }
     ensures cell { MayRenew grid.now.shape hand.new.me.0 spot.place (stored_of T.content T.room result) }
 {
     shares_law();
@@ -167,11 +168,12 @@ pub fn rest_cell<T: Clear + Drop>(
     requires lane { lane < grid.now.shape.lanes }
     requires place { HasPlace grid.now.shape hand.old.me.0 spot.place }
     requires slots { AreEmptied grid.now.shape (the_lane hand.old.me.0) spot.place }
+    requires at { whole.spot ≡ spots_at grid.now.objects.ptr grid.now.shape spot.place }
     ensures hand { SameSeat hand.old hand.new × IsOne hand.new.me.0 }
     ensures place { HasPlace grid.now.shape hand.new.me.0 spot.place }
     ensures carries { Carries grid.now.shape spot.place 2 hand.old.me hand.new.me }
     ensures slots { AreAtRest grid.now.shape (the_lane hand.new.me.0) spot.place }
-    ensures cell { ShowsCell T.content T.room (known_of (the_lane hand.new.me.0) spot.place) whole }
+    ensures cell { ShowsCell T.content T.room (spots_at grid.now.objects.ptr grid.now.shape) spot.place (known_of (the_lane hand.new.me.0) spot.place) whole }
 {
     shares_law();
     grid.back_whole(hand, spot, lane, whole.lend(1).into_share());

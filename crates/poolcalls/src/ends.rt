@@ -3,11 +3,12 @@ ghost use Rattle.std.specs.Prelude.{◌≡◌, ◌≢◌, ◌<◌, ◌≤◌, []
 ghost use Rattle.keybits.specs.Words.{generation_in, owes_claim};
 ghost use Rattle.steplaws.specs.StepLaws.{owed_after};
 ghost use Rattle.sharelaws.specs.Shares.{room_of};
+ghost use Rattle.poolsteps.specs.Layout.{spots_at};
 ghost use Rattle.poolsteps.specs.Views.{the_lane, known_of, IsOne};
 ghost use Rattle.poolsteps.specs.Grids.{IsOf, SameSeat};
 ghost use Rattle.poolsteps.specs.Told.{HasPlace, LeftAlone, claimed_under};
 ghost use Rattle.poolcalls.specs.AtPlace.{IsAt};
-ghost use Rattle.poolcalls.specs.Called.{EndsWithActs, TailActs, IsLawful, Ends, Tails, IsReclaimed};
+ghost use Rattle.poolcalls.specs.Called.{EndsWithActs, TailActs, IsLawful, Ends, Tails, IsReclaimed, StandsAt};
 
 use crate::at_place::At;
 use crate::cells::{rest_cell, take_cell};
@@ -16,14 +17,12 @@ use crate::reclaimed::Reclaimed;
 use keybits::{Life, claimable, owes_claim, shard_of};
 use poolsteps::{Grid, Hand, shares_law};
 use slotcell::Clear;
-use std::alloc::Global;
 
 /// What follows a LEAVE that found this word: where it left (g, MARKED, 0), the CLAIM of g; and where that succeeded, the
 /// place's object is cleared in place, and a place of another shard returned. None where no place was reclaimed. It takes no
 /// memory.
 #[inline(always)]
 pub(crate) fn finish_leave<T: Clear + Drop>(
-    alloc: Global,
     grid: &Grid<T>,
     hand: &mut Hand<T>,
     at: At,
@@ -38,13 +37,14 @@ pub(crate) fn finish_leave<T: Clear + Drop>(
     ensures ends { Ends grid.now.shape at.entry.spot.place found hand.old.me hand.new.me }
     ensures acts { EndsWithActs grid.now.shape at.entry.spot.place [] hand.old.me.0 hand.new.me.0 result }
     ensures reclaimed { IfSome result (IsReclaimed T.content T.room grid.now.shape at.entry.spot.place at.entry.lane hand.new.me.0) }
+    ensures at { StandsAt (spots_at grid.now.objects.ptr grid.now.shape at.entry.spot.place) result }
 {
     let generation = owed_by(found)?;
     let word = grid.claim(hand, at.spot, generation);
     if word != claimable(generation) {
         return None;
     }
-    Some(reclaim_place(alloc, grid, hand, at, generation))
+    Some(reclaim_place(grid, hand, at, generation))
 }
 
 /// The generation whose claim a LEAVE that found this word owes, where it owes one.
@@ -62,7 +62,6 @@ pub(crate) fn owed_by(found: u64) -> Option<u32>
 /// What follows a CLAIM of this generation that succeeded.
 #[inline(always)]
 fn reclaim_place<T: Clear + Drop>(
-    alloc: Global,
     grid: &Grid<T>,
     hand: &mut Hand<T>,
     at: At,
@@ -78,13 +77,17 @@ fn reclaim_place<T: Clear + Drop>(
     ensures tails { Tails grid.now.shape at.entry.spot.place generation hand.old.me hand.new.me }
     ensures acts { TailActs grid.now.shape at.entry.spot.place generation hand.old.me.0 hand.new.me.0 result }
     ensures reclaimed { IsReclaimed T.content T.room grid.now.shape at.entry.spot.place at.entry.lane hand.new.me.0 result }
+    ensures at { StandsAt (spots_at grid.now.objects.ptr grid.now.shape at.entry.spot.place) (Some result) }
 {
     shares_law();
-    let mut whole = take_cell(alloc, grid, hand, at.spot, at.lane);
+    let start = at.spot.start as usize;
+    let mut whole = take_cell(grid, hand, at.spot, at.lane);
     if generation == grid.shape.last_generation {
-        return Reclaimed::Retired;
+        let (vacancy, object) = whole.take(grid.objects, start);
+        drop(object);
+        return Reclaimed::Retired(vacancy);
     }
-    whole.get_mut().clear();
+    whole.get_mut(grid.objects, start).clear();
     if shard_of(at.spot.place) == at.lane {
         return Reclaimed::Own(whole);
     }

@@ -5,6 +5,7 @@ ghost use Rattle.seqpool.specs.declared.act.Act.TheVariants as acts;
 ghost use Rattle.sharelaws.specs.declared.stored.Status.TheVariants.{Emptied};
 ghost use Rattle.sharelaws.specs.Shares.{room_of};
 ghost use Rattle.steplaws.specs.Calls.Call.{Publishing};
+ghost use Rattle.poolsteps.specs.Layout.{spots_at};
 ghost use Rattle.poolsteps.specs.Views.{the_lane, status_of, known_of, IsOne};
 ghost use Rattle.poolsteps.specs.Grids.{IsSpot, IsOf, SameSeat};
 ghost use Rattle.poolsteps.specs.Told.{MayPublish, LeftAlone};
@@ -13,8 +14,9 @@ ghost use Rattle.poolcalls.specs.Carried.{AreEmptied, ShowsCell};
 ghost use Rattle.poolcalls.specs.Called.{Called, MadeOne};
 
 use crate::cells::{spread_cell, spread_others};
+use placecell::{Share, Whole};
 use poolsteps::{Grid, Hand, Spot, shares_law};
-use slotcell::{Clear, Share, Whole};
+use slotcell::Clear;
 
 /// Publishes the content of a whole cell under a key whose place is with the lane, which emptied its slots: a share goes into
 /// each, and PUBLISH follows. It takes no memory.
@@ -32,12 +34,13 @@ pub fn publish<T: Clear + Drop>(
     requires lane { (lane ≡ (the_lane hand.old.me.0).lane) × (lane < grid.now.shape.lanes) }
     requires may { MayPublish grid.now.shape hand.old.me.0 key }
     requires slots { AreEmptied grid.now.shape (the_lane hand.old.me.0) (place_of key) }
+    requires at { whole.spot ≡ spots_at grid.now.objects.ptr grid.now.shape (place_of key) }
     ensures hand { SameSeat hand.old hand.new }
-    ensures called { Called grid.now.shape (Publishing key (T.content whole) false) 34 hand.old.me hand.new.me }
-    ensures acts { MadeOne hand.old.me.0 hand.new.me.0 (acts.Publish lane key (T.content whole) false) }
-    ensures room { room_of hand.new.me.0.seen hand.new.me.0.rooms (place_of key) ≡ T.room whole }
+    ensures called { Called grid.now.shape (Publishing key (T.content whole.object) false) 34 hand.old.me hand.new.me }
+    ensures acts { MadeOne hand.old.me.0 hand.new.me.0 (acts.Publish lane key (T.content whole.object) false) }
+    ensures room { room_of hand.new.me.0.seen hand.new.me.0.rooms (place_of key) ≡ T.room whole.object }
     ensures slots { LeftAlone grid.now.shape (the_lane hand.new.me.0) (place_of key) }
-    ensures cell { ShowsCell T.content T.room (known_of (the_lane hand.new.me.0) (place_of key)) whole }
+    ensures cell { ShowsCell T.content T.room (spots_at grid.now.objects.ptr grid.now.shape) (place_of key) (known_of (the_lane hand.new.me.0) (place_of key)) whole }
 {
     shares_law();
     spread_cell(grid, hand, spot, lane, whole);
@@ -59,12 +62,13 @@ pub fn downgrade<T: Clear + Drop>(
     requires lane { (lane ≡ (the_lane hand.old.me.0).lane) × (lane < grid.now.shape.lanes) }
     requires may { MayPublish grid.now.shape hand.old.me.0 key }
     requires slots { AreEmptied grid.now.shape (the_lane hand.old.me.0) (place_of key) }
+    requires at { whole.spot ≡ spots_at grid.now.objects.ptr grid.now.shape (place_of key) }
     ensures hand { SameSeat hand.old hand.new }
-    ensures called { Called grid.now.shape (Publishing key (T.content whole) true) 34 hand.old.me hand.new.me }
-    ensures acts { MadeOne hand.old.me.0 hand.new.me.0 (acts.Publish lane key (T.content whole) true) }
-    ensures room { room_of hand.new.me.0.seen hand.new.me.0.rooms (place_of key) ≡ T.room whole }
+    ensures called { Called grid.now.shape (Publishing key (T.content whole.object) true) 34 hand.old.me hand.new.me }
+    ensures acts { MadeOne hand.old.me.0 hand.new.me.0 (acts.Publish lane key (T.content whole.object) true) }
+    ensures room { room_of hand.new.me.0.seen hand.new.me.0.rooms (place_of key) ≡ T.room whole.object }
     ensures slot { status_of (the_lane hand.new.me.0) (place_of key) lane ≡ Emptied }
-    ensures share { (result.number ≡ lane) × (result.of ≡ grid.now.shape.lanes) × (result.object ≡ whole) }
+    ensures share { (result.number ≡ lane) × (result.of ≡ grid.now.shape.lanes) × (result.object ≡ whole.object) × (result.spot ≡ spots_at grid.now.objects.ptr grid.now.shape (place_of key)) }
     ensures cell { known_of (the_lane hand.new.me.0) (place_of key) ≡ stored_of T.content T.room result }
 {
     shares_law();

@@ -21,18 +21,10 @@ use crate::ends::owed_by;
 use keybits::{claimable, is_hit, linked_place, shard_of};
 use poolsteps::{Grid, Hand, Purpose, Spot, shares_law};
 use slotcell::Clear;
-use std::alloc::Global;
 use steplaws::home_law;
 
 /// A get of a key that ends after so many steps.
-pub fn get_within<T: Clear + Drop>(
-    alloc: Global,
-    grid: &Grid<T>,
-    hand: &mut Hand<T>,
-    at: At,
-    key: u64,
-    limit: u32,
-)
+pub fn get_within<T: Clear + Drop>(grid: &Grid<T>, hand: &mut Hand<T>, at: At, key: u64, limit: u32)
     requires hand { IsOf grid.now hand.old × IsOne hand.old.me.0 }
     requires bare { hand.old.me.1 ≡ [] }
     requires at { IsAt grid.now.shape hand.old.me.0 (place_of key) at }
@@ -48,14 +40,13 @@ pub fn get_within<T: Clear + Drop>(
     }
     let found = grid.enter(hand, at.spot, key, Purpose::ToGet);
     if !is_hit(key, found) {
-        leave_within(alloc, grid, hand, at, key, limit - 1);
+        leave_within(grid, hand, at, key, limit - 1);
     }
 }
 
 /// A release of a key to which the lane has a reference, that ends after so many steps; its share is back in its slot where
 /// that reference is the last and a step is made.
 pub fn release_within<T: Clear + Drop>(
-    alloc: Global,
     grid: &Grid<T>,
     hand: &mut Hand<T>,
     at: At,
@@ -72,12 +63,11 @@ pub fn release_within<T: Clear + Drop>(
     ensures hand { SameSeat hand.old hand.new }
     ensures called { CalledWithin grid.now.shape (Releasing key) limit hand.old.me hand.new.me }
 {
-    leave_within(alloc, grid, hand, at, key, limit);
+    leave_within(grid, hand, at, key, limit);
 }
 
 /// A clear of a key that ends after so many steps.
 pub fn clear_within<T: Clear + Drop>(
-    alloc: Global,
     grid: &Grid<T>,
     hand: &mut Hand<T>,
     at: At,
@@ -98,14 +88,14 @@ pub fn clear_within<T: Clear + Drop>(
     }
     let found = grid.enter(hand, at.spot, key, Purpose::ToClear);
     if !is_hit(key, found) {
-        leave_within(alloc, grid, hand, at, key, limit - 1);
+        leave_within(grid, hand, at, key, limit - 1);
         return;
     }
     if limit == 1 {
         return;
     }
     grid.mark(hand, at.spot, key);
-    leave_within(alloc, grid, hand, at, key, limit - 2);
+    leave_within(grid, hand, at, key, limit - 2);
 }
 
 /// TAKEs as a create makes them, and the FOLLOW behind one that found places, up to so many steps.
@@ -151,14 +141,7 @@ pub fn follow_within<T: Clear>(grid: &Grid<T>, hand: &mut Hand<T>, spot: Spot, l
 }
 
 /// LEAVE of a key's place and what follows it, up to so many steps.
-fn leave_within<T: Clear + Drop>(
-    alloc: Global,
-    grid: &Grid<T>,
-    hand: &mut Hand<T>,
-    at: At,
-    key: u64,
-    limit: u32,
-)
+fn leave_within<T: Clear + Drop>(grid: &Grid<T>, hand: &mut Hand<T>, at: At, key: u64, limit: u32)
     requires hand { IsOf grid.now hand.old × IsOne hand.old.me.0 }
     requires bare { hand.old.me.1 ≡ [] }
     requires at { IsAt grid.now.shape hand.old.me.0 (place_of key) at }
@@ -170,12 +153,11 @@ fn leave_within<T: Clear + Drop>(
         return;
     }
     let found = grid.leave(hand, at.spot, key);
-    finish_leave_within(alloc, grid, hand, at, found, limit - 1);
+    finish_leave_within(grid, hand, at, found, limit - 1);
 }
 
 /// What follows a LEAVE that found this word, up to so many steps.
 fn finish_leave_within<T: Clear + Drop>(
-    alloc: Global,
     grid: &Grid<T>,
     hand: &mut Hand<T>,
     at: At,
@@ -201,13 +183,12 @@ fn finish_leave_within<T: Clear + Drop>(
         return;
     }
     if limit > 1 {
-        reclaim_place_within(alloc, grid, hand, at, generation, limit - 1);
+        reclaim_place_within(grid, hand, at, generation, limit - 1);
     }
 }
 
 /// What follows a CLAIM of this generation that succeeded, up to so many steps. A place that isn't returned stays as it is.
 fn reclaim_place_within<T: Clear + Drop>(
-    alloc: Global,
     grid: &Grid<T>,
     hand: &mut Hand<T>,
     at: At,
@@ -229,8 +210,9 @@ fn reclaim_place_within<T: Clear + Drop>(
         return;
     }
     shares_law();
-    let mut whole = take_cell(alloc, grid, hand, at.spot, at.lane);
-    whole.get_mut().clear();
+    let start = at.spot.start as usize;
+    let mut whole = take_cell(grid, hand, at.spot, at.lane);
+    whole.get_mut(grid.objects, start).clear();
     rest_cell(grid, hand, at.spot, at.lane, whole);
     give_home_within(grid, hand, at, limit);
 }

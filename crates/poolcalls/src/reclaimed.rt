@@ -1,5 +1,5 @@
 //! What becomes of a place that was reclaimed, and what a get answers.
-use slotcell::Whole;
+use placecell::{Vacancy, Whole};
 
 /// What became of a place that a call reclaimed.
 #[derive(Drop)]
@@ -8,8 +8,8 @@ pub enum Reclaimed<T> {
     Own(Whole<T>),
     /// It is of another shard, and was returned there.
     Returned,
-    /// Its last generation was over: it is retired, and its object was dropped.
-    Retired,
+    /// Its last generation was over: it is retired, its object was dropped, and it is vacant.
+    Retired(Vacancy<T>),
 }
 
 /// What a get answers.

@@ -3,6 +3,7 @@ ghost use Rattle.std.specs.Prelude.{◌≡◌, ◌<◌, ℕ, [], ◌∷◌, leng
 ghost use Rattle.keybits.specs.Counts.{times};
 ghost use Rattle.keybits.specs.Keys.{key_number};
 ghost use Rattle.seqpool.specs.Pool.{with, pool_after};
+ghost use Rattle.poolsteps.specs.Layout.{spots_at};
 ghost use Rattle.poolsteps.specs.Views.{the_lane, known_of, IsOne};
 ghost use Rattle.poolsteps.specs.Grids.{IsSpot, IsOf, SameSeat};
 ghost use Rattle.poolsteps.specs.Told.{Sees, IsIdle, MayPublish};
@@ -13,9 +14,9 @@ ghost use Rattle.poolcalls.specs.Taken.{Collects, FollowsOut};
 
 use crate::cells::take_resting;
 use keybits::{Key, Place};
+use placecell::Whole;
 use poolsteps::{Grid, Hand, Spot};
-use slotcell::{Clear, Whole};
-use std::alloc::Global;
+use slotcell::Clear;
 use steplaws::home_law;
 
 /// TAKEs of the stacks of the lane's shard, by rising number of the lanes that return to it, up to the first that has places:
@@ -44,7 +45,6 @@ pub fn collect<T: Clear>(grid: &Grid<T>, hand: &mut Hand<T>, lane: u32) -> u64
 /// FOLLOW of the first place of the taken chain, and OUT of its object, which rested there. Answers the place's link word,
 /// which leads to the next place, or is 0 at the chain's end; and the object. It takes no memory.
 pub fn follow<T: Clear + Drop>(
-    alloc: Global,
     grid: &Grid<T>,
     hand: &mut Hand<T>,
     spot: Spot,
@@ -59,10 +59,10 @@ pub fn follow<T: Clear + Drop>(
     ensures hand { SameSeat hand.old hand.new }
     ensures follows { FollowsOut grid.now.shape spot.place result.0 hand.old.me hand.new.me }
     ensures place { (pool_after grid.now.shape hand.new.me.0.seen spot.place).phase ≡ with lane }
-    ensures cell { ShowsCell T.content T.room (known_of (the_lane hand.old.me.0) spot.place) result.1 }
+    ensures cell { ShowsCell T.content T.room (spots_at grid.now.objects.ptr grid.now.shape) spot.place (known_of (the_lane hand.old.me.0) spot.place) result.1 }
 {
     let link = grid.follow(hand, spot);
-    (link, take_resting(alloc, grid, hand, spot, lane))
+    (link, take_resting(grid, hand, spot, lane))
 }
 
 /// A look at the generation of a place that is with the lane: answers the key under which it may then be published. It takes no

@@ -117,7 +117,7 @@ fn gathered(
 }
 
 /// Closes a pool with its lanes, by rising number. None where they aren't all of them.
-fn close_lanes(pool: Pool<ByteBuf>, lanes: Vec<Lane<ByteBuf>>) -> Option<Census>
+pub(crate) fn close_lanes(pool: Pool<ByteBuf>, lanes: Vec<Lane<ByteBuf>>) -> Option<Census>
     requires owned { All (λ lane. Owns pool lane) lanes.items }
     ensures closes { IfSome result (Closes pool lanes.items) }
 {

@@ -1,5 +1,7 @@
 // How a pool is opened.
-ghost use Rattle.std.specs.Prelude.{◌≡◌, ◌↔◌, [], All, IfSome, IfOk, IsErrOf};
+ghost use Rattle.std.specs.Prelude.{◌≡◌, ◌≤◌, ◌↔◌, [], All, length, IfSome, IfOk, IfErr, IsErrOf};
+ghost use Rattle.std.specs.Vec.{vec_capacity};
+ghost use Rattle.std.specs.Vec.Iter.{into_iter_items};
 ghost use Rattle.keybits.specs.Shapes.{IsShape};
 ghost use Rattle.keybits.specs.ShapeFaults.{IsFirstFault};
 ghost use Rattle.keybits.specs.declared.shape.ShapeFault.{ShapeFault as Fault};
@@ -9,6 +11,7 @@ ghost use Rattle.shardpool.specs.Lanes.{Owns};
 ghost use Rattle.shardpool.specs.Opened.{AreFirstLanes};
 ghost use Rattle.poolhandle.specs.Opened.{IsFresh, AreOpened};
 
+use crate::closing::close_lanes;
 use crate::fillings::Fillings;
 use crate::handle::Handle;
 use crate::shared::{Given, Shared};
@@ -18,6 +21,7 @@ use shardpool::{Lane, OpenFault, Pool, open};
 use slotcell::ByteBuf;
 use std::alloc::Global;
 use std::sync::Arc;
+use std::vec::IntoIter;
 
 /// The lanes of a pool of this shape that is opened, each with its share of the pool, by rising number. The pool's own number tells it from others at a
 /// join.
@@ -36,7 +40,7 @@ pub fn open_handles(alloc: Global, shape: Shape, number: u64) -> Result<Vec<Box<
     }
 }
 
-/// A handle for each of these lanes of the pool. None where memory was refused.
+/// A handle for each of these lanes of the pool. None where memory was refused: the pool is then closed again.
 fn handles_of(
     alloc: Global,
     pool: Pool<ByteBuf>,
@@ -46,37 +50,177 @@ fn handles_of(
     requires { AreFirstLanes pool lanes.items }
     ensures { IfSome result (λ handles. AreOpened pool.shape number handles.items) }
 {
-    let given = places_for(alloc, &pool, lanes.len())?;
-    let mut handles = Vec::with_capacity(alloc, lanes.len()).ok()?;
+    let Some((given, rows)) = rows_for(alloc, &pool, lanes.len()) else {
+        drop(close_lanes(pool, lanes));
+        return None;
+    };
     let shared = Shared {
         pool,
         given,
         number,
     };
-    let shared = Arc::new(alloc, shared).ok()?;
-    for lane in lanes {
-        handles.push(handle_of(alloc, &shared, lane)?).ok()?;
+    match Arc::new(alloc, shared) {
+        Ok(shared) => each_handle(alloc, shared, lanes, rows),
+        Err(refused) => {
+            drop(close_lanes(refused.value.pool, lanes));
+            None
+        }
+    }
+}
+
+/// A row for the handles of all lanes of a pool, and one for lanes that are given back.
+#[derive(Drop)]
+struct Rows {
+    handles: Vec<Box<Handle>>,
+    lanes: Vec<Lane<ByteBuf>>,
+}
+
+/// So many places for lanes of the pool, and rows with room for so many. None where memory was refused.
+fn rows_for(
+    alloc: Global,
+    pool: &Pool<ByteBuf>,
+    count: usize,
+) -> Option<(Vec<Counted<Option<Given>>>, Rows)>
+    ensures places { IfSome result (λ made. All (λ tag. tag ≡ pool.now) made.0.items) }
+    ensures empty { IfSome result (λ made. (made.1.handles.items ≡ []) × (made.1.lanes.items ≡ [])) }
+    ensures room { IfSome result (λ made. count ≤ vec_capacity made.1.handles) }
+{
+    let given = places_for(alloc, pool, count)?;
+    let handles = Vec::with_capacity(alloc, count).ok()?;
+    let lanes = Vec::with_capacity(alloc, count).ok()?;
+    Some((given, Rows { handles, lanes }))
+}
+
+/// A handle for each of these lanes of a shared pool. None where memory was refused: the pool is then closed again.
+fn each_handle(
+    alloc: Global,
+    shared: Arc<Shared>,
+    lanes: Vec<Lane<ByteBuf>>,
+    rows: Rows,
+) -> Option<Vec<Box<Handle>>>
+    requires lanes { AreFirstLanes (arc_value shared).pool lanes.items }
+    requires empty { (rows.handles.items ≡ []) × (rows.lanes.items ≡ []) }
+    requires room { length lanes.items ≤ vec_capacity rows.handles }
+    ensures { IfSome result (λ handles. AreOpened (arc_value shared).pool.shape (arc_value shared).number handles.items) }
+{
+    let Rows {
+        mut handles,
+        lanes: back,
+    } = rows;
+    let mut rest = lanes.into_iter();
+    while let Some(lane) = rest.next() {
+        match handle_of(alloc, &shared, lane) {
+            Ok(handle) => handles.push_reserved(handle),
+            Err(lane) => {
+                give_up(shared, handles, lane, rest, back);
+                return None;
+            }
+        }
     }
     Some(handles)
 }
 
-/// The handle of a lane. None where memory was refused.
-fn handle_of(alloc: Global, shared: &Arc<Shared>, lane: Lane<ByteBuf>) -> Option<Box<Handle>>
-    requires { Owns (arc_value shared.now).pool lane }
-    ensures { IfSome result (λ handle. IsFresh (arc_value shared.now) lane handle.value) }
+/// Closes a pool again, with the lanes of these handles, the next one, and the rest, which are put into an empty row.
+fn give_up(
+    shared: Arc<Shared>,
+    handles: Vec<Box<Handle>>,
+    next: Lane<ByteBuf>,
+    rest: IntoIter<Lane<ByteBuf>>,
+    row: Vec<Lane<ByteBuf>>,
+)
+    requires handles { All (λ handle. arc_value handle.value.shared ≡ arc_value shared) handles.items }
+    requires next { Owns (arc_value shared).pool next }
+    requires rest { All (λ lane. Owns (arc_value shared).pool lane) (into_iter_items rest) }
+    requires row { row.items ≡ [] }
 {
-    let row = row_for(alloc, lane.number(), shared.pool.shape().lanes)?;
-    let fillings = Fillings::new(alloc)?;
-    let shared = Arc::try_clone(shared).ok()?;
-    let lane = Box::new(alloc, lane).ok()?;
-    let handle = Handle {
-        shared,
-        lane,
-        fillings,
-        joined: 0,
-        row,
+    let Some(mut lanes) = lanes_of(&shared, handles, row) else {
+        return;
     };
-    Box::new(alloc, handle).ok()
+    if lanes.push(next).is_err() {
+        return;
+    }
+    for lane in rest {
+        if lanes.push(lane).is_err() {
+            return;
+        }
+    }
+    if let Some(shared) = Arc::into_inner(shared) {
+        drop(close_lanes(shared.pool, lanes));
+    }
+}
+
+/// The lanes of these handles, in an empty row. None where that has no room for them.
+fn lanes_of(
+    shared: &Arc<Shared>,
+    handles: Vec<Box<Handle>>,
+    row: Vec<Lane<ByteBuf>>,
+) -> Option<Vec<Lane<ByteBuf>>>
+    requires handles { All (λ handle. arc_value handle.value.shared ≡ arc_value shared.now) handles.items }
+    requires row { row.items ≡ [] }
+    ensures { IfSome result (λ lanes. All (λ lane. Owns (arc_value shared.now).pool lane) lanes.items) }
+{
+    let _ = shared;
+    let mut lanes = row;
+    for handle in handles {
+        let (_, lane, _) = Box::into_inner(handle).into_parts();
+        lanes.push(Box::into_inner(lane)).ok()?;
+    }
+    Some(lanes)
+}
+
+/// The handle of a lane. Where memory was refused the lane comes back.
+fn handle_of(
+    alloc: Global,
+    shared: &Arc<Shared>,
+    lane: Lane<ByteBuf>,
+) -> Result<Box<Handle>, Lane<ByteBuf>>
+    requires { Owns (arc_value shared.now).pool lane }
+    ensures ok { IfOk result (λ handle. IsFresh (arc_value shared.now) lane handle.value) }
+    ensures err { IfErr result (λ back. back ≡ lane) }
+{
+    let Some((row, fillings)) = parts_for(alloc, lane.number(), shared.pool.shape().lanes) else {
+        return Err(lane);
+    };
+    let Ok(shared) = Arc::try_clone(shared) else {
+        return Err(lane);
+    };
+    match Box::new(alloc, lane) {
+        Ok(lane) => in_box(
+            alloc,
+            Handle {
+                shared,
+                lane,
+                fillings,
+                joined: 0,
+                row,
+            },
+        ),
+        Err(refused) => Err(refused.value),
+    }
+}
+
+/// A handle in a box of its own. Where memory was refused its lane comes back.
+fn in_box(alloc: Global, handle: Handle) -> Result<Box<Handle>, Lane<ByteBuf>>
+    ensures ok { IfOk result (λ boxed. boxed.value ≡ handle) }
+    ensures err { IfErr result (λ back. back ≡ handle.lane.value) }
+{
+    match Box::new(alloc, handle) {
+        Ok(boxed) => Ok(boxed),
+        Err(refused) => {
+            let (_, lane, _) = refused.value.into_parts();
+            Err(Box::into_inner(lane))
+        }
+    }
+}
+
+/// What else the handle of the lane of this number has. None where memory was refused.
+fn parts_for(alloc: Global, number: u32, lanes: u32) -> Option<(Vec<Lane<ByteBuf>>, Fillings)>
+    ensures row { IfSome result (λ made. made.0.items ≡ []) }
+    ensures fillings { IfSome result (λ made. made.1.list.items ≡ []) }
+{
+    let row = row_for(alloc, number, lanes)?;
+    let fillings = Fillings::new(alloc)?;
+    Some((row, fillings))
 }
 
 /// So many places for lanes of the pool. None where memory was refused.

@@ -1,4 +1,5 @@
 -- The two looks that move all shares of a place: each is a move of one slot after another, at one moment.
+use Rattle.placecell.specs.Spot.{Spot as CellSpot}
 use Rattle.std.proofs.Common.{◌≡◌, ◌≢◌, inl, inr, ⊎_elim, ◌⊎◌, ℕ, zero, suc, ◌<◌, ◌≤◌, Bool, true, cond, eqb, ◌&&◌, List, ◌∷◌, [], length, length-set, slice_index, slice_set, Option, None, refl, ap, sym, ◌∙◌, subst, arith, eq-eqb, ne_eqb}
 use Rattle.std.proofs.lemmas.Bool.{and_left}
 use mathlib.Core.Logic.{dite}
@@ -10,7 +11,7 @@ use Rattle.atomic_table.specs.Table.{Me, Act, Allows, Valid, homes_after, carrie
 use Rattle.atomic_table.proofs.Lists.{set_else}
 use Rattle.keybits.specs.declared.shape.Shape.{Shape}
 use Rattle.keybits.specs.Shapes.{is_place}
-use Rattle.slotcell.specs.Share.{Share}
+use Rattle.placecell.specs.Share.{Share}
 use Rattle.sharelaws.specs.declared.stored.Stored.{Stored}
 use Rattle.sharelaws.specs.declared.stored.Status.{Status}
 use Rattle.sharelaws.specs.declared.stored.Status.TheVariants.{InHand}
@@ -38,7 +39,7 @@ value_there maybe.none = None
 value_there (maybe.some maybe.none) = None
 value_there (maybe.some (maybe.some value)) = value
 
-module _ {T : Type 0} (content : T → List ℕ) (room : T → ℕ) (z : Shape) (id : ℕ) (me : Me (Option (Share T)) View) (one : IsOne me.0)
+module _ {T : Type 0} (content : T → List ℕ) (room : T → ℕ) (spots : ℕ → CellSpot) (z : Shape) (id : ℕ) (me : Me (Option (Share T)) View) (one : IsOne me.0)
     (place : ℕ) (inside : is_place z place ≡ true) (has : HasPlace z me.0 place) where
   abbrev r : LaneRecord
   r = the_lane me.0
@@ -51,9 +52,9 @@ module _ {T : Type 0} (content : T → List ℕ) (room : T → ℕ) (z : Shape) 
 
   -- at a moment at which the rule holds
   module _ (w : World) (homes : Homes) (words : List ℕ) (views : List View)
-      (st : Stands content room z w homes words views) (at : get_elem? views id ≡ maybe.some me.0) where
+      (st : Stands content room spots z w homes words views) (at : get_elem? views id ≡ maybe.some me.0) where
     abbrev here : IsAt z w me.0
-    here = is-at content room z id me one w homes words views st at
+    here = is-at content room spots z id me one w homes words views st at
 
     still : (number : ℕ) → StillHas z me.0 w.history w.kept place number
     still number = still-has z me.0 w.history here.between w.kept here.rooms_between here.seen here.rooms here.paired here.others st.rule.legal place number
@@ -66,7 +67,7 @@ module _ {T : Type 0} (content : T → List ℕ) (room : T → ℕ) (z : Shape) 
     -- some slots of the place were moved, and nothing else
     record Batch (stock : Stock) (now : LaneRecord) (homes_now : Homes) : Type 0 where
       deep : length homes_now ≡ slot_count z
-      shared : Shared content room z w.history w.kept (slots_in z homes_now) stock
+      shared : Shared content room spots z w.history w.kept (slots_in z homes_now) stock
       lane_is : now.lane ≡ lane
       mine : now.mine ≡ r.mine
       under : now.under ≡ r.under
@@ -100,7 +101,7 @@ module _ {T : Type 0} (content : T → List ℕ) (room : T → ℕ) (z : Shape) 
 
     -- one slot more
     module _ {q : Stock} {now : LaneRecord} {homes_now : Homes} (b : Batch q now homes_now) (number : ℕ) (below : number < z.lanes) (status : Status) (c : Stored)
-        (value : maybe.Option (Option (Share T))) (cell : MayMove z w.history q lane place number c) (leaves : Leaves content room z number c status (maybe.some value)) where
+        (value : maybe.Option (Option (Share T))) (cell : MayMove z w.history q lane place number c) (leaves : Leaves content room spots place z number c status (maybe.some value)) where
       abbrev stock : Stock
       stock = moved q lane place number status c
 
@@ -110,10 +111,10 @@ module _ {T : Type 0} (content : T → List ℕ) (room : T → ℕ) (z : Shape) 
       abbrev homes_then : Homes
       homes_then = slice_set homes_now (slot_index z place number) value
 
-      shared-then : Shared content room z w.history w.kept (slots_in z homes_then) stock
-      shared-then = subst (λ (slots : Slots T). Shared content room z w.history w.kept slots stock)
+      shared-then : Shared content room spots z w.history w.kept (slots_in z homes_then) stock
+      shared-then = subst (λ (slots : Slots T). Shared content room spots z w.history w.kept slots stock)
           (sym (slots-set z st.rule.limits homes_now b.deep place number inside below value))
-          (move-law content room z w.history w.kept (slots_in z homes_now) q lane place number status c (maybe.some value)
+          (move-law content room spots z w.history w.kept (slots_in z homes_now) q lane place number status c (maybe.some value)
           b.shared here.record_is.inside below (still number).may cell leaves)
 
       agrees-then : Agrees then w.lanes stock
@@ -161,9 +162,9 @@ module _ {T : Type 0} (content : T → List ℕ) (room : T → ℕ) (z : Shape) 
       abbrev view_now : View
       view_now = look_view me.0 now (restocked_world w q)
 
-      batch-stands : Stands content room z (restocked_world w q) homes_now (slice_set words index (slice_index words index)) (slice_set views id view_now)
+      batch-stands : Stands content room spots z (restocked_world w q) homes_now (slice_set words index (slice_index words index)) (slice_set views id view_now)
           × GoesOn z me.0 view_now [] [] now
-      batch-stands = look-stands content room z id me one w homes words views st at index homes_now q now b.deep b.shared b.lane_is b.mine b.agrees b.others
+      batch-stands = look-stands content room spots z id me one w homes words views st at index homes_now q now b.deep b.shared b.lane_is b.mine b.agrees b.others
 
       batch-goes : GoesAll z place status c 1 me.0 view_now
       batch-goes = record {
@@ -191,11 +192,11 @@ module _ {T : Type 0} (content : T → List ℕ) (room : T → ℕ) (z : Shape) 
       abbrev values : ℕ → Option (Share T)
       values k = value_there (slots_in z homes place k)
 
-      there : (k : ℕ) (below : k < z.lanes) → (slots_in z homes place k ≡ at_home (values k)) × Leaves content room z k cell status (at_home (values k))
+      there : (k : ℕ) (below : k < z.lanes) → (slots_in z homes place k ≡ at_home (values k)) × Leaves content room spots place z k cell status (at_home (values k))
       there k below =
-          let found = stands-there content room z id me one place k inside below (may-touch z me.0 place k has) w homes words views st at status (left k below) aside in
+          let found = stands-there content room spots z id me one place k inside below (may-touch z me.0 place k has) w homes words views st at status (left k below) aside in
           let same : found.0 ≡ values k = sym (ap value_there found.1) in
-          (found.1 ∙ ap at_home same, subst (λ (v : Option (Share T)). Leaves content room z k cell status (at_home v)) same found.2)
+          (found.1 ∙ ap at_home same, subst (λ (v : Option (Share T)). Leaves content room spots place z k cell status (at_home v)) same found.2)
 
       -- the first so many are taken
       record Taken (count : ℕ) : Type 0 where
@@ -265,7 +266,7 @@ module _ {T : Type 0} (content : T → List ℕ) (room : T → ℕ) (z : Shape) 
     -- ---- given back
     module _ (order : ℕ → ℕ) (is : IsOrder z order) (status : Status) (c : Stored) (values : ℕ → Option (Share T)) (held : List (ℕ × Option (Share T)))
         (held_are : held ≡ held_of z place order values z.lanes) (left : (k : ℕ) → k < z.lanes → status_of r place k ≡ InHand)
-        (leaves : AreLeft content room z status c values) where
+        (leaves : AreLeft content room spots place z status c values) where
       -- all but the first so many are given back
       record Given (count : ℕ) : Type 0 where
         q : Stock
@@ -327,7 +328,7 @@ module _ {T : Type 0} (content : T → List ℕ) (room : T → ℕ) (z : Shape) 
 
   -- a look at any word, at which all slots of the place are taken, as the lane left them
   pub lift-all-allows : (index : ℕ) (order : ℕ → ℕ) (status : Status) → IsOrder z order → ((k : ℕ) → k < z.lanes → status_of r place k ≡ status) → status ≢ InHand
-      → me.1 ≡ [] → Allows (Kept content room z) (slot_count z) id me index (λ n. n) (λ found after. LiftsAll content room z place order status me after)
+      → me.1 ≡ [] → Allows (Kept content room spots z) (slot_count z) id me index (λ n. n) (λ found after. LiftsAll content room spots z place order status me after)
   lift-all-allows index order status is left aside bare s kept homes at small =
       let w : World = kept.0 in
       let st = kept.1 in
@@ -342,12 +343,12 @@ module _ {T : Type 0} (content : T → List ℕ) (room : T → ℕ) (z : Shape) 
         subst (λ (held : List (ℕ × Option (Share T))). Valid s.homes held t.act) (sym bare) t.valid,
         (
           restocked_world w t.q,
-          subst (λ (hs : Homes). Stands content room z (restocked_world w t.q) hs (slice_set s.words index (slice_index s.words index)) (slice_set s.views id view))
+          subst (λ (hs : Homes). Stands content room spots z (restocked_world w t.q) hs (slice_set s.words index (slice_index s.words index)) (slice_set s.views id view))
               (sym (ap (λ (held : List (ℕ × Option (Share T))). homes_after s.homes held t.act) bare ∙ t.homes_are)) e.0,
         ),
         record {
           values = λ k. value_there (slots_in z s.homes place k);
-          are = λ k less. subst (λ (c : Stored). Leaves content room z k c status (at_home (value_there (slots_in z s.homes place k)))) knows_it
+          are = λ k less. subst (λ (c : Stored). Leaves content room spots place z k c status (at_home (value_there (slots_in z s.homes place k)))) knows_it
               (there w s.homes s.words s.views st at order is status left aside k less).1;
           goes = batch-goes w s.homes s.words s.views st at index InHand (known_of r place) t.q t.now t.homes_now t.batch each t.known;
           held = ap (λ (held : List (ℕ × Option (Share T))). carried_after held t.act) bare ∙ t.held_is;
@@ -356,8 +357,8 @@ module _ {T : Type 0} (content : T → List ℕ) (room : T → ℕ) (z : Shape) 
 
   -- and one at which they are given back
   pub lay-all-allows : (index : ℕ) (order : ℕ → ℕ) (status : Status) (c : Stored) (values : ℕ → Option (Share T)) → IsOrder z order → 0 < z.lanes
-      → ((k : ℕ) → k < z.lanes → status_of r place k ≡ InHand) → AreLeft content room z status c values → me.1 ≡ held_of z place order values z.lanes
-      → Allows (Kept content room z) (slot_count z) id me index (λ n. n) (λ found after. LaysAll content room z place status c me after)
+      → ((k : ℕ) → k < z.lanes → status_of r place k ≡ InHand) → AreLeft content room spots place z status c values → me.1 ≡ held_of z place order values z.lanes
+      → Allows (Kept content room spots z) (slot_count z) id me index (λ n. n) (λ found after. LaysAll content room spots z place status c me after)
   lay-all-allows index order status c values is some left leaves held s kept homes at small =
       let w : World = kept.0 in
       let st = kept.1 in
@@ -372,7 +373,7 @@ module _ {T : Type 0} (content : T → List ℕ) (room : T → ℕ) (z : Shape) 
         t.valid,
         (
           restocked_world w t.q,
-          subst (λ (hs : Homes). Stands content room z (restocked_world w t.q) hs (slice_set s.words index (slice_index s.words index)) (slice_set s.views id view))
+          subst (λ (hs : Homes). Stands content room spots z (restocked_world w t.q) hs (slice_set s.words index (slice_index s.words index)) (slice_set s.views id view))
               (sym t.homes_are) e.0,
         ),
         record {

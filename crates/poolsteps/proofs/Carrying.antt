@@ -1,10 +1,11 @@
 -- OUT and BACK: a look that takes a slot, an exchange of what it has, and a look that gives it back.
+use Rattle.placecell.specs.Spot.{Spot as CellSpot}
 use Rattle.std.proofs.Common.{◌≡◌, ◌≢◌, ◌==◌, ◌&&◌, inl, inr, ⊎_elim, ℕ, ◌+◌, Bool, true, cond, eqb, List, [], ◌∷◌, Option, IsSome, Some, None, refl, ap, sym, ◌∙◌, subst, arith, eq-eqb, ne_eqb}
 use Rattle.std.proofs.lemmas.Bool.{and_right}
 use Rattle.atomic_table.specs.Table.{Me, rest}
 use Rattle.keybits.specs.declared.shape.Shape.{Shape}
 use Rattle.seqpool.specs.Pool.{pool_after}
-use Rattle.slotcell.specs.Share.{Share}
+use Rattle.placecell.specs.Share.{Share}
 use Rattle.sharelaws.specs.declared.stored.Stored.{Stored}
 use Rattle.sharelaws.specs.declared.stored.Status.{Status}
 use Rattle.sharelaws.specs.declared.stored.Status.TheVariants.{Untouched, Emptied, InHand, Whole}
@@ -47,30 +48,31 @@ module _ {T : Type 0} (content : T → List ℕ) (room : T → ℕ) where
   stored_held None = nothing_stored
   stored_held (Some share) = stored_of content room share
 
+module _ {T : Type 0} (content : T → List ℕ) (room : T → ℕ) (spots : ℕ → CellSpot) where
   -- a share's cell is the one that it is of
-  pub stored-is : (c : Stored) (number of : ℕ) (share : Share T) → IsShareOf content room c number of share → c ≡ stored_of content room share
-  stored-is c number of share is = λ k. record { cell = sym is.cell k; content = sym is.content_is k; room = sym is.room_is k }
+  pub stored-is : (place : ℕ) (c : Stored) (number of : ℕ) (share : Share T) → IsShareOf content room spots place c number of share → c ≡ stored_of content room share
+  stored-is place c number of share is = λ k. record { cell = sym is.cell k; content = sym is.content_is k; room = sym is.room_is k }
 
-  module _ (z : Shape) (number : ℕ) where
+  module _ (place : ℕ) (z : Shape) (number : ℕ) where
     -- a slot that was left with a share has one
-    full-is : (c : Stored) (value : Option (Share T)) (status : Status) → status ≢ InHand → status ≢ Emptied → Leaves content room z number c status (at_home value)
-        → (share : Share T) × (value ≡ Some share) × (c ≡ stored_of content room share) × IsLeft content room z number c status share
+    full-is : (c : Stored) (value : Option (Share T)) (status : Status) → status ≢ InHand → status ≢ Emptied → Leaves content room spots place z number c status (at_home value)
+        → (share : Share T) × (value ≡ Some share) × (c ≡ stored_of content room share) × IsLeft content room spots place z number c status share
     full-is c value Untouched aside full leaves =
-        let is : value ≡ Some leaves.0 = cc leaves.1 in (leaves.0, is, stored-is c number z.lanes leaves.0 leaves.2, leaves.2)
+        let is : value ≡ Some leaves.0 = cc leaves.1 in (leaves.0, is, stored-is place c number z.lanes leaves.0 leaves.2, leaves.2)
     full-is c value Emptied aside full leaves = absurd (full refl)
     full-is c value InHand aside full leaves = absurd (aside refl)
     full-is c value Whole aside full leaves =
-        let is : value ≡ Some leaves.0 = cc leaves.1 in (leaves.0, is, stored-is c 0 1 leaves.0 leaves.2, leaves.2)
+        let is : value ≡ Some leaves.0 = cc leaves.1 in (leaves.0, is, stored-is place c 0 1 leaves.0 leaves.2, leaves.2)
 
     -- a share that may be left so is left so
-    pub leaves-share : (c : Stored) (status : Status) (share : Share T) → IsLeft content room z number c status share → Leaves content room z number c status (at_home (Some share))
+    pub leaves-share : (c : Stored) (status : Status) (share : Share T) → IsLeft content room spots place z number c status share → Leaves content room spots place z number c status (at_home (Some share))
     leaves-share c Untouched share is = (share, refl, is)
     leaves-share c Emptied share is = absurd is
     leaves-share c InHand share is = absurd is
     leaves-share c Whole share is = (share, refl, is)
 
   -- after the first look
-  module _ (z : Shape) (place number : ℕ) (status : Status) (m n : Me (Option (Share T)) View) (lifts : Lifts content room z place number status m n) where
+  module _ (z : Shape) (place number : ℕ) (status : Status) (m n : Me (Option (Share T)) View) (lifts : Lifts content room spots z place number status m n) where
     abbrev r : LaneRecord
     r = the_lane m.0
 
@@ -94,7 +96,7 @@ module _ {T : Type 0} (content : T → List ℕ) (room : T → ℕ) where
     -- a slot that was left with a share has one then
     pub full-lifted : status ≢ InHand → status ≢ Emptied → (value : Option (Share T)) → first_value n.1 ≡ value → IsSome value
     full-lifted aside full value is =
-        let has = full-is z number lifts.c lifts.value status aside full lifts.leaves in
+        let has = full-is place z number lifts.c lifts.value status aside full lifts.leaves in
         subst (λ (x : Option (Share T)). IsSome x) (sym has.1 ∙ (sym (ap first_value lifts.held) ∙ is)) refl
 
     pub may-lifted : MayTouch z m.0 place number → MayTouch z n.0 place number
@@ -112,7 +114,7 @@ module _ {T : Type 0} (content : T → List ℕ) (room : T → ℕ) where
 
     -- and after the second
     module _ (value : Option (Share T)) (left : Status) (c : Stored) (l : Me (Option (Share T)) View)
-        (lays : Lays content room z place number left c (n.0, (slot_index z place number, value) ∷ rest n.1) l) where
+        (lays : Lays content room spots z place number left c (n.0, (slot_index z place number, value) ∷ rest n.1) l) where
       goes-both : GoesOn z m.0 l.0 [] [] (moved_record lifted place number left c)
       goes-both = goes-two z m.0 n.0 l.0 lifted (moved_record lifted place number left c) refl lifts.goes
           (subst (λ (x : LaneRecord). GoesOn z n.0 l.0 [] [] (moved_record x place number left c)) lane-lifted lays.goes)
@@ -129,14 +131,14 @@ module _ {T : Type 0} (content : T → List ℕ) (room : T → ℕ) where
 
     -- OUT
     pub outs : status ≢ InHand → status ≢ Emptied → MayTouch z m.0 place number → (share : Share T) → first_value n.1 ≡ Some share → (l : Me (Option (Share T)) View)
-        → Lays content room z place number Emptied (known_of (the_lane n.0) place) (n.0, (slot_index z place number, None) ∷ rest n.1) l
-        → Outs content room z place number status m share l
+        → Lays content room spots z place number Emptied (known_of (the_lane n.0) place) (n.0, (slot_index z place number, None) ∷ rest n.1) l
+        → Outs content room spots z place number status m share l
     outs aside full may share is l gives =
-        let has = full-is z number lifts.c lifts.value status aside full lifts.leaves in
+        let has = full-is place z number lifts.c lifts.value status aside full lifts.leaves in
         let one : Some has.0 ≡ Some share = sym has.1 ∙ (sym (ap first_value lifts.held) ∙ is) in
         let one_is : has.0 ≡ share = cc one in
         let c_is : lifts.c ≡ stored_of content room share = has.2 ∙ ap (stored_of content room) one_is in
-        let lays = subst (λ (c : Stored). Lays content room z place number Emptied c (n.0, (slot_index z place number, None) ∷ rest n.1) l) known-lifted gives in
+        let lays = subst (λ (c : Stored). Lays content room spots z place number Emptied c (n.0, (slot_index z place number, None) ∷ rest n.1) l) known-lifted gives in
         record {
           is_left = rw (sym c_is, sym one_is) has.3;
           goes = rw (sym c_is) (goes-both None Emptied lifts.c l lays);
@@ -149,8 +151,8 @@ module _ {T : Type 0} (content : T → List ℕ) (room : T → ℕ) where
 
     -- BACK
     pub backs : status ≡ Emptied → (share : Share T) (left : Status) (l : Me (Option (Share T)) View)
-        → Lays content room z place number left (stored_of content room share) (n.0, (slot_index z place number, Some share) ∷ rest n.1) l
-        → Backs content room z place number left m share l
+        → Lays content room spots z place number left (stored_of content room share) (n.0, (slot_index z place number, Some share) ∷ rest n.1) l
+        → Backs content room spots z place number left m share l
     backs empty share left l lays =
         let c : Stored = stored_of content room share in
         let c_is : lifts.c ≡ known_of r place = lifts.known (inr (λ bad. let no : Emptied ≡ Untouched = sym empty ∙ bad in cc no)) in

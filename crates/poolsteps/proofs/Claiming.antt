@@ -1,4 +1,5 @@
 -- CLAIM, through the table.
+use Rattle.placecell.specs.Spot.{Spot as CellSpot}
 use Rattle.std.proofs.Common.{◌≡◌, ◌≢◌, ℕ, ◌+◌, ◌<◌, ◌≤◌, Bool, true, false, cond, eqb, List, [], ◌∷◌, ◌++◌, Some, None, refl, ap, sym, ◌∙◌, subst, arith, eq-eqb, ne_eqb, if◌then◌else◌}
 use mathlib.Core.Logic.{dite}
 use native.Mathlib.Decide.{ℕ_discrete}
@@ -98,8 +99,8 @@ reclaimed-all : (ends : Bool) (s : Spot) (last lane : ℕ) → last ≡ lane →
 reclaimed-all true s last lane is = is
 reclaimed-all false s last lane is = refl
 
-module _ {S T : Type 0} (content : T → List ℕ) (room : T → ℕ) (z : Shape) (words : Words) (w : World) (slots : Slots T)
-    (point : IsPoint content room z words w slots) (me : Me S View) (place generation new : ℕ) (at : IsAt z w me.0) (inside : is_place z place ≡ true) where
+module _ {S T : Type 0} (content : T → List ℕ) (room : T → ℕ) (spots : ℕ → CellSpot) (z : Shape) (words : Words) (w : World) (slots : Slots T)
+    (point : IsPoint content room spots z words w slots) (me : Me S View) (place generation new : ℕ) (at : IsAt z w me.0) (inside : is_place z place ≡ true) where
   abbrev r : LaneRecord
   r = the_lane me.0
 
@@ -108,7 +109,7 @@ module _ {S T : Type 0} (content : T → List ℕ) (room : T → ℕ) (z : Shape
 
   -- the seat's CLAIM
   abbrev MakesClaim : ℕ → Type 0
-  MakesClaim left = Makes content room z words w slots place me left (Claims z place generation me)
+  MakesClaim left = Makes content room spots z words w slots place me left (Claims z place generation me)
 
   -- a key of the place
   module _ (key : ℕ) (here : place_of key ≡ place) where
@@ -143,8 +144,8 @@ module _ {S T : Type 0} (content : T → List ℕ) (room : T → ℕ) (z : Shape
       let here : place_of key ≡ place = claimed-place z words w point.rule place generation inside hit in
       let law = subst (λ (p : ℕ). ((w.stock.stored p).room ≡ room_of w.history w.kept p)
       × ((number : ℕ) → number < z.lanes → (l : ℕ) → l < z.lanes → w.stock.status l p number ≡ Untouched)
-      × Shared content room z (w.history ++ acts.Reclaim r.lane key ∷ []) (w.kept ++ 0 ∷ []) slots (restocked w.stock r.lane p (w.stock.stored p))) here
-      (reclaim-share-law content room z w.history w.kept slots w.stock r.lane key point.paired point.rule.legal point.shared at.record_is.inside keeps.allowed.1) in
+      × Shared content room spots z (w.history ++ acts.Reclaim r.lane key ∷ []) (w.kept ++ 0 ∷ []) slots (restocked w.stock r.lane p (w.stock.stored p))) here
+      (reclaim-share-law content room spots z w.history w.kept slots w.stock r.lane key point.paired point.rule.legal point.shared at.record_is.inside keeps.allowed.1) in
       record {
         kind = kinds.Claim generation;
         act = Some (reclaim z r.lane place generation);
@@ -171,7 +172,7 @@ module _ {S T : Type 0} (content : T → List ℕ) (room : T → ℕ) (z : Shape
       }
 
   misses : HasUnderWay z (moment_of words w) r.lane (Owes place generation) → word ≢ claimable generation → MakesClaim word
-  misses owes miss = quietly content room z words w slots point at record {
+  misses owes miss = quietly content room spots z words w slots point at record {
     kind = kinds.Claim generation;
     act = None;
     under = Nothing;

@@ -1,11 +1,12 @@
 -- A seat's first lane is dealt out, and the rule goes on; so each lane gets a hand.
+use Rattle.placecell.specs.Spot.{Spot as CellSpot}
 use Rattle.std.proofs.Common.{◌≡◌, inl, inr, ⊎_elim, ℕ, zero, suc, ◌+◌, ◌<◌, List, [], ◌∷◌, ◌++◌, length, slice_get, Option, Some, None}
 use Rattle.std.proofs.Common.{refl, ap, sym, ◌∙◌, subst, arith}
 use Rattle.std.proofs.lemmas.List.{length_push}
 use Rattle.atomic_table.specs.declared.shared.Seat.{Seat}
 use Rattle.atomic_table.specs.Table.{Me, Splits}
 use Rattle.keybits.specs.declared.shape.Shape.{Shape}
-use Rattle.slotcell.specs.Share.{Share}
+use Rattle.placecell.specs.Share.{Share}
 use Rattle.poolsteps.specs.declared.grid.Grid.{Grid}
 use Rattle.poolsteps.specs.declared.view.View.{View}
 use Rattle.poolsteps.specs.Rule.{Kept, first_records, first_view}
@@ -15,9 +16,9 @@ use Rattle.poolsteps.proofs.ViewLemmas.{times-split, in-first, in-others, entry-
 use Rattle.poolsteps.proofs.Joints.{cut}
 
 -- the first lane of a seat
-pub dealt : {T : Type 0} (content : T → List ℕ) (room : T → ℕ) (z : Shape) (id : ℕ) (v : View)
-    → Splits (Kept content room z) id v (without_first v) (first_alone v)
-dealt content room z id v = cut content room z id v (without_first v) (first_alone v)
+pub dealt : {T : Type 0} (content : T → List ℕ) (room : T → ℕ) (spots : ℕ → CellSpot) (z : Shape) (id : ℕ) (v : View)
+    → Splits (Kept content room spots z) id v (without_first v) (first_alone v)
+dealt content room spots z id v = cut content room spots z id v (without_first v) (first_alone v)
     record { inside = λ r among. in-others r v.lanes among; seen = refl; rooms = refl; told = inl refl }
     record { inside = λ r among. in-first r v.lanes among; seen = refl; rooms = refl; told = inr refl }
     (λ lane. times-split lane v.lanes)

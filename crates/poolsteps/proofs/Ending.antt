@@ -1,10 +1,12 @@
 -- One hand takes in all others, and at the end it knows what each of them knew.
+use Rattle.poolsteps.specs.Layout.{spots_at}
+use Rattle.placecell.specs.Spot.{Spot as CellSpot}
 use Rattle.std.proofs.Common.{◌≡◌, ◌⊎◌, inl, inr, ⊎_elim, ℕ, zero, suc, List, [], ◌∷◌, ◌++◌, length, slice_get, Option, Some, refl, ap, sym, ◌∙◌, subst}
 use Rattle.std.specs.List.{All}
 use Rattle.std.proofs.lemmas.List.Elements.{All-head, All-tail}
 use Rattle.atomic_table.specs.declared.shared.Seat.{Seat}
 use Rattle.atomic_table.specs.Table.{Me, Final, Seen}
-use Rattle.slotcell.specs.Share.{Share}
+use Rattle.placecell.specs.Share.{Share}
 use Rattle.poolsteps.specs.declared.grid.Grid.{Grid}
 use Rattle.poolsteps.specs.declared.view.LaneRecord.{LaneRecord}
 use Rattle.poolsteps.specs.declared.view.View.{View}
@@ -115,7 +117,7 @@ module _ {T : Type 0} (grid : Grid T) (hands : List (Seat (Option (Share T)) Vie
 
     -- a seat that knows them all is at the end of the table
     pub ends : (content : T → List ℕ) (room : T → ℕ) (seat : Seat S View) (left : List (Seat S View)) (words : List ℕ) (slots : List S) → AreGathered seat left
-        → left ≡ [] → Final (Seen (Kept content room grid.shape) seat.id seat.me.0) words slots → (w : World) × EndsWith content room grid hands words slots w
+        → left ≡ [] → Final (Seen (Kept content room (spots_at grid.objects.ptr grid.shape) grid.shape) seat.id seat.me.0) words slots → (w : World) × EndsWith content room grid hands words slots w
     ends content room seat left words slots gathered none final =
         let s = final.0 in
         let w : World = final.1.0.0 in
@@ -128,7 +130,7 @@ module _ {T : Type 0} (grid : Grid T) (hands : List (Seat (Option (Share T)) Vie
             homes = s.homes;
             at_home = final.4;
             views = s.views;
-            stands = subst (λ (ws : List ℕ). Stands content room grid.shape w s.homes ws s.views) final.2 stands;
+            stands = subst (λ (ws : List ℕ). Stands content room (spots_at grid.objects.ptr grid.shape) grid.shape w s.homes ws s.views) final.2 stands;
             seen = λ index hand at. (begins index hand at).acts;
             rooms = λ index hand at. (begins index hand at).rooms;
             paired = λ index hand at. (begins index hand at).paired;

@@ -1,4 +1,5 @@
 -- ENTER, of a get or of a clear, as a step of the lane's seat.
+use Rattle.placecell.specs.Spot.{Spot as CellSpot}
 use Rattle.std.proofs.Common.{◌≡◌, ⊎_elim, ℕ, Bool, List, ◌+◌, ◌%◌, ◌^◌, ◌<◌, true, false, cond, Some, None, refl, sym, ◌∙◌, subst, arith}
 use Rattle.std.proofs.lemmas.Bool.{cases_Bool}
 use Rattle.atomic_table.specs.Table.{Me}
@@ -44,8 +45,8 @@ found-held true (published c r false) last lane bytes e may = may.1
 found-held true home last lane bytes e may = absurd (cc e)
 found-held true retired last lane bytes e may = absurd (cc e)
 
-module _ {S T : Type 0} (content : T → List ℕ) (room : T → ℕ) (z : Shape) (words : Words) (w : World) (slots : Slots T)
-    (point : IsPoint content room z words w slots) (me : Me S View) (key : ℕ) (at : IsAt z w me.0) (below : words.life (place_of key) < 18446744073709551616)
+module _ {S T : Type 0} (content : T → List ℕ) (room : T → ℕ) (spots : ℕ → CellSpot) (z : Shape) (words : Words) (w : World) (slots : Slots T)
+    (point : IsPoint content room spots z words w slots) (me : Me S View) (key : ℕ) (at : IsAt z w me.0) (below : words.life (place_of key) < 18446744073709551616)
     (good : is_key z key ≡ true) (idle : IsIdle me.0) where
   abbrev lane : ℕ
   lane = (the_lane me.0).lane
@@ -55,14 +56,14 @@ module _ {S T : Type 0} (content : T → List ℕ) (room : T → ℕ) (z : Shape
 
   -- the seat's ENTER of this purpose
   abbrev MakesEnter : (ℕ → Me S View → Type 0) → Type 0
-  MakesEnter then = MakesQuietly content room z words w slots (place_of key) me ((word + 4) % 2 ^ 64) then
+  MakesEnter then = MakesQuietly content room spots z words w slots (place_of key) me ((word + 4) % 2 ^ 64) then
 
   idle-now : HasUnderWay z (moment_of words w) lane Nothing
   idle-now = (at.record_is.inside, sym at.record_is.under ∙ idle)
 
   -- the word that is left, once the count has room
-  left-in : {then : ℕ → Me S View → Type 0} → count_in word < 1073741823 → MakesQuietly content room z words w slots (place_of key) me (word + 4) then → MakesEnter then
-  left-in {then} more makes = subst (λ (left : ℕ). MakesQuietly content room z words w slots (place_of key) me left then) (sym (enter-fits word more below)) makes
+  left-in : {then : ℕ → Me S View → Type 0} → count_in word < 1073741823 → MakesQuietly content room spots z words w slots (place_of key) me (word + 4) then → MakesEnter then
+  left-in {then} more makes = subst (λ (left : ℕ). MakesQuietly content room spots z words w slots (place_of key) me left then) (sym (enter-fits word more below)) makes
 
   -- the lane's slot, where it has no reference to a key that is found
   slot-alone : (bytes : List ℕ) → Some bytes ≡ found z (pool_after z w.history) key → references_seen z me.0 key ≡ 0
@@ -133,5 +134,5 @@ module _ {S T : Type 0} (content : T → List ℕ) (room : T → ℕ) (z : Shape
 
   -- the ENTER of an idle lane, which for a get has fewer references to the key than the most, by what it is for and whether it hits
   pub enter-makes : (purpose : Purpose) → (purpose ≡ ToGet → references_seen z me.0 key < most_references)
-      → Makes content room z words w slots (place_of key) me ((word + 4) % 2 ^ 64) (Enters z purpose key me)
-  enter-makes purpose fewer = quietly content room z words w slots point at (enters purpose fewer)
+      → Makes content room spots z words w slots (place_of key) me ((word + 4) % 2 ^ 64) (Enters z purpose key me)
+  enter-makes purpose fewer = quietly content room spots z words w slots point at (enters purpose fewer)

@@ -1,4 +1,5 @@
 -- The slots of a table before the first step: none has a share.
+use Rattle.placecell.specs.Spot.{Spot as CellSpot}
 use Rattle.std.proofs.Common.{◌≡◌, ⊎_elim, ℕ, zero, suc, ◌<◌, Bool, true, cond, List, [], ◌∷◌, ◌++◌, map, length, slice_get, nat_lt, Option, Some, None, ap, sym, ◌∙◌, refl, arith}
 use Rattle.std.proofs.lemmas.Bool.{and_from, lt-ltb}
 use mathlib.Core.Option as maybe
@@ -6,7 +7,7 @@ use mathlib.Core.Option.{some}
 use lib.ListN.{get_elem?}
 use Rattle.keybits.specs.declared.shape.Shape.{Shape}
 use Rattle.keybits.specs.Shapes.{is_place}
-use Rattle.slotcell.specs.Share.{Share}
+use Rattle.placecell.specs.Share.{Share}
 use Rattle.sharelaws.specs.Shares.{IsEmpty}
 use Rattle.poolsteps.specs.Layout.{slot_count, slot_index, slots_in}
 use Rattle.poolsteps.proofs.SlotLemmas.{slot-below}
@@ -30,9 +31,9 @@ none-at {A} (slot ∷ more) none zero below = ap (λ (value : Option A). some (s
 none-at {A} (slot ∷ more) none (suc index) below = none-at more (λ k other is. none (suc k) other is) index (omega arith)
 
 -- so is each slot of the pool
-pub slots-empty : {T : Type 0} (content : T → List ℕ) (room : T → ℕ) (z : Shape) (slots : List (Option (Share T))) → length slots ≡ slot_count z → AreNone slots
-    → (place lane : ℕ) → is_place z place ≡ true → lane < z.lanes → IsEmpty content room (slots_in z (map some slots)) place lane
-slots-empty {T} content room z slots count none place lane inside below =
+pub slots-empty : {T : Type 0} (content : T → List ℕ) (room : T → ℕ) (spots : ℕ → CellSpot) (z : Shape) (slots : List (Option (Share T))) → length slots ≡ slot_count z → AreNone slots
+    → (place lane : ℕ) → is_place z place ≡ true → lane < z.lanes → IsEmpty content room spots (slots_in z (map some slots)) place lane
+slots-empty {T} content room spots z slots count none place lane inside below =
     let has = and_from (is_place z place) (nat_lt lane z.lanes) inside (lt-ltb lane z.lanes below) in
     let deep = slot-below z place lane inside below in
     let i : ℕ = slot_index z place lane in

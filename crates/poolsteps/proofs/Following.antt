@@ -1,4 +1,5 @@
 -- FOLLOW, through the table.
+use Rattle.placecell.specs.Spot.{Spot as CellSpot}
 use Rattle.std.proofs.Common.{◌≡◌, ℕ, ◌∷◌, List, None, refl, sym, ◌∙◌, append-nil}
 use Rattle.atomic_table.specs.Table.{Me}
 use Rattle.keybits.specs.declared.shape.Shape.{Shape}
@@ -18,10 +19,10 @@ use Rattle.poolsteps.proofs.SeatLemmas.{IsAt, IsPoint}
 use Rattle.poolsteps.proofs.Making.{moment_of, shared-still, MakesAt}
 use Rattle.poolsteps.proofs.Chains.{chain-inside, leads-first}
 
-pub follow-makes : {S T : Type 0} (content : T → List ℕ) (room : T → ℕ) (z : Shape) (words : Words) (w : World) (slots : Slots T)
-    → IsPoint content room z words w slots → (me : Me S View) (place : ℕ) → IsAt z w me.0 → (the_lane me.0).chain ≡ place ∷ rest_of (the_lane me.0).chain
-    → MakesAt content room z words w slots (Link place) me (words.link place) (Follows z me)
-follow-makes content room z words w slots point me place at first =
+pub follow-makes : {S T : Type 0} (content : T → List ℕ) (room : T → ℕ) (spots : ℕ → CellSpot) (z : Shape) (words : Words) (w : World) (slots : Slots T)
+    → IsPoint content room spots z words w slots → (me : Me S View) (place : ℕ) → IsAt z w me.0 → (the_lane me.0).chain ≡ place ∷ rest_of (the_lane me.0).chain
+    → MakesAt content room spots z words w slots (Link place) me (words.link place) (Follows z me)
+follow-makes content room spots z words w slots point me place at first =
     let m = moment_of words w in
     let r : LaneRecord = the_lane me.0 in
     let more : List ℕ = rest_of r.chain in
@@ -37,7 +38,7 @@ follow-makes content room z words w slots point me place at first =
       stock = w.stock;
       r = followed_record r;
       keeps = keeps;
-      shared = shared-still content room z words w slots point None (followed_record r) keeps.allowed tt;
+      shared = shared-still content room spots z words w slots point None (followed_record r) keeps.allowed tt;
       by = tt;
       lane_is = refl;
       mine = sym (append-nil r.mine);

@@ -1,4 +1,5 @@
 -- The lanes of two seats come to one.
+use Rattle.placecell.specs.Spot.{Spot as CellSpot}
 use Rattle.std.proofs.Common.{◌≡◌, ⊎_elim, ℕ, Bool, true, false, cond, ltb, List, ◌∷◌, ◌++◌, length, sym, ◌∙◌, subst, arith}
 use Rattle.std.proofs.lemmas.List.Elements.{All-cons, All-append}
 use mathlib.Core.List.{IsPrefix}
@@ -52,7 +53,7 @@ both-sound z v u w one two =
         let own = sound.own r among in own ∙ acts-between r.lane y.seen most w.history p q (sym own ∙ (sound.records r among).mine)
 
 -- which is told what both saw
-pub gathers : {T : Type 0} (content : T → List ℕ) (room : T → ℕ) (z : Shape) (id other : ℕ) (v u : View)
-    → Joins (Kept content room z) id v other u (both_of v u) spent
-gathers content room z id other v u = join content room z id other v u (both_of v u) (both-sound z v u)
+pub gathers : {T : Type 0} (content : T → List ℕ) (room : T → ℕ) (spots : ℕ → CellSpot) (z : Shape) (id other : ℕ) (v u : View)
+    → Joins (Kept content room spots z) id v other u (both_of v u) spent
+gathers content room spots z id other v u = join content room spots z id other v u (both_of v u) (both-sound z v u)
     (λ lane. omega (arith, times-joined lane v.lanes u.lanes))

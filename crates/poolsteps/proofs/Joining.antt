@@ -9,8 +9,9 @@ use Rattle.core.specs.declared.slots.Slots.{Slots}
 use Rattle.core.specs.Mem.Slots.{slots_items, slots_counts}
 use Rattle.keybits.specs.declared.shape.Shape.{Shape}
 use Rattle.keybits.specs.Shapes.{IsShape, is_place}
-use Rattle.slotcell.specs.Share.{Share}
-use Rattle.slotcell.specs.Rest.{Rest, lowest_share}
+use Rattle.placecell.specs.Share.{Share}
+use Rattle.placecell.specs.Spot.{Spot as CellSpot}
+use Rattle.placecell.specs.Rest.{Rest, lowest_share}
 use Rattle.poolsteps.specs.Layout.{slot_index, slot_count}
 use Rattle.poolsteps.proofs.SlotLemmas.{slot-apart, slot-below}
 use Rattle.poolsteps.specs.Joins.{IsSlotRow, HasAt, IsSet, HasPart, IsSpread, IsUnspread, Drains}
@@ -37,8 +38,8 @@ get-set xs i v low =
 
 module _ {T : Type 0} where
   -- a slot with a part has a share
-  pub part-some : (slots : List (Option (Share T))) (index i cell number of : ℕ) → i ≡ index → HasPart slots index cell number of → HasAt slots i
-  part-some slots index i cell number of same p = (p.share, ap (slice_get slots) same ∙ p.stands)
+  pub part-some : (slots : List (Option (Share T))) (index i : ℕ) (spot : CellSpot) (cell number of : ℕ) → i ≡ index → HasPart slots index spot cell number of → HasAt slots i
+  part-some slots index i spot cell number of same p = (p.share, ap (slice_get slots) same ∙ p.stands)
 
   -- what is read where a share stands is that share
   pub read-some : (slots : List (Option (Share T))) (index : ℕ) (slot : Option (Share T)) → HasAt slots index → slot ≡ slice_index_or slots index slot
@@ -54,26 +55,27 @@ module _ {T : Type 0} where
       let same : slot ≡ Some has.0 = cc both in subst (λ (x : Option (Share T)). IsSome x) (sym same) refl
 
   -- what was lifted is the share that stood there
-  pub part-is : (slots : List (Option (Share T))) (index cell number of : ℕ) (s : Share T) → HasPart slots index cell number of → slice_get slots index ≡ Some (Some s)
-      → (s.cell ≡ cell) × (s.number ≡ number) × (s.of ≡ of)
-  part-is slots index cell number of s p there =
+  pub part-is : (slots : List (Option (Share T))) (index : ℕ) (spot : CellSpot) (cell number of : ℕ) (s : Share T) → HasPart slots index spot cell number of → slice_get slots index ≡ Some (Some s)
+      → (s.cell ≡ cell) × (s.number ≡ number) × (s.of ≡ of) × (s.spot ≡ spot)
+  part-is slots index spot cell number of s p there =
       let so : ◌≡◌ {A = Option (Option (Share T))} (Some (Some p.share)) (Some (Some s)) = sym p.stands ∙ there in
       let same : p.share ≡ s = cc so in
-      (subst (λ (x : Share T). x.cell ≡ cell) same p.cell_is, subst (λ (x : Share T). x.number ≡ number) same p.number_is, subst (λ (x : Share T). x.of ≡ of) same p.of_is)
+      (subst (λ (x : Share T). x.cell ≡ cell) same p.cell_is, subst (λ (x : Share T). x.number ≡ number) same p.number_is, subst (λ (x : Share T). x.of ≡ of) same p.of_is, subst (λ (x : Share T). x.spot ≡ spot) same p.spot_is)
 
-module _ {T : Type 0} (z : Shape) (place : ℕ) where
+module _ {T : Type 0} (spots : ℕ → CellSpot) (z : Shape) (place : ℕ) where
   -- the shares from the number on are lifted, and the rest has them
   pub record HasJoined (number : ℕ) (old new : Slots (Option (Share T))) (rest : Rest T) : Type 0 where
-    pub spread : IsSpread z (slots_items old) place
+    pub spread : IsSpread spots z (slots_items old) place
     pub below : number < z.lanes
     pub cell_is : rest.cell ≡ spread.cell
+    pub spot_is : rest.spot ≡ spots place
     pub number_is : rest.number ≡ number
     pub of_is : rest.of ≡ z.lanes
     pub drains : Drains z place old new
     pub untouched : (lane : ℕ) → lane < number → slice_get (slots_items new) (slot_index z place lane) ≡ slice_get (slots_items old) (slot_index z place lane)
     pub gone : (lane : ℕ) → number ≤ lane → lane < z.lanes → slice_get (slots_items new) (slot_index z place lane) ≡ Some None
 
-module _ {T : Type 0} (z : Shape) (ok : IsShape z) (place : ℕ) (inside : is_place z place ≡ true) where
+module _ {T : Type 0} (spots : ℕ → CellSpot) (z : Shape) (ok : IsShape z) (place : ℕ) (inside : is_place z place ≡ true) where
   -- a slot of the place is set
   pub drains-one : (old new : Slots (Option (Share T))) (lane : ℕ) → IsSlotRow z old → lane < z.lanes → IsSet (slot_index z place lane) None old new → Drains z place old new
   drains-one old new lane row low set = record {
@@ -106,18 +108,19 @@ module _ {T : Type 0} (z : Shape) (ok : IsShape z) (place : ℕ) (inside : is_pl
       ∙ get-elsewhere (slots_items old) (slot_index z place lane) (slot_index z place other) None (λ same. apart (slot-apart z ok place other place lane inside inside same).1)
 
   -- the last share is lifted
-  pub joined-first : (old new : Slots (Option (Share T))) (number : ℕ) (s : Share T) (rest : Rest T) → IsSlotRow z old → IsSpread z (slots_items old) place → number + 1 ≡ z.lanes
+  pub joined-first : (old new : Slots (Option (Share T))) (number : ℕ) (s : Share T) (rest : Rest T) → IsSlotRow z old → IsSpread spots z (slots_items old) place → number + 1 ≡ z.lanes
       → slice_get (slots_items old) (slot_index z place number) ≡ Some (Some s) → IsSet (slot_index z place number) None old new → s ≡ lowest_share rest
-      → HasJoined z place number old new rest
+      → HasJoined spots z place number old new rest
   joined-first old new number s rest row spread last there set is =
       let low : number < z.lanes = omega arith in
-      let part = part-is (slots_items old) (slot_index z place number) spread.cell number z.lanes s (spread.each number low) there in
+      let part = part-is (slots_items old) (slot_index z place number) (spots place) spread.cell number z.lanes s (spread.each number low) there in
       record {
         spread = spread;
         below = low;
         cell_is = ap (λ (x : Share T). x.cell) (sym is) ∙ part.0;
         number_is = ap (λ (x : Share T). x.number) (sym is) ∙ part.1;
         of_is = ap (λ (x : Share T). x.of) (sym is) ∙ part.2;
+        spot_is = ap (λ (x : Share T). x.spot) (sym is) ∙ part.3;
         drains = drains-one old new number row low set;
         untouched = λ lane less. stays old new number lane set (λ same. absurd (omega (arith, less, same)));
         gone = λ lane from below.
@@ -125,32 +128,33 @@ module _ {T : Type 0} (z : Shape) (ok : IsShape z) (place : ℕ) (inside : is_pl
             subst (λ (n : ℕ). slice_get (slots_items new) (slot_index z place n) ≡ Some None) is (empty-one old new number row low set);
       }
 
-  module _ (number : ℕ) {after : ℕ} {old mid : Slots (Option (Share T))} {rest : Rest T} (is : number + 1 ≡ after) (j : HasJoined z place after old mid rest) where
+  module _ (number : ℕ) {after : ℕ} {old mid : Slots (Option (Share T))} {rest : Rest T} (is : number + 1 ≡ after) (j : HasJoined spots z place after old mid rest) where
     -- the share of the next number stands in its slot
-    pub part-before : HasPart (slots_items mid) (slot_index z place number) j.spread.cell number z.lanes
+    pub part-before : HasPart (slots_items mid) (slot_index z place number) (spots place) j.spread.cell number z.lanes
     part-before =
         let low = j.below in
         let p = j.spread.each number (omega (arith, is, low)) in
-        record { share = p.share; stands = j.untouched number (omega (arith, is)) ∙ p.stands; cell_is = p.cell_is; number_is = p.number_is; of_is = p.of_is }
+        record { share = p.share; stands = j.untouched number (omega (arith, is)) ∙ p.stands; cell_is = p.cell_is; number_is = p.number_is; of_is = p.of_is; spot_is = p.spot_is }
 
     module _ {s : Share T} (there : slice_get (slots_items mid) (slot_index z place number) ≡ Some (Some s)) where
       -- it may be merged
-      pub may-merge : (s.cell ≡ rest.cell) × (s.of ≡ rest.of) × (s.number + 1 ≡ rest.number)
+      pub may-merge : (s.cell ≡ rest.cell) × (s.spot ≡ rest.spot) × (s.of ≡ rest.of) × (s.number + 1 ≡ rest.number)
       may-merge =
-          let part = part-is (slots_items mid) (slot_index z place number) j.spread.cell number z.lanes s part-before there in
-          (part.0 ∙ sym j.cell_is, part.2 ∙ sym j.of_is, ap (λ (n : ℕ). n + 1) part.1 ∙ (is ∙ sym j.number_is))
+          let part = part-is (slots_items mid) (slot_index z place number) (spots place) j.spread.cell number z.lanes s part-before there in
+          (part.0 ∙ sym j.cell_is, part.3 ∙ sym j.spot_is, part.2 ∙ sym j.of_is, ap (λ (n : ℕ). n + 1) part.1 ∙ (is ∙ sym j.number_is))
 
       -- and then is the rest's
-      pub joined-more : (new : Slots (Option (Share T))) → IsSet (slot_index z place number) None mid new → HasJoined z place number old new (record rest { number = s.number })
+      pub joined-more : (new : Slots (Option (Share T))) → IsSet (slot_index z place number) None mid new → HasJoined spots z place number old new (record rest { number = s.number })
       joined-more new set =
           let low = j.below in
-          let part = part-is (slots_items mid) (slot_index z place number) j.spread.cell number z.lanes s part-before there in
+          let part = part-is (slots_items mid) (slot_index z place number) (spots place) j.spread.cell number z.lanes s part-before there in
           record {
             spread = j.spread;
             below = omega (arith, is, low);
             cell_is = j.cell_is;
             number_is = part.1;
             of_is = j.of_is;
+            spot_is = j.spot_is;
             drains = drains-then old mid new j.drains (drains-one mid new number j.drains.row (omega (arith, is, low)) set);
             untouched = λ lane less. stays mid new number lane set (λ same. absurd (omega (arith, less, same))) ∙ j.untouched lane (omega (arith, is, less));
             gone = λ lane from below. dite (ℕ_discrete number lane)
@@ -161,5 +165,5 @@ module _ {T : Type 0} (z : Shape) (ok : IsShape z) (place : ℕ) (inside : is_pl
           }
 
   -- all shares are lifted
-  pub all-gone : (old new : Slots (Option (Share T))) (number : ℕ) (rest : Rest T) → number ≡ 0 → HasJoined z place number old new rest → IsUnspread z (slots_items new) place
+  pub all-gone : (old new : Slots (Option (Share T))) (number : ℕ) (rest : Rest T) → number ≡ 0 → HasJoined spots z place number old new rest → IsUnspread z (slots_items new) place
   all-gone old new number rest none j = λ lane low. j.gone lane (omega (arith, none)) low

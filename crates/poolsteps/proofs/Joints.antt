@@ -1,4 +1,5 @@
 -- A seat is cut in two, and two seats come to one: the world, the words and the slots stay, so it is enough that each seat is sound.
+use Rattle.placecell.specs.Spot.{Spot as CellSpot}
 use Rattle.std.proofs.Common.{◌≡◌, ◌≢◌, ◌⊎◌, ⊎_elim, ℕ, ◌+◌, ◌≤◌, List, [], ◌∷◌, ◌++◌, length, slice_set, Option, refl, sym, ap, ◌∙◌, subst, arith}
 use Rattle.std.specs.List.{All}
 use Rattle.std.proofs.lemmas.List.Elements.{All-nil, All-same}
@@ -10,7 +11,7 @@ use Rattle.atomic_table.specs.Table.{State, Splits, Joins}
 use Rattle.keybits.specs.declared.shape.Shape.{Shape}
 use Rattle.seqpool.specs.declared.act.Act.{Act}
 use Rattle.seqpool.specs.Histories.{acts_of}
-use Rattle.slotcell.specs.Share.{Share}
+use Rattle.placecell.specs.Share.{Share}
 use Rattle.poolsteps.specs.declared.view.LaneRecord.{LaneRecord}
 use Rattle.poolsteps.specs.declared.view.View.{View}
 use Rattle.poolsteps.specs.Views.{In, times_in, times_among}
@@ -50,10 +51,10 @@ module _ (z : Shape) (w : World) (views : List View) where
   }
 
 -- the rule goes on where the views alone change, each is still sound, and no lane stands among them more often
-reseated : {T : Type 0} (content : T → List ℕ) (room : T → ℕ) (z : Shape) (s : State (Option (Share T)) View) (after : List View) → Kept content room z s
+reseated : {T : Type 0} (content : T → List ℕ) (room : T → ℕ) (spots : ℕ → CellSpot) (z : Shape) (s : State (Option (Share T)) View) (after : List View) → Kept content room spots z s
     → ((w : World) → Each (IsSound z w) s.views → Each (IsSound z w) after)
-    → ((lane : ℕ) → times_among lane after ≤ times_among lane s.views) → Kept content room z record { words = s.words; homes = s.homes; views = after }
-reseated content room z s after kept sound times = let stands = kept.1 in (
+    → ((lane : ℕ) → times_among lane after ≤ times_among lane s.views) → Kept content room spots z record { words = s.words; homes = s.homes; views = after }
+reseated content room spots z s after kept sound times = let stands = kept.1 in (
   kept.0,
   record {
     count = stands.count;
@@ -101,10 +102,10 @@ each-cut P views id left right of_left of_right before seat u is = ⊎_elim
     (λ (new : right ≡ u). subst P new of_right) (at_snoc (slice_set views id left) right u seat is)
 
 -- a seat is cut into two parts that have its lanes
-pub cut : {T : Type 0} (content : T → List ℕ) (room : T → ℕ) (z : Shape) (id : ℕ) (v left right : View) → IsPart v left → IsPart v right
+pub cut : {T : Type 0} (content : T → List ℕ) (room : T → ℕ) (spots : ℕ → CellSpot) (z : Shape) (id : ℕ) (v left right : View) → IsPart v left → IsPart v right
     → ((lane : ℕ) → times_in lane left.lanes + times_in lane right.lanes ≡ times_in lane v.lanes)
-    → Splits (Kept content room z) id v left right
-cut content room z id v left right is_left is_right times s kept at = reseated content room z s (slice_set s.views id left ++ right ∷ []) kept
+    → Splits (Kept content room spots z) id v left right
+cut content room spots z id v left right is_left is_right times s kept at = reseated content room spots z s (slice_set s.views id left ++ right ∷ []) kept
     (λ w before. let whole = before id v at in
     each-cut (IsSound z w) s.views id left right (part-sound z w v left is_left whole) (part-sound z w v right is_right whole) before)
     (λ lane. omega (arith, times lane, among-set lane s.views id v left at, among-append lane (slice_set s.views id left) (right ∷ [])))
@@ -131,11 +132,11 @@ each-joined P views id other both rest of_both of_rest before seat u is = ⊎_el
     (at_set (slice_set views id both) other seat rest u is)
 
 -- two seats come to one that is sound where they are, and has no more lanes than they
-pub join : {T : Type 0} (content : T → List ℕ) (room : T → ℕ) (z : Shape) (id other : ℕ) (v u both : View)
+pub join : {T : Type 0} (content : T → List ℕ) (room : T → ℕ) (spots : ℕ → CellSpot) (z : Shape) (id other : ℕ) (v u both : View)
     → ((w : World) → IsSound z w v → IsSound z w u → IsSound z w both)
-    → ((lane : ℕ) → times_in lane both.lanes ≤ times_in lane v.lanes + times_in lane u.lanes) → Joins (Kept content room z) id v other u both spent
-join content room z id other v u both sound times s kept at apart at_other =
+    → ((lane : ℕ) → times_in lane both.lanes ≤ times_in lane v.lanes + times_in lane u.lanes) → Joins (Kept content room spots z) id v other u both spent
+join content room spots z id other v u both sound times s kept at apart at_other =
     let there : get_elem? s.views other ≡ some u = sym (set_else s.views id other both apart) ∙ at_other in
-    reseated content room z s (slice_set (slice_set s.views id both) other spent) kept
+    reseated content room spots z s (slice_set (slice_set s.views id both) other spent) kept
     (λ w before. each-joined (IsSound z w) s.views id other both spent (sound w (before id v at) (before other u there)) (spent-sound z w) before)
     (λ lane. omega (arith, times lane, among-set lane s.views id v both at, among-set lane (slice_set s.views id both) other u spent at_other))

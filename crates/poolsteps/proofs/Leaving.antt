@@ -1,4 +1,5 @@
 -- LEAVE, of a release or of an ENTER to undo, as a step of the lane's seat.
+use Rattle.placecell.specs.Spot.{Spot as CellSpot}
 use Rattle.std.proofs.Common.{◌≡◌, ◌≢◌, ⊎_elim, ℕ, List, ◌+◌, ◌-◌, ◌%◌, ◌^◌, ◌<◌, ◌≤◌, Bool, true, false, Some, None, if◌then◌else◌, refl, sym, ◌∙◌, subst, arith}
 use Rattle.atomic_table.specs.Table.{Me}
 use Rattle.keybits.specs.declared.shape.Shape.{Shape}
@@ -36,8 +37,8 @@ counted : (b : Bool) (n : ℕ) → 1 < (if b then n else 0) → 1 < n
 counted true n some = some
 counted false n some = absurd (omega arith)
 
-module _ {S T : Type 0} (content : T → List ℕ) (room : T → ℕ) (z : Shape) (words : Words) (w : World) (slots : Slots T)
-    (point : IsPoint content room z words w slots) (me : Me S View) (key : ℕ) (at : IsAt z w me.0) (below : words.life (place_of key) < 18446744073709551616) where
+module _ {S T : Type 0} (content : T → List ℕ) (room : T → ℕ) (spots : ℕ → CellSpot) (z : Shape) (words : Words) (w : World) (slots : Slots T)
+    (point : IsPoint content room spots z words w slots) (me : Me S View) (key : ℕ) (at : IsAt z w me.0) (below : words.life (place_of key) < 18446744073709551616) where
   abbrev lane : ℕ
   lane = (the_lane me.0).lane
 
@@ -46,11 +47,11 @@ module _ {S T : Type 0} (content : T → List ℕ) (room : T → ℕ) (z : Shape
 
   -- the seat's LEAVE
   abbrev MakesLeave : Type 0
-  MakesLeave = MakesQuietly content room z words w slots (place_of key) me ((word + (2 ^ 64 - 4)) % 2 ^ 64) (Leaves z key me)
+  MakesLeave = MakesQuietly content room spots z words w slots (place_of key) me ((word + (2 ^ 64 - 4)) % 2 ^ 64) (Leaves z key me)
 
   -- the word that is left, once there is a count
-  left-in : 1 ≤ count_in word → MakesQuietly content room z words w slots (place_of key) me (word - 4) (Leaves z key me) → MakesLeave
-  left-in some makes = subst (λ (left : ℕ). MakesQuietly content room z words w slots (place_of key) me left (Leaves z key me)) (sym (leave-fits word some below)) makes
+  left-in : 1 ≤ count_in word → MakesQuietly content room spots z words w slots (place_of key) me (word - 4) (Leaves z key me) → MakesLeave
+  left-in some makes = subst (λ (left : ℕ). MakesQuietly content room spots z words w slots (place_of key) me left (Leaves z key me)) (sym (leave-fits word some below)) makes
 
   release : IsIdle me.0 → 0 < references_seen z me.0 key
       → (status_of (the_lane me.0) (place_of key) lane ≢ Untouched → 1 < references_seen z me.0 key) → MakesLeave
@@ -84,8 +85,8 @@ module _ {S T : Type 0} (content : T → List ℕ) (room : T → ℕ) (z : Shape
 
   -- the LEAVE of a lane that may make it: it gives back a reference, or undoes an ENTER
   pub leave-makes : is_place z (place_of key) ≡ true → MayLeave z me.0 key
-      → Makes content room z words w slots (place_of key) me ((word + (2 ^ 64 - 4)) % 2 ^ 64) (Leaves z key me)
-  leave-makes inside may = quietly content room z words w slots point at (⊎_elim
+      → Makes content room spots z words w slots (place_of key) me ((word + (2 ^ 64 - 4)) % 2 ^ 64) (Leaves z key me)
+  leave-makes inside may = quietly content room spots z words w slots point at (⊎_elim
       (λ held. release held.0 held.1 held.2)
       (λ entered. undo inside entered.0 entered.1)
       may)

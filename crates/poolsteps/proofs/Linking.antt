@@ -1,4 +1,5 @@
 -- LINK, as a step of the lane's seat.
+use Rattle.placecell.specs.Spot.{Spot as CellSpot}
 use Rattle.std.proofs.Common.{◌≡◌, ℕ, List, Bool, Option, Some, None, refl, ap, sym, ◌∙◌, subst, append-nil}
 use Rattle.atomic_table.specs.Table.{Me}
 use Rattle.keybits.specs.declared.shape.Shape.{Shape}
@@ -26,8 +27,8 @@ use Rattle.poolsteps.proofs.Making.{moment_of, shared-still, MakesAt}
 pub place-is : (v : View) (place : ℕ) (linked : Option ℕ) → IsToReturn v place linked → place_under (the_lane v).under ≡ place
 place-is v place linked under = ap place_under under
 
-module _ {S T : Type 0} (content : T → List ℕ) (room : T → ℕ) (z : Shape) (words : Words) (w : World) (slots : Slots T)
-    (point : IsPoint content room z words w slots) (me : Me S View) (at : IsAt z w me.0) where
+module _ {S T : Type 0} (content : T → List ℕ) (room : T → ℕ) (spots : ℕ → CellSpot) (z : Shape) (words : Words) (w : World) (slots : Slots T)
+    (point : IsPoint content room spots z words w slots) (me : Me S View) (at : IsAt z w me.0) where
   abbrev r : LaneRecord
   r = the_lane me.0
 
@@ -41,7 +42,7 @@ module _ {S T : Type 0} (content : T → List ℕ) (room : T → ℕ) (z : Shape
   pub still-returns : (place : ℕ) (linked : Option ℕ) (failed : Bool) (kind : Kind) (word : Word) (left : ℕ) (then : ℕ → Me S View → Type 0)
       → Keeps z (moment_of words w) kind word left None (with_under w.lanes r.lane (Returns place linked failed))
       → ((v : Me S View) → Steps z kind (value_of words word) left me v None (with_return r place linked failed) → then (value_of words word) v)
-      → MakesAt content room z words w slots word me left then
+      → MakesAt content room spots z words w slots word me left then
   still-returns place linked failed kind word left then keeps told =
       let under : Pending = Returns place linked failed in record {
         kind = kind;
@@ -50,7 +51,7 @@ module _ {S T : Type 0} (content : T → List ℕ) (room : T → ℕ) (z : Shape
         stock = w.stock;
         r = with_return r place linked failed;
         keeps = keeps;
-        shared = shared-still content room z words w slots point None (with_return r place linked failed) keeps.allowed tt;
+        shared = shared-still content room spots z words w slots point None (with_return r place linked failed) keeps.allowed tt;
         by = tt;
         lane_is = refl;
         mine = sym (append-nil r.mine);
@@ -73,10 +74,10 @@ module _ {S T : Type 0} (content : T → List ℕ) (room : T → ℕ) (z : Shape
 
   -- LINK of the place that a lane has to return, whatever its link word was
   pub link-makes : (place top : ℕ) (linked : Option ℕ) → IsToReturn me.0 place linked
-      → MakesAt content room z words w slots (Link place) me top (λ _. Links z top me)
+      → MakesAt content room spots z words w slots (Link place) me top (λ _. Links z top me)
   link-makes place top linked under =
       let here : ℕ = place_under r.under in
       let failed : Bool = failed_under r.under in
       let keeps = link-law z (moment_of words w) r.lane here top linked failed point.rule (returns-now place linked under) in
-      subst (λ (p : ℕ). MakesAt content room z words w slots (Link p) me top (λ _. Links z top me)) (place-is me.0 place linked under)
+      subst (λ (p : ℕ). MakesAt content room spots z words w slots (Link p) me top (λ _. Links z top me)) (place-is me.0 place linked under)
       (still-returns here (Some top) failed (kinds.Link top) (Link here) top (λ _. Links z top me) keeps (λ v steps. (words.link here, steps)))

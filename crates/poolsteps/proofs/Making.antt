@@ -1,4 +1,5 @@
 -- A step through the table: what has to be shown of it at a moment at which the rule holds.
+use Rattle.placecell.specs.Spot.{Spot as CellSpot}
 use Rattle.std.proofs.Common.{◌≡◌, ◌≢◌, ℕ, ◌<◌, true, List, [], ◌∷◌, ◌++◌, slice_index, slice_set, Option, Some, None, refl, sym, subst, append-nil}
 use Rattle.atomic_table.specs.Table as table
 use Rattle.atomic_table.specs.Table.{Me, Allows}
@@ -9,7 +10,7 @@ use Rattle.keybits.specs.declared.step.Word.TheVariants.{Life}
 use Rattle.keybits.specs.Shapes.{is_place}
 use Rattle.seqpool.specs.declared.act.Act.{Act}
 use Rattle.seqpool.specs.declared.act.Act.TheVariants as acts
-use Rattle.slotcell.specs.Share.{Share}
+use Rattle.placecell.specs.Share.{Share}
 use Rattle.sharelaws.specs.declared.stored.Stored.{Stored}
 use Rattle.sharelaws.specs.Shares.{Slots, Stock, Shared}
 use Rattle.sharelaws.specs.ShareLaws.{IsQuiet}
@@ -40,27 +41,27 @@ abbrev pub IsStill : Shape → World → Option Act → Type 0
 IsStill z w None = Unit {0}
 IsStill z w (Some act) = IsQuiet z w.history w.stock act
 
-module _ {T : Type 0} (content : T → List ℕ) (room : T → ℕ) (z : Shape) (words : Words) (w : World) (slots : Slots T) where
+module _ {T : Type 0} (content : T → List ℕ) (room : T → ℕ) (spots : ℕ → CellSpot) (z : Shape) (words : Words) (w : World) (slots : Slots T) where
   -- the shares stay where an act moves none
-  shared-quiet : IsPoint content room z words w slots → (act : Act) (r : LaneRecord) → IsAllowed z w.history (Some act) → IsQuiet z w.history w.stock act
-      → Shared content room z (w.history ++ act ∷ []) (w.kept ++ rooms_in r (Some act)) slots w.stock
+  shared-quiet : IsPoint content room spots z words w slots → (act : Act) (r : LaneRecord) → IsAllowed z w.history (Some act) → IsQuiet z w.history w.stock act
+      → Shared content room spots z (w.history ++ act ∷ []) (w.kept ++ rooms_in r (Some act)) slots w.stock
   shared-quiet point (acts.Publish lane key bytes with_ref) r ok quiet = absurd quiet
   shared-quiet point (acts.Get lane key reply) r ok quiet =
-      acts-share-law content room z w.history w.kept slots w.stock (acts.Get lane key reply) point.paired point.rule.legal point.shared ok.0 ok.1 quiet
+      acts-share-law content room spots z w.history w.kept slots w.stock (acts.Get lane key reply) point.paired point.rule.legal point.shared ok.0 ok.1 quiet
   shared-quiet point (acts.Release lane key) r ok quiet =
-      acts-share-law content room z w.history w.kept slots w.stock (acts.Release lane key) point.paired point.rule.legal point.shared ok.0 ok.1 quiet
+      acts-share-law content room spots z w.history w.kept slots w.stock (acts.Release lane key) point.paired point.rule.legal point.shared ok.0 ok.1 quiet
   shared-quiet point (acts.Clear lane key reply) r ok quiet =
-      acts-share-law content room z w.history w.kept slots w.stock (acts.Clear lane key reply) point.paired point.rule.legal point.shared ok.0 ok.1 quiet
+      acts-share-law content room spots z w.history w.kept slots w.stock (acts.Clear lane key reply) point.paired point.rule.legal point.shared ok.0 ok.1 quiet
   shared-quiet point (acts.Reclaim lane key) r ok quiet = absurd quiet
   shared-quiet point (acts.Home lane place) r ok quiet = absurd quiet
   shared-quiet point (acts.Collect lane places) r ok quiet = absurd quiet
 
-  pub shared-still : IsPoint content room z words w slots → (act : Option Act) (r : LaneRecord) → IsAllowed z w.history act → IsStill z w act
-      → Shared content room z (with_act w.history act) (w.kept ++ rooms_in r act) slots w.stock
-  shared-still point None r ok quiet = subst (λ (kept : List ℕ). Shared content room z w.history kept slots w.stock) (sym (append-nil w.kept)) point.shared
+  pub shared-still : IsPoint content room spots z words w slots → (act : Option Act) (r : LaneRecord) → IsAllowed z w.history act → IsStill z w act
+      → Shared content room spots z (with_act w.history act) (w.kept ++ rooms_in r act) slots w.stock
+  shared-still point None r ok quiet = subst (λ (kept : List ℕ). Shared content room spots z w.history kept slots w.stock) (sym (append-nil w.kept)) point.shared
   shared-still point (Some act) r ok quiet = shared-quiet point act r ok quiet
 
-module _ {S T : Type 0} (content : T → List ℕ) (room : T → ℕ) (z : Shape) (words : Words) (w : World) (slots : Slots T) where
+module _ {S T : Type 0} (content : T → List ℕ) (room : T → ℕ) (spots : ℕ → CellSpot) (z : Shape) (words : Words) (w : World) (slots : Slots T) where
   -- the lane makes a step that leaves this value in the word, and is told this
   pub record MakesAt (word : Word) (me : Me S View) (left : ℕ) (then : ℕ → Me S View → Type 0) : Type 0 where
     pub kind : Kind
@@ -70,7 +71,7 @@ module _ {S T : Type 0} (content : T → List ℕ) (room : T → ℕ) (z : Shape
     pub stock : Stock
     pub r : LaneRecord
     pub keeps : Keeps z (moment_of words w) kind word left act after
-    pub shared : Shared content room z (with_act w.history act) (w.kept ++ rooms_in r act) slots stock
+    pub shared : Shared content room spots z (with_act w.history act) (w.kept ++ rooms_in r act) slots stock
     pub by : IsBy (the_lane me.0).lane act
     pub lane_is : r.lane ≡ (the_lane me.0).lane
     pub mine : r.mine ≡ (the_lane me.0).mine ++ acts_in act
@@ -88,7 +89,7 @@ module _ {S T : Type 0} (content : T → List ℕ) (room : T → ℕ) (z : Shape
     pub stock : Stock
     pub cells : List (ℕ × Stored)
     pub keeps : Keeps z (moment_of words w) kind (Life place) left act (with_under w.lanes (the_lane me.0).lane under)
-    pub shared : Shared content room z (with_act w.history act) (w.kept ++ rooms_in (record (after_step (the_lane me.0) act under) { cells = cells }) act) slots stock
+    pub shared : Shared content room spots z (with_act w.history act) (w.kept ++ rooms_in (record (after_step (the_lane me.0) act under) { cells = cells }) act) slots stock
     pub by : IsBy (the_lane me.0).lane act
     pub deeds_are : (p k : ℕ) → status_of (the_lane me.0) p k ≡ stock.status (the_lane me.0).lane p k
     pub cells_are : (p : ℕ) → known_in cells p ≡ stock.knows (the_lane me.0).lane p
@@ -108,7 +109,7 @@ module _ {S T : Type 0} (content : T → List ℕ) (room : T → ℕ) (z : Shape
     pub told : (v : Me S View) → LifeSteps z kind (words.life place) left me v act under → then (words.life place) v
 
   -- which is a step as any other
-  pub quietly : {place : ℕ} {me : Me S View} {left : ℕ} {then : ℕ → Me S View → Type 0} → IsPoint content room z words w slots → IsAt z w me.0
+  pub quietly : {place : ℕ} {me : Me S View} {left : ℕ} {then : ℕ → Me S View → Type 0} → IsPoint content room spots z words w slots → IsAt z w me.0
       → MakesQuietly place me left then → Makes place me left then
   quietly {place} {me} {left} {then} point at made = record {
     kind = made.kind;
@@ -117,7 +118,7 @@ module _ {S T : Type 0} (content : T → List ℕ) (room : T → ℕ) (z : Shape
     stock = w.stock;
     cells = (the_lane me.0).cells;
     keeps = made.keeps;
-    shared = shared-still content room z words w slots point made.act (after_step (the_lane me.0) made.act made.under) made.keeps.allowed made.quiet;
+    shared = shared-still content room spots z words w slots point made.act (after_step (the_lane me.0) made.act made.under) made.keeps.allowed made.quiet;
     by = made.by;
     deeds_are = at.record_is.deeds;
     cells_are = at.record_is.cells;
@@ -127,39 +128,39 @@ module _ {S T : Type 0} (content : T → List ℕ) (room : T → ℕ) (z : Shape
   }
 
 -- through the table, of slots for shares
-module _ {T : Type 0} (content : T → List ℕ) (room : T → ℕ) (z : Shape) (slot_count id : ℕ) (me : Me (Option (Share T)) View) (one : IsOne me.0) where
+module _ {T : Type 0} (content : T → List ℕ) (room : T → ℕ) (spots : ℕ → CellSpot) (z : Shape) (slot_count id : ℕ) (me : Me (Option (Share T)) View) (one : IsOne me.0) where
   -- a step that a lane makes at any moment at which the rule holds is one that the table allows
   pub word-allows : (word : Word) → has_word z word ≡ true → (f : ℕ → ℕ) (then : ℕ → Me (Option (Share T)) View → Type 0)
-      → ((words : Words) (w : World) (slots : Slots T) → IsPoint content room z words w slots → IsAt z w me.0 → value_of words word < 18446744073709551616
-      → MakesAt content room z words w slots word me (f (value_of words word)) then)
-      → Allows (Kept content room z) slot_count id me (index_in z word) f then
+      → ((words : Words) (w : World) (slots : Slots T) → IsPoint content room spots z words w slots → IsAt z w me.0 → value_of words word < 18446744073709551616
+      → MakesAt content room spots z words w slots word me (f (value_of words word)) then)
+      → Allows (Kept content room spots z) slot_count id me (index_in z word) f then
   word-allows word inside f then makes s kept homes at small =
       let w : World = kept.0 in
       let st = kept.1 in
       let words : Words = words_in z s.words in
       let i : ℕ = index_in z word in
       let is : value_of words word ≡ slice_index s.words i = value-is z s.words word inside in
-      let point = is-point content room z id me one w s.homes s.words s.views st at in
-      let here = is-at content room z id me one w s.homes s.words s.views st at in
+      let point = is-point content room spots z id me one w s.homes s.words s.views st at in
+      let here = is-at content room spots z id me one w s.homes s.words s.views st at in
       let made = makes words w (slots_in z s.homes) point here (subst (λ (n : ℕ). n < 18446744073709551616) (sym is) small) in
       let left : ℕ = f (value_of words word) in
       let n : World = world_after w made.act made.after made.stock made.r in
       let view : View = step_view me.0 made.r n in
-      let e = step-stands content room z id me one w s.homes s.words s.views st at made.kind word left made.act made.after made.stock made.r inside
+      let e = step-stands content room spots z id me one w s.homes s.words s.views st at made.kind word left made.act made.after made.stock made.r inside
       made.keeps made.shared made.by made.lane_is made.mine made.agrees made.others in
       let told = made.told (view, me.1) (refl, refl) (subst (λ (x : ℕ). Steps z made.kind x left me (view, me.1) made.act made.r) (sym is) e.1) in (
         view,
         table.keeps,
         tt,
-        (n, subst (λ (x : ℕ). Stands content room z n s.homes (slice_set s.words i (f x)) (slice_set s.views id view)) is e.0),
+        (n, subst (λ (x : ℕ). Stands content room spots z n s.homes (slice_set s.words i (f x)) (slice_set s.views id view)) is e.0),
         subst (λ (x : ℕ). then x (view, me.1)) is told,
       )
 
   -- the same of a step of a lifecycle word
   pub life-allows : (place : ℕ) → is_place z place ≡ true → (f : ℕ → ℕ) (then : ℕ → Me (Option (Share T)) View → Type 0)
-      → ((words : Words) (w : World) (slots : Slots T) → IsPoint content room z words w slots → IsAt z w me.0 → words.life place < 18446744073709551616
-      → Makes content room z words w slots place me (f (words.life place)) then)
-      → Allows (Kept content room z) slot_count id me (index_in z (Life place)) f then
+      → ((words : Words) (w : World) (slots : Slots T) → IsPoint content room spots z words w slots → IsAt z w me.0 → words.life place < 18446744073709551616
+      → Makes content room spots z words w slots place me (f (words.life place)) then)
+      → Allows (Kept content room spots z) slot_count id me (index_in z (Life place)) f then
   life-allows place inside f then makes = word-allows (Life place) inside f then (λ words w slots point at small.
       let made = makes words w slots point at small in
       let r : LaneRecord = the_lane me.0 in record {

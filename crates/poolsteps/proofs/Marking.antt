@@ -1,4 +1,5 @@
 -- MARK, through the table.
+use Rattle.placecell.specs.Spot.{Spot as CellSpot}
 use Rattle.std.proofs.Common.{◌≡◌, ◌⊎◌, ℕ, List, ◌+◌, ◌-◌, ◌/◌, ◌*◌, ◌%◌, true, eqb, Some, refl, sym, ◌∙◌, subst, arith, bit_or}
 use Rattle.atomic_table.specs.Table.{Me}
 use Rattle.keybits.specs.declared.shape.Shape.{Shape}
@@ -25,15 +26,15 @@ marked-bits word open_state = or_two word open_state ∙ whole word
     whole : (n : ℕ) → n / 4 * 4 + 3 ≡ n + 3 - n % 4
     whole n = omega arith
 
-pub mark-makes : {S T : Type 0} (content : T → List ℕ) (room : T → ℕ) (z : Shape) (words : Words) (w : World) (slots : Slots T)
-    → IsPoint content room z words w slots → (me : Me S View) (key : ℕ) → IsAt z w me.0 → (the_lane me.0).under ≡ Undo key true
-    → Makes content room z words w slots (place_of key) me (bit_or (words.life (place_of key)) 2) (Marks z key me)
-mark-makes content room z words w slots point me key at under =
+pub mark-makes : {S T : Type 0} (content : T → List ℕ) (room : T → ℕ) (spots : ℕ → CellSpot) (z : Shape) (words : Words) (w : World) (slots : Slots T)
+    → IsPoint content room spots z words w slots → (me : Me S View) (key : ℕ) → IsAt z w me.0 → (the_lane me.0).under ≡ Undo key true
+    → Makes content room spots z words w slots (place_of key) me (bit_or (words.life (place_of key)) 2) (Marks z key me)
+mark-makes content room spots z words w slots point me key at under =
     let place : ℕ = place_of key in
     let word : ℕ = words.life place in
     let lane : ℕ = (the_lane me.0).lane in
     let law = mark-law z (moment_of words w) lane key point.rule (at.record_is.inside, sym at.record_is.under ∙ under) in
-    let makes : MakesQuietly content room z words w slots place me (word + 3 - state_in word) (Marks z key me) = record {
+    let makes : MakesQuietly content room spots z words w slots place me (word + 3 - state_in word) (Marks z key me) = record {
       kind = kinds.Mark;
       act = Some (acts.Clear lane key (eqb (state_in word) 1));
       under = Undo key true;
@@ -42,5 +43,5 @@ mark-makes content room z words w slots point me key at under =
       quiet = tt;
       told = λ after steps. steps;
     } in
-    subst (λ (left : ℕ). Makes content room z words w slots place me left (Marks z key me)) (sym (marked-bits word law.changes.0))
-    (quietly content room z words w slots point at makes)
+    subst (λ (left : ℕ). Makes content room spots z words w slots place me left (Marks z key me)) (sym (marked-bits word law.changes.0))
+    (quietly content room spots z words w slots point at makes)

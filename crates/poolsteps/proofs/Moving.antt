@@ -1,4 +1,5 @@
 -- The two looks of a move, through the table: one takes a slot, and one gives it back.
+use Rattle.placecell.specs.Spot.{Spot as CellSpot}
 use Rattle.std.proofs.Common.{◌≡◌, ◌≢◌, inl, inr, ⊎_elim, ℕ, ◌<◌, Bool, true, false, cond, eqb, ◌&&◌, List, ◌∷◌, [], length-set, slice_index, slice_set, Option, Some, None, refl, ap, sym, ◌∙◌, subst, eq-eqb, ne_eqb}
 use Rattle.std.proofs.lemmas.Bool.{and_left}
 use mathlib.Core.Logic.{dite}
@@ -10,7 +11,7 @@ use Rattle.atomic_table.specs.Table.{Me, put_back, rest, Allows}
 use Rattle.keybits.specs.declared.shape.Shape.{Shape}
 use Rattle.keybits.specs.Shapes.{is_place}
 use Rattle.seqpool.specs.Pool.{Phase, pool_after}
-use Rattle.slotcell.specs.Share.{Share}
+use Rattle.placecell.specs.Share.{Share}
 use Rattle.steplaws.specs.Facts.{is_home}
 use Rattle.sharelaws.specs.declared.stored.Stored.{Stored}
 use Rattle.sharelaws.specs.declared.stored.Status.{Status}
@@ -31,7 +32,7 @@ use Rattle.poolsteps.proofs.Keeping.{StillHas, still-has}
 use Rattle.poolsteps.proofs.SeatLemmas.{look_view, restocked_world, IsAt, Agrees, OthersStay, is-at, look-stands}
 use Rattle.poolsteps.proofs.SlotLemmas.{slot-is, slots-set}
 
-module _ {T : Type 0} (content : T → List ℕ) (room : T → ℕ) (z : Shape) (id : ℕ) (me : Me (Option (Share T)) View) (one : IsOne me.0)
+module _ {T : Type 0} (content : T → List ℕ) (room : T → ℕ) (spots : ℕ → CellSpot) (z : Shape) (id : ℕ) (me : Me (Option (Share T)) View) (one : IsOne me.0)
     (place number : ℕ) (inside : is_place z place ≡ true) (below : number < z.lanes) (may : MayTouch z me.0 place number) where
   abbrev r : LaneRecord
   r = the_lane me.0
@@ -44,12 +45,12 @@ module _ {T : Type 0} (content : T → List ℕ) (room : T → ℕ) (z : Shape) 
 
   -- at a moment at which the rule holds
   module _ (w : World) (homes : List (maybe.Option (Option (Share T)))) (words : List ℕ) (views : List View)
-      (st : Stands content room z w homes words views) (at : get_elem? views id ≡ maybe.some me.0) where
+      (st : Stands content room spots z w homes words views) (at : get_elem? views id ≡ maybe.some me.0) where
     abbrev q : Stock
     q = w.stock
 
     abbrev here : IsAt z w me.0
-    here = is-at content room z id me one w homes words views st at
+    here = is-at content room spots z id me one w homes words views st at
 
     abbrev still : StillHas z me.0 w.history w.kept place number
     still = still-has z me.0 w.history here.between w.kept here.rooms_between here.seen here.rooms here.paired here.others st.rule.legal place number may
@@ -66,11 +67,11 @@ module _ {T : Type 0} (content : T → List ℕ) (room : T → ℕ) (z : Shape) 
 
     -- what stands in the slot, as the lane left it
     pub stands-there : (status : Status) → status_of r place number ≡ status → status ≢ InHand
-        → (value : Option (Share T)) × (slots_in z homes place number ≡ at_home value) × Leaves content room z number (q.stored place) status (at_home value)
+        → (value : Option (Share T)) × (slots_in z homes place number ≡ at_home value) × Leaves content room spots place z number (q.stored place) status (at_home value)
     stands-there Untouched left aside =
-        let old : StandsAs content room z (slots_in z homes) place number (q.stored place) (is_home phase) = st.shared.untouched place number inside below (none-touched left) in
-        let has : StandsAs content room z (slots_in z homes) place number (q.stored place) false =
-        subst (StandsAs content room z (slots_in z homes) place number (q.stored place)) (may-away (reclaimer w.history place) lane number phase still.may) old in
+        let old : StandsAs content room spots z (slots_in z homes) place number (q.stored place) (is_home phase) = st.shared.untouched place number inside below (none-touched left) in
+        let has : StandsAs content room spots z (slots_in z homes) place number (q.stored place) false =
+        subst (StandsAs content room spots z (slots_in z homes) place number (q.stored place)) (may-away (reclaimer w.history place) lane number phase still.may) old in
         (Some has.0, has.1, (has.0, refl, has.2))
     stands-there Emptied left aside =
         (None, st.shared.emptied lane place number here.record_is.inside inside below (sym (here.record_is.deeds place number) ∙ left), refl)
@@ -86,7 +87,7 @@ module _ {T : Type 0} (content : T → List ℕ) (room : T → ℕ) (z : Shape) 
 
     -- the lane moves the slot
     module _ (index : ℕ) (status : Status) (c : Stored) (value : maybe.Option (Option (Share T)))
-        (cell : MayMove z w.history q lane place number c) (leaves : Leaves content room z number c status (maybe.some value)) where
+        (cell : MayMove z w.history q lane place number c) (leaves : Leaves content room spots place z number c status (maybe.some value)) where
       abbrev stock : Stock
       stock = moved q lane place number status c
 
@@ -96,9 +97,9 @@ module _ {T : Type 0} (content : T → List ℕ) (room : T → ℕ) (z : Shape) 
       abbrev homes_now : List (maybe.Option (Option (Share T)))
       homes_now = slice_set homes slot value
 
-      shared-now : Shared content room z w.history w.kept (slots_in z homes_now) stock
-      shared-now = subst (λ (slots : Slots T). Shared content room z w.history w.kept slots stock) (sym (slots-set z st.rule.limits homes st.deep place number inside below value))
-          (move-law content room z w.history w.kept (slots_in z homes) q lane place number status c (maybe.some value)
+      shared-now : Shared content room spots z w.history w.kept (slots_in z homes_now) stock
+      shared-now = subst (λ (slots : Slots T). Shared content room spots z w.history w.kept slots stock) (sym (slots-set z st.rule.limits homes st.deep place number inside below value))
+          (move-law content room spots z w.history w.kept (slots_in z homes) q lane place number status c (maybe.some value)
           st.shared here.record_is.inside below still.may cell leaves)
 
       agrees-then : Agrees now w.lanes stock
@@ -121,15 +122,15 @@ module _ {T : Type 0} (content : T → List ℕ) (room : T → ℕ) (z : Shape) 
         knows = λ p. ap (λ (b : Bool). cond b c (q.knows l p)) (and_left (eqb l lane) (eqb p place) (ne_eqb l lane other));
       }
 
-      pub move-stands : Stands content room z (restocked_world w stock) homes_now (slice_set words index (slice_index words index))
+      pub move-stands : Stands content room spots z (restocked_world w stock) homes_now (slice_set words index (slice_index words index))
           (slice_set views id (look_view me.0 now (restocked_world w stock)))
           × GoesOn z me.0 (look_view me.0 now (restocked_world w stock)) [] [] now
-      move-stands = look-stands content room z id me one w homes words views st at index homes_now stock now (length-set homes slot value ∙ st.deep) shared-now refl refl
+      move-stands = look-stands content room spots z id me one w homes words views st at index homes_now stock now (length-set homes slot value ∙ st.deep) shared-now refl refl
           agrees-then others-stay
 
   -- a look at any word, at which the slot is taken as the lane left it
   pub lift-allows : (index : ℕ) (status : Status) → status_of r place number ≡ status → status ≢ InHand
-      → Allows (Kept content room z) (slot_count z) id me index (λ n. n) (λ found after. Lifts content room z place number status me after)
+      → Allows (Kept content room spots z) (slot_count z) id me index (λ n. n) (λ found after. Lifts content room spots z place number status me after)
   lift-allows index status left aside s kept homes at small =
       let w : World = kept.0 in
       let st = kept.1 in
@@ -161,8 +162,8 @@ module _ {T : Type 0} (content : T → List ℕ) (room : T → ℕ) (z : Shape) 
 
   -- and one at which the slot that was taken last is given back
   pub lay-allows : (index : ℕ) (status : Status) (c : Stored) (value : Option (Share T)) → status_of r place number ≡ InHand
-      → me.1 ≡ (slot, value) ∷ rest me.1 → Leaves content room z number c status (at_home value) → MayStore z me.0 place number c
-      → Allows (Kept content room z) (slot_count z) id me index (λ n. n) (λ found after. Lays content room z place number status c me after)
+      → me.1 ≡ (slot, value) ∷ rest me.1 → Leaves content room spots place z number c status (at_home value) → MayStore z me.0 place number c
+      → Allows (Kept content room spots z) (slot_count z) id me index (λ n. n) (λ found after. Lays content room spots z place number status c me after)
   lay-allows index status c value left held leaves store s kept homes at small =
       let w : World = kept.0 in
       let st = kept.1 in
@@ -186,7 +187,7 @@ module _ {T : Type 0} (content : T → List ℕ) (room : T → ℕ) (z : Shape) 
         tt,
         (
           n,
-          subst (λ (hs : List (maybe.Option (Option (Share T)))). Stands content room z n hs (slice_set s.words index (slice_index s.words index)) (slice_set s.views id view))
+          subst (λ (hs : List (maybe.Option (Option (Share T)))). Stands content room spots z n hs (slice_set s.words index (slice_index s.words index)) (slice_set s.views id view))
               (sym (ap (put_back s.homes) held)) e.0,
         ),
         record { goes = e.1; held = refl; steps = refl; looks = refl },

@@ -3,7 +3,8 @@ use Rattle.std.proofs.Common.{◌≡◌, inl, ℕ, Bool, ◌==◌, ◌&&◌, tru
 use Rattle.atomic_table.specs.Table.{Me}
 use Rattle.keybits.specs.declared.shape.Shape.{Shape}
 use Rattle.seqpool.specs.Pool.{pool_after}
-use Rattle.slotcell.specs.Share.{Share}
+use Rattle.placecell.specs.Share.{Share}
+use Rattle.placecell.specs.Spot.{Spot as CellSpot}
 use Rattle.sharelaws.specs.declared.stored.Status.{Status}
 use Rattle.sharelaws.specs.declared.stored.Status.TheVariants.{InHand}
 use Rattle.sharelaws.specs.declared.stored.Stored.{Stored}
@@ -21,8 +22,8 @@ use Rattle.poolsteps.specs.ViewLaws.{SharesLaw}
 pub may-touch : (z : Shape) (v : View) (place number : ℕ) → HasPlace z v place → MayTouch z v place number
 may-touch z v place number has = all-may (reclaimer v.seen place) (the_lane v).lane number (pool_after z v.seen place).phase has
 
-module _ {T : Type 0} {content : T → List ℕ} {room : T → ℕ} {z : Shape} {place number : ℕ} {status : Status} {before after : Me (Option (Share T)) View} {share : Share T}
-    (outs : Outs content room z place number status before share after) where
+module _ {T : Type 0} {content : T → List ℕ} {room : T → ℕ} {spots : ℕ → CellSpot} {z : Shape} {place number : ℕ} {status : Status} {before after : Me (Option (Share T)) View} {share : Share T}
+    (outs : Outs content room spots z place number status before share after) where
   -- any place that was with the lane still is, and its room is the same
   pub still-has : SharesLaw → (p : ℕ) → HasPlace z before.0 p → HasPlace z after.0 p
   still-has law p has = (law z before.0 after.0 _ outs.goes refl p number (may-touch z before.0 p number has)).1 has
@@ -37,14 +38,14 @@ module _ {T : Type 0} {content : T → List ℕ} {room : T → ℕ} {z : Shape} 
       ∙ ap (λ (b : Bool). cond b (stored_of content room share) (known_in ((place, stored_of content room share) ∷ (the_lane before.0).cells) place)) (eq-eqb place place refl)
 
 -- a share that is next to one that was taken out before is of the same cell
-pub one-cell : {T : Type 0} {content : T → List ℕ} {room : T → ℕ} {z : Shape} {place number next : ℕ} {status : Status} {before between after : Me (Option (Share T)) View}
-    {first last : Share T} → Outs content room z place number status before first between → Outs content room z place next status between last after
+pub one-cell : {T : Type 0} {content : T → List ℕ} {room : T → ℕ} {spots : ℕ → CellSpot} {z : Shape} {place number next : ℕ} {status : Status} {before between after : Me (Option (Share T)) View}
+    {first last : Share T} → Outs content room spots z place number status before first between → Outs content room spots z place next status between last after
     → HasPlace z between.0 place → first.cell ≡ last.cell
 one-cell outs more has = ap (λ (c : Stored). c.cell) (sym (more.known (inl has) ∙ known-after outs))
 
 -- after a BACK the lane left the slot so
-pub left-after : {T : Type 0} {content : T → List ℕ} {room : T → ℕ} {z : Shape} {place number : ℕ} {status : Status} {before after : Me (Option (Share T)) View} {share : Share T}
-    → Backs content room z place number status before share after → status_of (the_lane after.0) place number ≡ status
+pub left-after : {T : Type 0} {content : T → List ℕ} {room : T → ℕ} {spots : ℕ → CellSpot} {z : Shape} {place number : ℕ} {status : Status} {before after : Me (Option (Share T)) View} {share : Share T}
+    → Backs content room spots z place number status before share after → status_of (the_lane after.0) place number ≡ status
 left-after {place = place} {number = number} {status = status} {before = before} backs =
     let here : (place == place) && (number == number) ≡ true = ap (λ (b : Bool). b && (number == number)) (eq-eqb place place refl) ∙ eq-eqb number number refl in
     let earlier : Status = status_in (the_lane before.0).lane (Left place number InHand ∷ (the_lane before.0).deeds) place number in

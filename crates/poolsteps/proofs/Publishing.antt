@@ -1,4 +1,5 @@
 -- PUBLISH, through the table.
+use Rattle.placecell.specs.Spot.{Spot as CellSpot}
 use Rattle.std.proofs.Common.{◌≡◌, ◌≢◌, ◌⊎◌, inl, inr, ⊎_elim, ℕ, ◌+◌, ◌%◌, ◌^◌, ◌<◌, Bool, true, false, cond, eqb, ◌&&◌, List, [], ◌∷◌, ◌++◌, Some, refl, ap, sym, ◌∙◌, subst, arith, eq-eqb, ne_eqb, if◌then◌else◌}
 use Rattle.atomic_table.specs.Table.{Me}
 use Rattle.keybits.specs.declared.shape.Shape.{Shape}
@@ -64,8 +65,8 @@ module _ (z : Shape) (words : Words) (w : World) (v : View) (rule : Rule z (mome
         unchained = ap (times (place_of key)) (sym at.record_is.chain) ∙ may.unchained;
       }
 
-module _ {S T : Type 0} (content : T → List ℕ) (room : T → ℕ) (z : Shape) (words : Words) (w : World) (slots : Slots T)
-    (point : IsPoint content room z words w slots) (me : Me S View) (key : ℕ) (c : Stored) (with_ref : Bool) (at : IsAt z w me.0) where
+module _ {S T : Type 0} (content : T → List ℕ) (room : T → ℕ) (spots : ℕ → CellSpot) (z : Shape) (words : Words) (w : World) (slots : Slots T)
+    (point : IsPoint content room spots z words w slots) (me : Me S View) (key : ℕ) (c : Stored) (with_ref : Bool) (at : IsAt z w me.0) where
   abbrev place : ℕ
   place = place_of key
 
@@ -84,16 +85,16 @@ module _ {S T : Type 0} (content : T → List ℕ) (room : T → ℕ) (z : Shape
 
   pub publish-makes : is_place z place ≡ true → MayPublish z me.0 key → IsShared z me.0 place with_ref → MayRenew z me.0 place c
       → words.life place < 18446744073709551616
-      → Makes content room z words w slots place me ((words.life place + (if with_ref then 5 else 1)) % 2 ^ 64) (Publishes z key c with_ref me)
+      → Makes content room spots z words w slots place me ((words.life place + (if with_ref then 5 else 1)) % 2 ^ 64) (Publishes z key c with_ref me)
   publish-makes inside may shares renew small =
       let free : HasUnderWay z (moment_of words w) r.lane Nothing = (at.record_is.inside, sym at.record_is.under ∙ may.idle) in
       let filling = is-filling z words w me.0 point.rule at key may in
       let keeps = publish-law z (moment_of words w) r.lane key c.content with_ref point.rule free filling in
-      let shared = publish-share-law content room z w.history w.kept slots w.stock r.lane key c with_ref
+      let shared = publish-share-law content room spots z w.history w.kept slots w.stock r.lane key c with_ref
       point.paired point.rule.legal point.shared at.record_is.inside keeps.allowed.1 (may-restock filling renew)
       (λ number below touched. shares number below (λ e. touched (sym (at.record_is.deeds place number) ∙ e))) in
       let left = published-sum with_ref (words.life place) keeps.changes.0 keeps.room small in
-      subst (λ (value : ℕ). Makes content room z words w slots place me value (Publishes z key c with_ref me)) (sym left) record {
+      subst (λ (value : ℕ). Makes content room spots z words w slots place me value (Publishes z key c with_ref me)) (sym left) record {
         kind = kinds.Publish with_ref;
         act = Some (acts.Publish r.lane key c.content with_ref);
         under = Nothing;
@@ -101,7 +102,7 @@ module _ {S T : Type 0} (content : T → List ℕ) (room : T → ℕ) (z : Shape
         cells = (place, c) ∷ r.cells;
         keeps = keeps;
         -- beside the act stands the room of the cell
-        shared = subst (λ (n : ℕ). Shared content room z (w.history ++ acts.Publish r.lane key c.content with_ref ∷ []) (w.kept ++ n ∷ []) slots (restocked w.stock r.lane place c))
+        shared = subst (λ (n : ℕ). Shared content room spots z (w.history ++ acts.Publish r.lane key c.content with_ref ∷ []) (w.kept ++ n ∷ []) slots (restocked w.stock r.lane place c))
             (sym (ap (λ (b : Bool). (cond b c (known_of r place)).room) (eq-eqb place place refl))) shared;
         by = refl;
         deeds_are = at.record_is.deeds;

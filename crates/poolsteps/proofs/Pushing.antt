@@ -1,4 +1,5 @@
 -- PUSH, as a step of the lane's seat.
+use Rattle.placecell.specs.Spot.{Spot as CellSpot}
 use Rattle.std.proofs.Common.{◌≡◌, ◌≢◌, ⊎_elim, ℕ, Bool, true, false, ◌<◌, ◌≤◌, cond, eqb, nat_lt, List, [], ◌∷◌, ◌++◌, Some, None, refl, ap, sym, ◌∙◌, subst, eq-eqb, ne_eqb, lt-ltb}
 use Rattle.std.proofs.lemmas.Bool.{and_from}
 use mathlib.Core.Logic.{dite}
@@ -83,8 +84,8 @@ room-known z w v legal at place is =
     let rights = rights-law z v.seen at.between v.rooms at.rooms_between lane place 0 at.paired.0 at.paired.1 legal_now at.others (rw was refl) in
     ap (λ (acts : List Act). room_of acts w.kept place) at.seen ∙ (ap (λ (beside : List ℕ). room_of (v.seen ++ at.between) beside place) at.rooms ∙ rights.3)
 
-module _ {S T : Type 0} (content : T → List ℕ) (room : T → ℕ) (z : Shape) (words : Words) (w : World) (slots : Slots T)
-    (point : IsPoint content room z words w slots) (me : Me S View) (at : IsAt z w me.0) (top : ℕ) where
+module _ {S T : Type 0} (content : T → List ℕ) (room : T → ℕ) (spots : ℕ → CellSpot) (z : Shape) (words : Words) (w : World) (slots : Slots T)
+    (point : IsPoint content room spots z words w slots) (me : Me S View) (at : IsAt z w me.0) (top : ℕ) where
   abbrev r : LaneRecord
   r = the_lane me.0
 
@@ -103,16 +104,16 @@ module _ {S T : Type 0} (content : T → List ℕ) (room : T → ℕ) (z : Shape
 
   -- the seat's PUSH that leaves this word
   abbrev MakesPush : ℕ → Type 0
-  MakesPush left = MakesAt content room z words w slots at_stack me left (Pushes z top me)
+  MakesPush left = MakesAt content room spots z words w slots at_stack me left (Pushes z top me)
 
   -- the shares after the place is returned: it was at rest
   shared-home : IsAllowed z w.history (Some (acts.Home r.lane place)) → IsAtRest z me.0 place
-      → Shared content room z (w.history ++ acts.Home r.lane place ∷ []) (w.kept ++ 0 ∷ []) slots (after_home w.stock r.lane place)
+      → Shared content room spots z (w.history ++ acts.Home r.lane place ∷ []) (w.kept ++ 0 ∷ []) slots (after_home w.stock r.lane place)
   shared-home allowed rests =
       let with_lane : (pool_after z w.history place).phase ≡ with r.lane = allowed.1.1 in
       let known : known_of r place ≡ w.stock.stored place =
       at.record_is.cells place ∙ point.shared.owned r.lane place at.record_is.inside (rw with_lane refl) in
-      home-share-law content room z w.history w.kept slots w.stock r.lane place point.paired point.shared allowed.0 allowed.1
+      home-share-law content room spots z w.history w.kept slots w.stock r.lane place point.paired point.shared allowed.0 allowed.1
       (λ number below. sym (at.record_is.deeds place number) ∙ rests.slots number below)
       (subst (λ (c : Stored). c.content ≡ []) known rests.empty)
       (subst (λ (n : ℕ). n ≤ (w.stock.stored place).room) (sym (room-known z w me.0 point.rule.legal at place with_lane))
@@ -151,7 +152,7 @@ module _ {S T : Type 0} (content : T → List ℕ) (room : T → ℕ) (z : Shape
         let law = fails-law (aims ∙ at.record_is.pushed (shard_of place)) miss in
         let keeps = subst (λ (left : ℕ). Keeps z (moment_of words w) (kinds.Push top (link_to place)) at_stack left None (with_under w.lanes r.lane (Returns place None true)))
         (sym law.0) law.1 in
-        still-returns content room z words w slots point me at place None true (kinds.Push top (link_to place)) at_stack word (Pushes z top me) keeps
+        still-returns content room spots z words w slots point me at place None true (kinds.Push top (link_to place)) at_stack word (Pushes z top me) keeps
         (λ v made. (λ hit. absurd (miss hit), λ other. (law.0, first, made)))
 
     -- a PUSH after one that failed expects 0, and finds it
@@ -173,10 +174,10 @@ module _ {S T : Type 0} (content : T → List ℕ) (room : T → ℕ) (z : Shape
   -- PUSH of the place that a lane has to return
   pub push-makes : (p : ℕ) → IsToReturn me.0 p (Some top) → AimsAt r p top → IsAtRest z me.0 p
       → let found : ℕ = words.stack (shard_of p) r.lane in
-      MakesAt content room z words w slots (Stack (shard_of p) r.lane) me (either (eqb found top) (link_to p) found) (Pushes z top me)
+      MakesAt content room spots z words w slots (Stack (shard_of p) r.lane) me (either (eqb found top) (link_to p) found) (Pushes z top me)
   push-makes p under aims rests =
       let is = place-is me.0 p (Some top) under in
       let stack : ℕ → ℕ = λ q. words.stack (shard_of q) r.lane in
-      subst (λ (q : ℕ). MakesAt content room z words w slots (Stack (shard_of q) r.lane) me (either (eqb (stack q) top) (link_to q) (stack q)) (Pushes z top me)) is
-      (push-here (returns-now content room z words w slots point me at p (Some top) under)
+      subst (λ (q : ℕ). MakesAt content room spots z words w slots (Stack (shard_of q) r.lane) me (either (eqb (stack q) top) (link_to q) (stack q)) (Pushes z top me)) is
+      (push-here (returns-now content room spots z words w slots point me at p (Some top) under)
       (subst (λ (q : ℕ). AimsAt r q top) (sym is) aims) (subst (IsAtRest z me.0) (sym is) rests))

@@ -1,4 +1,5 @@
 -- One lane's seat steps: the table's rule goes on, and what the seat is told.
+use Rattle.placecell.specs.Spot.{Spot as CellSpot}
 use Rattle.std.proofs.Common.{◌≡◌, ◌≢◌, inl, ⊎_elim, ℕ, zero, suc, ◌+◌, ◌<◌, true, cond, eqb, List, [], ◌∷◌, ◌++◌, length, length-append, length-set, take, drop, take-append-drop, Option, Some, None, slice_index, slice_index_or, slice_set, refl, ap, sym, ◌∙◌, subst, arith, append-nil}
 use Rattle.std.specs.List.{All}
 use Rattle.std.proofs.lemmas.List.{length-take-le}
@@ -17,7 +18,7 @@ use Rattle.seqpool.specs.declared.act.Act.{Act}
 use Rattle.seqpool.specs.Pool.{lane_of, fresh, IsLegal}
 use Rattle.seqpool.specs.Histories.{acts_of}
 use Rattle.seqpool.proofs.Growth.{legal-front, acts-mine, acts-others}
-use Rattle.slotcell.specs.Share.{Share}
+use Rattle.placecell.specs.Share.{Share}
 use Rattle.sharelaws.specs.Shares.{Slots, Stock, Shared}
 use Rattle.steplaws.specs.Facts.{Words, Lanes, moment, Rule}
 use Rattle.steplaws.specs.StepLaws.{with_act, Keeps}
@@ -96,10 +97,10 @@ pub record Agrees (r : LaneRecord) (lanes : Lanes) (stock : Stock) : Type 0 wher
   pub cells : (place : ℕ) → known_of r place ≡ stock.knows r.lane place
 
 -- what a step or a look is made from: the rule and Share hold of these words and slots
-pub record IsPoint {T : Type 0} (content : T → List ℕ) (room : T → ℕ) (z : Shape) (words : Words) (w : World) (slots : Slots T) : Type 0 where
+pub record IsPoint {T : Type 0} (content : T → List ℕ) (room : T → ℕ) (spots : ℕ → CellSpot) (z : Shape) (words : Words) (w : World) (slots : Slots T) : Type 0 where
   pub rule : Rule z (moment words w.history w.lanes)
   pub paired : length w.kept ≡ length w.history
-  pub shared : Shared content room z w.history w.kept slots w.stock
+  pub shared : Shared content room spots z w.history w.kept slots w.stock
 
 -- after a step of a lane, its acts and those of another lane
 acts-own : (lane : ℕ) (history : List Act) (act : Option Act) → IsBy lane act → acts_of lane (with_act history act) ≡ acts_of lane history ++ acts_in act
@@ -240,10 +241,10 @@ module _ (z : Shape) (w : World) (views : List View) (seats : AreSeats z w views
         → OthersStay (the_lane v).lane w.lanes n.lanes w.stock n.stock → AreSeats z n (slice_set views id u)
     seats-after paired = seats-with u refl record { acts = prefix-self n.history; rooms = prefix-self n.kept; paired = paired } refl is.mine
 
-module _ {T : Type 0} (content : T → List ℕ) (room : T → ℕ) (z : Shape) (id : ℕ) (me : Me (Option (Share T)) View) (one : IsOne me.0) (w : World)
-    (homes : List (maybe.Option (Option (Share T)))) (words : List ℕ) (views : List View) (st : Stands content room z w homes words views)
+module _ {T : Type 0} (content : T → List ℕ) (room : T → ℕ) (spots : ℕ → CellSpot) (z : Shape) (id : ℕ) (me : Me (Option (Share T)) View) (one : IsOne me.0) (w : World)
+    (homes : List (maybe.Option (Option (Share T)))) (words : List ℕ) (views : List View) (st : Stands content room spots z w homes words views)
     (at : get_elem? views id ≡ some me.0) where
-  pub is-point : IsPoint content room z (words_in z words) w (slots_in z homes)
+  pub is-point : IsPoint content room spots z (words_in z words) w (slots_in z homes)
   is-point = record { rule = st.rule; paired = st.paired; shared = st.shared }
 
   pub is-at : IsAt z w me.0
@@ -252,10 +253,10 @@ module _ {T : Type 0} (content : T → List ℕ) (room : T → ℕ) (z : Shape) 
   -- a step on a word of the pool that keeps the rule, after which the seat's lane has this record
   pub step-stands : (kind : Kind) (word : Word) (value : ℕ) (act : Option Act) (after : Lanes) (stock : Stock) (r : LaneRecord) → has_word z word ≡ true
       → Keeps z (moment (words_in z words) w.history w.lanes) kind word value act after
-      → Shared content room z (with_act w.history act) (w.kept ++ rooms_in r act) (slots_in z homes) stock → IsBy (the_lane me.0).lane act
+      → Shared content room spots z (with_act w.history act) (w.kept ++ rooms_in r act) (slots_in z homes) stock → IsBy (the_lane me.0).lane act
       → r.lane ≡ (the_lane me.0).lane → r.mine ≡ (the_lane me.0).mine ++ acts_in act → Agrees r after stock
       → OthersStay (the_lane me.0).lane w.lanes after w.stock stock
-      → Stands content room z (world_after w act after stock r) homes (slice_set words (index_in z word) value)
+      → Stands content room spots z (world_after w act after stock r) homes (slice_set words (index_in z word) value)
       (slice_set views id (step_view me.0 r (world_after w act after stock r)))
       × Steps z kind (slice_index words (index_in z word)) value me (step_view me.0 r (world_after w act after stock r), me.1) act r
   step-stands kind word value act after stock r inside keeps shared by same mine agrees stay =
@@ -295,10 +296,10 @@ module _ {T : Type 0} (content : T → List ℕ) (room : T → ℕ) (z : Shape) 
 
   -- a look at any word, after which the slots and the shares are these, and the seat's lane has this record
   pub look-stands : (index : ℕ) (homes_now : List (maybe.Option (Option (Share T)))) (stock : Stock) (r : LaneRecord) → length homes_now ≡ slot_count z
-      → Shared content room z w.history w.kept (slots_in z homes_now) stock
+      → Shared content room spots z w.history w.kept (slots_in z homes_now) stock
       → r.lane ≡ (the_lane me.0).lane → r.mine ≡ (the_lane me.0).mine → Agrees r w.lanes stock
       → OthersStay (the_lane me.0).lane w.lanes w.lanes w.stock stock
-      → Stands content room z (restocked_world w stock) homes_now (slice_set words index (slice_index words index))
+      → Stands content room spots z (restocked_world w stock) homes_now (slice_set words index (slice_index words index))
       (slice_set views id (look_view me.0 r (restocked_world w stock)))
       × GoesOn z me.0 (look_view me.0 r (restocked_world w stock)) [] [] r
   look-stands index homes_now stock r deep shared same mine agrees stay =
@@ -329,7 +330,7 @@ module _ {T : Type 0} (content : T → List ℕ) (room : T → ℕ) (z : Shape) 
 
   -- a look at any word that moves nothing, after which the seat saw this beginning of the history, which begins with what it saw before
   pub short-stands : (index : ℕ) (seen : List Act) → IsPrefix me.0.seen seen → IsPrefix seen w.history
-      → Stands content room z w homes (slice_set words index (slice_index words index)) (slice_set views id (short_view me.0 w seen))
+      → Stands content room spots z w homes (slice_set words index (slice_index words index)) (slice_set views id (short_view me.0 w seen))
       × GoesOn z me.0 (short_view me.0 w seen) [] [] (the_lane me.0)
   short-stands index seen further begins =
       let v : View = me.0 in

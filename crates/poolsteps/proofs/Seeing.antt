@@ -1,9 +1,10 @@
 -- SEE, through the table.
+use Rattle.placecell.specs.Spot.{Spot as CellSpot}
 use Rattle.std.proofs.Common.{◌≡◌, true, [], ◌∷◌, ap, sym, ◌∙◌, ℕ, List, Option, refl, subst}
 use Rattle.atomic_table.specs.Table as table
 use Rattle.atomic_table.specs.Table.{Me, Allows}
 use Rattle.keybits.specs.declared.shape.Shape.{Shape}
-use Rattle.slotcell.specs.Share.{Share}
+use Rattle.placecell.specs.Share.{Share}
 use Rattle.poolsteps.specs.declared.view.LaneRecord.{LaneRecord}
 use Rattle.poolsteps.specs.declared.view.Heard.{Heard}
 use Rattle.poolsteps.specs.declared.view.View.{View}
@@ -43,33 +44,33 @@ pub agrees-now : (z : Shape) (w : World) (r : LaneRecord) → IsRecord z w r →
 agrees-now z w r is = record { under = is.under; pushed = is.pushed; chain = is.chain; deeds = is.deeds; cells = is.cells }
 
 -- a look at any word that moves nothing is one that the table allows
-pub see-allows : {T : Type 0} (content : T → List ℕ) (room : T → ℕ) (z : Shape) (slots id : ℕ) (me : Me (Option (Share T)) View) → IsOne me.0 → (index : ℕ)
-    → Allows (Kept content room z) slots id me index (λ n. n) (λ found after. Sees z me after)
-see-allows content room z slots id me one index s kept homes at small =
+pub see-allows : {T : Type 0} (content : T → List ℕ) (room : T → ℕ) (spots : ℕ → CellSpot) (z : Shape) (slots id : ℕ) (me : Me (Option (Share T)) View) → IsOne me.0 → (index : ℕ)
+    → Allows (Kept content room spots z) slots id me index (λ n. n) (λ found after. Sees z me after)
+see-allows content room spots z slots id me one index s kept homes at small =
     let w : World = kept.0 in
     let st = kept.1 in
-    let here = is-at content room z id me one w s.homes s.words s.views st at in
-    let looks = look-stands content room z id me one w s.homes s.words s.views st at index s.homes w.stock (the_lane me.0) st.deep st.shared refl refl
+    let here = is-at content room spots z id me one w s.homes s.words s.views st at in
+    let looks = look-stands content room spots z id me one w s.homes s.words s.views st at index s.homes w.stock (the_lane me.0) st.deep st.shared refl refl
     (agrees-now z w (the_lane me.0) here.record_is) (λ l other. stays-same l w.lanes w.stock) in
     (look_view me.0 (the_lane me.0) w, table.keeps, tt, (w, looks.0), record { goes = looks.1; held = refl; steps = refl; looks = refl })
 
 -- a look at the lifecycle word of a place
-pub see-life-allows : {T : Type 0} (content : T → List ℕ) (room : T → ℕ) (z : Shape) (slots id : ℕ) (me : Me (Option (Share T)) View) → IsOne me.0 → (place : ℕ)
-    → is_place z place ≡ true → Allows (Kept content room z) slots id me (index_in z (Life place)) (λ n. n) (SeesLife z place me)
+pub see-life-allows : {T : Type 0} (content : T → List ℕ) (room : T → ℕ) (spots : ℕ → CellSpot) (z : Shape) (slots id : ℕ) (me : Me (Option (Share T)) View) → IsOne me.0 → (place : ℕ)
+    → is_place z place ≡ true → Allows (Kept content room spots z) slots id me (index_in z (Life place)) (λ n. n) (SeesLife z place me)
 unfolding see-allows
-see-life-allows content room z slots id me one place inside s kept homes at small =
-    let sees = see-allows content room z slots id me one (index_in z (Life place)) s kept homes at small in
+see-life-allows content room spots z slots id me one place inside s kept homes at small =
+    let sees = see-allows content room spots z slots id me one (index_in z (Life place)) s kept homes at small in
     let w : World = kept.0 in
     let told = ap generation_in (sym (value-is z s.words (Life place) inside)) ∙ (kept.1.rule.state place inside).1 in
     (sees.0, sees.1, sees.2, sees.3, (sees.4, told))
 
 -- a look at any word that sees no further than what was told last
-pub see-no-further-allows : {T : Type 0} (content : T → List ℕ) (room : T → ℕ) (z : Shape) (slots id : ℕ) (me : Me (Option (Share T)) View) → IsOne me.0 → (index : ℕ)
-    → Allows (Kept content room z) slots id me index (λ n. n) (λ found after. SeesNoFurther z me after)
-see-no-further-allows content room z slots id me one index s kept homes at small =
+pub see-no-further-allows : {T : Type 0} (content : T → List ℕ) (room : T → ℕ) (spots : ℕ → CellSpot) (z : Shape) (slots id : ℕ) (me : Me (Option (Share T)) View) → IsOne me.0 → (index : ℕ)
+    → Allows (Kept content room spots z) slots id me index (λ n. n) (λ found after. SeesNoFurther z me after)
+see-no-further-allows content room spots z slots id me one index s kept homes at small =
     let w : World = kept.0 in
     let st = kept.1 in
     let old = (st.seats.seen id me.0 at).acts in
     let far = furthest me.0.told me.0.seen w old (st.seats.told id me.0 at) in
-    let looks = short-stands content room z id me one w s.homes s.words s.views st at index far.0 far.1 far.2 in
+    let looks = short-stands content room spots z id me one w s.homes s.words s.views st at index far.0 far.1 far.2 in
     (short_view me.0 w far.0, table.keeps, tt, (w, looks.0), (record { goes = looks.1; held = refl; steps = refl; looks = refl }, far.3))

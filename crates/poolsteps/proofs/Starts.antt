@@ -1,4 +1,5 @@
 -- What holds of the table at its start.
+use Rattle.placecell.specs.Spot.{Spot as CellSpot}
 use Rattle.std.proofs.Common.{◌≡◌, ⊎_elim, ℕ, zero, suc, ◌+◌, ◌^◌, ◌<◌, ◌≤◌, Bool, cond, List, [], ◌∷◌, map, length, Option, refl, ap, sym, ◌∙◌, subst, arith, eq-eqb, ne_eqb}
 use Rattle.std.proofs.lemmas.List.Elements.{All-nil}
 use mathlib.Core.Logic.{dite}
@@ -8,7 +9,7 @@ use lib.ListN.{get_elem?}
 use Rattle.atomic_table.specs.Table.{opening}
 use Rattle.keybits.specs.declared.shape.Shape.{Shape}
 use Rattle.keybits.specs.Shapes.{IsShape}
-use Rattle.slotcell.specs.Share.{Share}
+use Rattle.placecell.specs.Share.{Share}
 use Rattle.sharelaws.specs.Shares.{first_stock}
 use Rattle.sharelaws.proofs.Starting.{first-share-law}
 use Rattle.steplaws.specs.MomentLaws.{AreFirst, first_lanes}
@@ -87,17 +88,17 @@ length-homes : {A : Type 0} (slots : List A) → length (map some slots) ≡ len
 length-homes [] = refl
 length-homes (slot ∷ more) = ap suc (length-homes more)
 
-pub starts : {T : Type 0} (content : T → List ℕ) (room : T → ℕ) (z : Shape) (words : List ℕ) (slots : List (Option (Share T)))
+pub starts : {T : Type 0} (content : T → List ℕ) (room : T → ℕ) (spots : ℕ → CellSpot) (z : Shape) (words : List ℕ) (slots : List (Option (Share T)))
     → IsShape z → z.last_generation < 2 ^ 32 → length words ≡ word_count z → AreFirst z (words_in z words) → length slots ≡ slot_count z → AreNone slots
-    → Kept content room z (opening words slots (first_view z))
-starts content room z words slots limits wide count first deep none = (
+    → Kept content room spots z (opening words slots (first_view z))
+starts content room spots z words slots limits wide count first deep none = (
   first_world,
   record {
     count = count;
     deep = length-homes slots ∙ deep;
     paired = refl;
     rule = start-law z (words_in z words) limits wide first;
-    shared = first-share-law content room z (slots_in z (map some slots)) limits (slots-empty content room z slots deep none);
+    shared = first-share-law content room spots z (slots_in z (map some slots)) limits (slots-empty content room spots z slots deep none);
     seats = first-seats z;
   },
 )

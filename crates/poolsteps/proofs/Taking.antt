@@ -1,4 +1,5 @@
 -- TAKE, through the table.
+use Rattle.placecell.specs.Spot.{Spot as CellSpot}
 use Rattle.std.proofs.Common.{◌≡◌, ◌≢◌, ℕ, ◌<◌, ◌≤◌, true, List, [], ◌∷◌, ◌++◌, length, Some, None, refl, sym, ap, ◌∙◌, subst, arith, append-nil}
 use mathlib.Core.Logic.{dite}
 use native.Mathlib.Decide.{ℕ_discrete}
@@ -52,8 +53,8 @@ module _ (z : Shape) (history : List Act) (kept : List ℕ) (lane : ℕ) (places
       ∙ (ap (λ (beside : List ℕ). room_of (history ++ acts.Collect lane places ∷ []) beside place) rooms
       ∙ ap (λ (f : ℕ → ℕ). f place) (rooms-behind (λ _. 0) history kept (acts.Collect lane places) 0 same))
 
-module _ {S T : Type 0} (content : T → List ℕ) (room : T → ℕ) (z : Shape) (words : Words) (w : World) (slots : Slots T)
-    (point : IsPoint content room z words w slots) (me : Me S View) (from : ℕ) (at : IsAt z w me.0) (below : from < z.lanes) (apart : from ≢ (the_lane me.0).lane) where
+module _ {S T : Type 0} (content : T → List ℕ) (room : T → ℕ) (spots : ℕ → CellSpot) (z : Shape) (words : Words) (w : World) (slots : Slots T)
+    (point : IsPoint content room spots z words w slots) (me : Me S View) (from : ℕ) (at : IsAt z w me.0) (below : from < z.lanes) (apart : from ≢ (the_lane me.0).lane) where
   abbrev r : LaneRecord
   r = the_lane me.0
 
@@ -62,7 +63,7 @@ module _ {S T : Type 0} (content : T → List ℕ) (room : T → ℕ) (z : Shape
 
   -- the seat's TAKE
   abbrev MakesTake : Type 0
-  MakesTake = MakesAt content room z words w slots (Stack r.lane from) me 0 (Takes z from me)
+  MakesTake = MakesAt content room spots z words w slots (Stack r.lane from) me 0 (Takes z from me)
 
   -- of a stack that is empty: the rule says so of the history now, and this is what the seat then has seen
   takes-none : word ≡ 0 → MakesTake
@@ -76,7 +77,7 @@ module _ {S T : Type 0} (content : T → List ℕ) (room : T → ℕ) (z : Shape
         stock = w.stock;
         r = r;
         keeps = law.0;
-        shared = shared-still content room z words w slots point None r tt tt;
+        shared = shared-still content room spots z words w slots point None r tt tt;
         by = tt;
         lane_is = refl;
         mine = sym (append-nil r.mine);
@@ -100,7 +101,7 @@ module _ {S T : Type 0} (content : T → List ℕ) (room : T → ℕ) (z : Shape
       keeps.rule at.record_is.inside chain in
       let leads = leads-first z words.link r.lane word places law.1 law.2 inside in
       let stored : ℕ → Stored = w.stock.stored in
-      let shares = collect-share-law content room z w.history w.kept slots w.stock r.lane places point.paired point.shared keeps.allowed.0 keeps.allowed.1 in record {
+      let shares = collect-share-law content room spots z w.history w.kept slots w.stock r.lane places point.paired point.shared keeps.allowed.0 keeps.allowed.1 in record {
         kind = kinds.Take;
         act = Some act;
         after = with_chain w.lanes r.lane places;

@@ -1,11 +1,12 @@
 -- A note is cut from a seat, another seat is told what it has, and looks.
+use Rattle.placecell.specs.Spot.{Spot as CellSpot}
 use Rattle.std.proofs.Common.{◌≡◌, ◌∷◌, ◌∙◌, ℕ, List, Option, refl, ap, sym, inl, inr, arith}
 use Rattle.std.proofs.lemmas.List.Elements.{All-cons, All-head, All-same}
 use mathlib.Core.List.{IsPrefix}
 use Rattle.atomic_table.specs.Table as table
 use Rattle.atomic_table.specs.Table.{Me, Allows, Splits, Joins}
 use Rattle.keybits.specs.declared.shape.Shape.{Shape}
-use Rattle.slotcell.specs.Share.{Share}
+use Rattle.placecell.specs.Share.{Share}
 use Rattle.poolsteps.specs.declared.view.Heard.{Heard}
 use Rattle.poolsteps.specs.declared.view.View.{View}
 use Rattle.poolsteps.specs.Views.{the_lane, IsOne}
@@ -26,25 +27,25 @@ told-sound z v u w one two = record {
   own = one.own;
 }
 
-module _ {T : Type 0} (content : T → List ℕ) (room : T → ℕ) (z : Shape) where
+module _ {T : Type 0} (content : T → List ℕ) (room : T → ℕ) (spots : ℕ → CellSpot) (z : Shape) where
   -- a note has no lane
-  pub noted : (id : ℕ) (v : View) → Splits (Kept content room z) id v v (note_of v)
-  noted id v = cut content room z id v v (note_of v)
+  pub noted : (id : ℕ) (v : View) → Splits (Kept content room spots z) id v v (note_of v)
+  noted id v = cut content room spots z id v v (note_of v)
       record { inside = λ r among. among; seen = refl; rooms = refl; told = inl refl }
       record { inside = λ r among. absurd among; seen = refl; rooms = refl; told = inr refl }
       (λ lane. omega arith)
 
-  pub hears : (id other : ℕ) (v u : View) → Joins (Kept content room z) id v other u (told_by v u) spent
-  hears id other v u = join content room z id other v u (told_by v u) (told-sound z v u) (λ lane. omega arith)
+  pub hears : (id other : ℕ) (v u : View) → Joins (Kept content room spots z) id v other u (told_by v u) spent
+  hears id other v u = join content room spots z id other v u (told_by v u) (told-sound z v u) (λ lane. omega arith)
 
   -- a look at any word, at which the seat takes in all that it was told
   pub see-told-allows : (slots id : ℕ) (me : Me (Option (Share T)) View) → IsOne me.0 → (index : ℕ)
-      → Allows (Kept content room z) slots id me index (λ n. n) (λ found after. SeesTold z me after)
+      → Allows (Kept content room spots z) slots id me index (λ n. n) (λ found after. SeesTold z me after)
   see-told-allows slots id me one index s kept homes at small =
       let w : World = kept.0 in
       let st = kept.1 in
-      let here = is-at content room z id me one w s.homes s.words s.views st at in
-      let looks = look-stands content room z id me one w s.homes s.words s.views st at index s.homes w.stock (the_lane me.0) st.deep st.shared refl refl
+      let here = is-at content room spots z id me one w s.homes s.words s.views st at in
+      let looks = look-stands content room spots z id me one w s.homes s.words s.views st at index s.homes w.stock (the_lane me.0) st.deep st.shared refl refl
       (agrees-now z w (the_lane me.0) here.record_is) (λ l other. record { under = refl; pushed = λ shard. refl; chain = refl; status = λ place number. refl; knows = λ place. refl }) in
       let sees : Sees z me (look_view me.0 (the_lane me.0) w, me.1) = record { goes = looks.1; held = refl; steps = refl; looks = refl } in
       (look_view me.0 (the_lane me.0) w, table.keeps, tt, (w, looks.0), (sees, λ k heard below. (st.seats.told id me.0 at k heard below).acts))

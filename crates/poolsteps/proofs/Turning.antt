@@ -1,10 +1,11 @@
 -- The slots that a seat has in hand: the first is exchanged and goes behind the others, one after another, until all are.
+use Rattle.placecell.specs.Spot.{Spot as CellSpot}
 use Rattle.std.proofs.Common.{◌≡◌, ℕ, zero, suc, ◌+◌, ◌-◌, ◌<◌, List, [], ◌∷◌, ◌++◌, Option, Some, refl, ap, sym, ◌∙◌, subst, arith, append_assoc, append-nil}
 use Rattle.atomic_table.specs.Table.{rest}
 use Rattle.keybits.specs.declared.shape.Shape.{Shape}
 use Rattle.poolsteps.specs.Layout.{slot_index}
-use Rattle.slotcell.specs.Share.{Share, share_of}
-use Rattle.slotcell.specs.Rest.{Rest}
+use Rattle.placecell.specs.Share.{Share, share_of}
+use Rattle.placecell.specs.Rest.{Rest}
 use Rattle.sharelaws.specs.declared.stored.Stored.{Stored}
 use Rattle.sharelaws.specs.declared.stored.Status.TheVariants.{Untouched}
 use Rattle.sharelaws.specs.Shares.{IsShareOf}
@@ -74,19 +75,19 @@ module _ {A : Type 0} (z : Shape) (place : ℕ) (order : ℕ → ℕ) (values af
   turning-all count = row-all count
 
 -- ---- the shares that are so taken and put
-module _ {T : Type 0} (content : T → List ℕ) (room : T → ℕ) (z : Shape) (c : Stored) where
+module _ {T : Type 0} (content : T → List ℕ) (room : T → ℕ) (spots : ℕ → CellSpot) (place : ℕ) (z : Shape) (c : Stored) where
   -- the share that was found in a slot that was left alone
-  pub found-share : (values : ℕ → Option (Share T)) → AreLeft content room z Untouched c values → (number : ℕ) → number < z.lanes → {xs : List (ℕ × Option (Share T))} {one other : ℕ}
-      → xs ≡ (one, values number) ∷ rest xs → (share : Share T) → xs ≡ (other, Some share) ∷ rest xs → IsShareOf content room c number z.lanes share
+  pub found-share : (values : ℕ → Option (Share T)) → AreLeft content room spots place z Untouched c values → (number : ℕ) → number < z.lanes → {xs : List (ℕ × Option (Share T))} {one other : ℕ}
+      → xs ≡ (one, values number) ∷ rest xs → (share : Share T) → xs ≡ (other, Some share) ∷ rest xs → IsShareOf content room spots place c number z.lanes share
   found-share values are number below has share found =
       let left = are number below in
       let is : values number ≡ Some left.0 = cc left.1 in
       let same : Some left.0 ≡ Some share = sym is ∙ (sym (ap first_value has) ∙ ap first_value found) in
       let one_is : left.0 ≡ share = cc same in
-      subst (λ (s : Share T). IsShareOf content room c number z.lanes s) one_is left.2
+      subst (λ (s : Share T). IsShareOf content room spots place c number z.lanes s) one_is left.2
 
   -- there is one
-  pub some-share : (values : ℕ → Option (Share T)) → AreLeft content room z Untouched c values → (number : ℕ) → number < z.lanes → {xs : List (ℕ × Option (Share T))} {index : ℕ}
+  pub some-share : (values : ℕ → Option (Share T)) → AreLeft content room spots place z Untouched c values → (number : ℕ) → number < z.lanes → {xs : List (ℕ × Option (Share T))} {index : ℕ}
       → xs ≡ (index, values number) ∷ rest xs → (share : Share T) × (xs ≡ (index, Some share) ∷ rest xs)
   some-share values are number below {xs = xs} {index = index} has =
       let left = are number below in
@@ -94,14 +95,15 @@ module _ {T : Type 0} (content : T → List ℕ) (room : T → ℕ) (z : Shape) 
       (left.0, subst (λ (value : Option (Share T)). xs ≡ (index, value) ∷ rest xs) is has)
 
   -- the shares of a rest by their numbers
-  pub rest-left : (whole : Rest T) → AreOf content room z c whole → AreLeft content room z Untouched c (λ number. Some (share_of whole.cell whole.of whole.object number))
+  pub rest-left : (whole : Rest T) → AreOf content room spots place z c whole → AreLeft content room spots place z Untouched c (λ number. Some (share_of whole.cell whole.spot whole.of whole.object number))
   rest-left whole is number below = (
-    share_of whole.cell whole.of whole.object number,
+    share_of whole.cell whole.spot whole.of whole.object number,
     refl,
     record {
       cell = ap (λ (x : Stored). x.cell) is.cell_is;
       number_is = refl;
       of_is = is.of_is;
+      spot_is = is.spot_is;
       content_is = ap (λ (x : Stored). x.content) is.cell_is;
       room_is = ap (λ (x : Stored). x.room) is.cell_is;
     },

@@ -1,9 +1,10 @@
 -- What it is to move the shares of a place from all its slots or into them, between one look and another.
+use Rattle.placecell.specs.Spot.{Spot as CellSpot}
 use Rattle.std.specs.Prelude.{◌≡◌, ◌≢◌, ℕ, zero, suc, ◌+◌, ◌<◌, List, [], ◌∷◌, Option}
 use Rattle.atomic_table.specs.Table.{Me}
 use Rattle.keybits.specs.declared.shape.Shape.{Shape}
-use Rattle.slotcell.specs.Share.{Share}
-use Rattle.slotcell.specs.Rest.{Rest, lowest_share}
+use Rattle.placecell.specs.Share.{Share}
+use Rattle.placecell.specs.Rest.{Rest, lowest_share}
 use Rattle.sharelaws.specs.declared.stored.Stored.{Stored}
 use Rattle.sharelaws.specs.declared.stored.Status.{Status}
 use Rattle.sharelaws.specs.declared.stored.Status.TheVariants.{Untouched, Emptied, InHand}
@@ -47,15 +48,15 @@ pub record GoesAll (z : Shape) (place : ℕ) (status : Status) (c : Stored) (loo
   pub looked : after.looks ≡ before.looks + looks
 
 -- ---- an object's content and room are as its type has them
-module _ {T : Type 0} (content : T → List ℕ) (room : T → ℕ) where
+module _ {T : Type 0} (content : T → List ℕ) (room : T → ℕ) (spots : ℕ → CellSpot) where
   -- what the slots of a place have that a lane left so
-  abbrev pub AreLeft : Shape → Status → Stored → (ℕ → Option (Share T)) → Type 0
-  AreLeft z status c values = (number : ℕ) → number < z.lanes → Leaves content room z number c status (at_home (values number))
+  abbrev pub AreLeft : ℕ → Shape → Status → Stored → (ℕ → Option (Share T)) → Type 0
+  AreLeft place z status c values = (number : ℕ) → number < z.lanes → Leaves content room spots place z number c status (at_home (values number))
 
   -- a look at which the seat takes all slots of a place, which its lane left so
   pub record LiftsAll (z : Shape) (place : ℕ) (order : ℕ → ℕ) (status : Status) (before after : Me (Option (Share T)) View) : Type 0 where
     pub values : ℕ → Option (Share T)
-    pub are : AreLeft z status (known_of (the_lane before.0) place) values
+    pub are : AreLeft place z status (known_of (the_lane before.0) place) values
     pub goes : GoesAll z place InHand (known_of (the_lane before.0) place) 1 before.0 after.0
     pub held : after.1 ≡ held_of z place order values z.lanes
 
@@ -65,14 +66,15 @@ module _ {T : Type 0} (content : T → List ℕ) (room : T → ℕ) where
     pub held : after.1 ≡ []
 
   -- the shares of a rest are all those of this cell
-  pub record AreOf (z : Shape) (c : Stored) (rest : Rest T) : Type 0 where
+  pub record AreOf (place : ℕ) (z : Shape) (c : Stored) (rest : Rest T) : Type 0 where
+    pub spot_is : rest.spot ≡ spots place
     pub number_is : rest.number ≡ 0
     pub of_is : rest.of ≡ z.lanes
     pub cell_is : stored_of content room (lowest_share rest) ≡ c
 
   -- OUT of all shares of a place
   pub record OutsAll (z : Shape) (place : ℕ) (before : Me (Option (Share T)) View) (rest : Rest T) (after : Me (Option (Share T)) View) : Type 0 where
-    pub are : AreOf z (known_of (the_lane before.0) place) rest
+    pub are : AreOf place z (known_of (the_lane before.0) place) rest
     pub goes : GoesAll z place Emptied (known_of (the_lane before.0) place) 2 before.0 after.0
     pub held : after.1 ≡ []
 

@@ -2,7 +2,7 @@
 use mathlib.Core.List.{IsPrefix}
 use mathlib.Core.Option as maybe
 use lib.ListN.{get_elem?}
-use Rattle.slotcell.specs.Share.{Share}
+use Rattle.placecell.specs.Share.{Share}
 use Rattle.poolsteps.specs.Rule.{World, IsRecord, Stands}
 use Rattle.std.specs.Prelude.{◌≡◌, ◌<◌, ℕ, true, List, [], ◌∷◌, length, slice_get, Option, Some}
 use Rattle.atomic_table.specs.declared.shared.Seat.{Seat}
@@ -11,7 +11,7 @@ use Rattle.keybits.specs.Shapes.{is_place}
 use Rattle.poolsteps.specs.declared.grid.Spot.{Spot}
 use Rattle.poolsteps.specs.declared.grid.Grid.{Grid}
 use Rattle.poolsteps.specs.declared.view.View.{View}
-use Rattle.poolsteps.specs.Layout.{slot_start}
+use Rattle.poolsteps.specs.Layout.{slot_start, spots_at}
 use Rattle.poolsteps.specs.Views.{first_record, the_lane, IsOne}
 
 -- the spot is that of this place of the shape
@@ -49,7 +49,7 @@ pub record EndsWith {T : Type 0} (content : T → List ℕ) (room : T → ℕ) (
   pub homes : List (maybe.Option (Option (Share T)))
   pub at_home : (index : ℕ) (value : Option (Share T)) → get_elem? homes index ≡ maybe.some (maybe.some value) → get_elem? slots index ≡ maybe.some value
   pub views : List View
-  pub stands : Stands content room grid.shape w homes words views
+  pub stands : Stands content room (spots_at grid.objects.ptr grid.shape) grid.shape w homes words views
   pub seen : (index : ℕ) (hand : Seat (Option (Share T)) View) → slice_get hands index ≡ Some hand → IsPrefix hand.me.0.seen w.history
   pub rooms : (index : ℕ) (hand : Seat (Option (Share T)) View) → slice_get hands index ≡ Some hand → IsPrefix hand.me.0.rooms w.kept
   pub paired : (index : ℕ) (hand : Seat (Option (Share T)) View) → slice_get hands index ≡ Some hand → length hand.me.0.rooms ≡ length hand.me.0.seen

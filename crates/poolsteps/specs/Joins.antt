@@ -5,7 +5,8 @@ use Rattle.core.specs.Mem.Slots.{slots_items, slots_len, slots_ptr, IsFull}
 use Rattle.keybits.specs.declared.shape.Shape.{Shape}
 use Rattle.keybits.specs.Places.{shard_of}
 use Rattle.keybits.specs.Words.{state_in}
-use Rattle.slotcell.specs.Share.{Share}
+use Rattle.placecell.specs.Share.{Share}
+use Rattle.placecell.specs.Spot.{Spot as CellSpot}
 use Rattle.poolsteps.specs.Layout.{slot_index, slot_count}
 
 -- one value of a full row is set
@@ -24,28 +25,29 @@ module _ {T : Type 0} where
   abbrev pub HasAt : List (Option (Share T)) → ℕ → Type 0
   HasAt slots index = (share : Share T) × (slice_get slots index ≡ Some (Some share))
 
-  -- the slot at the index has the share of this number, of so many, of the cell
-  pub record HasPart (slots : List (Option (Share T))) (index cell number of : ℕ) : Type 0 where
+  -- the slot at the index has the share of this number, of so many, of the cell that stands there
+  pub record HasPart (slots : List (Option (Share T))) (index : ℕ) (spot : CellSpot) (cell number of : ℕ) : Type 0 where
     pub share : Share T
     pub stands : slice_get slots index ≡ Some (Some share)
     pub cell_is : share.cell ≡ cell
+    pub spot_is : share.spot ≡ spot
     pub number_is : share.number ≡ number
     pub of_is : share.of ≡ of
 
   -- each lane's slot of the place has the lane's share of one cell
-  pub record IsSpread (z : Shape) (slots : List (Option (Share T))) (place : ℕ) : Type 0 where
+  pub record IsSpread (spots : ℕ → CellSpot) (z : Shape) (slots : List (Option (Share T))) (place : ℕ) : Type 0 where
     pub cell : ℕ
-    pub each : (lane : ℕ) → lane < z.lanes → HasPart slots (slot_index z place lane) cell lane z.lanes
+    pub each : (lane : ℕ) → lane < z.lanes → HasPart slots (slot_index z place lane) (spots place) cell lane z.lanes
 
   -- the slot of the place's shard has the only share of a cell
-  pub record IsResting (z : Shape) (slots : List (Option (Share T))) (place : ℕ) : Type 0 where
+  pub record IsResting (spots : ℕ → CellSpot) (z : Shape) (slots : List (Option (Share T))) (place : ℕ) : Type 0 where
     pub cell : ℕ
-    pub part : HasPart slots (slot_index z place (shard_of place)) cell 0 1
+    pub part : HasPart slots (slot_index z place (shard_of place)) (spots place) cell 0 1
 
   -- what the slots of a place have, by its lifecycle word: where that is 0 a cell that rests, and where the place is published each lane's share
-  pub record HasCell (z : Shape) (slots : List (Option (Share T))) (place word : ℕ) : Type 0 where
-    pub resting : word ≡ 0 → IsResting z slots place
-    pub spread : (state_in word ≡ 1) ⊎ (state_in word ≡ 3) → IsSpread z slots place
+  pub record HasCell (spots : ℕ → CellSpot) (z : Shape) (slots : List (Option (Share T))) (place word : ℕ) : Type 0 where
+    pub resting : word ≡ 0 → IsResting spots z slots place
+    pub spread : (state_in word ≡ 1) ⊎ (state_in word ≡ 3) → IsSpread spots z slots place
 
   -- each lane's slot of the place is empty
   abbrev pub IsUnspread : Shape → List (Option (Share T)) → ℕ → Type 0

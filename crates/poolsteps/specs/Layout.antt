@@ -2,12 +2,14 @@
 use Rattle.std.specs.Prelude.{◌&&◌, ℕ, zero, suc, ◌+◌, ◌*◌, ◌%◌, Bool, nat_lt, List, [], ◌∷◌, ◌++◌, Option, slice_index, if◌then◌else◌}
 use mathlib.Core.Option as maybe
 use lib.ListN.{get_elem?}
+use denote.RawPtr.{Ptr}
+use Rattle.placecell.specs.Spot.{Spot as CellSpot}
 use Rattle.keybits.specs.declared.shape.Shape.{Shape}
 use Rattle.keybits.specs.declared.step.Word.{Word}
 use Rattle.keybits.specs.declared.step.Word.TheVariants.{Life, Link, Stack}
 use Rattle.keybits.specs.Places.{shard_of}
 use Rattle.keybits.specs.Shapes.{page_size, shard_places, all_places, position_of, is_place}
-use Rattle.slotcell.specs.Share.{Share}
+use Rattle.placecell.specs.Share.{Share}
 use Rattle.sharelaws.specs.Shares.{Slots}
 use Rattle.steplaws.specs.Facts.{Words}
 use Rattle.poolsteps.specs.declared.layout.PageRow.{PageRow}
@@ -71,6 +73,10 @@ page_row z page = if nat_lt (page % 16) z.pages
 abbrev pub page_rows : Shape → ℕ → List PageRow
 page_rows z zero = []
 page_rows z (suc pages) = page_rows z pages ++ page_row z pages ∷ []
+
+-- where the object of each place stands: in the word of the directory that has the number of its slots
+abbrev pub spots_at : Ptr → Shape → ℕ → CellSpot
+spots_at directory z place = record { directory = directory; index = slot_start z place }
 
 -- how many slots there are
 abbrev pub slot_count : Shape → ℕ

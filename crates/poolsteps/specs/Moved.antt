@@ -1,9 +1,10 @@
 -- What the moves of shares ask, and what they tell.
+use Rattle.placecell.specs.Spot.{Spot as CellSpot}
 use Rattle.std.specs.Prelude.{◌≡◌, ◌≢◌, ◌⊎◌, ℕ, ◌+◌, ◌<◌, List, [], ◌∷◌, Option}
 use Rattle.atomic_table.specs.Table.{Me, rest}
 use Rattle.keybits.specs.declared.shape.Shape.{Shape}
 use Rattle.seqpool.specs.Pool.{pool_after}
-use Rattle.slotcell.specs.Share.{Share}
+use Rattle.placecell.specs.Share.{Share}
 use Rattle.sharelaws.specs.declared.stored.Stored.{Stored}
 use Rattle.sharelaws.specs.declared.stored.Status.{Status}
 use Rattle.sharelaws.specs.declared.stored.Status.TheVariants.{Untouched, Emptied, InHand, Whole}
@@ -33,18 +34,20 @@ module _ {T : Type 0} (content : T → List ℕ) (room : T → ℕ) where
   abbrev pub stored_of : Share T → Stored
   stored_of share = record { cell = share.cell; content = content share.object; room = room share.object }
 
+-- and a share is of the cell that stands at its place
+module _ {T : Type 0} (content : T → List ℕ) (room : T → ℕ) (spots : ℕ → CellSpot) where
   -- the share is that which a slot left so has: the lane's share, or the only one
-  abbrev pub IsLeft : Shape → ℕ → Stored → Status → Share T → Type 0
-  IsLeft z number c Untouched share = IsShareOf content room c number z.lanes share
-  IsLeft z number c Emptied share = ⊥
-  IsLeft z number c InHand share = ⊥
-  IsLeft z number c Whole share = IsShareOf content room c 0 1 share
+  abbrev pub IsLeft : ℕ → Shape → ℕ → Stored → Status → Share T → Type 0
+  IsLeft place z number c Untouched share = IsShareOf content room spots place c number z.lanes share
+  IsLeft place z number c Emptied share = ⊥
+  IsLeft place z number c InHand share = ⊥
+  IsLeft place z number c Whole share = IsShareOf content room spots place c 0 1 share
 
   -- a look at which the seat takes what stands in a slot that its lane left so
   pub record Lifts (z : Shape) (place number : ℕ) (status : Status) (before after : Me (Option (Share T)) View) : Type 0 where
     pub c : Stored
     pub value : Option (Share T)
-    pub leaves : Leaves content room z number c status (at_home value)
+    pub leaves : Leaves content room spots place z number c status (at_home value)
     pub goes : GoesOn z before.0 after.0 [] [] (moved_record (the_lane before.0) place number InHand c)
     pub held : after.1 ≡ (slot_index z place number, value) ∷ before.1
     -- the cell has the content of the key that is published at the place
@@ -62,19 +65,19 @@ module _ {T : Type 0} (content : T → List ℕ) (room : T → ℕ) where
 
   -- OUT: the share that stood in a slot that the lane left so is in its hands, and the slot is empty
   pub record Outs (z : Shape) (place number : ℕ) (status : Status) (before : Me (Option (Share T)) View) (share : Share T) (after : Me (Option (Share T)) View) : Type 0 where
-    pub is_left : IsLeft z number (stored_of share) status share
+    pub is_left : IsLeft place z number (stored_of content room share) status share
     pub goes : GoesOn z before.0 after.0 [] []
-        (moved_record (moved_record (the_lane before.0) place number InHand (stored_of share)) place number Emptied (stored_of share))
+        (moved_record (moved_record (the_lane before.0) place number InHand (stored_of content room share)) place number Emptied (stored_of content room share))
     pub held : after.1 ≡ before.1
-    pub kept : IsKept (stored_of share) (room_of after.0.seen after.0.rooms place) (pool_after z after.0.seen place).phase
-    pub known : HasPlace z before.0 place ⊎ (status ≢ Untouched) → stored_of share ≡ known_of (the_lane before.0) place
+    pub kept : IsKept (stored_of content room share) (room_of after.0.seen after.0.rooms place) (pool_after z after.0.seen place).phase
+    pub known : HasPlace z before.0 place ⊎ (status ≢ Untouched) → stored_of content room share ≡ known_of (the_lane before.0) place
     pub steps : after.0.steps ≡ before.0.steps
     pub looks : after.0.looks ≡ before.0.looks + 2
 
   -- BACK: a share is put in a slot that was empty, and the lane leaves it so
   pub record Backs (z : Shape) (place number : ℕ) (status : Status) (before : Me (Option (Share T)) View) (share : Share T) (after : Me (Option (Share T)) View) : Type 0 where
     pub goes : GoesOn z before.0 after.0 [] []
-        (moved_record (moved_record (the_lane before.0) place number InHand (known_of (the_lane before.0) place)) place number status (stored_of share))
+        (moved_record (moved_record (the_lane before.0) place number InHand (known_of (the_lane before.0) place)) place number status (stored_of content room share))
     pub held : after.1 ≡ before.1
     pub steps : after.0.steps ≡ before.0.steps
     pub looks : after.0.looks ≡ before.0.looks + 2

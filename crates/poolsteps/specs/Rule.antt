@@ -1,4 +1,5 @@
 -- What holds of a table between any two steps.
+use Rattle.placecell.specs.Spot.{Spot as CellSpot}
 use Rattle.std.specs.Prelude.{◌≡◌, ℕ, ◌<◌, ◌≤◌, zero, suc, ◌+◌, List, [], ◌∷◌, length, Option}
 use Rattle.std.specs.List.{All}
 use mathlib.Core.Option as maybe
@@ -10,7 +11,7 @@ use Rattle.keybits.specs.declared.shape.Shape.{Shape}
 use Rattle.seqpool.specs.declared.act.Act.{Act}
 use Rattle.seqpool.specs.Histories.{acts_of}
 use Rattle.steplaws.specs.Facts.{Lanes, moment, Rule}
-use Rattle.slotcell.specs.Share.{Share}
+use Rattle.placecell.specs.Share.{Share}
 use Rattle.sharelaws.specs.Shares.{Stock, Shared}
 use Rattle.poolsteps.specs.declared.view.LaneRecord.{LaneRecord}
 use Rattle.poolsteps.specs.declared.view.Heard.{Heard}
@@ -56,14 +57,14 @@ pub record AreSeats (z : Shape) (w : World) (views : List View) : Type 0 where
   pub once : (lane : ℕ) → times_among lane views ≤ 1
 
 -- the rule: an object's content and room are as its type has them
-module _ {T : Type 0} (content : T → List ℕ) (room : T → ℕ) where
+module _ {T : Type 0} (content : T → List ℕ) (room : T → ℕ) (spots : ℕ → CellSpot) where
   -- these words, slots and views tell of this world, and the rule holds
   pub record Stands (z : Shape) (w : World) (homes : List (maybe.Option (Option (Share T)))) (words : List ℕ) (views : List View) : Type 0 where
     pub count : length words ≡ word_count z
     pub deep : length homes ≡ slot_count z
     pub paired : length w.kept ≡ length w.history
     pub rule : Rule z (moment (words_in z words) w.history w.lanes)
-    pub shared : Shared content room z w.history w.kept (slots_in z homes) w.stock
+    pub shared : Shared content room spots z w.history w.kept (slots_in z homes) w.stock
     pub seats : AreSeats z w views
 
   -- what holds of a table between any two steps

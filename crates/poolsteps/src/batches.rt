@@ -1,9 +1,9 @@
 //! The moves of all shares of a place: one look takes all its slots, and one gives them back.
 ghost use Rattle.std.specs.Prelude.{◌≡◌, ◌≢◌, ◌<◌, ◌-◌, ℕ, [], ◌∷◌, ◌++◌, Option, Some, None};
 ghost use Rattle.atomic_table.specs.Table.{rest};
-ghost use Rattle.slotcell.specs.Share.{Share as Shown};
+ghost use Rattle.placecell.specs.Share.{Share as Shown};
 ghost use Rattle.sharelaws.specs.declared.stored.Status.TheVariants.{Untouched, Emptied, InHand};
-ghost use Rattle.poolsteps.specs.Layout.{slot_index};
+ghost use Rattle.poolsteps.specs.Layout.{slot_index, spots_at};
 ghost use Rattle.poolsteps.specs.Views.{the_lane, status_of, IsOne};
 ghost use Rattle.poolsteps.specs.Grids.{IsSpot, IsOf, SameSeat};
 ghost use Rattle.poolsteps.specs.Told.{HasPlace, LeftAlone};
@@ -12,21 +12,22 @@ ghost use Rattle.poolsteps.specs.Batches.{held_of, IsOrder, AreLeft, AreOf, Lift
 use crate::grid::{Grid, Hand, Spot};
 use crate::layout::look_word;
 use crate::plays::{LayAll, LiftAll, MoveAll};
-use slotcell::{Clear, Rest, Share, Slot};
+use placecell::{Rest, Share, Slot};
+use slotcell::Clear;
 use std::marker::Brand;
 
 impl<T: Clear> Grid<T> {
     /// A look that takes all slots of a place, which the lane left so.
     #[inline]
     fn lift_all<J: MoveAll>(&self, hand: &mut Hand<T>, spot: Spot, lane: u32)
-        requires aim { (J.shape ≡ self.now.shape) × (J.place ≡ spot.place) × IsOrder self.now.shape J.order × (J.status ≢ InHand) }
+        requires aim { (J.shape ≡ self.now.shape) × (J.directory ≡ self.now.objects.ptr) × (J.place ≡ spot.place) × IsOrder self.now.shape J.order × (J.status ≢ InHand) }
         requires hand { IsOf self.now hand.old × IsOne hand.old.me.0 × (hand.old.me.1 ≡ []) }
         requires spot { IsSpot self.now.shape spot spot.place }
         requires lane { lane < self.now.shape.lanes }
         requires place { HasPlace self.now.shape hand.old.me.0 spot.place }
         requires left { (number : ℕ) → number < self.now.shape.lanes → status_of (the_lane hand.old.me.0) spot.place number ≡ J.status }
         ensures hand { SameSeat hand.old hand.new }
-        ensures lifts { LiftsAll T.content T.room self.now.shape spot.place J.order J.status hand.old.me hand.new.me }
+        ensures lifts { LiftsAll T.content T.room (spots_at self.now.objects.ptr self.now.shape) self.now.shape spot.place J.order J.status hand.old.me hand.new.me }
     {
         let _ = spot;
         self.table
@@ -37,15 +38,15 @@ impl<T: Clear> Grid<T> {
     /// A look that gives back all slots of a place, which the lane took, and leaves them so.
     #[inline]
     fn lay_all<J: MoveAll>(&self, hand: &mut Hand<T>, spot: Spot, lane: u32)
-        requires aim { (J.shape ≡ self.now.shape) × (J.place ≡ spot.place) × IsOrder self.now.shape J.order }
+        requires aim { (J.shape ≡ self.now.shape) × (J.directory ≡ self.now.objects.ptr) × (J.place ≡ spot.place) × IsOrder self.now.shape J.order }
         requires hand { IsOf self.now hand.old × IsOne hand.old.me.0 }
         requires spot { IsSpot self.now.shape spot spot.place }
         requires lane { lane < self.now.shape.lanes }
         requires place { HasPlace self.now.shape hand.old.me.0 spot.place }
         requires left { (number : ℕ) → number < self.now.shape.lanes → status_of (the_lane hand.old.me.0) spot.place number ≡ InHand }
-        requires values { (values : ℕ → Option (Shown T)) × AreLeft T.content T.room self.now.shape J.status J.stored values × (hand.old.me.1 ≡ held_of self.now.shape spot.place J.order values self.now.shape.lanes) }
+        requires values { (values : ℕ → Option (Shown T)) × AreLeft T.content T.room (spots_at self.now.objects.ptr self.now.shape) spot.place self.now.shape J.status J.stored values × (hand.old.me.1 ≡ held_of self.now.shape spot.place J.order values self.now.shape.lanes) }
         ensures hand { SameSeat hand.old hand.new }
-        ensures lays { LaysAll T.content T.room self.now.shape spot.place J.status J.stored hand.old.me hand.new.me }
+        ensures lays { LaysAll T.content T.room (spots_at self.now.objects.ptr self.now.shape) self.now.shape spot.place J.status J.stored hand.old.me hand.new.me }
     {
         let _ = spot;
         self.table
@@ -96,10 +97,10 @@ impl<T: Clear> Grid<T> {
     fn take_all<J: MoveAll>(&self, hand: &mut Hand<T>, spot: Spot) -> Rest<T>
         requires hand { IsOf self.now hand.old }
         requires spot { IsSpot self.now.shape spot spot.place }
-        requires held { (values : ℕ → Option (Shown T)) × AreLeft T.content T.room self.now.shape Untouched J.stored values × (hand.old.me.1 ≡ held_of self.now.shape spot.place (λ position. position) values self.now.shape.lanes) }
+        requires held { (values : ℕ → Option (Shown T)) × AreLeft T.content T.room (spots_at self.now.objects.ptr self.now.shape) spot.place self.now.shape Untouched J.stored values × (hand.old.me.1 ≡ held_of self.now.shape spot.place (λ position. position) values self.now.shape.lanes) }
         ensures hand { SameSeat hand.old hand.new }
         ensures held { hand.new.me ≡ (hand.old.me.0, held_of self.now.shape spot.place (λ position. position) (λ _. None) self.now.shape.lanes) }
-        ensures rest { AreOf T.content T.room self.now.shape J.stored result }
+        ensures rest { AreOf T.content T.room (spots_at self.now.objects.ptr self.now.shape) spot.place self.now.shape J.stored result }
     {
         let row = self.row;
         let last = self.shape.lanes - 1;
@@ -118,9 +119,9 @@ impl<T: Clear> Grid<T> {
         requires hand { IsOf self.now hand.old }
         requires spot { IsSpot self.now.shape spot spot.place }
         requires held { (values : ℕ → Option (Shown T)) × (hand.old.me.1 ≡ held_of self.now.shape spot.place (λ position. self.now.shape.lanes - 1 - position) values self.now.shape.lanes) }
-        requires rest { AreOf T.content T.room self.now.shape J.stored rest }
+        requires rest { AreOf T.content T.room (spots_at self.now.objects.ptr self.now.shape) spot.place self.now.shape J.stored rest }
         ensures hand { SameSeat hand.old hand.new × (hand.new.me.0 ≡ hand.old.me.0) }
-        ensures held { (values : ℕ → Option (Shown T)) × AreLeft T.content T.room self.now.shape Untouched J.stored values × (hand.new.me.1 ≡ held_of self.now.shape spot.place (λ position. self.now.shape.lanes - 1 - position) values self.now.shape.lanes) }
+        ensures held { (values : ℕ → Option (Shown T)) × AreLeft T.content T.room (spots_at self.now.objects.ptr self.now.shape) spot.place self.now.shape Untouched J.stored values × (hand.new.me.1 ≡ held_of self.now.shape spot.place (λ position. self.now.shape.lanes - 1 - position) values self.now.shape.lanes) }
     {
         let row = self.row;
         let last = self.shape.lanes - 1;
@@ -140,7 +141,7 @@ impl<T: Clear> Grid<T> {
         requires place { HasPlace self.now.shape hand.old.me.0 spot.place }
         requires left { LeftAlone self.now.shape (the_lane hand.old.me.0) spot.place }
         ensures hand { SameSeat hand.old hand.new }
-        ensures outs { OutsAll T.content T.room self.now.shape spot.place hand.old.me result hand.new.me }
+        ensures outs { OutsAll T.content T.room (spots_at self.now.objects.ptr self.now.shape) self.now.shape spot.place hand.old.me result hand.new.me }
     {
         self.lift_all::<Brand>(hand, spot, lane);
         let rest = self.take_all::<Brand>(hand, spot);
@@ -156,9 +157,9 @@ impl<T: Clear> Grid<T> {
         requires lane { lane < self.now.shape.lanes }
         requires place { HasPlace self.now.shape hand.old.me.0 spot.place }
         requires left { (number : ℕ) → number < self.now.shape.lanes → status_of (the_lane hand.old.me.0) spot.place number ≡ Emptied }
-        requires rest { (rest.number ≡ 0) × (rest.of ≡ self.now.shape.lanes) }
+        requires rest { (rest.number ≡ 0) × (rest.of ≡ self.now.shape.lanes) × (rest.spot ≡ spots_at self.now.objects.ptr self.now.shape spot.place) }
         ensures hand { SameSeat hand.old hand.new }
-        ensures backs { BacksAll T.content T.room self.now.shape spot.place hand.old.me rest hand.new.me }
+        ensures backs { BacksAll T.content T.room (spots_at self.now.objects.ptr self.now.shape) self.now.shape spot.place hand.old.me rest hand.new.me }
     {
         self.lift_all::<Brand>(hand, spot, lane);
         self.put_all::<Brand>(hand, spot, rest);

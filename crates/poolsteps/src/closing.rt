@@ -1,12 +1,14 @@
-ghost use Rattle.std.specs.Prelude.{◌≡◌, ◌<◌, true, Some, None, slice_get};
+ghost use Rattle.std.specs.Prelude.{◌≡◌, ◌<◌, ◌⊎◌, true, Some, None, IsSome, IfSome, slice_get};
 ghost use Rattle.core.specs.Mem.Slots.{slots_items, slots_len, IsFull};
 ghost use Rattle.keybits.specs.Shapes.{IsShape, is_place, position_of};
+ghost use Rattle.keybits.specs.Words.{state_in};
+ghost use Rattle.poolsteps.specs.Layout.{spots_at};
 ghost use Rattle.poolsteps.specs.Joins.{IsSlotRow, HasAt, IsSet, IsSpread, IsResting, HasCell, IsUnspread, IsUnrested, HasNoCell, Drains};
 
-use crate::layout::slot_at;
+use crate::layout::{slot_at, slot_start};
 use core::slots::Slots;
 use keybits::{Life, Shape, State, shard_of};
-use slotcell::{Rest, Share, Slot};
+use placecell::{Base, Rest, Share, Slot, Vacancy};
 use std::alloc::Global;
 
 /// The share in the slot at this index, which is then empty.
@@ -24,44 +26,48 @@ fn lift<T: Drop>(index: usize, slots: &mut Slots<Slot<T>>) -> Share<T>
 /// Drops the cell that the slots of a place have, with its object, by the place's lifecycle word: where that is 0 the one that
 /// rests there, and where the place is published the one whose shares are all there. Of other places the slots have none.
 pub fn drop_cell<T: Drop>(
-    alloc: Global,
+    directory: Base<Box<T, Global>>,
     shape: &Shape,
     place: u32,
     position: usize,
     word: u64,
     slots: &mut Slots<Slot<T>>,
-)
+) -> Option<Vacancy<T>>
     requires shape { IsShape shape.now }
     requires place { is_place shape.now place ≡ true }
     requires position { position ≡ position_of shape.now place }
     requires row { IsSlotRow shape.now slots.old }
-    requires cell { HasCell shape.now (slots_items slots.old) place word }
+    requires cell { HasCell (spots_at directory.ptr shape.now) shape.now (slots_items slots.old) place word }
+    ensures vacancy { IfSome result (λ vacancy. vacancy ≡ spots_at directory.ptr shape.now place) }
+    ensures some { (word ≡ 0) ⊎ ((state_in word ≡ 1) ⊎ (state_in word ≡ 3)) → IsSome result }
     ensures drains { Drains shape.now place slots.old slots.new }
     ensures gone { HasNoCell shape.now (slots_items slots.new) place word }
 {
     if word == 0 {
-        drop_resting(alloc, shape, place, position, slots);
-        return;
+        return Some(drop_resting(directory, shape, place, position, slots));
     }
     match Life::of_word(word).state {
-        State::Present | State::Marked => drop_spread(alloc, shape, place, position, slots),
-        State::Idle | State::Retired => {}
+        State::Present | State::Marked => {
+            Some(drop_spread(directory, shape, place, position, slots))
+        }
+        State::Idle | State::Retired => None,
     }
 }
 
 /// Drops the cell of a place whose shares all lie in its slots, with its object. The slots then are empty.
 fn drop_spread<T: Drop>(
-    alloc: Global,
+    directory: Base<Box<T, Global>>,
     shape: &Shape,
     place: u32,
     position: usize,
     slots: &mut Slots<Slot<T>>,
-)
+) -> Vacancy<T>
     requires shape { IsShape shape.now }
     requires place { is_place shape.now place ≡ true }
     requires position { position ≡ position_of shape.now place }
     requires row { IsSlotRow shape.now slots.old }
-    requires spread { IsSpread shape.now (slots_items slots.old) place }
+    requires spread { IsSpread (spots_at directory.ptr shape.now) shape.now (slots_items slots.old) place }
+    ensures vacancy { result ≡ spots_at directory.ptr shape.now place }
     ensures drains { Drains shape.now place slots.old slots.new }
     ensures gone { IsUnspread shape.now (slots_items slots.new) place }
 {
@@ -72,26 +78,33 @@ fn drop_spread<T: Drop>(
         number -= 1;
         rest.merge(lift(slot_at(shape, place, position, number), slots));
     }
-    drop(rest.into_whole(alloc));
+    let start = slot_start(shape, place, position);
+    let (vacancy, object) = rest.into_whole().take(directory, start);
+    drop(object);
+    vacancy
 }
 
 /// Drops the cell of a place whose only share lies in the slot of its shard, with its object. The slot then is empty.
 fn drop_resting<T: Drop>(
-    alloc: Global,
+    directory: Base<Box<T, Global>>,
     shape: &Shape,
     place: u32,
     position: usize,
     slots: &mut Slots<Slot<T>>,
-)
+) -> Vacancy<T>
     requires shape { IsShape shape.now }
     requires place { is_place shape.now place ≡ true }
     requires position { position ≡ position_of shape.now place }
     requires row { IsSlotRow shape.now slots.old }
-    requires resting { IsResting shape.now (slots_items slots.old) place }
+    requires resting { IsResting (spots_at directory.ptr shape.now) shape.now (slots_items slots.old) place }
+    ensures vacancy { result ≡ spots_at directory.ptr shape.now place }
     ensures drains { Drains shape.now place slots.old slots.new }
     ensures gone { IsUnrested shape.now (slots_items slots.new) place }
 {
     let slot = slot_at(shape, place, position, shard_of(place));
     let rest = Rest::of_last(lift(slot, slots));
-    drop(rest.into_whole(alloc));
+    let start = slot_start(shape, place, position);
+    let (vacancy, object) = rest.into_whole().take(directory, start);
+    drop(object);
+    vacancy
 }

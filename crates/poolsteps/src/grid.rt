@@ -9,7 +9,8 @@ use crate::plays::PoolRule;
 use crate::view::View;
 use atomic_table::{Seat, Table};
 use keybits::Shape;
-use slotcell::{Clear, Slot};
+use placecell::{Address, Base, Slot};
+use slotcell::Clear;
 use std::alloc::Global;
 
 /// A lane's seat at the table of its pool.
@@ -24,20 +25,29 @@ pub struct Spot {
     pub start: u32,
 }
 
+/// What holds of a pool's table for good: its shape, and where the directory of its objects begins.
+#[derive(Clone, Copy)]
+pub struct Board {
+    pub shape: Shape,
+    pub directory: Address,
+}
+
 /// The words of a pool in one table, and a slot for each place and lane.
 #[derive(Drop)]
 pub struct Grid<T: Clear> {
     /// The table.
-    pub table: Table<Slot<T>, View, Shape, PoolRule, Global>,
+    pub table: Table<Slot<T>, View, Board, PoolRule, Global>,
     /// The pool's shape.
     pub shape: Shape,
+    /// Where the pool's objects stand: each in the word of its place.
+    pub objects: Base<Box<T, Global>>,
     /// How many slots stand between those of a place for two lanes that follow each other.
     pub(crate) row: usize,
     /// Where the link words begin.
     pub(crate) links: usize,
     /// Where the places of each page stand.
     pub(crate) pages: Vec<PageRow>,
-    ghost shape_is: { table.shared.key ≡ shape },
+    ghost board_is: { table.shared.key ≡ record { shape = shape; directory = record { at = objects.ptr } } },
     ghost checked: { IsShape shape } by { IsShape-prop shape },
     ghost sized: { table.shared.table_id.words ≡ word_count shape },
     ghost deep: { table.shared.table_id.slots ≡ slot_count shape },

@@ -5,12 +5,12 @@ ghost use Rattle.std.specs.Prelude.{◌≡◌, ◌<◌, ◌*◌, ℕ, true, None
 ghost use Rattle.keybits.specs.Shapes.{IsShape, position_of, is_place};
 ghost use Rattle.keybits.specs.Places.{shard_of};
 ghost use Rattle.keybits.specs.declared.step.Word.TheVariants as words;
-ghost use Rattle.slotcell.specs.Share.{Share};
+ghost use Rattle.placecell.specs.Share.{Share};
 ghost use Rattle.poolsteps.specs.Layout.{index_in, look_word, links_start, word_count, words_in, page_row, page_rows, slot_start, slot_row, slot_count, slot_index, shard_start};
 ghost use Rattle.steplaws.specs.MomentLaws.{AreFirst};
 
 use keybits::{Life, PAGE_NUMBERS, Shape, State, shard_of};
-use slotcell::Slot;
+use placecell::Slot;
 use std::alloc::Global;
 
 /// How many words stand between two that different lanes change by themselves.
@@ -18,7 +18,7 @@ pub(crate) const WORDS_APART: usize = 8;
 
 /// How many slots stand unused behind those of each shard in a lane's row, so that those of neighbouring shards don't share a
 /// line of a processor's cache.
-pub(crate) const SHARDS_APART: usize = 8;
+pub const SHARDS_APART: usize = 8;
 
 /// Where the lifecycle words begin: behind the very first word and, as far apart, one for each of the most lanes.
 pub(crate) const LIVES_START: usize = 136;

@@ -17,11 +17,11 @@ mod steps;
 mod view;
 
 pub use closing::drop_cell;
-pub use grid::{Grid, Hand, Spot};
+pub use grid::{Board, Grid, Hand, Spot};
 pub use laws::{acts_law, references_law, shares_law};
 pub use layout::{
-    PageRow, life_word, link_word, page_rows, shard_start, slot_at, slot_row, slot_start,
-    stack_word,
+    PageRow, SHARDS_APART, life_word, link_word, page_rows, shard_start, slot_at, slot_row,
+    slot_start, stack_word,
 };
 pub use plays::{PoolRule, Purpose};
 pub use view::{Deed, LaneRecord, View};

@@ -1,12 +1,12 @@
 //! The moves of shares: each is two looks at a word of the lane's own, one that takes a slot and one that gives it back.
 ghost use Rattle.std.specs.Prelude.{◌≡◌, ◌≢◌, ◌<◌, ◌∷◌, Some, Option};
 ghost use Rattle.atomic_table.specs.Table.{rest};
-ghost use Rattle.slotcell.specs.Share.{Share as Shown};
+ghost use Rattle.placecell.specs.Share.{Share as Shown};
 ghost use Rattle.keybits.specs.Places.{shard_of as shard_number};
 ghost use Rattle.sharelaws.specs.declared.stored.Status.TheVariants.{Untouched, Emptied, InHand, Whole};
 ghost use Rattle.sharelaws.specs.ShareLaws.{Leaves};
 ghost use Rattle.sharelaws.specs.Shares.{at_home};
-ghost use Rattle.poolsteps.specs.Layout.{slot_index};
+ghost use Rattle.poolsteps.specs.Layout.{slot_index, spots_at};
 ghost use Rattle.poolsteps.specs.Views.{the_lane, status_of, IsOne};
 ghost use Rattle.poolsteps.specs.Grids.{IsSpot, IsOf, SameSeat};
 ghost use Rattle.poolsteps.specs.Told.{MayTouch};
@@ -16,7 +16,8 @@ use crate::grid::{Grid, Hand, Spot};
 use crate::layout::look_word;
 use crate::plays::{Lay, Lift, Move};
 use keybits::shard_of;
-use slotcell::{Clear, Share, Slot};
+use placecell::{Share, Slot};
+use slotcell::Clear;
 use std::marker::Brand;
 
 impl<T: Clear> Grid<T> {
@@ -30,7 +31,7 @@ impl<T: Clear> Grid<T> {
         requires may { MayTouch self.now.shape hand.old.me.0 spot.place number }
         requires left { status_of (the_lane hand.old.me.0) spot.place number ≡ Untouched }
         ensures hand { SameSeat hand.old hand.new }
-        ensures outs { Outs T.content T.room self.now.shape spot.place number Untouched hand.old.me result hand.new.me }
+        ensures outs { Outs T.content T.room (spots_at self.now.objects.ptr self.now.shape) self.now.shape spot.place number Untouched hand.old.me result hand.new.me }
     {
         self.out_as::<Brand>(hand, spot, lane, number)
     }
@@ -44,7 +45,7 @@ impl<T: Clear> Grid<T> {
         requires may { MayTouch self.now.shape hand.old.me.0 spot.place (shard_number spot.place) }
         requires left { status_of (the_lane hand.old.me.0) spot.place (shard_number spot.place) ≡ Whole }
         ensures hand { SameSeat hand.old hand.new }
-        ensures outs { Outs T.content T.room self.now.shape spot.place (shard_number spot.place) Whole hand.old.me result hand.new.me }
+        ensures outs { Outs T.content T.room (spots_at self.now.objects.ptr self.now.shape) self.now.shape spot.place (shard_number spot.place) Whole hand.old.me result hand.new.me }
     {
         self.out_as::<Brand>(hand, spot, lane, shard_of(spot.place))
     }
@@ -58,7 +59,7 @@ impl<T: Clear> Grid<T> {
         requires may { MayTouch self.now.shape hand.old.me.0 spot.place number }
         requires left { status_of (the_lane hand.old.me.0) spot.place number ≡ J.status }
         ensures hand { SameSeat hand.old hand.new }
-        ensures outs { Outs T.content T.room self.now.shape spot.place number J.status hand.old.me result hand.new.me }
+        ensures outs { Outs T.content T.room (spots_at self.now.objects.ptr self.now.shape) self.now.shape spot.place number J.status hand.old.me result hand.new.me }
     {
         let slot = self.slot_of(spot, number);
         self.lift::<Brand>(hand, spot, lane, number);
@@ -80,10 +81,10 @@ impl<T: Clear> Grid<T> {
         requires lanes { (lane < self.now.shape.lanes) × (number < self.now.shape.lanes) }
         requires may { MayTouch self.now.shape hand.old.me.0 spot.place number }
         requires left { status_of (the_lane hand.old.me.0) spot.place number ≡ Emptied }
-        requires share { (share.number ≡ number) × (share.of ≡ self.now.shape.lanes) }
+        requires share { (share.number ≡ number) × (share.of ≡ self.now.shape.lanes) × (share.spot ≡ spots_at self.now.objects.ptr self.now.shape spot.place) }
         requires cell { MayStore self.now.shape hand.old.me.0 spot.place number (stored_of T.content T.room share) }
         ensures hand { SameSeat hand.old hand.new }
-        ensures backs { Backs T.content T.room self.now.shape spot.place number Untouched hand.old.me share hand.new.me }
+        ensures backs { Backs T.content T.room (spots_at self.now.objects.ptr self.now.shape) self.now.shape spot.place number Untouched hand.old.me share hand.new.me }
     {
         self.back_as::<Brand>(hand, spot, lane, number, share)
     }
@@ -96,10 +97,10 @@ impl<T: Clear> Grid<T> {
         requires lane { lane < self.now.shape.lanes }
         requires may { MayTouch self.now.shape hand.old.me.0 spot.place (shard_number spot.place) }
         requires left { status_of (the_lane hand.old.me.0) spot.place (shard_number spot.place) ≡ Emptied }
-        requires share { (share.number ≡ 0) × (share.of ≡ 1) }
+        requires share { (share.number ≡ 0) × (share.of ≡ 1) × (share.spot ≡ spots_at self.now.objects.ptr self.now.shape spot.place) }
         requires cell { MayStore self.now.shape hand.old.me.0 spot.place (shard_number spot.place) (stored_of T.content T.room share) }
         ensures hand { SameSeat hand.old hand.new }
-        ensures backs { Backs T.content T.room self.now.shape spot.place (shard_number spot.place) Whole hand.old.me share hand.new.me }
+        ensures backs { Backs T.content T.room (spots_at self.now.objects.ptr self.now.shape) self.now.shape spot.place (shard_number spot.place) Whole hand.old.me share hand.new.me }
     {
         self.back_as::<Brand>(hand, spot, lane, shard_of(spot.place), share)
     }
@@ -118,10 +119,10 @@ impl<T: Clear> Grid<T> {
         requires lanes { (lane < self.now.shape.lanes) × (number < self.now.shape.lanes) }
         requires may { MayTouch self.now.shape hand.old.me.0 spot.place number }
         requires left { status_of (the_lane hand.old.me.0) spot.place number ≡ Emptied }
-        requires share { IsLeft T.content T.room self.now.shape number (stored_of T.content T.room share) J.status share }
+        requires share { IsLeft T.content T.room (spots_at self.now.objects.ptr self.now.shape) spot.place self.now.shape number (stored_of T.content T.room share) J.status share }
         requires cell { MayStore self.now.shape hand.old.me.0 spot.place number (stored_of T.content T.room share) }
         ensures hand { SameSeat hand.old hand.new }
-        ensures backs { Backs T.content T.room self.now.shape spot.place number J.status hand.old.me share hand.new.me }
+        ensures backs { Backs T.content T.room (spots_at self.now.objects.ptr self.now.shape) self.now.shape spot.place number J.status hand.old.me share hand.new.me }
     {
         let slot = self.slot_of(spot, number);
         self.lift::<Brand>(hand, spot, lane, number);
@@ -153,14 +154,14 @@ impl<T: Clear> Grid<T> {
     /// A look that takes a slot which the lane left so.
     #[inline]
     fn lift<J: Move>(&self, hand: &mut Hand<T>, spot: Spot, lane: u32, number: u32)
-        requires aim { (J.shape ≡ self.now.shape) × (J.place ≡ spot.place) × (J.number ≡ number) × (J.status ≢ InHand) }
+        requires aim { (J.shape ≡ self.now.shape) × (J.directory ≡ self.now.objects.ptr) × (J.place ≡ spot.place) × (J.number ≡ number) × (J.status ≢ InHand) }
         requires hand { IsOf self.now hand.old × IsOne hand.old.me.0 }
         requires spot { IsSpot self.now.shape spot spot.place }
         requires lanes { (lane < self.now.shape.lanes) × (number < self.now.shape.lanes) }
         requires may { MayTouch self.now.shape hand.old.me.0 spot.place number }
         requires left { status_of (the_lane hand.old.me.0) spot.place number ≡ J.status }
         ensures hand { SameSeat hand.old hand.new }
-        ensures lifts { Lifts T.content T.room self.now.shape spot.place number J.status hand.old.me hand.new.me }
+        ensures lifts { Lifts T.content T.room (spots_at self.now.objects.ptr self.now.shape) self.now.shape spot.place number J.status hand.old.me hand.new.me }
     {
         let _ = (spot, number);
         self.table.shared.load::<Lift<T, J>>(hand, look_word(lane));
@@ -169,16 +170,16 @@ impl<T: Clear> Grid<T> {
     /// A look that gives the slot back which the lane took last, and leaves it so.
     #[inline]
     fn lay<J: Move>(&self, hand: &mut Hand<T>, spot: Spot, lane: u32, number: u32)
-        requires aim { (J.shape ≡ self.now.shape) × (J.place ≡ spot.place) × (J.number ≡ number) }
+        requires aim { (J.shape ≡ self.now.shape) × (J.directory ≡ self.now.objects.ptr) × (J.place ≡ spot.place) × (J.number ≡ number) }
         requires hand { IsOf self.now hand.old × IsOne hand.old.me.0 }
         requires spot { IsSpot self.now.shape spot spot.place }
         requires lanes { (lane < self.now.shape.lanes) × (number < self.now.shape.lanes) }
         requires may { MayTouch self.now.shape hand.old.me.0 spot.place number }
         requires left { status_of (the_lane hand.old.me.0) spot.place number ≡ InHand }
-        requires value { (value : Option (Shown T)) × (hand.old.me.1 ≡ (slot_index self.now.shape spot.place number, value) ∷ rest hand.old.me.1) × Leaves T.content T.room self.now.shape number J.stored J.status (at_home value) }
+        requires value { (value : Option (Shown T)) × (hand.old.me.1 ≡ (slot_index self.now.shape spot.place number, value) ∷ rest hand.old.me.1) × Leaves T.content T.room (spots_at self.now.objects.ptr self.now.shape) spot.place self.now.shape number J.stored J.status (at_home value) }
         requires cell { MayStore self.now.shape hand.old.me.0 spot.place number J.stored }
         ensures hand { SameSeat hand.old hand.new }
-        ensures lays { Lays T.content T.room self.now.shape spot.place number J.status J.stored hand.old.me hand.new.me }
+        ensures lays { Lays T.content T.room (spots_at self.now.objects.ptr self.now.shape) self.now.shape spot.place number J.status J.stored hand.old.me hand.new.me }
     {
         let _ = (spot, number);
         self.table.shared.load::<Lay<T, J>>(hand, look_word(lane));

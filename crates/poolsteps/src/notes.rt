@@ -14,7 +14,8 @@ use crate::grid::{Grid, Hand};
 use crate::layout::look_word;
 use crate::plays::{Aim, Gather, Hear, SeeNoFurther, SeeTold, Tell};
 use atomic_table::Closed;
-use slotcell::{Clear, Slot};
+use placecell::Slot;
+use slotcell::Clear;
 use std::alloc::Global;
 use std::marker::Brand;
 
@@ -106,6 +107,7 @@ impl<T: Clear> Grid<T> {
         let Grid {
             table,
             shape: _,
+            objects: _,
             row: _,
             links: _,
             pages: _,

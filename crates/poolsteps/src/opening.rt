@@ -8,23 +8,28 @@ ghost use Rattle.poolsteps.specs.Rule.{first_view};
 ghost use Rattle.poolsteps.specs.Seats.{without_first, first_alone};
 ghost use Rattle.poolsteps.specs.Grids.{IsSpot, IsOf, SameSeat, AreFirstHands};
 
-use crate::grid::{Grid, Hand, Spot};
+use crate::grid::{Board, Grid, Hand, Spot};
 use crate::layout::{PageRow, first_slots, first_words, links_start, page_rows, slot_row};
 use crate::plays::Deal;
 use atomic_table::Table;
 use keybits::{PAGE_NUMBERS, Shape};
+use placecell::Base;
 use slotcell::Clear;
 use std::alloc::Global;
 
 impl<T: Clear> Grid<T> {
     /// The table of a pool of this shape, and the hand of each lane, by rising number. None where memory was refused.
-    pub fn new(alloc: Global, shape: &Shape) -> Option<(Grid<T>, Vec<Hand<T>>)>
+    pub fn new(
+        alloc: Global,
+        shape: &Shape,
+        objects: Base<Box<T, Global>>,
+    ) -> Option<(Grid<T>, Vec<Hand<T>>)>
         requires { IsShape shape.now }
-        ensures shape { IfSome result (λ made. made.0.shape ≡ shape.now) }
+        ensures shape { IfSome result (λ made. (made.0.shape ≡ shape.now) × (made.0.objects ≡ objects)) }
         ensures hands { IfSome result (λ made. AreFirstHands made.0 made.1.items) }
     {
         let mut hands = Vec::with_capacity(alloc, shape.lanes as usize).ok()?;
-        let (grid, mut seat) = Grid::undealt(alloc, *shape)?;
+        let (grid, mut seat) = Grid::undealt(alloc, *shape, objects)?;
         for _ in 0..shape.lanes {
             hands.push_reserved(grid.deal(&mut seat));
         }
@@ -32,21 +37,30 @@ impl<T: Clear> Grid<T> {
     }
 
     /// The table of a pool of this shape, and the seat of all its lanes. None where memory was refused.
-    fn undealt(alloc: Global, shape: Shape) -> Option<(Grid<T>, Hand<T>)>
+    fn undealt(
+        alloc: Global,
+        shape: Shape,
+        objects: Base<Box<T, Global>>,
+    ) -> Option<(Grid<T>, Hand<T>)>
         requires { IsShape shape }
-        ensures shape { IfSome result (λ made. made.0.shape ≡ shape) }
+        ensures shape { IfSome result (λ made. (made.0.shape ≡ shape) × (made.0.objects ≡ objects)) }
         ensures seat { IfSome result (λ made. IsOf made.0 made.1 × (made.1.me ≡ (first_view shape, []))) }
     {
         let pages = page_rows(alloc, &shape)?;
         let words = first_words(alloc, &shape)?;
         let slots = first_slots(alloc, &shape)?;
-        let (table, seat) = Table::new(alloc, words.as_slice(), slots, &shape).ok()?;
+        let board = Board {
+            shape,
+            directory: objects.address(),
+        };
+        let (table, seat) = Table::new(alloc, words.as_slice(), slots, &board).ok()?;
         let grid = Grid {
             table,
             row: slot_row(&shape),
             links: links_start(&shape),
             pages,
             shape,
+            objects,
         };
         Some((grid, seat))
     }

@@ -1,8 +1,9 @@
 //! What holds of the table between any two steps, and what each kind of step tells of the seat that made it.
+use crate::grid::Board;
 use crate::view::View;
 use atomic_table::{Join, Play, Split, TableRule};
-use keybits::Shape;
-use slotcell::{Clear, Slot};
+use placecell::Slot;
+use slotcell::Clear;
 use std::marker::{Brand, PhantomData};
 
 /// What an ENTER is for.
@@ -17,12 +18,13 @@ pub enum Purpose {
 /// The rule of a pool's table.
 pub struct PoolRule;
 
-impl<T: Clear> TableRule<Slot<T>, View, Shape> for PoolRule {
+impl<T: Clear> TableRule<Slot<T>, View, Board> for PoolRule {
     ghost use Rattle.poolsteps.specs.Rule.{Kept, first_view};
+    ghost use Rattle.poolsteps.specs.Layout.{spots_at};
 
-    ghost holds = { Kept T.content T.room };
+    ghost holds = { λ board. Kept T.content T.room (spots_at board.directory.at board.shape) board.shape };
 
-    ghost first = { first_view };
+    ghost first = { λ board. first_view board.shape };
 }
 
 /// What a step is told by the call that makes it.
@@ -65,8 +67,11 @@ pub(crate) trait Move {
     ghost use Rattle.keybits.specs.declared.shape.Shape.{Shape};
     ghost use Rattle.sharelaws.specs.declared.stored.Status.{Status};
     ghost use Rattle.sharelaws.specs.declared.stored.Stored.{Stored};
+    ghost use denote.RawPtr.{Ptr};
 
     ghost shape: { Shape };
+
+    ghost directory: { Ptr };
 
     ghost place: { ℕ };
 
@@ -80,8 +85,11 @@ pub(crate) trait Move {
 impl Move for Brand {
     ghost use Rattle.sharelaws.specs.declared.stored.Status.TheVariants.{Untouched};
     ghost use Rattle.sharelaws.specs.Shares.{nothing_stored};
+    ghost use denote.RawPtr.{null_ptr};
 
     ghost shape = { record { lanes = 1; first_page = 1; pages = 1; last_generation = 1; tag = 0 } };
+
+    ghost directory = { null_ptr };
 
     ghost place = { 0 };
 
@@ -98,8 +106,11 @@ pub(crate) trait MoveAll {
     ghost use Rattle.keybits.specs.declared.shape.Shape.{Shape};
     ghost use Rattle.sharelaws.specs.declared.stored.Status.{Status};
     ghost use Rattle.sharelaws.specs.declared.stored.Stored.{Stored};
+    ghost use denote.RawPtr.{Ptr};
 
     ghost shape: { Shape };
+
+    ghost directory: { Ptr };
 
     ghost place: { ℕ };
 
@@ -113,8 +124,11 @@ pub(crate) trait MoveAll {
 impl MoveAll for Brand {
     ghost use Rattle.sharelaws.specs.declared.stored.Status.TheVariants.{Untouched};
     ghost use Rattle.sharelaws.specs.Shares.{nothing_stored};
+    ghost use denote.RawPtr.{null_ptr};
 
     ghost shape = { record { lanes = 1; first_page = 1; pages = 1; last_generation = 1; tag = 0 } };
+
+    ghost directory = { null_ptr };
 
     ghost place = { 0 };
 
@@ -274,9 +288,10 @@ pub(crate) struct Lift<T, J: Move> {
 }
 
 impl<T: Clear, J: Move> Play<Slot<T>, View> for Lift<T, J> {
+    ghost use Rattle.poolsteps.specs.Layout.{spots_at};
     ghost use Rattle.poolsteps.specs.Moved.{Lifts};
 
-    ghost then = { λ step before found after. Lifts T.content T.room J.shape J.place J.number J.status before after };
+    ghost then = { λ step before found after. Lifts T.content T.room (spots_at J.directory J.shape) J.shape J.place J.number J.status before after };
 }
 
 /// A look that gives a slot back.
@@ -285,9 +300,10 @@ pub(crate) struct Lay<T, J: Move> {
 }
 
 impl<T: Clear, J: Move> Play<Slot<T>, View> for Lay<T, J> {
+    ghost use Rattle.poolsteps.specs.Layout.{spots_at};
     ghost use Rattle.poolsteps.specs.Moved.{Lays};
 
-    ghost then = { λ step before found after. Lays T.content T.room J.shape J.place J.number J.status J.stored before after };
+    ghost then = { λ step before found after. Lays T.content T.room (spots_at J.directory J.shape) J.shape J.place J.number J.status J.stored before after };
 }
 
 /// A look that takes all slots of a place.
@@ -296,9 +312,10 @@ pub(crate) struct LiftAll<T, J: MoveAll> {
 }
 
 impl<T: Clear, J: MoveAll> Play<Slot<T>, View> for LiftAll<T, J> {
+    ghost use Rattle.poolsteps.specs.Layout.{spots_at};
     ghost use Rattle.poolsteps.specs.Batches.{LiftsAll};
 
-    ghost then = { λ step before found after. LiftsAll T.content T.room J.shape J.place J.order J.status before after };
+    ghost then = { λ step before found after. LiftsAll T.content T.room (spots_at J.directory J.shape) J.shape J.place J.order J.status before after };
 }
 
 /// A look that gives all slots of a place back.
@@ -307,9 +324,10 @@ pub(crate) struct LayAll<T, J: MoveAll> {
 }
 
 impl<T: Clear, J: MoveAll> Play<Slot<T>, View> for LayAll<T, J> {
+    ghost use Rattle.poolsteps.specs.Layout.{spots_at};
     ghost use Rattle.poolsteps.specs.Batches.{LaysAll};
 
-    ghost then = { λ step before found after. LaysAll T.content T.room J.shape J.place J.status J.stored before after };
+    ghost then = { λ step before found after. LaysAll T.content T.room (spots_at J.directory J.shape) J.shape J.place J.status J.stored before after };
 }
 
 /// A lane's seat is cut from that of all lanes.

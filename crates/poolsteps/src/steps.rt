@@ -13,7 +13,8 @@ use crate::grid::{Grid, Hand, Spot};
 use crate::layout::LIVES_START;
 use crate::plays::{Aim, Claim, Enter, Leave, Mark, Publish, Purpose};
 use keybits::{MARK_BIT, ONE_COUNT, PUBLISHED_BIT, claimable, claimed};
-use slotcell::{Clear, Share};
+use placecell::Share;
+use slotcell::Clear;
 use std::marker::Brand;
 
 impl<T: Clear> Grid<T> {

@@ -1,12 +1,13 @@
 ghost use Rattle.std.specs.Prelude.{◌≡◌};
+ghost use Rattle.poolsteps.specs.Layout.{spots_at};
 ghost use Rattle.poolsteps.specs.Grids.{IsSpot, IsFirstHand};
 
-use crate::test_cells::object_of;
+use crate::test_cells::{directory_of, object_at};
 use crate::test_steps::{KEY, TWO_LANES, grid_of_two};
+use placecell::{Share, Whole};
 use poolcalls::{At, Got, Reclaimed, clear, downgrade, get, publish, release};
 use poolsteps::{Grid, Hand, Spot, acts_law};
-use slotcell::{Clear, Share, Whole};
-use std::alloc::Global;
+use slotcell::Clear;
 use std::process::Abort;
 
 /// Lane 0 publishes.
@@ -14,6 +15,7 @@ fn publish_first<T: Clear + Drop>(grid: &Grid<T>, hand: &mut Hand<T>, spot: Spot
     requires shape { grid.now.shape ≡ TWO_LANES }
     requires spot { IsSpot grid.now.shape spot 0 }
     requires hand { IsFirstHand grid.now 0 hand.old }
+    requires at { whole.spot ≡ spots_at grid.now.objects.ptr grid.now.shape 0 }
 {
     publish(grid, hand, spot, 0, KEY, whole);
 }
@@ -28,18 +30,14 @@ fn downgrade_first<T: Clear + Drop>(
     requires shape { grid.now.shape ≡ TWO_LANES }
     requires spot { IsSpot grid.now.shape spot 0 }
     requires hand { IsFirstHand grid.now 0 hand.old }
+    requires at { whole.spot ≡ spots_at grid.now.objects.ptr grid.now.shape 0 }
+    ensures at { result.spot ≡ spots_at grid.now.objects.ptr grid.now.shape 0 }
 {
     downgrade(grid, hand, spot, 0, KEY, whole)
 }
 
 /// Lane 1 clears, and returns the place of lane 0.
-fn clear_alone<T: Clear + Drop, R: Abort>(
-    rt: &R,
-    alloc: Global,
-    grid: &Grid<T>,
-    hand: &mut Hand<T>,
-    spot: Spot,
-)
+fn clear_alone<T: Clear + Drop, R: Abort>(rt: &R, grid: &Grid<T>, hand: &mut Hand<T>, spot: Spot)
     requires shape { grid.now.shape ≡ TWO_LANES }
     requires spot { IsSpot grid.now.shape spot 0 }
     requires hand { IsFirstHand grid.now 1 hand.old }
@@ -49,7 +47,7 @@ fn clear_alone<T: Clear + Drop, R: Abort>(
         lane: 1,
         tops: &[0, 0],
     };
-    let (marked, reclaimed) = clear(alloc, grid, hand, at, KEY);
+    let (marked, reclaimed) = clear(grid, hand, at, KEY);
     assert!(rt; marked);
     assert!(rt; matches!(reclaimed, Some(Reclaimed::Returned)));
 }
@@ -57,7 +55,6 @@ fn clear_alone<T: Clear + Drop, R: Abort>(
 /// Lane 1 gets the key and gives its reference back, while lane 0 has one.
 fn get_and_release<T: Clear + Drop, R: Abort>(
     rt: &R,
-    alloc: Global,
     grid: &Grid<T>,
     hand: &mut Hand<T>,
     spot: Spot,
@@ -72,26 +69,33 @@ fn get_and_release<T: Clear + Drop, R: Abort>(
         lane: 1,
         tops: &[0, 0],
     };
-    let Got::Hit = get(alloc, grid, hand, at, KEY) else {
+    let Got::Hit = get(grid, hand, at, KEY) else {
         panic!(rt; "a miss")
     };
-    let reclaimed = release(alloc, grid, hand, at, KEY);
+    let reclaimed = release(grid, hand, at, KEY);
     assert!(rt; reclaimed.is_none());
 }
 
 #[test]
 fn publishes_and_clears(rt: HostRuntime) {
-    let (grid, mut first, mut second) = grid_of_two(&rt, rt.alloc());
+    let mut directory = directory_of(&rt, rt.alloc(), 1);
+    let (grid, mut first, mut second) = grid_of_two(&rt, rt.alloc(), directory.base());
     let spot = grid.spot(0);
-    publish_first(&grid, &mut first, spot, object_of(&rt, rt.alloc(), 7));
-    clear_alone(&rt, rt.alloc(), &grid, &mut second, spot);
+    let whole = object_at(&rt, rt.alloc(), &mut directory, spot.start as usize, 7);
+    publish_first(&grid, &mut first, spot, whole);
+    clear_alone(&rt, &grid, &mut second, spot);
 }
 
 #[test]
 fn gets_and_releases(rt: HostRuntime) {
-    let (grid, mut first, mut second) = grid_of_two(&rt, rt.alloc());
+    let mut directory = directory_of(&rt, rt.alloc(), 1);
+    let (grid, mut first, mut second) = grid_of_two(&rt, rt.alloc(), directory.base());
     let spot = grid.spot(0);
-    let share = downgrade_first(&grid, &mut first, spot, object_of(&rt, rt.alloc(), 7));
-    get_and_release(&rt, rt.alloc(), &grid, &mut second, spot);
-    assert_eq!(rt; share.read().as_slice(), [7].as_slice());
+    let whole = object_at(&rt, rt.alloc(), &mut directory, spot.start as usize, 7);
+    let share = downgrade_first(&grid, &mut first, spot, whole);
+    get_and_release(&rt, &grid, &mut second, spot);
+    assert_eq!(rt;
+        share.read(grid.objects, spot.start as usize).as_slice(),
+        [7].as_slice()
+    );
 }

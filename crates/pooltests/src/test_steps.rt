@@ -4,6 +4,7 @@ ghost use Rattle.keybits.specs.Keys.{place_of, is_key};
 ghost use Rattle.sharelaws.specs.declared.stored.Status.TheVariants.{Emptied};
 ghost use Rattle.sharelaws.specs.Shares.{room_of};
 ghost use Rattle.steplaws.specs.StepLaws.{owed_after};
+ghost use Rattle.poolsteps.specs.Layout.{spots_at};
 ghost use Rattle.poolsteps.specs.Views.{the_lane, status_of, known_of, IsOne};
 ghost use Rattle.poolsteps.specs.Grids.{IsSpot, IsOf, IsFirstHand};
 ghost use Rattle.poolsteps.specs.Told.{IsIdle, HasPlace, LeftAlone, references_seen};
@@ -11,11 +12,12 @@ ghost use Rattle.poolsteps.specs.Moved.{stored_of};
 ghost use Rattle.poolsteps.specs.Returned.{IsToReturn, AimsAt};
 
 use crate::test_calls::{is_word, same};
-use crate::test_cells::object_of;
+use crate::test_cells::{directory_of, object_at};
 use atomic_table::Closed;
 use keybits::{Shape, owes_claim};
+use placecell::{Base, Rest, Share, Slot, Whole};
 use poolsteps::{Grid, Hand, Purpose, Spot, references_law, shares_law};
-use slotcell::{ByteBuf, Clear, Rest, Share, Slot, Whole};
+use slotcell::{ByteBuf, Clear};
 use std::alloc::Global;
 use std::process::Abort;
 use std::thread;
@@ -58,12 +60,16 @@ fn pair_of<T>(mut hands: Vec<Hand<T>>) -> (Hand<T>, Hand<T>)
 }
 
 /// The grid of two lanes with a place each, and their hands.
-pub(crate) fn grid_of_two<T: Clear, R: Abort>(rt: &R, alloc: Global) -> (Grid<T>, Hand<T>, Hand<T>)
-    ensures shape { result.0.shape ≡ TWO_LANES }
+pub(crate) fn grid_of_two<T: Clear, R: Abort>(
+    rt: &R,
+    alloc: Global,
+    objects: Base<Box<T, Global>>,
+) -> (Grid<T>, Hand<T>, Hand<T>)
+    ensures shape { (result.0.shape ≡ TWO_LANES) × (result.0.objects ≡ objects) }
     ensures hands { IsFirstHand result.0 0 result.1 × IsFirstHand result.0 1 result.2 }
 {
     assert!(rt; TWO_LANES.check().is_ok());
-    let Some((grid, hands)) = Grid::new(alloc, &TWO_LANES) else {
+    let Some((grid, hands)) = Grid::new(alloc, &TWO_LANES, objects) else {
         panic!(rt; "no memory for a grid")
     };
     let (first, second) = pair_of(hands);
@@ -81,11 +87,12 @@ fn publish<T: Clear + Drop>(
     requires shape { grid.now.shape ≡ TWO_LANES }
     requires spot { IsSpot grid.now.shape spot 0 }
     requires hand { IsFirstHand grid.now 0 hand.old }
+    requires at { whole.spot ≡ spots_at grid.now.objects.ptr grid.now.shape 0 }
     ensures hand { IsOf grid.now hand.new × IsOne hand.new.me.0 }
     ensures lane { (the_lane hand.new.me.0).lane ≡ 0 }
     ensures idle { IsIdle hand.new.me.0 }
     ensures reference { references_seen grid.now.shape hand.new.me.0 KEY ≡ 1 }
-    ensures share { (result.number ≡ 0) × (result.of ≡ 2) }
+    ensures share { (result.number ≡ 0) × (result.of ≡ 2) × (result.spot ≡ spots_at grid.now.objects.ptr grid.now.shape 0) }
     ensures cell { known_of (the_lane hand.new.me.0) 0 ≡ stored_of T.content T.room result }
     ensures slot { status_of (the_lane hand.new.me.0) 0 0 ≡ Emptied }
 {
@@ -108,7 +115,7 @@ fn get<T: Clear>(rt: &impl Abort, grid: &Grid<T>, hand: &mut Hand<T>, spot: Spot
     ensures lane { (the_lane hand.new.me.0).lane ≡ 1 }
     ensures idle { IsIdle hand.new.me.0 }
     ensures reference { references_seen grid.now.shape hand.new.me.0 KEY ≡ 1 }
-    ensures share { (result.number ≡ 1) × (result.of ≡ 2) }
+    ensures share { (result.number ≡ 1) × (result.of ≡ 2) × (result.spot ≡ spots_at grid.now.objects.ptr grid.now.shape 0) }
     ensures cell { known_of (the_lane hand.new.me.0) 0 ≡ stored_of T.content T.room result }
     ensures slot { status_of (the_lane hand.new.me.0) 0 1 ≡ Emptied }
 {
@@ -133,7 +140,7 @@ fn give_back<T: Clear>(
     requires lane { (lane ≡ (the_lane hand.old.me.0).lane) × (lane ≤ 1) }
     requires idle { IsIdle hand.old.me.0 }
     requires reference { references_seen grid.now.shape hand.old.me.0 KEY ≡ 1 }
-    requires share { (share.number ≡ lane) × (share.of ≡ 2) }
+    requires share { (share.number ≡ lane) × (share.of ≡ 2) × (share.spot ≡ spots_at grid.now.objects.ptr grid.now.shape 0) }
     requires cell { known_of (the_lane hand.old.me.0) 0 ≡ stored_of T.content T.room share }
     requires slot { status_of (the_lane hand.old.me.0) 0 lane ≡ Emptied }
     ensures hand { IsOf grid.now hand.new × IsOne hand.new.me.0 }
@@ -161,7 +168,7 @@ fn release_one<T: Clear>(
     requires lane { (the_lane hand.old.me.0).lane ≡ 1 }
     requires idle { IsIdle hand.old.me.0 }
     requires reference { references_seen grid.now.shape hand.old.me.0 KEY ≡ 1 }
-    requires share { (share.number ≡ 1) × (share.of ≡ 2) }
+    requires share { (share.number ≡ 1) × (share.of ≡ 2) × (share.spot ≡ spots_at grid.now.objects.ptr grid.now.shape 0) }
     requires cell { known_of (the_lane hand.old.me.0) 0 ≡ stored_of T.content T.room share }
     requires slot { status_of (the_lane hand.old.me.0) 0 1 ≡ Emptied }
     ensures hand { IsOf grid.now hand.new × IsOne hand.new.me.0 }
@@ -194,7 +201,6 @@ fn clear<T: Clear>(rt: &impl Abort, grid: &Grid<T>, hand: &mut Hand<T>, spot: Sp
 
 /// A lane that has place 0, and left its slots alone, takes its shares out: they are the whole cell.
 fn take_shares<T: Clear + Drop>(
-    alloc: Global,
     grid: &Grid<T>,
     hand: &mut Hand<T>,
     spot: Spot,
@@ -211,7 +217,8 @@ fn take_shares<T: Clear + Drop>(
     ensures pushed { (the_lane hand.new.me.0).pushed ≡ (the_lane hand.old.me.0).pushed }
     ensures place { HasPlace grid.now.shape hand.new.me.0 0 }
     ensures slots { (status_of (the_lane hand.new.me.0) 0 0 ≡ Emptied) × (status_of (the_lane hand.new.me.0) 0 1 ≡ Emptied) }
-    ensures room { (known_of (the_lane hand.old.me.0) 0).room ≡ T.room result }
+    ensures room { (known_of (the_lane hand.old.me.0) 0).room ≡ T.room result.object }
+    ensures at { result.spot ≡ spots_at grid.now.objects.ptr grid.now.shape 0 }
     ensures kept { room_of hand.new.me.0.seen hand.new.me.0.rooms 0 ≡ room_of hand.old.me.0.seen hand.old.me.0.rooms 0 }
 {
     shares_law();
@@ -219,14 +226,13 @@ fn take_shares<T: Clear + Drop>(
     let last = grid.out(hand, spot, lane, 1);
     let mut rest = Rest::of_last(last);
     rest.merge(first);
-    rest.into_whole(alloc)
+    rest.into_whole()
 }
 
 /// Lane 0 gives back its share and the last reference to the key, which is marked, claims its place, and takes its shares
 /// out.
 fn release<T: Clear + Drop, R: Abort>(
     rt: &R,
-    alloc: Global,
     grid: &Grid<T>,
     hand: &mut Hand<T>,
     spot: Spot,
@@ -238,15 +244,16 @@ fn release<T: Clear + Drop, R: Abort>(
     requires lane { (the_lane hand.old.me.0).lane ≡ 0 }
     requires idle { IsIdle hand.old.me.0 }
     requires reference { references_seen grid.now.shape hand.old.me.0 KEY ≡ 1 }
-    requires share { (share.number ≡ 0) × (share.of ≡ 2) }
+    requires share { (share.number ≡ 0) × (share.of ≡ 2) × (share.spot ≡ spots_at grid.now.objects.ptr grid.now.shape 0) }
     requires cell { known_of (the_lane hand.old.me.0) 0 ≡ stored_of T.content T.room share }
     requires slot { status_of (the_lane hand.old.me.0) 0 0 ≡ Emptied }
+    ensures at { result.spot ≡ spots_at grid.now.objects.ptr grid.now.shape 0 }
 {
     let left = give_back(grid, hand, spot, 0, share);
     is_word(rt, left, 4294967303);
     let claimed = grid.claim(hand, spot, 1);
     is_word(rt, claimed, 4294967299);
-    take_shares(alloc, grid, hand, spot, 0)
+    take_shares(grid, hand, spot, 0)
 }
 
 /// Lane 0 puts both shares in their slots, and publishes without a reference.
@@ -260,6 +267,7 @@ fn publish_alone<T: Clear + Drop>(
     requires shape { grid.now.shape ≡ TWO_LANES }
     requires spot { IsSpot grid.now.shape spot 0 }
     requires hand { IsFirstHand grid.now 0 hand.old }
+    requires at { whole.spot ≡ spots_at grid.now.objects.ptr grid.now.shape 0 }
     ensures hand { IsOf grid.now hand.new × IsOne hand.new.me.0 × (hand.new.me.1 ≡ []) }
     ensures lane { (the_lane hand.new.me.0).lane ≡ 0 }
 {
@@ -294,13 +302,7 @@ fn clear_and_claim<T: Clear>(rt: &impl Abort, grid: &Grid<T>, hand: &mut Hand<T>
 }
 
 /// Lane 1, which has the place of lane 0, clears its object in place, and returns it.
-fn return_place<T: Clear + Drop, R: Abort>(
-    rt: &R,
-    alloc: Global,
-    grid: &Grid<T>,
-    hand: &mut Hand<T>,
-    spot: Spot,
-)
+fn return_place<T: Clear + Drop, R: Abort>(rt: &R, grid: &Grid<T>, hand: &mut Hand<T>, spot: Spot)
     requires shape { grid.now.shape ≡ TWO_LANES }
     requires spot { IsSpot grid.now.shape spot 0 }
     requires hand { IsOf grid.now hand.old × IsOne hand.old.me.0 × (hand.old.me.1 ≡ []) }
@@ -312,8 +314,8 @@ fn return_place<T: Clear + Drop, R: Abort>(
     ensures { IsOf grid.now hand.new × IsOne hand.new.me.0 × (hand.new.me.1 ≡ []) }
 {
     shares_law();
-    let mut whole = take_shares(alloc, grid, hand, spot, 1);
-    whole.get_mut().clear();
+    let mut whole = take_shares(grid, hand, spot, 1);
+    whole.get_mut(grid.objects, spot.start as usize).clear();
     grid.back_whole(hand, spot, 1, whole.lend(1).into_share());
     grid.link(hand, spot, 0);
     let top = grid.push(hand, spot, 1, 0);
@@ -323,7 +325,6 @@ fn return_place<T: Clear + Drop, R: Abort>(
 /// Lane 0 takes the place that lane 1 returned, follows it to the end, and takes its object out, which is empty.
 fn take_and_follow<T: Clear + Drop, R: Abort>(
     rt: &R,
-    alloc: Global,
     grid: &Grid<T>,
     hand: &mut Hand<T>,
     spot: Spot,
@@ -333,7 +334,8 @@ fn take_and_follow<T: Clear + Drop, R: Abort>(
     requires hand { IsOf grid.now hand.old × IsOne hand.old.me.0 × (hand.old.me.1 ≡ []) }
     requires lane { (the_lane hand.old.me.0).lane ≡ 0 }
     ensures hand { IsOf grid.now hand.new × IsOne hand.new.me.0 × (hand.new.me.1 ≡ []) }
-    ensures empty { T.content result ≡ [] }
+    ensures empty { T.content result.object ≡ [] }
+    ensures at { result.spot ≡ spots_at grid.now.objects.ptr grid.now.shape 0 }
 {
     shares_law();
     let taken = grid.take(hand, 0, 1);
@@ -341,7 +343,7 @@ fn take_and_follow<T: Clear + Drop, R: Abort>(
     let end = grid.follow(hand, spot);
     is_word(rt, end, 0);
     grid.see(hand, 0);
-    Rest::of_last(grid.out_whole(hand, spot, 0)).into_whole(alloc)
+    Rest::of_last(grid.out_whole(hand, spot, 0)).into_whole()
 }
 
 /// Frees the memory of a table, with its slots, of which none has a share.
@@ -369,21 +371,22 @@ fn read_and_clear(rt: &impl Abort, grid: &Grid<ByteBuf>, hand: &mut Hand<ByteBuf
     ensures reference { references_seen grid.now.shape hand.new.me.0 KEY ≡ 0 }
 {
     let share = get(rt, grid, hand, spot);
-    is_seven(rt, share.read());
+    is_seven(rt, share.read(grid.objects, spot.start as usize));
     release_one(rt, grid, hand, spot, share);
     clear(rt, grid, hand, spot);
 }
 
 #[test]
 fn makes_each_step(rt: HostRuntime) {
-    let (grid, mut first, mut second) = grid_of_two(&rt, rt.alloc());
+    let mut directory = directory_of(&rt, rt.alloc(), 1);
+    let (grid, mut first, mut second) = grid_of_two(&rt, rt.alloc(), directory.base());
     let spot = grid.spot(0);
-    let whole = object_of(&rt, rt.alloc(), 7);
+    let whole = object_at(&rt, rt.alloc(), &mut directory, spot.start as usize, 7);
     let share = publish(&rt, &grid, &mut first, spot, whole);
-    is_seven(&rt, share.read());
+    is_seven(&rt, share.read(grid.objects, spot.start as usize));
     read_and_clear(&rt, &grid, &mut second, spot);
-    let whole = release(&rt, rt.alloc(), &grid, &mut first, spot, share);
-    is_seven(&rt, whole.get());
+    let whole = release(&rt, &grid, &mut first, spot, share);
+    is_seven(&rt, whole.get(grid.objects, spot.start as usize));
     let found = grid.enter(&mut second, spot, KEY, Purpose::ToGet);
     is_word(&rt, found, 8589934592);
 }
@@ -414,14 +417,15 @@ fn end<R: Abort>(
 
 #[test]
 fn returns_and_takes_a_place(rt: HostRuntime) {
-    let (grid, mut first, mut second) = grid_of_two(&rt, rt.alloc());
+    let mut directory = directory_of(&rt, rt.alloc(), 1);
+    let (grid, mut first, mut second) = grid_of_two(&rt, rt.alloc(), directory.base());
     let spot = grid.spot(0);
-    let whole = object_of(&rt, rt.alloc(), 7);
+    let whole = object_at(&rt, rt.alloc(), &mut directory, spot.start as usize, 7);
     publish_alone(&rt, &grid, &mut first, spot, whole);
     clear_and_claim(&rt, &grid, &mut second, spot);
-    return_place(&rt, rt.alloc(), &grid, &mut second, spot);
-    let whole = take_and_follow(&rt, rt.alloc(), &grid, &mut first, spot);
-    assert!(rt; whole.get().is_empty());
+    return_place(&rt, &grid, &mut second, spot);
+    let whole = take_and_follow(&rt, &grid, &mut first, spot);
+    assert!(rt; whole.get(grid.objects, spot.start as usize).is_empty());
     let generation = grid.generation(&mut first, spot);
     same(&rt, &generation, &2);
     end(&rt, rt.alloc(), grid, first, second);
@@ -471,7 +475,8 @@ fn on_two_threads<R: Threads + Sync, T: Clear + Send + Sync>(
 
 #[test]
 fn enters_and_leaves_on_two_threads(rt: HostRuntime) {
-    let (grid, first, second) = grid_of_two::<ByteBuf, _>(&rt, rt.alloc());
+    let mut directory = directory_of(&rt, rt.alloc(), 1);
+    let (grid, first, second) = grid_of_two(&rt, rt.alloc(), directory.base());
     let spot = grid.spot(0);
     let (first, second) = on_two_threads(&rt, &grid, first, second, spot);
     assert!(rt; second.is_some());
@@ -485,7 +490,8 @@ fn enters_and_leaves_on_two_threads(rt: HostRuntime) {
 /// A grid of this shape is made and ended.
 fn makes_and_ends<R: Abort>(rt: &R, alloc: Global, shape: Shape) {
     assert!(rt; shape.check().is_ok());
-    let Some((grid, hands)) = Grid::<ByteBuf>::new(alloc, &shape) else {
+    let mut directory = directory_of(rt, alloc, 1);
+    let Some((grid, hands)) = Grid::new(alloc, &shape, directory.base()) else {
         panic!(rt; "no memory")
     };
     same(rt, &hands.len(), &(shape.lanes as usize));

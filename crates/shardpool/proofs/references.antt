@@ -2,3 +2,4 @@
 pub mod Rows
 pub mod RowChanges
 pub mod Holdings
+pub mod Standings

@@ -2,7 +2,7 @@
 use Rattle.std.specs.Prelude.{◌≡◌, ℕ, ◌<◌, ◌≤◌, false, List, [], Option}
 use Rattle.atomic_table.specs.Seated.{TableId}
 use Rattle.atomic_table.specs.declared.shared.Seat.{Seat}
-use Rattle.slotcell.specs.Share.{Share}
+use Rattle.placecell.specs.Share.{Share}
 use Rattle.keybits.specs.declared.shape.Shape.{Shape}
 use Rattle.keybits.specs.Keys.{is_key}
 use Rattle.steplaws.specs.Calls.{Call}
@@ -56,5 +56,6 @@ pub record HaltsIn {T : Type 0} (lane : LaneOf) (call : LastCall T) (limit : ℕ
 -- the hand and the state are those of a lane of the pool
 pub record AreParts {T : Type 0} (content : T → List ℕ) (room : T → ℕ) (pool : PoolOf) (hand : Seat (Option (Share T)) View) (state : LaneState T) : Type 0 where
   pub table : hand.table_id ≡ pool.table
+  pub directory : state.objects.directory ≡ pool.directory
   pub bare : hand.me.1 ≡ []
   pub fits : Fits content room pool.shape hand.me.0 state

@@ -10,16 +10,17 @@ use Rattle.freelists.specs.Queues.{FreePlaces}
 use Rattle.seqpool.specs.Pool.{has, NoRepeats, IsLegal}
 use Rattle.seqpool.specs.Histories.{PublishedAt, acts_of}
 use Rattle.sharelaws.specs.declared.stored.Status.TheVariants.{Emptied}
-use Rattle.slotcell.specs.Share.{Share}
+use Rattle.placecell.specs.Share.{Share}
 use Rattle.poolsteps.specs.declared.view.View.{View}
 use Rattle.poolsteps.specs.Views.{the_lane, pushed_in, status_of, known_of, IsOne}
 use Rattle.poolsteps.specs.Told.{IsIdle, Quiet, references_seen}
 use Rattle.poolsteps.specs.Moved.{stored_of}
 use Rattle.poolsteps.specs.Returned.{rest_of}
-use Rattle.poolsteps.specs.Layout.{slot_start, slot_row}
+use Rattle.poolsteps.specs.Layout.{slot_start, slot_row, shard_start}
+use Rattle.placerows.specs.Objects.{ObjectsOf}
 use Rattle.shardpool.specs.declared.state.HeldKey.{HeldKey}
 use Rattle.shardpool.specs.declared.state.LaneState.{LaneState}
-use Rattle.shardpool.specs.Rows.{AreKeyed}
+use Rattle.shardpool.specs.Rows.{AreKeyed, AreStanding}
 use Rattle.shardpool.specs.Places.{IsBlank, IsResting, held_after, left_with}
 
 -- the seat is that of one lane of the pool, which saw a legal history with just its own acts, has nothing under way, and whose acts left it no place of another lane's shard
@@ -44,6 +45,14 @@ pub record FitsTops (z : Shape) (v : View) (last_pushed : List ℕ) : Type 0 whe
 abbrev pub IsFirst : Option Place → List ℕ → Type 0
 IsFirst None chain = chain ≡ []
 IsFirst (Some place) chain = chain ≡ number_of place ∷ rest_of chain
+
+-- the lane has the right to each place of its shard that its acts leave with it, but to those of its taken chain
+pub record FitsRights {T : Type 0} (z : Shape) (v : View) (objects : ObjectsOf T) : Type 0 where
+  pub first_is : objects.first ≡ shard_start z (the_lane v).lane
+  pub wide : objects.wide ≡ slot_row z
+  pub narrow : length objects.rights ≡ shard_places z
+  pub has_right : (place : ℕ) → is_place z place ≡ true → shard_of place ≡ (the_lane v).lane → left_with z place (the_lane v).mine true ≡ true
+      → has (the_lane v).chain place ≡ false → slice_get objects.rights (index_of z place) ≡ Some true
 
 module _ {T : Type 0} (content : T → List ℕ) (room : T → ℕ) (z : Shape) where
   -- the share that the lane has under its references to the key of a place and a generation
@@ -97,3 +106,5 @@ module _ {T : Type 0} (content : T → List ℕ) (room : T → ℕ) (z : Shape) 
     pub last_pushed : FitsTops z v s.last_pushed.items
     pub rows : FitsRows v s.rows.items s.references
     pub stores : FitsStores v s.free s.pages s.objects.items
+    pub rights : FitsRights z v s.objects
+    pub standing : AreStanding s.objects.directory s.rows.items

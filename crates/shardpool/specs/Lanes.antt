@@ -23,7 +23,7 @@ use Rattle.shardpool.specs.Places.{held_after}
 
 -- the lane is one of the pool
 abbrev pub Owns : PoolOf → LaneOf → Type 0
-Owns pool lane = (lane.table ≡ pool.table) × (lane.shape ≡ pool.shape)
+Owns pool lane = (lane.table ≡ pool.table) × (lane.shape ≡ pool.shape) × (lane.directory ≡ pool.directory)
 
 -- the note is of the pool
 abbrev pub Issued : PoolOf → NoteOf → Type 0
@@ -73,7 +73,7 @@ pub record Made {T : Type 0} (lane : LaneOf) (filling : FillingOf T) : Type 0 wh
 
 -- it is the same lane
 abbrev pub SameLane : LaneOf → LaneOf → Type 0
-SameLane old new = (new.table ≡ old.table) × (new.shape ≡ old.shape) × (new.number ≡ old.number)
+SameLane old new = (new.table ≡ old.table) × (new.shape ≡ old.shape) × (new.number ≡ old.number) × (new.directory ≡ old.directory)
 
 -- between two views the lane made one call: its steps, each by the step relation, the acts that these made, and nothing more
 abbrev pub Calls : Shape → Call → View → View → Type 0

@@ -1,11 +1,11 @@
 -- What a lane does with the share of a key in front of its release.
-use Rattle.std.specs.Prelude.{◌≡◌, ℕ, ◌<◌, [], Option, Some, slice_get, slice_set}
+use Rattle.std.specs.Prelude.{◌≡◌, ℕ, ◌<◌, [], Option, Some, None, slice_get, slice_set}
 use Rattle.atomic_table.specs.Table.{Me}
 use Rattle.keybits.specs.declared.shape.Shape.{Shape}
 use Rattle.poolsteps.specs.Layout.{slot_start}
 use Rattle.keybits.specs.Keys.{place_of}
 use Rattle.sharelaws.specs.declared.stored.Status.TheVariants.{Untouched}
-use Rattle.slotcell.specs.Share.{Share}
+use Rattle.placecell.specs.Share.{Share}
 use Rattle.poolsteps.specs.declared.view.View.{View}
 use Rattle.poolsteps.specs.Views.{the_lane, status_of}
 use Rattle.poolsteps.specs.Told.{IsIdle}
@@ -24,5 +24,6 @@ pub record LendsHome {T : Type 0} (z : Shape) (key : ℕ) (before after : Me (Op
   pub share : Option (Share T)
   pub rows : new.rows.items ≡ slice_set old.rows.items (slot_start z (place_of key)) (record row { share = share })
   pub rest : new ≡ record old { rows = new.rows }
+  pub gone : row.count ≡ 1 → share ≡ None
   pub last : row.count ≡ 1 → status_of (the_lane after.0) (place_of key) old.number ≡ Untouched
   pub still : 1 < row.count → IsUnmoved (place_of key) (the_lane before.0) (the_lane after.0) × (share ≡ row.share)

@@ -7,7 +7,8 @@ use Rattle.keybits.specs.Places.{shard_of}
 use Rattle.keybits.specs.Shapes.{is_place, position_of}
 use Rattle.seqpool.specs.declared.act.Act.{Act}
 use Rattle.seqpool.specs.Pool.{published, home, has, pool_after}
-use Rattle.slotcell.specs.Share.{Share}
+use Rattle.placecell.specs.Share.{Share}
+use Rattle.placecell.specs.Spot.{Spot as CellSpot}
 use Rattle.poolsteps.specs.Views.{the_lane}
 use Rattle.poolsteps.specs.Layout.{slot_start, slot_row, slot_index}
 use Rattle.poolsteps.specs.Joins.{IsSlotRow, IsSpread, IsResting, IsUnspread, IsUnrested, HasNoCell}
@@ -75,12 +76,12 @@ module _ {T : Type 0} where
     pub start : slots_ptr new ≡ slots_ptr old
 
   -- what the slots have when all shares are back: each published place its shares, and each place that is home or on a lane's taken chain its cell
-  pub record HasCells (z : Shape) (history : List Act) (lanes : List LaneOf) (slots : List (Option (Share T))) : Type 0 where
+  pub record HasCells (spots : ℕ → CellSpot) (z : Shape) (history : List Act) (lanes : List LaneOf) (slots : List (Option (Share T))) : Type 0 where
     pub spread : (place : ℕ) → is_place z place ≡ true → (content : List ℕ) (references : ℕ → ℕ) (mark : Bool)
-        → (pool_after z history place).phase ≡ published content references mark → IsSpread z slots place
-    pub returned : (place : ℕ) → is_place z place ≡ true → (pool_after z history place).phase ≡ home → IsResting z slots place
+        → (pool_after z history place).phase ≡ published content references mark → IsSpread spots z slots place
+    pub returned : (place : ℕ) → is_place z place ≡ true → (pool_after z history place).phase ≡ home → IsResting spots z slots place
     pub taken : (index : ℕ) (lane : LaneOf) (place : ℕ) → is_place z place ≡ true → slice_get lanes index ≡ Some lane → has (the_lane lane.book).chain place ≡ true
-        → IsResting z slots place
+        → IsResting spots z slots place
 
   -- the slots of a place have no cell more, where they had one
   pub record IsDrained (z : Shape) (history : List Act) (lanes : List LaneOf) (slots : List (Option (Share T))) (place : ℕ) : Type 0 where

@@ -1,20 +1,23 @@
 -- What a contract sees of pools, lanes and tokens.
 use Rattle.std.specs.Prelude.{ℕ, refl}
 use Rattle.std.specs.Coded.{Coded, code_by, coded×, coded_ℕ}
+use denote.RawPtr.{Ptr}
 use Rattle.atomic_table.specs.Seated.{TableId, table_id_coded}
 use Rattle.keybits.specs.declared.shape.Shape.{Shape}
 use Rattle.freelists.specs.Queues.{FreePlaces}
 use Rattle.freelists.specs.Shards.{ShardPages}
 use Rattle.poolsteps.specs.declared.view.View.{View}
 
--- a pool: its table and its shape
+-- a pool: its table, where the directory of its objects begins, and its shape
 pub record PoolOf : Type 0 where
   pub table : TableId
+  pub directory : Ptr
   pub shape : Shape
 
--- a lane: the table and the shape of its pool, its number, the view of its seat, its free places and its pages
+-- a lane: the table, the directory and the shape of its pool, its number, the view of its seat, its free places and its pages
 pub record LaneOf : Type 0 where
   pub table : TableId
+  pub directory : Ptr
   pub shape : Shape
   pub number : ℕ
   pub book : View

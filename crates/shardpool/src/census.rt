@@ -1,12 +1,13 @@
 //! What the places of a pool are when it is closed.
-ghost use Rattle.std.specs.Prelude.{◌≡◌, ◌≢◌, ◌+◌, ◌<◌, ◌≤◌, ℕ, true, List, [], ◌∷◌, map, Contains};
+ghost use Rattle.std.specs.Prelude.{◌≡◌, ◌≢◌, ◌+◌, ◌<◌, ◌≤◌, ℕ, true, List, [], ◌∷◌, map, length, All, Contains};
+ghost use Rattle.std.specs.Vec.{vec_capacity};
 ghost use Rattle.core.specs.Mem.Slots.{slots_items, slots_len, slots_ptr, IsFull};
 ghost use Rattle.keybits.specs.declared.place.Place.{Place as Shown};
 ghost use Rattle.keybits.specs.declared.shape.TheConstants.{MOST_LANES};
 ghost use Rattle.keybits.specs.Places.{shard_of, number_of};
 ghost use Rattle.keybits.specs.Shapes.{IsShape, is_place, shard_places, all_places};
 ghost use Rattle.freelists.specs.Queues.{AreFree};
-ghost use Rattle.poolsteps.specs.Layout.{word_count, words_in};
+ghost use Rattle.poolsteps.specs.Layout.{word_count, words_in, slot_row, spots_at};
 ghost use Rattle.poolsteps.specs.Joins.{IsSlotRow, HasCell};
 ghost use Rattle.shardpool.specs.Remains.{HasCells, IsDrained, DrainsShard};
 ghost use Rattle.seqpool.specs.declared.act.Act.{Act};
@@ -18,8 +19,9 @@ use crate::state::LaneState;
 use core::slots::Slots;
 use freelists::LocalFree;
 use keybits::{Life, Place, Shape, State, link_to, linked_place};
-use poolsteps::{drop_cell, life_word, link_word, stack_word};
-use slotcell::Slot;
+use placecell::{Base, Slot};
+use placerows::Objects;
+use poolsteps::{drop_cell, life_word, link_word, slot_start, stack_word};
 use std::alloc::Global;
 
 /// How many places of a pool were what when it was closed. The six numbers add up to all its places.
@@ -80,18 +82,24 @@ impl Census {
     }
 }
 
-/// The census of a pool, by its last words and what its lanes keep. The cells in the slots are dropped, with their objects.
+/// The census of a pool, by its last words and what its lanes keep. The cells in the slots are dropped, with their objects, and the rights
+/// to their places are with the lanes, whose rights are left.
 pub(crate) fn take_census<T: Drop>(
+    directory: Base<Box<T, Global>>,
     shape: &Shape,
     states: Vec<LaneState<T>>,
     words: &mut Slots<u64>,
     slots: &mut Slots<Slot<T>>,
+    rights: &mut Vec<Objects<T>>,
 ) -> Census
     requires shape { IsShape shape.now }
     requires words { IsFull words.old × (slots_len words.old ≡ word_count shape.now) }
     requires slots { IsSlotRow shape.now slots.old }
     requires last { (history : List Act) × (lanes : List LaneOf) × AreLast shape.now history lanes states.items (words_in shape.now (slots_items words.old))
-        × HasCells shape.now history lanes (slots_items slots.old) }
+        × HasCells (spots_at directory.ptr shape.now) shape.now history lanes (slots_items slots.old) }
+    requires objects { All (λ state. (state.objects.directory ≡ directory.ptr) × (state.objects.wide ≡ slot_row shape.now)) states.items }
+    requires rights { (rights.old.items ≡ []) × (length states.items ≤ vec_capacity rights.old) }
+    ensures rights { All (λ lane. lane.directory ≡ directory.ptr) rights.new.items }
     ensures census { (history : List Act) (lanes : List LaneOf) → AreLast shape.now history lanes states.items (words_in shape.now (slots_items words.old))
         → IsCensus shape.now history lanes result }
     ensures adds { places_counted result ≡ all_places shape.now }
@@ -103,7 +111,14 @@ pub(crate) fn take_census<T: Drop>(
     let mut census = Census::none();
     for mut state in states {
         mark_returned(shape, state.number, &state.free, words);
-        drop_cells(state.alloc, shape, state.number, words, slots);
+        drop_cells(
+            directory,
+            shape,
+            state.number,
+            words,
+            slots,
+            &mut state.objects,
+        );
         mark_list(shape, &mut state.free, words);
         count_shard(
             shape,
@@ -112,8 +127,17 @@ pub(crate) fn take_census<T: Drop>(
             words,
             &mut census,
         );
+        rights.push_reserved(rights_of(state));
     }
     census
+}
+
+/// The rights of a lane.
+fn rights_of<T: Drop>(state: LaneState<T>) -> Objects<T>
+    ensures { result ≡ state.objects }
+{
+    let LaneState { objects, .. } = state;
+    objects
 }
 
 /// The places of a shard that were returned are marked: those of its taken chain, and those on its stacks.
@@ -188,28 +212,33 @@ fn mark(shape: &Shape, place: u32, words: &mut Slots<u64>)
 }
 
 /// The cells that the slots of a shard's places have are dropped, with their objects: of the places whose lifecycle word is 0, and
-/// of published places.
+/// of published places. The rights to these places are then the lane's.
 fn drop_cells<T: Drop>(
-    alloc: Global,
+    directory: Base<Box<T, Global>>,
     shape: &Shape,
     shard: u32,
     words: &Slots<u64>,
     slots: &mut Slots<Slot<T>>,
+    objects: &mut Objects<T>,
 )
     requires shape { IsShape shape.now }
     requires shard { shard < shape.now.lanes }
     requires words { IsRow shape.now words.now }
     requires row { IsSlotRow shape.now slots.old }
     requires cells { (place : ℕ) → is_place shape.now place ≡ true → shard_of place ≡ shard
-        → HasCell shape.now (slots_items slots.old) place ((words_in shape.now (slots_items words.now)).life place) }
-    ensures { DrainsShard shape.now shard (words_in shape.now (slots_items words.now)).life slots.old slots.new }
+        → HasCell (spots_at directory.ptr shape.now) shape.now (slots_items slots.old) place ((words_in shape.now (slots_items words.now)).life place) }
+    requires objects { (objects.old.directory ≡ directory.ptr) × (objects.old.wide ≡ slot_row shape.now) }
+    ensures objects { objects.new ≡ objects.old }
+    ensures drains { DrainsShard shape.now shard (words_in shape.now (slots_items words.now)).life slots.old slots.new }
 {
     let places = shape.shard_places() as usize;
     for index in 0..places {
         let position = shard as usize * places + index;
         let place = shape.place_at(position);
         let word = *words.get(life_word(shape, place, position));
-        drop_cell(alloc, shape, place, position, word, slots);
+        if let Some(vacancy) = drop_cell(directory, shape, place, position, word, slots) {
+            objects.retire(slot_start(shape, place, position), vacancy);
+        }
     }
 }
 

@@ -14,8 +14,10 @@ use crate::returned_shares::hand_back;
 use crate::state::LaneState;
 use atomic_table::Closed;
 use keybits::MOST_LANES;
+use placecell::Slot;
+use placerows::close_directory;
 use poolsteps::Hand;
-use slotcell::{Clear, Slot};
+use slotcell::Clear;
 use std::alloc::Global;
 
 /// A row with room for the hands of all lanes of a pool. Each lane has one, for the call that closes the pool. A hand has no
@@ -43,17 +45,25 @@ pub fn close<T: Clear + Drop>(pool: Pool<T>, lanes: Vec<Lane<T>>) -> Census
     ensures closes { Closes pool lanes.items result }
     ensures adds { places_counted result ≡ all_places pool.shape }
 {
-    let Pool { grid, states } = pool;
+    let Pool {
+        grid,
+        directory,
+        states,
+        mut rights,
+        alloc,
+    } = pool;
     let shape = grid.shape;
+    let objects = grid.objects;
     let (hands, mut states) = take_apart(lanes, states);
     let mut closed = grid.end(hands);
     let mut words = closed.words;
     let mut slots = closed.slots;
     hand_back(&shape, &mut states, &mut slots);
-    let census = take_census(&shape, states, &mut words, &mut slots);
+    let census = take_census(objects, &shape, states, &mut words, &mut slots, &mut rights);
     closed.words = words;
     closed.slots = slots;
     free(closed);
+    close_directory(alloc, directory, rights);
     census
 }
 

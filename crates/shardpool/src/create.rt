@@ -11,11 +11,11 @@ ghost use Rattle.shardpool.specs.declared.create.CreateFault.TheVariants.{Full, 
 
 use crate::lane::Lane;
 use crate::pool::Pool;
-use crate::stores::{hang, open_next, take_own};
+use crate::stores::{follow_on, hang, open_next, take_own};
 use crate::token::Filling;
 use poolcalls::{collect, follow, next_key};
 use poolsteps::Spot;
-use slotcell::{Clear, Whole};
+use slotcell::Clear;
 use std::alloc::Global;
 use std::error::Error;
 use std::fmt;
@@ -107,27 +107,27 @@ impl<T: Clear + Drop> Pool<T> {
     }
 
     /// Follows the taken chain: its first place, with its object. None where no taken place is still to be followed.
-    fn follow(&self, lane: &mut Lane<T>) -> Option<(Spot, Whole<T>)>
+    fn follow(&self, lane: &mut Lane<T>) -> Option<(Spot, Box<T, Global>)>
         requires owns { Owns self.now lane.old }
         ensures none { IsNone result → (lane.new ≡ lane.old) × ((the_lane lane.old.book).chain ≡ []) }
-        ensures some { IfSome result (λ taken. FollowsChain T.content T.room lane.old lane.new taken.0.place taken.1) }
+        ensures some { IfSome result (λ taken. FollowsChain T.content T.room lane.old lane.new taken.0.place taken.1.value) }
         ensures spot { IfSome result (λ taken. IsSpot self.now.shape taken.0 taken.0.place) }
         ensures fillings { (filling : FillingOf T) → Made lane.old filling → Made lane.new filling }
     {
         let first = lane.state.free.chain()?;
         let spot = self.grid.spot(first.number());
         let number = lane.state.number;
-        let (link, object) = follow(lane.state.alloc, &self.grid, &mut lane.hand, spot, number);
-        lane.state.free.follow(link);
+        let (link, whole) = follow(&self.grid, &mut lane.hand, spot, number);
+        let object = follow_on(&mut lane.state, spot, link, whole);
         Some((spot, object))
     }
 
     /// A look at the generation of a place of the lane that nobody has: a filling of it.
-    fn fill(&self, lane: &mut Lane<T>, spot: Spot, object: Whole<T>) -> Filling<T>
+    fn fill(&self, lane: &mut Lane<T>, spot: Spot, object: Box<T, Global>) -> Filling<T>
         requires owns { Owns self.now lane.old }
         requires spot { IsSpot self.now.shape spot spot.place }
-        requires loose { IsLoose T.content T.room lane.old spot.place object }
-        ensures fills { Fills lane.old lane.new spot.place object result }
+        requires loose { IsLoose T.content T.room lane.old spot.place object.value }
+        ensures fills { Fills lane.old lane.new spot.place object.value result }
         ensures fillings { (filling : FillingOf T) → Made lane.old filling → Made lane.new filling }
     {
         let key = next_key(&self.grid, &mut lane.hand, spot);
@@ -136,9 +136,9 @@ impl<T: Clear + Drop> Pool<T> {
 }
 
 /// Where the first place of the lane's own list stands, and its object. None where the list is empty.
-fn pop<T: Clear + Drop>(lane: &mut Lane<T>) -> Option<(Spot, Whole<T>)>
+fn pop<T: Clear + Drop>(lane: &mut Lane<T>) -> Option<(Spot, Box<T, Global>)>
     ensures none { IsNone result → (lane.new ≡ lane.old) × (lane.old.free.own ≡ []) }
-    ensures some { IfSome result (λ taken. Pops T.content T.room lane.old lane.new taken.0.place taken.1) }
+    ensures some { IfSome result (λ taken. Pops T.content T.room lane.old lane.new taken.0.place taken.1.value) }
     ensures spot { IfSome result (λ taken. IsSpot lane.old.shape taken.0 taken.0.place) }
     ensures fillings { (filling : FillingOf T) → Made lane.old filling → Made lane.new filling }
 {
@@ -170,14 +170,14 @@ fn open_page<T: Clear + Drop>(lane: &mut Lane<T>) -> Result<(), CreateFault>
     Ok(())
 }
 
-/// So many cells with empty objects. None where memory was refused.
-fn fresh_objects<T: Clear + Drop>(alloc: Global, count: u32) -> Option<Vec<Whole<T>>>
+/// So many empty objects. None where memory was refused.
+fn fresh_objects<T: Clear + Drop>(alloc: Global, count: u32) -> Option<Vec<Box<T, Global>>>
     ensures count { IfSome result (λ objects. length objects.items ≡ count) }
-    ensures empty { IfSome result (λ objects. All (λ object. T.content object ≡ []) objects.items) }
+    ensures empty { IfSome result (λ objects. All (λ object. T.content object.value ≡ []) objects.items) }
 {
     let mut objects = Vec::with_capacity(alloc, count as usize).ok()?;
     for _ in 0..count {
-        let object = Whole::new(alloc, T::fresh(alloc)).ok()?;
+        let object = Box::new(alloc, T::fresh(alloc)).ok()?;
         objects.push_reserved(object);
     }
     Some(objects)

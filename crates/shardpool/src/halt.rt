@@ -100,7 +100,7 @@ impl<T: Clear + Drop> Pool<T> {
             lane: state.number,
             tops: &state.last_pushed,
         };
-        get_within(state.alloc, &self.grid, hand, at, key, limit);
+        get_within(&self.grid, hand, at, key, limit);
     }
 
     /// A clear that ends after so many steps.
@@ -118,7 +118,7 @@ impl<T: Clear + Drop> Pool<T> {
             lane: state.number,
             tops: &state.last_pushed,
         };
-        clear_within(state.alloc, &self.grid, hand, at, key, limit);
+        clear_within(&self.grid, hand, at, key, limit);
     }
 
     /// A release that ends after so many steps.
@@ -140,7 +140,7 @@ impl<T: Clear + Drop> Pool<T> {
             lane: number,
             tops: &state.last_pushed,
         };
-        release_within(state.alloc, &self.grid, hand, at, key, limit);
+        release_within(&self.grid, hand, at, key, limit);
     }
 
     /// A create that ends after so many steps. It makes none where the lane's own list has a place, and none where nothing hangs and

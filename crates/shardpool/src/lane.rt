@@ -25,6 +25,7 @@ impl<T: Clear> Model for Lane<T> {
 
     ghost view = { λ l. record {
       table = l.hand.table_id;
+      directory = l.state.objects.directory;
       shape = l.state.shape;
       number = l.state.number;
       book = l.hand.me.0;
@@ -143,6 +144,8 @@ impl<T: Clear> Lane<T> {
         requires start { start ≡ slot_start self.now.shape (place_of key) }
         ensures { (j : ℕ) × PublishedAt self.now.book.seen j key (T.content result.now) }
     {
-        self.state.rows[start as usize].share.read()
+        self.state.rows[start as usize]
+            .share
+            .read(self.state.objects.base(), start as usize)
     }
 }

@@ -1,10 +1,12 @@
 //! How a pool is opened.
-ghost use Rattle.std.specs.Prelude.{◌≡◌, ◌<◌, ◌↔◌, [], None, replicate, IfOk, IfSome, IsErrOf};
+ghost use Rattle.std.specs.Prelude.{◌≡◌, ◌<◌, ◌≤◌, ◌↔◌, [], None, replicate, IfOk, IfSome, IsErrOf};
 ghost use Rattle.keybits.specs.declared.shape.ShapeFault.{ShapeFault as Fault};
 ghost use Rattle.keybits.specs.Shapes.{IsShape};
 ghost use Rattle.keybits.specs.ShapeFaults.{IsFirstFault};
 ghost use Rattle.shardpool.specs.declared.fault.OpenFault.TheVariants as faults;
-ghost use Rattle.shardpool.specs.Opened.{first_book, IsFirstLane, AreFirstLanes};
+ghost use Rattle.std.specs.Vec.{vec_capacity};
+ghost use Rattle.poolsteps.specs.Layout.{slot_row};
+ghost use Rattle.shardpool.specs.Opened.{first_book, AreFirstLanes, AreFirstParts, IsFirstState};
 
 use crate::closing::HandRow;
 use crate::fault::OpenFault;
@@ -14,8 +16,10 @@ use crate::pool::Pool;
 use crate::state::{HeldKey, LaneState};
 use freelists::{LocalFree, Pages};
 use keybits::Shape;
-use poolsteps::{Grid, Hand, slot_row};
-use slotcell::{Clear, Slot, Whole};
+use placecell::{Base, Directory, Slot};
+use placerows::Objects;
+use poolsteps::{Grid, Hand, SHARDS_APART, shard_start, slot_row};
+use slotcell::Clear;
 use std::alloc::Global;
 
 /// Opens a pool of this shape. Its lanes stand by rising number; none has a free place yet, and no page is opened.
@@ -36,6 +40,14 @@ pub fn open<T: Clear + Drop>(
     try_open(alloc, shape).ok_or(OpenFault::Memory)
 }
 
+/// A lane that has no right to a place yet.
+#[derive(Drop)]
+struct Unendowed<T: Clear> {
+    hand: Hand<T>,
+    state: LaneState<T>,
+    row: HandRow<T>,
+}
+
 /// The pool of a shape within its limits, and its lanes. None where memory was refused.
 fn try_open<T: Clear + Drop>(alloc: Global, shape: Shape) -> Option<(Pool<T>, Vec<Lane<T>>)>
     requires { IsShape shape }
@@ -43,27 +55,83 @@ fn try_open<T: Clear + Drop>(alloc: Global, shape: Shape) -> Option<(Pool<T>, Ve
     ensures lanes { IfSome result (λ made. AreFirstLanes made.0 made.1.items) }
 {
     let count = shape.lanes as usize;
-    let mut lanes = Vec::with_capacity(alloc, count).ok()?;
+    let lanes = Vec::with_capacity(alloc, count).ok()?;
     let states = Vec::with_capacity(alloc, count).ok()?;
-    let (grid, hands) = Grid::new(alloc, &shape)?;
-    for hand in hands {
-        let number = lanes.len() as u32;
-        lanes.push_reserved(lane_of(alloc, &shape, number, hand)?);
-    }
-    Some((Pool { grid, states }, lanes))
+    let rights = Vec::with_capacity(alloc, count).ok()?;
+    let mut directory = Directory::new(alloc, slot_row(&shape))?;
+    let Some((grid, parts)) = parts_of(alloc, &shape, directory.base()) else {
+        directory.close(alloc);
+        return None;
+    };
+    let lanes = endow(&grid, lanes, parts, &mut directory);
+    let pool = Pool {
+        grid,
+        directory,
+        states,
+        rights,
+        alloc,
+    };
+    Some((pool, lanes))
 }
 
-/// The lane of this number of a pool of this shape, with its hand. None where memory was refused.
-fn lane_of<T: Clear + Drop>(
+/// The table of a pool of this shape, whose objects stand in this directory, and its lanes without their rights. None where memory
+/// was refused.
+fn parts_of<T: Clear + Drop>(
+    alloc: Global,
+    shape: &Shape,
+    directory: Base<Box<T, Global>>,
+) -> Option<(Grid<T>, Vec<Unendowed<T>>)>
+    requires { IsShape shape.now }
+    ensures grid { IfSome result (λ made. (made.0.shape ≡ shape.now) × (made.0.objects ≡ directory)) }
+    ensures parts { IfSome result (λ made. AreFirstParts made.0 made.1.items) }
+{
+    let mut parts = Vec::with_capacity(alloc, shape.lanes as usize).ok()?;
+    let (grid, hands) = Grid::new(alloc, shape, directory)?;
+    for hand in hands {
+        let number = parts.len() as u32;
+        parts.push_reserved(part_of(alloc, shape, number, hand, directory)?);
+    }
+    Some((grid, parts))
+}
+
+/// Gives each lane the rights to the places of its shard.
+fn endow<T: Clear + Drop>(
+    grid: &Grid<T>,
+    mut lanes: Vec<Lane<T>>,
+    parts: Vec<Unendowed<T>>,
+    directory: &mut Directory<T>,
+) -> Vec<Lane<T>>
+    requires parts { AreFirstParts grid.now parts.items }
+    requires lanes { (lanes.items ≡ []) × (grid.now.shape.lanes ≤ vec_capacity lanes) }
+    requires directory { (directory.old.at ≡ grid.now.objects.ptr) × (directory.old.next ≡ 0) × (directory.old.count ≡ slot_row grid.now.shape) }
+    ensures lanes { AreFirstLanes (record { table = grid.now.table.shared.table_id; directory = grid.now.objects.ptr; shape = grid.now.shape }) result.items }
+    ensures directory { (directory.new.at ≡ directory.old.at) × (directory.new.next ≡ directory.new.count) }
+{
+    let _ = grid;
+    for part in parts {
+        let Unendowed {
+            hand,
+            mut state,
+            row,
+        } = part;
+        state.objects.endow(directory, SHARDS_APART);
+        lanes.push_reserved(Lane { hand, state, row });
+    }
+    lanes
+}
+
+/// The lane of this number of a pool of this shape, with its hand, without its rights. None where memory was refused.
+fn part_of<T: Clear + Drop>(
     alloc: Global,
     shape: &Shape,
     number: u32,
     hand: Hand<T>,
-) -> Option<Lane<T>>
+    directory: Base<Box<T, Global>>,
+) -> Option<Unendowed<T>>
     requires shape { IsShape shape.now }
     requires number { number < shape.now.lanes }
     requires hand { hand.me ≡ (first_book number, []) }
-    ensures { IfSome result (IsFirstLane (record { table = hand.table_id; shape = shape.now }) number) }
+    ensures { IfSome result (λ part. (part.hand ≡ hand) × IsFirstState shape.now directory.ptr number part.state) }
 {
     let shard = number as u8;
     let state = LaneState {
@@ -74,12 +142,18 @@ fn lane_of<T: Clear + Drop>(
         last_pushed: vec![in alloc; 0; shape.lanes as usize].ok()?,
         free: LocalFree::new(alloc, shard, shape.first_page, shape.pages)?,
         pages: Pages::new(shard, shape.first_page, shape.pages),
-        objects: no_objects(alloc, shape.shard_places() as usize)?,
+        objects: Objects::new(
+            alloc,
+            directory,
+            shape.shard_places() as usize,
+            shard_start(shape, number),
+            slot_row(shape),
+        )?,
         places: Places::of(alloc, shape, number)?,
         alloc,
     };
     let row = HandRow::new(alloc)?;
-    Some(Lane { hand, state, row })
+    Some(Unendowed { hand, state, row })
 }
 
 /// So many rows, each without a reference. None where memory was refused.
@@ -95,15 +169,4 @@ fn first_rows<T: Drop>(alloc: Global, count: usize) -> Option<Vec<HeldKey<T>>>
         });
     }
     Some(rows)
-}
-
-/// No object for any of so many places. None where memory was refused.
-fn no_objects<T: Drop>(alloc: Global, count: usize) -> Option<Vec<Option<Whole<T>>>>
-    ensures { IfSome result (λ objects. objects.items ≡ replicate count None) }
-{
-    let mut objects = Vec::with_capacity(alloc, count).ok()?;
-    for _ in 0..count {
-        objects.push_reserved(None);
-    }
-    Some(objects)
 }

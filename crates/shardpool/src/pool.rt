@@ -18,20 +18,28 @@ use crate::rows::{
     add_first_reference, add_reference, count_to, drop_reference, return_last_share,
 };
 use crate::state::LaneState;
-use crate::stores::keep_reclaimed;
+use crate::stores::{give_out, keep_reclaimed};
 use crate::token::{Filling, Ref};
 use keybits::{Shape, generation_of, place_of, tag_of};
+use placecell::Directory;
+use placerows::Objects;
 use poolcalls::{At, Got, clear, downgrade, get, publish, release};
 use poolsteps::{Grid, Spot, shares_law};
 use slotcell::Clear;
+use std::alloc::Global;
 use std::marker::Model;
 
 /// A pool of objects that are cleared and used again in place. Its lanes call it, each from a thread of its own.
 #[derive(Drop)]
 pub struct Pool<T: Clear> {
     pub(crate) grid: Grid<T>,
+    /// The words of all places, in which their objects stand; the rights to them are with the lanes.
+    pub(crate) directory: Directory<T>,
     /// Where the states of all lanes go when the pool is closed.
     pub(crate) states: Vec<LaneState<T>>,
+    /// Where the lanes' rights to places go then.
+    pub(crate) rights: Vec<Objects<T>>,
+    pub(crate) alloc: Global,
 }
 
 impl<T: Clear> Model for Pool<T> {
@@ -41,9 +49,10 @@ impl<T: Clear> Model for Pool<T> {
 
     ghost Value = { PoolOf };
 
-    ghost view = { λ p. record { table = p.grid.table.shared.table_id; shape = p.grid.shape } };
+    ghost view = { λ p. record { table = p.grid.table.shared.table_id; directory = p.grid.objects.ptr; shape = p.grid.shape } };
 
-    ghost invariant = { λ p. (p.states.items ≡ []) × (p.grid.shape.lanes ≤ vec_capacity p.states) };
+    ghost invariant = { λ p. (p.states.items ≡ []) × (p.grid.shape.lanes ≤ vec_capacity p.states) × (p.rights.items ≡ []) × (p.grid.shape.lanes ≤ vec_capacity p.rights)
+        × (p.directory.at ≡ p.grid.objects.ptr) × (p.directory.next ≡ p.directory.count) };
 }
 
 impl<T: Clear + Drop> Pool<T> {
@@ -105,7 +114,7 @@ impl<T: Clear + Drop> Pool<T> {
             lane: number,
             tops: &lane.state.last_pushed,
         };
-        let got = get(lane.state.alloc, &self.grid, &mut lane.hand, at, key);
+        let got = get(&self.grid, &mut lane.hand, at, key);
         match got {
             Got::Miss(reclaimed) => {
                 keep_reclaimed(&mut lane.state, spot, reclaimed);
@@ -189,7 +198,7 @@ impl<T: Clear + Drop> Pool<T> {
             lane: number,
             tops: &lane.state.last_pushed,
         };
-        let reclaimed = release(lane.state.alloc, &self.grid, &mut lane.hand, at, key);
+        let reclaimed = release(&self.grid, &mut lane.hand, at, key);
         drop_reference(&mut lane.state, spot.start as usize);
         keep_reclaimed(&mut lane.state, spot, reclaimed);
     }
@@ -220,7 +229,7 @@ impl<T: Clear + Drop> Pool<T> {
             lane: number,
             tops: &lane.state.last_pushed,
         };
-        let (marked, reclaimed) = clear(lane.state.alloc, &self.grid, &mut lane.hand, at, key);
+        let (marked, reclaimed) = clear(&self.grid, &mut lane.hand, at, key);
         keep_reclaimed(&mut lane.state, spot, reclaimed);
         marked
     }
@@ -245,14 +254,9 @@ impl<T: Clear + Drop> Pool<T> {
             place: place_of(key),
             start,
         };
-        publish(
-            &self.grid,
-            &mut lane.hand,
-            spot,
-            lane.state.number,
-            key,
-            object,
-        );
+        let number = lane.state.number;
+        let whole = give_out(&mut lane.state, spot, object);
+        publish(&self.grid, &mut lane.hand, spot, number, key, whole);
         key
     }
 
@@ -277,14 +281,9 @@ impl<T: Clear + Drop> Pool<T> {
             place: place_of(key),
             start,
         };
-        let share = downgrade(
-            &self.grid,
-            &mut lane.hand,
-            spot,
-            lane.state.number,
-            key,
-            object,
-        );
+        let number = lane.state.number;
+        let whole = give_out(&mut lane.state, spot, object);
+        let share = downgrade(&self.grid, &mut lane.hand, spot, number, key, whole);
         add_first_reference(&mut lane.state, spot.start as usize, key, share);
         Ref::to(key, start)
     }

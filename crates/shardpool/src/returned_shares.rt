@@ -3,7 +3,7 @@ ghost use Rattle.std.specs.Prelude.{◌≡◌, ◌+◌, ◌*◌, ◌<◌, List, 
 ghost use Rattle.core.specs.declared.slots.Slots.{Slots as SlotsOf};
 ghost use Rattle.core.specs.Mem.Slots.{slots_len, IsFull};
 ghost use Rattle.keybits.specs.Shapes.{IsShape, shard_places};
-ghost use Rattle.slotcell.specs.Share.{Share};
+ghost use Rattle.placecell.specs.Share.{Share};
 ghost use Rattle.poolsteps.specs.Layout.{slot_row};
 ghost use Rattle.poolsteps.specs.Joins.{IsSlotRow};
 ghost use Rattle.shardpool.specs.declared.state.HeldKey.{HeldKey as Row};
@@ -13,8 +13,8 @@ ghost use Rattle.shardpool.specs.Remains.{GivesRow, GivesTo, GivesBack, MayHandB
 use crate::state::{HeldKey, LaneState};
 use core::slots::Slots;
 use keybits::Shape;
+use placecell::Slot;
 use poolsteps::{shard_start, slot_row};
-use slotcell::Slot;
 use std::mem;
 
 /// The shares under all references go back into their slots. The rows of the lanes then are gone.

@@ -9,8 +9,9 @@ ghost use Rattle.shardpool.specs.LaneStates.{Fits};
 ghost use Rattle.shardpool.specs.Lendings.{LendsHome};
 
 use crate::state::{HeldKey, LaneState};
+use placecell::{Share, Slot};
 use poolsteps::{Grid, Hand, Spot, shares_law};
-use slotcell::{Clear, Share, Slot};
+use slotcell::Clear;
 use std::mem;
 
 /// How many references the lane has to a key, by the row of the key's place.
@@ -87,6 +88,7 @@ pub(crate) fn return_last_share<T: Clear + Drop>(
 )
     requires hand { IsOf grid.now hand.old }
     requires fits { Fits T.content T.room grid.now.shape hand.old.me.0 state.old }
+    requires directory { state.old.objects.directory ≡ grid.now.objects.ptr }
     requires spot { IsSpot grid.now.shape spot (place_of key) }
     requires held { 0 < references_seen grid.now.shape hand.old.me.0 key }
     ensures hand { SameSeat hand.old hand.new }

@@ -2,7 +2,8 @@
 use crate::places::Places;
 use freelists::{LocalFree, Pages};
 use keybits::{Shape, place_of};
-use slotcell::{Slot, Whole};
+use placecell::Slot;
+use placerows::Objects;
 use std::alloc::Global;
 
 /// What a lane has of a place: how many references to which of its keys, and the share under them.
@@ -31,8 +32,8 @@ pub(crate) struct LaneState<T> {
     pub(crate) free: LocalFree,
     /// The pages of the lane's own shard.
     pub(crate) pages: Pages,
-    /// For each place of the own shard its object, where that is with the lane.
-    pub(crate) objects: Vec<Option<Whole<T>>>,
+    /// The lane's rights to places, and the objects of its own shard that wait with it.
+    pub(crate) objects: Objects<T>,
     /// Where the places of the pool stand.
     pub(crate) places: Places,
     pub(crate) alloc: Global,

@@ -1,24 +1,28 @@
 //! The stores of a lane: the free places of its shard, and their objects.
-ghost use Rattle.std.specs.Prelude.{◌≡◌, ◌<◌, ◌≤◌, ℕ, true, Some, None, length, slice_get, All, Contains, MatchOption, []};
+ghost use Rattle.std.specs.Prelude.{◌≡◌, ◌+◌, ◌<◌, ◌≤◌, ℕ, true, Some, None, IsSome, length, slice_get, All, Contains, MatchOption, []};
 ghost use Rattle.keybits.specs.declared.place.Place.{Place as Shown};
 ghost use Rattle.keybits.specs.declared.place.TheConstants.{SHARD_NUMBERS};
 ghost use Rattle.keybits.specs.declared.shape.TheConstants.{MOST_LANES};
-ghost use Rattle.keybits.specs.Places.{shard_of, number_of};
+ghost use Rattle.keybits.specs.Places.{shard_of, page_of, number_of};
 ghost use Rattle.keybits.specs.Shapes.{IsShape, is_place, index_of, page_size, shard_places};
 ghost use Rattle.keybits.specs.Links.{linked_place};
 ghost use Rattle.freelists.specs.Shards.{shape_of, place_numbered};
-ghost use Rattle.freelists.specs.Queues.{IsAway};
+ghost use Rattle.freelists.specs.Queues.{IsAway, GoesOnBy};
 ghost use Rattle.poolsteps.specs.Grids.{IsSpot};
-ghost use Rattle.poolsteps.specs.Layout.{slot_start};
+ghost use Rattle.placecell.specs.Whole.{Whole as Cell};
+ghost use Rattle.poolsteps.specs.Layout.{slot_start, slot_row, shard_start, spots_at};
 ghost use Rattle.poolcalls.specs.declared.reclaimed.Reclaimed.TheVariants.{Own};
-ghost use Rattle.shardpool.specs.Stores.{KeepsOwn, Keeps, TakesOwn, Hangs};
+ghost use Rattle.poolcalls.specs.Called.{StandsAt};
+ghost use Rattle.shardpool.specs.Stores.{KeepsOwn, Keeps, TakesOwn, Hangs, FollowsOn, GivesOut};
 ghost use Rattle.shardpool.specs.Openings.{OpensNext};
 
 use crate::state::LaneState;
 use keybits::{Place, link_to, linked_place, shard_of};
+use placecell::Whole;
 use poolcalls::Reclaimed;
 use poolsteps::Spot;
-use slotcell::{Clear, Whole};
+use slotcell::Clear;
+use std::alloc::Global;
 
 /// An emptied object of an own place rests with the lane, at the place's index, and the place goes to the end of the lane's list.
 #[inline(always)]
@@ -28,9 +32,24 @@ pub(crate) fn keep<T: Drop>(state: &mut LaneState<T>, place: u32, index: usize, 
     requires index { index ≡ index_of state.old.shape place }
     requires narrow { length state.old.objects.items ≡ shard_places state.old.shape }
     requires away { IsAway state.old.free (place_numbered place) }
-    ensures { KeepsOwn place whole state.old state.new }
+    requires at { whole.spot ≡ record { directory = state.old.objects.directory; index = state.old.objects.first + index } }
+    ensures { KeepsOwn place whole.object state.old state.new }
 {
-    state.objects[index] = Some(whole);
+    state.objects.keep(index, whole);
+    state.free.push(Place::of_number(place));
+}
+
+/// An empty object of an own place, which never had one, rests with the lane, and the place goes to the end of the lane's list.
+fn list<T: Drop>(state: &mut LaneState<T>, place: u32, index: usize, object: Box<T, Global>)
+    requires shape { IsShape state.old.shape }
+    requires place { is_place state.old.shape place ≡ true }
+    requires index { index ≡ index_of state.old.shape place }
+    requires narrow { length state.old.objects.items ≡ shard_places state.old.shape }
+    requires away { IsAway state.old.free (place_numbered place) }
+    requires right { slice_get state.old.objects.rights index ≡ Some true }
+    ensures { KeepsOwn place object.value state.old state.new }
+{
+    state.objects.fill(index, object);
     state.free.push(Place::of_number(place));
 }
 
@@ -46,7 +65,9 @@ pub(crate) fn keep_reclaimed<T: Drop>(
     requires placed { (state.old.places.shape ≡ state.old.shape) × (state.old.places.shard ≡ state.old.free.shard) }
     requires narrow { length state.old.objects.items ≡ shard_places state.old.shape }
     requires wide { length state.old.last_pushed.items ≡ state.old.shape.lanes }
-    requires away { (whole : T) → reclaimed ≡ Some (Own whole) → IsAway state.old.free (place_numbered spot.place) }
+    requires begins { (state.old.objects.first ≡ shard_start state.old.shape state.old.free.shard) × (state.old.objects.wide ≡ slot_row state.old.shape) }
+    requires at { StandsAt (spots_at state.old.objects.directory state.old.shape spot.place) reclaimed }
+    requires away { (whole : Cell T) → reclaimed ≡ Some (Own whole) → IsAway state.old.free (place_numbered spot.place) }
     ensures { Keeps spot.place reclaimed state.old state.new }
 {
     match reclaimed {
@@ -57,29 +78,79 @@ pub(crate) fn keep_reclaimed<T: Drop>(
         Some(Reclaimed::Returned) => {
             state.last_pushed[shard_of(spot.place) as usize] = link_to(spot.place);
         }
-        Some(Reclaimed::Retired) | None => {}
+        Some(Reclaimed::Retired(vacancy)) => {
+            state.objects.retire(spot.start as usize, vacancy);
+        }
+        None => {}
     }
 }
 
 /// The first place of the lane's list, where it stands, and its object. None where the list is empty, which changes nothing.
 #[inline]
-pub(crate) fn take_own<T: Drop>(state: &mut LaneState<T>) -> Option<(Place, u32, Whole<T>)>
+pub(crate) fn take_own<T: Drop>(state: &mut LaneState<T>) -> Option<(Place, u32, Box<T, Global>)>
     requires shape { IsShape state.old.shape }
     requires lane { state.old.free.shard < state.old.shape.lanes }
     requires lists { state.old.free.shape ≡ shape_of state.old.shape.first_page state.old.shape.pages }
     requires placed { (state.old.places.shape ≡ state.old.shape) × (state.old.places.shard ≡ state.old.free.shard) }
     requires objects { (place : Shown) → Contains state.old.free.own place
         → (object : T) × (slice_get state.old.objects.items (index_of state.old.shape (number_of place)) ≡ Some (Some object)) }
-    ensures { MatchOption result ((state.old.free.own ≡ []) × (state.new ≡ state.old)) (λ taken. TakesOwn taken.0 taken.2 state.old state.new
+    ensures { MatchOption result ((state.old.free.own ≡ []) × (state.new ≡ state.old)) (λ taken. TakesOwn taken.0 taken.2.value state.old state.new
         × (taken.1 ≡ slot_start state.old.shape (number_of taken.0))) }
 {
     let place = state.free.pop()?;
     let start = state.places.start(place.number());
     let index = state.places.index(start);
-    match state.objects[index].take() {
-        Some(whole) => Some((place, start, whole)),
+    match state.objects.take(index) {
+        Some(object) => Some((place, start, object)),
         None => unreachable!(),
     }
+}
+
+/// The taken chain goes on by this link word behind its first place, which stands here. Its object is taken out of it.
+#[inline]
+pub(crate) fn follow_on<T: Drop>(
+    state: &mut LaneState<T>,
+    spot: Spot,
+    link: u64,
+    whole: Whole<T>,
+) -> Box<T, Global>
+    requires shape { IsShape state.old.shape }
+    requires spot { IsSpot state.old.shape spot spot.place }
+    requires placed { (state.old.places.shape ≡ state.old.shape) × (state.old.places.shard ≡ state.old.free.shard) }
+    requires own { shard_of spot.place ≡ state.old.free.shard }
+    requires narrow { length state.old.objects.items ≡ shard_places state.old.shape }
+    requires begins { state.old.objects.first ≡ shard_start state.old.shape state.old.free.shard }
+    requires at { whole.spot ≡ spots_at state.old.objects.directory state.old.shape spot.place }
+    requires chain { IsSome state.old.free.chain }
+    requires goes { GoesOnBy state.old.free link }
+    ensures object { result.value ≡ whole.object }
+    ensures follows { FollowsOn spot.place link state.old state.new }
+{
+    state.free.follow(link);
+    let index = state.places.index(spot.start);
+    state.objects.vacate(index, whole)
+}
+
+/// The place of a filling, with this object, leaves the lane: it stands here, and is among the lane's rights.
+#[inline]
+pub(crate) fn give_out<T: Drop>(
+    state: &mut LaneState<T>,
+    spot: Spot,
+    object: Box<T, Global>,
+) -> Whole<T>
+    requires shape { IsShape state.old.shape }
+    requires spot { IsSpot state.old.shape spot spot.place }
+    requires placed { (state.old.places.shape ≡ state.old.shape) × (state.old.places.shard ≡ state.old.free.shard) }
+    requires own { shard_of spot.place ≡ state.old.free.shard }
+    requires begins { state.old.objects.first ≡ shard_start state.old.shape state.old.free.shard }
+    requires right { slice_get state.old.objects.rights (index_of state.old.shape spot.place) ≡ Some true }
+    ensures whole { (result.spot ≡ spots_at state.old.objects.directory state.old.shape spot.place) × (result.object ≡ object.value) }
+    ensures gives { GivesOut spot.place state.old state.new }
+{
+    // A look at the list tells that its places are the lane's.
+    let _ = state.free.len();
+    let index = state.places.index(spot.start);
+    state.objects.put(index, object)
 }
 
 /// The place that a word leads to becomes the first of the taken chain.
@@ -95,7 +166,7 @@ pub(crate) fn hang<T: Drop>(state: &mut LaneState<T>, found: u64)
 }
 
 /// The next page is opened: its places, each with the object given for it, are the lane's list.
-pub(crate) fn open_next<T: Clear + Drop>(state: &mut LaneState<T>, objects: Vec<Whole<T>>)
+pub(crate) fn open_next<T: Clear + Drop>(state: &mut LaneState<T>, objects: Vec<Box<T, Global>>)
     requires shape { IsShape state.old.shape }
     requires lane { state.old.number < state.old.shape.lanes }
     requires lists { (state.old.free.shard ≡ state.old.number) × (state.old.free.shape ≡ shape_of state.old.shape.first_page state.old.shape.pages) }
@@ -105,7 +176,9 @@ pub(crate) fn open_next<T: Clear + Drop>(state: &mut LaneState<T>, objects: Vec<
     requires own { state.old.free.own ≡ [] }
     requires chain { state.old.free.chain ≡ None }
     requires count { length objects.items ≡ page_size state.old.shape state.old.pages.opened }
-    requires empty { All (λ object. T.content object ≡ []) objects.items }
+    requires empty { All (λ object. T.content object.value ≡ []) objects.items }
+    requires rights { (place : ℕ) → is_place state.old.shape place ≡ true → shard_of place ≡ state.old.number → page_of place ≡ state.old.pages.opened
+        → slice_get state.old.objects.rights (index_of state.old.shape place) ≡ Some true }
     ensures { OpensNext T.content T.room state.old state.new }
 {
     let page = state.pages.opened();
@@ -118,6 +191,6 @@ pub(crate) fn open_next<T: Clear + Drop>(state: &mut LaneState<T>, objects: Vec<
         };
         let number = place.number();
         let index = state.shape.index(number);
-        keep(state, number, index, object);
+        list(state, number, index, object);
     }
 }

@@ -1,6 +1,6 @@
 //! Tokens: what a call gives, and another call takes back.
 use poolsteps::Hand;
-use slotcell::Whole;
+use std::alloc::Global;
 use std::marker::{Model, PhantomData};
 use std::snapshot::Snapshot;
 
@@ -9,7 +9,7 @@ pub struct Filling<T> {
     pub(crate) key: u64,
     /// Where the key's place stands.
     pub(crate) start: u32,
-    pub(crate) object: Whole<T>,
+    pub(crate) object: Box<T, Global>,
     pub(crate) of: Snapshot<Hand<T>>,
 }
 
@@ -20,7 +20,7 @@ impl<T> Model for Filling<T> {
 
     ghost coded = { filling_code T.code };
 
-    ghost view = { λ f. record { table = f.of.value.table_id; key = f.key; start = f.start; object = f.object } };
+    ghost view = { λ f. record { table = f.of.value.table_id; key = f.key; start = f.start; object = f.object.value } };
 }
 
 impl<T> Filling<T> {
@@ -39,7 +39,7 @@ impl<T> Filling<T> {
     pub fn value(&self) -> &T
         ensures { result.now ≡ self.now.object }
     {
-        self.object.get()
+        &self.object
     }
 
     /// The object, to be written.
@@ -47,12 +47,12 @@ impl<T> Filling<T> {
         ensures* writes_back { sem 𝓛 (LendsFilling T.row self.old self.entry result) }
         ensures object { result.now ≡ self.old.object }
     {
-        self.object.get_mut()
+        &mut self.object
     }
 
     /// The filling of a key, whose place stands here, with this object, by a lane with this hand.
-    pub(crate) fn of(hand: &Hand<T>, key: u64, start: u32, object: Whole<T>) -> Filling<T>
-        ensures { result ≡ record { table = hand.now.table_id; key = key; start = start; object = object } }
+    pub(crate) fn of(hand: &Hand<T>, key: u64, start: u32, object: Box<T, Global>) -> Filling<T>
+        ensures { result ≡ record { table = hand.now.table_id; key = key; start = start; object = object.value } }
     {
         Filling {
             key,
@@ -63,8 +63,8 @@ impl<T> Filling<T> {
     }
 
     /// The token's key, where its place stands, and the object.
-    pub(crate) fn spend(self) -> (u64, u32, Whole<T>)
-        ensures { (result.0 ≡ self.key) × (result.1 ≡ self.start) × (result.2 ≡ self.object) }
+    pub(crate) fn spend(self) -> (u64, u32, Box<T, Global>)
+        ensures { (result.0 ≡ self.key) × (result.1 ≡ self.start) × (result.2.value ≡ self.object) }
     {
         let Filling {
             key,

@@ -1,4 +1,5 @@
 -- A lane moves one slot of a place, out of it or into it: every share is still where it is to be.
+use Rattle.placecell.specs.Spot.{Spot}
 use Rattle.std.proofs.Common.{◌≡◌, ◌≢◌, ⊎_elim, ℕ, ◌<◌, Bool, true, false, cond, eqb, ◌&&◌, List, Option, Some, refl, ap, sym, ◌∙◌, subst, eq-eqb, ne_eqb}
 use Rattle.std.proofs.lemmas.Bool.{and_from, and_left, and_right}
 use mathlib.Core.Logic.{dite}
@@ -8,7 +9,7 @@ use Rattle.keybits.specs.declared.shape.Shape.{Shape}
 use Rattle.keybits.specs.Places.{shard_of}
 use Rattle.seqpool.specs.declared.act.Act.{Act}
 use Rattle.seqpool.specs.Pool.{Phase, pool_after}
-use Rattle.slotcell.specs.Share.{Share}
+use Rattle.placecell.specs.Share.{Share}
 use Rattle.steplaws.specs.Facts.{is_home}
 use Rattle.steplaws.proofs.Updates.{at-here, at-else}
 use Rattle.sharelaws.specs.declared.stored.Stored.{Stored}
@@ -21,21 +22,21 @@ use Rattle.sharelaws.proofs.Holders.{one-holder, all-holder, all-kept, may-away}
 
 -- ---- a slot that has what it had, of a place that keeps its cell
 
-module _ {T : Type 0} (content : T → List ℕ) (room : T → ℕ) (s t : Slots T) (p k : ℕ) (c d : Stored) (slot : t p k ≡ s p k) (cell : d ≡ c) where
-  share-same : (number of : ℕ) → HasShare content room s p k c number of → HasShare content room t p k d number of
+module _ {T : Type 0} (content : T → List ℕ) (room : T → ℕ) (spots : ℕ → Spot) (s t : Slots T) (p k : ℕ) (c d : Stored) (slot : t p k ≡ s p k) (cell : d ≡ c) where
+  share-same : (number of : ℕ) → HasShare content room spots s p k c number of → HasShare content room spots t p k d number of
   share-same number of has = (has.0, slot ∙ has.1, rw cell has.2)
 
-  rests-same : (b : Bool) → RestsAs content room s p k c b → RestsAs content room t p k d b
+  rests-same : (b : Bool) → RestsAs content room spots s p k c b → RestsAs content room spots t p k d b
   rests-same true rests = share-same 0 1 rests
   rests-same false rests = slot ∙ rests
 
-  stands-same : (z : Shape) (b : Bool) → StandsAs content room z s p k c b → StandsAs content room z t p k d b
+  stands-same : (z : Shape) (b : Bool) → StandsAs content room spots z s p k c b → StandsAs content room spots z t p k d b
   stands-same z true stands = rests-same (eqb k (shard_of p)) stands
   stands-same z false stands = share-same k z.lanes stands
 
 -- ---- what a move changes
 
-module _ {T : Type 0} (content : T → List ℕ) (room : T → ℕ) (z : Shape) (history : List Act) (kept : List ℕ) (slots : Slots T) (q : Stock)
+module _ {T : Type 0} (content : T → List ℕ) (room : T → ℕ) (spots : ℕ → Spot) (z : Shape) (history : List Act) (kept : List ℕ) (slots : Slots T) (q : Stock)
     (lane place number : ℕ) (status : Status) (c : Stored) (value : maybe.Option (maybe.Option (Option (Share T)))) where
   abbrev now : Stock
   now = moved q lane place number status c
@@ -86,31 +87,31 @@ module _ {T : Type 0} (content : T → List ℕ) (room : T → ℕ) (z : Shape) 
   known-other l p other = ap (λ (b : Bool). cond b c (q.knows l p)) (and_left _ (eqb p place) (ne_eqb l lane other))
 
   -- a share that the move put into the slot
-  share-here : (n of : ℕ) → (share : Share T) × (value ≡ at_home (Some share)) × IsShareOf content room c n of share
-      → HasShare content room slots_now place number (now.stored place) n of
+  share-here : (n of : ℕ) → (share : Share T) × (value ≡ at_home (Some share)) × IsShareOf content room spots place c n of share
+      → HasShare content room spots slots_now place number (now.stored place) n of
   share-here n of has = (has.0, slot-here ∙ has.1, rw stored-here has.2)
 
   -- what stands in another slot of the place, where the place keeps its cell
-  share-beside : (k : ℕ) → k ≢ number → c ≡ q.stored place → HasShare content room slots place k (q.stored place) 0 1
-      → HasShare content room slots_now place k (now.stored place) 0 1
+  share-beside : (k : ℕ) → k ≢ number → c ≡ q.stored place → HasShare content room spots slots place k (q.stored place) 0 1
+      → HasShare content room spots slots_now place k (now.stored place) 0 1
   share-beside k other same has =
-      share-same content room slots slots_now place k (q.stored place) (now.stored place) (slot-beside k other) (stored-here ∙ same) 0 1 has
+      share-same content room spots slots slots_now place k (q.stored place) (now.stored place) (slot-beside k other) (stored-here ∙ same) 0 1 has
 
-  stands-beside : (k : ℕ) → k ≢ number → c ≡ q.stored place → (b : Bool) → StandsAs content room z slots place k (q.stored place) b
-      → StandsAs content room z slots_now place k (now.stored place) b
+  stands-beside : (k : ℕ) → k ≢ number → c ≡ q.stored place → (b : Bool) → StandsAs content room spots z slots place k (q.stored place) b
+      → StandsAs content room spots z slots_now place k (now.stored place) b
   stands-beside k other same b stands =
-      stands-same content room slots slots_now place k (q.stored place) (now.stored place) (slot-beside k other) (stored-here ∙ same) z b stands
+      stands-same content room spots slots slots_now place k (q.stored place) (now.stored place) (slot-beside k other) (stored-here ∙ same) z b stands
 
   -- and in a slot of another place
-  share-else : (p k : ℕ) → p ≢ place → HasShare content room slots p k (q.stored p) 0 1 → HasShare content room slots_now p k (now.stored p) 0 1
-  share-else p k other has = share-same content room slots slots_now p k (q.stored p) (now.stored p) (slot-else p k other) (stored-else p other) 0 1 has
+  share-else : (p k : ℕ) → p ≢ place → HasShare content room spots slots p k (q.stored p) 0 1 → HasShare content room spots slots_now p k (now.stored p) 0 1
+  share-else p k other has = share-same content room spots slots slots_now p k (q.stored p) (now.stored p) (slot-else p k other) (stored-else p other) 0 1 has
 
-  stands-else : (p k : ℕ) → p ≢ place → (b : Bool) → StandsAs content room z slots p k (q.stored p) b → StandsAs content room z slots_now p k (now.stored p) b
-  stands-else p k other b stands = stands-same content room slots slots_now p k (q.stored p) (now.stored p) (slot-else p k other) (stored-else p other) z b stands
+  stands-else : (p k : ℕ) → p ≢ place → (b : Bool) → StandsAs content room spots z slots p k (q.stored p) b → StandsAs content room spots z slots_now p k (now.stored p) b
+  stands-else p k other b stands = stands-same content room spots slots slots_now p k (q.stored p) (now.stored p) (slot-else p k other) (stored-else p other) z b stands
 
   -- ---- a lane that may have a share moves it
 
-  module _ (s : Shared content room z history kept slots q) (less : lane < z.lanes) (below : number < z.lanes) where
+  module _ (s : Shared content room spots z history kept slots q) (less : lane < z.lanes) (below : number < z.lanes) where
     abbrev f : Phase
     f = (pool_after z history place).phase
 
@@ -169,12 +170,12 @@ module _ {T : Type 0} (content : T → List ℕ) (room : T → ℕ) (z : Shape) 
           let was = s.touched l p k l_less k_less some in
           (was.0, known-else l p other ∙ (was.1 ∙ sym (stored-else p other)))
 
-      module _ (leaves : Leaves content room z number c status value) where
+      module _ (leaves : Leaves content room spots place z number c status value) where
         -- what the slot has now, where the move left it so
-        left-as : (left : Status) → status ≡ left → Leaves content room z number c left value
-        left-as left is = subst (λ (x : Status). Leaves content room z number c x value) is leaves
+        left-as : (left : Status) → status ≡ left → Leaves content room spots place z number c left value
+        left-as left is = subst (λ (x : Status). Leaves content room spots place z number c x value) is leaves
 
-        pub move_keeps : Shared content room z history kept slots_now now
+        pub move_keeps : Shared content room spots z history kept slots_now now
         move_keeps = record {
           untouched = each-slot place number
               (λ inside k_less none. rw (may-away last lane number f may) (share-here number z.lanes (left-as Untouched (sym status-here ∙ none lane less))))
@@ -206,6 +207,6 @@ module _ {T : Type 0} (content : T → List ℕ) (room : T → ℕ) (z : Shape) 
               (λ p other. rw (stored-else p other) (s.contents p));
         }
 
-pub move-law : {T : Type 0} (content : T → List ℕ) (room : T → ℕ) → MoveLaw content room
-move-law content room z history kept slots q lane place number status c value s less below may cell leaves =
-    move_keeps content room z history kept slots q lane place number status c value s less below may cell leaves
+pub move-law : {T : Type 0} (content : T → List ℕ) (room : T → ℕ) (spots : ℕ → Spot) → MoveLaw content room spots
+move-law content room spots z history kept slots q lane place number status c value s less below may cell leaves =
+    move_keeps content room spots z history kept slots q lane place number status c value s less below may cell leaves

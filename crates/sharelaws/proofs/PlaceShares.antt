@@ -1,4 +1,5 @@
 -- Share, place by place: what it says of one place, and from all places of the history with one act more.
+use Rattle.placecell.specs.Spot.{Spot}
 use Rattle.std.proofs.Common.{◌≡◌, ◌≢◌, ℕ, ◌<◌, true, List, [], ◌∷◌, ◌++◌, length, sym, subst}
 use Rattle.keybits.specs.declared.shape.Shape.{Shape}
 use Rattle.keybits.specs.Shapes.{is_place}
@@ -12,15 +13,15 @@ use Rattle.sharelaws.specs.declared.stored.Status.TheVariants.{Untouched, Emptie
 use Rattle.sharelaws.specs.Shares.{reclaimer_after, reclaimer, room_after, room_of, MayHave, HasAll, IsKept, Slots, Stock, HasShare, IsEmpty, StandsAs, Shared}
 use Rattle.sharelaws.proofs.Rooms.{reclaimers-behind, rooms-behind}
 
-module _ {T : Type 0} (content : T → List ℕ) (room : T → ℕ) (z : Shape) (slots : Slots T) where
+module _ {T : Type 0} (content : T → List ℕ) (room : T → ℕ) (spots : ℕ → Spot) (z : Shape) (slots : Slots T) where
   -- what Share says of a place of this phase, which this lane reclaimed last, and whose room is this,
   -- where each lane left the slot of each number so; the place's cell, and what each lane knows of it
   pub record SharedAt (place : ℕ) (phase : Phase) (last room_kept : ℕ) (status : ℕ → ℕ → Status) (stored : Stored) (knows : ℕ → Stored) : Type 0 where
     pub untouched : (number : ℕ) → is_place z place ≡ true → number < z.lanes → ((l : ℕ) → l < z.lanes → status l number ≡ Untouched)
-        → StandsAs content room z slots place number stored (is_home phase)
-    pub emptied : (l number : ℕ) → l < z.lanes → is_place z place ≡ true → number < z.lanes → status l number ≡ Emptied → IsEmpty content room slots place number
+        → StandsAs content room spots z slots place number stored (is_home phase)
+    pub emptied : (l number : ℕ) → l < z.lanes → is_place z place ≡ true → number < z.lanes → status l number ≡ Emptied → IsEmpty content room spots slots place number
     pub whole : (l number : ℕ) → l < z.lanes → is_place z place ≡ true → number < z.lanes → status l number ≡ Whole
-        → HasShare content room slots place number stored 0 1
+        → HasShare content room spots slots place number stored 0 1
     pub touched : (l number : ℕ) → l < z.lanes → number < z.lanes → status l number ≢ Untouched → MayHave last l number phase × (knows l ≡ stored)
     pub owned : (l : ℕ) → l < z.lanes → HasAll last l phase → knows l ≡ stored
     pub contents : IsKept stored room_kept phase
@@ -30,7 +31,7 @@ module _ {T : Type 0} (content : T → List ℕ) (room : T → ℕ) (z : Shape) 
   SharedOf pool reclaimers rooms q place =
       SharedAt place (pool place).phase (reclaimers place) (rooms place) (λ l number. q.status l place number) (q.stored place) (λ l. q.knows l place)
 
-  pub shared-each : (history : List Act) (kept : List ℕ) (q : Stock) → Shared content room z history kept slots q
+  pub shared-each : (history : List Act) (kept : List ℕ) (q : Stock) → Shared content room spots z history kept slots q
       → (place : ℕ) → SharedOf (pool_after z history) (reclaimer history) (room_of history kept) q place
   shared-each history kept q s place = record {
     untouched = λ number inside below none. s.untouched place number inside below none;
@@ -43,7 +44,7 @@ module _ {T : Type 0} (content : T → List ℕ) (room : T → ℕ) (z : Shape) 
 
   pub shared-from : (history : List Act) (kept : List ℕ) (q : Stock)
       → ((place : ℕ) → SharedOf (pool_after z history) (reclaimer history) (room_of history kept) q place)
-      → Shared content room z history kept slots q
+      → Shared content room spots z history kept slots q
   shared-from history kept q each = record {
     untouched = λ place number inside below none. (each place).untouched number inside below none;
     emptied = λ l place number less inside below e. (each place).emptied l number less inside below e;
@@ -56,7 +57,7 @@ module _ {T : Type 0} (content : T → List ℕ) (room : T → ℕ) (z : Shape) 
   -- from what the act leaves of each place
   pub shared-behind : (history : List Act) (kept : List ℕ) (act : Act) (one : ℕ) (q : Stock) → length kept ≡ length history
       → ((place : ℕ) → SharedOf (after z act (pool_after z history)) (reclaimer_after act (reclaimer history)) (room_after act one (room_of history kept)) q place)
-      → Shared content room z (history ++ act ∷ []) (kept ++ one ∷ []) slots q
+      → Shared content room spots z (history ++ act ∷ []) (kept ++ one ∷ []) slots q
   shared-behind history kept act one q same each = shared-from (history ++ act ∷ []) (kept ++ one ∷ []) q (λ place.
       let pools = pool-snoc z fresh history act in
       let reclaimers = reclaimers-behind (λ _. 0) history act in

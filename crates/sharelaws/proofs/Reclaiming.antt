@@ -1,4 +1,5 @@
 -- Share, over a reclaim.
+use Rattle.placecell.specs.Spot.{Spot as Standing}
 use Rattle.std.proofs.Common.{◌≡◌, ◌≢◌, ℕ, ◌+◌, ◌<◌, Bool, true, false, cond, eqb, List, refl, ap, sym, ◌∙◌, subst}
 use Rattle.keybits.specs.declared.shape.Shape.{Shape}
 use Rattle.keybits.specs.Keys.{place_of}
@@ -55,20 +56,20 @@ else-untouched Emptied none = absurd (none (λ e. cc e))
 else-untouched InHand none = absurd (none (λ e. cc e))
 else-untouched Whole none = absurd (none (λ e. cc e))
 
-module _ {T : Type 0} (content : T → List ℕ) (room : T → ℕ) (z : Shape) (slots : Slots T)
+module _ {T : Type 0} (content : T → List ℕ) (room : T → ℕ) (spots : ℕ → Standing) (z : Shape) (slots : Slots T)
     (place last room_kept : ℕ) (status : ℕ → ℕ → Status) (c : Stored) (knows : ℕ → Stored) (s : Spot)
     (marked : is_marked s.phase ≡ true) (none : (l : ℕ) → references_in s.phase l ≡ 0)
-    (old : SharedAt content room z slots place s.phase last room_kept status c knows) where
+    (old : SharedAt content room spots z slots place s.phase last room_kept status c knows) where
   -- all shares of the place are in their slots
   all-untouched : (number : ℕ) → number < z.lanes → (l : ℕ) → l < z.lanes → status l number ≡ Untouched
   all-untouched number below l less = else-untouched (status l number) (λ n. none-marked last l number s.phase marked (none l) (old.touched l number less below n).0)
 
   -- it is with the lane, or retired
   reclaimed-at : (ends : Bool) (lane last_now : ℕ) (now : ℕ → Stored) → last_now ≡ lane → now lane ≡ c
-      → SharedAt content room z slots place (reclaimed ends s lane) last_now room_kept status c now
+      → SharedAt content room spots z slots place (reclaimed ends s lane) last_now room_kept status c now
   reclaimed-at ends lane last_now now by known = record {
     untouched = λ number inside below all.
-        subst (StandsAs content room z slots place number c) (marked-away s.phase marked ∙ sym (reclaimed-away ends s lane)) (old.untouched number inside below all);
+        subst (StandsAs content room spots z slots place number c) (marked-away s.phase marked ∙ sym (reclaimed-away ends s lane)) (old.untouched number inside below all);
     emptied = old.emptied;
     whole = old.whole;
     touched = λ l number less below n. absurd (n (all-untouched number below l less));
@@ -76,18 +77,18 @@ module _ {T : Type 0} (content : T → List ℕ) (room : T → ℕ) (z : Shape) 
     contents = reclaimed-kept ends s lane c room_kept;
   }
 
-pub reclaim-share-law : {T : Type 0} (content : T → List ℕ) (room : T → ℕ) → ReclaimShareLaw content room
-reclaim-share-law content room z history kept slots q lane key same legal s less ok =
+pub reclaim-share-law : {T : Type 0} (content : T → List ℕ) (room : T → ℕ) (spots : ℕ → Standing) → ReclaimShareLaw content room spots
+reclaim-share-law content room spots z history kept slots q lane key same legal s less ok =
     let one : ℕ = place_of key in
     let t : Spot = pool_after z history one in
     let last : ℕ = reclaimer history one in
     let room_then : ℕ = room_of history kept one in
     let status : ℕ → ℕ → Status = λ l number. q.status l one number in
-    let old = shared-each content room z slots history kept q s one in (
+    let old = shared-each content room spots z slots history kept q s one in (
       marked-room (q.stored one) room_then t.phase ok.1 old.contents,
-      all-untouched content room z slots one last room_then status (q.stored one) (λ l. q.knows l one) t ok.1 ok.2 old,
-      restock-keeps content room z slots history kept q same s (acts.Reclaim lane key) one lane 0 (q.stored one)
+      all-untouched content room spots z slots one last room_then status (q.stored one) (λ l. q.knows l one) t ok.1 ok.2 old,
+      restock-keeps content room spots z slots history kept q same s (acts.Reclaim lane key) one lane 0 (q.stored one)
           (λ x. refl) (λ p n. at-else (reclaimer history) one lane p n) (λ p n. refl)
-          (λ knows known. reclaimed-at content room z slots one last room_then status (q.stored one) (λ l. q.knows l one) t ok.1 ok.2 old
+          (λ knows known. reclaimed-at content room spots z slots one last room_then status (q.stored one) (λ l. q.knows l one) t ok.1 ok.2 old
           (eqb t.generation z.last_generation) lane (put_at (reclaimer history) one lane one) knows (at-here (reclaimer history) one lane one refl) known),
     )

@@ -1,4 +1,5 @@
 -- A lane returns a place at rest, and collects places that are: every share is still where it is to be.
+use Rattle.placecell.specs.Spot.{Spot as Standing}
 use Rattle.std.proofs.Common.{◌≡◌, ◌≢◌, ⊎_elim, ℕ, ◌<◌, Bool, true, false, cond, eqb, ◌&&◌, List, [], ◌∷◌, ◌++◌, length, refl, ap, sym, ◌∙◌, eq-eqb, ne_eqb}
 use Rattle.std.proofs.lemmas.Bool.{cases_Bool, eqb-true, and_from, and_parts, and_left, and_right}
 use mathlib.Core.Logic.{dite}
@@ -69,24 +70,24 @@ rests-touched true e = cc e
 rests-touched false e = cc e
 
 -- a slot at rest has the whole cell where the lane put it, and none where the lane emptied it
-module _ {T : Type 0} (content : T → List ℕ) (room : T → ℕ) (slots : Slots T) (p k : ℕ) (c : Stored) where
-  rests-from : (b : Bool) (x : Status) → x ≡ cond b Whole Emptied → (x ≡ Emptied → IsEmpty content room slots p k) → (x ≡ Whole → HasShare content room slots p k c 0 1)
-      → RestsAs content room slots p k c b
+module _ {T : Type 0} (content : T → List ℕ) (room : T → ℕ) (spots : ℕ → Standing) (slots : Slots T) (p k : ℕ) (c : Stored) where
+  rests-from : (b : Bool) (x : Status) → x ≡ cond b Whole Emptied → (x ≡ Emptied → IsEmpty content room spots slots p k) → (x ≡ Whole → HasShare content room spots slots p k c 0 1)
+      → RestsAs content room spots slots p k c b
   rests-from true x is empty whole = whole is
   rests-from false x is empty whole = empty is
 
-  rests-empty : (b : Bool) → cond b Whole Emptied ≡ Emptied → RestsAs content room slots p k c b → IsEmpty content room slots p k
+  rests-empty : (b : Bool) → cond b Whole Emptied ≡ Emptied → RestsAs content room spots slots p k c b → IsEmpty content room spots slots p k
   rests-empty true e rests = absurd (cc e)
   rests-empty false e rests = rests
 
-  rests-whole : (b : Bool) → cond b Whole Emptied ≡ Whole → RestsAs content room slots p k c b → HasShare content room slots p k c 0 1
+  rests-whole : (b : Bool) → cond b Whole Emptied ≡ Whole → RestsAs content room spots slots p k c b → HasShare content room spots slots p k c 0 1
   rests-whole true e rests = rests
   rests-whole false e rests = absurd (cc e)
 
 -- ---- a place is returned
 
-module _ {T : Type 0} (content : T → List ℕ) (room : T → ℕ) (z : Shape) (history : List Act) (kept : List ℕ) (slots : Slots T) (q : Stock) (lane place : ℕ)
-    (same : length kept ≡ length history) (s : Shared content room z history kept slots q) where
+module _ {T : Type 0} (content : T → List ℕ) (room : T → ℕ) (spots : ℕ → Standing) (z : Shape) (history : List Act) (kept : List ℕ) (slots : Slots T) (q : Stock) (lane place : ℕ)
+    (same : length kept ≡ length history) (s : Shared content room spots z history kept slots q) where
   abbrev returning : Act
   returning = acts.Home lane place
 
@@ -126,11 +127,11 @@ module _ {T : Type 0} (content : T → List ℕ) (room : T → ℕ) (z : Shape) 
         other (sym may))
 
     -- its slots are at rest
-    rests-now : (k : ℕ) → is_place z place ≡ true → k < z.lanes → RestsAs content room slots place k (q.stored place) (eqb k (shard_of place))
-    rests-now k i u = rests-from content room slots place k (q.stored place) (eqb k (shard_of place)) (q.status lane place k) (rests k u)
+    rests-now : (k : ℕ) → is_place z place ≡ true → k < z.lanes → RestsAs content room spots slots place k (q.stored place) (eqb k (shard_of place))
+    rests-now k i u = rests-from content room spots slots place k (q.stored place) (eqb k (shard_of place)) (q.status lane place k) (rests k u)
         (s.emptied lane place k less i u) (s.whole lane place k less i u)
 
-    pub home_keeps : IsKept (q.stored place) (room_of history kept place) home → Shared content room z (history ++ returning ∷ []) (kept ++ 0 ∷ []) slots returned
+    pub home_keeps : IsKept (q.stored place) (room_of history kept place) home → Shared content room spots z (history ++ returning ∷ []) (kept ++ 0 ∷ []) slots returned
     home_keeps known = record {
       untouched = each-number place
           (λ k i u none. rw home-here (rests-now k i u))
@@ -146,14 +147,14 @@ module _ {T : Type 0} (content : T → List ℕ) (room : T → ℕ) (z : Shape) 
       contents = each-number place (rw home-here (rw home-room known)) (λ p other. (home-else p other).known (q.stored p) (s.contents p));
     }
 
-pub home-share-law : {T : Type 0} (content : T → List ℕ) (room : T → ℕ) → HomeShareLaw content room
-home-share-law content room z history kept slots q lane place same s less ok rests empty roomy =
-    home_keeps content room z history kept slots q lane place same s less ok.1 rests (empty, roomy)
+pub home-share-law : {T : Type 0} (content : T → List ℕ) (room : T → ℕ) (spots : ℕ → Standing) → HomeShareLaw content room spots
+home-share-law content room spots z history kept slots q lane place same s less ok rests empty roomy =
+    home_keeps content room spots z history kept slots q lane place same s less ok.1 rests (empty, roomy)
 
 -- ---- places are collected
 
-module _ {T : Type 0} (content : T → List ℕ) (room : T → ℕ) (z : Shape) (history : List Act) (kept : List ℕ) (slots : Slots T) (q : Stock) (lane : ℕ) (places : List ℕ)
-    (same : length kept ≡ length history) (s : Shared content room z history kept slots q) where
+module _ {T : Type 0} (content : T → List ℕ) (room : T → ℕ) (spots : ℕ → Standing) (z : Shape) (history : List Act) (kept : List ℕ) (slots : Slots T) (q : Stock) (lane : ℕ) (places : List ℕ)
+    (same : length kept ≡ length history) (s : Shared content room spots z history kept slots q) where
   abbrev collecting : Act
   collecting = acts.Collect lane places
 
@@ -193,10 +194,10 @@ module _ {T : Type 0} (content : T → List ℕ) (room : T → ℕ) (z : Shape) 
     none-moved l p k of b u some = let may : ⊥ = rw (homes p of) at (s.touched l p k b u some).0 in may
 
     -- so its slots are at rest
-    rests-home : (p k : ℕ) → has places p ≡ true → is_place z p ≡ true → k < z.lanes → RestsAs content room slots p k (q.stored p) (eqb k (shard_of p))
+    rests-home : (p k : ℕ) → has places p ≡ true → is_place z p ≡ true → k < z.lanes → RestsAs content room spots slots p k (q.stored p) (eqb k (shard_of p))
     rests-home p k of i u = rw (homes p of) at (s.untouched p k i u (λ l b. untouched-is (q.status l p k) (none-moved l p k of b u)))
 
-    collect_keeps : Shared content room z (history ++ collecting ∷ []) (kept ++ 0 ∷ []) slots collected
+    collect_keeps : Shared content room spots z (history ++ collecting ∷ []) (kept ++ 0 ∷ []) slots collected
     collect_keeps = record {
       untouched = λ p k i u none. ⊎_elim
           (λ (of : has places p ≡ true). absurd (rests-touched (eqb k (shard_of p)) (sym (rests-then lane p k (and_from _ _ (eq-eqb lane lane refl) of)) ∙ none lane less)))
@@ -204,12 +205,12 @@ module _ {T : Type 0} (content : T → List ℕ) (room : T → ℕ) (z : Shape) 
           (s.untouched p k i u (λ l b. sym (stays-then l p k (and_right (eqb l lane) _ no_more)) ∙ none l b)))
           (cases_Bool (has places p));
       emptied = λ l p k b i u e. ⊎_elim
-          (λ (own : mine l p ≡ true). rests-empty content room slots p k (q.stored p) (eqb k (shard_of p)) (sym (rests-then l p k own) ∙ e)
+          (λ (own : mine l p ≡ true). rests-empty content room spots slots p k (q.stored p) (eqb k (shard_of p)) (sym (rests-then l p k own) ∙ e)
           (rests-home p k (mine-parts l p own).1 i u))
           (λ (other : mine l p ≡ false). s.emptied l p k b i u (sym (stays-then l p k other) ∙ e))
           (cases_Bool (mine l p));
       whole = λ l p k b i u e. ⊎_elim
-          (λ (own : mine l p ≡ true). rests-whole content room slots p k (q.stored p) (eqb k (shard_of p)) (sym (rests-then l p k own) ∙ e)
+          (λ (own : mine l p ≡ true). rests-whole content room spots slots p k (q.stored p) (eqb k (shard_of p)) (sym (rests-then l p k own) ∙ e)
           (rests-home p k (mine-parts l p own).1 i u))
           (λ (other : mine l p ≡ false). s.whole l p k b i u (sym (stays-then l p k other) ∙ e))
           (cases_Bool (mine l p));
@@ -235,7 +236,7 @@ module _ {T : Type 0} (content : T → List ℕ) (room : T → ℕ) (z : Shape) 
           (cases_Bool (has places p));
     }
 
-pub collect-share-law : {T : Type 0} (content : T → List ℕ) (room : T → ℕ) → CollectShareLaw content room
-collect-share-law content room z history kept slots q lane places same s less ok =
+pub collect-share-law : {T : Type 0} (content : T → List ℕ) (room : T → ℕ) (spots : ℕ → Standing) → CollectShareLaw content room spots
+collect-share-law content room spots z history kept slots q lane places same s less ok =
     let homes : (p : ℕ) → has places p ≡ true → (pool_after z history p).phase ≡ home = λ p of. all-home z (pool_after z history) lane places p ok.2 of in
-    (λ p of. rw (homes p of) at (s.contents p), collect_keeps content room z history kept slots q lane places same s less homes)
+    (λ p of. rw (homes p of) at (s.contents p), collect_keeps content room spots z history kept slots q lane places same s less homes)

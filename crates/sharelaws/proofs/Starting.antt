@@ -1,4 +1,5 @@
 -- Share, before the first step.
+use Rattle.placecell.specs.Spot.{Spot}
 use Rattle.std.proofs.Common.{◌≡◌, ◌≢◌, ⊎_elim, ℕ, Bool, true, false, cond, eqb, List, refl, ap, sym, ◌∙◌, eq-eqb, eqb-true}
 use Rattle.std.proofs.lemmas.Bool.{cases_Bool}
 use Rattle.keybits.specs.Places.{shard_of}
@@ -21,8 +22,8 @@ first-not_whole : (b : Bool) → cond b Emptied Untouched ≡ Whole → ⊥
 first-not_whole true e = cc e
 first-not_whole false e = cc e
 
-pub first-share-law : {T : Type 0} (content : T → List ℕ) (room : T → ℕ) → FirstShareLaw content room
-first-share-law content room z slots limits empty = record {
+pub first-share-law : {T : Type 0} (content : T → List ℕ) (room : T → ℕ) (spots : ℕ → Spot) → FirstShareLaw content room spots
+first-share-law content room spots z slots limits empty = record {
   untouched = λ place number inside below none.
       let bad : Emptied ≡ Untouched = sym (first-own place number) ∙ none (shard_of place) (is_place-parts z place inside).0 in absurd (cc bad);
   emptied = λ l place number less inside below e. empty place number inside below;

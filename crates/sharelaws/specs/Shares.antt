@@ -1,4 +1,5 @@
 -- Share: where the shares of each place's cell are, between any two steps.
+use Rattle.placecell.specs.Spot.{Spot}
 use Rattle.std.specs.Prelude.{◌≡◌, ◌≢◌, ◌==◌, ◌&&◌, ℕ, ◌<◌, ◌≤◌, Bool, true, false, List, [], ◌∷◌, Option, Some, None, if◌then◌else◌}
 use mathlib.Core.Option as maybe
 use Rattle.keybits.specs.declared.shape.Shape.{Shape}
@@ -9,7 +10,7 @@ use Rattle.seqpool.specs.declared.act.Act.{Act}
 use Rattle.seqpool.specs.declared.act.Act.TheVariants as acts
 use Rattle.seqpool.specs.Pool.{Phase, with, published, home, retired, has, pool_after}
 use Rattle.steplaws.specs.Facts.{put_at, is_home}
-use Rattle.slotcell.specs.Share.{Share}
+use Rattle.placecell.specs.Share.{Share}
 use Rattle.sharelaws.specs.declared.stored.Stored.{Stored}
 use Rattle.sharelaws.specs.declared.stored.Status.{Status}
 use Rattle.sharelaws.specs.declared.stored.Status.TheVariants.{Untouched, Emptied, Whole}
@@ -95,18 +96,19 @@ pub record Stock : Type 0 where
   pub knows : ℕ → ℕ → Stored
 
 -- an object's content and room, as its type has them
-module _ {T : Type 0} (content : T → List ℕ) (room : T → ℕ) where
+module _ {T : Type 0} (content : T → List ℕ) (room : T → ℕ) (spots : ℕ → Spot) where
   -- it is the share of this number, of so many, of the cell
-  pub record IsShareOf (c : Stored) (number of : ℕ) (share : Share T) : Type 0 where
+  pub record IsShareOf (place : ℕ) (c : Stored) (number of : ℕ) (share : Share T) : Type 0 where
     pub cell : share.cell ≡ c.cell
     pub number_is : share.number ≡ number
     pub of_is : share.of ≡ of
     pub content_is : content share.object ≡ c.content
     pub room_is : room share.object ≡ c.room
+    pub spot_is : share.spot ≡ spots place
 
   -- the slot has the share of this number, of so many, of the cell
   abbrev pub HasShare : Slots T → ℕ → ℕ → Stored → ℕ → ℕ → Type 0
-  HasShare slots place lane c number of = (share : Share T) × (slots place lane ≡ at_home (Some share)) × IsShareOf c number of share
+  HasShare slots place lane c number of = (share : Share T) × (slots place lane ≡ at_home (Some share)) × IsShareOf place c number of share
 
   -- the slot has none
   abbrev pub IsEmpty : Slots T → ℕ → ℕ → Type 0

@@ -22,6 +22,7 @@ pub struct Tracer<'p, S: Subject, T: Clear> {
     of: PhantomData<S>,
     ghost pool_is: { pool.now ≡ S.pool },
     ghost table: { lane.table ≡ S.pool.table },
+    ghost directory: { lane.directory ≡ S.pool.directory },
     ghost shape: { lane.shape ≡ S.pool.shape },
     ghost unburdened: { refs lane ≡ 0 },
 }

@@ -73,4 +73,4 @@ are-lanes pool lanes jobs dones first of answers = record {
         let job = got jobs index (omega (arith, answers.count, low)) in
         let same = (answers.each index job.0 done.0 job.1 done.1).same in
         let is = first-at pool lanes jobs first of index job.0 job.1 in
-        (done.0, done.1, (same.0 ∙ is.owned.0, same.1 ∙ is.owned.1), same.2 ∙ is.number_is)
+        (done.0, done.1, (same.0 ∙ is.owned.0, same.1 ∙ is.owned.1, same.3 ∙ is.owned.2), same.2 ∙ is.number_is)

@@ -21,7 +21,7 @@ lines-more old between new (c ∷ commands) (r ∷ replies) command reply (first
 
 -- before the first
 pub runs-none : (pool : PoolOf) (at : Desk) (commands : List Command) → Tidy pool at → RunsOn pool at commands 0 [] at
-runs-none pool at commands tidy = record { lines = refl; tidy = tidy; same = (refl, refl, refl); seen = prefix-self at.lane.book.seen }
+runs-none pool at commands tidy = record { lines = refl; tidy = tidy; same = (refl, refl, refl, refl); seen = prefix-self at.lane.book.seen }
 
 -- one more, and its reply behind the others
 module _ (pool : PoolOf) (old between new : Desk) (commands : List Command) (ran : ℕ) (replies now : List Reply) (command : Command) (reply : Reply)
@@ -40,7 +40,7 @@ module _ (pool : PoolOf) (old between new : Desk) (commands : List Command) (ran
             (subst (λ (cs : List Command). AreLines old cs (replies ++ reply ∷ []) new) (sym front)
             (lines-more old between new (take ran commands) replies command reply on.lines runs.line));
         tidy = runs.tidy;
-        same = (runs.same.0 ∙ on.same.0, runs.same.1 ∙ on.same.1, runs.same.2 ∙ on.same.2);
+        same = (runs.same.0 ∙ on.same.0, runs.same.1 ∙ on.same.1, runs.same.2 ∙ on.same.2, runs.same.3 ∙ on.same.3);
         seen = prefix-trans old.lane.book.seen between.lane.book.seen new.lane.book.seen on.seen runs.seen;
       }
 

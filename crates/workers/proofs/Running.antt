@@ -87,7 +87,7 @@ of-shape : (pool : PoolOf) (lane : LaneOf) (call : Call) (v w : View) → Owns p
 of-shape pool lane call v w owns called = subst (λ (z : Shape). Calls z call v w) (sym owns.1) called
 
 same-self : (lane : LaneOf) → SameLane lane lane
-same-self lane = (refl, refl, refl)
+same-self lane = (refl, refl, refl, refl)
 
 -- ---- a create
 

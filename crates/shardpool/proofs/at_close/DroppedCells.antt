@@ -9,7 +9,8 @@ use Rattle.keybits.specs.declared.shape.Shape.{Shape}
 use Rattle.keybits.specs.Places.{shard_of}
 use Rattle.keybits.specs.Shapes.{IsShape, is_place, shard_places, index_of}
 use Rattle.keybits.proofs.ShapeLemmas.{is_place-parts, index_of-lt, position_of-injective}
-use Rattle.slotcell.specs.Share.{Share}
+use Rattle.placecell.specs.Share.{Share}
+use Rattle.placecell.specs.Spot.{Spot as CellSpot}
 use Rattle.poolsteps.specs.Layout.{slot_index}
 use Rattle.poolsteps.proofs.SlotLemmas.{slot-apart}
 use Rattle.poolsteps.specs.Joins.{IsSlotRow, HasPart, IsSpread, IsResting, HasCell, HasNoCell, Drains}
@@ -22,23 +23,27 @@ module _ {T : Type 0} (z : Shape) where
   abbrev pub SameSlots : List (Option (Share T)) → List (Option (Share T)) → ℕ → Type 0
   SameSlots old new place = (lane : ℕ) → lane < z.lanes → slice_get new (slot_index z place lane) ≡ slice_get old (slot_index z place lane)
 
-  part-stays : (old new : List (Option (Share T))) (index cell number of : ℕ) → slice_get new index ≡ slice_get old index → HasPart old index cell number of → HasPart new index cell number of
-  part-stays old new index cell number of same p = record { share = p.share; stands = same ∙ p.stands; cell_is = p.cell_is; number_is = p.number_is; of_is = p.of_is }
+  part-stays : (old new : List (Option (Share T))) (index : ℕ) (spot : CellSpot) (cell number of : ℕ) → slice_get new index ≡ slice_get old index
+      → HasPart old index spot cell number of → HasPart new index spot cell number of
+  part-stays old new index spot cell number of same p =
+      record { share = p.share; stands = same ∙ p.stands; cell_is = p.cell_is; spot_is = p.spot_is; number_is = p.number_is; of_is = p.of_is }
 
-  pub spread-stays : (old new : List (Option (Share T))) (place : ℕ) → SameSlots old new place → IsSpread z old place → IsSpread z new place
-  spread-stays old new place same h = record {
+  pub spread-stays : {spots : ℕ → CellSpot} (old new : List (Option (Share T))) (place : ℕ) → SameSlots old new place → IsSpread spots z old place → IsSpread spots z new place
+  spread-stays {spots} old new place same h = record {
     cell = h.cell;
-    each = λ lane low. part-stays old new (slot_index z place lane) h.cell lane z.lanes (same lane low) (h.each lane low);
+    each = λ lane low. part-stays old new (slot_index z place lane) (spots place) h.cell lane z.lanes (same lane low) (h.each lane low);
   }
 
-  pub resting-stays : (old new : List (Option (Share T))) (place : ℕ) → is_place z place ≡ true → SameSlots old new place → IsResting z old place → IsResting z new place
-  resting-stays old new place inside same h = record {
+  pub resting-stays : {spots : ℕ → CellSpot} (old new : List (Option (Share T))) (place : ℕ) → is_place z place ≡ true → SameSlots old new place → IsResting spots z old place
+      → IsResting spots z new place
+  resting-stays {spots} old new place inside same h = record {
     cell = h.cell;
-    part = part-stays old new (slot_index z place (shard_of place)) h.cell 0 1 (same (shard_of place) (is_place-parts z place inside).0) h.part;
+    part = part-stays old new (slot_index z place (shard_of place)) (spots place) h.cell 0 1 (same (shard_of place) (is_place-parts z place inside).0) h.part;
   }
 
   -- so a place has the cell that it had
-  pub cell-stays : (old new : List (Option (Share T))) (place word : ℕ) → is_place z place ≡ true → SameSlots old new place → HasCell z old place word → HasCell z new place word
+  pub cell-stays : {spots : ℕ → CellSpot} (old new : List (Option (Share T))) (place word : ℕ) → is_place z place ≡ true → SameSlots old new place → HasCell spots z old place word
+      → HasCell spots z new place word
   cell-stays old new place word inside same h = record {
     resting = λ none. resting-stays old new place inside same (h.resting none);
     spread = λ bits. spread-stays old new place same (h.spread bits);

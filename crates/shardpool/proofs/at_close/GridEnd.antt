@@ -1,6 +1,8 @@
 -- What the end of a pool's table tells of its lanes.
 use Rattle.std.proofs.Common.{◌≡◌, ℕ, ◌<◌, List, length, Option, Some, refl, sym, ap, ◌∙◌, subst, arith, slice_get}
-use Rattle.std.proofs.lemmas.Option.{slice_get_within}
+use Rattle.std.specs.List.{All}
+use Rattle.std.proofs.Math.ListN.{get_or}
+use Rattle.std.proofs.lemmas.Option.{slice_get_within, slice_get-get_or}
 use lib.ListN.{get_elem?}
 use Rattle.atomic_table.specs.declared.shared.Seat.{Seat}
 use Rattle.core.specs.declared.slots.Slots.{Slots}
@@ -8,10 +10,10 @@ use Rattle.core.specs.Mem.Slots.{slots_items}
 use Rattle.seqpool.specs.declared.act.Act.{Act}
 use Rattle.steplaws.specs.Facts.{Words}
 use Rattle.keybits.specs.declared.shape.Shape.{Shape}
-use Rattle.slotcell.specs.Share.{Share}
+use Rattle.placecell.specs.Share.{Share}
 use Rattle.poolsteps.specs.declared.grid.Grid.{Grid}
 use Rattle.poolsteps.specs.declared.view.View.{View}
-use Rattle.poolsteps.specs.Layout.{words_in}
+use Rattle.poolsteps.specs.Layout.{words_in, slot_row, spots_at}
 use Rattle.poolsteps.specs.Rule.{World}
 use Rattle.poolsteps.specs.Grids.{AreHands, EndsWith}
 use Rattle.shardpool.specs.declared.state.LaneState.{LaneState}
@@ -41,7 +43,7 @@ still-last {T} {z} {history} {words} {lane} stripped is = subst (λ (x : LaneSta
 })
 
 module _ {T : Type 0} {content : T → List ℕ} {room : T → ℕ} (grid : Grid T) {lanes : List LaneOf} {hands : List (Seat (Option (Share T)) View)} {states : List (LaneState T)}
-    (are : AreLanes (record { table = grid.table.shared.table_id; shape = grid.shape }) lanes) (parted : AreParted content room lanes hands states) where
+    (are : AreLanes (record { table = grid.table.shared.table_id; directory = grid.objects.ptr; shape = grid.shape }) lanes) (parted : AreParted content room lanes hands states) where
   -- there is a lane
   some-hand : 0 < length hands
   some-hand =
@@ -63,6 +65,33 @@ module _ {T : Type 0} {content : T → List ℕ} {room : T → ℕ} (grid : Grid
           is.empty,
         );
   }
+
+  -- what a lane has of objects is of the grid's directory, and has room for all places
+  its-objects : (index : ℕ) (s : LaneState T) → slice_get states index ≡ Some s → (s.objects.directory ≡ grid.objects.ptr) × (s.objects.wide ≡ slot_row grid.shape)
+  its-objects index s at =
+      let low = slice_get_within states index s at in
+      let same = parted.count.0 in let wide = parted.count.1 in
+      let lane = entry-at lanes index (omega (arith, low, wide)) in
+      let hand = entry-at hands index (omega (arith, low, same, wide)) in
+      let is = parted.each index lane.0 hand.0 s lane.1 hand.1 at in
+      let owned = are.owned index lane.0 lane.1 in (
+        sym (ap (λ (l : LaneOf). l.directory) is.lane_is) ∙ owned.2,
+        is.fits.rights.wide ∙ ap slot_row (sym (ap (λ (l : LaneOf). l.shape) is.lane_is) ∙ owned.1),
+      )
+
+  -- so are those of the states without their rows
+  pub are-objects : (left : List (LaneState T)) → AreStripped states left → All (λ s. (s.objects.directory ≡ grid.objects.ptr) × (s.objects.wide ≡ slot_row grid.shape)) left
+  are-objects left stripped k d low =
+      let one : LaneState T = get_or left k d in
+      let state = stripped.1 k one (slice_get-get_or left k d low) in
+      let is = its-objects k state.0 state.1 in (
+        (λ i. (state.2 i).objects.directory) ∙ is.0,
+        (λ i. (state.2 i).objects.wide) ∙ is.1,
+      )
+
+  -- and there are as many as lanes
+  pub as-many : (left : List (LaneState T)) → AreStripped states left → length left ≡ grid.shape.lanes
+  as-many left stripped = stripped.0 ∙ (parted.count.1 ∙ are.count)
 
   module _ {words : List ℕ} {slots : List (Option (Share T))} {w : World} (ends : EndsWith content room grid hands words slots w) where
     -- what a lane keeps stands beside the last world
@@ -86,7 +115,7 @@ module _ {T : Type 0} {content : T → List ℕ} {room : T → ℕ} (grid : Grid
     -- so all that they keep, the last words and the history tell of each other, also when the rows are gone
     pub ends-last : {left : List (LaneState T)} → AreStripped states left → AreLast grid.shape w.history lanes left (words_in grid.shape words)
     ends-last {left} stripped =
-        let last = last-are ends.stands.rule grid.table.shared.table_id lanes states are parted.count.1 all-ended in record {
+        let last = last-are ends.stands.rule grid.table.shared.table_id grid.objects.ptr lanes states are parted.count.1 all-ended in record {
           legal = last.legal;
           state = last.state;
           homes = last.homes;
@@ -100,14 +129,14 @@ module _ {T : Type 0} {content : T → List ℕ} {room : T → ℕ} (grid : Grid
 
     -- the shares of the rows may go back
     pub ends-may : MayHandBack grid.shape states
-    ends-may = may-hand-back ends.stands.rule grid.table.shared.table_id lanes states are parted.count.1 all-ended
+    ends-may = may-hand-back ends.stands.rule grid.table.shared.table_id grid.objects.ptr lanes states are parted.count.1 all-ended
 
     -- and then the slots have all cells
-    pub ends-cells : {old new : Slots (Option (Share T))} → slots_items old ≡ slots → HandsBack grid.shape states old new → HasCells grid.shape w.history lanes (slots_items new)
+    pub ends-cells : {old new : Slots (Option (Share T))} → slots_items old ≡ slots → HandsBack grid.shape states old new → HasCells (spots_at grid.objects.ptr grid.shape) grid.shape w.history lanes (slots_items new)
     ends-cells {old} is back =
-        has-cells ends.stands.rule grid.table.shared.table_id lanes states are parted.count.1 all-ended grid.checked ends.homes ends.stands.shared
+        has-cells ends.stands.rule grid.table.shared.table_id grid.objects.ptr lanes states are parted.count.1 all-ended grid.checked ends.homes ends.stands.shared
         (λ index value at. ap (λ (xs : List (Option (Share T))). get_elem? xs index) is ∙ ends.at_home index value at) back
 
     -- and the history is the last
-    pub ends-history : IsLastHistory (record { table = grid.table.shared.table_id; shape = grid.shape }) lanes w.history
-    ends-history = last-history ends.stands.rule grid.table.shared.table_id lanes states are parted.count.1 all-ended
+    pub ends-history : IsLastHistory (record { table = grid.table.shared.table_id; directory = grid.objects.ptr; shape = grid.shape }) lanes w.history
+    ends-history = last-history ends.stands.rule grid.table.shared.table_id grid.objects.ptr lanes states are parted.count.1 all-ended

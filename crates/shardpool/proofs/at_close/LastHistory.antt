@@ -2,6 +2,7 @@
 use Rattle.std.proofs.Common.{◌≡◌, ◌≢◌, ⊎_elim, ℕ, ◌<◌, true, false, List, length, Some, sym, ap, ◌∙◌, subst, arith, slice_get}
 use Rattle.std.proofs.lemmas.Option.{slice_get_cases, slice_get_within}
 use mathlib.Core.List.{IsPrefix}
+use denote.RawPtr.{Ptr}
 use Rattle.atomic_table.specs.Seated.{TableId}
 use Rattle.keybits.specs.declared.shape.Shape.{Shape}
 use Rattle.keybits.specs.Places.{shard_of}
@@ -41,7 +42,8 @@ marked-held : (phase : Phase) (content : List ℕ) (references : ℕ → ℕ) (l
 marked-held phase content references lane is some = subst (λ (p : Phase). 0 < references_in p lane) is some
 
 module _ {T : Type 0} {content : T → List ℕ} {room : T → ℕ} {z : Shape} {w : World} {words : Words} (rule : Rule z (moment words w.history w.lanes))
-    (table : TableId) (lanes : List LaneOf) (states : List (LaneState T)) (are : AreLanes (record { table = table; shape = z }) lanes) (wide : length states ≡ length lanes)
+    (table : TableId) (directory : Ptr) (lanes : List LaneOf) (states : List (LaneState T)) (are : AreLanes (record { table = table; directory = directory; shape = z }) lanes)
+    (wide : length states ≡ length lanes)
     (each : (index : ℕ) (lane : LaneOf) (s : LaneState T) → slice_get lanes index ≡ Some lane → slice_get states index ≡ Some s → IsEnded content room z w lane s) where
   -- the state of a lane
   state-of : (index : ℕ) (lane : LaneOf) → slice_get lanes index ≡ Some lane → (s : LaneState T) × IsEnded content room z w lane s
@@ -84,7 +86,7 @@ module _ {T : Type 0} {content : T → List ℕ} {room : T → ℕ} {z : Shape} 
   }
 
   -- and the history is the last
-  pub last-history : IsLastHistory (record { table = table; shape = z }) lanes w.history
+  pub last-history : IsLastHistory (record { table = table; directory = directory; shape = z }) lanes w.history
   last-history = record {
     legal = rule.legal;
     begins = λ index lane at. (state-of index lane at).1.seen;

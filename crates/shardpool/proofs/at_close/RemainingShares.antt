@@ -23,9 +23,11 @@ use Rattle.sharelaws.specs.declared.stored.Stored.{Stored}
 use Rattle.sharelaws.specs.declared.stored.Status.TheVariants.{Untouched, Emptied, Whole}
 use Rattle.sharelaws.specs.Shares.{Slots as Cells, HasShare, StandsAs, RestsAs, MayHave, reclaimer, Shared}
 use Rattle.sharelaws.proofs.Cases.{untouched-is}
-use Rattle.slotcell.specs.Share.{Share}
+use denote.RawPtr.{Ptr}
+use Rattle.placecell.specs.Share.{Share}
+use Rattle.placecell.specs.Spot.{Spot as CellSpot}
 use Rattle.poolsteps.specs.Views.{the_lane, known_of}
-use Rattle.poolsteps.specs.Layout.{slot_start, slot_index, slots_in}
+use Rattle.poolsteps.specs.Layout.{slot_start, slot_index, slots_in, spots_at}
 use Rattle.poolsteps.specs.Rule.{World}
 use Rattle.poolsteps.proofs.SlotLemmas.{in-row, slot-is, slot-apart}
 use Rattle.poolsteps.specs.Joins.{HasPart, IsSpread, IsResting}
@@ -109,16 +111,16 @@ module _ {T : Type 0} {content : T → List ℕ} {room : T → ℕ} {z : Shape} 
         subst (λ (p : ℕ). 0 < references_in (pool_after z w.history p).phase s.number) k.1
         (subst (λ (l : ℕ). 0 < references_in (pool_after z w.history (place_of row.key)).phase l) (sym e.fits.seat.number_is) there)
 
-    module _ {slots : Cells T} (shared : Shared content room z w.history w.kept slots w.stock) where
+    module _ {spots : ℕ → CellSpot} {slots : Cells T} (shared : Shared content room spots z w.history w.kept slots w.stock) where
       -- the cell of the place
       abbrev stored : Stored
       stored = w.stock.stored place
 
       -- no lane touched the slot of a lane without references
       left-alone : (bytes : List ℕ) (references : ℕ → ℕ) (mark : Bool) → phase-at z w place ≡ published bytes references mark → row.count ≡ 0
-          → HasShare content room slots place s.number stored s.number z.lanes
+          → HasShare content room spots slots place s.number stored s.number z.lanes
       left-alone bytes references mark is none =
-          subst (StandsAs content room z slots place s.number stored) (ap is_home is)
+          subst (StandsAs content room spots z slots place s.number stored) (ap is_home is)
           (shared.untouched place s.number inside e.fits.seat.below (λ l low. untouched-is (w.stock.status l place s.number)
           (λ touched.
           let may = subst (MayHave (reclaimer w.history place) l s.number) is (shared.touched l place s.number low e.fits.seat.below touched).0 in
@@ -128,7 +130,7 @@ module _ {T : Type 0} {content : T → List ℕ} {room : T → ℕ} {z : Shape} 
           absurd (omega (arith, refs, zero_refs, some)))))
 
       -- the share under the references is one of the cell
-      share-of-cell : (some : 0 < row.count) → (s' : Share T) × (row.share ≡ Some s') × (s'.cell ≡ stored.cell) × (s'.number ≡ s.number) × (s'.of ≡ z.lanes)
+      share-of-cell : (some : 0 < row.count) → (s' : Share T) × (row.share ≡ Some s') × (s'.cell ≡ stored.cell) × (s'.spot ≡ spots_at s.objects.directory z place) × (s'.number ≡ s.number) × (s'.of ≡ z.lanes)
       share-of-cell some =
           let h = fit.held some in
           let held = h.2 in
@@ -137,12 +139,13 @@ module _ {T : Type 0} {content : T → List ℕ} {room : T → ℕ} {z : Shape} 
           let status : w.stock.status l place l ≡ Emptied = sym (e.record_is.deeds place l) ∙ held.emptied in
           let knows = (shared.touched l place l low low (λ none. let bad : Emptied ≡ Untouched = sym status ∙ none in cc bad)).1 in
           let known : known_of (the_lane lane.book) place ≡ stored = e.record_is.cells place ∙ knows in
-          (h.0, h.1, ap (λ (c : Stored). c.cell) (sym held.known ∙ known), held.number_is ∙ sym e.fits.seat.number_is, held.of_is)
+          (h.0, h.1, ap (λ (c : Stored). c.cell) (sym held.known ∙ known), e.fits.standing (slot_start z place) row h.0 stands h.1, held.number_is ∙ sym e.fits.seat.number_is, held.of_is)
 
 -- ---- all lanes
 
 module _ {T : Type 0} {content : T → List ℕ} {room : T → ℕ} {z : Shape} {w : World} {words : Words} (rule : Rule z (moment words w.history w.lanes))
-    (table : TableId) (lanes : List LaneOf) (states : List (LaneState T)) (are : AreLanes (record { table = table; shape = z }) lanes) (wide : length states ≡ length lanes)
+    (table : TableId) (directory : Ptr) (lanes : List LaneOf) (states : List (LaneState T)) (are : AreLanes (record { table = table; directory = directory; shape = z }) lanes)
+    (wide : length states ≡ length lanes)
     (each : (index : ℕ) (lane : LaneOf) (s : LaneState T) → slice_get lanes index ≡ Some lane → slice_get states index ≡ Some s → IsEnded content room z w lane s) where
   -- the lane of a state
   lane-of : (index : ℕ) (s : LaneState T) → slice_get states index ≡ Some s → (lane : LaneOf) × (slice_get lanes index ≡ Some lane) × IsEnded content room z w lane s
@@ -150,6 +153,10 @@ module _ {T : Type 0} {content : T → List ℕ} {room : T → ℕ} {z : Shape} 
       let low = slice_get_within states index s at in
       let there = entry-at lanes index (omega (arith, low, wide)) in
       (there.0, there.1, each index there.0 s there.1 at)
+
+  -- it keeps the pool's directory
+  its-directory : (index : ℕ) (s : LaneState T) → slice_get states index ≡ Some s → s.objects.directory ≡ directory
+  its-directory index s at = let l = lane-of index s at in sym (ap (λ (x : LaneOf). x.directory) l.2.lane_is) ∙ (are.owned index l.0 l.1).2
 
   -- the state of a number
   state-of-number : (number : ℕ) → number < z.lanes
@@ -173,7 +180,7 @@ module _ {T : Type 0} {content : T → List ℕ} {room : T → ℕ} {z : Shape} 
         same-index lanes z.lanes are.count (λ number low. let l = are.all number low in (l.0, (l.1, l.2, l.3))) i j a.0 b.0 a.1 b.1 (a_is ∙ (same ∙ sym b_is)) (subst (λ (n : ℕ). n < z.lanes) (sym a_is) a.2.fits.seat.below);
   }
 
-  module _ (ok : IsShape z) (homes : List (maybe.Option (Option (Share T)))) {old new : Slots (Option (Share T))} (shared : Shared content room z w.history w.kept (slots_in z homes) w.stock)
+  module _ (ok : IsShape z) (homes : List (maybe.Option (Option (Share T)))) {old new : Slots (Option (Share T))} (shared : Shared content room (spots_at directory z) z w.history w.kept (slots_in z homes) w.stock)
       (stood : (index : ℕ) (value : Option (Share T)) → get_elem? homes index ≡ maybe.some (maybe.some value) → get_elem? (slots_items old) index ≡ maybe.some value)
       (hands : HandsBack z states old new) where
     module _ (place : ℕ) (inside : is_place z place ≡ true) where
@@ -188,8 +195,8 @@ module _ {T : Type 0} {content : T → List ℕ} {room : T → ℕ} {z : Shape} 
           absurd (omega (arith, refs, zero_refs)))
 
       -- what a slot had, it still has
-      part-now : (number label of : ℕ) → number < z.lanes → references_in (phase-at z w place) number ≡ 0 → HasShare content room (slots_in z homes) place number (w.stock.stored place) label of
-          → HasPart (slots_items new) (slot_index z place number) (w.stock.stored place).cell label of
+      part-now : (number label of : ℕ) → number < z.lanes → references_in (phase-at z w place) number ≡ 0 → HasShare content room (spots_at directory z) (slots_in z homes) place number (w.stock.stored place) label of
+          → HasPart (slots_items new) (slot_index z place number) (spots_at directory z place) (w.stock.stored place).cell label of
       part-now number label of low none has =
           let share : Share T = has.0 in
           let home_is = sym (slot-is z homes place number inside low) ∙ has.1 in
@@ -197,15 +204,16 @@ module _ {T : Type 0} {content : T → List ℕ} {room : T → ℕ} {z : Shape} 
             share = share;
             stands = slot-stays number none ∙ found-at (slots_items old) (slot_index z place number) (Some share) (stood (slot_index z place number) (Some share) home_is);
             cell_is = has.2.cell;
+            spot_is = has.2.spot_is;
             number_is = has.2.number_is;
             of_is = has.2.of_is;
           }
 
       -- a published place has the share of each lane
-      spread-now : (bytes : List ℕ) (references : ℕ → ℕ) (mark : Bool) → phase-at z w place ≡ published bytes references mark → IsSpread z (slots_items new) place
+      spread-now : (bytes : List ℕ) (references : ℕ → ℕ) (mark : Bool) → phase-at z w place ≡ published bytes references mark → IsSpread (spots_at directory z) z (slots_items new) place
       spread-now bytes references mark is = record { cell = (w.stock.stored place).cell; each = part }
         where
-          part : (number : ℕ) → number < z.lanes → HasPart (slots_items new) (slot_index z place number) (w.stock.stored place).cell number z.lanes
+          part : (number : ℕ) → number < z.lanes → HasPart (slots_items new) (slot_index z place number) (spots_at directory z place) (w.stock.stored place).cell number z.lanes
           part number low =
               let f = state-of-number number low in
               let s : LaneState T = f.2 in
@@ -213,7 +221,7 @@ module _ {T : Type 0} {content : T → List ℕ} {room : T → ℕ} {z : Shape} 
               let p_low = in-row z place inside in
               let rows_wide = e.fits.rows.wide in
               let row = entry-at s.rows.items (slot_start z place) (omega (arith, p_low, rows_wide)) in
-              subst (λ (n : ℕ). HasPart (slots_items new) (slot_index z place n) (w.stock.stored place).cell n z.lanes) f.5
+              subst (λ (n : ℕ). HasPart (slots_items new) (slot_index z place n) (spots_at directory z place) (w.stock.stored place).cell n z.lanes) f.5
               (dite (ℕ_discrete row.0.count 0)
               (λ none. part-now s.number s.number z.lanes e.fits.seat.below (none-referred rule place inside e row.0 row.1 none)
               (left-alone rule place inside e row.0 row.1 shared bytes references mark is none))
@@ -224,24 +232,25 @@ module _ {T : Type 0} {content : T → List ℕ} {room : T → ℕ} {z : Shape} 
                 share = h.0;
                 stands = hands.back f.0 s f.3 place inside row.0 h.0 row.1 more h.1;
                 cell_is = h.2;
-                number_is = h.3;
-                of_is = h.4;
+                spot_is = h.3 ∙ ap (λ (p : Ptr). spots_at p z place) (its-directory f.0 s f.3);
+                number_is = h.4;
+                of_is = h.5;
               }))
 
       shard-low : shard_of place < z.lanes
       shard-low = (is_place-parts z place inside).0
 
       -- a home place has its cell in its shard's slot
-      home-now : phase-at z w place ≡ home → IsResting z (slots_items new) place
+      home-now : phase-at z w place ≡ home → IsResting (spots_at directory z) z (slots_items new) place
       home-now is =
-          let stands = subst (StandsAs content room z (slots_in z homes) place (shard_of place) (w.stock.stored place)) (ap is_home is)
+          let stands = subst (StandsAs content room (spots_at directory z) z (slots_in z homes) place (shard_of place) (w.stock.stored place)) (ap is_home is)
           (shared.untouched place (shard_of place) inside shard-low (λ l low. untouched-is (w.stock.status l place (shard_of place))
           (λ touched. absurd (subst (MayHave (reclaimer w.history place) l (shard_of place)) is (shared.touched l place (shard_of place) low shard-low touched).0)))) in
-          let rests = subst (RestsAs content room (slots_in z homes) place (shard_of place) (w.stock.stored place)) (eq-eqb (shard_of place) (shard_of place) refl) stands in
+          let rests = subst (RestsAs content room (spots_at directory z) (slots_in z homes) place (shard_of place) (w.stock.stored place)) (eq-eqb (shard_of place) (shard_of place) refl) stands in
           record { cell = (w.stock.stored place).cell; part = part-now (shard_of place) 0 1 shard-low (ap (λ (f : Phase). references_in f (shard_of place)) is) rests }
 
       -- and so has one of a taken chain
-      chained-now : (index : ℕ) (lane : LaneOf) → slice_get lanes index ≡ Some lane → has (the_lane lane.book).chain place ≡ true → IsResting z (slots_items new) place
+      chained-now : (index : ℕ) (lane : LaneOf) → slice_get lanes index ≡ Some lane → has (the_lane lane.book).chain place ≡ true → IsResting (spots_at directory z) z (slots_items new) place
       chained-now index lane at among =
           let within = slice_get_within lanes index lane at in
           let state = entry-at states index (omega (arith, within, wide)) in
@@ -257,7 +266,7 @@ module _ {T : Type 0} {content : T → List ℕ} {room : T → ℕ} {z : Shape} 
             part = part-now (shard_of place) 0 1 shard-low (ap (λ (f : Phase). references_in f (shard_of place)) kept.with_lane) (shared.whole l place (shard_of place) low inside shard-low status);
           }
 
-    pub has-cells : HasCells z w.history lanes (slots_items new)
+    pub has-cells : HasCells (spots_at directory z) z w.history lanes (slots_items new)
     has-cells = record {
       spread = spread-now;
       returned = home-now;

@@ -11,7 +11,7 @@ use Rattle.keybits.specs.declared.shape.Shape.{Shape}
 use Rattle.keybits.specs.Places.{shard_of}
 use Rattle.keybits.specs.Shapes.{IsShape, is_place, all_places, position_of, index_of}
 use Rattle.keybits.proofs.ShapeLemmas.{position_of-lt, position_of-injective}
-use Rattle.slotcell.specs.Share.{Share}
+use Rattle.placecell.specs.Share.{Share}
 use Rattle.poolsteps.specs.Layout.{slot_start, slot_index, shard_start}
 use Rattle.poolsteps.proofs.SlotLemmas.{start-injective, slot-apart}
 use Rattle.poolsteps.specs.Joins.{IsSlotRow}

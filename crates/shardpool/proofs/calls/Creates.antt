@@ -62,7 +62,7 @@ pub record IsSound (lane : LaneOf) : Type 0 where
 
 -- so is a lane that fits what it keeps
 pub sound-fits : {T : Type 0} (content : T → List ℕ) (room : T → ℕ) (table : TableId) (v : View) (s : LaneState T) → Fits content room s.shape v s
-    → IsSound (record { table = table; shape = s.shape; number = s.number; book = v; free = s.free; pages = s.pages })
+    → IsSound (record { table = table; directory = s.objects.directory; shape = s.shape; number = s.number; book = v; free = s.free; pages = s.pages })
 sound-fits content room table v s fits = record { seat = fits.seat; unopened = fits.stores.unopened; first = fits.stores.first }
 
 -- ---- the steps so far
@@ -133,7 +133,7 @@ abbrev KeepsReferences : List Act → Type 0
 KeepsReferences made = (key n : ℕ) → references_made made key n ≡ n
 
 same-then : (u v w : LaneOf) → SameLane u v → SameLane v w → SameLane u w
-same-then u v w first second = (second.0 ∙ first.0, second.1 ∙ first.1, second.2 ∙ first.2)
+same-then u v w first second = (second.0 ∙ first.0, second.1 ∙ first.1, second.2 ∙ first.2, second.3 ∙ first.3)
 
 module _ (old new : LaneOf) (seat : FitsSeat old.shape old.book old.number) {call : Call} {steps : List Step} {made : List Act} {looks : ℕ} where
   created : call ≡ creating old → Part old.shape call steps made looks old.book new.book → next_step (caller_of old.shape old.book) call steps ≡ None
@@ -257,7 +257,7 @@ module _ {T : Type 0} (content : T → List ℕ) (room : T → ℕ) where
       let c : Caller = caller_of old.shape old.book in
       gives old mid new sound.seat refl (subst (λ (v : View). Part old.shape (creating old) [] [] 0 old.book v) (sym same_book) (none-yet old.shape (creating old) old.book sound.seat))
       (ap (λ own. next_step c (Creating (map number_of own) (the_lane old.book).chain old.pages.opened) []) pops.2)
-      (ap (λ (lane : LaneOf). lane.table) pops.3, ap (λ (lane : LaneOf). lane.shape) pops.3, ap (λ (lane : LaneOf). lane.number) pops.3)
+      (ap (λ (lane : LaneOf). lane.table) pops.3, ap (λ (lane : LaneOf). lane.shape) pops.3, ap (λ (lane : LaneOf). lane.number) pops.3, ap (λ (lane : LaneOf). lane.directory) pops.3)
       no-refs (omega arith) (omega arith) pops.4 fills
       (inl (record {
         first = first;
@@ -461,6 +461,7 @@ module _ {T : Type 0} (content : T → List ℕ) (room : T → ℕ) (old mid wid
     ap (λ (lane : LaneOf). lane.table) pops.3 ∙ ap (λ (lane : LaneOf). lane.table) opens.1,
     ap (λ (lane : LaneOf). lane.shape) pops.3 ∙ ap (λ (lane : LaneOf). lane.shape) opens.1,
     ap (λ (lane : LaneOf). lane.number) pops.3 ∙ ap (λ (lane : LaneOf). lane.number) opens.1,
+    ap (λ (lane : LaneOf). lane.directory) pops.3 ∙ ap (λ (lane : LaneOf). lane.directory) opens.1,
   )
 
   -- its slots

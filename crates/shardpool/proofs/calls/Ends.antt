@@ -1,12 +1,13 @@
 -- What a call that left a place, and perhaps reclaimed it, leaves of what the lane keeps.
 use Rattle.std.proofs.Common.{◌≡◌, ◌≢◌, ℕ, ◌<◌, Bool, true, false, not, ◌&&◌, cond, eqb, List, [], ◌∷◌, ◌++◌, Option, Some, None, IfSome, refl, sym, ap, ◌∙◌, subst, arith, append_assoc, append-nil, eq-eqb, ne_eqb}
+use Rattle.std.specs.Prelude.{slice_set}
 use Rattle.std.proofs.lemmas.List.{append_cancel_left}
 use Rattle.std.specs.List.{All}
 use Rattle.atomic_table.specs.Table.{Me}
 use Rattle.keybits.specs.declared.shape.Shape.{Shape}
 use Rattle.keybits.specs.declared.place.Place.{Place}
 use Rattle.keybits.specs.Places.{shard_of}
-use Rattle.keybits.specs.Shapes.{IsShape, is_place}
+use Rattle.keybits.specs.Shapes.{IsShape, is_place, index_of}
 use Rattle.keybits.specs.Keys.{place_of, generation_of, tag_of, key_number, is_key}
 use Rattle.keybits.proofs.ShapeLemmas.{place_bounds, is_place-parts}
 use Rattle.keybits.proofs.KeyLemmas.{place_of-key_number, generation_of-key_number, key_parts}
@@ -19,28 +20,33 @@ use Rattle.seqpool.proofs.Growth.{legal-rest}
 use Rattle.seqpool.proofs.Ranks.{current-key}
 use Rattle.seqpool.specs.Histories.{acts_of}
 use Rattle.steplaws.specs.StepLaws.{reclaim}
-use Rattle.sharelaws.specs.PlaceLaws.{gives_away}
+use Rattle.sharelaws.specs.PlaceLaws.{gives_away, brings}
 use Rattle.poolsteps.specs.declared.grid.Spot.{Spot}
 use Rattle.poolsteps.specs.Grids.{IsSpot}
 use Rattle.poolsteps.specs.declared.view.View.{View}
 use Rattle.poolsteps.specs.Views.{the_lane, status_of}
 use Rattle.poolsteps.specs.ViewLaws.{references_with, references_made}
 use Rattle.sharelaws.specs.declared.stored.Status.TheVariants.{Untouched, Emptied}
-use Rattle.slotcell.specs.Share.{Share}
+use Rattle.placecell.specs.Share.{Share}
+use Rattle.placecell.specs.Whole.{Whole}
 use Rattle.poolsteps.specs.Told.{IsIdle}
 use Rattle.poolcalls.specs.declared.reclaimed.Reclaimed.{Reclaimed}
 use Rattle.poolcalls.specs.declared.reclaimed.Reclaimed.TheVariants.{Own, Returned, Retired}
 use Rattle.poolcalls.specs.Acted.{Acted}
-use Rattle.poolcalls.specs.Called.{Did, IsReclaimed, EndsWithActs, FitsGeneration, MovedNothing, end_acts, end_pushed}
+use Rattle.poolsteps.specs.Layout.{slot_row, shard_start, spots_at}
+use denote.RawPtr.{Ptr}
+use Rattle.placecell.specs.Spot.{Spot as CellSpot}
+use Rattle.poolcalls.specs.Called.{Did, IsReclaimed, StandsAt, EndsWithActs, FitsGeneration, MovedNothing, end_acts, end_pushed}
 use Rattle.shardpool.specs.declared.state.LaneState.{LaneState}
-use Rattle.shardpool.specs.Places.{held_after}
-use Rattle.shardpool.specs.LaneStates.{FitsSeat, FitsTops, FitsStores, IsHeld, FitsRows, Fits}
+use Rattle.shardpool.specs.Places.{held_after, left_with}
+use Rattle.shardpool.specs.LaneStates.{FitsSeat, FitsTops, FitsStores, FitsRights, IsHeld, FitsRows, Fits}
 use Rattle.shardpool.specs.Stores.{Keeps}
 use Rattle.shardpool.specs.Lanes.{freed}
 use Rattle.shardpool.proofs.frame.OtherShards.{NoneAbroad, abroad-append, abroad-own, abroad-returned, abroad-retired}
 use Rattle.shardpool.proofs.frame.Frames.{Passes, OnlyAt}
 use Rattle.shardpool.proofs.frame.LaneFrames.{passes-did, passes-still, onlyat-append, onlyat-end}
 use Rattle.shardpool.proofs.frame.KeptPlaces.{seat-passes, last_pushed-same, last_pushed-pushed}
+use Rattle.shardpool.proofs.free.Rights.{rights-still, rights-kept, rights-gone, elsewhere-unbrought, returned-away, retired-away}
 use Rattle.shardpool.proofs.free.Stores.{FitsShelf, IsKeepable, stores-still, stores-apart, stores-reclaimed, alone-apart, apart-away}
 use Rattle.shardpool.proofs.frame.BlankPlaces.{reclaimed-with, last-of}
 use Rattle.shardpool.proofs.references.Rows.{rows-pass, held-append}
@@ -53,14 +59,30 @@ pub record FitsBeside {T : Type 0} (content : T → List ℕ) (room : T → ℕ)
   pub seat : FitsSeat z v s.number
   pub last_pushed : FitsTops z v s.last_pushed.items
   pub stores : FitsStores content room z v s.free s.pages s.objects.items
+  pub rights : FitsRights z v s.objects
 
 pub fits-beside : {T : Type 0} {content : T → List ℕ} {room : T → ℕ} {z : Shape} {v : View} {s : LaneState T} → Fits content room z v s → FitsBeside content room z v s
-fits-beside fits = record { shape_is = fits.shape_is; placed = fits.placed; seat = fits.seat; last_pushed = fits.last_pushed; stores = fits.stores }
+fits-beside fits = record { shape_is = fits.shape_is; placed = fits.placed; seat = fits.seat; last_pushed = fits.last_pushed; stores = fits.stores; rights = fits.rights }
 
 -- so what it knows of places is that of its shard
 pub own-placed : {T : Type 0} {content : T → List ℕ} {room : T → ℕ} {z : Shape} {v : View} {s : LaneState T} → FitsBeside content room z v s
     → (s.places.shape ≡ s.shape) × (s.places.shard ≡ s.free.shard)
 own-placed fits = (fits.placed.0 ∙ sym fits.shape_is, fits.placed.1 ∙ (fits.seat.number_is ∙ sym fits.stores.lists.0))
+
+-- its rows of rights begin where its shard does
+pub own-begins : {T : Type 0} {content : T → List ℕ} {room : T → ℕ} {z : Shape} {v : View} {s : LaneState T} → FitsBeside content room z v s
+    → (s.objects.first ≡ shard_start s.shape s.free.shard) × (s.objects.wide ≡ slot_row s.shape)
+own-begins fits = (
+  fits.rights.first_is ∙ (λ i. shard_start (sym fits.shape_is i) (sym fits.stores.lists.0 i)),
+  fits.rights.wide ∙ ap slot_row (sym fits.shape_is),
+)
+
+-- and what became of a place stands in a word of the lane's directory
+pub own-stands : {T : Type 0} {content : T → List ℕ} {room : T → ℕ} {z : Shape} {v : View} {s : LaneState T} {directory : Ptr} {place at : ℕ} (reclaimed : Option (Reclaimed T))
+    → FitsBeside content room z v s → s.objects.directory ≡ directory → at ≡ place → StandsAt (spots_at directory z place) reclaimed
+    → StandsAt (spots_at s.objects.directory s.shape at) reclaimed
+own-stands reclaimed fits directory same stands =
+    subst (λ (spot : CellSpot). StandsAt spot reclaimed) (λ i. spots_at (sym directory i) (sym fits.shape_is i) (sym same i)) stands
 
 -- and a spot of the pool is one of its shape
 pub own-spot : {T : Type 0} {content : T → List ℕ} {room : T → ℕ} {z : Shape} {v : View} {s : LaneState T} {spot : Spot} {place : ℕ} → FitsBeside content room z v s
@@ -139,17 +161,18 @@ module _ {T : Type 0} {content : T → List ℕ} {room : T → ℕ} {z : Shape} 
   last_pushed-by t place (Some (Own whole)) inside pushed kept = subst (λ (x : LaneState T). FitsTops z w x.last_pushed.items) (sym kept.rest) (last_pushed-same fits.last_pushed pushed)
   last_pushed-by t place (Some Returned) inside pushed kept =
       subst (λ (x : List ℕ). FitsTops z w x) (sym kept.last_pushed) (last_pushed-pushed fits.last_pushed pushed (is_place-parts z place inside).0)
-  last_pushed-by t place (Some Retired) inside pushed kept = subst (λ (x : LaneState T). FitsTops z w x.last_pushed.items) (sym kept) (last_pushed-same fits.last_pushed pushed)
+  last_pushed-by t place (Some (Retired vacancy)) inside pushed kept = subst (λ (x : LaneState T). FitsTops z w x.last_pushed.items) (sym kept) (last_pushed-same fits.last_pushed pushed)
 
 -- the rest of the state stays
 pub rows-by : {T : Type 0} (s t : LaneState T) (place : ℕ) (reclaimed : Option (Reclaimed T)) → Keeps place reclaimed s t
     → (t.rows ≡ s.rows) × (t.references ≡ s.references) × (t.shape ≡ s.shape) × (t.number ≡ s.number) × (t.pages ≡ s.pages) × (t.places ≡ s.places)
-rows-by s t place None kept = (ap (λ x. x.rows) kept, ap (λ x. x.references) kept, ap (λ x. x.shape) kept, ap (λ x. x.number) kept, ap (λ x. x.pages) kept, ap (λ x. x.places) kept)
+    × (t.objects.directory ≡ s.objects.directory)
+rows-by s t place None kept = (ap (λ x. x.rows) kept, ap (λ x. x.references) kept, ap (λ x. x.shape) kept, ap (λ x. x.number) kept, ap (λ x. x.pages) kept, ap (λ x. x.places) kept, ap (λ x. x.objects.directory) kept)
 rows-by s t place (Some (Own whole)) kept =
-    (ap (λ x. x.rows) kept.rest, ap (λ x. x.references) kept.rest, ap (λ x. x.shape) kept.rest, ap (λ x. x.number) kept.rest, ap (λ x. x.pages) kept.rest, ap (λ x. x.places) kept.rest)
+    (ap (λ x. x.rows) kept.rest, ap (λ x. x.references) kept.rest, ap (λ x. x.shape) kept.rest, ap (λ x. x.number) kept.rest, ap (λ x. x.pages) kept.rest, ap (λ x. x.places) kept.rest, kept.same.0)
 rows-by s t place (Some Returned) kept =
-    (ap (λ x. x.rows) kept.rest, ap (λ x. x.references) kept.rest, ap (λ x. x.shape) kept.rest, ap (λ x. x.number) kept.rest, ap (λ x. x.pages) kept.rest, ap (λ x. x.places) kept.rest)
-rows-by s t place (Some Retired) kept = (ap (λ x. x.rows) kept, ap (λ x. x.references) kept, ap (λ x. x.shape) kept, ap (λ x. x.number) kept, ap (λ x. x.pages) kept, ap (λ x. x.places) kept)
+    (ap (λ x. x.rows) kept.rest, ap (λ x. x.references) kept.rest, ap (λ x. x.shape) kept.rest, ap (λ x. x.number) kept.rest, ap (λ x. x.pages) kept.rest, ap (λ x. x.places) kept.rest, ap (λ x. x.objects.directory) kept.rest)
+rows-by s t place (Some (Retired vacancy)) kept = (ap (λ x. x.rows) kept, ap (λ x. x.references) kept, ap (λ x. x.shape) kept, ap (λ x. x.number) kept, ap (λ x. x.pages) kept, ap (λ x. x.places) kept, ap (λ x. x.objects.directory) kept)
 
 -- the own list has what was freed
 abbrev more-own : FreePlaces → List Place → FreePlaces
@@ -191,8 +214,10 @@ pub record Ended {T : Type 0} (content : T → List ℕ) (room : T → ℕ) (z :
   pub seat : FitsSeat z w t.number
   pub last_pushed : FitsTops z w t.last_pushed.items
   pub stores : FitsStores content room z w t.free t.pages t.objects.items
+  pub rights : FitsRights z w t.objects
   pub list : t.free ≡ more-own s.free (freed z s.number made)
   pub same : (t.rows ≡ s.rows) × (t.references ≡ s.references) × (t.shape ≡ s.shape) × (t.number ≡ s.number) × (t.pages ≡ s.pages) × (t.places ≡ s.places)
+      × (t.objects.directory ≡ s.objects.directory)
 
 module _ (z : Shape) (place generation : ℕ) (shape : IsShape z) (inside : is_place z place ≡ true) where
   small : place < 16777216
@@ -231,7 +256,7 @@ module _ {T : Type 0} {content : T → List ℕ} {room : T → ℕ} {z : Shape} 
     record { with_lane = now-with z place generation fits.seat.shape inside v w first acted below; emptied = told.2; room = told.4 },
   )
   keepable place generation first (Some Returned) inside acted below told = tt
-  keepable place generation first (Some Retired) inside acted below told = tt
+  keepable place generation first (Some (Retired vacancy)) inside acted below told = tt
 
   -- what the own list gains
   list-by : (t : LaneState T) (place generation : ℕ) (first : List Act) (reclaimed : Option (Reclaimed T)) → is_place z place ≡ true
@@ -253,7 +278,7 @@ module _ {T : Type 0} {content : T → List ℕ} {room : T → ℕ} {z : Shape} 
       ap (λ x. x.free) kept.rest ∙ same-own s.free (freed z s.number (first ++ end_acts z (the_lane v).lane place generation returned))
       (freed-append z s.number first (end_acts z (the_lane v).lane place generation returned)
       ∙ (ap (λ (xs : List Place). xs ++ freed z s.number (end_acts z (the_lane v).lane place generation returned)) none ∙ one))
-  list-by t place generation first (Some Retired) inside acted below told none kept =
+  list-by t place generation first (Some (Retired vacancy)) inside acted below told none kept =
       let one = freed-retired z s.number place generation (key-place z place generation fits.seat.shape inside)
       (key-generation z place generation fits.seat.shape inside v w first acted) below in
       ap (λ x. x.free) kept ∙ same-own s.free (freed z s.number (first ++ reclaim z (the_lane v).lane place generation ∷ []))
@@ -271,9 +296,36 @@ module _ {T : Type 0} {content : T → List ℕ} {room : T → ℕ} {z : Shape} 
   alone-by place generation first (Some Returned) inside acted below told =
       abroad-returned z s.number (the_lane v).lane place (key_number z.tag place generation)
       (key-place z place generation fits.seat.shape inside)
-  alone-by place generation first (Some Retired) inside acted below told =
+  alone-by place generation first (Some (Retired vacancy)) inside acted below told =
       abroad-retired z s.number (the_lane v).lane (key_number z.tag place generation)
       (key-generation z place generation fits.seat.shape inside v w first acted ∙ below)
+
+  -- the rights that are then the lane's
+  rights-by : (t : LaneState T) (place generation : ℕ) (first : List Act) (reclaimed : Option (Reclaimed T)) → is_place z place ≡ true
+      → Acted z (first ++ end_acts z (the_lane v).lane place generation reclaimed) v w → FitsGeneration z generation reclaimed
+      → IfSome reclaimed (IsReclaimed content room z place s.number w) → (the_lane w).chain ≡ (the_lane v).chain
+      → OnlyAt place (first ++ end_acts z (the_lane v).lane place generation reclaimed) → ((p : ℕ) → All (λ act. brings act p ≡ false) first)
+      → Keeps place reclaimed s t → FitsRights z w t.objects
+  rights-by t place generation first None inside acted below told chain only none kept =
+      subst (λ (x : LaneState T). FitsRights z w x.objects) (sym kept)
+      (rights-still fits.rights acted chain (λ p. subst (λ (xs : List Act). All (λ act. brings act p ≡ false) xs) (sym (append-nil first)) (none p)))
+  rights-by t place generation first (Some (Own whole)) inside acted below told chain only none kept =
+      let shape : s.shape ≡ z = fits.shape_is in
+      rights-kept fits.rights acted chain fits.seat.shape t.objects inside (told.0 ∙ fits.seat.number_is) kept.same.1 kept.same.2
+      (λ p other. elsewhere-unbrought place p (first ++ reclaim z (the_lane v).lane place generation ∷ []) only other)
+      (kept.rights ∙ ap (λ (y : Shape). slice_set s.objects.rights (index_of y place) true) shape)
+  rights-by t place generation first (Some Returned) inside acted below told chain only none kept =
+      let returned : Option (Reclaimed T) = Some Returned in
+      subst (λ (x : LaneState T). FitsRights z w x.objects) (sym kept.rest)
+      (rights-gone fits.rights acted chain
+      (λ p other. elsewhere-unbrought place p (first ++ end_acts z (the_lane v).lane place generation returned) only other)
+      (λ left. returned-away z place (the_lane v).lane (the_lane v).lane (key_number z.tag place generation) first (left_with z place (the_lane v).mine true) left))
+  rights-by t place generation first (Some (Retired vacancy)) inside acted below told chain only none kept =
+      subst (λ (x : LaneState T). FitsRights z w x.objects) (sym kept)
+      (rights-gone fits.rights acted chain
+      (λ p other. elsewhere-unbrought place p (first ++ reclaim z (the_lane v).lane place generation ∷ []) only other)
+      (λ left. retired-away z place (the_lane v).lane (key_number z.tag place generation) first (left_with z place (the_lane v).mine true)
+      (key-place z place generation fits.seat.shape inside) (key-generation z place generation fits.seat.shape inside v w first acted ∙ below) left))
 
 -- where no place was reclaimed, nothing is given away
 given-none : {T : Type 0} (z : Shape) (lane place generation : ℕ) (first : List Act) (reclaimed : Option (Reclaimed T)) → reclaimed ≡ None
@@ -301,9 +353,9 @@ stores-after {z = z} {v = v} {s = s} fits w t place generation first (Some recla
 pub ended-beside : {S T : Type 0} {content : T → List ℕ} {room : T → ℕ} {z : Shape} {place steps looks : ℕ} {made : List Act} {a b : Me S View} {s t : LaneState T}
     (first : List Act) (reclaimed : Option (Reclaimed T)) → FitsBeside content room z a.0 s → Did z place made steps looks a b → IsIdle b.0 → (acts_so : EndsWithActs z place first a.0 b.0 reclaimed)
     → IfSome reclaimed (IsReclaimed content room z place s.number b.0) → is_place z place ≡ true → OnlyAt place first → All (λ act. gives_away act place ≡ false) first
-    → freed z s.number first ≡ [] → NoneAbroad z s.number first → Keeps place reclaimed s t
+    → ((p : ℕ) → All (λ act. brings act p ≡ false) first) → freed z s.number first ≡ [] → NoneAbroad z s.number first → Keeps place reclaimed s t
     → Ended content room z place reclaimed (first ++ end_acts z (the_lane a.0).lane place acts_so.0.0 reclaimed) a.0 b.0 s t
-ended-beside {content = content} {room = room} {z = z} {place = place} {made = made} {a = a} {b = b} {s = s} {t = t} first reclaimed fits did idle acts_so told inside only keeps none alone kept =
+ended-beside {content = content} {room = room} {z = z} {place = place} {made = made} {a = a} {b = b} {s = s} {t = t} first reclaimed fits did idle acts_so told inside only keeps unbrought none alone kept =
     let lane : ℕ = (the_lane a.0).lane in
     let all : List Act = first ++ end_acts z lane place acts_so.0.0 reclaimed in
     let same : made ≡ all = append_cancel_left (the_lane a.0).mine made all (sym did.acted.mine ∙ acts_so.0.1) in
@@ -320,6 +372,7 @@ ended-beside {content = content} {room = room} {z = z} {place = place} {made = m
           (abroad-append z s.number first (end_acts z lane place acts_so.0.0 reclaimed) alone (alone-by fits b.0 place acts_so.0.0 first reclaimed inside passes.acted acts_so.0.2 told)));
       last_pushed = last_pushed-by fits t place reclaimed inside acts_so.1 kept;
       stores = stores-after fits b.0 t place acts_so.0.0 first reclaimed inside passes.acted acts_so.0.2 acts_so.2 told stores did.chain kept;
+      rights = rights-by fits b.0 t place acts_so.0.0 first reclaimed inside passes.acted acts_so.0.2 told did.chain only_all unbrought kept;
       list = list-by fits b.0 t place acts_so.0.0 first reclaimed inside passes.acted acts_so.0.2 told none kept;
       same = rest;
     }
@@ -328,24 +381,24 @@ ended-beside {content = content} {room = room} {z = z} {place = place} {made = m
 pub ended : {S T : Type 0} {content : T → List ℕ} {room : T → ℕ} {z : Shape} {place steps looks : ℕ} {made : List Act} {a b : Me S View} {s t : LaneState T}
     (first : List Act) (reclaimed : Option (Reclaimed T)) → Fits content room z a.0 s → Did z place made steps looks a b → IsIdle b.0 → (acts_so : EndsWithActs z place first a.0 b.0 reclaimed)
     → IfSome reclaimed (IsReclaimed content room z place s.number b.0) → is_place z place ≡ true → OnlyAt place first → All (λ act. gives_away act place ≡ false) first
-    → freed z s.number first ≡ [] → NoneAbroad z s.number first → Keeps place reclaimed s t
+    → ((p : ℕ) → All (λ act. brings act p ≡ false) first) → freed z s.number first ≡ [] → NoneAbroad z s.number first → Keeps place reclaimed s t
     → Ended content room z place reclaimed (first ++ end_acts z (the_lane a.0).lane place acts_so.0.0 reclaimed) a.0 b.0 s t
-ended first reclaimed fits did idle acts_so told inside only keeps none alone kept =
-    ended-beside first reclaimed (fits-beside fits) did idle acts_so told inside only keeps none alone kept
+ended first reclaimed fits did idle acts_so told inside only keeps unbrought none alone kept =
+    ended-beside first reclaimed (fits-beside fits) did idle acts_so told inside only keeps unbrought none alone kept
 
 -- an object that is answered may be kept
 pub beside-away : {T : Type 0} {content : T → List ℕ} {room : T → ℕ} {z : Shape} {v : View} {s : LaneState T} → FitsBeside content room z v s → (w : View) (place : ℕ)
     (reclaimed : Option (Reclaimed T)) → is_place z place ≡ true → MovedNothing z place (the_lane v) (the_lane w) reclaimed
-    → IfSome reclaimed (IsReclaimed content room z place s.number w) → (whole : T) → reclaimed ≡ Some (Own whole) → IsAway s.free (place_numbered place)
+    → IfSome reclaimed (IsReclaimed content room z place s.number w) → (whole : Whole T) → reclaimed ≡ Some (Own whole) → IsAway s.free (place_numbered place)
 beside-away fits w place None inside moved told whole is = absurd (cc is)
 beside-away fits w place (Some (Own object)) inside moved told whole is =
     apart-away fits.stores place inside (told.0 ∙ fits.seat.number_is) (alone-apart fits.stores (some-lane fits.seat) place moved)
 beside-away fits w place (Some Returned) inside moved told whole is = absurd (cc is)
-beside-away fits w place (Some Retired) inside moved told whole is = absurd (cc is)
+beside-away fits w place (Some (Retired vacancy)) inside moved told whole is = absurd (cc is)
 
 pub own-away : {T : Type 0} {content : T → List ℕ} {room : T → ℕ} {z : Shape} {v : View} {s : LaneState T} → Fits content room z v s → (w : View) (place : ℕ)
     (reclaimed : Option (Reclaimed T)) → is_place z place ≡ true → MovedNothing z place (the_lane v) (the_lane w) reclaimed
-    → IfSome reclaimed (IsReclaimed content room z place s.number w) → (whole : T) → reclaimed ≡ Some (Own whole) → IsAway s.free (place_numbered place)
+    → IfSome reclaimed (IsReclaimed content room z place s.number w) → (whole : Whole T) → reclaimed ≡ Some (Own whole) → IsAway s.free (place_numbered place)
 own-away fits = beside-away (fits-beside fits)
 
 -- ---- the rows

@@ -16,7 +16,8 @@ use Rattle.seqpool.specs.declared.act.Act.TheVariants as acts
 use Rattle.seqpool.specs.Pool.{with, published, pool_after}
 use Rattle.sharelaws.specs.declared.stored.Status.TheVariants.{Untouched}
 use Rattle.sharelaws.specs.Shares.{room_of}
-use Rattle.slotcell.specs.Share.{Share}
+use Rattle.placecell.specs.Share.{Share}
+use Rattle.placecell.specs.Spot.{Spot as CellSpot}
 use Rattle.steplaws.specs.Calls.{Call, key_in}
 use Rattle.steplaws.specs.Calls.Call.{Getting}
 use Rattle.sharelaws.specs.PlaceLaws.{gives_away}
@@ -37,6 +38,8 @@ use Rattle.shardpool.specs.declared.state.HeldKey.{HeldKey}
 use Rattle.shardpool.specs.declared.state.LaneState.{LaneState}
 use Rattle.shardpool.specs.Places.{held_after}
 use Rattle.shardpool.specs.Tokens.{FillingOf}
+use Rattle.shardpool.specs.Rows.{AreStanding}
+use Rattle.shardpool.proofs.free.Rights.{rights-still, unbrought-one}
 use Rattle.shardpool.specs.LaneStates.{FitsRow, FitsRows, Fits}
 use Rattle.shardpool.specs.Lanes.{Made, Did}
 use Rattle.shardpool.proofs.frame.OtherShards.{abroad-one}
@@ -163,8 +166,8 @@ module _ {T : Type 0} {content : T → List ℕ} {room : T → ℕ} {z : Shape} 
       shape_now : t.shape ≡ z
       shape_now = ap (λ (x : LaneState T). x.shape) rest ∙ fits.shape_is
 
-      hit-fits : FitsRows content room z w t.rows.items (s.references + 1) → Fits content room z w t
-      hit-fits rows =
+      hit-fits : FitsRows content room z w t.rows.items (s.references + 1) → AreStanding s.objects.directory t.rows.items → Fits content room z w t
+      hit-fits rows standing =
           let apart = elsewhere-apart fits.stores (place_of key) hit-away in
           let stores = stores-apart fits.stores fits.seat.paired fits.seat.own hit.chain (onlyat-get (the_lane v).lane key (Some bytes)) hit.passes apart in
           subst (λ (x : LaneState T). Fits content room z w x) (sym rest) (record {
@@ -174,6 +177,8 @@ module _ {T : Type 0} {content : T → List ℕ} {room : T → ℕ} {z : Shape} 
             last_pushed = last_pushed-same fits.last_pushed hit.pushed;
             rows = rows;
             stores = stores;
+            rights = rights-still fits.rights hit.passes.acted hit.chain (λ p. unbrought-one p (acts.Get (the_lane v).lane key (Some bytes)) refl);
+            standing = standing;
           })
 
       list_now : t.free ≡ record s.free { own = s.free.own ++ [] }
@@ -182,7 +187,8 @@ module _ {T : Type 0} {content : T → List ℕ} {room : T → ℕ} {z : Shape} 
       hit-did : (table table_now : TableId) → table_now ≡ table → Did (acts.Get s.number key (Some bytes) ∷ []) (lane_of table v s) (lane_of table_now w t)
       hit-did table table_now same =
           subst (λ (l : ℕ). Did (acts.Get l key (Some bytes) ∷ []) (lane_of table v s) (lane_of table_now w t)) (sym fits.seat.number_is)
-          (did-lane z (lane_of table v s) (lane_of table_now w t) fits.shape_is shape_now (ap (λ (x : LaneState T). x.number) rest) same hit.passes fits.seat.own list_now
+          (did-lane z (lane_of table v s) (lane_of table_now w t) fits.shape_is shape_now (ap (λ (x : LaneState T). x.number) rest) same
+          (ap (λ (x : LaneState T). x.objects.directory) rest) hit.passes fits.seat.own list_now
           (ap (λ (x : LaneState T). x.pages) rest))
 
       hit-holds : 1 ≤ references_seen t.shape w key
@@ -198,8 +204,8 @@ module _ {T : Type 0} {content : T → List ℕ} {room : T → ℕ} {z : Shape} 
           made-passes z (lane_of table v s) (lane_of table_now w t) filling fits.shape_is shape_now (sym fits.seat.number_is) (ap (λ (x : LaneState T). x.number) rest) same
           hit.passes fits.seat.paired fits.seat.own hit.idle hit.chain list_now (ap (λ (x : LaneState T). x.pages) rest) off (keeps p) was
 
-      pub gained : FitsRows content room z w t.rows.items (s.references + 1) → Gained content room z key bytes v w s t
-      gained rows = record { fits = hit-fits rows; holds = hit-holds; did = hit-did; refs = hit-refs; fillings = hit-fillings }
+      pub gained : FitsRows content room z w t.rows.items (s.references + 1) → AreStanding s.objects.directory t.rows.items → Gained content room z key bytes v w s t
+      gained rows standing = record { fits = hit-fits rows standing; holds = hit-holds; did = hit-did; refs = hit-refs; fillings = hit-fillings }
 
 -- ---- the rows after a hit
 
@@ -213,7 +219,7 @@ module _ {T : Type 0} {content : T → List ℕ} {room : T → ℕ} {z : Shape} 
       (hit-still called bytes one unmoved) some refl).1
 
   -- it has the first, with the share that was taken out
-  pub rows-begun : {share : Share T} {c : Me (Option (Share T)) View} → Outs content room z (place_of key) s.number Untouched b share c → row.count ≡ 0
+  pub rows-begun : {spots : ℕ → CellSpot} {share : Share T} {c : Me (Option (Share T)) View} → Outs content room spots z (place_of key) s.number Untouched b share c → row.count ≡ 0
       → FitsRows content room z c.0 (slice_set s.rows.items (slot_start z (place_of key)) (record { key = key; count = 1; share = Some share })) (s.references + 1)
   rows-begun {share = share} {c = c} outs none =
       let hit = hit-moved called bytes one unmoved (carries-out outs) in

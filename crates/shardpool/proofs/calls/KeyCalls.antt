@@ -1,7 +1,7 @@
 -- What a call of a key finds before it, and what it then leaves of its lane.
-use Rattle.std.proofs.Common.{◌≡◌, ◌==◌, ℕ, ◌+◌, ◌<◌, Bool, true, List, [], ◌∷◌, length, Option, Some, None, IfSome, sym, ap, ◌∙◌, subst, slice_get, slice_index, slice_index_or, slice_set, if◌then◌else◌}
+use Rattle.std.proofs.Common.{◌≡◌, ◌==◌, ℕ, ◌+◌, ◌<◌, Bool, true, List, [], ◌∷◌, length, Option, Some, None, IfSome, refl, sym, ap, ◌∙◌, subst, slice_get, slice_index, slice_index_or, slice_set, if◌then◌else◌}
 use Rattle.atomic_table.specs.Table.{Me}
-use Rattle.slotcell.specs.Share.{Share}
+use Rattle.placecell.specs.Share.{Share}
 use Rattle.keybits.specs.declared.shape.Shape.{Shape}
 use Rattle.keybits.specs.Places.{shard_of}
 use Rattle.keybits.proofs.ShapeLemmas.{is_place-parts}
@@ -13,7 +13,9 @@ use Rattle.seqpool.specs.declared.act.Act.TheVariants as acts
 use Rattle.sharelaws.specs.declared.stored.Status.TheVariants.{Untouched}
 use Rattle.steplaws.specs.Calls.Call.{Getting, Clearing}
 use Rattle.poolsteps.specs.declared.grid.Spot.{Spot}
-use Rattle.poolsteps.specs.Layout.{slot_start}
+use denote.RawPtr.{Ptr}
+use Rattle.placecell.specs.Whole.{Whole}
+use Rattle.poolsteps.specs.Layout.{slot_start, spots_at}
 use Rattle.poolsteps.specs.declared.view.View.{View}
 use Rattle.poolsteps.specs.Views.{the_lane, status_of}
 use Rattle.poolsteps.specs.Grids.{IsSpot}
@@ -36,6 +38,7 @@ use Rattle.shardpool.specs.Lanes.{holds}
 use Rattle.shardpool.proofs.calls.Ends.{own-away}
 use Rattle.shardpool.proofs.calls.Gets.{Gained, gained, hit-again, hit-moved, hit-may, none-seen, rows-again, rows-begun, miss-told}
 use Rattle.shardpool.proofs.calls.QuietEnds.{Quieted, quieted, quiet-clear, quiet-miss}
+use Rattle.shardpool.proofs.references.Standings.{standing-set, standing-same}
 use Rattle.shardpool.proofs.references.RowChanges.{rows-low, rows-stand, rows-counts}
 use Rattle.shardpool.proofs.frame.SeenHistories.{same-shape}
 
@@ -81,7 +84,7 @@ module _ {T : Type 0} {content : T → List ℕ} {room : T → ℕ} {z : Shape} 
 
   -- an object that a call answers may be kept
   away-after : (w : View) (first : List Act) (reclaimed : Option (Reclaimed T)) → EndsWithActs z (place_of key) first v w reclaimed
-      → IfSome reclaimed (IsReclaimed content room z (place_of key) s.number w) → (whole : T) → reclaimed ≡ Some (Own whole) → IsAway s.free (place_numbered spot.place)
+      → IfSome reclaimed (IsReclaimed content room z (place_of key) s.number w) → (whole : Whole T) → reclaimed ≡ Some (Own whole) → IsAway s.free (place_numbered spot.place)
   away-after w first reclaimed acts_so told whole is = subst (λ (p : ℕ). IsAway s.free (place_numbered p)) (sym before.there.place_is)
       (own-away before.fits w (place_of key) reclaimed before.there.inside acts_so.2 told whole is)
 
@@ -92,7 +95,7 @@ module _ {T : Type 0} {content : T → List ℕ} {room : T → ℕ} {z : Shape} 
 
 module _ {T : Type 0} {content : T → List ℕ} {room : T → ℕ} {z : Shape} {key looks : ℕ} {spot : Spot} {a b : Me (Option (Share T)) View} {s : LaneState T}
     (before : Ready content room z key spot a.0 s) (reclaimed : Option (Reclaimed T)) where
-  pub missed-away : Called z (Getting key) looks a b → HasGot content room z key a b (Miss reclaimed) → (whole : T) → reclaimed ≡ Some (Own whole)
+  pub missed-away : Called z (Getting key) looks a b → HasGot content room z key a b (Miss reclaimed) → (whole : Whole T) → reclaimed ≡ Some (Own whole)
       → IsAway s.free (place_numbered spot.place)
   missed-away called got = let told = miss-told reclaimed before.fits called got in away-after before b.0 (acts.Get s.number key None ∷ []) reclaimed told.0 told.1
 
@@ -105,7 +108,7 @@ module _ {T : Type 0} {content : T → List ℕ} {room : T → ℕ} {z : Shape} 
       (kept-there before reclaimed t kept)
 
   pub cleared-away : (reply : Bool) → Called z (Clearing key) looks a b → EndsWithActs z (place_of key) (acts.Clear s.number key reply ∷ []) a.0 b.0 reclaimed
-      → IfSome reclaimed (IsReclaimed content room z (place_of key) s.number b.0) → (whole : T) → reclaimed ≡ Some (Own whole) → IsAway s.free (place_numbered spot.place)
+      → IfSome reclaimed (IsReclaimed content room z (place_of key) s.number b.0) → (whole : Whole T) → reclaimed ≡ Some (Own whole) → IsAway s.free (place_numbered spot.place)
   cleared-away reply called acts_so told = away-after before b.0 (acts.Clear s.number key reply ∷ []) reclaimed acts_so told
 
   -- a clear
@@ -144,13 +147,16 @@ module _ {T : Type 0} {content : T → List ℕ} {room : T → ℕ} {z : Shape} 
           = written row (ap (slice_get s.rows.items) there ∙ stood) ∙ ap (λ (i : ℕ). slice_set s.rows.items i more) there in
           gained before.fits (hit-again called got.0 got.1 got.2) t rest
           (subst (λ xs. FitsRows content room z b.0 xs (s.references + 1)) (sym items) (rows-again before.fits called got.0 got.1 got.2 row stood some))
+          (standing-same items refl (standing-set s.rows.items (slot_start z (place_of key)) more before.fits.standing (λ shown share. before.fits.standing (slot_start z (place_of key)) row shown stood share)))
 
       -- or its first, with the share that was taken out
-      pub gained-first : {share : Share T} {c : Me (Option (Share T)) View} → row.count ≡ 0 → Outs content room z spot.place s.number Untouched b share c
+      pub gained-first : {at : Ptr} {share : Share T} {c : Me (Option (Share T)) View} → s.objects.directory ≡ at → row.count ≡ 0 → Outs content room (spots_at at z) z spot.place s.number Untouched b share c
           → t.rows.items ≡ slice_set s.rows.items spot.start (record { key = key; count = 1; share = Some share }) → Gained content room z key got.0 a.0 c.0 s t
-      gained-first {share = share} {c = c} none taken written =
-          let outs = subst (λ (p : ℕ). Outs content room z p s.number Untouched b share c) before.there.place_is taken in
+      gained-first {at = at} {share = share} {c = c} directory none taken written =
+          let outs = subst (λ (p : ℕ). Outs content room (spots_at at z) z p s.number Untouched b share c) before.there.place_is taken in
           let first : HeldKey T = record { key = key; count = 1; share = Some share } in
           let items : t.rows.items ≡ slice_set s.rows.items (slot_start z (place_of key)) first = written ∙ ap (λ (i : ℕ). slice_set s.rows.items i first) before.there.start in
           gained before.fits (hit-moved called got.0 got.1 got.2 (carries-out outs)) t rest
           (subst (λ xs. FitsRows content room z c.0 xs (s.references + 1)) (sym items) (rows-begun before.fits called got.0 got.1 got.2 row stood outs none))
+          (standing-same items refl (standing-set s.rows.items (slot_start z (place_of key)) first before.fits.standing (λ shown is. let same : share ≡ shown = cc is in
+          subst (λ (x : Share T). x.spot ≡ record { directory = s.objects.directory; index = slot_start z (place_of key) }) same (outs.is_left.spot_is ∙ ap (λ (p : Ptr). spots_at p z (place_of key)) (sym directory)))))

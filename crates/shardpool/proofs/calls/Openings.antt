@@ -1,16 +1,22 @@
--- What a lane keeps fits at first, when it has seen and done nothing.
-use Rattle.std.proofs.Common.{◌≡◌, ⊎_elim, ℕ, ◌+◌, ◌<◌, Bool, true, cond, List, [], ◌∷◌, ◌++◌, length, replicate, Option, Some, None, refl, ap, sym, ◌∙◌, subst, arith, eq-eqb, slice_get, append_assoc, append-nil}
+-- What a lane keeps fits at first, when it has seen and done nothing; and how lanes are made and endowed, one after another.
+use Rattle.std.proofs.Common.{◌≡◌, ⊎_elim, ℕ, ◌+◌, ◌<◌, ◌≤◌, Bool, true, false, cond, List, [], ◌∷◌, ◌++◌, length, replicate, Option, Some, None, refl, ap, sym, ◌∙◌, subst, arith, eq-eqb, slice_get, append_assoc, append-nil}
 use Rattle.std.specs.List.{Contains}
 use Rattle.std.proofs.lemmas.List.{length_push, length-replicate, get_or-replicate}
 use Rattle.std.proofs.lemmas.Bool.{cond_both}
-use Rattle.std.proofs.lemmas.Option.{slice_get_within, get_or_from_slice_get}
+use Rattle.std.proofs.lemmas.Option.{slice_get_within, get_or_from_slice_get, slice_get-get_or}
+use Rattle.std.proofs.lemmas.Nat.{mul-le}
+use Rattle.std.proofs.Math.Nat.{add-mul}
+use denote.RawPtr.{Ptr}
 use Rattle.std.proofs.lemmas.List.Folds.{sum_by-replicate}
 use Rattle.keybits.specs.declared.shape.Shape.{Shape}
 use Rattle.keybits.specs.Places.{shard_of}
-use Rattle.keybits.specs.Shapes.{IsShape, shard_places}
+use Rattle.keybits.specs.Shapes.{IsShape, shard_places, index_of}
 use Rattle.keybits.specs.Keys.{is_key, generation_of}
 use Rattle.keybits.proofs.KeyLemmas.{key_parts}
-use Rattle.poolsteps.specs.Layout.{slot_row}
+use Rattle.keybits.proofs.ShapeLemmas.{index_of-lt}
+use Rattle.placerows.specs.Objects.{ObjectsOf}
+use Rattle.poolsteps.specs.declared.layout.TheConstants.{SHARDS_APART}
+use Rattle.poolsteps.specs.Layout.{slot_row, shard_start}
 use Rattle.freelists.specs.Shards.{ShardPages, shape_of}
 use Rattle.freelists.specs.Queues.{FreePlaces}
 use Rattle.seqpool.specs.Pool.{fresh, with, is_current}
@@ -19,15 +25,18 @@ use Rattle.poolsteps.specs.declared.view.View.{View}
 use Rattle.poolsteps.specs.Told.{references_seen}
 use Rattle.shardpool.specs.declared.state.HeldKey.{HeldKey}
 use Rattle.shardpool.specs.declared.state.LaneState.{LaneState}
+use Rattle.shardpool.specs.declared.opening.Unendowed.{Unendowed}
+use Rattle.slotcell.specs.declared.clear.Clear.{Ghosts}
 use Rattle.poolsteps.specs.declared.grid.Grid.{Grid}
 use Rattle.poolsteps.specs.Grids.{IsFirstHand, AreFirstHands}
 use Rattle.atomic_table.specs.declared.shared.Seat.{Seat}
-use Rattle.slotcell.specs.Share.{Share}
+use Rattle.placecell.specs.Share.{Share}
 use Rattle.poolsteps.proofs.ViewLemmas.{entry-of}
 use Rattle.shardpool.specs.Tokens.{PoolOf, LaneOf}
-use Rattle.shardpool.specs.Opened.{first_book, IsFirstLane, AreFirstLanes}
+use Rattle.shardpool.specs.Opened.{first_book, IsFirstLane, AreFirstLanes, IsFirstState, AreFirstParts}
+use Rattle.shardpool.specs.Rows.{AreStanding}
 use Rattle.shardpool.specs.Places.{IsBlank}
-use Rattle.shardpool.specs.LaneStates.{IsFirst, FitsSeat, FitsTops, FitsRow, FitsRows, FitsStores, Fits}
+use Rattle.shardpool.specs.LaneStates.{IsFirst, FitsSeat, FitsTops, FitsRow, FitsRows, FitsStores, FitsRights, Fits}
 use Rattle.shardpool.proofs.references.Rows.{row-none}
 
 -- a row without references
@@ -46,6 +55,12 @@ entry-is n at a entry is =
     let long : length (replicate n a) ≡ n = length-replicate n a in
     let within : at < length (replicate n a) = slice_get_within (replicate n a) at entry is in
     sym (get_or_from_slice_get (replicate n a) at entry entry is) ∙ get_or-replicate n at a entry (omega arith)
+
+-- and each of its first entries is that
+repeated-at : {A : Type 0} → (n at : ℕ) (a : A) → at < n → slice_get (replicate n a) at ≡ Some a
+repeated-at n at a low =
+    let long : length (replicate n a) ≡ n = length-replicate n a in
+    slice_get-get_or (replicate n a) at a (omega (arith, long, low)) ∙ ap Some (get_or-replicate n at a a low)
 
 -- the seat, the last_pushed, the rows and the stores of the first view
 first-seat : (z : Shape) (lane : ℕ) → IsShape z → lane < z.lanes → FitsSeat z (first_book lane) lane
@@ -91,77 +106,193 @@ module _ {T : Type 0} (content : T → List ℕ) (room : T → ℕ) (z : Shape) 
     first = subst (λ (f : FreePlaces). IsFirst f.chain []) (sym free_is) refl;
   }
 
+  -- the rights of a lane that is endowed: all to its places, and no object waits there
+  abbrev pub first_objects : Ptr → ObjectsOf T
+  first_objects directory = record {
+    directory = directory;
+    first = shard_start z lane;
+    items = replicate (shard_places z) None;
+    rights = replicate (shard_places z) true;
+    wide = slot_row z;
+  }
+
+  first-rights : (directory : Ptr) → FitsRights z (first_book lane) (first_objects directory)
+  first-rights directory = record {
+    first_is = refl;
+    wide = refl;
+    narrow = length-replicate (shard_places z) true;
+    has_right = λ place inside own left unchained. repeated-at (shard_places z) (index_of z place) true (index_of-lt z place inside);
+  }
+
+  -- so are the rights after an endowment
+  pub endowed : (directory : Ptr) (old new : ObjectsOf T)
+      → old ≡ record { directory = directory; first = shard_start z lane; items = replicate (shard_places z) None; rights = replicate (shard_places z) false; wide = slot_row z }
+      → new ≡ record old { items = replicate (length old.items) None; rights = replicate (length old.items) true } → new ≡ first_objects directory
+  endowed directory old new was now =
+      let none : Option T = None in
+      now ∙ (ap (λ (o : ObjectsOf T). record o { items = replicate (length o.items) None; rights = replicate (length o.items) true }) was
+      ∙ ap (λ (n : ℕ). record (first_objects directory) { items = replicate n None; rights = replicate n true }) (length-replicate (shard_places z) none))
+
+  -- no row has a share
+  first-standing : (directory : Ptr) → AreStanding {T = T} directory (replicate (slot_row z) first_row)
+  first-standing directory at row s is has =
+      let none : row.share ≡ None = ap (λ (r : HeldKey T). r.share) (entry-is (slot_row z) at first_row row is) in
+      absurd (cc (none, has))
+
   -- so all that the lane keeps fits
-  pub first-fits : (v : View) (s : LaneState T) → v ≡ first_book lane → IsShape z → lane < z.lanes → s.shape ≡ z → s.number ≡ lane → s.references ≡ 0
-      → s.rows.items ≡ replicate (slot_row z) first_row → s.last_pushed.items ≡ replicate z.lanes 0 → s.objects.items ≡ replicate (shard_places z) None
-      → s.free ≡ record { shard = lane; shape = shape_of z.first_page z.pages; own = []; chain = None; room = s.free.room }
-      → s.pages ≡ record { shard = lane; shape = shape_of z.first_page z.pages; opened = 0 } → (s.places.shape ≡ z) × (s.places.shard ≡ lane) → Fits content room z v s
-  first-fits v s book shape below shape_is number references rows last_pushed objects free pages placed =
-      let fits : Fits content room z (first_book lane) s = record {
-        shape_is = shape_is;
-        placed = (placed.0, placed.1 ∙ sym number);
-        seat = subst (FitsSeat z (first_book lane)) (sym number) (first-seat z lane shape below);
-        last_pushed = subst (FitsTops z (first_book lane)) (sym last_pushed) (first-last_pushed z lane);
-        rows = subst (λ (r : List (HeldKey T)). FitsRows content room z (first_book lane) r s.references) (sym rows)
-            (subst (FitsRows content room z (first_book lane) (replicate (slot_row z) first_row)) (sym references) first-rows);
-        stores = subst (FitsStores content room z (first_book lane) s.free s.pages) (sym objects) (first-stores s.free s.pages free pages);
-      } in subst (λ (w : View). Fits content room z w s) (sym book) fits
+  pub first-fits : (directory : Ptr) (v : View) (s : LaneState T) (objects : ObjectsOf T) → v ≡ first_book lane → IsShape z → lane < z.lanes → IsFirstState z directory lane s
+      → objects ≡ first_objects directory → Fits content room s.shape v (record s { objects = objects })
+  first-fits directory v s objects book shape below is objects_are =
+      let t : LaneState T = record s { objects = objects } in
+      let items : objects.items ≡ replicate (shard_places z) None = ap (λ (o : ObjectsOf T). o.items) objects_are in
+      let at : objects.directory ≡ directory = ap (λ (o : ObjectsOf T). o.directory) objects_are in
+      let fits : Fits content room z (first_book lane) t = record {
+        shape_is = is.shape_is;
+        placed = (is.places.0, is.places.1 ∙ sym is.number_is);
+        seat = subst (FitsSeat z (first_book lane)) (sym is.number_is) (first-seat z lane shape below);
+        last_pushed = subst (FitsTops z (first_book lane)) (sym is.last_pushed) (first-last_pushed z lane);
+        rows = subst (λ (r : List (HeldKey T)). FitsRows content room z (first_book lane) r s.references) (sym is.rows)
+            (subst (FitsRows content room z (first_book lane) (replicate (slot_row z) first_row)) (sym is.references) first-rows);
+        stores = subst (FitsStores content room z (first_book lane) s.free s.pages) (sym items) (first-stores s.free s.pages is.free is.pages);
+        rights = subst (FitsRights z (first_book lane)) (sym objects_are) (first-rights directory);
+        standing = subst (AreStanding {T = T} objects.directory) (sym is.rows) (first-standing objects.directory);
+      } in
+      subst (λ (y : Shape). Fits content room y v t) (sym is.shape_is) (subst (λ (w : View). Fits content room z w t) (sym book) fits)
 
--- ---- lane after lane
+-- what a lane has of objects before it is endowed
+pub unendowed-are : {T : Type 0} (z : Shape) (lane : ℕ) (directory : Ptr) (objects : ObjectsOf T) (places first total : ℕ) → places ≡ shard_places z → first ≡ shard_start z lane → total ≡ slot_row z
+    → (objects.directory ≡ directory) × (objects.first ≡ first) × (objects.items ≡ replicate places None) × (objects.rights ≡ replicate places false) × (objects.wide ≡ total)
+    → objects ≡ record { directory = directory; first = shard_start z lane; items = replicate (shard_places z) None; rights = replicate (shard_places z) false; wide = slot_row z }
+unendowed-are {T} z lane directory objects places first total places_are first_is total_is is =
+    let none : Option T = None in
+    let items : objects.items ≡ replicate (shard_places z) none = is.2 ∙ ap (λ (n : ℕ). replicate n none) places_are in
+    let rights : objects.rights ≡ replicate (shard_places z) false = is.3 ∙ ap (λ (n : ℕ). replicate n false) places_are in
+    let begins : objects.first ≡ shard_start z lane = is.1 ∙ first_is in
+    let wide : objects.wide ≡ slot_row z = is.4 ∙ total_is in
+    λ i. record { directory = is.0 i; first = begins i; items = items i; rights = rights i; wide = wide i }
 
--- these are the first lanes of the pool, so many
-pub record AreOpened (pool : PoolOf) (count : ℕ) (lanes : List LaneOf) : Type 0 where
-  pub stand : length lanes ≡ count
-  pub each : (number : ℕ) (lane : LaneOf) → slice_get lanes number ≡ Some lane → IsFirstLane pool number lane
+-- ---- the rights to the places of one shard after those of another
 
--- before the first there is none
-pub none-opened : (pool : PoolOf) (lanes : List LaneOf) → lanes ≡ [] → AreOpened pool 0 lanes
-none-opened pool lanes empty = record {
-  stand = ap length empty;
-  each = λ number lane is. let nowhere : None ≡ Some lane = ap (λ (list : List LaneOf). slice_get list number) (sym empty) ∙ is in absurd (cc nowhere);
-}
+-- behind those of a shard those of the next begin
+pub next-start : (z : Shape) (number : ℕ) → shard_start z number + shard_places z + SHARDS_APART ≡ shard_start z (number + 1)
+next-start z number = let more = add-mul number 1 (shard_places z) in omega (arith, more)
 
--- one more
-pub one-opened : (pool : PoolOf) (count : ℕ) (lanes more : List LaneOf) (lane : LaneOf) → AreOpened pool count lanes → IsFirstLane pool count lane
-    → more ≡ lanes ++ lane ∷ [] → AreOpened pool (count + 1) more
-one-opened pool count lanes more lane are first longer = record {
-  stand = ap length longer ∙ (length_push lanes lane ∙ ap (λ (n : ℕ). n + 1) are.stand);
-  each = λ number entry is. ⊎_elim
-      (λ (old : slice_get lanes number ≡ Some entry). are.each number entry old)
-      (λ (new : (number ≡ length lanes) × (lane ≡ entry)).
-      subst (λ (at : ℕ × LaneOf). IsFirstLane pool at.0 at.1) (λ i. (sym (new.0 ∙ are.stand) i, new.1 i)) first)
-      (entry-of lanes lane entry number (ap (λ (list : List LaneOf). slice_get list number) (sym longer) ∙ is));
-}
+-- and those of a lane of the pool are there
+pub within-row : (z : Shape) (number : ℕ) → number < z.lanes → shard_start z number + shard_places z + SHARDS_APART ≤ slot_row z
+within-row z number low =
+    let more = add-mul number 1 (shard_places z) in
+    let all = mul-le (number + 1) (shard_places z) z.lanes (shard_places z) (omega (arith, low)) (omega arith) in
+    omega (arith, more, all, low)
+
+-- ---- one after another
+
+-- so many entries are those of the first numbers
+pub record AreNumbered {A : Type 0} (Is : ℕ → A → Type 0) (count : ℕ) (entries : List A) : Type 0 where
+  pub stand : length entries ≡ count
+  pub each : (number : ℕ) (entry : A) → slice_get entries number ≡ Some entry → Is number entry
+
+module _ {A : Type 0} (Is : ℕ → A → Type 0) where
+  -- before the first there is none
+  pub none-numbered : (entries : List A) → entries ≡ [] → AreNumbered Is 0 entries
+  none-numbered entries empty = record {
+    stand = ap length empty;
+    each = λ number entry is. let nowhere : None ≡ Some entry = ap (λ (list : List A). slice_get list number) (sym empty) ∙ is in absurd (cc nowhere);
+  }
+
+  -- one more
+  pub one-numbered : (count : ℕ) (entries more : List A) (next : A) → AreNumbered Is count entries → Is count next → more ≡ entries ++ next ∷ [] → AreNumbered Is (count + 1) more
+  one-numbered count entries more next are first longer = record {
+    stand = ap length longer ∙ (length_push entries next ∙ ap (λ (n : ℕ). n + 1) are.stand);
+    each = λ number entry is. ⊎_elim
+        (λ (old : slice_get entries number ≡ Some entry). are.each number entry old)
+        (λ (new : (number ≡ length entries) × (next ≡ entry)).
+        subst (λ (at : ℕ × A). Is at.0 at.1) (λ i. (sym (new.0 ∙ are.stand) i, new.1 i)) first)
+        (entry-of entries next entry number (ap (λ (list : List A). slice_get list number) (sym longer) ∙ is));
+  }
 
 -- the entry between two lists
 entry-between : {A : Type 0} → (before : List A) (entry : A) (behind : List A) → slice_get (before ++ entry ∷ behind) (length before) ≡ Some entry
 entry-between [] entry behind = refl
 entry-between (x ∷ before) entry behind = entry-between before entry behind
 
+-- the next of those that are left, of a list
+next-of : {A : Type 0} → (all yielded more rest : List A) (next : A) → yielded ++ more ≡ all → more ≡ next ∷ rest → slice_get all (length yielded) ≡ Some next
+next-of {A} all yielded more rest next split is =
+    subst (λ (list : List A). slice_get list (length yielded) ≡ Some next) (ap (λ (list : List A). yielded ++ list) (sym is) ∙ split) (entry-between yielded next rest)
+
+-- and then the others are left
+pub left-of : {A : Type 0} → (all yielded more rest : List A) (next : A) → yielded ++ more ≡ all → more ≡ next ∷ rest → (yielded ++ next ∷ []) ++ rest ≡ all
+left-of {A} all yielded more rest next split is = append_assoc yielded (next ∷ []) rest ∙ (ap (λ (list : List A). yielded ++ list) (sym is) ∙ split)
+
+-- at the end those are all
+pub all-of : {A : Type 0} → (all yielded more : List A) → yielded ++ more ≡ all → more ≡ [] → length yielded ≡ length all
+all-of {A} all yielded more split none = ap length (sym (append-nil yielded) ∙ (ap (λ (list : List A). yielded ++ list) (sym none) ∙ split))
+
 module _ {T : Type 0} (grid : Grid T) where
   -- of these hands the next is that of the lane of the next number
-  pub next-hand : (z : Shape) (yielded more rest : List (Seat (Option (Share T)) View)) (hand : Seat (Option (Share T)) View) → grid.shape ≡ z
-      → AreFirstHands grid (yielded ++ more) → more ≡ hand ∷ rest → (length yielded < z.lanes) × IsFirstHand grid (length yielded) hand
-  next-hand z yielded more rest hand same hands is =
-      let at : slice_get (yielded ++ more) (length yielded) ≡ Some hand =
-      ap (λ (list : List (Seat (Option (Share T)) View)). slice_get (yielded ++ list) (length yielded)) is ∙ entry-between yielded hand rest in
-      let below : length yielded < length (yielded ++ more) = slice_get_within (yielded ++ more) (length yielded) hand at in
-      let all : length (yielded ++ more) ≡ z.lanes = hands.count ∙ ap (λ (s : Shape). s.lanes) same in
-      (omega (arith, below, all), hands.each (length yielded) hand at)
+  pub next-hand : (yielded more rest : List (Seat (Option (Share T)) View)) (hand : Seat (Option (Share T)) View)
+      → AreFirstHands grid (yielded ++ more) → more ≡ hand ∷ rest → (length yielded < grid.shape.lanes) × IsFirstHand grid (length yielded) hand
+  next-hand yielded more rest hand are is =
+      let at = next-of (yielded ++ more) yielded more rest hand refl is in
+      let below = slice_get_within (yielded ++ more) (length yielded) hand at in
+      let all = are.count in (omega (arith, below, all), are.each (length yielded) hand at)
 
   -- and then the others are left
   pub hands-left : (yielded more rest : List (Seat (Option (Share T)) View)) (hand : Seat (Option (Share T)) View)
       → AreFirstHands grid (yielded ++ more) → more ≡ hand ∷ rest → AreFirstHands grid ((yielded ++ hand ∷ []) ++ rest)
-  hands-left yielded more rest hand hands is =
-      subst (AreFirstHands grid) (ap (λ (list : List (Seat (Option (Share T)) View)). yielded ++ list) is ∙ sym (append_assoc yielded (hand ∷ []) rest)) hands
+  hands-left yielded more rest hand are is = subst (AreFirstHands grid) (sym (left-of (yielded ++ more) yielded more rest hand refl is)) are
 
-  -- where none is left, each lane of the pool is opened
-  pub all-opened : (z : Shape) (yielded more : List (Seat (Option (Share T)) View)) (lanes : List LaneOf) → grid.shape ≡ z
-      → AreOpened (record { table = grid.table.shared.table_id; shape = z }) (length yielded) lanes → AreFirstHands grid (yielded ++ more) → more ≡ []
-      → AreFirstLanes (record { table = grid.table.shared.table_id; shape = grid.shape }) lanes
-  all-opened z yielded more lanes same opened hands none =
-      let all : length yielded ≡ grid.shape.lanes =
-      ap length (sym (ap (λ (list : List (Seat (Option (Share T)) View)). yielded ++ list) none ∙ append-nil yielded)) ∙ hands.count in
-      let are : AreFirstLanes (record { table = grid.table.shared.table_id; shape = z }) lanes =
-      record { count = opened.stand ∙ (all ∙ ap (λ (s : Shape). s.lanes) same); each = opened.each } in
-      subst (λ (s : Shape). AreFirstLanes (record { table = grid.table.shared.table_id; shape = s }) lanes) (sym same) are
+  -- the pool of the table
+  abbrev pub pool_of : PoolOf
+  pool_of = record { table = grid.table.shared.table_id; directory = grid.objects.ptr; shape = grid.shape }
+
+module _ {T : Type 0} {G : Ghosts T} (grid : Grid T) where
+  -- what the lane of a number begins with
+  abbrev pub IsFirstPart : ℕ → Unendowed T G → Type 0
+  IsFirstPart number part = IsFirstHand grid number part.hand × IsFirstState grid.shape grid.objects.ptr number part.state
+
+  -- so is the part that was made
+  pub part-made : (z : Shape) (directory : Ptr) (number count : ℕ) (hand : Seat (Option (Share T)) View) (part : Unendowed T G) → grid.shape ≡ z → grid.objects.ptr ≡ directory
+      → number ≡ count → IsFirstHand grid count hand → part.hand ≡ hand → IsFirstState z directory number part.state → IsFirstPart count part
+  part-made z directory number count hand part shape at same first is state = (
+    subst (λ (h : Seat (Option (Share T)) View). IsFirstHand grid count h) (sym is) first,
+    subst (λ (of : Shape × (Ptr × ℕ)). IsFirstState of.0 of.1.0 of.1.1 part.state) (λ i. (sym shape i, (sym at i, same i))) state,
+  )
+
+  -- where no hand is left, there is a part for each lane
+  pub all-parts : (yielded more : List (Seat (Option (Share T)) View)) (parts : List (Unendowed T G)) → AreFirstHands grid (yielded ++ more) → more ≡ []
+      → AreNumbered IsFirstPart (length yielded) parts → AreFirstParts grid parts
+  all-parts yielded more parts are none made = record { count = made.stand ∙ (all-of (yielded ++ more) yielded more refl none ∙ are.count); each = made.each }
+
+  -- of these parts the next is that of the lane of the next number
+  pub next-part : (parts yielded more rest : List (Unendowed T G)) (part : Unendowed T G) → AreFirstParts grid parts → yielded ++ more ≡ parts → more ≡ part ∷ rest
+      → (length yielded < grid.shape.lanes) × IsFirstPart (length yielded) part
+  next-part parts yielded more rest part are split is =
+      let at = next-of parts yielded more rest part split is in
+      let below = slice_get_within parts (length yielded) part at in
+      let all = are.count in (omega (arith, below, all), are.each (length yielded) part at)
+
+  -- where no part is left, each lane of the pool is endowed
+  pub all-lanes : (parts yielded more : List (Unendowed T G)) (lanes : List LaneOf) → AreFirstParts grid parts → yielded ++ more ≡ parts → more ≡ []
+      → AreNumbered (IsFirstLane (pool_of grid)) (length yielded) lanes → AreFirstLanes (pool_of grid) lanes
+  all-lanes parts yielded more lanes are split none opened = record { count = opened.stand ∙ (all-of parts yielded more split none ∙ are.count); each = opened.each }
+
+  -- a part that is endowed is the lane of its number
+  pub first-lane : (number : ℕ) (part : Unendowed T G) (objects : ObjectsOf T) → IsFirstPart number part → objects.directory ≡ grid.objects.ptr
+      → IsFirstLane (pool_of grid) number (record {
+        table = part.hand.table_id;
+        directory = objects.directory;
+        shape = part.state.shape;
+        number = part.state.number;
+        book = part.hand.me.0;
+        free = part.state.free;
+        pages = part.state.pages;
+      })
+  first-lane number part objects is at = let state = is.1 in record {
+    owned = (is.0.0, state.shape_is, at);
+    number_is = state.number_is;
+    book = λ i. (is.0.1 i).0;
+    list = ap (λ (f : FreePlaces). f.own) state.free;
+    chain = ap (λ (f : FreePlaces). f.chain) state.free;
+    pages = ap (λ (p : ShardPages). p.opened) state.pages;
+  }

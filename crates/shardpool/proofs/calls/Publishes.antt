@@ -1,5 +1,5 @@
 -- What a publish leaves of a lane: the place of the key was a filling of it, and then isn't any more.
-use Rattle.std.proofs.Common.{◌≡◌, ◌≢◌, ℕ, ◌+◌, Bool, true, false, cond, eqb, List, [], ◌∷◌, ◌++◌, length, Some, None, refl, sym, ap, ◌∙◌, subst, arith, append-nil, length-append, eq-eqb, ne_eqb, slice_get, slice_index_or, slice_set}
+use Rattle.std.proofs.Common.{◌≡◌, ◌≢◌, ℕ, ◌+◌, Bool, true, false, cond, eqb, List, [], ◌∷◌, ◌++◌, length, Option, Some, None, refl, sym, ap, ◌∙◌, subst, arith, append-nil, length-append, eq-eqb, ne_eqb, slice_get, slice_index_or, slice_set}
 use Rattle.std.proofs.Math.Seq.{get_or-append_seam}
 use Rattle.std.proofs.lemmas.List.{append_cancel_left, set-get_or}
 use Rattle.std.proofs.lemmas.Option.{slice_get-get_or}
@@ -13,13 +13,14 @@ use Rattle.keybits.proofs.KeyLemmas.{key_parts}
 use Rattle.freelists.specs.Queues.{FreePlaces}
 use Rattle.seqpool.specs.declared.act.Act.{Act}
 use Rattle.seqpool.specs.declared.act.Act.TheVariants as acts
-use Rattle.seqpool.specs.Pool.{Phase, pool_after, references_in}
+use Rattle.seqpool.specs.Pool.{Phase, with, pool_after, references_in}
 use Rattle.seqpool.specs.Histories.{At, PublishedAt, acts_of}
 use Rattle.seqpool.proofs.Ranks.{same-key, current-key}
 use Rattle.sharelaws.specs.declared.stored.Status.TheVariants.{Emptied}
-use Rattle.slotcell.specs.Share.{Share}
+use Rattle.placecell.specs.Share.{Share}
 use Rattle.sharelaws.proofs.HeldContents.{held-current}
-use Rattle.keybits.specs.Shapes.{is_place}
+use Rattle.keybits.specs.Places.{shard_of}
+use Rattle.keybits.specs.Shapes.{is_place, index_of}
 use Rattle.poolsteps.specs.declared.grid.Spot.{Spot}
 use Rattle.poolsteps.specs.Grids.{IsSpot}
 use Rattle.poolsteps.specs.Layout.{slot_start}
@@ -31,16 +32,20 @@ use Rattle.poolsteps.specs.Moved.{stored_of}
 use Rattle.poolcalls.specs.Called.{Did as DidSo, MadeOne}
 use Rattle.shardpool.specs.declared.state.HeldKey.{HeldKey}
 use Rattle.shardpool.specs.declared.state.LaneState.{LaneState}
-use Rattle.shardpool.specs.Places.{held_after}
+use Rattle.shardpool.specs.Places.{held_after, left_with}
 use Rattle.shardpool.specs.Tokens.{LaneOf, FillingOf}
-use Rattle.shardpool.specs.LaneStates.{FitsSeat, FitsTops, FitsStores, IsHeld, FitsRow, FitsRows, Fits}
+use Rattle.shardpool.specs.Rows.{AreStanding}
+use Rattle.shardpool.specs.Stores.{GivesOut}
+use Rattle.shardpool.proofs.free.Rights.{left-with, rights-given, published-away, unbrought-one}
+use Rattle.shardpool.proofs.references.Standings.{standing-set, standing-same}
+use Rattle.shardpool.specs.LaneStates.{FitsSeat, FitsTops, FitsStores, FitsRights, IsHeld, FitsRow, FitsRows, Fits}
 use Rattle.shardpool.specs.Lanes.{Made, Did}
 use Rattle.shardpool.proofs.frame.OtherShards.{abroad-one}
 use Rattle.shardpool.proofs.frame.Frames.{Passes, OnlyAt}
 use Rattle.poolcalls.proofs.Going.{all-acts}
 use Rattle.shardpool.proofs.frame.LaneFrames.{passes-did, passes-refs, away-elsewhere, onlyat-publish}
 use Rattle.shardpool.proofs.frame.KeptPlaces.{seat-passes, last_pushed-same}
-use Rattle.shardpool.proofs.free.Stores.{IsApart, filling-apart, stores-apart}
+use Rattle.shardpool.proofs.free.Stores.{IsApart, filling-apart, stores-apart, stores-changed}
 use Rattle.shardpool.proofs.frame.BlankPlaces.{last-of}
 use Rattle.shardpool.proofs.references.Rows.{either-same, held-append, row-none, rows-set}
 use Rattle.shardpool.proofs.references.RowChanges.{rows-low, rows-published}
@@ -71,6 +76,18 @@ made-spot {z = z} {filling = filling} spot key made shape key_is start place = r
   start = start ∙ (made.start ∙ λ i. slot_start (shape i) (place_of (sym key_is i)));
 }
 
+-- and the lane has the right to it
+pub made-right : {T : Type 0} {content : T → List ℕ} {room : T → ℕ} {z : Shape} {v : View} {s : LaneState T} {table : TableId} {filling : FillingOf T} → Fits content room z v s
+    → Made (lane_of table v s) filling → slice_get s.objects.rights (index_of z (place_of filling.key)) ≡ Some true
+made-right {z = z} {v = v} {s = s} {filling = filling} fits made =
+    let place : ℕ = place_of filling.key in
+    let lane : ℕ = (the_lane v).lane in
+    let own : shard_of place ≡ lane = made.place.own ∙ fits.seat.number_is in
+    let inside : is_place z place ≡ true = subst (λ (y : Shape). is_place y place ≡ true) fits.shape_is made.place.inside in
+    let there : (pool_after z v.seen place).phase ≡ with lane
+    = subst (λ (y : Shape). (pool_after y v.seen place).phase ≡ with lane) fits.shape_is (made.place.with_lane ∙ ap with fits.seat.number_is) in
+    fits.rights.has_right place inside own (left-with fits.seat place own there) made.place.unchained
+
 -- a row for none
 abbrev pub empty-row : {T : Type 0} → HeldKey T
 empty-row = record { key = 0; count = 0; share = None }
@@ -78,7 +95,10 @@ empty-row = record { key = 0; count = 0; share = None }
 module _ {S T : Type 0} {content : T → List ℕ} {room : T → ℕ} {z : Shape} {steps looks count : ℕ} {made : List Act} {a b : Me S View} (s t : LaneState T) (table : TableId) (filling : FillingOf T)
     (bytes : List ℕ) (with_ref : Bool) (fits : Fits content room z a.0 s) (did : DidSo z (place_of filling.key) made steps looks a b) (idle : IsIdle b.0)
     (acts_so : MadeOne a.0 b.0 (acts.Publish s.number filling.key bytes with_ref)) (was : Made (lane_of table a.0 s) filling)
-    (rest : t ≡ record s { rows = t.rows; references = count }) where
+    (m : LaneState T) (out : GivesOut (place_of filling.key) s m) (rest_m : t ≡ record m { rows = t.rows; references = count }) where
+  rest : t ≡ record s { objects = m.objects; rows = t.rows; references = count }
+  rest = rest_m ∙ ap (λ (x : LaneState T). record x { rows = t.rows; references = count }) out.rest
+
   abbrev place : ℕ
   place = place_of filling.key
 
@@ -123,17 +143,38 @@ module _ {S T : Type 0} {content : T → List ℕ} {room : T → ℕ} {z : Shape
   last_pushed : FitsTops z b.0 s.last_pushed.items
   last_pushed = last_pushed-same fits.last_pushed acts_so.1
 
-  stores : FitsStores content room z b.0 s.free s.pages s.objects.items
-  stores = stores-apart fits.stores fits.seat.paired fits.seat.own did.chain only passes apart
+  inside-place : is_place z place ≡ true
+  inside-place = (key_parts z filling.key inside).place
 
-  fits-with : FitsRows content room z b.0 t.rows.items t.references → Fits content room z b.0 t
-  fits-with rows = record {
+  own-place : shard_of place ≡ (the_lane a.0).lane
+  own-place = was.place.own ∙ fits.seat.number_is
+
+  stores : FitsStores content room z b.0 s.free s.pages m.objects.items
+  stores =
+      let still = stores-apart fits.stores fits.seat.paired fits.seat.own did.chain only passes apart in
+      let items : m.objects.items ≡ slice_set s.objects.items (index_of z place) None = out.items ∙ ap (λ (y : Shape). slice_set s.objects.items (index_of y place) None) fits.shape_is in
+      subst (λ (xs : List (Option T)). FitsStores content room z b.0 s.free s.pages xs) (sym items)
+      (stores-changed still None out.free inside-place (own-place ∙ sym passes.acted.lane) apart.unlisted)
+
+  rights : FitsRights z b.0 m.objects
+  rights =
+      rights-given fits.rights passes.acted did.chain fits.seat.shape m.objects inside-place own-place out.same.1 out.same.2
+      (λ p other. unbrought-one p act refl) false (out.rights ∙ ap (λ (y : Shape). slice_set s.objects.rights (index_of y place) false) fits.shape_is)
+      (λ left. published-away z place s.number filling.key bytes with_ref (left_with z place (the_lane a.0).mine true) refl left)
+
+  directory-now : t.objects.directory ≡ s.objects.directory
+  directory-now = ap (λ (x : LaneState T). x.objects.directory) rest ∙ out.same.0
+
+  fits-with : FitsRows content room z b.0 t.rows.items t.references → AreStanding s.objects.directory t.rows.items → Fits content room z b.0 t
+  fits-with rows standing = record {
     shape_is = ap (λ (x : LaneState T). x.shape) rest ∙ fits.shape_is;
     placed = (ap (λ (x : LaneState T). x.places.shape) rest ∙ fits.placed.0, ap (λ (x : LaneState T). x.places.shard) rest ∙ (fits.placed.1 ∙ sym (ap (λ (x : LaneState T). x.number) rest)));
     seat = subst (λ (x : LaneState T). FitsSeat z b.0 x.number) (sym rest) seat;
     last_pushed = subst (λ (x : LaneState T). FitsTops z b.0 x.last_pushed.items) (sym rest) last_pushed;
     rows = rows;
     stores = subst (λ (x : LaneState T). FitsStores content room z b.0 x.free x.pages x.objects.items) (sym rest) stores;
+    rights = subst (λ (x : LaneState T). FitsRights z b.0 x.objects) (sym rest) rights;
+    standing = standing-same refl directory-now standing;
   }
 
   -- ---- the row of the place
@@ -172,7 +213,7 @@ module _ {S T : Type 0} {content : T → List ℕ} {room : T → ℕ} {z : Shape
   -- what it did
   pub published-did : (table_now : TableId) → table_now ≡ table → Did (act ∷ []) (lane_of table a.0 s) (lane_of table_now b.0 t)
   published-did table_now same =
-      did-lane z (lane_of table a.0 s) (lane_of table_now b.0 t) fits.shape_is (ap (λ (x : LaneState T). x.shape) rest ∙ fits.shape_is) (ap (λ (x : LaneState T). x.number) rest) same
+      did-lane z (lane_of table a.0 s) (lane_of table_now b.0 t) fits.shape_is (ap (λ (x : LaneState T). x.shape) rest ∙ fits.shape_is) (ap (λ (x : LaneState T). x.number) rest) same directory-now
       passes fits.seat.own list (ap (λ (x : LaneState T). x.pages) rest) where
         list : t.free ≡ record s.free { own = s.free.own ++ [] }
         list = ap (λ (x : LaneState T). x.free) rest ∙ sym (ap (λ xs. let free : FreePlaces = record s.free { own = xs } in free) (append-nil s.free.own))
@@ -211,13 +252,14 @@ module _ {S T : Type 0} {content : T → List ℕ} {room : T → ℕ} {z : Shape
       let rows = rows-set lone fits.seat.own place row row fits.seat.shape fits.rows (key_parts z filling.key inside).place stood off (onlyat-publish s.number filling.key bytes false) fit of_place refl refl in
       fits-with (subst (λ (n : ℕ). FitsRows content room z b.0 t.rows.items n) (sym same_count)
       (subst (λ (xs : List (HeldKey T)). FitsRows content room z b.0 xs s.references) (set-get_or s.rows.items (slot_start z place) empty-row ∙ sym same_rows) rows))
+      (standing-same same_rows refl fits.standing)
 
   -- and where it was with one, under which this share stands
-  pub published-held-with : (share : Share T) → with_ref ≡ true → share.number ≡ s.number → share.of ≡ z.lanes → content share.object ≡ bytes
+  pub published-held-with : (share : Share T) → share.spot ≡ record { directory = s.objects.directory; index = slot_start z place } → with_ref ≡ true → share.number ≡ s.number → share.of ≡ z.lanes → content share.object ≡ bytes
       → status_of (the_lane b.0) place s.number ≡ Emptied → known_of (the_lane b.0) place ≡ stored_of content room share
       → t.rows.items ≡ slice_set s.rows.items (slot_start z place) (record { key = filling.key; count = 1; share = Some share })
       → t.references ≡ s.references + 1 → Fits content room z b.0 t
-  published-held-with share referred number of shown emptied known set_so counted =
+  published-held-with share stands_so referred number of shown emptied known set_so counted =
       let taken : Passes z (λ p. eqb p place) (acts.Publish s.number filling.key bytes true ∷ []) a.0 b.0
       = subst (λ (r : Bool). Passes z (λ p. eqb p place) (acts.Publish s.number filling.key bytes r ∷ []) a.0 b.0) referred passes in
       let lane : s.number ≡ (the_lane b.0).lane = seat.number_is in
@@ -236,3 +278,6 @@ module _ {S T : Type 0} {content : T → List ℕ} {room : T → ℕ} {z : Shape
       let rows = rows-published fits.seat.own fits.seat.shape fits.rows s.number filling.key inside row stood off bytes share taken row-zero held in
       fits-with (subst (λ (n : ℕ). FitsRows content room z b.0 t.rows.items n) (sym counted)
       (subst (λ (xs : List (HeldKey T)). FitsRows content room z b.0 xs (s.references + 1)) (sym set_so) rows))
+      (standing-same set_so refl (standing-set s.rows.items (slot_start z place) (record { key = filling.key; count = 1; share = Some share }) fits.standing (λ shown is.
+      let same : share ≡ shown = cc is in
+      subst (λ (x : Share T). x.spot ≡ record { directory = s.objects.directory; index = slot_start z place }) same stands_so)))

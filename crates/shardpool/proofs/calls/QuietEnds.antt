@@ -9,7 +9,7 @@ use Rattle.keybits.specs.Shapes.{is_place}
 use Rattle.keybits.specs.Keys.{place_of}
 use Rattle.seqpool.specs.declared.act.Act.{Act}
 use Rattle.seqpool.specs.declared.act.Act.TheVariants as acts
-use Rattle.sharelaws.specs.PlaceLaws.{gives_away}
+use Rattle.sharelaws.specs.PlaceLaws.{gives_away, brings}
 use Rattle.poolsteps.specs.declared.view.View.{View}
 use Rattle.poolsteps.specs.Views.{the_lane}
 use Rattle.poolsteps.specs.Told.{IsIdle}
@@ -27,12 +27,15 @@ use Rattle.shardpool.proofs.frame.OtherShards.{NoneAbroad}
 use Rattle.shardpool.proofs.frame.Frames.{OnlyAt}
 use Rattle.shardpool.proofs.frame.LaneFrames.{onlyat-clear, onlyat-get}
 use Rattle.shardpool.proofs.calls.Ends.{Ended, ended, rows-ended, some-lane}
+use Rattle.shardpool.proofs.free.Rights.{unbrought-one}
+use Rattle.shardpool.proofs.references.Standings.{standing-same}
 use Rattle.shardpool.proofs.frame.LaneFacts.{lane_of, made-passes, did-lane, filling-off, filling-kept}
 
 -- acts of a place that leave the references of all keys, the places of the lane and its list
 pub record IsQuiet (z : Shape) (lane place : ℕ) (first : List Act) : Type 0 where
   pub only : OnlyAt place first
   pub keeps : All (λ act. gives_away act place ≡ false) first
+  pub brings_none : (p : ℕ) → All (λ act. brings act p ≡ false) first
   pub freed_none : freed z lane first ≡ []
   pub alone : NoneAbroad z lane first
   pub references : (key n : ℕ) → references_made first key n ≡ n
@@ -50,7 +53,7 @@ module _ {S T : Type 0} {content : T → List ℕ} {room : T → ℕ} {z : Shape
     (acts_so : EndsWithActs z place first a.0 b.0 reclaimed) (told : IfSome reclaimed (IsReclaimed content room z place s.number b.0)) (inside : is_place z place ≡ true)
     (quiet : IsQuiet z s.number place first) (kept : Keeps place reclaimed s t) where
   quiet-ended : Ended content room z place reclaimed (first ++ end_acts z (the_lane a.0).lane place acts_so.0.0 reclaimed) a.0 b.0 s t
-  quiet-ended = ended first reclaimed fits did idle acts_so told inside quiet.only quiet.keeps quiet.freed_none quiet.alone kept
+  quiet-ended = ended first reclaimed fits did idle acts_so told inside quiet.only quiet.keeps quiet.brings_none quiet.freed_none quiet.alone kept
 
   -- what the lane keeps fits
   quiet-fits : Fits content room z b.0 t
@@ -64,13 +67,15 @@ module _ {S T : Type 0} {content : T → List ℕ} {room : T → ℕ} {z : Shape
         rows = subst (λ (n : ℕ). FitsRows content room z b.0 t.rows.items n) (sym e.same.1)
             (subst (λ x. FitsRows content room z b.0 x.items s.references) (sym e.same.0) rows);
         stores = e.stores;
+        rights = e.rights;
+        standing = standing-same (ap (λ x. x.items) e.same.0) e.same.6 fits.standing;
       }
 
   -- what it did
   quiet-did : (table table_now : TableId) → table_now ≡ table → Did (first ++ end_acts z (the_lane a.0).lane place acts_so.0.0 reclaimed) (lane_of table a.0 s) (lane_of table_now b.0 t)
   quiet-did table table_now same =
       let e = quiet-ended in
-      did-lane z (lane_of table a.0 s) (lane_of table_now b.0 t) fits.shape_is (e.same.2 ∙ fits.shape_is) e.same.3 same e.passes fits.seat.own e.list e.same.4
+      did-lane z (lane_of table a.0 s) (lane_of table_now b.0 t) fits.shape_is (e.same.2 ∙ fits.shape_is) e.same.3 same e.same.6 e.passes fits.seat.own e.list e.same.4
 
   -- its references are as many
   quiet-refs : held_after (the_lane b.0).mine 0 ≡ held_after (the_lane a.0).mine 0
@@ -93,6 +98,7 @@ pub quiet-clear : (z : Shape) (own lane key : ℕ) (reply : Bool) → IsQuiet z 
 quiet-clear z own lane key reply = record {
   only = onlyat-clear lane key reply;
   keeps = All-cons (λ act. gives_away act (place_of key) ≡ false) (acts.Clear lane key reply) [] refl (All-nil (λ act. gives_away act (place_of key) ≡ false));
+  brings_none = λ p. unbrought-one p (acts.Clear lane key reply) refl;
   freed_none = refl;
   alone = λ p inside other. refl;
   references = λ k n. refl;
@@ -103,6 +109,7 @@ pub quiet-miss : (z : Shape) (own lane key : ℕ) → IsQuiet z own (place_of ke
 quiet-miss z own lane key = record {
   only = onlyat-get lane key None;
   keeps = All-cons (λ act. gives_away act (place_of key) ≡ false) (acts.Get lane key None) [] refl (All-nil (λ act. gives_away act (place_of key) ≡ false));
+  brings_none = λ p. unbrought-one p (acts.Get lane key None) refl;
   freed_none = refl;
   alone = λ p inside other. refl;
   references = λ k n. refl;

@@ -19,7 +19,9 @@ use Rattle.seqpool.specs.declared.act.Act.{Act}
 use Rattle.seqpool.specs.declared.act.Act.TheVariants as acts
 use Rattle.seqpool.specs.Pool.{with, published, pool_after}
 use Rattle.sharelaws.specs.declared.stored.Status.TheVariants.{Untouched}
-use Rattle.slotcell.specs.Share.{Share}
+use Rattle.placecell.specs.Share.{Share}
+use Rattle.placecell.specs.Spot.{Spot as CellSpot}
+use Rattle.placecell.specs.Whole.{Whole}
 use Rattle.sharelaws.specs.PlaceLaws.{gives_away}
 use Rattle.sharelaws.proofs.HeldContents.{held-content-law}
 use Rattle.poolsteps.specs.Layout.{slot_start}
@@ -43,7 +45,10 @@ use Rattle.shardpool.specs.Places.{held_after}
 use Rattle.shardpool.specs.Tokens.{PoolOf, LaneOf, FillingOf}
 use Rattle.shardpool.specs.Stores.{Keeps}
 use Rattle.shardpool.specs.Lendings.{LendsHome}
-use Rattle.shardpool.specs.LaneStates.{FitsSeat, FitsTops, FitsStores, IsHeld, FitsRow, FitsRows, Fits}
+use Rattle.shardpool.specs.Rows.{AreStanding}
+use Rattle.shardpool.specs.LaneStates.{FitsSeat, FitsTops, FitsStores, IsHeld, FitsRow, FitsRows, Fits, FitsRights}
+use Rattle.shardpool.proofs.free.Rights.{rights-still, unbrought-none, unbrought-one}
+use Rattle.shardpool.proofs.references.Standings.{standing-set, standing-same}
 use Rattle.shardpool.specs.Lanes.{Made, Did, freed, holds}
 use Rattle.shardpool.proofs.frame.Frames.{Passes, OnlyAt}
 use Rattle.shardpool.proofs.frame.LaneFrames.{passes-did, passes-still, passes-more, passes-wider, passes-refs, away-elsewhere, onlyat-none, onlyat-append, onlyat-end, onlyat-release}
@@ -127,8 +132,15 @@ module _ {T : Type 0} {content : T → List ℕ} {room : T → ℕ} {z : Shape} 
       subst (λ (x : Share T). IsHeld content room z v (place_of key) (generation_of key) x) same
       (subst (λ (k : ℕ). IsHeld content room z v (place_of key) (generation_of k) h.0) (sym counts.1) h.2)
 
+  -- which stands where its row does
+  pub lent-stands : {v : View} (fits : Fits content room z v s) (some : 0 < references_seen z v key) → LendsBack (slot_start z (place_of key)) s m result
+      → (share : Share T) → result ≡ Some share → share.spot ≡ record { directory = s.objects.directory; index = slot_start z (place_of key) }
+  lent-stands fits some lends share is =
+      let stands = standing s key fits some in
+      fits.standing (slot_start z (place_of key)) stands.0 share stands.1 (sym (lends.one stands.0 stands.1 (lent-single fits some lends share is)).0 ∙ is)
+
   module _ {a : Me (Option (Share T)) View} (fits : Fits content room z a.0 s) (some : 0 < references_seen z a.0 key) (lends : LendsBack (slot_start z (place_of key)) s m result) where
-    pub lent-back : {b : Me (Option (Share T)) View} (share : Share T) → result ≡ Some share → Backs content room z (place_of key) s.number Untouched a share b → LendsHome z key a b s m
+    pub lent-back : {spots : ℕ → CellSpot} {b : Me (Option (Share T)) View} (share : Share T) → result ≡ Some share → Backs content room spots z (place_of key) s.number Untouched a share b → LendsHome z key a b s m
     lent-back share is backs =
         let stands = standing s key fits some in
         let single = lent-single fits some lends share is in
@@ -142,6 +154,7 @@ module _ {T : Type 0} {content : T → List ℕ} {room : T → ℕ} {z : Shape} 
           rows = (lends.one stands.0 stands.1 single).1;
           rest = lends.rest;
           last = λ _. moves-here (back-moves backs);
+          gone = λ _. refl;
           still = λ several. absurd (omega (arith, several, single));
         }
 
@@ -165,6 +178,7 @@ module _ {T : Type 0} {content : T → List ℕ} {room : T → ℕ} {z : Shape} 
               ∙ ap (λ (x : HeldKey T). slice_set s.rows.items (slot_start z (place_of key)) x) (get_or_from_slice_get s.rows.items (slot_start z (place_of key)) row row stands.1));
           rest = lends.rest;
           last = λ single. absurd (several single);
+          gone = λ single. absurd (several single);
           still = λ _. (record { deeds = λ number. refl; cell = refl }, refl);
         })
 
@@ -306,6 +320,8 @@ module _ {T : Type 0} {content : T → List ℕ} {room : T → ℕ} {z : Shape} 
           seat = subst (λ (x : LaneState T). FitsSeat z b.0 x.number) (sym rest-so) seat;
           last_pushed = subst (λ (x : LaneState T). FitsTops z b.0 x.last_pushed.items) (sym rest-so) last_pushed;
           stores = subst (λ (x : LaneState T). FitsStores content room z b.0 x.free x.pages x.objects.items) (sym rest-so) stores;
+          rights = subst (λ (x : LaneState T). FitsRights z b.0 x.objects) (sym rest-so)
+              (rights-still fits.rights lent.did.acted lent.did.chain (λ p. unbrought-none p));
         }
 
     -- ---- the release
@@ -325,14 +341,15 @@ module _ {T : Type 0} {content : T → List ℕ} {room : T → ℕ} {z : Shape} 
       told-so = subst (λ (n : ℕ). IfSome reclaimed (IsReclaimed content room z place n d.0)) (sym number-so) told
 
       -- an object that is answered may be kept
-      pub released-away : (whole : T) → reclaimed ≡ Some (Own whole) → IsAway e.free (place_numbered place)
+      pub released-away : (whole : Whole T) → reclaimed ≡ Some (Own whole) → IsAway e.free (place_numbered place)
       released-away = beside-away beside d.0 place reclaimed (place-inside s key fits some) acts_so.2 told-so
 
       module _ (idle : IsIdle d.0) (t : LaneState T) (kept : Keeps place reclaimed e t) where
         left : Ended content room z place reclaimed all b.0 d.0 e t
         left = ended-beside (acts.Release s.number key ∷ []) reclaimed beside did idle acts_so
             told-so (place-inside s key fits some) (onlyat-release s.number key)
-            (All-cons (λ act. gives_away act place ≡ false) (acts.Release s.number key) [] refl (All-nil (λ act. gives_away act place ≡ false))) refl (λ p within other. refl) kept
+            (All-cons (λ act. gives_away act place ≡ false) (acts.Release s.number key) [] refl (All-nil (λ act. gives_away act place ≡ false)))
+            (λ p. unbrought-one p (acts.Release s.number key) refl) refl (λ p within other. refl) kept
 
         through : Passes z (λ p. eqb p place) all a.0 d.0
         through = passes-more lent-passes (passes-wider (touched-all place reclaimed) left.passes)
@@ -382,6 +399,17 @@ module _ {T : Type 0} {content : T → List ℕ} {room : T → ℕ} {z : Shape} 
         pages-now : t.pages ≡ s.pages
         pages-now = left.same.4 ∙ ap (λ (x : LaneState T). x.pages) rest-so
 
+        directory-now : t.objects.directory ≡ s.objects.directory
+        directory-now = left.same.6 ∙ ap (λ (x : LaneState T). x.objects.directory) rest-so
+
+        -- what is left of the row's share is the one that was under the other references
+        standing-now : AreStanding t.objects.directory t.rows.items
+        standing-now = standing-same (ap (λ rows_so. rows_so.items) left.same.0 ∙ rows-so) directory-now
+            (standing-set s.rows.items at row-now fits.standing (λ shown is. dite (ℕ_discrete lent.row.count 1)
+            (λ (single : lent.row.count ≡ 1). let bad : None ≡ Some shown = sym (lent.gone single) ∙ is in absurd (cc bad))
+            (λ (several : lent.row.count ≢ 1). let any = of.2 in
+            fits.standing at lent.row shown lent.stands (sym (lent.still (omega (arith, several, any))).1 ∙ is))))
+
         -- its fillings are still its
         released-fillings : (table table_now : TableId) → table_now ≡ table → (filling : FillingOf T) → Made (lane_of table a.0 s) filling → Made (lane_of table_now d.0 t) filling
         released-fillings table table_now same filling was =
@@ -394,10 +422,10 @@ module _ {T : Type 0} {content : T → List ℕ} {room : T → ℕ} {z : Shape} 
 
         pub released : Released content room z key a.0 d.0 s t
         released = record {
-          fits = record { shape_is = shape-now; placed = (ap (λ (x : Places). x.shape) left.same.5 ∙ beside.placed.0, ap (λ (x : Places). x.shard) left.same.5 ∙ (beside.placed.1 ∙ sym left.same.3)); seat = left.seat; last_pushed = left.last_pushed; rows = rows-now; stores = left.stores };
+          fits = record { shape_is = shape-now; placed = (ap (λ (x : Places). x.shape) left.same.5 ∙ beside.placed.0, ap (λ (x : Places). x.shard) left.same.5 ∙ (beside.placed.1 ∙ sym left.same.3)); seat = left.seat; last_pushed = left.last_pushed; rows = rows-now; stores = left.stores; rights = left.rights; standing = standing-now };
           did = λ table table_now same. (
             behind,
-            did-lane z (lane_of table a.0 s) (lane_of table_now d.0 t) fits.shape_is shape-now number-now same through fits.seat.own list-now pages-now,
+            did-lane z (lane_of table a.0 s) (lane_of table_now d.0 t) fits.shape_is shape-now number-now same directory-now through fits.seat.own list-now pages-now,
           );
           refs =
               let below = most in

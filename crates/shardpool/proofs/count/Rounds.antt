@@ -1,9 +1,10 @@
 -- The census goes over the states, one shard after another.
 use Rattle.std.proofs.Common.{◌≡◌, ◌≢◌, ◌⊎◌, ⊎_elim, ℕ, Bool, false, zero, suc, ◌+◌, ◌*◌, ◌<◌, ◌≤◌, true, List, [], ◌∷◌, ◌++◌, map, length, Some, refl, ap, sym, ◌∙◌, subst, arith, length-append, inl, inr}
 use Rattle.std.specs.Prelude.{Option, slice_get}
-use Rattle.std.specs.List.{Contains}
+use Rattle.std.specs.List.{Contains, All}
+use Rattle.std.proofs.lemmas.List.Elements.{All-get_or}
 use Rattle.std.proofs.Math.ListN.{get_or}
-use Rattle.std.proofs.lemmas.Option.{slice_get-get_or, slice_get_within}
+use Rattle.std.proofs.lemmas.Option.{slice_get-get_or, slice_get_within, get_or_from_slice_get}
 use Rattle.std.proofs.lemmas.Nat.{mul-add-lt}
 use mathlib.Core.Logic.{dite}
 use native.Mathlib.Decide.{ℕ_discrete}
@@ -21,7 +22,8 @@ use Rattle.seqpool.specs.declared.act.Act.{Act}
 use Rattle.seqpool.specs.Pool.{Phase, with, published, home, retired, has, pool_after}
 use Rattle.steplaws.specs.Facts.{bits_of}
 use Rattle.steplaws.proofs.HomePlaces.{has-some, has-none}
-use Rattle.slotcell.specs.Share.{Share}
+use Rattle.placecell.specs.Share.{Share}
+use Rattle.placecell.specs.Spot.{Spot as CellSpot}
 use Rattle.poolsteps.specs.Joins.{IsSlotRow, IsSpread, IsResting, HasCell, HasNoCell}
 use Rattle.poolsteps.specs.Views.{the_lane}
 use Rattle.poolsteps.specs.Layout.{words_in}
@@ -38,6 +40,10 @@ use Rattle.shardpool.specs.Remains.{HasCells, IsDrained, DrainsShard}
 use Rattle.shardpool.proofs.at_close.DroppedCells.{SameSlots, cell-stays, drained-stays}
 use Rattle.shardpool.proofs.count.Shards.{threads_of, free-stand, word-some, stacked-home, home-stacked, part-is}
 use Rattle.shardpool.proofs.at_close.ReturnedShares.{some-same}
+
+-- what holds of all entries holds of the one at an index
+pub all-at : {X : Type 0} (P : X → Type 0) (xs : List X) (i : ℕ) (x : X) → All P xs → slice_get xs i ≡ Some x → P x
+all-at P xs i x all at = subst P (get_or_from_slice_get xs i x x at) (All-get_or P xs i x (slice_get_within xs i x at) all)
 
 -- ---- each lane stands once
 
@@ -352,27 +358,27 @@ module _ {T : Type 0} (z : Shape) (ok : IsShape z) (history : List Act) (lanes :
             (slots.gone place inside index before at_index));
       }
 
-    module _ (mid : Slots ℕ) (returned : Blanks z (returned_places z lane.number chain threads) now mid) {cells_old cells_now : Slots (Option (Share T))}
-        (cells : HasCells z history lanes (slots_items cells_old)) (slots : SlotsSoFar z history lanes count cells_old cells_now) where
+    module _ (mid : Slots ℕ) (returned : Blanks z (returned_places z lane.number chain threads) now mid) {spots : ℕ → CellSpot}
+        {cells_old cells_now : Slots (Option (Share T))} (cells : HasCells spots z history lanes (slots_items cells_old)) (slots : SlotsSoFar z history lanes count cells_old cells_now) where
       module _ (place : ℕ) (inside : is_place z place ≡ true) (of_shard : shard_of place ≡ lane.number) where
         same-slots : SameSlots z (slots_items cells_old) (slots_items cells_now) place
         same-slots = slots.kept place inside (not-earlier place of_shard)
 
-        rests : 0 < times place (returned_places z lane.number chain threads) → IsResting z (slots_items cells_old) place
+        rests : 0 < times place (returned_places z lane.number chain threads) → IsResting spots z (slots_items cells_old) place
         rests some =
             let front = times-append place chain (stacked lane.number threads z.lanes) in
             dite (ℕ_discrete (times place chain) 0)
             (λ unchained. cells.returned place inside (stacked-home z history lanes states (slots_items old) last lane state own place (omega arith)))
             (λ chained. cells.taken count lane place inside found.1 (has-some place chain (omega arith)))
 
-        spreads : (bits : ℕ) → (bits ≡ 1) ⊎ (bits ≡ 3) → (phase : Phase) → (pool_after z history place).phase ≡ phase → bits ≡ bits_of phase → IsSpread z (slots_items cells_old) place
+        spreads : (bits : ℕ) → (bits ≡ 1) ⊎ (bits ≡ 3) → (phase : Phase) → (pool_after z history place).phase ≡ phase → bits ≡ bits_of phase → IsSpread spots z (slots_items cells_old) place
         spreads bits some (with owner) is same = absurd (⊎_elim (λ one. omega (arith, one, same)) (λ three. omega (arith, three, same)) some)
         spreads bits some (published content references mark) is same = cells.spread place inside content references mark is
         spreads bits some home is same = absurd (⊎_elim (λ one. omega (arith, one, same)) (λ three. omega (arith, three, same)) some)
         spreads bits some retired is same = absurd (⊎_elim (λ one. omega (arith, one, same)) (λ three. omega (arith, three, same)) some)
 
         -- what the slots of a place of the shard have, by its word, which is 0 where it was returned
-        has-cell : HasCell z (slots_items cells_now) place ((words_in z (slots_items mid)).life place)
+        has-cell : HasCell spots z (slots_items cells_now) place ((words_in z (slots_items mid)).life place)
         has-cell = cell-stays z (slots_items cells_old) (slots_items cells_now) place ((words_in z (slots_items mid)).life place) inside same-slots (record {
           resting = λ none. dite (ℕ_discrete (times place (returned_places z lane.number chain threads)) 0)
               (λ (unreturned : times place (returned_places z lane.number chain threads) ≡ 0).
@@ -387,7 +393,7 @@ module _ {T : Type 0} (z : Shape) (ok : IsShape z) (history : List Act) (lanes :
               absurd (⊎_elim (λ one. omega (arith, one, gone)) (λ three. omega (arith, three, gone)) bits));
         })
 
-      pub have-cells : (place : ℕ) → is_place z place ≡ true → shard_of place ≡ state.number → HasCell z (slots_items cells_now) place ((words_in z (slots_items mid)).life place)
+      pub have-cells : (place : ℕ) → is_place z place ≡ true → shard_of place ≡ state.number → HasCell spots z (slots_items cells_now) place ((words_in z (slots_items mid)).life place)
       have-cells place inside of_shelf = has-cell place inside (of_shelf ∙ own.number_is)
 
     module _ (then : Slots ℕ) (after : Census) (marks : Blanks z (free_places z lane.number state.free chain threads) now then)

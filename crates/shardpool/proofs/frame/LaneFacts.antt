@@ -39,7 +39,7 @@ use Rattle.shardpool.proofs.calls.Ends.{touched_by, Ended}
 
 -- the lane of a table with this view and this state
 abbrev pub lane_of : {T : Type 0} → TableId → View → LaneState T → LaneOf
-lane_of table v s = record { table = table; shape = s.shape; number = s.number; book = v; free = s.free; pages = s.pages }
+lane_of table v s = record { table = table; directory = s.objects.directory; shape = s.shape; number = s.number; book = v; free = s.free; pages = s.pages }
 
 -- ---- what was freed
 
@@ -104,11 +104,12 @@ made-passes {made = made} z old new filling shape shape_now number same table pa
 
 -- what a call did with a lane
 pub did-lane : {at : ℕ → Bool} {made : List Act} (z : Shape) (old new : LaneOf) → old.shape ≡ z → new.shape ≡ z → new.number ≡ old.number → new.table ≡ old.table
+    → new.directory ≡ old.directory
     → Passes z at made old.book new.book → (the_lane old.book).mine ≡ acts_of (the_lane old.book).lane old.book.seen
     → new.free ≡ record old.free { own = old.free.own ++ freed z old.number made } → new.pages ≡ old.pages → Did made old new
-did-lane {made = made} z old new shape shape_now same table passes own list pages = record {
+did-lane {made = made} z old new shape shape_now same table directory passes own list pages = record {
   goes = sees-on z old new shape_now passes.acted own;
-  same = (table, shape_now ∙ sym shape, same);
+  same = (table, shape_now ∙ sym shape, same, directory);
   mine = passes.acted.mine;
   held = λ key. ap (λ (y : Shape). references_seen y new.book key) shape_now
       ∙ (passes-refs passes own key ∙ ap (λ (y : Shape). references_made made key (references_seen y old.book key)) (sym shape));

@@ -6,7 +6,8 @@ use Rattle.std.proofs.lemmas.List.Elements.{All-nil, All-cons, All-head, All-tai
 use mathlib.Core.Logic.{dite}
 use native.Mathlib.Decide.{ℕ_discrete}
 use Rattle.atomic_table.specs.Table.{Me}
-use Rattle.slotcell.specs.Share.{Share}
+use Rattle.placecell.specs.Share.{Share}
+use Rattle.placecell.specs.Spot.{Spot as CellSpot}
 use Rattle.keybits.specs.declared.shape.Shape.{Shape}
 use Rattle.keybits.specs.Keys.{key_number, place_of}
 use Rattle.keybits.specs.Shapes.{IsShape, is_place}
@@ -80,11 +81,11 @@ passes-still {place = place} {a = a} {b = b} did still = record {
 pub passes-carries : {S : Type 0} {z : Shape} {place n : ℕ} {a b : Me S View} → Carries z place n a b → Passes z (λ p. p == place) [] a.0 b.0
 passes-carries {n = n} carries = passes-did (did-carries {looks = n} carries (omega arith))
 
-module _ {T : Type 0} {content : T → List ℕ} {room : T → ℕ} {z : Shape} {place number : ℕ} {status : Status} {share : Share T} {a b : Me (Option (Share T)) View} where
-  pub passes-outs : Outs content room z place number status a share b → Passes z (λ p. p == place) [] a.0 b.0
+module _ {T : Type 0} {content : T → List ℕ} {room : T → ℕ} {spots : ℕ → CellSpot} {z : Shape} {place number : ℕ} {status : Status} {share : Share T} {a b : Me (Option (Share T)) View} where
+  pub passes-outs : Outs content room spots z place number status a share b → Passes z (λ p. p == place) [] a.0 b.0
   passes-outs outs = passes-carries (carries-out outs)
 
-  pub passes-backs : Backs content room z place number status a share b → Passes z (λ p. p == place) [] a.0 b.0
+  pub passes-backs : Backs content room spots z place number status a share b → Passes z (λ p. p == place) [] a.0 b.0
   passes-backs backs = passes-carries (carries-back backs)
 
 -- ---- more places, and one after another
@@ -200,7 +201,7 @@ module _ (z : Shape) (lane place generation : ℕ) where
   all-at None claim = onlyat-none place
   all-at (Some (Own whole)) claim = claim
   all-at (Some Returned) claim = onlyat-append place (reclaim z lane place generation ∷ []) (acts.Home lane place ∷ []) claim (onlyat-home place lane)
-  all-at (Some Retired) claim = claim
+  all-at (Some (Retired vacancy)) claim = claim
 
   -- the acts by which a place was reclaimed
   pub onlyat-end : {T : Type 0} (reclaimed : Option (Reclaimed T)) → IsShape z → is_place z place ≡ true → OnlyAt place (end_acts z lane place generation reclaimed)

@@ -7,7 +7,7 @@ use native.Mathlib.Decide.{ℕ_discrete}
 use Rattle.steplaws.proofs.HomePlaces.{has-some}
 use Rattle.keybits.specs.Counts.{times}
 use Rattle.atomic_table.specs.Table.{Me}
-use Rattle.slotcell.specs.Share.{Share}
+use Rattle.placecell.specs.Share.{Share}
 use Rattle.keybits.specs.declared.shape.Shape.{Shape}
 use Rattle.keybits.specs.declared.place.Place.{Place}
 use Rattle.keybits.specs.Places.{number_of}
@@ -33,6 +33,7 @@ use Rattle.shardpool.proofs.frame.LaneFrames.{passes-sees, passes-refs, onlyat-n
 use Rattle.shardpool.proofs.frame.Standing.{sees-on}
 use Rattle.shardpool.proofs.frame.KeptPlaces.{seat-passes, last_pushed-same, still-with, may-passes}
 use Rattle.shardpool.proofs.free.Stores.{stores-still}
+use Rattle.shardpool.proofs.free.Rights.{rights-still, unbrought-none}
 use Rattle.shardpool.proofs.references.Rows.{rows-pass}
 
 -- ---- fillings
@@ -101,6 +102,10 @@ module _ {was new : LaneOf} (passes : Passes was.shape (λ p. false) [] was.book
 pub same-shape : {lane view : LaneOf} {pool grid : PoolOf} → view ≡ lane → lane.shape ≡ pool.shape → grid ≡ pool → grid.shape ≡ view.shape
 same-shape seen owned pool = ap (λ (p : PoolOf). p.shape) pool ∙ (sym owned ∙ sym (ap (λ (l : LaneOf). l.shape) seen))
 
+-- and the directory of its lanes
+pub same-directory : {lane view : LaneOf} {pool grid : PoolOf} → view ≡ lane → lane.directory ≡ pool.directory → grid ≡ pool → view.directory ≡ grid.directory
+same-directory seen owned pool = ap (λ (l : LaneOf). l.directory) seen ∙ (owned ∙ sym (ap (λ (p : PoolOf). p.directory) pool))
+
 module _ {S : Type 0} {z : Shape} {a b : Me S View} (sees : Sees z a b) where
   -- the lane's record is as before
   same-record : the_lane b.0 ≡ the_lane a.0
@@ -127,4 +132,6 @@ fits-sees sees fits =
       last_pushed = last_pushed-same fits.last_pushed (same-pushed sees);
       rows = rows-pass passes seat.own fits.rows (λ place row inside stands fit. ((λ some. refl), (λ key n here. refl))) refl;
       stores = stores-still fits.stores {place = 0} seat.paired seat.own (same-chain sees) (onlyat-none 0) passes (All-nil (λ act. gives_away act 0 ≡ false));
+      rights = rights-still fits.rights passes.acted (same-chain sees) (λ p. unbrought-none p);
+      standing = fits.standing;
     }

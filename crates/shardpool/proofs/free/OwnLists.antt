@@ -1,12 +1,15 @@
 -- What a lane is once the first place of its list is taken off it, or its next page is opened.
-use Rattle.std.proofs.Common.{◌≡◌, ℕ, ◌+◌, ◌<◌, ◌≤◌, false, zero, suc, List, [], ◌∷◌, Option, Some, None, refl, ap, sym, ◌∙◌, subst, arith}
+use Rattle.std.proofs.lemmas.Bool.{cases_Bool}
+use Rattle.std.proofs.Common.{◌≡◌, ⊎_elim, ℕ, ◌+◌, ◌<◌, ◌≤◌, true, false, zero, suc, List, [], ◌∷◌, Option, Some, None, refl, ap, sym, ◌∙◌, subst, arith}
 use Rattle.std.specs.Prelude.{slice_get, slice_set}
 use Rattle.std.specs.List.{All, Contains}
 use Rattle.std.proofs.lemmas.List.Elements.{All-nil, All-cons, All-contains, Contains-append_right}
+use denote.RawPtr.{Ptr}
 use Rattle.atomic_table.specs.Seated.{TableId}
 use Rattle.keybits.specs.declared.place.Place.{Place}
-use Rattle.keybits.specs.Places.{page_of, number_of}
-use Rattle.keybits.specs.Shapes.{index_of, page_size}
+use Rattle.keybits.specs.declared.shape.Shape.{Shape}
+use Rattle.keybits.specs.Places.{shard_of, page_of, number_of}
+use Rattle.keybits.specs.Shapes.{is_place, index_of, page_size}
 use Rattle.keybits.specs.Keys.{place_of}
 use Rattle.keybits.proofs.PlaceLemmas.{page_of-place_at}
 use Rattle.keybits.proofs.ShapeLemmas.{page_size-le}
@@ -20,7 +23,10 @@ use Rattle.shardpool.specs.declared.state.LaneState.{LaneState}
 use Rattle.shardpool.specs.Tokens.{LaneOf, FillingOf}
 use Rattle.shardpool.specs.Lanes.{Made}
 use Rattle.shardpool.specs.Places.{IsBlank}
-use Rattle.shardpool.specs.LaneStates.{FitsStores, Fits}
+use Rattle.placerows.specs.Objects.{ObjectsOf}
+use Rattle.shardpool.specs.LaneStates.{FitsStores, FitsRights, Fits}
+use Rattle.shardpool.proofs.free.Rights.{rights-items, rights-grow, left-with}
+use Rattle.shardpool.proofs.references.Standings.{standing-same}
 use Rattle.shardpool.specs.Stores.{TakesOwn}
 use Rattle.shardpool.specs.Creates.{page_slots, IsLoose, Pops}
 use Rattle.shardpool.specs.Openings.{OpensNext}
@@ -86,15 +92,17 @@ module _ {T : Type 0} {content : T → List ℕ} {room : T → ℕ} {v : View} {
           seat = fits.seat;
           last_pushed = fits.last_pushed;
           rows = fits.rows;
-          stores = subst (λ (xs : List (Option T)). FitsStores content room s.shape v t.free s.pages xs) (sym takes.objects)
+          stores = subst (λ (xs : List (Option T)). FitsStores content room s.shape v t.free s.pages xs) (sym (ap (λ o. o.items) takes.objects))
               (subst (λ (f : FreePlaces). FitsStores content room s.shape v f s.pages (slice_set s.objects.items (index_of s.shape (number_of first)) None)) (sym takes.own) stores);
+          rights = subst (λ (o : ObjectsOf T). FitsRights s.shape v o) (sym takes.objects) (rights-items fits.rights refl refl refl);
+          standing = standing-same refl (ap (λ o. o.directory) takes.objects) fits.standing;
         } in
         subst (λ (x : LaneState T). Fits content room x.shape v x) (sym takes.rest) now
 
     module _ (table : TableId) where
       -- the lane is as before but for its list
       pub popped-lane : lane_of table v t ≡ record (lane_of table v s) { free = shorter }
-      popped-lane = ap (λ (x : LaneState T). lane_of table v x) takes.rest ∙ ap (λ (f : FreePlaces). record (lane_of table v s) { free = f }) takes.own
+      popped-lane = ap (λ (x : LaneState T). lane_of table v x) takes.rest ∙ (λ i. record (lane_of table v s) { directory = (takes.objects i).directory; free = takes.own i })
 
       popped-chain : has (the_lane v).chain (number_of first) ≡ false
       popped-chain = listed-unchained table fits first (first-in first t.free.own s.free.own takes.list)
@@ -139,7 +147,7 @@ module _ {T : Type 0} {content : T → List ℕ} {room : T → ℕ} {v : View} {
       let size : ℕ = page_size s.shape page in
       let few : s.shape.pages ≤ 6 = fits.seat.shape.pages.1 in
       let small = page_size-le s.shape fits.seat.shape page low in
-      subst (λ (lane : LaneOf). Made lane filling) (sym (ap (λ (x : LaneState T). lane_of table v x) opens.rest))
+      subst (λ (lane : LaneOf). Made lane filling) (sym (ap (λ (x : LaneState T). lane_of table v x) opens.rest ∙ ap (λ (p : Ptr). record (lane_of table v s) { directory = p; free = t.free; pages = t.pages }) opens.same.0))
       (made-stays (lane_of table v s) t.free t.pages filling
       (λ at within is.
       let here : page_of (number_of at) ≡ page = All-contains (λ p. page_of (number_of p) ≡ page) (page_slots s.number page 0 size) at
@@ -147,3 +155,30 @@ module _ {T : Type 0} {content : T → List ℕ} {room : T → ℕ} {v : View} {
       let there : page_of (number_of at) ≡ page_of (place_of filling.key) = ap page_of is in
       let opened = made.place.opened in absurd (omega (arith, here, there, opened)))
       (let more = ap (λ (p : ShardPages). p.opened) opens.pages in omega (arith, more)) made)
+
+-- the lane has the right to each place of its unopened pages
+pub unopened-right : {T : Type 0} {content : T → List ℕ} {room : T → ℕ} {z : Shape} {v : View} {s : LaneState T} → Fits content room z v s → (place : ℕ) → is_place z place ≡ true
+    → shard_of place ≡ (the_lane v).lane → s.pages.opened ≤ page_of place → slice_get s.objects.rights (index_of z place) ≡ Some true
+unopened-right {z = z} {v = v} {s = s} fits place inside own high =
+    let blank = fits.stores.unopened place inside own high in
+    fits.rights.has_right place inside own (left-with fits.seat place own blank.with_lane) (⊎_elim
+    (λ (in_it : has (the_lane v).chain place ≡ true). let low = (fits.stores.chained place in_it).1 in absurd (omega (arith, low, high)))
+    (λ (isnt : has (the_lane v).chain place ≡ false). isnt)
+    (cases_Bool (has (the_lane v).chain place)))
+
+-- what the lane keeps fits when its next page is opened
+pub opened-fits : {T : Type 0} {content : T → List ℕ} {room : T → ℕ} {v : View} {s t : LaneState T} → Fits content room s.shape v s → OpensNext content room s t
+    → Fits content room t.shape v t
+opened-fits {T = T} {content = content} {room = room} {v = v} {s = s} {t = t} fits opens =
+    let mid : LaneState T = record s { free = t.free; pages = t.pages; objects = t.objects } in
+    let now : Fits content room s.shape v mid = record {
+      shape_is = fits.shape_is;
+      placed = fits.placed;
+      seat = fits.seat;
+      last_pushed = fits.last_pushed;
+      rows = fits.rows;
+      stores = opens.fits v fits.stores;
+      rights = rights-grow fits.rights opens.same.1 opens.same.2 opens.wide opens.rights;
+      standing = standing-same refl opens.same.0 fits.standing;
+    } in
+    subst (λ (x : LaneState T). Fits content room x.shape v x) (sym opens.rest) now

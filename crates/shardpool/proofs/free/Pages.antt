@@ -1,6 +1,9 @@
 -- How the places of a page that is opened go on the list.
 use Rattle.std.proofs.Common.{◌≡◌, ◌≢◌, ℕ, zero, suc, ◌+◌, ◌<◌, ◌≤◌, true, List, [], ◌∷◌, ◌++◌, length, Option, Some, None, refl, ap, sym, ◌∙◌, subst, arith, length-set}
-use Rattle.std.specs.Prelude.{IsSome, IfSome, slice_set}
+use mathlib.Core.Logic.{dite}
+use native.Mathlib.Decide.{ℕ_discrete}
+use Rattle.std.specs.Prelude.{Bool, IsSome, IfSome, slice_get, slice_set}
+use Rattle.std.proofs.lemmas.Option.{slice_get_within}
 use Rattle.std.specs.List.{All, Contains}
 use Rattle.std.proofs.lemmas.List.Elements.{All-nil, All-cons, All-head, All-tail, All-contains}
 use Rattle.keybits.specs.declared.place.Place.{Place}
@@ -17,10 +20,12 @@ use Rattle.poolsteps.specs.Views.{the_lane}
 use Rattle.shardpool.specs.declared.state.LaneState.{LaneState}
 use Rattle.shardpool.specs.Places.{IsBlank}
 use Rattle.shardpool.specs.LaneStates.{FitsStores}
-use Rattle.shardpool.specs.Stores.{KeepsOwn}
+use Rattle.shardpool.specs.Stores.{KeepsOwn, SameRows}
+use Rattle.std.specs.declared.alloc.Global.{Global}
+use Rattle.std_alloc.specs.declared.boxed.Box.{Box}
 use Rattle.shardpool.specs.Creates.{page_slots}
 use Rattle.shardpool.specs.Openings.{OpensNext}
-use Rattle.shardpool.proofs.free.Stores.{FitsShelf, numbered, blank-wider, stores-opened, stores-kept}
+use Rattle.shardpool.proofs.free.Stores.{stands-here, stands-else, FitsShelf, numbered, blank-wider, stores-opened, stores-kept}
 
 -- ---- the slots of a page
 
@@ -53,6 +58,13 @@ pub page-opened : (page : Option ℕ) (old new : ShardPages) → (old.opened < o
 page-opened None old new some lowest is low = absurd (cc (some low))
 page-opened (Some n) old new some lowest is low = is ∙ ap (λ (m : ℕ). record old { opened = m + 1 }) lowest
 
+-- what is true in a list stays so where another is made true
+stays-true : (xs : List Bool) (i j : ℕ) → slice_get xs j ≡ Some true → slice_get (slice_set xs i true) j ≡ Some true
+stays-true xs i j is = dite (ℕ_discrete j i)
+    (λ (here : j ≡ i). subst (λ (n : ℕ). slice_get (slice_set xs i true) n ≡ Some true) (sym here)
+    (stands-here xs i true (subst (λ (n : ℕ). n < length xs) here (slice_get_within xs j true is))))
+    (λ (other : j ≢ i). stands-else xs i true j true other is)
+
 -- ---- the loop
 
 -- a page may be opened: one is left, and nothing is free
@@ -66,19 +78,22 @@ pub record MayOpen {T : Type 0} (old : LaneState T) : Type 0 where
 
 module _ {T : Type 0} (content : T → List ℕ) (room : T → ℕ) (old : LaneState T) where
   -- the page is opened, its first slots are on the list, and these objects are left for the others
-  pub record OpensSlots (left : List T) (now : LaneState T) : Type 0 where
+  pub record OpensSlots (left : List (Box T Global)) (now : LaneState T) : Type 0 where
     pub slots : ℕ
     pub list : now.free ≡ record old.free { own = page_slots old.number old.pages.opened 0 slots }
     pub pages : now.pages ≡ record old.pages { opened = old.pages.opened + 1 }
     pub rest : now ≡ record old { free = now.free; pages = now.pages; objects = now.objects }
     pub narrow : length now.objects.items ≡ shard_places old.shape
     pub left_is : slots + length left ≡ page_size old.shape old.pages.opened
-    pub empty : All (λ object. content object ≡ []) left
+    pub empty : All (λ object. content object.value ≡ []) left
+    pub same : SameRows old.objects now.objects
+    pub wide : length now.objects.rights ≡ length old.objects.rights
+    pub rights : (index : ℕ) → slice_get old.objects.rights index ≡ Some true → slice_get now.objects.rights index ≡ Some true
     pub fits : (v : View) → FitsShelf content room old.shape v old → FitsShelf content room old.shape v now
 
   -- at first none is
-  pub none-on : (pages : ShardPages) (left : List T) → old.free.own ≡ [] → pages ≡ record old.pages { opened = old.pages.opened + 1 }
-      → length old.objects.items ≡ shard_places old.shape → length left ≡ page_size old.shape old.pages.opened → All (λ object. content object ≡ []) left
+  pub none-on : (pages : ShardPages) (left : List (Box T Global)) → old.free.own ≡ [] → pages ≡ record old.pages { opened = old.pages.opened + 1 }
+      → length old.objects.items ≡ shard_places old.shape → length left ≡ page_size old.shape old.pages.opened → All (λ object. content object.value ≡ []) left
       → OpensSlots left (record old { pages = pages })
   none-on pages left none is narrow count empty = record {
     slots = 0;
@@ -88,6 +103,9 @@ module _ {T : Type 0} (content : T → List ℕ) (room : T → ℕ) (old : LaneS
     narrow = narrow;
     left_is = omega (arith, count);
     empty = empty;
+    same = (refl, refl, refl);
+    wide = refl;
+    rights = λ index has. has;
     fits = λ v fits. subst (λ (p : ShardPages). FitsStores content room old.shape v old.free p old.objects.items) (sym is)
         (stores-opened fits (old.pages.opened + 1) (omega arith));
   }
@@ -99,11 +117,14 @@ module _ {T : Type 0} (content : T → List ℕ) (room : T → ℕ) (old : LaneS
         list = on.list ∙ ap (λ (n : ℕ). record old.free { own = page_slots old.number old.pages.opened 0 n }) all;
         pages = on.pages;
         rest = on.rest;
+        same = on.same;
+        wide = on.wide;
+        rights = on.rights;
         fits = on.fits;
       }
 
   -- ---- the next slot
-  module _ (may : MayOpen old) (now : LaneState T) {object : T} {left : List T} (on : OpensSlots (object ∷ left) now) where
+  module _ (may : MayOpen old) (now : LaneState T) {object : Box T Global} {left : List (Box T Global)} (on : OpensSlots (object ∷ left) now) where
     abbrev place : ℕ
     place = place_at old.number old.pages.opened on.slots
 
@@ -132,10 +153,10 @@ module _ {T : Type 0} (content : T → List ℕ) (room : T → ℕ) (old : LaneS
     pub inside : is_place old.shape place ≡ true
     inside = is_place-place_at old.shape may.shape old.number old.pages.opened on.slots may.lane may.unopened low-slot
 
-    shard-is : shard_of place ≡ old.number
+    pub shard-is : shard_of place ≡ old.number
     shard-is = shard_of-place_at old.number old.pages.opened on.slots (let low = low-page in omega (arith, low)) (let low = small-slot in omega (arith, low))
 
-    page-is : page_of place ≡ old.pages.opened
+    pub page-is : page_of place ≡ old.pages.opened
     page-is = page_of-place_at old.number old.pages.opened on.slots (let low = low-page in omega (arith, low)) (let low = small-slot in omega (arith, low))
 
     slot-of-is : slot_of place ≡ on.slots
@@ -163,7 +184,7 @@ module _ {T : Type 0} (content : T → List ℕ) (room : T → ℕ) (old : LaneS
         }
 
     -- and with it one more is there
-    pub one-on : (next : LaneState T) → KeepsOwn place object now next → OpensSlots left next
+    pub one-on : (next : LaneState T) → KeepsOwn place object.value now next → OpensSlots left next
     one-on next keeps =
         let slot : Place = record { shard = old.number; page = old.pages.opened; slot = on.slots } in
         let is : place_numbered place ≡ slot = λ i. record { shard = shard-is i; page = page-is i; slot = slot-of-is i } in
@@ -172,26 +193,29 @@ module _ {T : Type 0} (content : T → List ℕ) (room : T → ℕ) (old : LaneS
         = ap (λ (f : FreePlaces). f.own ++ place_numbered place ∷ []) on.list
         ∙ (ap (λ (p : Place). page_slots old.number old.pages.opened 0 on.slots ++ p ∷ []) is
         ∙ sym (slots-more old.number old.pages.opened 0 on.slots ∙ ap (λ (s : ℕ). page_slots old.number old.pages.opened 0 on.slots ++ record { shard = old.number; page = old.pages.opened; slot = s } ∷ []) (let same : 0 + on.slots ≡ on.slots = omega arith in same))) in
-        let objects : next.objects.items ≡ slice_set now.objects.items (index_of old.shape place) (Some object)
-        = keeps.objects ∙ ap (λ (z : Shape). slice_set now.objects.items (index_of z place) (Some object)) same-shape in record {
+        let objects : next.objects.items ≡ slice_set now.objects.items (index_of old.shape place) (Some object.value)
+        = keeps.objects ∙ ap (λ (z : Shape). slice_set now.objects.items (index_of z place) (Some object.value)) same-shape in record {
           slots = suc on.slots;
           list = keeps.list ∙ (ap (λ (ps : List Place). record now.free { own = ps }) own
               ∙ ap (λ (f : FreePlaces). record f { own = page_slots old.number old.pages.opened 0 (suc on.slots) }) on.list);
           pages = pages ∙ on.pages;
           rest = keeps.rest ∙ (ap (λ (s : LaneState T). record s { objects = next.objects; free = next.free }) on.rest
               ∙ ap (λ (p : ShardPages). record old { free = next.free; pages = p; objects = next.objects }) (sym pages));
-          narrow = ap (λ (xs : List (Option T)). length xs) objects ∙ (length-set now.objects.items (index_of old.shape place) (Some object) ∙ on.narrow);
+          narrow = ap (λ (xs : List (Option T)). length xs) objects ∙ (length-set now.objects.items (index_of old.shape place) (Some object.value) ∙ on.narrow);
           left_is = let was = on.left_is in omega (arith, was);
-          empty = All-tail (λ x. content x ≡ []) object left on.empty;
+          empty = All-tail (λ x. content x.value ≡ []) object left on.empty;
+          same = (keeps.same.0 ∙ on.same.0, keeps.same.1 ∙ on.same.1, keeps.same.2 ∙ on.same.2);
+          wide = ap (λ (xs : List Bool). length xs) keeps.rights ∙ (length-set now.objects.rights (index_of now.shape place) true ∙ on.wide);
+          rights = λ index has. subst (λ (xs : List Bool). slice_get xs index ≡ Some true) (sym keeps.rights) (stays-true now.objects.rights (index_of now.shape place) index (on.rights index has));
           fits = λ v was.
               let fits = on.fits v was in
               let lane : shard_of place ≡ (the_lane v).lane = shard-is ∙ (sym may.shard ∙ was.lists.0) in
               let high : old.pages.opened ≤ page_of place = let e = page-is in omega (arith, e) in
               let opened : page_of place < now.pages.opened = let e = page-is in let more = ap (λ (p : ShardPages). p.opened) on.pages in omega (arith, e, more) in
-              let blank : IsBlank old.shape v place (room object) = blank-wider (omega arith) (was.unopened place inside lane high) in
-              let kept = stores-kept fits {place = place} {object = object} (subst AreFree keeps.list keeps.free) inside opened absent blank
-              (All-head (λ x. content x ≡ []) object left on.empty) in
+              let blank : IsBlank old.shape v place (room object.value) = blank-wider (omega arith) (was.unopened place inside lane high) in
+              let kept = stores-kept fits {place = place} {object = object.value} (subst AreFree keeps.list keeps.free) inside opened absent blank
+              (All-head (λ x. content x.value ≡ []) object left on.empty) in
               subst (λ (p : ShardPages). FitsStores content room old.shape v next.free p next.objects.items) (sym pages)
               (subst (λ (xs : List (Option T)). FitsStores content room old.shape v next.free now.pages xs) (sym objects)
-              (subst (λ (f : FreePlaces). FitsStores content room old.shape v f now.pages (slice_set now.objects.items (index_of old.shape place) (Some object))) (sym keeps.list) kept));
+              (subst (λ (f : FreePlaces). FitsStores content room old.shape v f now.pages (slice_set now.objects.items (index_of old.shape place) (Some object.value))) (sym keeps.list) kept));
         }

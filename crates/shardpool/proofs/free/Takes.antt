@@ -1,5 +1,8 @@
 -- What a lane is once it took a chain, or followed the first place of its chain.
-use Rattle.std.proofs.Common.{◌≡◌, ◌≢◌, ⊎_elim, ℕ, ◌<◌, ◌≤◌, Bool, true, false, cond, eqb, List, [], ◌∷◌, length, Option, Some, None, refl, ap, sym, ◌∙◌, subst, arith, eq-eqb, ne_eqb}
+use Rattle.std.proofs.Common.{◌≡◌, ◌≢◌, ⊎_elim, ℕ, ◌<◌, ◌≤◌, Bool, true, false, cond, eqb, List, [], ◌∷◌, length, length-set, Option, Some, None, refl, ap, sym, ◌∙◌, subst, arith, eq-eqb, ne_eqb}
+use Rattle.std.specs.Prelude.{slice_get, slice_set}
+use mathlib.Core.Logic.{dite}
+use native.Mathlib.Decide.{ℕ_discrete}
 use Rattle.std.specs.List.{Contains}
 use Rattle.std.proofs.lemmas.Bool.{cases_Bool, eqb-false}
 use Rattle.std.proofs.lemmas.List.Elements.{All-nil}
@@ -8,6 +11,8 @@ use Rattle.atomic_table.specs.Table.{Me}
 use Rattle.keybits.specs.declared.shape.Shape.{Shape}
 use Rattle.keybits.specs.declared.place.Place.{Place}
 use Rattle.keybits.specs.Places.{page_of, number_of}
+use Rattle.keybits.specs.Shapes.{index_of}
+use Rattle.keybits.proofs.ShapeLemmas.{index_of-lt}
 use Rattle.keybits.specs.Keys.{place_of}
 use Rattle.keybits.specs.Links.{link_to, linked_place}
 use Rattle.freelists.specs.Shards.{IsOwn, place_numbered}
@@ -23,21 +28,23 @@ use Rattle.poolsteps.specs.declared.view.View.{View}
 use Rattle.poolsteps.specs.Views.{the_lane, status_of, known_of}
 use Rattle.poolsteps.specs.Told.{references_seen}
 use Rattle.poolsteps.specs.Returned.{rest_of, taken_record, LeadsTo}
-use Rattle.poolcalls.specs.Carried.{ShowsCell}
 use Rattle.poolcalls.specs.Taken.{Went, IsCollected, Collects, FollowsOut}
 use Rattle.shardpool.specs.declared.state.HeldKey.{HeldKey}
 use Rattle.shardpool.specs.declared.state.LaneState.{LaneState}
 use Rattle.shardpool.specs.Tokens.{PoolOf, LaneOf, FillingOf}
 use Rattle.shardpool.specs.Lanes.{Made}
-use Rattle.shardpool.specs.Places.{IsResting}
-use Rattle.shardpool.specs.LaneStates.{IsFirst, FitsRow, FitsStores, Fits}
+use Rattle.shardpool.specs.Places.{IsResting, left_with}
+use Rattle.shardpool.specs.Stores.{FollowsOn}
+use Rattle.shardpool.specs.LaneStates.{IsFirst, FitsRow, FitsStores, FitsRights, Fits}
+use Rattle.shardpool.proofs.free.Rights.{index-injective, left-back, rights-onto, rights-still, unbrought-none, unbrought-one}
+use Rattle.shardpool.proofs.references.Standings.{standing-same}
 use Rattle.shardpool.specs.Stores.{Hangs}
 use Rattle.shardpool.specs.Creates.{FollowsChain, TakesReturned}
 use Rattle.shardpool.proofs.frame.OtherShards.{NoneAbroad, abroad-one}
 use Rattle.shardpool.proofs.frame.Frames.{Passes}
 use Rattle.shardpool.proofs.frame.LaneFrames.{passes-refs, onlyat-none}
 use Rattle.shardpool.proofs.frame.KeptPlaces.{seat-passes, last_pushed-same}
-use Rattle.shardpool.proofs.free.Stores.{own-inside, numbered, blank-wider, stores-still}
+use Rattle.shardpool.proofs.free.Stores.{own-inside, numbered, blank-wider, stores-still, stores-changed, stands-here, stands-else}
 use Rattle.shardpool.proofs.free.Chains.{rest-unlisted, uncollected, collected-away, stores-hung, taken-deeds, taken-cells, taken-rests, stores-followed, followed-blank, link-goes-on, followed-first, first-rests}
 use Rattle.shardpool.proofs.references.Rows.{rows-pass}
 use Rattle.shardpool.proofs.frame.LaneFacts.{lane_of}
@@ -176,12 +183,39 @@ module _ {T : Type 0} {content : T → List ℕ} {room : T → ℕ} {v : View} {
       once : (has (rest_of (the_lane v).chain) place ≡ false) × NoRepeats (rest_of (the_lane v).chain)
       once = subst (λ (ps : List ℕ). NoRepeats ps) begins fits.stores.unrepeated
 
-      module _ {free : FreePlaces} (rest : free ≡ record s.free { chain = free.chain }) where
+      module _ {t : LaneState T} (on : FollowsOn place link s t) where
+        abbrev mid : LaneState T
+        mid = record s { free = t.free; objects = t.objects }
+
         -- what is left fits
-        pub followed-fits : (link ≡ 0 → free.chain ≡ None)
-            → ((next : Place) → IsOwn s.free.shard s.free.shape next → link ≡ link_to (number_of next) → free.chain ≡ Some next)
-            → Fits content room s.shape w (record s { free = free })
-        followed-fits ends goes = record {
+        followed-stores : FitsStores content room s.shape w t.free s.pages t.objects.items
+        followed-stores =
+            let stores = stores-followed fits.stores lane-below begins passes fits.seat.paired fits.seat.own {next = t.free.chain} follows.chain
+            (followed-first fits.stores lane-below begins follows.leads {next = t.free.chain} on.ends on.goes) in
+            let here : FitsStores content room s.shape w t.free s.pages s.objects.items
+            = subst (λ (f : FreePlaces). FitsStores content room s.shape w f s.pages s.objects.items) (sym on.list) stores in
+            subst (λ (xs : List (Option T)). FitsStores content room s.shape w t.free s.pages xs) (sym on.items)
+            (stores-changed here None on.free rested.0.inside (rested.0.own ∙ sym follows.went.acted.lane)
+            (λ one within is. rest-unlisted fits.stores lane-below place rested.0 one (subst (λ (f : FreePlaces). Contains f.own one) on.list within) is))
+
+        followed-rights : FitsRights s.shape w t.objects
+        followed-rights = rights-onto fits.rights passes.acted on.same.1 on.same.2
+            (ap (λ (xs : List Bool). length xs) on.rights ∙ length-set s.objects.rights (index_of s.shape place) true)
+            (λ p inside own left unchained. dite (ℕ_discrete p place)
+            (λ (here : p ≡ place).
+            let low : index_of s.shape place < length s.objects.rights = subst (λ (n : ℕ). index_of s.shape place < n) (sym fits.rights.narrow) (index_of-lt s.shape place rested.0.inside) in
+            subst (λ (q : ℕ). slice_get t.objects.rights (index_of s.shape q) ≡ Some true) (sym here)
+            (subst (λ (xs : List Bool). slice_get xs (index_of s.shape place) ≡ Some true) (sym on.rights) (stands-here s.objects.rights (index_of s.shape place) true low)))
+            (λ (other : p ≢ place).
+            let off : has (the_lane v).chain p ≡ false
+            = ap (λ (ps : List ℕ). has ps p) begins ∙ (ap (λ (b : Bool). cond b true (has (rest_of (the_lane v).chain) p)) (ne_eqb p place other)
+            ∙ (ap (λ (ps : List ℕ). has ps p) (sym follows.chain) ∙ unchained)) in
+            subst (λ (xs : List Bool). slice_get xs (index_of s.shape p) ≡ Some true) (sym on.rights)
+            (stands-else s.objects.rights (index_of s.shape place) true (index_of s.shape p) true
+            (λ same. other (index-injective s.shape fits.seat.shape p place inside rested.0.inside (own ∙ sym rested.0.own) same)) (fits.rights.has_right p inside own left off))))
+
+        followed-mid : Fits content room s.shape w mid
+        followed-mid = record {
           shape_is = fits.shape_is;
           placed = fits.placed;
           seat = seat-passes fits.seat passes (follows.went.under ∙ fits.seat.idle) (λ p within other. refl);
@@ -191,22 +225,28 @@ module _ {T : Type 0} {content : T → List ℕ} {room : T → ℕ} {v : View} {
                 (λ some. ne_eqb p place (λ same. unheld fit (λ key here. no-references s.shape v key place rested.0.with_lane (here ∙ same)) some)),
                 (λ key n here. refl),
               )) refl;
-          stores = subst (λ (f : FreePlaces). FitsStores content room s.shape w f s.pages s.objects.items) (sym rest)
-              (stores-followed fits.stores lane-below begins passes fits.seat.paired fits.seat.own {next = free.chain} follows.chain
-              (followed-first fits.stores lane-below begins follows.leads {next = free.chain} ends goes));
+          stores = followed-stores;
+          rights = followed-rights;
+          standing = standing-same refl on.same.0 fits.standing;
         }
 
+        pub followed-fits : Fits content room t.shape w t
+        followed-fits = subst (λ (x : LaneState T). Fits content room x.shape w x) (sym on.rest) followed-mid
+
         module _ (table table_now : TableId) (same : table_now ≡ table) where
+          followed-lane : lane_of table_now w t ≡ lane_of table_now w mid
+          followed-lane = ap (λ (x : LaneState T). lane_of table_now w x) on.rest
+
           -- the place is in nobody's hands
-          pub followed-chain : {object : T} → ShowsCell content room (known_of (the_lane v) place) object
-              → FollowsChain content room (lane_of table v s) (lane_of table_now w (record s { free = free })) place object
-          followed-chain cell =
+          pub followed-chain : {object : T} → content object ≡ (known_of (the_lane v) place).content → room object ≡ (known_of (the_lane v) place).room
+              → FollowsChain content room (lane_of table v s) (lane_of table_now w t) place object
+          followed-chain {object} shown roomy =
               let blank = followed-blank fits.stores lane-below begins passes fits.seat.paired fits.seat.own follows.emptied in
-              let roomy = cell.1 in record {
+              subst (λ (lane : LaneOf). FollowsChain content room (lane_of table v s) lane place object) (sym followed-lane) (record {
                 chain = begins ∙ ap (λ (ps : List ℕ). place ∷ ps) (sym follows.chain);
                 follows = (link, follows);
-                same = (same, refl, refl);
-                list = ap (λ (f : FreePlaces). f.own) rest;
+                same = (same, refl, refl, on.same.0);
+                list = ap (λ (f : FreePlaces). f.own) on.list;
                 pages = refl;
                 loose = record {
                   filling = record {
@@ -214,23 +254,24 @@ module _ {T : Type 0} {content : T → List ℕ} {room : T → ℕ} {v : View} {
                     own = rested.0.own ∙ sym fits.seat.number_is;
                     opened = rested.1;
                     with_lane = blank.with_lane ∙ ap with (follows.went.acted.lane ∙ sym fits.seat.number_is);
-                    unlisted = λ one within is. rest-unlisted fits.stores lane-below place rested.0 one (subst (λ (f : FreePlaces). Contains f.own one) rest within) is;
+                    unlisted = λ one within is. rest-unlisted fits.stores lane-below place rested.0 one (subst (λ (f : FreePlaces). Contains f.own one) on.list within) is;
                     unchained = ap (λ (ps : List ℕ). has ps place) follows.chain ∙ once.0;
                   };
                   blank = blank-wider (omega (arith, roomy)) blank;
-                  empty = cell.0 ∙ rested.0.empty;
+                  empty = shown ∙ rested.0.empty;
                 };
-              }
+              })
 
           -- and the fillings stay
-          pub followed-fillings : (filling : FillingOf T) → Made (lane_of table v s) filling → Made (lane_of table_now w (record s { free = free })) filling
+          pub followed-fillings : (filling : FillingOf T) → Made (lane_of table v s) filling → Made (lane_of table_now w t) filling
           followed-fillings filling made =
               let p : ℕ = place_of filling.key in
               let off = not-has place (rest_of (the_lane v).chain) p (sym (ap (λ (ps : List ℕ). has ps p) begins) ∙ made.place.unchained) in
-              made-passes (lane_of table v s) (lane_of table_now w (record s { free = free })) filling passes fits.seat (same, refl, refl)
+              subst (λ (lane : LaneOf). Made lane filling) (sym followed-lane)
+              (made-passes (lane_of table v s) (lane_of table_now w mid) filling passes fits.seat (same, refl, refl, on.same.0)
               (follows.went.under ∙ fits.seat.idle) off.0 (All-nil (λ act. gives_away act p ≡ false))
-              (λ one within is. made.place.unlisted one (subst (λ (f : FreePlaces). Contains f.own one) rest within) is)
-              (ap (λ (ps : List ℕ). has ps p) follows.chain ∙ off.1) (omega arith) made
+              (λ one within is. made.place.unlisted one (subst (λ (f : FreePlaces). Contains f.own one) on.list within) is)
+              (ap (λ (ps : List ℕ). has ps p) follows.chain ∙ off.1) (omega arith) made)
 
 -- ---- returned places are taken
 
@@ -324,6 +365,12 @@ module _ {T : Type 0} {content : T → List ℕ} {room : T → ℕ} {v w : View}
               (stores-hung fits.stores fits.seat.paired fits.seat.own took-passes {first = first} took-chain t.once
               (λ p in_it. let one = t.collected p in_it in taken-rests (the_lane v) t.places t.stored s.shape w t.is p in_it one.0 one.1 one.2 one.3 one.4)
               begins);
+          rights = rights-onto fits.rights took-passes.acted refl refl refl (λ p inside own left unchained.
+              fits.rights.has_right p inside own
+              (left-back s.shape p (acts.Collect (the_lane v).lane t.places ∷ []) (left_with s.shape p (the_lane v).mine true)
+              (unbrought-one p (acts.Collect (the_lane v).lane t.places) (ap (λ (ps : List ℕ). has ps p) (sym took-chain) ∙ unchained)) left)
+              (ap (λ (ps : List ℕ). has ps p) (subst (λ (one : Option Place). IsFirst one (the_lane v).chain) none fits.stores.first)));
+          standing = fits.standing;
         } in
         subst (λ (x : LaneState T). Fits content room x.shape w x) (sym hangs.rest) now
 
@@ -337,7 +384,7 @@ module _ {T : Type 0} {content : T → List ℕ} {room : T → ℕ} {v w : View}
           subst (λ (lane : LaneOf). TakesReturned (lane_of table v s) lane) (sym took-lane) (record {
             none = λ why. absurd (⊎_elim (λ (full : (the_lane v).chain ≢ []). full empty) (λ (zero : s.pages.opened ≡ 0). omega (arith, zero, low)) why);
             some = λ _ _. (found, collects, λ zero. absurd (some zero));
-            same = (same, refl, refl);
+            same = (same, refl, refl, refl);
             list = ap (λ (f : FreePlaces). f.own) hangs.list;
             pages = refl;
           })
@@ -347,7 +394,7 @@ module _ {T : Type 0} {content : T → List ℕ} {room : T → ℕ} {v w : View}
           let p : ℕ = place_of filling.key in
           let spared = uncollected fits.stores fits.seat.paired fits.seat.own took-passes p (made.place.with_lane ∙ ap with fits.seat.number_is) in
           subst (λ (lane : LaneOf). Made lane filling) (sym took-lane)
-          (made-passes (lane_of table v s) (lane_of table_now w (record s { free = u.free })) filling took-passes fits.seat (same, refl, refl)
+          (made-passes (lane_of table v s) (lane_of table_now w (record s { free = u.free })) filling took-passes fits.seat (same, refl, refl, refl)
           (t.went.under ∙ fits.seat.idle) spared.0 spared.1
           (λ one within is. made.place.unlisted one (subst (λ (f : FreePlaces). Contains f.own one) hangs.list within) is)
           (ap (λ (ps : List ℕ). has ps p) took-chain ∙ spared.0) (omega arith) made)
@@ -376,6 +423,8 @@ module _ {T : Type 0} {content : T → List ℕ} {room : T → ℕ} {v w : View}
     last_pushed = last_pushed-same fits.last_pushed (ap (λ (r : LaneRecord). r.pushed) none-record);
     rows = rows-pass none-passes fits.seat.own fits.rows (λ place row inside stands fit. ((λ some. refl), (λ key n here. refl))) refl;
     stores = stores-still fits.stores {place = 0} fits.seat.paired fits.seat.own none-chain (onlyat-none 0) none-passes (All-nil (λ act. gives_away act 0 ≡ false));
+    rights = rights-still fits.rights none-passes.acted none-chain (λ p. unbrought-none p);
+    standing = fits.standing;
   }
 
   module _ (table table_now : TableId) (same : table_now ≡ table) where
@@ -384,11 +433,11 @@ module _ {T : Type 0} {content : T → List ℕ} {room : T → ℕ} {v w : View}
         let empty : (the_lane v).chain ≡ [] = subst (λ (one : Option Place). IsFirst one (the_lane v).chain) none fits.stores.first in record {
           none = λ why. absurd (⊎_elim (λ (full : (the_lane v).chain ≢ []). full empty) (λ (is : s.pages.opened ≡ 0). omega (arith, is, low)) why);
           some = λ _ _. (found, collects, λ _. refl);
-          same = (same, refl, refl);
+          same = (same, refl, refl, refl);
           list = refl;
           pages = refl;
         }
 
     pub none-fillings : (filling : FillingOf T) → Made (lane_of table v s) filling → Made (lane_of table_now w s) filling
     none-fillings filling made =
-        made-still {was = lane_of table v s} {new = lane_of table_now w s} none-passes fits.seat (same, refl, refl) refl refl refl filling (none-idle ∙ fits.seat.idle) none-chain made
+        made-still {was = lane_of table v s} {new = lane_of table_now w s} none-passes fits.seat (same, refl, refl, refl) refl refl refl filling (none-idle ∙ fits.seat.idle) none-chain made

@@ -13,7 +13,7 @@ use Rattle.seqpool.specs.Histories.{PublishedAt, acts_of}
 use Rattle.seqpool.proofs.Ranks.{same-key, current-key}
 use Rattle.sharelaws.specs.declared.stored.Status.TheVariants.{Emptied}
 use Rattle.sharelaws.specs.Shares.{IsKept}
-use Rattle.slotcell.specs.Share.{Share}
+use Rattle.placecell.specs.Share.{Share}
 use Rattle.sharelaws.proofs.HeldContents.{held-content-law, held-current}
 use Rattle.poolsteps.specs.declared.view.View.{View}
 use Rattle.poolsteps.specs.Views.{the_lane, status_of, known_of}

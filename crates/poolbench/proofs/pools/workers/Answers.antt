@@ -11,7 +11,7 @@ loop-lane-init c =
 pub invariant_of-push : goal.invariant_of-push
 invariant_of-push c =
     let fresh = fresh-head c.in-Some.lane (into_iter_items c.next.new.self) (subst (λ (lanes : List LaneOf). AreFresh c.args.pool.now lanes) c.in-Some.ensures.steps.0 c.loop-lane.invariant) in
-    record { table = fresh.0.0; shape = fresh.0.1; unburdened = fresh.1 }
+    record { table = fresh.0.0; directory = fresh.0.2; shape = fresh.0.1; unburdened = fresh.1 }
 
 pub loop-lane-preserved : goal.loop-lane-preserved
 loop-lane-preserved c =

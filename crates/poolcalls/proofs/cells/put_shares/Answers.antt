@@ -1,5 +1,5 @@
 use Rattle.std.proofs.Common.{◌≡◌, ℕ, inl, inr, refl, ap, sym, ◌∙◌, subst, arith}
-use Rattle.slotcell.specs.Rest.{lowest_share}
+use Rattle.placecell.specs.Rest.{lowest_share}
 use Rattle.poolsteps.specs.Moved.{stored_of}
 use Rattle.poolsteps.proofs.OwnShares.{may-touch}
 use Rattle.poolcalls.specs.Carried.{Spreads}
@@ -35,6 +35,7 @@ pub back-requires-clause-share : goal.back-requires-clause-share
 back-requires-clause-share g c = let h = c.loop-number.invariant in (
   ap (λ share. share.number) c.cut.ensures.share ∙ ap (λ rest. rest.number) h.rest,
   ap (λ share. share.of) c.cut.ensures.share ∙ (ap (λ rest. rest.of) h.rest ∙ c.requires.rest.1),
+  ap (λ share. share.spot) c.cut.ensures.share ∙ (ap (λ rest. rest.spot) h.rest ∙ c.requires.rest.2),
 )
 
 pub back-requires-clause-cell : goal.back-requires-clause-cell

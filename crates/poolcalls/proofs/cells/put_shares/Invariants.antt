@@ -1,5 +1,5 @@
 use Rattle.std.proofs.Common.{◌≡◌}
-use Rattle.slotcell.specs.Rest.{lowest_share}
+use Rattle.placecell.specs.Rest.{lowest_share}
 use Rattle.poolsteps.specs.Grids.{SameSeat}
 use Rattle.poolsteps.specs.Told.{MayRenew}
 use Rattle.poolsteps.specs.Moved.{stored_of}

@@ -1,4 +1,4 @@
-use Rattle.std.proofs.Common.{inl, inr, refl, arith}
+use Rattle.std.proofs.Common.{inl, inr, refl, ◌∙◌, arith}
 use Rattle.keybits.proofs.ShapeLemmas.{is_place-parts}
 use Rattle.keybits.specs.Places.{shard_of}
 use Rattle.poolsteps.proofs.OwnShares.{may-touch}
@@ -10,7 +10,7 @@ pub lend-requires : goal.lend-requires
 lend-requires g c = (omega arith, omega arith)
 
 pub into_share-requires : goal.into_share-requires
-into_share-requires g c = let lent = c.lend.ensures in omega (arith, lent.0, lent.1)
+into_share-requires g c = let lent = c.lend.ensures in omega (arith, lent.1, lent.2)
 
 pub back_whole-requires : goal.back_whole-requires
 back_whole-requires g c =
@@ -20,7 +20,7 @@ back_whole-requires g c =
       lane = c.requires.lane;
       may = may-touch c.args.grid.now.shape c.args.hand.now.me.0 place (shard_of place) c.requires.place;
       left = c.requires.slots (shard_of place) (is_place-parts c.args.grid.now.shape place c.requires.spot.inside).0;
-      share = rw c.into_share.ensures (c.lend.ensures.0, c.lend.ensures.1);
+      share = rw c.into_share.ensures (c.lend.ensures.1, c.lend.ensures.2, c.lend.ensures.0 ∙ c.requires.at);
       cell = inr (c.requires.place, λ k below other. inl (c.requires.slots k below));
     }
 
@@ -38,4 +38,4 @@ returns-clause-slots g c = now-rests (back-moves c.back_whole.ensures.backs) c.r
 
 pub returns-clause-cell : goal.returns-clause-cell
 returns-clause-cell g c =
-    let known = moves-known (back-moves c.back_whole.ensures.backs) in rw (known, c.into_share.ensures, c.lend.ensures.2) (refl, refl)
+    let known = moves-known (back-moves c.back_whole.ensures.backs) in rw (known, c.into_share.ensures, c.lend.ensures.3) (refl, refl, c.requires.at)

@@ -1,9 +1,9 @@
-use Rattle.std.proofs.Common.{refl}
+use Rattle.std.proofs.Common.{refl, ◌∙◌, arith}
 use Rattle.poolcalls.proofs.Moves.{carries-all, carried-place}
 use Rattle.poolcalls.proofs.cells.spread_cell.Goals as goal
 
 pub lend-requires : goal.lend-requires
-lend-requires g c = c.args.grid.now.checked.lanes
+lend-requires g c = let lanes = c.args.grid.now.checked.lanes in (omega (arith, lanes), omega (arith, lanes))
 
 pub back_all-requires : goal.back_all-requires
 back_all-requires g c = record {
@@ -12,7 +12,7 @@ back_all-requires g c = record {
   lane = c.requires.lane;
   place = c.requires.place;
   left = c.requires.slots;
-  rest = (c.lend.ensures.0, c.lend.ensures.1);
+  rest = (c.lend.ensures.1, c.lend.ensures.2, c.lend.ensures.0 ∙ c.requires.at);
 }
 
 pub returns-clause-hand : goal.returns-clause-hand
@@ -29,4 +29,4 @@ pub returns-clause-slots : goal.returns-clause-slots
 returns-clause-slots g c = c.back_all.ensures.backs.goes.leaves.here
 
 pub returns-clause-cell : goal.returns-clause-cell
-returns-clause-cell g c = rw (c.back_all.ensures.backs.goes.leaves.known, c.lend.ensures.2) (refl, refl)
+returns-clause-cell g c = rw (c.back_all.ensures.backs.goes.leaves.known, c.lend.ensures.3) (refl, refl, c.requires.at)

@@ -1,5 +1,5 @@
 use Rattle.std.proofs.Common.{◌≡◌, ◌≢◌, inl, inr, ◌+◌, ◌-◌, ◌*◌, ◌<◌, ℕ, refl, sym, ◌∙◌, subst, arith}
-use Rattle.slotcell.specs.Rest.{lowest_share}
+use Rattle.placecell.specs.Rest.{lowest_share}
 use Rattle.poolsteps.specs.Moved.{stored_of}
 use Rattle.poolsteps.proofs.OwnShares.{may-touch}
 use Rattle.poolcalls.specs.Carried.{Carries, MayCarry, Spreads}
@@ -9,7 +9,7 @@ use Rattle.poolcalls.proofs.cells.spread_others.Given.{Over}
 use Rattle.poolcalls.proofs.cells.spread_others.Goals as goal
 
 pub lend-rest-requires : goal.lend-rest-requires
-lend-rest-requires g c = c.args.grid.now.checked.lanes
+lend-rest-requires g c = let lanes = c.args.grid.now.checked.lanes in (omega (arith, lanes), omega (arith, lanes))
 
 pub put_shares-requires : goal.put_shares-requires
 put_shares-requires g c =
@@ -19,7 +19,7 @@ put_shares-requires g c =
       lane = lane;
       place = c.requires.place;
       numbers = (omega arith, lane);
-      rest = (c.lend-rest.ensures.0, c.lend-rest.ensures.1);
+      rest = (c.lend-rest.ensures.1, c.lend-rest.ensures.2, c.lend-rest.ensures.0 ∙ c.requires.at);
       slots = λ number low high. c.requires.slots number (omega (arith, high, lane));
       cell = inr (λ number below. inl (c.requires.slots number below));
     }
@@ -28,7 +28,7 @@ pub into_share-requires : goal.into_share-requires
 into_share-requires g c =
     let own = c.if-lane-last.true in
     let lane = c.requires.lane in
-    let lent = c.lend-rest.ensures in rw c.put_shares.ensures.rest (omega (arith, own, lane, lent.1))
+    let lent = c.lend-rest.ensures in rw c.put_shares.ensures.rest (omega (arith, own, lane, lent.2))
 
 pub returns-then-lane-last-clause-hand : goal.returns-then-lane-last-clause-hand
 returns-then-lane-last-clause-hand g c = (c.put_shares.ensures.hand, still-one c.put_shares.ensures.spreads.carries c.requires.hand.1)
@@ -50,7 +50,7 @@ pub returns-then-lane-last-clause-own : goal.returns-then-lane-last-clause-own
 returns-then-lane-last-clause-own g c = c.put_shares.ensures.spreads.others c.args.lane (inr (omega arith)) ∙ c.requires.slots c.args.lane c.requires.lane
 
 pub returns-then-lane-last-clause-share : goal.returns-then-lane-last-clause-share
-returns-then-lane-last-clause-share g c = rw (c.into_share.ensures, c.put_shares.ensures.rest) (refl, c.lend-rest.ensures.1, c.lend-rest.ensures.2)
+returns-then-lane-last-clause-share g c = rw (c.into_share.ensures, c.put_shares.ensures.rest) (refl, c.lend-rest.ensures.2, c.lend-rest.ensures.3, c.lend-rest.ensures.0 ∙ c.requires.at)
 
 pub returns-then-lane-last-clause-cell : goal.returns-then-lane-last-clause-cell
 returns-then-lane-last-clause-cell g c = rw (c.into_share.ensures, c.put_shares.ensures.rest) c.put_shares.ensures.cell
@@ -59,7 +59,7 @@ pub cut-own-requires : goal.cut-own-requires
 cut-own-requires g c =
     let other = c.if-lane-last.false in
     let lane = c.requires.lane in
-    let lent = c.lend-rest.ensures in rw c.put_shares.ensures.rest (omega (arith, other, lane, lent.1))
+    let lent = c.lend-rest.ensures in rw c.put_shares.ensures.rest (omega (arith, other, lane, lent.2))
 
 pub overflow_add-lane : goal.overflow_add-lane
 overflow_add-lane g c = let lane = c.requires.lane in let lanes = c.args.grid.now.checked.lanes in omega (arith, lane, lanes)
@@ -76,7 +76,7 @@ put_shares-requires-2 g c =
       lane = lane;
       place = still-has spreads.carries c.shares_law.ensures.stays c.requires.place;
       numbers = (omega (arith, lane, other), omega (arith, lane));
-      rest = rw (c.cut-own.ensures.rest, c.put_shares.ensures.rest) (refl, c.lend-rest.ensures.1);
+      rest = rw (c.cut-own.ensures.rest, c.put_shares.ensures.rest) (refl, c.lend-rest.ensures.2, c.lend-rest.ensures.0 ∙ c.requires.at);
       slots = λ number low high. spreads.others number (inr (omega (arith, low))) ∙ c.requires.slots number (omega (arith, high));
       cell = rw (c.cut-own.ensures.rest, c.put_shares.ensures.rest) c.put_shares.ensures.cell;
     }
@@ -84,7 +84,7 @@ put_shares-requires-2 g c =
 pub into_share-requires-2 : goal.into_share-requires-2
 into_share-requires-2 g c =
     let lanes = c.args.grid.now.checked.lanes in
-    let lent = c.lend-rest.ensures in rw (c.put_shares-2.ensures.rest, c.cut-own.ensures.rest, c.put_shares.ensures.rest) (omega (arith, lanes, lent.1))
+    let lent = c.lend-rest.ensures in rw (c.put_shares-2.ensures.rest, c.cut-own.ensures.rest, c.put_shares.ensures.rest) (omega (arith, lanes, lent.2))
 
 pub back-requires : goal.back-requires
 back-requires g c =
@@ -105,7 +105,7 @@ back-requires g c =
       lanes = (lane, below);
       may = may-touch z c.put_shares-2.new.hand.me.0 c.args.spot.place last has_place;
       left = second.others last (inr (omega arith)) ∙ (first.others last (inr (omega (arith, lane))) ∙ c.requires.slots last below);
-      share = rw (c.into_share-2.ensures, c.put_shares-2.ensures.rest, c.cut-own.ensures.rest, c.put_shares.ensures.rest) (refl, c.lend-rest.ensures.1);
+      share = rw (c.into_share-2.ensures, c.put_shares-2.ensures.rest, c.cut-own.ensures.rest, c.put_shares.ensures.rest) (refl, c.lend-rest.ensures.2, c.lend-rest.ensures.0 ∙ c.requires.at);
       cell = rw (c.into_share-2.ensures, c.put_shares-2.ensures.rest)
           (may-store z c.put_shares-2.new.hand.me.0 c.args.spot.place last (stored_of g.T.Clear.content g.T.Clear.room (lowest_share c.cut-own.new.self)) has_place
           c.put_shares-2.ensures.cell);
@@ -146,7 +146,7 @@ returns-clause-own g c = (others g c).others c.args.lane (inl (omega arith))
     ∙ (c.put_shares.ensures.spreads.others c.args.lane (inr (omega arith)) ∙ c.requires.slots c.args.lane c.requires.lane)
 
 pub returns-clause-share : goal.returns-clause-share
-returns-clause-share g c = rw (c.cut-own.ensures.share, c.put_shares.ensures.rest) (refl, c.lend-rest.ensures.1, c.lend-rest.ensures.2)
+returns-clause-share g c = rw (c.cut-own.ensures.share, c.put_shares.ensures.rest) (refl, c.lend-rest.ensures.2, c.lend-rest.ensures.3, c.lend-rest.ensures.0 ∙ c.requires.at)
 
 pub returns-clause-cell : goal.returns-clause-cell
 returns-clause-cell g c = inl (rw (c.cut-own.ensures.share, c.put_shares.ensures.rest)

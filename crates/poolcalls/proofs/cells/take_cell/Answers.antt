@@ -1,4 +1,4 @@
-use Rattle.std.proofs.Common.{ap}
+use Rattle.std.proofs.Common.{ap, ◌∙◌}
 use Rattle.poolcalls.proofs.Moves.{carries-all, carried-place}
 use Rattle.poolcalls.proofs.cells.take_cell.Goals as goal
 
@@ -29,4 +29,4 @@ returns-clause-slots g c = c.out_all.ensures.outs.goes.leaves.here
 
 pub returns-clause-cell : goal.returns-clause-cell
 returns-clause-cell g c =
-    let are = c.out_all.ensures.outs.are.cell_is in rw c.into_whole.ensures (ap (λ x. x.content) are, ap (λ x. x.room) are)
+    let are = c.out_all.ensures.outs.are in let whole = c.into_whole.ensures in rw whole.1 (ap (λ x. x.content) are.cell_is, ap (λ x. x.room) are.cell_is, whole.0 ∙ are.spot_is)

@@ -2,7 +2,7 @@ use Rattle.std.proofs.Common.{◌≤◌, ◌+◌, ◌∷◌, [], ℕ, sym, ap, �
 use Rattle.keybits.specs.declared.shape.Shape.{Shape}
 use Rattle.steplaws.specs.Calls.{is_claimed}
 use Rattle.poolcalls.proofs.Moves.{carried-place, carries-more}
-use Rattle.poolcalls.proofs.Standing.{at-same, returns-away}
+use Rattle.poolcalls.proofs.Standing.{at-same, returns-away, stands-in}
 use Rattle.poolcalls.specs.Called.{caller_of}
 use Rattle.poolcalls.proofs.Doing.{did-carries, goes-none, goes-moves, goes-most}
 use Rattle.poolcalls.proofs.Ending.{caller-still, room-still, ends-at-last, ends-at-own, none-at-last, none-at-own}
@@ -61,6 +61,7 @@ rest_cell-requires g c =
       lane = c.requires.at.below;
       place = carried-place took.carries c.shares_law.ensures.stays c.args.at.spot.place c.requires.place.0;
       slots = took.slots;
+      at = took.cell.2;
     }
 
 pub give_home-requires-clause-place : goal.give_home-requires-clause-place
@@ -116,3 +117,12 @@ returns-clause-hand g c =
     let took = c.take_cell-whole.ensures.hand.0 in
     let rests = c.rest_cell.ensures.hand.0 in
     let last = c.give_home.ensures.hand in (last.0 ∙ (rests.0 ∙ took.0), last.1 ∙ (rests.1 ∙ took.1))
+
+pub get_mut-requires : goal.get_mut-requires
+get_mut-requires g c = stands-in c.requires.at.spot c.take_cell-whole.ensures.cell.2
+
+pub take-vacancy-requires : goal.take-vacancy-requires
+take-vacancy-requires g c = stands-in c.requires.at.spot c.take_cell-whole.ensures.cell.2
+
+pub returns-then-generation-grid-clause-at : goal.returns-then-generation-grid-clause-at
+returns-then-generation-grid-clause-at g c = c.take-vacancy.ensures.0 ∙ c.take_cell-whole.ensures.cell.2

@@ -1,6 +1,7 @@
 use Rattle.std.proofs.Common.{◌≡◌, inr, ℕ, ◌≤◌, sym, ap, ◌∙◌, subst, arith}
 use Rattle.keybits.specs.declared.shape.Shape.{Shape}
 use Rattle.sharelaws.specs.declared.stored.Status.TheVariants.{Untouched, Emptied}
+use Rattle.poolsteps.specs.Layout.{spots_at}
 use Rattle.poolsteps.specs.Views.{the_lane, status_of, known_of}
 use Rattle.poolcalls.specs.Carried.{MayCarry, ShowsCell}
 use Rattle.poolcalls.proofs.Filling.{still-may, publish-called, room-published}
@@ -16,6 +17,7 @@ spread_cell-requires g c =
       lane = c.requires.lane.1;
       place = publish-place c.args.grid.now.shape c.args.hand.now.me.0 c.args.key c.args.spot.place at c.requires.may;
       slots = λ number below. subst (λ (p : ℕ). status_of (the_lane c.args.hand.now.me.0) p number ≡ Emptied) (sym at) (c.requires.slots number below);
+      at = c.requires.at ∙ ap (spots_at c.args.grid.now.objects.ptr c.args.grid.now.shape) (sym at);
     }
 
 pub publish-requires : goal.publish-requires
@@ -39,7 +41,7 @@ returns-clause-slots g c number below = publish-left c.publish.ensures.publishes
 pub returns-clause-cell : goal.returns-clause-cell
 returns-clause-cell g c =
     let known = publish-known c.publish.ensures.publishes in
-    rw known (subst (λ (p : ℕ). ShowsCell g.T.Clear.content g.T.Clear.room (known_of (the_lane c.spread_cell.new.hand.me.0) p) c.args.whole) c.requires.spot.place_is
+    rw known (subst (λ (p : ℕ). ShowsCell g.T.Clear.content g.T.Clear.room (spots_at c.args.grid.now.objects.ptr c.args.grid.now.shape) p (known_of (the_lane c.spread_cell.new.hand.me.0) p) c.args.whole) c.requires.spot.place_is
     c.spread_cell.ensures.cell)
 
 pub returns-clause-called : goal.returns-clause-called

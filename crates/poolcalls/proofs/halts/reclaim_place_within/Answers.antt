@@ -5,7 +5,7 @@ use Rattle.poolcalls.proofs.Moves.{carried-place, carries-more}
 use Rattle.poolcalls.specs.Called.{caller_of}
 use Rattle.poolcalls.proofs.Doing.{did-carries}
 use Rattle.poolcalls.proofs.Ending.{caller-still, room-still, ends-at-last, ends-at-own}
-use Rattle.poolcalls.proofs.Standing.{at-same, returns-away}
+use Rattle.poolcalls.proofs.Standing.{at-same, returns-away, stands-in}
 use Rattle.poolcalls.proofs.Within.{within-none, within-moves}
 use Rattle.poolcalls.proofs.halts.reclaim_place_within.Goals as goal
 use Rattle.poolcalls.proofs.halts.reclaim_place_within.Goals.{then-generation-grid-via-then-generation-grid, then-generation-grid-via-else-generation-grid+then-shard_of-at}
@@ -62,6 +62,7 @@ rest_cell-requires g c =
       lane = c.requires.at.below;
       place = carried-place took.carries c.shares_law.ensures.stays c.args.at.spot.place c.requires.place.0;
       slots = took.slots;
+      at = took.cell.2;
     }
 
 pub give_home_within-requires-clause-hand : goal.give_home_within-requires-clause-hand
@@ -94,3 +95,6 @@ returns-clause-hand g c =
     let took = c.take_cell-whole.ensures.hand.0 in
     let rests = c.rest_cell.ensures.hand.0 in
     let last = c.give_home_within.ensures.hand in (last.0 ∙ (rests.0 ∙ took.0), last.1 ∙ (rests.1 ∙ took.1))
+
+pub get_mut-requires : goal.get_mut-requires
+get_mut-requires g c = stands-in c.requires.at.spot c.take_cell-whole.ensures.cell.2

@@ -1,3 +1,4 @@
+use Rattle.poolsteps.specs.Layout.{spots_at}
 -- The one share of the cell is all of it.
 use Rattle.std.proofs.Common.{◌≡◌, ◌∙◌, ◌<◌, ap, sym, subst}
 use Rattle.core.specs.Mem.Slots.{slots_items}
@@ -21,19 +22,19 @@ pub lift-requires-clause-share : goal.lift-requires-clause-share
 lift-requires-clause-share g c =
     let z = c.args.shape.now in
     let r = c.requires.resting in
-    part-some (slots_items c.args.slots.now) (slot_index z c.args.place (shard_of c.args.place)) c.slot_at-slot.result r.cell 0 1
+    part-some (slots_items c.args.slots.now) (slot_index z c.args.place (shard_of c.args.place)) c.slot_at-slot.result (spots_at c.args.directory.ptr c.args.shape.now c.args.place) r.cell 0 1
     (at g (goal.at.lift-requires-clause-share g c).After-slot_at-slot) r.part
 
 pub returns-clause-drains : goal.returns-clause-drains
 returns-clause-drains g c =
     let z = c.args.shape.now in
     let place = c.args.place in
-    drains-one z c.requires.shape place c.requires.place c.args.slots.now c.lift.new.slots (shard_of place) c.requires.row (is_place-parts z place c.requires.place).0
+    drains-one (spots_at c.args.directory.ptr c.args.shape.now) z c.requires.shape place c.requires.place c.args.slots.now c.lift.new.slots (shard_of place) c.requires.row (is_place-parts z place c.requires.place).0
     (subst (λ i. IsSet i None c.args.slots.now c.lift.new.slots) (at g (goal.at.returns-clause-drains g c).After-slot_at-slot) c.lift.ensures.slots)
 
 pub returns-clause-gone : goal.returns-clause-gone
 returns-clause-gone g c =
     let z = c.args.shape.now in
     let place = c.args.place in
-    empty-one z c.requires.shape place c.requires.place c.args.slots.now c.lift.new.slots (shard_of place) c.requires.row (is_place-parts z place c.requires.place).0
+    empty-one (spots_at c.args.directory.ptr c.args.shape.now) z c.requires.shape place c.requires.place c.args.slots.now c.lift.new.slots (shard_of place) c.requires.row (is_place-parts z place c.requires.place).0
     (subst (λ i. IsSet i None c.args.slots.now c.lift.new.slots) (at g (goal.at.returns-clause-gone g c).After-slot_at-slot) c.lift.ensures.slots)

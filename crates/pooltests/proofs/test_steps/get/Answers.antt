@@ -1,7 +1,7 @@
 use Rattle.std.proofs.Common.{◌≡◌, ℕ, ◌<◌, Option, refl, ap, sym, ◌∙◌, subst, arith}
 use Rattle.atomic_table.specs.Table.{Me}
 use Rattle.keybits.specs.declared.shape.Shape.{Shape}
-use Rattle.slotcell.specs.Share.{Share}
+use Rattle.placecell.specs.Share.{Share}
 use Rattle.steplaws.specs.Calls.{is_hit}
 use Rattle.poolsteps.specs.declared.view.View.{View}
 use Rattle.pooltests.specs.declared.test_steps.TheConstants.{KEY}

@@ -1,17 +1,17 @@
 -- The place at each position of the shard is the one of the next index.
-use Rattle.std.proofs.Common.{◌≡◌, ℕ, ◌+◌, ◌*◌, ◌<◌, inr, sym, ap, ◌∙◌, subst, arith}
+use Rattle.std.proofs.Common.{◌≡◌, ℕ, ◌+◌, ◌*◌, ◌<◌, inr, refl, sym, ap, ◌∙◌, subst, arith}
 use Rattle.core.specs.Mem.Slots.{slots_items}
 use Rattle.keybits.specs.declared.step.Word.TheVariants.{Life}
 use Rattle.keybits.specs.Places.{shard_of}
 use Rattle.keybits.specs.Shapes.{all_places, index_of}
-use Rattle.poolsteps.specs.Layout.{words_in}
+use Rattle.poolsteps.specs.Layout.{words_in, spots_at, slot_row}
 use Rattle.poolsteps.specs.Joins.{HasCell, HasNoCell}
 use Rattle.shardpool.proofs.count.Marks.{read-word}
 use Rattle.shardpool.proofs.count.Counts.{position-below, at-position}
 use Rattle.shardpool.proofs.at_close.DroppedCells.{drains-none, drains-more, drains-all, cell-stays}
 use Rattle.shardpool.proofs.census.drop_cells.Given.{Over}
 use Rattle.shardpool.proofs.census.drop_cells.Goals as goal
-use Rattle.shardpool.proofs.census.drop_cells.Goals.{After-get-word}
+use Rattle.shardpool.proofs.census.drop_cells.Goals.{After-get-word, in-Some, in_default}
 
 -- the place of this round
 at : (g : Over) (c : After-get-word g) → (shard_of c.place_at-place.result ≡ c.args.shard) × (index_of c.args.shape.now c.place_at-place.result ≡ c.loop-index.index)
@@ -22,7 +22,10 @@ at g c =
     (c.place_at-place.ensures.position ∙ ap (λ (n : ℕ). shard * n + c.loop-index.index) same)
 
 pub loop-index-init : goal.loop-index-init
-loop-index-init g c = drains-none c.args.shape.now c.args.shard (words_in c.args.shape.now (slots_items c.args.words.now)).life c.args.slots.now c.requires.row
+loop-index-init g c = record {
+  drains = drains-none c.args.shape.now c.args.shard (words_in c.args.shape.now (slots_items c.args.words.now)).life c.args.slots.now c.requires.row;
+  objects = refl;
+}
 
 pub place_at-place-requires-clause-position : goal.place_at-place-requires-clause-position
 place_at-place-requires-clause-position g c =
@@ -36,9 +39,9 @@ drop_cell-requires-clause-cell g c =
     let inside = c.place_at-place.ensures.place in
     let here = at g (goal.at.drop_cell-requires-clause-cell g c).After-get-word in
     let word = read-word z c.requires.shape words c.requires.words (Life place) inside c.life_word.result c.get-word.result.now c.life_word.ensures.word c.get-word.ensures in
-    subst (HasCell z (slots_items c.loop-index.slots) place) (sym word)
+    subst (HasCell (spots_at c.args.directory.ptr z) z (slots_items c.loop-index.slots) place) (sym word)
     (cell-stays z (slots_items c.args.slots.now) (slots_items c.loop-index.slots) place ((words_in z (slots_items words)).life place) inside
-    (c.loop-index.invariant.kept place inside (inr (let is = here.1 in omega (arith, is)))) (c.requires.cells place inside here.0))
+    (c.loop-index.invariant.drains.kept place inside (inr (let is = here.1 in omega (arith, is)))) (c.requires.cells place inside here.0))
 
 pub loop-index-preserved : goal.loop-index-preserved
 loop-index-preserved g c =
@@ -46,11 +49,29 @@ loop-index-preserved g c =
     let inside = c.place_at-place.ensures.place in
     let here = at g (goal.at.loop-index-preserved g c).After-get-word in
     let word = read-word z c.requires.shape words c.requires.words (Life place) inside c.life_word.result c.get-word.result.now c.life_word.ensures.word c.get-word.ensures in
-    drains-more z c.requires.shape c.args.shard (words_in z (slots_items words)).life c.loop-index.index place c.args.slots.now c.loop-index.slots c.drop_cell.new.slots
-    inside here.0 here.1 c.loop-index.invariant c.drop_cell.ensures.drains (subst (HasNoCell z (slots_items c.drop_cell.new.slots) place) word c.drop_cell.ensures.gone)
+    record {
+      drains = drains-more z c.requires.shape c.args.shard (words_in z (slots_items words)).life c.loop-index.index place c.args.slots.now c.loop-index.slots c.drop_cell.new.slots
+          inside here.0 here.1 c.loop-index.invariant.drains c.drop_cell.ensures.drains (subst (HasNoCell z (slots_items c.drop_cell.new.slots) place) word c.drop_cell.ensures.gone);
+      objects = elim c.match-drop_cell.branch [
+        | in-Some w ↦ w.objects-is ∙ (w.retire.ensures ∙ c.loop-index.invariant.objects)
+        | in_default w ↦ w.objects-is ∙ c.loop-index.invariant.objects
+      ];
+    }
 
-pub returns : goal.returns
-returns g c =
+pub retire-requires-clause-start : goal.retire-requires-clause-start
+retire-requires-clause-start g c =
+    let low = c.slot_start.ensures.inside in
+    let wide : c.loop-index.objects.wide ≡ slot_row c.args.shape.now = (λ i. (c.loop-index.invariant.objects i).wide) ∙ c.requires.objects.1 in
+    omega (arith, low, wide)
+
+pub retire-requires-clause-spot : goal.retire-requires-clause-spot
+retire-requires-clause-spot g c =
+    let directory : c.loop-index.objects.directory ≡ c.args.directory.ptr = (λ i. (c.loop-index.invariant.objects i).directory) ∙ c.requires.objects.0 in
+    let start = c.slot_start.ensures.start in
+    c.in-Some.ensures.vacancy ∙ (λ i. record { directory = sym directory i; index = sym start i })
+
+pub returns-clause-drains : goal.returns-clause-drains
+returns-clause-drains g c =
     let over = c.loop-index-test.false in let same = c.shard_places-places.ensures in
     drains-all c.args.shape.now c.args.shard (words_in c.args.shape.now (slots_items c.args.words.now)).life c.args.slots.now c.loop-index.slots c.loop-index.index
-    (omega (arith, over, same)) c.loop-index.invariant
+    (omega (arith, over, same)) c.loop-index.invariant.drains

@@ -1,13 +1,17 @@
 -- Each round marks and counts the shard of one state more.
-use Rattle.std.proofs.Common.{rules, ◌≡◌, map, ◌<◌, ℕ, List, length, Some, sym, ap, ◌∙◌, subst, arith}
+use Rattle.std.proofs.Common.{rules, ◌≡◌, ◌+◌, [], ◌∷◌, ◌++◌, map, ◌<◌, ℕ, List, length, Some, sym, ap, ◌∙◌, subst, arith}
 use Rattle.std.specs.Prelude.{slice_get}
 use Rattle.std.specs.Vec.Iter.{into_iter_items}
+use Rattle.std.proofs.lemmas.List.Elements.{All-same, All-nil, All-push}
 use Rattle.std.proofs.lemmas.List.{nil_from_length, length_push}
+use Rattle.std.proofs.lemmas.Option.{slice_get_within}
 use Rattle.core.specs.Mem.Slots.{slots_items}
 use Rattle.keybits.specs.Places.{number_of}
+use Rattle.placerows.specs.Objects.{ObjectsOf}
+use Rattle.poolsteps.specs.Layout.{slot_row}
 use Rattle.shardpool.specs.Marks.{AreFreePlaces, returned_places, Counts}
 use Rattle.shardpool.proofs.count.Marks.{blanks-then}
-use Rattle.shardpool.proofs.count.Rounds.{SlotsSoFar, slots-so-far-none, returned-own, have-cells, slots-more, SoFar, so-far-none, so-far-counts, so-far-room, chain, threads, state-low, count-low, stand-now, so-far-more, all-gone, is-census, all-drained}
+use Rattle.shardpool.proofs.count.Rounds.{SlotsSoFar, slots-so-far-none, returned-own, have-cells, slots-more, SoFar, so-far-none, so-far-counts, so-far-room, chain, threads, state-low, count-low, stand-now, so-far-more, all-gone, is-census, all-drained, all-at}
 use Rattle.shardpool.proofs.at_close.ReturnedShares.{next-state, state-moves}
 use Rattle.shardpool.proofs.census.take_census.Given.{Over}
 use Rattle.shardpool.proofs.census.take_census.Goals as goal
@@ -19,6 +23,9 @@ loop-state-init g c = record {
       (so-far-none c.args.shape.now history lanes c.args.words.now c.requires.words);
   slots = λ history lanes last. slots-so-far-none c.args.shape.now history lanes c.args.slots.now c.requires.slots;
   states = c.into_iter-state-iterator.ensures.into_iter_gives.0;
+  rights = All-same (λ objects. objects.directory ≡ c.args.directory.ptr) c.args.rights.now.items [] c.requires.rights.0 (All-nil (λ objects. objects.directory ≡ c.args.directory.ptr));
+  kept = ap length c.requires.rights.0;
+  room = c.requires.rights.1;
   rest = search rules;
 }
 
@@ -69,6 +76,22 @@ drop_cells-requires-clause-cells g c =
     (returned-own z c.requires.shape q.0 q.1 states old c.requires.words q.2 (length before.yielded) c.in-Some.state here before.words before.census so_far c.mark_returned.new.words
     c.mark_returned.ensures) q.3 (before.invariant.slots q.0 q.1 q.2)
 
+-- its rights
+rights : (g : Over) (c : In-Some g) → (c.in-Some.state.objects.directory ≡ c.args.directory.ptr) × (c.in-Some.state.objects.wide ≡ slot_row c.args.shape.now)
+rights g c = all-at (λ state. (state.objects.directory ≡ c.args.directory.ptr) × (state.objects.wide ≡ slot_row c.args.shape.now)) c.args.states.items
+    (length c.loop-state.yielded) c.in-Some.state c.requires.objects (at g c)
+
+pub drop_cells-requires-clause-objects : goal.drop_cells-requires-clause-objects
+drop_cells-requires-clause-objects g c = rights g (goal.at.drop_cells-requires-clause-objects g c).In-Some
+
+pub push_reserved-requires : goal.push_reserved-requires
+push_reserved-requires g c =
+    let low = slice_get_within c.args.states.items (length c.loop-state.yielded) c.in-Some.state (at g (goal.at.push_reserved-requires g c).In-Some) in
+    let kept = c.loop-state.invariant.kept in
+    let room = c.loop-state.invariant.room in
+    let stand = c.loop-state.rights.ok.0 in
+    omega (arith, low, kept, room, stand)
+
 pub mark_list-requires-clause-row : goal.mark_list-requires-clause-row
 mark_list-requires-clause-row g c = let free = stands g (goal.at.mark_list-requires-clause-row g c).In-Some in (c.mark_returned.ensures free.0 free.1 free.2).row
 
@@ -107,10 +130,21 @@ loop-state-preserved g c =
           (slots-more z c.requires.shape history lanes states old c.requires.words last (length before.yielded) c.in-Some.state here before.words before.census so_far
           c.mark_returned.new.words
           (returned-own z c.requires.shape history lanes states old c.requires.words last (length before.yielded) c.in-Some.state here before.words before.census so_far
-          c.mark_returned.new.words c.mark_returned.ensures) (before.invariant.slots history lanes last) c.drop_cells.new.slots c.drop_cells.ensures);
+          c.mark_returned.new.words c.mark_returned.ensures) (before.invariant.slots history lanes last) c.drop_cells.new.slots c.drop_cells.ensures.drains);
       states = state-moves states before.yielded (into_iter_items before.state-iterator) (into_iter_items c.next.new.self) c.in-Some.state before.invariant.states c.in-Some.ensures.steps.0;
+      rights =
+          let P : ObjectsOf g.row.T.Denot → Type 0 = λ objects. objects.directory ≡ c.args.directory.ptr in
+          let of : P c.rights_of.result
+          = (λ i. (c.rights_of.ensures i).directory) ∙ ((λ i. (c.drop_cells.ensures.objects i).directory) ∙ (rights g (goal.at.loop-state-preserved g c).In-Some).0) in
+          All-same P c.push_reserved.new.self.items (before.rights.items ++ c.rights_of.result ∷ []) c.push_reserved.ensures.items (All-push P before.rights.items c.rights_of.result before.invariant.rights of);
+      kept = ap length c.push_reserved.ensures.items ∙ (length_push before.rights.items c.rights_of.result ∙ (ap (λ (n : ℕ). n + 1) before.invariant.kept
+          ∙ sym (length_push before.yielded c.in-Some.state)));
+      room = rw c.push_reserved.ensures.capacity before.invariant.room;
       rest = let was = before.invariant.rest in let gone = c.in-Some.ensures.steps.1 in let shorter = ap length c.in-Some.ensures.steps.0 in omega arith;
     }
+
+pub returns-clause-rights : goal.returns-clause-rights
+returns-clause-rights g c = c.loop-state.invariant.rights
 
 pub returns-clause-census : goal.returns-clause-census
 returns-clause-census g c = λ history lanes last.

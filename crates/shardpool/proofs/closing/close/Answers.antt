@@ -1,9 +1,9 @@
 -- The end of the table tells of all lanes, and the census counts by it.
-use Rattle.std.proofs.Common.{refl, sym, subst}
+use Rattle.std.proofs.Common.{refl, sym, subst, arith}
 use Rattle.poolsteps.specs.Rule.{World}
 use Rattle.shardpool.specs.Tokens.{PoolOf}
 use Rattle.shardpool.specs.Closings.{AreLanes}
-use Rattle.shardpool.proofs.at_close.GridEnd.{are-hands, ends-may, ends-last, ends-history, ends-cells}
+use Rattle.shardpool.proofs.at_close.GridEnd.{are-hands, are-objects, as-many, ends-may, ends-last, ends-history, ends-cells}
 use Rattle.shardpool.proofs.closing.close.Goals as goal
 
 pub end-closed-requires : goal.end-closed-requires
@@ -27,6 +27,18 @@ take_census-census-requires-clause-last g c =
       ends-last grid are c.take_apart-hands.ensures ends c.hand_back.ensures.states,
       ends-cells grid are c.take_apart-hands.ensures ends refl c.hand_back.ensures.slots,
     )
+
+pub take_census-census-requires-clause-objects : goal.take_census-census-requires-clause-objects
+take_census-census-requires-clause-objects g c =
+    let are = subst (λ (pool : PoolOf). AreLanes pool c.args.lanes.items) (sym c.pool.view_is) c.requires.lanes in
+    are-objects c.pool.inside.grid are c.take_apart-hands.ensures c.hand_back.new.states.items c.hand_back.ensures.states
+
+pub take_census-census-requires-clause-rights : goal.take_census-census-requires-clause-rights
+take_census-census-requires-clause-rights g c =
+    let are = subst (λ (pool : PoolOf). AreLanes pool c.args.lanes.items) (sym c.pool.view_is) c.requires.lanes in
+    let count = as-many c.pool.inside.grid are c.take_apart-hands.ensures c.hand_back.new.states.items c.hand_back.ensures.states in
+    let room = c.pool.invariant.3 in
+    (c.pool.invariant.2, omega (arith, count, room))
 
 pub returns-clause-closes : goal.returns-clause-closes
 returns-clause-closes g c =

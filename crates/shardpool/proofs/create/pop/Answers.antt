@@ -28,8 +28,8 @@ returns-clause-some g c =
     let content = g.T.Clear.content in
     let room = g.T.Clear.room in
     let new : LaneOf = lane_of c.lane.inside.hand.table_id c.lane.inside.hand.me.0 c.take_own.new.state in
-    subst (λ (lane : LaneOf). Pops content room lane new c.number.result c.in_ok-place.object) c.lane.view_is
-    (subst (λ (n : ℕ). Pops content room (lane_of c.lane.inside.hand.table_id c.lane.inside.hand.me.0 c.lane.inside.state) new n c.in_ok-place.object) (sym c.number.ensures)
+    subst (λ (lane : LaneOf). Pops content room lane new c.number.result c.in_ok-place.object.value) c.lane.view_is
+    (subst (λ (n : ℕ). Pops content room (lane_of c.lane.inside.hand.table_id c.lane.inside.hand.me.0 c.lane.inside.state) new n c.in_ok-place.object.value) (sym c.number.ensures)
     (popped c.lane.invariant.1 c.in_ok-place.ensures.0 c.lane.inside.hand.table_id))
 
 pub returns-clause-spot : goal.returns-clause-spot

@@ -1,10 +1,8 @@
 -- Each row of the shard gives back its share.
-use Rattle.std.proofs.Common.{◌≡◌, ◌+◌, ◌*◌, ◌<◌, ℕ, true, List, Option, Some, None, length, ap, sym, ◌∙◌, subst, arith, length-set}
+use Rattle.std.proofs.Common.{◌≡◌, ◌+◌, ◌*◌, ◌<◌, ℕ, true, None, length, ap, sym, ◌∙◌, subst, arith, length-set}
 use Rattle.std.specs.Prelude.{slice_get, slice_set}
-use Rattle.core.specs.declared.slots.Slots.{Slots}
 use Rattle.keybits.specs.declared.shape.Shape.{Shape}
 use Rattle.keybits.specs.Shapes.{is_place, position_of, shard_places}
-use Rattle.slotcell.specs.Share.{Share}
 use Rattle.poolsteps.specs.Layout.{slot_start, slot_row, slot_index, shard_start}
 use Rattle.poolsteps.proofs.SlotLemmas.{in-row, slot-below}
 use Rattle.shardpool.specs.declared.state.HeldKey.{HeldKey}

@@ -2,7 +2,7 @@
 use Rattle.std.proofs.Common.{◌≡◌, ◌+◌, ◌*◌, List, Option, length}
 use Rattle.core.specs.declared.slots.Slots.{Slots}
 use Rattle.keybits.specs.Shapes.{shard_places}
-use Rattle.slotcell.specs.Share.{Share}
+use Rattle.placecell.specs.Share.{Share}
 use Rattle.poolsteps.specs.Layout.{slot_row}
 use Rattle.poolsteps.specs.Joins.{IsSlotRow}
 use Rattle.shardpool.specs.declared.state.HeldKey.{HeldKey}

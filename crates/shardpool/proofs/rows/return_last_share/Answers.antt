@@ -1,14 +1,14 @@
 -- The share of the last reference goes back into its slot.
 use Rattle.std.proofs.Common.{◌≡◌, inl, ℕ, ◌<◌, length, Some, slice_get, sym, ap, ◌∙◌, subst, arith}
-use Rattle.poolsteps.specs.Layout.{slot_start}
+use Rattle.poolsteps.specs.Layout.{slot_start, spots_at}
 use Rattle.keybits.specs.Keys.{place_of, generation_of}
 use Rattle.sharelaws.specs.declared.stored.Status.TheVariants.{Untouched}
-use Rattle.slotcell.specs.Share.{Share}
+use Rattle.placecell.specs.Share.{Share}
 use Rattle.poolsteps.specs.Views.{the_lane, status_of, known_of}
 use Rattle.poolsteps.specs.Moved.{Backs}
 use Rattle.shardpool.specs.LaneStates.{IsHeld}
 use Rattle.shardpool.proofs.references.RowChanges.{row-lends}
-use Rattle.shardpool.proofs.calls.Releases.{LendsBack, row-low, lent-held, lent-back, lent-more}
+use Rattle.shardpool.proofs.calls.Releases.{LendsBack, row-low, lent-held, lent-stands, lent-back, lent-more}
 use Rattle.shardpool.proofs.rows.return_last_share.Given.{Over}
 use Rattle.shardpool.proofs.rows.return_last_share.Goals.{After-take_last_share}
 use Rattle.shardpool.proofs.rows.return_last_share.Goals as goal
@@ -20,6 +20,12 @@ module _ (g : Over) (c : After-take_last_share g) where
 
   held : (share : Share g.row.T.Denot) → c.take_last_share.result ≡ Some share → IsHeld g.T.Clear.content g.T.Clear.room c.args.grid.now.shape c.args.hand.now.me.0 (place_of c.args.key) (generation_of c.args.key) share
   held share is = lent-held c.args.state.now c.take_last_share.new.state c.args.key c.take_last_share.result c.requires.fits c.requires.held lends share is
+
+  -- it stands where its row does
+  stood : (share : Share g.row.T.Denot) → c.take_last_share.result ≡ Some share → share.spot ≡ spots_at c.args.grid.now.objects.ptr c.args.grid.now.shape c.args.spot.place
+  stood share is =
+      lent-stands c.args.state.now c.take_last_share.new.state c.args.key c.take_last_share.result c.requires.fits c.requires.held lends share is
+      ∙ (λ i. spots_at (c.requires.directory i) c.args.grid.now.shape (sym c.requires.spot.place_is i))
 
 pub take_last_share-requires-clause-at : goal.take_last_share-requires-clause-at
 take_last_share-requires-clause-at g c =
@@ -40,7 +46,7 @@ back-requires-clause-left g c =
 pub back-requires-clause-share : goal.back-requires-clause-share
 back-requires-clause-share g c =
     let h = held g (goal.at.back-requires-clause-share g c).After-take_last_share c.in-Some.share c.in-Some.is in
-    (h.number_is ∙ sym c.requires.fits.seat.number_is, h.of_is)
+    (h.number_is ∙ sym c.requires.fits.seat.number_is, h.of_is, stood g (goal.at.back-requires-clause-share g c).After-take_last_share c.in-Some.share c.in-Some.is)
 
 pub back-requires-clause-cell : goal.back-requires-clause-cell
 back-requires-clause-cell g c =
@@ -50,7 +56,7 @@ back-requires-clause-cell g c =
 pub returns-in-Some-clause-lends : goal.returns-in-Some-clause-lends
 returns-in-Some-clause-lends g c =
     lent-back c.args.state.now c.take_last_share.new.state c.args.key c.take_last_share.result c.requires.fits c.requires.held (lends g (goal.at.returns-in-Some-clause-lends g c).After-take_last_share) c.in-Some.share c.in-Some.is
-    (subst (λ (p : ℕ). Backs g.T.Clear.content g.T.Clear.room c.args.grid.now.shape p c.args.state.now.number Untouched c.args.hand.now.me c.in-Some.share c.back.new.hand.me)
+    (subst (λ (p : ℕ). Backs g.T.Clear.content g.T.Clear.room (spots_at c.args.grid.now.objects.ptr c.args.grid.now.shape) c.args.grid.now.shape p c.args.state.now.number Untouched c.args.hand.now.me c.in-Some.share c.back.new.hand.me)
     c.requires.spot.place_is c.back.ensures.backs)
 
 pub returns-in_default-clause-lends : goal.returns-in_default-clause-lends

@@ -3,8 +3,8 @@ use Rattle.std.proofs.Common.{arith}
 use Rattle.keybits.proofs.ShapeLemmas.{index_of-lt}
 use Rattle.shardpool.proofs.stores.keep.Goals as goal
 
-pub index_mut-requires : goal.index_mut-requires
-index_mut-requires g c =
+pub keep-requires-clause-index : goal.keep-requires-clause-index
+keep-requires-clause-index g c =
     let low = index_of-lt c.args.state.now.shape c.args.place c.requires.place in
     let is = c.requires.index in
     let narrow = c.requires.narrow in

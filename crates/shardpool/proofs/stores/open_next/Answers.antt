@@ -1,15 +1,17 @@
 -- Each round of the loop puts one slot more on the list.
-use Rattle.std.proofs.Common.{rules, ◌≡◌, ℕ, List, [], length, sym, ap, ◌∙◌, subst, arith}
+use Rattle.std.proofs.Common.{rules, ◌≡◌, ℕ, true, Some, List, [], length, slice_get, sym, ap, ◌∙◌, subst, arith}
 use Rattle.std.specs.List.{All}
 use Rattle.std.specs.Vec.Iter.{into_iter_items}
 use Rattle.std.proofs.lemmas.List.{nil_from_length}
 use Rattle.keybits.specs.declared.shape.Shape.{Shape}
 use Rattle.keybits.specs.Places.{place_at}
-use Rattle.keybits.specs.Shapes.{IsShape, is_place, shard_places}
+use Rattle.keybits.specs.Shapes.{IsShape, is_place, shard_places, index_of}
+use Rattle.std.specs.declared.alloc.Global.{Global}
+use Rattle.std_alloc.specs.declared.boxed.Box.{Box}
 use Rattle.freelists.specs.Queues.{IsAway}
 use Rattle.freelists.specs.Shards.{place_numbered}
 use Rattle.shardpool.specs.Stores.{KeepsOwn}
-use Rattle.shardpool.proofs.free.Pages.{MayOpen, OpensSlots, page-opened, none-on, all-on, one-on, same-number, same-shape, low-shard, small-slot, slot-is, inside, slot-away}
+use Rattle.shardpool.proofs.free.Pages.{MayOpen, OpensSlots, page-opened, none-on, all-on, one-on, same-number, same-shape, low-shard, small-slot, slot-is, inside, shard-is, page-is, slot-away}
 use Rattle.shardpool.proofs.stores.open_next.Goals as goal
 
 pub loop-object-init : goal.loop-object-init
@@ -22,8 +24,8 @@ loop-object-init g c =
     let pages = page-opened c.open_next.result old.pages c.open_next.new.self c.open_next.ensures.some.1 c.open_next.ensures.lowest c.open_next.ensures.opened (omega (arith, paged, low)) in
     record {
       on = none-on content g.T.Clear.room old c.open_next.new.self (into_iter_items c.into_iter-object-iterator.result) c.requires.own pages c.requires.narrow
-          (ap (λ (xs : List g.row.T.Denot). length xs) gives.0 ∙ c.requires.count)
-          (subst (λ (xs : List g.row.T.Denot). All (λ object. content object ≡ []) xs) (sym gives.0) c.requires.empty);
+          (ap (λ (xs : List (Box g.row.T.Denot Global)). length xs) gives.0 ∙ c.requires.count)
+          (subst (λ (xs : List (Box g.row.T.Denot Global)). All (λ object. content object.value ≡ []) xs) (sym gives.0) c.requires.empty);
       rest = search rules;
     }
 
@@ -41,7 +43,7 @@ overflow_cast-place g c =
       chain = c.requires.chain;
     } in
     let now = c.loop-object.state in
-    let on = subst (λ (left : List g.row.T.Denot). OpensSlots content room old left now) c.in-Some.ensures.steps.0 c.loop-object.invariant.on in
+    let on = subst (λ (left : List (Box g.row.T.Denot Global)). OpensSlots content room old left now) c.in-Some.ensures.steps.0 c.loop-object.invariant.on in
     let same = same-number content room old may now on in
     let low = low-shard content room old may now on in
     omega (arith, same, low)
@@ -60,7 +62,7 @@ number-number-requires-clause-slot g c =
       chain = c.requires.chain;
     } in
     let now = c.loop-object.state in
-    let on = subst (λ (left : List g.row.T.Denot). OpensSlots content room old left now) c.in-Some.ensures.steps.0 c.loop-object.invariant.on in
+    let on = subst (λ (left : List (Box g.row.T.Denot Global)). OpensSlots content room old left now) c.in-Some.ensures.steps.0 c.loop-object.invariant.on in
     let slot = c.len.ensures.len ∙ slot-is content room old may now on in
     let small = small-slot content room old may now on in
     omega (arith, slot, small)
@@ -79,7 +81,7 @@ index-index-requires-clause-shape g c =
       chain = c.requires.chain;
     } in
     let now = c.loop-object.state in
-    let on = subst (λ (left : List g.row.T.Denot). OpensSlots content room old left now) c.in-Some.ensures.steps.0 c.loop-object.invariant.on in
+    let on = subst (λ (left : List (Box g.row.T.Denot Global)). OpensSlots content room old left now) c.in-Some.ensures.steps.0 c.loop-object.invariant.on in
     subst IsShape (sym (same-shape content room old may now on)) c.requires.shape
 
 pub index-index-requires-clause-place : goal.index-index-requires-clause-place
@@ -96,14 +98,14 @@ index-index-requires-clause-place g c =
       chain = c.requires.chain;
     } in
     let now = c.loop-object.state in
-    let on = subst (λ (left : List g.row.T.Denot). OpensSlots content room old left now) c.in-Some.ensures.steps.0 c.loop-object.invariant.on in
+    let on = subst (λ (left : List (Box g.row.T.Denot Global)). OpensSlots content room old left now) c.in-Some.ensures.steps.0 c.loop-object.invariant.on in
     let at : c.number-number.result ≡ place_at old.number old.pages.opened on.slots
     = c.number-number.ensures ∙ (λ i. place_at (same-number content room old may now on i) (c.opened-page.ensures.opened i) ((c.len.ensures.len ∙ slot-is content room old may now on) i)) in
     ap (λ (n : ℕ). is_place now.shape n) at ∙ (ap (λ (z : Shape). is_place z (place_at old.number old.pages.opened on.slots)) (same-shape content room old may now on)
     ∙ inside content room old may now on)
 
-pub keep-requires-clause-shape : goal.keep-requires-clause-shape
-keep-requires-clause-shape g c =
+pub list-requires-clause-shape : goal.list-requires-clause-shape
+list-requires-clause-shape g c =
     let old = c.args.state.now in
     let content = g.T.Clear.content in
     let room = g.T.Clear.room in
@@ -116,11 +118,11 @@ keep-requires-clause-shape g c =
       chain = c.requires.chain;
     } in
     let now = c.loop-object.state in
-    let on = subst (λ (left : List g.row.T.Denot). OpensSlots content room old left now) c.in-Some.ensures.steps.0 c.loop-object.invariant.on in
+    let on = subst (λ (left : List (Box g.row.T.Denot Global)). OpensSlots content room old left now) c.in-Some.ensures.steps.0 c.loop-object.invariant.on in
     subst IsShape (sym (same-shape content room old may now on)) c.requires.shape
 
-pub keep-requires-clause-place : goal.keep-requires-clause-place
-keep-requires-clause-place g c =
+pub list-requires-clause-place : goal.list-requires-clause-place
+list-requires-clause-place g c =
     let old = c.args.state.now in
     let content = g.T.Clear.content in
     let room = g.T.Clear.room in
@@ -133,14 +135,14 @@ keep-requires-clause-place g c =
       chain = c.requires.chain;
     } in
     let now = c.loop-object.state in
-    let on = subst (λ (left : List g.row.T.Denot). OpensSlots content room old left now) c.in-Some.ensures.steps.0 c.loop-object.invariant.on in
+    let on = subst (λ (left : List (Box g.row.T.Denot Global)). OpensSlots content room old left now) c.in-Some.ensures.steps.0 c.loop-object.invariant.on in
     let at : c.number-number.result ≡ place_at old.number old.pages.opened on.slots
     = c.number-number.ensures ∙ (λ i. place_at (same-number content room old may now on i) (c.opened-page.ensures.opened i) ((c.len.ensures.len ∙ slot-is content room old may now on) i)) in
     ap (λ (n : ℕ). is_place now.shape n) at ∙ (ap (λ (z : Shape). is_place z (place_at old.number old.pages.opened on.slots)) (same-shape content room old may now on)
     ∙ inside content room old may now on)
 
-pub keep-requires-clause-narrow : goal.keep-requires-clause-narrow
-keep-requires-clause-narrow g c =
+pub list-requires-clause-narrow : goal.list-requires-clause-narrow
+list-requires-clause-narrow g c =
     let old = c.args.state.now in
     let content = g.T.Clear.content in
     let room = g.T.Clear.room in
@@ -153,11 +155,11 @@ keep-requires-clause-narrow g c =
       chain = c.requires.chain;
     } in
     let now = c.loop-object.state in
-    let on = subst (λ (left : List g.row.T.Denot). OpensSlots content room old left now) c.in-Some.ensures.steps.0 c.loop-object.invariant.on in
+    let on = subst (λ (left : List (Box g.row.T.Denot Global)). OpensSlots content room old left now) c.in-Some.ensures.steps.0 c.loop-object.invariant.on in
     on.narrow ∙ ap shard_places (sym (same-shape content room old may now on))
 
-pub keep-requires-clause-away : goal.keep-requires-clause-away
-keep-requires-clause-away g c =
+pub list-requires-clause-away : goal.list-requires-clause-away
+list-requires-clause-away g c =
     let old = c.args.state.now in
     let content = g.T.Clear.content in
     let room = g.T.Clear.room in
@@ -170,10 +172,33 @@ keep-requires-clause-away g c =
       chain = c.requires.chain;
     } in
     let now = c.loop-object.state in
-    let on = subst (λ (left : List g.row.T.Denot). OpensSlots content room old left now) c.in-Some.ensures.steps.0 c.loop-object.invariant.on in
+    let on = subst (λ (left : List (Box g.row.T.Denot Global)). OpensSlots content room old left now) c.in-Some.ensures.steps.0 c.loop-object.invariant.on in
     let at : c.number-number.result ≡ place_at old.number old.pages.opened on.slots
     = c.number-number.ensures ∙ (λ i. place_at (same-number content room old may now on i) (c.opened-page.ensures.opened i) ((c.len.ensures.len ∙ slot-is content room old may now on) i)) in
     subst (λ (n : ℕ). IsAway now.free (place_numbered n)) (sym at) (slot-away content room old may now on)
+
+pub list-requires-clause-right : goal.list-requires-clause-right
+list-requires-clause-right g c =
+    let old = c.args.state.now in
+    let content = g.T.Clear.content in
+    let room = g.T.Clear.room in
+    let may : MayOpen old = record {
+      shape = c.requires.shape;
+      lane = c.requires.lane;
+      shard = c.requires.lists.0;
+      list = c.requires.lists.1;
+      unopened = c.requires.unopened;
+      chain = c.requires.chain;
+    } in
+    let now = c.loop-object.state in
+    let on = subst (λ (left : List (Box g.row.T.Denot Global)). OpensSlots content room old left now) c.in-Some.ensures.steps.0 c.loop-object.invariant.on in
+    let at : c.number-number.result ≡ place_at old.number old.pages.opened on.slots
+    = c.number-number.ensures ∙ (λ i. place_at (same-number content room old may now on i) (c.opened-page.ensures.opened i) ((c.len.ensures.len ∙ slot-is content room old may now on) i)) in
+    let index : c.index-index.result ≡ index_of old.shape (place_at old.number old.pages.opened on.slots)
+    = c.index-index.ensures.index ∙ (λ i. index_of (same-shape content room old may now on i) (at i)) in
+    subst (λ (n : ℕ). slice_get now.objects.rights n ≡ Some true) (sym index)
+    (on.rights (index_of old.shape (place_at old.number old.pages.opened on.slots))
+    (c.requires.rights (place_at old.number old.pages.opened on.slots) (inside content room old may now on) (shard-is content room old may now on) (page-is content room old may now on)))
 
 pub loop-object-preserved : goal.loop-object-preserved
 loop-object-preserved g c =
@@ -189,11 +214,11 @@ loop-object-preserved g c =
       chain = c.requires.chain;
     } in
     let now = c.loop-object.state in
-    let on = subst (λ (left : List g.row.T.Denot). OpensSlots content room old left now) c.in-Some.ensures.steps.0 c.loop-object.invariant.on in
+    let on = subst (λ (left : List (Box g.row.T.Denot Global)). OpensSlots content room old left now) c.in-Some.ensures.steps.0 c.loop-object.invariant.on in
     let at : c.number-number.result ≡ place_at old.number old.pages.opened on.slots
     = c.number-number.ensures ∙ (λ i. place_at (same-number content room old may now on i) (c.opened-page.ensures.opened i) ((c.len.ensures.len ∙ slot-is content room old may now on) i)) in
     record {
-      on = one-on content room old may now on c.keep.new.state (subst (λ (n : ℕ). KeepsOwn n c.in-Some.object now c.keep.new.state) at c.keep.ensures);
+      on = one-on content room old may now on c.list.new.state (subst (λ (n : ℕ). KeepsOwn n c.in-Some.object.value now c.list.new.state) at c.list.ensures);
       rest = let was = c.loop-object.invariant.rest in let gone = c.in-Some.ensures.steps.1 in let shorter = ap length c.in-Some.ensures.steps.0 in omega arith;
     }
 
@@ -204,4 +229,4 @@ returns g c =
     let room = g.T.Clear.room in
     let last = c.loop-object in
     let none : into_iter_items last.object-iterator ≡ [] = nil_from_length (into_iter_items last.object-iterator) (sym last.invariant.rest ∙ c.in-None.ensures.steps.0) in
-    all-on content room old last.state (subst (λ (left : List g.row.T.Denot). OpensSlots content room old left last.state) none last.invariant.on)
+    all-on content room old last.state (subst (λ (left : List (Box g.row.T.Denot Global)). OpensSlots content room old left last.state) none last.invariant.on)

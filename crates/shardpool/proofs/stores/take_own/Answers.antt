@@ -1,6 +1,6 @@
-use Rattle.std.proofs.Common.{rules, ◌≡◌, ◌<◌, ℕ, true, Some, None, refl, sym, ap, ◌∙◌, subst, length}
+use Rattle.std.proofs.Common.{◌≡◌, ◌<◌, ℕ, true, Some, None, refl, sym, ap, ◌∙◌, subst, length}
 use Rattle.std.specs.Prelude.{slice_get, slice_set}
-use Rattle.std.proofs.lemmas.Option.{slice_get_within, get_or_from_slice_get}
+use Rattle.std.proofs.lemmas.Option.{slice_get_within}
 use Rattle.keybits.specs.declared.shape.Shape.{Shape}
 use Rattle.keybits.specs.declared.place.Place.{Place}
 use Rattle.keybits.specs.Places.{shard_of, number_of}
@@ -56,32 +56,28 @@ index-index-requires g c = (
   stands g (goal.at.index-index-requires g c).After-start-start,
 )
 
-pub index_mut-requires : goal.index_mut-requires
-index_mut-requires g c =
+pub take-requires : goal.take-requires
+take-requires g c =
     let old = c.args.state.now in let p = c.in_ok-place.place in
     let stood = c.requires.objects p (first-in p c.pop.new.self.own old.free.own c.in_ok-place.ensures.first) in
-    let low = subst (λ n. n < length old.objects.items) (sym (index g (goal.at.index_mut-requires g c).After-index-index (shard g (goal.at.index_mut-requires g c).After-number) (stands g (goal.at.index_mut-requires g c).After-start-start))) (slice_get_within old.objects.items _ _ stood.1) in
-    search (rules, low)
+    subst (λ n. n < length old.objects.items) (sym (index g (goal.at.take-requires g c).After-index-index (shard g (goal.at.take-requires g c).After-number) (stands g (goal.at.take-requires g c).After-start-start))) (slice_get_within old.objects.items _ _ stood.1)
 
 pub unreachable-requires : goal.unreachable-requires
 unreachable-requires g c =
     let old = c.args.state.now in let p = c.in_ok-place.place in
     let stood = c.requires.objects p (first-in p c.pop.new.self.own old.free.own c.in_ok-place.ensures.first) in
     let there = subst (λ n. slice_get old.objects.items n ≡ Some (Some stood.0)) (sym (index g (goal.at.unreachable-requires g c).After-index-index (shard g (goal.at.unreachable-requires g c).After-number) (stands g (goal.at.unreachable-requires g c).After-start-start))) stood.1 in
-    let bad = sym c.in-None.is ∙ (c.take.ensures.value ∙ (c.index_mut.ensures.value ∙ get_or_from_slice_get old.objects.items c.index-index.result (Some stood.0) c.index_mut.result.now there)) in
+    let bad = sym (c.in-None.ensures.none refl) ∙ there in
     cc bad
 
 pub returns : goal.returns
 returns g c =
     let old = c.args.state.now in let p = c.in_ok-place.place in let e = c.in_ok-place.ensures in
-    let stood = c.requires.objects p (first-in p c.pop.new.self.own old.free.own e.first) in
-    let at = index g (goal.at.returns g c).After-index-index (shard g (goal.at.returns g c).After-number) (stands g (goal.at.returns g c).After-start-start) in
-    let there = subst (λ n. slice_get old.objects.items n ≡ Some (Some stood.0)) (sym at) stood.1 in
-    let same = sym (get_or_from_slice_get old.objects.items c.index-index.result (Some stood.0) c.index_mut.result.now there) ∙ (sym c.index_mut.ensures.value ∙ (sym c.take.ensures.value ∙ c.in-Some.is)) in (
+    let at = index g (goal.at.returns g c).After-index-index (shard g (goal.at.returns g c).After-number) (stands g (goal.at.returns g c).After-start-start) in (
       record {
         list = e.first;
-        stood = stood.1 ∙ ap Some same;
-        objects = ap (λ x. slice_set old.objects.items c.index-index.result x) c.take.ensures.after ∙ ap (λ i. slice_set old.objects.items i None) at;
+        stood = subst (λ n. slice_get old.objects.items n ≡ Some (Some c.in-Some.object.value)) at c.in-Some.ensures.some;
+        objects = c.in-Some.ensures.objects ∙ ap (λ i. record old.objects { items = slice_set old.objects.items i None }) at;
         away = e.away;
         free = e.places;
         own = e.rest;

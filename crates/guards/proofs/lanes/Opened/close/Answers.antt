@@ -9,7 +9,7 @@ use Rattle.guards.proofs.lanes.Opened.close.Goals as goal
 pub close-requires : goal.close-requires
 close-requires g c =
     let opened = c.args.self in record {
-      lanes = subst (λ (pool : PoolOf). AreLanes pool c.into_row.result.items) (same-pool opened.lanes.pool opened.pool opened.table opened.shape) c.into_row.ensures.lanes;
+      lanes = subst (λ (pool : PoolOf). AreLanes pool c.into_row.result.items) (same-pool opened.lanes.pool opened.pool opened.table opened.directory opened.shape) c.into_row.ensures.lanes;
     }
 
 pub returns-in-Some-clause-all : goal.returns-in-Some-clause-all

@@ -17,7 +17,7 @@ invariant_of-self-in-Ok c =
     let was : AreMade c.deref_mut.result.now old = subst (λ (l : LaneOf). AreMade l old) (sym c.deref_mut.ensures.value) before.made in
     let own : P kept = subst (λ (f : FillingOf ByteBuf). Made lane f) (sym c.new.ensures.0) did.gives.made in
     record {
-      owned = (did.owns.0 ∙ search rules, did.owns.1 ∙ search rules);
+      owned = (did.owns.0 ∙ search rules, did.owns.1 ∙ search rules, did.owns.2 ∙ search rules);
       made = subst (AreMade lane) (sym c.keep.ensures) (All-push P old kept (λ k d low. did.fillings (slice_index_or old k d).filling (was k d low)) own);
       empty = before.empty;
     }

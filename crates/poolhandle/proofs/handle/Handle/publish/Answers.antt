@@ -12,7 +12,7 @@ invariant_of-self-2 c =
     let did = c.publish.ensures in let token = c.into_content-filling.ensures.token in
     let made : AreMade c.deref_mut.result.now rest = subst (λ (lane : LaneOf). AreMade lane rest) (sym c.deref_mut.ensures.value) (made-taken before.lane.value old rest kept c.take.ensures.rest before.made) in
     record {
-      owned = (did.owns.0 ∙ search rules, did.owns.1 ∙ search rules);
+      owned = (did.owns.0 ∙ search rules, did.owns.1 ∙ search rules, did.owns.2 ∙ search rules);
       made = λ k d low. did.fillings (slice_index_or rest k d).filling (λ same. c.take.ensures.apart k d low (same ∙ token.1)) (made k d low);
       empty = before.empty;
     }

@@ -1,6 +1,7 @@
+use Rattle.poolsteps.specs.Layout.{spots_at}
 use Rattle.std.proofs.Common.{refl, ap, sym, ◌∙◌, subst, arith}
 use Rattle.keybits.specs.declared.shape.Shape.{Shape}
-use Rattle.slotcell.specs.Rest.{lowest_share}
+use Rattle.placecell.specs.Rest.{lowest_share}
 use Rattle.sharelaws.specs.declared.stored.Stored.{Stored}
 use Rattle.sharelaws.specs.declared.stored.Status.TheVariants.{Untouched}
 use Rattle.poolsteps.specs.Views.{the_lane, status_of, IsOne}
@@ -14,7 +15,7 @@ use Rattle.poolsteps.proofs.grid.Grid.back_all.Goals as goal
 
 pub lift_all-requires : goal.lift_all-requires
 lift_all-requires g c = record {
-  aim = (refl {a = c.args.self.now.shape}, refl {a = c.args.spot.place}, falling-order c.args.self.now.shape, λ bad. cc bad);
+  aim = (refl {a = c.args.self.now.shape}, refl {a = c.args.self.now.objects.ptr}, refl {a = c.args.spot.place}, falling-order c.args.self.now.shape, λ bad. cc bad);
   hand = c.requires.hand;
   spot = c.requires.spot;
   lane = c.requires.lane;
@@ -28,7 +29,7 @@ put_all-requires g c =
       hand = c.lift_all.ensures.hand.0 ∙ c.requires.hand.0;
       spot = c.requires.spot;
       held = (lifts.values, lifts.held);
-      rest = record { number_is = c.requires.rest.0; of_is = c.requires.rest.1; cell_is = refl };
+      rest = record { number_is = c.requires.rest.0; of_is = c.requires.rest.1; spot_is = c.requires.rest.2; cell_is = refl };
     }
 
 pub lay_all-requires : goal.lay_all-requires
@@ -40,16 +41,16 @@ lay_all-requires g c =
     let book = sym put.hand.1 in
     let values = put.held.0 in
     let stored = ap (λ xs. stored_held g.T.Clear.content g.T.Clear.room (first_value xs)) put.held.2
-    ∙ first-stored g.T.Clear.content g.T.Clear.room z (stored_of g.T.Clear.content g.T.Clear.room (lowest_share c.args.rest)) c.args.spot.place z.lanes (falling z) values
+    ∙ first-stored g.T.Clear.content g.T.Clear.room (spots_at c.args.self.now.objects.ptr c.args.self.now.shape) z (stored_of g.T.Clear.content g.T.Clear.room (lowest_share c.args.rest)) c.args.spot.place z.lanes (falling z) values
     put.held.1 some (omega (arith, some)) in
     record {
-      aim = (refl {a = z}, refl {a = c.args.spot.place}, falling-order z);
+      aim = (refl {a = z}, refl {a = c.args.self.now.objects.ptr}, refl {a = c.args.spot.place}, falling-order z);
       hand = (put.hand.0.0 ∙ (c.lift_all.ensures.hand.0 ∙ c.requires.hand.0), subst (λ v. IsOne v) book lifts.goes.goes.lanes);
       spot = c.requires.spot;
       lane = c.requires.lane;
       place = subst (λ v. HasPlace z v c.args.spot.place) book (all-place lifts.goes c.requires.place);
       left = λ number below. ap (λ v. status_of (the_lane v) c.args.spot.place number) put.hand.1 ∙ lifts.goes.leaves.here number below;
-      values = (values, subst (λ (x : Stored). AreLeft g.T.Clear.content g.T.Clear.room z Untouched x values) (sym stored) put.held.1, put.held.2);
+      values = (values, subst (λ (x : Stored). AreLeft g.T.Clear.content g.T.Clear.room (spots_at c.args.self.now.objects.ptr c.args.self.now.shape) c.args.spot.place z Untouched x values) (sym stored) put.held.1, put.held.2);
     }
 
 pub returns-clause-hand : goal.returns-clause-hand
@@ -67,7 +68,7 @@ returns-clause-backs g c =
     let values = put.held.0 in
     let cell : Stored = stored_of g.T.Clear.content g.T.Clear.room (lowest_share c.args.rest) in
     let stored = ap (λ xs. stored_held g.T.Clear.content g.T.Clear.room (first_value xs)) put.held.2
-    ∙ first-stored g.T.Clear.content g.T.Clear.room z cell c.args.spot.place z.lanes (falling z) values put.held.1 some (omega (arith, some)) in
+    ∙ first-stored g.T.Clear.content g.T.Clear.room (spots_at c.args.self.now.objects.ptr c.args.self.now.shape) z cell c.args.spot.place z.lanes (falling z) values put.held.1 some (omega (arith, some)) in
     let laid = c.lay_all.ensures.lays in
     let same = subst (λ (x : Stored). GoesAll z c.args.spot.place Untouched x 1 c.put_all.new.hand.me.0 c.lay_all.new.hand.me.0) stored laid.goes in
     record {

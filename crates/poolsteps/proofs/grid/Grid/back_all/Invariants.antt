@@ -1,4 +1,4 @@
-use Rattle.slotcell.specs.Rest.{lowest_share}
+use Rattle.placecell.specs.Rest.{lowest_share}
 use Rattle.sharelaws.specs.declared.stored.Status.TheVariants.{Untouched, Emptied}
 use Rattle.sharelaws.specs.Shares.{nothing_stored}
 use Rattle.poolsteps.specs.Moved.{stored_of}
@@ -8,11 +8,12 @@ use Rattle.poolsteps.proofs.grid.Grid.back_all.Given as goal
 
 -- the slots are taken empty
 abbrev pub ghosts-lift_all : goal.ghosts-lift_all
-ghosts-lift_all g a = record { shape = a.self.now.shape; place = a.spot.place; order = falling a.self.now.shape; status = Emptied; stored = nothing_stored }
+ghosts-lift_all g a = record { shape = a.self.now.shape; directory = a.self.now.objects.ptr; place = a.spot.place; order = falling a.self.now.shape; status = Emptied; stored = nothing_stored }
 
 abbrev pub ghosts-put_all : goal.ghosts-put_all
 ghosts-put_all g a = record {
   shape = a.self.now.shape;
+  directory = a.self.now.objects.ptr;
   place = a.spot.place;
   order = falling a.self.now.shape;
   status = Untouched;
@@ -23,6 +24,7 @@ ghosts-put_all g a = record {
 abbrev pub ghosts-lay_all : goal.ghosts-lay_all
 ghosts-lay_all g a = record {
   shape = a.self.now.shape;
+  directory = a.self.now.objects.ptr;
   place = a.spot.place;
   order = falling a.self.now.shape;
   status = Untouched;

@@ -9,7 +9,7 @@ back_as-requires g c = record {
   lanes = (c.requires.lane, rw c.shard_of.ensures (is_place-parts c.args.self.now.shape c.args.spot.place c.requires.spot.inside).0);
   may = rw c.shard_of.ensures c.requires.may;
   left = rw c.shard_of.ensures c.requires.left;
-  share = record { cell = refl; number_is = c.requires.share.0; of_is = c.requires.share.1; content_is = refl; room_is = refl };
+  share = record { cell = refl; number_is = c.requires.share.0; of_is = c.requires.share.1; spot_is = c.requires.share.2; content_is = refl; room_is = refl };
   cell = rw c.shard_of.ensures c.requires.cell;
 }
 

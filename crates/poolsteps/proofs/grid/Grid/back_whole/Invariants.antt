@@ -4,4 +4,4 @@ use Rattle.poolsteps.proofs.grid.Grid.back_whole.Given as goal
 
 -- how the lane leaves the slot
 abbrev pub ghosts-back_as : goal.ghosts-back_as
-ghosts-back_as g a = record { shape = a.self.now.shape; place = a.spot.place; number = a.number; status = Whole; stored = nothing_stored }
+ghosts-back_as g a = record { shape = a.self.now.shape; directory = a.self.now.objects.ptr; place = a.spot.place; number = a.number; status = Whole; stored = nothing_stored }

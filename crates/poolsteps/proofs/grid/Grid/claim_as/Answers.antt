@@ -1,3 +1,4 @@
+use Rattle.poolsteps.specs.Layout.{spots_at}
 use Rattle.std.proofs.Common.{◌≡◌, ◌==◌, ℕ, subst}
 use prog.Atomic.{either}
 use Rattle.keybits.specs.declared.shape.Shape.{Shape}
@@ -15,6 +16,7 @@ pub compare_exchange-requires : goal.compare_exchange-requires
 compare_exchange-requires g c =
     let content = g.T.Clear.content in
     let room = g.T.Clear.room in
+    let spots = spots_at c.args.self.now.objects.ptr c.args.self.now.shape in
     let grid = c.args.self.now in
     let z : Shape = grid.shape in
     let hand = c.args.hand.now in
@@ -25,10 +27,10 @@ compare_exchange-requires g c =
     let old : c.claimable-old.result ≡ claimable generation = c.claimable-old.ensures in (
       asked.hand.0,
       rw (life-at asked.spot, grid.sized) (index-below z grid.checked (Life place) asked.spot.inside),
-      rw (asked.aim, life-at asked.spot, old, asked.owes, grid.shape_is)
-          (life-allows content room z grid.table.shared.table_id.slots hand.id hand.me asked.hand.1 place asked.spot.inside
+      rw (asked.aim, life-at asked.spot, old, asked.owes, grid.board_is)
+          (life-allows content room spots z grid.table.shared.table_id.slots hand.id hand.me asked.hand.1 place asked.spot.inside
           (λ word. either (word == claimable generation) new word) (Claims z place generation hand.me)
-          (λ words w slots point at small. claim-makes content room z words w slots point hand.me place generation new at asked.spot.inside asked.owes
+          (λ words w slots point at small. claim-makes content room spots z words w slots point hand.me place generation new at asked.spot.inside asked.owes
           (claim-given z.last_generation generation c.claimable-old.result new old c.claimed-new.ensures.step))),
     )
 

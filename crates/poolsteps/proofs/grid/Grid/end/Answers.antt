@@ -1,3 +1,4 @@
+use Rattle.poolsteps.specs.Layout.{spots_at}
 -- Each round of the loop takes in one hand more.
 use Rattle.std.proofs.Common.{rules, ◌≡◌, [], length, ap, ◌∙◌, sym, arith}
 use Rattle.std.specs.Mem.Slots.{slots_items}
@@ -46,7 +47,7 @@ returns-clause-world g c =
     nil_from_length (into_iter_items last.hand-iterator) (sym last.invariant.1 ∙ c.in-None.ensures.steps.0) in
     ends c.args.self c.args.hands.items c.requires g.T.Clear.content g.T.Clear.room last.all (into_iter_items last.hand-iterator)
     (slots_items c.close_with.result.words) (slots_items c.close_with.result.slots) last.invariant.0 none
-    (rw c.args.self.shape_is at c.close_with.ensures.values.2)
+    (rw c.args.self.board_is at c.close_with.ensures.values.2)
 
 pub returns-clause-words : goal.returns-clause-words
 returns-clause-words g c = (c.close_with.ensures.values.0, c.close_with.ensures.counts.0 ∙ c.args.self.sized)

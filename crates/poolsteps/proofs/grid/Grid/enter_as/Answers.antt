@@ -1,3 +1,4 @@
+use Rattle.poolsteps.specs.Layout.{spots_at}
 use Rattle.std.proofs.Common.{ℕ, ◌+◌, ◌%◌, ◌^◌}
 use Rattle.keybits.specs.declared.shape.Shape.{Shape}
 use Rattle.keybits.specs.declared.step.Word.TheVariants.{Life}
@@ -13,6 +14,7 @@ pub fetch_add-requires : goal.fetch_add-requires
 fetch_add-requires g c =
     let content = g.T.Clear.content in
     let room = g.T.Clear.room in
+    let spots = spots_at c.args.self.now.objects.ptr c.args.self.now.shape in
     let grid = c.args.self.now in
     let z : Shape = grid.shape in
     let hand = c.args.hand.now in
@@ -20,8 +22,8 @@ fetch_add-requires g c =
     let asked = c.requires in (
       asked.hand.0,
       rw (life-at asked.spot, grid.sized) (index-below z grid.checked (Life (place_of key)) asked.spot.inside),
-      rw (asked.aim.0, asked.aim.1, asked.aim.2, life-at asked.spot, grid.shape_is)
-          (life-allows content room z grid.table.shared.table_id.slots hand.id hand.me asked.hand.1 (place_of key) asked.spot.inside
+      rw (asked.aim.0, asked.aim.1, asked.aim.2, life-at asked.spot, grid.board_is)
+          (life-allows content room spots z grid.table.shared.table_id.slots hand.id hand.me asked.hand.1 (place_of key) asked.spot.inside
           (λ word. (word + 4) % 2 ^ 64) (Enters z c.args.purpose key hand.me)
-          (λ words w slots point at below. enter-makes content room z words w slots point hand.me key at below asked.key asked.idle c.args.purpose asked.room)),
+          (λ words w slots point at below. enter-makes content room spots z words w slots point hand.me key at below asked.key asked.idle c.args.purpose asked.room)),
     )

@@ -1,3 +1,4 @@
+use Rattle.poolsteps.specs.Layout.{spots_at}
 use Rattle.std.proofs.Common.{ℕ}
 use Rattle.keybits.specs.declared.shape.Shape.{Shape}
 use Rattle.keybits.specs.declared.step.Word.TheVariants.{Link}
@@ -11,6 +12,7 @@ pub load-requires : goal.load-requires
 load-requires g c =
     let content = g.T.Clear.content in
     let room = g.T.Clear.room in
+    let spots = spots_at c.args.self.now.objects.ptr c.args.self.now.shape in
     let grid = c.args.self.now in
     let z : Shape = grid.shape in
     let hand = c.args.hand.now in
@@ -19,7 +21,7 @@ load-requires g c =
     let spot = asked.spot in (
       asked.hand.0,
       rw (c.link_of.ensures, grid.sized) (index-below z grid.checked (Link place) spot.inside),
-      rw (asked.aim, c.link_of.ensures, grid.shape_is)
-          (word-allows content room z grid.table.shared.table_id.slots hand.id hand.me asked.hand.1 (Link place) spot.inside (λ n. n) (Follows z hand.me)
-          (λ words w slots point at below. follow-makes content room z words w slots point hand.me place at asked.chain)),
+      rw (asked.aim, c.link_of.ensures, grid.board_is)
+          (word-allows content room spots z grid.table.shared.table_id.slots hand.id hand.me asked.hand.1 (Link place) spot.inside (λ n. n) (Follows z hand.me)
+          (λ words w slots point at below. follow-makes content room spots z words w slots point hand.me place at asked.chain)),
     )

@@ -1,3 +1,4 @@
+use Rattle.poolsteps.specs.Layout.{spots_at}
 -- The rule goes on where the lanes of two seats come to one.
 use Rattle.std.proofs.Common.{◌<◌, ℕ, sym, subst}
 use Rattle.poolsteps.proofs.LookWords.{words-some}
@@ -13,5 +14,5 @@ join_seat-requires g c =
       c.requires.seats.1,
       c.requires.empty,
       subst (λ (count : ℕ). 0 < count) (sym grid.sized) (words-some grid.shape),
-      gathers g.T.Clear.content g.T.Clear.room grid.table.shared.key seat.id other.id seat.me.0 other.me.0,
+      gathers g.T.Clear.content g.T.Clear.room (spots_at grid.table.shared.key.directory.at grid.table.shared.key.shape) grid.table.shared.key.shape seat.id other.id seat.me.0 other.me.0,
     )

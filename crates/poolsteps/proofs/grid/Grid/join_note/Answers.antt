@@ -1,3 +1,4 @@
+use Rattle.poolsteps.specs.Layout.{spots_at}
 -- The rule goes on where a seat is told what another has.
 use Rattle.std.proofs.Common.{◌<◌, ℕ, sym, subst}
 use Rattle.poolsteps.proofs.LookWords.{words-some}
@@ -13,5 +14,5 @@ join_seat-requires g c =
       c.requires.note.0,
       c.requires.note.1,
       subst (λ (count : ℕ). 0 < count) (sym grid.sized) (words-some grid.shape),
-      hears g.T.Clear.content g.T.Clear.room grid.table.shared.key hand.id note.id hand.me.0 note.me.0,
+      hears g.T.Clear.content g.T.Clear.room (spots_at grid.table.shared.key.directory.at grid.table.shared.key.shape) grid.table.shared.key.shape hand.id note.id hand.me.0 note.me.0,
     )

@@ -1,3 +1,4 @@
+use Rattle.poolsteps.specs.Layout.{spots_at}
 use Rattle.std.proofs.Common.{ℕ, bit_or}
 use Rattle.keybits.specs.declared.shape.Shape.{Shape}
 use Rattle.keybits.specs.declared.step.Word.TheVariants.{Life}
@@ -13,6 +14,7 @@ pub fetch_or-requires : goal.fetch_or-requires
 fetch_or-requires g c =
     let content = g.T.Clear.content in
     let room = g.T.Clear.room in
+    let spots = spots_at c.args.self.now.objects.ptr c.args.self.now.shape in
     let grid = c.args.self.now in
     let z : Shape = grid.shape in
     let me = c.args.hand.now.me in
@@ -21,8 +23,8 @@ fetch_or-requires g c =
     let aim = c.requires.aim in (
       c.requires.hand.0,
       rw (life-at spot, grid.sized) (index-below z grid.checked (Life (place_of key)) spot.inside),
-      rw (aim.0, aim.1, life-at spot, grid.shape_is)
-          (life-allows content room z grid.table.shared.table_id.slots c.args.hand.now.id me c.requires.hand.1 (place_of key) spot.inside
+      rw (aim.0, aim.1, life-at spot, grid.board_is)
+          (life-allows content room spots z grid.table.shared.table_id.slots c.args.hand.now.id me c.requires.hand.1 (place_of key) spot.inside
           (λ word. bit_or word 2) (Marks z key me)
-          (λ words w slots point at small. mark-makes content room z words w slots point me key at c.requires.under)),
+          (λ words w slots point at small. mark-makes content room spots z words w slots point me key at c.requires.under)),
     )

@@ -8,7 +8,7 @@ use Rattle.poolsteps.proofs.grid.Grid.new.Goals as goal
 pub loop-init : goal.loop-init
 loop-init g c = let made = c.in_ok-grid in (
   none-dealt made.grid made.seat c.in_ok-hands.hands.items made.ensures.seat.0
-      (made.ensures.seat.1 ∙ ap (λ (z : Shape). (first_view z, [])) (sym made.ensures.shape)) (search rules),
+      (made.ensures.seat.1 ∙ ap (λ (z : Shape). (first_view z, [])) (sym made.ensures.shape.0)) (search rules),
   refl,
 )
 
@@ -21,12 +21,12 @@ push_reserved-requires g c = search rules
 pub loop-preserved : goal.loop-preserved
 loop-preserved g c =
     let grid = c.in_ok-grid.grid in let hand = c.deal.ensures in let pushed = c.push_reserved in
-    let less = subst (λ (z : Shape). c.loop.counter < z.lanes) (sym c.in_ok-grid.ensures.shape) c.loop-test.true in (
+    let less = subst (λ (z : Shape). c.loop.counter < z.lanes) (sym c.in_ok-grid.ensures.shape.0) c.loop-test.true in (
       one-dealt grid c.loop.counter c.loop.seat c.deal.new.seat c.deal.result c.loop.hands.items pushed.new.self.items c.loop.invariant.0 less
           hand.lane.0 hand.lane.1 hand.rest.0 hand.rest.1 pushed.ensures.items,
       rw pushed.ensures.capacity c.loop.invariant.1,
     )
 
 pub returns-clause-hands : goal.returns-clause-hands
-returns-clause-hands g c = let shape = c.in_ok-grid.ensures.shape in
+returns-clause-hands g c = let shape = c.in_ok-grid.ensures.shape.0 in
     all-dealt c.in_ok-grid.grid c.loop.counter c.loop.seat c.loop.hands.items c.loop.invariant.0 (omega (arith, ap (λ (z : Shape). z.lanes) shape))

@@ -1,3 +1,4 @@
+use Rattle.poolsteps.specs.Layout.{spots_at}
 use Rattle.std.proofs.Common.{None, refl, sym, ◌∙◌, subst}
 use Rattle.keybits.specs.declared.shape.Shape.{Shape}
 use Rattle.sharelaws.specs.declared.stored.Status.TheVariants.{Untouched, Emptied}
@@ -8,7 +9,7 @@ use Rattle.poolsteps.proofs.grid.Grid.out_all.Goals as goal
 
 pub lift_all-requires : goal.lift_all-requires
 lift_all-requires g c = record {
-  aim = (refl {a = c.args.self.now.shape}, refl {a = c.args.spot.place}, rising-order c.args.self.now.shape, λ bad. cc bad);
+  aim = (refl {a = c.args.self.now.shape}, refl {a = c.args.self.now.objects.ptr}, refl {a = c.args.spot.place}, rising-order c.args.self.now.shape, λ bad. cc bad);
   hand = c.requires.hand;
   spot = c.requires.spot;
   lane = c.requires.lane;
@@ -23,7 +24,7 @@ take_all-rest-requires g c =
       spot = c.requires.spot;
       held = (
         lifts.values,
-        subst (λ x. AreLeft g.T.Clear.content g.T.Clear.room c.args.self.now.shape Untouched x lifts.values) (sym lifts.goes.leaves.known) lifts.are,
+        subst (λ x. AreLeft g.T.Clear.content g.T.Clear.room (spots_at c.args.self.now.objects.ptr c.args.self.now.shape) c.args.spot.place c.args.self.now.shape Untouched x lifts.values) (sym lifts.goes.leaves.known) lifts.are,
         lifts.held,
       );
     }
@@ -34,7 +35,7 @@ lay_all-requires g c =
     let lifts = c.lift_all.ensures.lifts in
     let taken = c.take_all-rest.ensures in
     record {
-      aim = (refl {a = z}, refl {a = c.args.spot.place}, rising-order z);
+      aim = (refl {a = z}, refl {a = c.args.self.now.objects.ptr}, refl {a = c.args.spot.place}, rising-order z);
       hand = (taken.hand.0 ∙ (c.lift_all.ensures.hand.0 ∙ c.requires.hand.0), rw taken.held lifts.goes.goes.lanes);
       spot = c.requires.spot;
       lane = c.requires.lane;
@@ -56,7 +57,7 @@ returns-clause-outs g c =
     let known = lifts.goes.leaves.known in
     let laid = rw c.take_all-rest.ensures.held at c.lay_all.ensures.lays in
     record {
-      are = subst (λ x. AreOf g.T.Clear.content g.T.Clear.room z x c.take_all-rest.result) known c.take_all-rest.ensures.rest;
+      are = subst (λ x. AreOf g.T.Clear.content g.T.Clear.room (spots_at c.args.self.now.objects.ptr c.args.self.now.shape) c.args.spot.place z x c.take_all-rest.result) known c.take_all-rest.ensures.rest;
       goes = goes-again lifts.goes (subst (λ x. GoesAll z c.args.spot.place Emptied x 1 c.lift_all.new.hand.me.0 c.lay_all.new.hand.me.0) known laid.goes);
       held = laid.held;
     }

@@ -1,3 +1,4 @@
+use Rattle.poolsteps.specs.Layout.{spots_at}
 use Rattle.std.proofs.Common.{◌≡◌, ℕ, ◌+◌, ◌%◌, ◌^◌, Bool, ap, sym, ◌∙◌, if◌then◌else◌}
 use Rattle.keybits.specs.declared.shape.Shape.{Shape}
 use Rattle.keybits.specs.declared.step.Word.TheVariants.{Life}
@@ -14,6 +15,7 @@ pub fetch_add-requires : goal.fetch_add-requires
 fetch_add-requires g c =
     let content = g.T.Clear.content in
     let room = g.T.Clear.room in
+    let spots = spots_at c.args.self.now.objects.ptr c.args.self.now.shape in
     let grid = c.args.self.now in
     let z : Shape = grid.shape in
     let hand = c.args.hand.now in
@@ -28,8 +30,8 @@ fetch_add-requires g c =
     ] in (
       asked.hand.0,
       rw (life-at asked.spot, grid.sized) (index-below z grid.checked (Life (place_of key)) asked.spot.inside),
-      rw (asked.aim.0, asked.aim.1, asked.aim.2, life-at asked.spot, added, grid.shape_is)
-          (life-allows content room z grid.table.shared.table_id.slots hand.id hand.me asked.hand.1 (place_of key) asked.spot.inside
+      rw (asked.aim.0, asked.aim.1, asked.aim.2, life-at asked.spot, added, grid.board_is)
+          (life-allows content room spots z grid.table.shared.table_id.slots hand.id hand.me asked.hand.1 (place_of key) asked.spot.inside
           (λ word. (word + more with_ref) % 2 ^ 64) (Publishes z key stored with_ref hand.me)
-          (λ words w slots point at small. publish-makes content room z words w slots point hand.me key stored with_ref at asked.spot.inside asked.may asked.shares asked.cell small)),
+          (λ words w slots point at small. publish-makes content room spots z words w slots point hand.me key stored with_ref at asked.spot.inside asked.may asked.shares asked.cell small)),
     )

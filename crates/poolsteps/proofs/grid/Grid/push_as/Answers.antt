@@ -1,3 +1,4 @@
+use Rattle.poolsteps.specs.Layout.{spots_at}
 use Rattle.std.proofs.Common.{◌≡◌, ◌==◌, ℕ, ◌<◌, true, ap, ◌∙◌, subst}
 use prog.Atomic.{either}
 use Rattle.keybits.specs.declared.shape.Shape.{Shape}
@@ -18,6 +19,7 @@ pub compare_exchange-requires : goal.compare_exchange-requires
 compare_exchange-requires g c =
     let content = g.T.Clear.content in
     let room = g.T.Clear.room in
+    let spots = spots_at c.args.self.now.objects.ptr c.args.self.now.shape in
     let grid = c.args.self.now in
     let z : Shape = grid.shape in
     let me = c.args.hand.now.me in
@@ -31,10 +33,10 @@ compare_exchange-requires g c =
     ∙ (ap (λ (shard : ℕ). index_in z (Stack shard c.args.lane)) c.shard_of.ensures ∙ ap (λ (n : ℕ). index_in z (Stack (shard_of place) n)) asked.lane.0) in (
       asked.hand.0,
       rw (index, grid.sized) (index-below z grid.checked stack inside),
-      rw (asked.aim, index, c.link_to.ensures.word, grid.shape_is)
-          (word-allows content room z grid.table.shared.table_id.slots c.args.hand.now.id me asked.hand.1 stack inside
+      rw (asked.aim, index, c.link_to.ensures.word, grid.board_is)
+          (word-allows content room spots z grid.table.shared.table_id.slots c.args.hand.now.id me asked.hand.1 stack inside
           (λ word. either (word == top) (link_to place) word) (Pushes z top me)
-          (λ words w slots point at small. push-makes content room z words w slots point me at top place asked.returns asked.aims asked.rests)),
+          (λ words w slots point at small. push-makes content room spots z words w slots point me at top place asked.returns asked.aims asked.rests)),
     )
 
 pub stack_of-word-requires : goal.stack_of-word-requires

@@ -1,13 +1,14 @@
+use Rattle.poolsteps.specs.Layout.{spots_at}
 use Rattle.std.proofs.Common.{◌≡◌, ◌+◌, ◌-◌, ℕ, suc, Option, Some, refl, ap, sym, ◌∙◌, arith}
 use Rattle.keybits.specs.declared.shape.Shape.{Shape}
-use Rattle.slotcell.specs.Share.{Share, share_of}
-use Rattle.slotcell.specs.Rest.{Rest, lowest_share}
+use Rattle.placecell.specs.Share.{Share, share_of}
+use Rattle.placecell.specs.Rest.{Rest, lowest_share}
 use Rattle.poolsteps.proofs.Turning.{falling, turning, turning-none, turning-head, turning-next, turning-all, rest-left}
 use Rattle.poolsteps.proofs.grid.Grid.put_all.Goals as goal
 
 -- the shares of a rest by their numbers
 abbrev share_in : {T : Type 0} → Rest T → ℕ → Option (Share T)
-share_in rest number = Some (share_of rest.cell rest.of rest.object number)
+share_in rest number = Some (share_of rest.cell rest.spot rest.of rest.object number)
 
 pub loop-number-init : goal.loop-number-init
 loop-number-init g c =
@@ -104,7 +105,7 @@ returns-clause-held g c =
     (omega (arith, most, least, some)) (omega arith) h.held (Some c.into_share.result) share in
     let done : suc c.loop-number.number ≡ z.lanes = omega (arith, most, least, some) in (
       share_in c.args.rest,
-      rest-left g.T.Clear.content g.T.Clear.room z g.J.MoveAll.stored c.args.rest c.requires.rest,
+      rest-left g.T.Clear.content g.T.Clear.room (spots_at c.args.self.now.objects.ptr c.args.self.now.shape) c.args.spot.place z g.J.MoveAll.stored c.args.rest c.requires.rest,
       ap (λ me. me.1) put.held ∙ (turned ∙ (ap (turning z c.args.spot.place (falling z) h.values (share_in c.args.rest) 0) done
           ∙ turning-all z c.args.spot.place (falling z) h.values (share_in c.args.rest) z.lanes)),
     )

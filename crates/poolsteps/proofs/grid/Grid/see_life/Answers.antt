@@ -1,3 +1,4 @@
+use Rattle.poolsteps.specs.Layout.{spots_at}
 use Rattle.keybits.specs.declared.shape.Shape.{Shape}
 use Rattle.keybits.specs.declared.step.Word.TheVariants.{Life}
 use Rattle.poolsteps.proofs.LayoutLemmas.{index-below}
@@ -13,6 +14,6 @@ load-requires g c =
     let asked = c.requires in (
       asked.hand.0,
       rw (life-at asked.spot, grid.sized) (index-below z grid.checked (Life c.args.spot.place) asked.spot.inside),
-      rw (asked.aim.0, asked.aim.1, life-at asked.spot, grid.shape_is)
-          (see-life-allows g.T.Clear.content g.T.Clear.room z grid.table.shared.table_id.slots hand.id hand.me asked.hand.1 c.args.spot.place asked.spot.inside),
+      rw (asked.aim.0, asked.aim.1, life-at asked.spot, grid.board_is)
+          (see-life-allows g.T.Clear.content g.T.Clear.room (spots_at c.args.self.now.objects.ptr c.args.self.now.shape) z grid.table.shared.table_id.slots hand.id hand.me asked.hand.1 c.args.spot.place asked.spot.inside),
     )

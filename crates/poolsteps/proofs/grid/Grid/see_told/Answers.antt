@@ -1,3 +1,4 @@
+use Rattle.poolsteps.specs.Layout.{spots_at}
 use Rattle.std.proofs.Common.{ℕ}
 use Rattle.keybits.specs.declared.shape.Shape.{Shape}
 use Rattle.poolsteps.proofs.LookWords.{look-below}
@@ -13,5 +14,5 @@ load-requires g c =
     let asked = c.requires in (
       asked.hand.0,
       rw (c.look_word.ensures, grid.sized) (look-below z grid.checked lane asked.lane),
-      rw (asked.aim, grid.shape_is) (see-told-allows g.T.Clear.content g.T.Clear.room z grid.table.shared.table_id.slots hand.id hand.me asked.hand.1 c.look_word.result),
+      rw (asked.aim, grid.board_is) (see-told-allows g.T.Clear.content g.T.Clear.room (spots_at c.args.self.now.objects.ptr c.args.self.now.shape) z grid.table.shared.table_id.slots hand.id hand.me asked.hand.1 c.look_word.result),
     )

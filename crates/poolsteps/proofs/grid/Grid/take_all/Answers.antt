@@ -1,6 +1,7 @@
+use Rattle.poolsteps.specs.Layout.{spots_at}
 use Rattle.std.proofs.Common.{◌≡◌, ◌-◌, ℕ, suc, Option, None, refl, ap, sym, ◌∙◌, arith}
 use Rattle.keybits.specs.declared.shape.Shape.{Shape}
-use Rattle.slotcell.specs.Share.{Share}
+use Rattle.placecell.specs.Share.{Share}
 use Rattle.poolsteps.specs.Moved.{stored_of}
 use Rattle.poolsteps.proofs.Carrying.{stored-is}
 use Rattle.poolsteps.proofs.Turning.{rising, turning, turning-none, turning-head, turning-next, turning-all, found-share, some-share}
@@ -16,7 +17,7 @@ take_next-requires-clause-held g c =
     let values = c.requires.held.0 in
     let head = turning-head z c.args.spot.place rising values nothing {count = z.lanes} {left = z.lanes - 1} {number = z.lanes - 1} 0 (omega (arith, some)) refl
     (c.requires.held.2 ∙ turning-none z c.args.spot.place rising values nothing z.lanes) in
-    some-share g.T.Clear.content g.T.Clear.room z g.J.MoveAll.stored values c.requires.held.1 (z.lanes - 1) (omega (arith, some)) head
+    some-share g.T.Clear.content g.T.Clear.room (spots_at c.args.self.now.objects.ptr c.args.self.now.shape) c.args.spot.place z g.J.MoveAll.stored values c.requires.held.1 (z.lanes - 1) (omega (arith, some)) head
 
 pub of_last-rest-requires : goal.of_last-rest-requires
 of_last-rest-requires g c =
@@ -25,7 +26,7 @@ of_last-rest-requires g c =
     let values = c.requires.held.0 in
     let head = turning-head z c.args.spot.place rising values nothing {count = z.lanes} {left = z.lanes - 1} {number = z.lanes - 1} 0 (omega (arith, some)) refl
     (c.requires.held.2 ∙ turning-none z c.args.spot.place rising values nothing z.lanes) in
-    let share = found-share g.T.Clear.content g.T.Clear.room z g.J.MoveAll.stored values c.requires.held.1 (z.lanes - 1) (omega (arith, some)) head c.take_next.result
+    let share = found-share g.T.Clear.content g.T.Clear.room (spots_at c.args.self.now.objects.ptr c.args.self.now.shape) c.args.spot.place z g.J.MoveAll.stored values c.requires.held.1 (z.lanes - 1) (omega (arith, some)) head c.take_next.result
     c.take_next.ensures.share in
     let number = share.number_is in
     let of = share.of_is in omega (arith, some, number, of)
@@ -37,7 +38,7 @@ loop-number-init g c =
     let values = c.requires.held.0 in
     let head = turning-head z c.args.spot.place rising values nothing {count = z.lanes} {left = z.lanes - 1} {number = z.lanes - 1} 0 (omega (arith, some)) refl
     (c.requires.held.2 ∙ turning-none z c.args.spot.place rising values nothing z.lanes) in
-    let share = found-share g.T.Clear.content g.T.Clear.room z g.J.MoveAll.stored values c.requires.held.1 (z.lanes - 1) (omega (arith, some)) head c.take_next.result
+    let share = found-share g.T.Clear.content g.T.Clear.room (spots_at c.args.self.now.objects.ptr c.args.self.now.shape) c.args.spot.place z g.J.MoveAll.stored values c.requires.held.1 (z.lanes - 1) (omega (arith, some)) head c.take_next.result
     c.take_next.ensures.share in
     let next = turning-next z c.args.spot.place rising values nothing {count = z.lanes} {left = z.lanes - 1} {number = z.lanes - 1} 0 (omega (arith, some)) refl
     (c.requires.held.2 ∙ turning-none z c.args.spot.place rising values nothing z.lanes) None refl in
@@ -50,8 +51,9 @@ loop-number-init g c =
       held = c.take_next.ensures.held ∙ (λ i. (c.args.hand.now.me.0, (next ∙ ap (turning z c.args.spot.place rising values nothing (z.lanes - 1)) done) i));
       number_is = ap (λ s. s.number) (sym c.of_last-rest.ensures) ∙ share.number_is;
       of_is = ap (λ s. s.of) (sym c.of_last-rest.ensures) ∙ share.of_is;
+      spot_is = ap (λ s. s.spot) (sym c.of_last-rest.ensures) ∙ share.spot_is;
       cell_is = ap (stored_of g.T.Clear.content g.T.Clear.room) (sym c.of_last-rest.ensures)
-          ∙ sym (stored-is g.T.Clear.content g.T.Clear.room g.J.MoveAll.stored (z.lanes - 1) z.lanes c.take_next.result share);
+          ∙ sym (stored-is g.T.Clear.content g.T.Clear.room (spots_at c.args.self.now.objects.ptr c.args.self.now.shape) c.args.spot.place g.J.MoveAll.stored (z.lanes - 1) z.lanes c.take_next.result share);
     }
 
 pub take_next-requires-in-loop-number-clause-held : goal.take_next-requires-in-loop-number-clause-held
@@ -63,7 +65,7 @@ take_next-requires-in-loop-number-clause-held g c =
     let next : ℕ = c.loop-number.number - 1 in
     let head = turning-head z c.args.spot.place rising h.values nothing {left = next} {number = next} (z.lanes - c.loop-number.number) (omega (arith, some)) refl
     (ap (λ me. me.1) h.held) in
-    some-share g.T.Clear.content g.T.Clear.room z g.J.MoveAll.stored h.values h.are next (omega (arith, some, inside)) head
+    some-share g.T.Clear.content g.T.Clear.room (spots_at c.args.self.now.objects.ptr c.args.self.now.shape) c.args.spot.place z g.J.MoveAll.stored h.values h.are next (omega (arith, some, inside)) head
 
 pub merge-requires : goal.merge-requires
 merge-requires g c =
@@ -74,11 +76,12 @@ merge-requires g c =
     let next : ℕ = c.loop-number.number - 1 in
     let head = turning-head z c.args.spot.place rising h.values nothing {left = next} {number = next} (z.lanes - c.loop-number.number) (omega (arith, some)) refl
     (ap (λ me. me.1) h.held) in
-    let share = found-share g.T.Clear.content g.T.Clear.room z g.J.MoveAll.stored h.values h.are next (omega (arith, some, inside)) head c.take_next-in-loop-number.result
+    let share = found-share g.T.Clear.content g.T.Clear.room (spots_at c.args.self.now.objects.ptr c.args.self.now.shape) c.args.spot.place z g.J.MoveAll.stored h.values h.are next (omega (arith, some, inside)) head c.take_next-in-loop-number.result
     c.take_next-in-loop-number.ensures.share in
     let number = share.number_is in
     let is = h.number_is in (
       share.cell ∙ ap (λ x. x.cell) (sym h.cell_is),
+      share.spot_is ∙ sym h.spot_is,
       share.of_is ∙ sym h.of_is,
       omega (arith, some, number, is),
     )
@@ -92,7 +95,7 @@ loop-number-preserved g c =
     let next : ℕ = c.loop-number.number - 1 in
     let head = turning-head z c.args.spot.place rising h.values nothing {left = next} {number = next} (z.lanes - c.loop-number.number) (omega (arith, some)) refl
     (ap (λ me. me.1) h.held) in
-    let share = found-share g.T.Clear.content g.T.Clear.room z g.J.MoveAll.stored h.values h.are next (omega (arith, some, inside)) head c.take_next-in-loop-number.result
+    let share = found-share g.T.Clear.content g.T.Clear.room (spots_at c.args.self.now.objects.ptr c.args.self.now.shape) c.args.spot.place z g.J.MoveAll.stored h.values h.are next (omega (arith, some, inside)) head c.take_next-in-loop-number.result
     c.take_next-in-loop-number.ensures.share in
     let taken = c.take_next-in-loop-number.ensures in
     let turned = turning-next z c.args.spot.place rising h.values nothing {left = next} {number = next} (z.lanes - c.loop-number.number) (omega (arith, some)) refl
@@ -106,6 +109,7 @@ loop-number-preserved g c =
       held = taken.held ∙ (λ i. ((h.held i).0, (turned ∙ ap (turning z c.args.spot.place rising h.values nothing next) done) i));
       number_is = ap (λ x. x.number) c.merge.ensures.rest ∙ share.number_is;
       of_is = ap (λ x. x.of) c.merge.ensures.rest ∙ h.of_is;
+      spot_is = ap (λ x. x.spot) c.merge.ensures.rest ∙ h.spot_is;
       cell_is = rw c.merge.ensures.rest h.cell_is;
     }
 

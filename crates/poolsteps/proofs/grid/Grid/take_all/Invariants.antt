@@ -1,6 +1,7 @@
+use Rattle.poolsteps.specs.Layout.{spots_at}
 use Rattle.std.proofs.Common.{◌≡◌, ◌-◌, ◌<◌, ℕ, Option, None}
-use Rattle.slotcell.specs.Share.{Share}
-use Rattle.slotcell.specs.Rest.{lowest_share}
+use Rattle.placecell.specs.Share.{Share}
+use Rattle.placecell.specs.Rest.{lowest_share}
 use Rattle.sharelaws.specs.declared.stored.Status.TheVariants.{Untouched}
 use Rattle.poolsteps.specs.Grids.{SameSeat}
 use Rattle.poolsteps.specs.Moved.{stored_of}
@@ -14,10 +15,11 @@ invariant-loop-number g l = record {
   seat : SameSeat l.fn.hand l.hand;
   inside : l.number < l.self.shape.lanes;
   values : ℕ → Option (Share g.row.T.Denot);
-  are : AreLeft g.T.Clear.content g.T.Clear.room l.self.shape Untouched g.J.MoveAll.stored values;
+  are : AreLeft g.T.Clear.content g.T.Clear.room (spots_at l.self.objects.ptr l.self.shape) l.spot.place l.self.shape Untouched g.J.MoveAll.stored values;
   held : l.hand.me ≡ (l.fn.hand.me.0, turning l.self.shape l.spot.place rising values (λ _. None) l.number (l.self.shape.lanes - l.number));
   number_is : l.rest.number ≡ l.number;
   of_is : l.rest.of ≡ l.self.shape.lanes;
+  spot_is : l.rest.spot ≡ spots_at l.self.objects.ptr l.self.shape l.spot.place;
   cell_is : stored_of g.T.Clear.content g.T.Clear.room (lowest_share l.rest) ≡ g.J.MoveAll.stored;
 }
 

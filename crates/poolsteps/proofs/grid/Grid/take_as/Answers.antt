@@ -1,3 +1,4 @@
+use Rattle.poolsteps.specs.Layout.{spots_at}
 use Rattle.std.proofs.Common.{◌≡◌, ◌≢◌, ℕ, true, ap, sym, ◌∙◌}
 use Rattle.std.specs.Cmp.Derive.{both_true}
 use Rattle.std.proofs.lemmas.Bool.{lt-ltb}
@@ -14,6 +15,7 @@ pub swap-requires : goal.swap-requires
 swap-requires g c =
     let content = g.T.Clear.content in
     let room = g.T.Clear.room in
+    let spots = spots_at c.args.self.now.objects.ptr c.args.self.now.shape in
     let grid = c.args.self.now in
     let z : Shape = grid.shape in
     let hand = c.args.hand.now in
@@ -26,9 +28,9 @@ swap-requires g c =
     let apart : from ≢ lane = λ same. asked.from.1 (same ∙ sym own) in (
       asked.hand.0,
       rw (grid.sized) c.stack_of-word.ensures.inside,
-      rw (asked.aim.0, asked.aim.1, word, grid.shape_is)
-          (word-allows content room z grid.table.shared.table_id.slots hand.id hand.me asked.hand.1 (Stack lane from) inside (λ n. 0) (Takes z from hand.me)
-          (λ words w slots point at below. take-makes content room z words w slots point hand.me from at asked.from.0 apart)),
+      rw (asked.aim.0, asked.aim.1, word, grid.board_is)
+          (word-allows content room spots z grid.table.shared.table_id.slots hand.id hand.me asked.hand.1 (Stack lane from) inside (λ n. 0) (Takes z from hand.me)
+          (λ words w slots point at below. take-makes content room spots z words w slots point hand.me from at asked.from.0 apart)),
     )
 
 pub stack_of-word-requires : goal.stack_of-word-requires

@@ -4,7 +4,8 @@ use Rattle.keybits.specs.Keys.{is_key}
 use Rattle.shardpool.proofs.calls.CallParts.{calls-more}
 use Rattle.shardpool.proofs.calls.Halts.{fits-own}
 use Rattle.shardpool.proofs.references.Holdings.{clear-holds}
-use Rattle.shardpool.proofs.calls.Ends.{fits-beside, own-spot, own-placed}
+use Rattle.shardpool.proofs.frame.SeenHistories.{same-directory}
+use Rattle.shardpool.proofs.calls.Ends.{fits-beside, own-spot, own-placed, own-begins, own-stands}
 use Rattle.shardpool.proofs.calls.KeyCalls.{ready, ready-at, cleared-away, cleared}
 use Rattle.shardpool.proofs.frame.Standing.{missed-outside, cleared-since, unmarked-since, seen-of}
 use Rattle.shardpool.proofs.pool.Pool.clear.Goals as goal
@@ -24,6 +25,14 @@ keep_reclaimed-requires-clause-spot g c =
 
 pub keep_reclaimed-requires-clause-placed : goal.keep_reclaimed-requires-clause-placed
 keep_reclaimed-requires-clause-placed g c = own-placed (fits-beside c.lane.invariant.1)
+
+pub keep_reclaimed-requires-clause-begins : goal.keep_reclaimed-requires-clause-begins
+keep_reclaimed-requires-clause-begins g c = own-begins (fits-beside c.lane.invariant.1)
+
+pub keep_reclaimed-requires-clause-at : goal.keep_reclaimed-requires-clause-at
+keep_reclaimed-requires-clause-at g c =
+    let before = ready c.lane.view_is c.requires.owns.1 c.self.view_is c.lane.invariant.1 c.in-Some.ensures.spot in
+    own-stands c.clear-marked.result.1 (fits-beside before.fits) (same-directory c.lane.view_is c.requires.owns.2 c.self.view_is) before.there.place_is c.clear-marked.ensures.at
 
 pub keep_reclaimed-requires-clause-away : goal.keep_reclaimed-requires-clause-away
 keep_reclaimed-requires-clause-away g c =
@@ -63,8 +72,11 @@ returns-clause-owns g c =
     let before = ready c.lane.view_is c.requires.owns.1 c.self.view_is c.lane.invariant.1 c.in-Some.ensures.spot in
     let told = c.clear-marked.ensures in
     let left = cleared before c.clear-marked.result.1 c.keep_reclaimed.new.state c.keep_reclaimed.ensures c.clear-marked.result.0 told.called told.acts told.reclaimed in
-    let same = (left.did c.lane.inside.hand.table_id c.clear-marked.new.hand.table_id told.hand.0).1.same in
-    (same.0 ∙ (ap (λ l. l.table) c.lane.view_is ∙ c.requires.owns.0), same.1 ∙ (ap (λ l. l.shape) c.lane.view_is ∙ c.requires.owns.1))
+    let same = (left.did c.lane.inside.hand.table_id c.clear-marked.new.hand.table_id told.hand.0).1.same in (
+      same.0 ∙ (ap (λ l. l.table) c.lane.view_is ∙ c.requires.owns.0),
+      same.1 ∙ (ap (λ l. l.shape) c.lane.view_is ∙ c.requires.owns.1),
+      same.3 ∙ (ap (λ l. l.directory) c.lane.view_is ∙ c.requires.owns.2),
+    )
 
 pub returns-clause-outside : goal.returns-clause-outside
 returns-clause-outside g c out = let bad : true ≡ false = sym (c.in-Some.ensures.some.0 refl) ∙ out in absurd (cc bad)

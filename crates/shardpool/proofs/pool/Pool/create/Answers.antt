@@ -33,14 +33,14 @@ pub follow-requires : goal.follow-requires
 follow-requires g c =
     let before = subst (Owns c.args.self.now) (sym (c.in_default.ensures.none refl).0) c.requires.owns in
     let same = c.take_returned.ensures.takes.same in
-    record { owns = (same.0 ∙ before.0, same.1 ∙ before.1) }
+    record { owns = (same.0 ∙ before.0, same.1 ∙ before.1, same.3 ∙ before.2) }
 
 pub fill-requires-in-Some-follow-clause-owns : goal.fill-requires-in-Some-follow-clause-owns
 fill-requires-in-Some-follow-clause-owns g c =
     let before = subst (Owns c.args.self.now) (sym (c.in_default.ensures.none refl).0) c.requires.owns in
     let took = c.take_returned.ensures.takes.same in
     let same = c.in-Some-follow.ensures.some.same in
-    (same.0 ∙ (took.0 ∙ before.0), same.1 ∙ (took.1 ∙ before.1))
+    (same.0 ∙ (took.0 ∙ before.0), same.1 ∙ (took.1 ∙ before.1), same.3 ∙ (took.3 ∙ before.2))
 
 pub fill-requires-in-Some-follow-clause-loose : goal.fill-requires-in-Some-follow-clause-loose
 fill-requires-in-Some-follow-clause-loose g c = c.in-Some-follow.ensures.some.loose
@@ -57,7 +57,7 @@ pub fill-requires-in-Some-pop-clause-owns : goal.fill-requires-in-Some-pop-claus
 fill-requires-in-Some-pop-clause-owns g c =
     let before = subst (Owns c.args.self.now) (sym (c.in_default.ensures.none refl).0) c.requires.owns in
     let took = c.take_returned.ensures.takes.same in
-    let followed = subst (Owns c.args.self.now) (sym (c.in_default-follow.ensures.none refl).0) (took.0 ∙ before.0, took.1 ∙ before.1) in
+    let followed = subst (Owns c.args.self.now) (sym (c.in_default-follow.ensures.none refl).0) (took.0 ∙ before.0, took.1 ∙ before.1, took.3 ∙ before.2) in
     let opened = subst (Owns c.args.self.now) (sym (c.in_ok-open_page.ensures.opens refl).1) followed in
     subst (Owns c.args.self.now) (sym c.in-Some-pop.ensures.some.3) opened
 
@@ -155,18 +155,18 @@ returns-clause-gives g c =
 -- ---- it is the same lane
 
 pub returns-in-Some-clause-owns : goal.returns-in-Some-clause-owns
-returns-in-Some-clause-owns g c = let same = (returns-in-Some-clause-gives g c).created.same in (same.0 ∙ c.requires.owns.0, same.1 ∙ c.requires.owns.1)
+returns-in-Some-clause-owns g c = let same = (returns-in-Some-clause-gives g c).created.same in (same.0 ∙ c.requires.owns.0, same.1 ∙ c.requires.owns.1, same.3 ∙ c.requires.owns.2)
 
 pub returns-in-Some-follow-clause-owns : goal.returns-in-Some-follow-clause-owns
-returns-in-Some-follow-clause-owns g c = let same = (returns-in-Some-follow-clause-gives g c).created.same in (same.0 ∙ c.requires.owns.0, same.1 ∙ c.requires.owns.1)
+returns-in-Some-follow-clause-owns g c = let same = (returns-in-Some-follow-clause-gives g c).created.same in (same.0 ∙ c.requires.owns.0, same.1 ∙ c.requires.owns.1, same.3 ∙ c.requires.owns.2)
 
 pub returns-in_err-open_page-clause-owns : goal.returns-in_err-open_page-clause-owns
 returns-in_err-open_page-clause-owns g c =
     let none = returns-in_err-open_page-clause-none g c (let left = err_from_is_err_and c.from_residual.result c.from_residual.ensures.1 in ap is_err left.1) in
-    let same = none.created.same in (same.0 ∙ c.requires.owns.0, same.1 ∙ c.requires.owns.1)
+    let same = none.created.same in (same.0 ∙ c.requires.owns.0, same.1 ∙ c.requires.owns.1, same.3 ∙ c.requires.owns.2)
 
 pub returns-clause-owns : goal.returns-clause-owns
-returns-clause-owns g c = let same = (returns-clause-gives g c).created.same in (same.0 ∙ c.requires.owns.0, same.1 ∙ c.requires.owns.1)
+returns-clause-owns g c = let same = (returns-clause-gives g c).created.same in (same.0 ∙ c.requires.owns.0, same.1 ∙ c.requires.owns.1, same.3 ∙ c.requires.owns.2)
 
 -- ---- its references are as before
 

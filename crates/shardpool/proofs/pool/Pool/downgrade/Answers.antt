@@ -1,6 +1,6 @@
-use Rattle.std.proofs.Common.{◌≡◌, ◌<◌, true, [], ◌∷◌, ℕ, length, slice_set, Some, refl, sym, ap, ◌∙◌, subst, arith}
+use Rattle.std.proofs.Common.{◌≡◌, ◌<◌, ◌+◌, true, List, [], ◌∷◌, ℕ, length, slice_get, slice_set, Some, refl, sym, ap, ◌∙◌, subst, arith}
 use Rattle.keybits.specs.declared.shape.Shape.{Shape}
-use Rattle.poolsteps.specs.Layout.{slot_start}
+use Rattle.poolsteps.specs.Layout.{slot_start, spots_at}
 use Rattle.keybits.specs.Keys.{place_of}
 use Rattle.seqpool.specs.declared.act.Act.{Act}
 use Rattle.seqpool.specs.declared.act.Act.TheVariants as acts
@@ -11,7 +11,14 @@ use Rattle.shardpool.specs.LaneStates.{Fits}
 use Rattle.shardpool.specs.Lanes.{Made, Did, Calls}
 use Rattle.shardpool.proofs.calls.CallParts.{calls-more}
 use Rattle.shardpool.proofs.references.RowChanges.{rows-low}
-use Rattle.shardpool.proofs.calls.Publishes.{made-spot, published-did, published-held, published-one, published-others, published-held-with}
+use Rattle.shardpool.proofs.calls.Publishes.{made-spot, made-right, published-did, published-held, published-one, published-others, published-held-with}
+use Rattle.poolsteps.specs.declared.grid.Spot.{Spot}
+use Rattle.poolsteps.specs.Grids.{IsSpot}
+use Rattle.keybits.specs.Places.{shard_of}
+use Rattle.keybits.specs.Shapes.{index_of}
+use Rattle.shardpool.specs.Stores.{GivesOut}
+use Rattle.shardpool.proofs.frame.SeenHistories.{same-shape, same-directory}
+use Rattle.shardpool.proofs.calls.Ends.{fits-beside, own-placed, own-begins}
 use Rattle.shardpool.proofs.frame.LaneFacts.{lane_of}
 use Rattle.shardpool.proofs.pool.Pool.downgrade.Given.{Over}
 use Rattle.shardpool.proofs.references.Holdings.{publish-holds}
@@ -31,13 +38,46 @@ module _ (g : Over) (c : goal.After-to g) where
 
   -- the filling by its parts
   abbrev filling : FillingOf g.row.T.Denot
-  filling = record { table = c.args.filling.table; key = c.spend-key.result.0; start = c.spend-key.result.1; object = c.spend-key.result.2 }
+  filling = record { table = c.args.filling.table; key = c.spend-key.result.0; start = c.spend-key.result.1; object = c.give_out-whole.result.object }
 
   same : filling ≡ c.args.filling
-  same = λ i. record { table = c.args.filling.table; key = c.spend-key.ensures.0 i; start = c.spend-key.ensures.1 i; object = c.spend-key.ensures.2 i }
+  same = λ i. record { table = c.args.filling.table; key = c.spend-key.ensures.0 i; start = c.spend-key.ensures.1 i; object = (c.give_out-whole.ensures.whole.1 ∙ c.spend-key.ensures.2) i }
+
+  -- its place is then no more among the lane's rights
+  out : GivesOut (place_of filling.key) c.lane.inside.state c.give_out-whole.new.state
+  out = subst (λ (p : ℕ). GivesOut p c.lane.inside.state c.give_out-whole.new.state) c.place_of.ensures.place c.give_out-whole.ensures.gives
 
   was : Made before filling
   was = subst (λ (f : FillingOf g.row.T.Denot). Made before f) (sym same) (subst (λ (l : LaneOf). Made l c.args.filling) (sym c.lane.view_is) c.requires.made)
+
+pub give_out-whole-requires-clause-spot : goal.give_out-whole-requires-clause-spot
+give_out-whole-requires-clause-spot g c =
+    let spot : Spot = record { place = c.place_of.result; start = c.spend-key.result.1 } in
+    let there = made-spot spot c.spend-key.result.0 c.requires.made (sym (ap (λ l. l.shape) c.lane.view_is)) c.spend-key.ensures.0 c.spend-key.ensures.1 c.place_of.ensures.place in
+    subst (IsSpot c.lane.inside.state.shape spot) (sym there.place_is) there
+
+pub give_out-whole-requires-clause-placed : goal.give_out-whole-requires-clause-placed
+give_out-whole-requires-clause-placed g c = own-placed (fits-beside c.lane.invariant.1)
+
+pub give_out-whole-requires-clause-begins : goal.give_out-whole-requires-clause-begins
+give_out-whole-requires-clause-begins g c = (own-begins (fits-beside c.lane.invariant.1)).0
+
+pub give_out-whole-requires-clause-own : goal.give_out-whole-requires-clause-own
+give_out-whole-requires-clause-own g c =
+    let fits = c.lane.invariant.1 in
+    ap shard_of (c.place_of.ensures.place ∙ ap place_of c.spend-key.ensures.0) ∙ (c.requires.made.place.own ∙ (sym (ap (λ l. l.number) c.lane.view_is) ∙ (fits.seat.number_is ∙ sym fits.stores.lists.0)))
+
+pub give_out-whole-requires-clause-right : goal.give_out-whole-requires-clause-right
+give_out-whole-requires-clause-right g c =
+    let s = c.lane.inside.state in
+    let made : Made (lane_of c.lane.inside.hand.table_id c.lane.inside.hand.me.0 s) c.args.filling = subst (λ (l : LaneOf). Made l c.args.filling) (sym c.lane.view_is) c.requires.made in
+    subst (λ (p : ℕ). slice_get s.objects.rights (index_of s.shape p) ≡ Some true) (sym (c.place_of.ensures.place ∙ ap place_of c.spend-key.ensures.0)) (made-right c.lane.invariant.1 made)
+
+pub downgrade-share-requires-clause-at : goal.downgrade-share-requires-clause-at
+downgrade-share-requires-clause-at g c =
+    let spot = made-spot (record { place = c.place_of.result; start = c.spend-key.result.1 }) c.spend-key.result.0 c.requires.made (c.requires.owns.1 ∙ sym (ap (λ p. p.shape) c.self.view_is))
+    c.spend-key.ensures.0 c.spend-key.ensures.1 c.place_of.ensures.place in
+    c.give_out-whole.ensures.whole.0 ∙ (λ i. spots_at (same-directory c.lane.view_is c.requires.owns.2 c.self.view_is i) (sym (same-shape c.lane.view_is c.requires.owns.1 c.self.view_is) i) (spot.place_is i))
 
 pub downgrade-share-requires-clause-spot : goal.downgrade-share-requires-clause-spot
 downgrade-share-requires-clause-spot g c =
@@ -51,7 +91,8 @@ add_first_reference-requires-clause-at g c =
     let fits = subst (λ (y : Shape). Fits g.T.Clear.content g.T.Clear.room y c.lane.inside.hand.me.0 s) shape c.lane.invariant.1 in
     let spot = made-spot (record { place = c.place_of.result; start = c.spend-key.result.1 }) c.spend-key.result.0 c.requires.made (c.requires.owns.1 ∙ sym (ap (λ p. p.shape) c.self.view_is))
     c.spend-key.ensures.0 c.spend-key.ensures.1 c.place_of.ensures.place in
-    subst (λ (n : ℕ). n < length s.rows.items) (sym spot.start) (rows-low (place_of c.spend-key.result.0) fits.rows spot.inside)
+    subst (λ (xs : List (HeldKey g.row.T.Denot)). c.spend-key.result.1 < length xs) (sym (ap (λ x. x.rows.items) c.give_out-whole.ensures.gives.rest))
+    (subst (λ (n : ℕ). n < length s.rows.items) (sym spot.start) (rows-low (place_of c.spend-key.result.0) fits.rows spot.inside))
 
 pub invariant_of-lane : goal.invariant_of-lane
 invariant_of-lane g c =
@@ -63,17 +104,18 @@ invariant_of-lane g c =
     let at : c.spend-key.result.1 ≡ slot_start z (place_of c.spend-key.result.0)
     = (made-spot (record { place = c.place_of.result; start = c.spend-key.result.1 }) c.spend-key.result.0 c.requires.made (c.requires.owns.1 ∙ sym (ap (λ p. p.shape) c.self.view_is))
     c.spend-key.ensures.0 c.spend-key.ensures.1 c.place_of.ensures.place).start in
-    let now = published-held-with s c.add_first_reference.new.state c.lane.inside.hand.table_id (filling g c) (g.T.Clear.content c.spend-key.result.2) true (fits g c) told.called.did told.called.idle told.acts (was g c)
-    c.add_first_reference.ensures.rest share refl told.share.0 told.share.1 (ap g.T.Clear.content told.share.2) told.slot told.cell
-    (c.add_first_reference.ensures.rows ∙ ap (λ (n : ℕ). slice_set s.rows.items n row) at) (ap (λ x. x.references) c.add_first_reference.ensures.rest) in
+    let now = published-held-with s c.add_first_reference.new.state c.lane.inside.hand.table_id (filling g c) (g.T.Clear.content c.give_out-whole.result.object) true (fits g c) told.called.did told.called.idle told.acts (was g c)
+    c.give_out-whole.new.state (out g c) c.add_first_reference.ensures.rest share (told.share.3 ∙ λ i. spots_at (sym (same-directory c.lane.view_is c.requires.owns.2 c.self.view_is) i) z (place_of c.spend-key.result.0)) refl told.share.0 told.share.1 (ap g.T.Clear.content told.share.2) told.slot told.cell
+    (c.add_first_reference.ensures.rows ∙ (λ i. slice_set ((ap (λ x. x.rows.items) (out g c).rest) i) (at i) row))
+    (ap (λ x. x.references) c.add_first_reference.ensures.rest ∙ ap (λ x. x.references + 1) (out g c).rest) in
     (told.called.did.held ∙ c.lane.invariant.0, subst (λ (y : Shape). Fits g.T.Clear.content g.T.Clear.room y c.downgrade-share.new.hand.me.0 c.add_first_reference.new.state) (sym now.shape_is) now)
 
 pub returns-clause-key : goal.returns-clause-key
 returns-clause-key g c =
     let s = c.lane.inside.state in
     let told = c.downgrade-share.ensures in
-    let one = published-one s c.add_first_reference.new.state c.lane.inside.hand.table_id (filling g c) (g.T.Clear.content c.spend-key.result.2) true (fits g c) told.called.did told.called.idle told.acts (was g c)
-    c.add_first_reference.ensures.rest refl in
+    let one = published-one s c.add_first_reference.new.state c.lane.inside.hand.table_id (filling g c) (g.T.Clear.content c.give_out-whole.result.object) true (fits g c) told.called.did told.called.idle told.acts (was g c)
+    c.give_out-whole.new.state (out g c) c.add_first_reference.ensures.rest refl in
     (c.to.ensures ∙ c.spend-key.ensures.0, rw (← c.spend-key.ensures.0) (omega (arith, one)))
 
 pub returns-clause-called : goal.returns-clause-called
@@ -87,9 +129,9 @@ pub returns-clause-publishes : goal.returns-clause-publishes
 returns-clause-publishes g c =
     let s = c.lane.inside.state in
     let told = c.downgrade-share.ensures in
-    let did = published-did s c.add_first_reference.new.state c.lane.inside.hand.table_id (filling g c) (g.T.Clear.content c.spend-key.result.2) true (fits g c) told.called.did told.called.idle told.acts (was g c)
-    c.add_first_reference.ensures.rest c.downgrade-share.new.hand.table_id told.hand.0 in
-    let one : acts.Publish s.number c.spend-key.result.0 (g.T.Clear.content c.spend-key.result.2) true ≡ acts.Publish s.number c.args.filling.key (g.T.Clear.content c.args.filling.object) true
+    let did = published-did s c.add_first_reference.new.state c.lane.inside.hand.table_id (filling g c) (g.T.Clear.content c.give_out-whole.result.object) true (fits g c) told.called.did told.called.idle told.acts (was g c)
+    c.give_out-whole.new.state (out g c) c.add_first_reference.ensures.rest c.downgrade-share.new.hand.table_id told.hand.0 in
+    let one : acts.Publish s.number c.spend-key.result.0 (g.T.Clear.content c.give_out-whole.result.object) true ≡ acts.Publish s.number c.args.filling.key (g.T.Clear.content c.args.filling.object) true
     = ap (λ (f : FillingOf g.row.T.Denot). acts.Publish s.number f.key (g.T.Clear.content f.object) true) (same g c) in
     rw (← c.lane.view_is) (subst (λ (x : Act). Did (x ∷ []) (before g c) (lane_of c.downgrade-share.new.hand.table_id c.downgrade-share.new.hand.me.0 c.add_first_reference.new.state)) one did)
 
@@ -97,15 +139,15 @@ pub returns-clause-refs : goal.returns-clause-refs
 returns-clause-refs g c =
     let s = c.lane.inside.state in
     let told = c.downgrade-share.ensures in
-    rw (← c.lane.view_is) (published-held s c.add_first_reference.new.state c.lane.inside.hand.table_id (filling g c) (g.T.Clear.content c.spend-key.result.2) true (fits g c) told.called.did told.called.idle told.acts (was g c)
-    c.add_first_reference.ensures.rest)
+    rw (← c.lane.view_is) (published-held s c.add_first_reference.new.state c.lane.inside.hand.table_id (filling g c) (g.T.Clear.content c.give_out-whole.result.object) true (fits g c) told.called.did told.called.idle told.acts (was g c)
+    c.give_out-whole.new.state (out g c) c.add_first_reference.ensures.rest)
 
 pub returns-clause-fillings : goal.returns-clause-fillings
 returns-clause-fillings g c other differs is =
     let s = c.lane.inside.state in
     let told = c.downgrade-share.ensures in
-    published-others s c.add_first_reference.new.state c.lane.inside.hand.table_id (filling g c) (g.T.Clear.content c.spend-key.result.2) true (fits g c) told.called.did told.called.idle told.acts (was g c)
-    c.add_first_reference.ensures.rest c.downgrade-share.new.hand.table_id told.hand.0 other (λ e. differs (e ∙ c.spend-key.ensures.0)) (subst (λ (l : LaneOf). Made l other) (sym c.lane.view_is) is)
+    published-others s c.add_first_reference.new.state c.lane.inside.hand.table_id (filling g c) (g.T.Clear.content c.give_out-whole.result.object) true (fits g c) told.called.did told.called.idle told.acts (was g c)
+    c.give_out-whole.new.state (out g c) c.add_first_reference.ensures.rest c.downgrade-share.new.hand.table_id told.hand.0 other (λ e. differs (e ∙ c.spend-key.ensures.0)) (subst (λ (l : LaneOf). Made l other) (sym c.lane.view_is) is)
 
 pub returns-clause-one_more : goal.returns-clause-one_more
 returns-clause-one_more g c = publish-holds c.requires.made.place (returns-clause-publishes g c)

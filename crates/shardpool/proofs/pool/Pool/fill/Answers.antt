@@ -19,7 +19,7 @@ use Rattle.shardpool.proofs.pool.Pool.fill.Goals as goal
 pub next_key-key-requires-clause-unchained : goal.next_key-key-requires-clause-unchained
 next_key-key-requires-clause-unchained g c =
     let chain : List ℕ = (the_lane c.lane.inside.hand.me.0).chain in
-    let loose = subst (λ (lane : LaneOf). IsLoose g.T.Clear.content g.T.Clear.room lane c.args.spot.place c.args.object) (sym c.lane.view_is) c.requires.loose in
+    let loose = subst (λ (lane : LaneOf). IsLoose g.T.Clear.content g.T.Clear.room lane c.args.spot.place c.args.object.value) (sym c.lane.view_is) c.requires.loose in
     has-not c.args.spot.place chain loose.filling.unchained
 
 pub invariant_of-lane : goal.invariant_of-lane
@@ -39,6 +39,7 @@ returns-clause-fills g c =
     let may = subst (λ (z : Shape). MayPublish z c.next_key-key.new.hand.me.0 c.next_key-key.result) shape c.next_key-key.ensures.may in
     let was : LaneOf = record {
       table = c.lane.inside.hand.table_id;
+      directory = c.lane.inside.state.objects.directory;
       shape = c.lane.inside.state.shape;
       number = c.lane.inside.state.number;
       book = c.lane.inside.hand.me.0;
@@ -46,14 +47,14 @@ returns-clause-fills g c =
       pages = c.lane.inside.state.pages;
     } in
     let new : LaneOf = record was { table = c.next_key-key.new.hand.table_id; book = c.next_key-key.new.hand.me.0 } in
-    let loose = subst (λ (lane : LaneOf). IsLoose content room lane c.args.spot.place c.args.object) (sym c.lane.view_is) c.requires.loose in
+    let loose = subst (λ (lane : LaneOf). IsLoose content room lane c.args.spot.place c.args.object.value) (sym c.lane.view_is) c.requires.loose in
     let seat = c.lane.invariant.1.seat in
     let small = (place_bounds was.shape seat.shape c.args.spot.place loose.filling.inside).number in
     let at : place_of c.next_key-key.result ≡ c.args.spot.place = ap place_of c.next_key-key.ensures.key
     ∙ place_of-key_number c.self.inside.grid.shape.tag c.args.spot.place (pool_after c.self.inside.grid.shape c.next_key-key.new.hand.me.0.seen c.args.spot.place).generation small in
     let spot : IsSpot c.self.inside.grid.shape c.args.spot c.args.spot.place = subst (λ (p : PoolOf). IsSpot p.shape c.args.spot c.args.spot.place) (sym c.self.view_is) c.requires.spot in
-    subst (λ (lane : LaneOf). Fills lane new c.args.spot.place c.args.object c.of.result) c.lane.view_is
-    (filled content room was new c.args.spot.place c.args.object c.of.result seat loose (bare-sees sees) (c.next_key-key.ensures.hand.0, refl, refl) refl refl
+    subst (λ (lane : LaneOf). Fills lane new c.args.spot.place c.args.object.value c.of.result) c.lane.view_is
+    (filled content room was new c.args.spot.place c.args.object.value c.of.result seat loose (bare-sees sees) (c.next_key-key.ensures.hand.0, refl, refl, refl) refl refl
     (ap (λ (filling : FillingOf g.row.T.Denot). filling.table) c.of.ensures ∙ c.next_key-key.ensures.hand.0)
     (ap (λ (filling : FillingOf g.row.T.Denot). filling.start) c.of.ensures ∙ (spot.start ∙ ap (λ (y : Shape). slot_start y c.args.spot.place) shape))
     (ap (λ (filling : FillingOf g.row.T.Denot). place_of filling.key) c.of.ensures ∙ at)
@@ -65,4 +66,4 @@ returns-clause-fillings g c = λ filling made.
     let shape = same-shape c.lane.view_is c.requires.owns.1 c.self.view_is in
     let sees = subst (λ (z : Shape). Sees z c.lane.inside.hand.me c.next_key-key.new.hand.me) shape c.next_key-key.ensures.sees in
     let seat = c.lane.invariant.1.seat in
-    made-still (passes-sees sees) seat (c.next_key-key.ensures.hand.0, refl, refl) refl refl c.lane.view_is filling (still-idle sees seat.idle) (same-chain sees) made
+    made-still (passes-sees sees) seat (c.next_key-key.ensures.hand.0, refl, refl, refl) refl refl c.lane.view_is filling (still-idle sees seat.idle) (same-chain sees) made

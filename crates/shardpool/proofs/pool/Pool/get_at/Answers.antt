@@ -8,7 +8,9 @@ use Rattle.shardpool.proofs.calls.CallParts.{calls-more}
 use Rattle.shardpool.proofs.calls.Gets.{called-then, seen-within}
 use Rattle.shardpool.proofs.calls.Halts.{fits-own}
 use Rattle.shardpool.proofs.references.Holdings.{get-holds}
-use Rattle.shardpool.proofs.calls.Ends.{fits-beside, own-spot, own-placed}
+use Rattle.poolsteps.specs.Layout.{spots_at}
+use Rattle.shardpool.proofs.frame.SeenHistories.{same-directory}
+use Rattle.shardpool.proofs.calls.Ends.{fits-beside, own-spot, own-placed, own-begins, own-stands}
 use Rattle.shardpool.proofs.calls.KeyCalls.{ready, ready-low, ready-at, missed-away, missed, hit-touches, hit-untouched, gained-again, gained-first}
 use Rattle.shardpool.proofs.references.RowChanges.{rows-count-le}
 use Rattle.shardpool.proofs.frame.Standing.{missed-outside, found-since, missed-since, seen-of}
@@ -38,6 +40,14 @@ keep_reclaimed-requires-clause-spot g c =
 
 pub keep_reclaimed-requires-clause-placed : goal.keep_reclaimed-requires-clause-placed
 keep_reclaimed-requires-clause-placed g c = own-placed (fits-beside c.lane.invariant.1)
+
+pub keep_reclaimed-requires-clause-begins : goal.keep_reclaimed-requires-clause-begins
+keep_reclaimed-requires-clause-begins g c = own-begins (fits-beside c.lane.invariant.1)
+
+pub keep_reclaimed-requires-clause-at : goal.keep_reclaimed-requires-clause-at
+keep_reclaimed-requires-clause-at g c =
+    let before = ready c.lane.view_is c.requires.owns.1 c.self.view_is c.lane.invariant.1 c.in_ok-spot.ensures.spot in
+    own-stands c.in-Miss.reclaimed (fits-beside before.fits) (same-directory c.lane.view_is c.requires.owns.2 c.self.view_is) before.there.place_is c.in-Miss.ensures.at
 
 pub keep_reclaimed-requires-clause-away : goal.keep_reclaimed-requires-clause-away
 keep_reclaimed-requires-clause-away g c =
@@ -145,14 +155,15 @@ invariant_of-lane-2 g c =
     let before = ready c.lane.view_is c.requires.owns.1 c.self.view_is c.lane.invariant.1 c.in_ok-spot.ensures.spot in
     let some = c.if-index-gt0.false in
     let none : c.index.result.now.count ≡ 0 = omega (arith, some) in
-    let left = gained-first before c.in-Hit.ensures.called c.in-Hit.ensures.got c.index.result.now c.index.ensures c.add_first_reference.new.state c.add_first_reference.ensures.rest none c.out-share.ensures.outs
+    let left = gained-first before c.in-Hit.ensures.called c.in-Hit.ensures.got c.index.result.now c.index.ensures c.add_first_reference.new.state c.add_first_reference.ensures.rest
+    (same-directory c.lane.view_is c.requires.owns.2 c.self.view_is) none c.out-share.ensures.outs
     c.add_first_reference.ensures.rows in
     (c.out-share.ensures.outs.held ∙ (c.in-Hit.ensures.called.did.held ∙ c.lane.invariant.0), fits-own left.fits)
 
 pub returns-clause-called : goal.returns-clause-called
 returns-clause-called g c key =
     let there = c.in_ok-spot.ensures.spot in
-    let outs = subst (λ (p : ℕ). Outs g.T.Clear.content g.T.Clear.room c.self.inside.grid.shape p c.lane.inside.state.number Untouched c.get-got.new.hand.me c.out-share.result c.out-share.new.hand.me)
+    let outs = subst (λ (p : ℕ). Outs g.T.Clear.content g.T.Clear.room (spots_at c.self.inside.grid.objects.ptr c.self.inside.grid.shape) c.self.inside.grid.shape p c.lane.inside.state.number Untouched c.get-got.new.hand.me c.out-share.result c.out-share.new.hand.me)
     there.place_is c.out-share.ensures.outs in
     rw (← c.self.view_is, ← c.lane.view_is) (calls-more (called-then c.in-Hit.ensures.called (carries-out outs)) (omega arith))
 
@@ -161,7 +172,8 @@ returns-clause-gets g c key =
     let before = ready c.lane.view_is c.requires.owns.1 c.self.view_is c.lane.invariant.1 c.in_ok-spot.ensures.spot in
     let some = c.if-index-gt0.false in
     let none : c.index.result.now.count ≡ 0 = omega (arith, some) in
-    let left = gained-first before c.in-Hit.ensures.called c.in-Hit.ensures.got c.index.result.now c.index.ensures c.add_first_reference.new.state c.add_first_reference.ensures.rest none c.out-share.ensures.outs
+    let left = gained-first before c.in-Hit.ensures.called c.in-Hit.ensures.got c.index.result.now c.index.ensures c.add_first_reference.new.state c.add_first_reference.ensures.rest
+    (same-directory c.lane.view_is c.requires.owns.2 c.self.view_is) none c.out-share.ensures.outs
     c.add_first_reference.ensures.rows in
     rw (← c.lane.view_is)
     (refl, left.holds, c.in-Hit.ensures.got.0, left.did c.lane.inside.hand.table_id c.out-share.new.hand.table_id (c.out-share.ensures.hand.0 ∙ c.in-Hit.ensures.hand.0))
@@ -171,7 +183,8 @@ returns-clause-refs g c =
     let before = ready c.lane.view_is c.requires.owns.1 c.self.view_is c.lane.invariant.1 c.in_ok-spot.ensures.spot in
     let some = c.if-index-gt0.false in
     let none : c.index.result.now.count ≡ 0 = omega (arith, some) in
-    let left = gained-first before c.in-Hit.ensures.called c.in-Hit.ensures.got c.index.result.now c.index.ensures c.add_first_reference.new.state c.add_first_reference.ensures.rest none c.out-share.ensures.outs
+    let left = gained-first before c.in-Hit.ensures.called c.in-Hit.ensures.got c.index.result.now c.index.ensures c.add_first_reference.new.state c.add_first_reference.ensures.rest
+    (same-directory c.lane.view_is c.requires.owns.2 c.self.view_is) none c.out-share.ensures.outs
     c.add_first_reference.ensures.rows in
     rw (← c.lane.view_is) left.refs
 
@@ -180,7 +193,8 @@ returns-clause-fillings g c filling =
     let before = ready c.lane.view_is c.requires.owns.1 c.self.view_is c.lane.invariant.1 c.in_ok-spot.ensures.spot in
     let some = c.if-index-gt0.false in
     let none : c.index.result.now.count ≡ 0 = omega (arith, some) in
-    let left = gained-first before c.in-Hit.ensures.called c.in-Hit.ensures.got c.index.result.now c.index.ensures c.add_first_reference.new.state c.add_first_reference.ensures.rest none c.out-share.ensures.outs
+    let left = gained-first before c.in-Hit.ensures.called c.in-Hit.ensures.got c.index.result.now c.index.ensures c.add_first_reference.new.state c.add_first_reference.ensures.rest
+    (same-directory c.lane.view_is c.requires.owns.2 c.self.view_is) none c.out-share.ensures.outs
     c.add_first_reference.ensures.rows in
     rw (← c.lane.view_is)
     (left.fillings c.lane.inside.hand.table_id c.out-share.new.hand.table_id (c.out-share.ensures.hand.0 ∙ c.in-Hit.ensures.hand.0) filling)
@@ -212,13 +226,13 @@ returns-clause-same g c = (returns-clause-gets g c (c.in_ok-spot.ensures.some.0 
 -- ---- so it is one of the pool
 
 pub returns-in-Miss-clause-owns : goal.returns-in-Miss-clause-owns
-returns-in-Miss-clause-owns g c = let same = returns-in-Miss-clause-same g c in (same.0 ∙ c.requires.owns.0, same.1 ∙ c.requires.owns.1)
+returns-in-Miss-clause-owns g c = let same = returns-in-Miss-clause-same g c in (same.0 ∙ c.requires.owns.0, same.1 ∙ c.requires.owns.1, same.3 ∙ c.requires.owns.2)
 
 pub returns-then-index-gt0-clause-owns : goal.returns-then-index-gt0-clause-owns
-returns-then-index-gt0-clause-owns g c = let same = returns-then-index-gt0-clause-same g c in (same.0 ∙ c.requires.owns.0, same.1 ∙ c.requires.owns.1)
+returns-then-index-gt0-clause-owns g c = let same = returns-then-index-gt0-clause-same g c in (same.0 ∙ c.requires.owns.0, same.1 ∙ c.requires.owns.1, same.3 ∙ c.requires.owns.2)
 
 pub returns-clause-owns : goal.returns-clause-owns
-returns-clause-owns g c = let same = returns-clause-same g c in (same.0 ∙ c.requires.owns.0, same.1 ∙ c.requires.owns.1)
+returns-clause-owns g c = let same = returns-clause-same g c in (same.0 ∙ c.requires.owns.0, same.1 ∙ c.requires.owns.1, same.3 ∙ c.requires.owns.2)
 
 -- ---- the number is a key
 

@@ -1,5 +1,5 @@
 -- The share goes back in front of the call.
-use Rattle.std.proofs.Common.{ap, refl, subst, arith}
+use Rattle.std.proofs.Common.{ap, refl, sym, ◌∙◌, subst, arith}
 use Rattle.keybits.specs.declared.shape.Shape.{Shape}
 use Rattle.steplaws.specs.Calls.Call.{Releasing}
 use Rattle.poolsteps.specs.Grids.{IsSpot}
@@ -40,3 +40,6 @@ returns-clause-called g c =
     let lends = c.return_last_share.ensures.lends in
     subst (λ (z : Shape). CalledWithin z (Releasing c.args.key) c.args.limit c.args.hand.now.me c.release_within.new.hand.me) (ap (λ p. p.shape) c.self.view_is)
     (halts-behind lends.did lends.pushed c.release_within.ensures.called)
+
+pub return_last_share-requires-clause-directory : goal.return_last_share-requires-clause-directory
+return_last_share-requires-clause-directory g c = c.requires.parts.directory ∙ sym (ap (λ p. p.directory) c.self.view_is)

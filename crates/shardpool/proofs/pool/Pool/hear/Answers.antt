@@ -15,13 +15,13 @@ invariant_of-lane g c =
 pub returns-clause-goes : goal.returns-clause-goes
 returns-clause-goes g c =
     let sees = subst (λ (z : Shape). Sees z c.lane.inside.hand.me c.hear.new.hand.me) (same-shape c.lane.view_is c.requires.owns.1 c.self.view_is) c.hear.ensures.sees in
-    did-none (passes-sees sees) c.lane.invariant.1.seat (c.hear.ensures.hand.0, refl, refl) refl refl c.lane.view_is
+    did-none (passes-sees sees) c.lane.invariant.1.seat (c.hear.ensures.hand.0, refl, refl, refl) refl refl c.lane.view_is
 
 pub returns-clause-fillings : goal.returns-clause-fillings
 returns-clause-fillings g c = λ filling made.
     let sees = subst (λ (z : Shape). Sees z c.lane.inside.hand.me c.hear.new.hand.me) (same-shape c.lane.view_is c.requires.owns.1 c.self.view_is) c.hear.ensures.sees in
     let fits = c.lane.invariant.1 in
-    made-still (passes-sees sees) fits.seat (c.hear.ensures.hand.0, refl, refl) refl refl c.lane.view_is filling (still-idle sees fits.seat.idle) (same-chain sees) made
+    made-still (passes-sees sees) fits.seat (c.hear.ensures.hand.0, refl, refl, refl) refl refl c.lane.view_is filling (still-idle sees fits.seat.idle) (same-chain sees) made
 
 pub returns-clause-refs : goal.returns-clause-refs
 returns-clause-refs g c = did-none-refs (returns-clause-goes g c)

@@ -1,5 +1,7 @@
-use Rattle.std.proofs.Common.{◌≡◌, false, [], ◌∷◌, refl, sym, ap, ◌∙◌, subst, arith}
+use Rattle.std.proofs.Common.{◌≡◌, ℕ, true, false, [], ◌∷◌, slice_get, Some, refl, sym, ap, ◌∙◌, subst, arith}
 use Rattle.keybits.specs.declared.shape.Shape.{Shape}
+use Rattle.keybits.specs.Keys.{place_of}
+use Rattle.poolsteps.specs.Layout.{spots_at}
 use Rattle.seqpool.specs.declared.act.Act.{Act}
 use Rattle.seqpool.specs.declared.act.Act.TheVariants as acts
 use Rattle.steplaws.specs.Calls.Call.{Publishing}
@@ -7,7 +9,14 @@ use Rattle.shardpool.specs.Tokens.{LaneOf, FillingOf}
 use Rattle.shardpool.specs.LaneStates.{Fits}
 use Rattle.shardpool.specs.Lanes.{Made, Did, Calls}
 use Rattle.shardpool.proofs.calls.CallParts.{calls-more}
-use Rattle.shardpool.proofs.calls.Publishes.{made-spot, published-did, published-held, published-others, published-alone}
+use Rattle.shardpool.proofs.calls.Publishes.{made-spot, made-right, published-did, published-held, published-others, published-alone}
+use Rattle.poolsteps.specs.declared.grid.Spot.{Spot}
+use Rattle.poolsteps.specs.Grids.{IsSpot}
+use Rattle.keybits.specs.Places.{shard_of}
+use Rattle.keybits.specs.Shapes.{index_of}
+use Rattle.shardpool.specs.Stores.{GivesOut}
+use Rattle.shardpool.proofs.frame.SeenHistories.{same-shape, same-directory}
+use Rattle.shardpool.proofs.calls.Ends.{fits-beside, own-placed, own-begins}
 use Rattle.shardpool.proofs.frame.LaneFacts.{lane_of}
 use Rattle.shardpool.proofs.pool.Pool.publish.Given.{Over}
 use Rattle.shardpool.proofs.references.Holdings.{publish-alone}
@@ -27,13 +36,46 @@ module _ (g : Over) (c : goal.After-publish g) where
 
   -- the filling by its parts
   abbrev filling : FillingOf g.row.T.Denot
-  filling = record { table = c.args.filling.table; key = c.spend-key.result.0; start = c.spend-key.result.1; object = c.spend-key.result.2 }
+  filling = record { table = c.args.filling.table; key = c.spend-key.result.0; start = c.spend-key.result.1; object = c.give_out-whole.result.object }
 
   same : filling ≡ c.args.filling
-  same = λ i. record { table = c.args.filling.table; key = c.spend-key.ensures.0 i; start = c.spend-key.ensures.1 i; object = c.spend-key.ensures.2 i }
+  same = λ i. record { table = c.args.filling.table; key = c.spend-key.ensures.0 i; start = c.spend-key.ensures.1 i; object = (c.give_out-whole.ensures.whole.1 ∙ c.spend-key.ensures.2) i }
+
+  -- its place is then no more among the lane's rights
+  out : GivesOut (place_of filling.key) c.lane.inside.state c.give_out-whole.new.state
+  out = subst (λ (p : ℕ). GivesOut p c.lane.inside.state c.give_out-whole.new.state) c.place_of.ensures.place c.give_out-whole.ensures.gives
 
   was : Made before filling
   was = subst (λ (f : FillingOf g.row.T.Denot). Made before f) (sym same) (subst (λ (l : LaneOf). Made l c.args.filling) (sym c.lane.view_is) c.requires.made)
+
+pub give_out-whole-requires-clause-spot : goal.give_out-whole-requires-clause-spot
+give_out-whole-requires-clause-spot g c =
+    let spot : Spot = record { place = c.place_of.result; start = c.spend-key.result.1 } in
+    let there = made-spot spot c.spend-key.result.0 c.requires.made (sym (ap (λ l. l.shape) c.lane.view_is)) c.spend-key.ensures.0 c.spend-key.ensures.1 c.place_of.ensures.place in
+    subst (IsSpot c.lane.inside.state.shape spot) (sym there.place_is) there
+
+pub give_out-whole-requires-clause-placed : goal.give_out-whole-requires-clause-placed
+give_out-whole-requires-clause-placed g c = own-placed (fits-beside c.lane.invariant.1)
+
+pub give_out-whole-requires-clause-begins : goal.give_out-whole-requires-clause-begins
+give_out-whole-requires-clause-begins g c = (own-begins (fits-beside c.lane.invariant.1)).0
+
+pub give_out-whole-requires-clause-own : goal.give_out-whole-requires-clause-own
+give_out-whole-requires-clause-own g c =
+    let fits = c.lane.invariant.1 in
+    ap shard_of (c.place_of.ensures.place ∙ ap place_of c.spend-key.ensures.0) ∙ (c.requires.made.place.own ∙ (sym (ap (λ l. l.number) c.lane.view_is) ∙ (fits.seat.number_is ∙ sym fits.stores.lists.0)))
+
+pub give_out-whole-requires-clause-right : goal.give_out-whole-requires-clause-right
+give_out-whole-requires-clause-right g c =
+    let s = c.lane.inside.state in
+    let made : Made (lane_of c.lane.inside.hand.table_id c.lane.inside.hand.me.0 s) c.args.filling = subst (λ (l : LaneOf). Made l c.args.filling) (sym c.lane.view_is) c.requires.made in
+    subst (λ (p : ℕ). slice_get s.objects.rights (index_of s.shape p) ≡ Some true) (sym (c.place_of.ensures.place ∙ ap place_of c.spend-key.ensures.0)) (made-right c.lane.invariant.1 made)
+
+pub publish-requires-clause-at : goal.publish-requires-clause-at
+publish-requires-clause-at g c =
+    let spot = made-spot (record { place = c.place_of.result; start = c.spend-key.result.1 }) c.spend-key.result.0 c.requires.made (c.requires.owns.1 ∙ sym (ap (λ p. p.shape) c.self.view_is))
+    c.spend-key.ensures.0 c.spend-key.ensures.1 c.place_of.ensures.place in
+    c.give_out-whole.ensures.whole.0 ∙ (λ i. spots_at (same-directory c.lane.view_is c.requires.owns.2 c.self.view_is i) (sym (same-shape c.lane.view_is c.requires.owns.1 c.self.view_is) i) (spot.place_is i))
 
 pub publish-requires-clause-spot : goal.publish-requires-clause-spot
 publish-requires-clause-spot g c =
@@ -43,9 +85,10 @@ publish-requires-clause-spot g c =
 pub invariant_of-lane : goal.invariant_of-lane
 invariant_of-lane g c =
     let s = c.lane.inside.state in
+    let m = c.give_out-whole.new.state in
     let told = c.publish.ensures in
-    let now = published-alone s s c.lane.inside.hand.table_id (filling g c) (g.T.Clear.content c.spend-key.result.2) false (fits g c) told.called.did told.called.idle told.acts (was g c) refl refl refl refl in
-    (told.called.did.held ∙ c.lane.invariant.0, subst (λ (y : Shape). Fits g.T.Clear.content g.T.Clear.room y c.publish.new.hand.me.0 s) (sym (shape g c)) now)
+    let now = published-alone s m c.lane.inside.hand.table_id (filling g c) (g.T.Clear.content c.give_out-whole.result.object) false (fits g c) told.called.did told.called.idle told.acts (was g c) m (out g c) refl refl (ap (λ x. x.rows.items) (out g c).rest) (ap (λ x. x.references) (out g c).rest) in
+    (told.called.did.held ∙ c.lane.invariant.0, subst (λ (y : Shape). Fits g.T.Clear.content g.T.Clear.room y c.publish.new.hand.me.0 m) (sym now.shape_is) now)
 
 pub returns-clause-called : goal.returns-clause-called
 returns-clause-called g c =
@@ -57,27 +100,30 @@ returns-clause-called g c =
 pub returns-clause-publishes : goal.returns-clause-publishes
 returns-clause-publishes g c =
     let s = c.lane.inside.state in
+    let m = c.give_out-whole.new.state in
     let told = c.publish.ensures in
-    let did = published-did s s c.lane.inside.hand.table_id (filling g c) (g.T.Clear.content c.spend-key.result.2) false (fits g c) told.called.did told.called.idle told.acts (was g c) refl
+    let did = published-did s m c.lane.inside.hand.table_id (filling g c) (g.T.Clear.content c.give_out-whole.result.object) false (fits g c) told.called.did told.called.idle told.acts (was g c) m (out g c) refl
     c.publish.new.hand.table_id told.hand.0 in
-    let one : acts.Publish s.number c.spend-key.result.0 (g.T.Clear.content c.spend-key.result.2) false ≡ acts.Publish s.number c.args.filling.key (g.T.Clear.content c.args.filling.object) false
+    let one : acts.Publish s.number c.spend-key.result.0 (g.T.Clear.content c.give_out-whole.result.object) false ≡ acts.Publish s.number c.args.filling.key (g.T.Clear.content c.args.filling.object) false
     = ap (λ (f : FillingOf g.row.T.Denot). acts.Publish s.number f.key (g.T.Clear.content f.object) false) (same g c) in
-    rw (← c.lane.view_is) (subst (λ (x : Act). Did (x ∷ []) (before g c) (lane_of c.publish.new.hand.table_id c.publish.new.hand.me.0 s)) one did)
+    rw (← c.lane.view_is) (subst (λ (x : Act). Did (x ∷ []) (before g c) (lane_of c.publish.new.hand.table_id c.publish.new.hand.me.0 m)) one did)
 
 pub returns-clause-owns : goal.returns-clause-owns
-returns-clause-owns g c = let same = (returns-clause-publishes g c).same in (same.0 ∙ c.requires.owns.0, same.1 ∙ c.requires.owns.1)
+returns-clause-owns g c = let same = (returns-clause-publishes g c).same in (same.0 ∙ c.requires.owns.0, same.1 ∙ c.requires.owns.1, same.3 ∙ c.requires.owns.2)
 
 pub returns-clause-refs : goal.returns-clause-refs
 returns-clause-refs g c =
     let s = c.lane.inside.state in
+    let m = c.give_out-whole.new.state in
     let told = c.publish.ensures in
-    rw (← c.lane.view_is) (published-held s s c.lane.inside.hand.table_id (filling g c) (g.T.Clear.content c.spend-key.result.2) false (fits g c) told.called.did told.called.idle told.acts (was g c) refl)
+    rw (← c.lane.view_is) (published-held s m c.lane.inside.hand.table_id (filling g c) (g.T.Clear.content c.give_out-whole.result.object) false (fits g c) told.called.did told.called.idle told.acts (was g c) m (out g c) refl)
 
 pub returns-clause-fillings : goal.returns-clause-fillings
 returns-clause-fillings g c other differs is =
     let s = c.lane.inside.state in
+    let m = c.give_out-whole.new.state in
     let told = c.publish.ensures in
-    published-others s s c.lane.inside.hand.table_id (filling g c) (g.T.Clear.content c.spend-key.result.2) false (fits g c) told.called.did told.called.idle told.acts (was g c) refl
+    published-others s m c.lane.inside.hand.table_id (filling g c) (g.T.Clear.content c.give_out-whole.result.object) false (fits g c) told.called.did told.called.idle told.acts (was g c) m (out g c) refl
     c.publish.new.hand.table_id told.hand.0 other (λ e. differs (e ∙ c.spend-key.ensures.0)) (subst (λ (l : LaneOf). Made l other) (sym c.lane.view_is) is)
 
 pub returns-clause-held : goal.returns-clause-held

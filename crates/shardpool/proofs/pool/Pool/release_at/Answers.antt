@@ -11,7 +11,8 @@ use Rattle.shardpool.specs.Stores.{Keeps}
 use Rattle.shardpool.specs.LaneStates.{Fits}
 use Rattle.shardpool.specs.Lanes.{Made}
 use Rattle.shardpool.proofs.calls.CallParts.{calls-more, calls-behind}
-use Rattle.shardpool.proofs.calls.Ends.{own-spot, own-placed}
+use Rattle.shardpool.proofs.frame.SeenHistories.{same-directory}
+use Rattle.shardpool.proofs.calls.Ends.{own-spot, own-placed, own-begins, own-stands}
 use Rattle.shardpool.proofs.calls.Releases.{EndsAt, Released, refers-held, lent-some, lent-share, lent-at, end-low, end-more, end-within, beside, released-away, released}
 use Rattle.shardpool.proofs.references.Holdings.{release-holds}
 use Rattle.shardpool.proofs.pool.Pool.release_at.Given.{Over}
@@ -80,6 +81,25 @@ keep_reclaimed-requires-clause-placed g c =
     let spot = subst (λ (p : PoolOf). IsSpot p.shape c.args.spot (place_of c.args.key)) (sym c.self.view_is) c.requires.spot in
     let ends = subst (λ (n : ℕ). EndsAt n c.return_last_share.new.state c.drop_reference.new.state) spot.start (c.drop_reference.ensures.rows, c.drop_reference.ensures.rest) in
     own-placed (beside refers c.return_last_share.ensures.lends c.drop_reference.new.state ends)
+
+pub keep_reclaimed-requires-clause-begins : goal.keep_reclaimed-requires-clause-begins
+keep_reclaimed-requires-clause-begins g c =
+    let refers = refers-held c.lane.view_is c.requires.owns.1 c.self.view_is c.lane.invariant.1 c.requires.held refl in
+    let spot = subst (λ (p : PoolOf). IsSpot p.shape c.args.spot (place_of c.args.key)) (sym c.self.view_is) c.requires.spot in
+    let ends = subst (λ (n : ℕ). EndsAt n c.return_last_share.new.state c.drop_reference.new.state) spot.start (c.drop_reference.ensures.rows, c.drop_reference.ensures.rest) in
+    own-begins (beside refers c.return_last_share.ensures.lends c.drop_reference.new.state ends)
+
+pub keep_reclaimed-requires-clause-at : goal.keep_reclaimed-requires-clause-at
+keep_reclaimed-requires-clause-at g c =
+    let refers = refers-held c.lane.view_is c.requires.owns.1 c.self.view_is c.lane.invariant.1 c.requires.held refl in
+    let spot = subst (λ (p : PoolOf). IsSpot p.shape c.args.spot (place_of c.args.key)) (sym c.self.view_is) c.requires.spot in
+    let ends = subst (λ (n : ℕ). EndsAt n c.return_last_share.new.state c.drop_reference.new.state) spot.start (c.drop_reference.ensures.rows, c.drop_reference.ensures.rest) in
+    own-stands c.release-reclaimed.result (beside refers c.return_last_share.ensures.lends c.drop_reference.new.state ends)
+    (ap (λ x. x.objects.directory) c.drop_reference.ensures.rest ∙ (ap (λ x. x.objects.directory) c.return_last_share.ensures.lends.rest
+    ∙ same-directory c.lane.view_is c.requires.owns.2 c.self.view_is)) spot.place_is c.release-reclaimed.ensures.at
+
+pub return_last_share-requires-clause-directory : goal.return_last_share-requires-clause-directory
+return_last_share-requires-clause-directory g c = same-directory c.lane.view_is c.requires.owns.2 c.self.view_is
 
 pub keep_reclaimed-requires-clause-away : goal.keep_reclaimed-requires-clause-away
 keep_reclaimed-requires-clause-away g c =

@@ -1,0 +1,11 @@
+-- A place stands in front of the row's end.
+use Rattle.std.proofs.Common.{◌<◌, ℕ, sym, ◌∙◌, subst}
+use Rattle.poolsteps.specs.Layout.{slot_start}
+use Rattle.poolsteps.proofs.SlotLemmas.{in-row}
+use Rattle.shardpool.proofs.stores.keep_reclaimed.Goals as goal
+
+pub retire-requires-clause-start : goal.retire-requires-clause-start
+retire-requires-clause-start g c =
+    let s = c.args.state.now in let spot = c.requires.spot in
+    subst (λ (n : ℕ). n < s.objects.wide) (sym spot.start)
+    (subst (λ (n : ℕ). slot_start s.shape c.args.spot.place < n) (sym c.requires.begins.1) (in-row s.shape c.args.spot.place spot.inside))
