@@ -27,7 +27,7 @@ def part_of(pid):
     folder = os.readlink(f"/proc/{pid}/cwd")
     if "/rt-edit-" in folder:
         return crate, "edits"
-    if not folder.startswith(os.getcwd() + "/"):
+    if not folder.startswith(os.getcwd() + "/") and "/rt-copy-" not in folder:
         return None
     return crate, "tests" if "--test" in words else "proof"
 

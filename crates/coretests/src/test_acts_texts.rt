@@ -10,7 +10,7 @@ use std::alloc::Global;
 use std::process::Abort;
 
 /// What a checker answers of a text.
-#[derive(Drop, Debug)]
+#[derive(Clone, Copy, Debug)]
 enum Answer {
     /// The counts of acts, published, reclaimed, present, marked, home and retired.
     Legal([usize; 7]),

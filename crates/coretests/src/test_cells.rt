@@ -3,13 +3,13 @@ ghost use Rattle.std.specs.Prelude.{◌≡◌, ◌<◌, ◌≤◌, [], ◌∷◌
 use crate::test_texts;
 use crate::test_texts::same;
 use arrayvec::ArrayVec;
-use slotcell::{ByteBuf, Clear, Memory, Record, Rest, Share, Slot, Whole, join};
+use slotcell::{ByteBuf, Clear, Memory, Record, Share, Whole, join};
 use std::alloc::Global;
 use std::cell::Cell;
 use std::process::Abort;
 use std::snapshot::Snapshot;
+use std::thread;
 use std::thread::{Promise, PromisedHandle, Threads};
-use std::{mem, thread};
 
 // The last of the shares.
 fn take_last<T: Drop>(shares: &mut ArrayVec<Option<Share<T>>, 16>) -> Share<T>
@@ -51,59 +51,12 @@ fn refilled<T: Clear + Drop>(alloc: Global, whole: Whole<T>, n: usize) -> Whole<
     whole
 }
 
-fn sent<S: Send>(value: S) -> S
-    ensures { result ≡ value }
-{
-    value
-}
+// The value may be sent to a thread, and be shared with one.
+fn crosses<S: Send + Sync>(_value: &S) {}
 
-fn seen<S: Sync>(value: &S) -> &S
-    ensures { result.now ≡ value.now }
-{
-    value
-}
-
-fn share_crosses<T: Send + Sync + Drop>(share: Share<T>) -> Share<T>
-    ensures { result ≡ share }
-{
-    let _ = seen(&share);
-    sent(share)
-}
-
-fn whole_crosses<T: Send + Sync + Drop>(whole: Whole<T>) -> Whole<T>
-    ensures { result ≡ whole }
-{
-    let _ = seen(&whole);
-    sent(whole)
-}
-
-fn slot_crosses<T: Send + Sync + Drop>(slot: Slot<T>) -> Slot<T>
-    ensures { result ≡ slot }
-{
-    let _ = seen(&slot);
-    sent(slot)
-}
-
-// Puts the share into an empty slot, and takes it out.
-fn kept_in_a_slot<T: Send + Sync + Drop>(share: Share<T>) -> Share<T>
-    ensures { result ≡ share }
-{
-    let mut slot = Slot::empty();
-    drop(mem::replace(&mut slot, Slot::filled(share)));
-    slot_crosses(slot).into_share()
-}
-
-// Lends the cell in three shares, cuts two off, and merges them in again.
-fn lent_in_three<T: Send + Sync + Drop>(alloc: Global, whole: Whole<T>) -> Whole<T>
-    ensures { result ≡ whole }
-{
-    let mut rest = whole.lend(3);
-    let first = rest.cut();
-    let second = kept_in_a_slot(rest.cut());
-    let mut rest = Rest::of_last(rest.into_share());
-    rest.merge(second);
-    rest.merge(first);
-    rest.into_whole(alloc)
+fn cells_cross<T: Send + Sync>(share: &Share<T>, whole: &Whole<T>) {
+    crosses(share);
+    crosses(whole);
 }
 
 // Where memory is refused the buffer is as it was, and the call may be made again.
@@ -148,16 +101,18 @@ fn take_again<R: Abort>(rt: &R, buffer: &mut ByteBuf, bytes: &[u8]) {
     same(rt, &buffer.room(), &room);
 }
 
+static FIVES: [u8; 4096] = [5; 4096];
+
 #[test]
 fn a_cleared_buffer_keeps_its_room(rt: HostRuntime) {
-    let bytes = [5u8; 4096];
+    let bytes = FIVES.as_slice();
     let mut buffer = ByteBuf::fresh(rt.alloc());
     assert!(rt; buffer.is_empty());
     same(&rt, &buffer.room(), &0);
-    buffer.append(&bytes).expect(&rt, "memory for the bytes");
-    has_bytes(&rt, &buffer, &bytes);
-    take_again(&rt, &mut buffer, &bytes);
-    has_bytes(&rt, &buffer, &bytes);
+    buffer.append(bytes).expect(&rt, "memory for the bytes");
+    has_bytes(&rt, &buffer, bytes);
+    take_again(&rt, &mut buffer, bytes);
+    has_bytes(&rt, &buffer, bytes);
 }
 
 #[test]
@@ -216,41 +171,32 @@ fn read_apart(
     join(alloc, shares)
 }
 
+/// The record takes this number, and then each of n shares has these.
+fn with_number<R: Abort>(
+    rt: &R,
+    alloc: Global,
+    whole: Whole<Record>,
+    n: usize,
+    number: u64,
+    numbers: &[u64],
+) -> Whole<Record>
+    requires { (0 < n) × (n ≤ 16) }
+{
+    let mut whole = whole;
+    assert!(rt; whole.get_mut().push(number));
+    let whole = read_apart(rt, alloc, whole, n, numbers);
+    has_numbers(rt, whole.get(), numbers);
+    whole
+}
+
 #[test]
 fn each_share_of_a_record_shows_its_numbers(rt: HostRuntime) {
     for n in 1..=16 {
-        let mut whole = cell_of(&rt, rt.alloc(), Record::fresh(rt.alloc()));
-        assert!(rt; whole.get_mut().push(7));
-        let mut whole = read_apart(&rt, rt.alloc(), whole, n, &[7]);
-        has_numbers(&rt, whole.get(), &[7]);
-        assert!(rt; whole.get_mut().push(8));
-        let whole = read_apart(&rt, rt.alloc(), whole, n, &[7, 8]);
+        let whole = cell_of(&rt, rt.alloc(), Record::fresh(rt.alloc()));
+        let whole = with_number(&rt, rt.alloc(), whole, n, 7, &[7]);
+        let whole = with_number(&rt, rt.alloc(), whole, n, 8, &[7, 8]);
         has_numbers(&rt, &whole.into_inner(), &[7, 8]);
     }
-}
-
-#[test]
-fn a_cell_that_was_lent_is_whole_again(rt: HostRuntime) {
-    let mut whole = cell_of(&rt, rt.alloc(), Record::fresh(rt.alloc()));
-    assert!(rt; whole.get_mut().push(7));
-    let mut whole = lent_in_three(rt.alloc(), whole);
-    assert!(rt; whole.get_mut().push(8));
-    has_numbers(&rt, &whole.into_inner(), &[7, 8]);
-}
-
-#[test]
-fn a_slot_gives_back_its_share(rt: HostRuntime) {
-    let whole = cell_of(&rt, rt.alloc(), Record::fresh(rt.alloc()));
-    let share = kept_in_a_slot(whole.lend(1).into_share());
-    has_numbers(&rt, share.read(), &[]);
-    let mut whole = Rest::of_last(share).into_whole(rt.alloc());
-    assert!(rt; whole.get_mut().push(9));
-    has_numbers(&rt, whole.get(), &[9]);
-    same(
-        &rt,
-        &mem::size_of::<Slot<Record>>(),
-        &mem::size_of::<usize>(),
-    );
 }
 
 // Who reads a share hands on the very share.
@@ -297,15 +243,6 @@ fn read_in_threads<R: Threads + Abort>(
     (one, other)
 }
 
-// Two shares of one cell read one object.
-fn lengths_agree(one: &Share<ByteBuf>, other: &Share<ByteBuf>) -> bool
-    requires { one.now.cell ≡ other.now.cell }
-    ensures { IsTrue result }
-{
-    one.agree(other);
-    one.read().len() == other.read().len()
-}
-
 // Splits the cell, has two of its shares read, and joins all, these two in the other order.
 fn read_by_two_threads<R: Threads + Abort>(
     rt: &R,
@@ -318,8 +255,6 @@ fn read_by_two_threads<R: Threads + Abort>(
     let mut shares = whole.split(16);
     let last = take_last(&mut shares);
     let before = take_last(&mut shares);
-    let agree = lengths_agree(&last, &before);
-    assert!(rt; agree);
     let (last, before) = read_in_threads(rt, last, before, bytes);
     shares.push(Some(last));
     shares.push(Some(before));

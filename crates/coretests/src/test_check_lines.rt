@@ -1,5 +1,6 @@
 use crate::fake_writers::{Clogged, Deaf, Halting};
-use crate::test_programs::{fault_of, is_fault, says_output, wrote};
+use crate::test_plans::is_told;
+use crate::test_programs::{fault_of, says_output, wrote};
 use crate::test_texts::{same, same_at};
 use coresteps::CoreFault;
 use keybits::ShapeFault;
@@ -80,22 +81,26 @@ shape 1 1 1 4294967295 5
 =legal acts 2 published 1 reclaimed 0 present 1 marked 0 home 0 retired 0
 ";
 
-// Texts that stand for no acts, and the faults of their checks.
-const NO_ACTS: [(&str, u32, &str); 9] = [
-    ("", 19, "ActsLine"),
-    ("\n", 19, "ActsLine"),
-    ("shape 2 1 1 4294967295\n0 collect \n", 19, "ActsLine"),
-    (
-        "shape 2 1 1 4294967295\n0 publish 16777216 - 2\n",
-        19,
-        "ActsLine",
-    ),
-    ("shape 17 1 1 4294967295\n", 1, "Lanes"),
-    ("shape 2 3 1 4294967295\n", 2, "FirstPage"),
-    ("shape 2 1 7 4294967295\n", 3, "Pages"),
-    ("shape 2 1 1 0\n", 4, "Generation"),
-    ("shape 1 1 1 4294967295 256\n", 6, "Tag"),
-];
+// Faults, and behind each a text that stands for no acts, of which it is the fault.
+const NO_ACTS: &str = "19 ActsLine|~
+19 ActsLine|
+~
+19 ActsLine|shape 2 1 1 4294967295
+0 collect 
+~
+19 ActsLine|shape 2 1 1 4294967295
+0 publish 16777216 - 2
+~
+1 Lanes|shape 17 1 1 4294967295
+~
+2 FirstPage|shape 2 3 1 4294967295
+~
+3 Pages|shape 2 1 7 4294967295
+~
+4 Generation|shape 2 1 1 0
+~
+6 Tag|shape 1 1 1 4294967295 256
+";
 
 // Faults of script files, with their numbers and names.
 const READ_FAULTS: [(ScriptFault, u32, &str); 11] = [
@@ -128,10 +133,10 @@ fn says<R: Abort + AllocGlobal>(rt: &R, acts: &str, line: &str) {
 }
 
 /// A check of a text has this fault, and says nothing.
-fn refuses<R: Abort + AllocGlobal>(rt: &R, acts: &str, number: u32, name: &'static str) {
+fn refuses<R: Abort + AllocGlobal>(rt: &R, acts: &str, wanted: &str) {
     let mut out = Watched::new(Vec::new(rt.alloc()));
     let answer = check_text(rt.alloc(), acts.as_bytes(), &mut out);
-    is_fault(rt, fault_of(&answer), number, name, acts);
+    is_told(rt, fault_of(&answer), wanted, acts);
     wrote(rt, out, "", acts);
 }
 
@@ -164,8 +169,9 @@ fn checks(rt: HostRuntime) {
 
 #[test]
 fn refuses_acts(rt: HostRuntime) {
-    for (acts, number, name) in &NO_ACTS {
-        refuses(&rt, acts, *number, name);
+    for row in NO_ACTS.split('~') {
+        let (wanted, acts) = row.trim_start().split_once('|').expect(&rt, "a row");
+        refuses(&rt, acts, wanted);
     }
 }
 

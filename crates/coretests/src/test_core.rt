@@ -103,18 +103,11 @@ fn steps<R: Abort>(rt: &R, alloc: Global, core: &mut Core, lines: &str, finished
 fn steps_a_core(rt: HostRuntime) {
     let mut core = core_of(&rt, ROW);
     assert!(rt; !core.finished(0));
-    for (lines, finished) in [
-        (
-            "0 = filling 16777216\n0 = ok\n0 PUBLISH 0 4294967296 4294967297\n0 = key 16777216\n",
-            false,
-        ),
-        (
-            "0 ENTER 0 4294967297 4294967301\n0 = some 6869\n0 = 6869\n",
-            true,
-        ),
-    ] {
-        steps(&rt, rt.alloc(), &mut core, lines, finished);
-    }
+    let lines =
+        "0 = filling 16777216\n0 = ok\n0 PUBLISH 0 4294967296 4294967297\n0 = key 16777216\n";
+    steps(&rt, rt.alloc(), &mut core, lines, false);
+    let lines = "0 ENTER 0 4294967297 4294967301\n0 = some 6869\n0 = 6869\n";
+    steps(&rt, rt.alloc(), &mut core, lines, true);
 }
 
 /// The acts of so many turns of lane 0, each of which has one.
@@ -152,30 +145,33 @@ fn add_turn<R: Abort>(rt: &R, core: &mut Core, lane: u32, trace: &mut Trace) {
     trace.push(turn).expect(rt, "memory for a turn");
 }
 
+/// The text of the next turns of these lanes is this.
+fn turns_have<R: Abort>(rt: &R, alloc: Global, core: &mut Core, lanes: &[u32], text: &str) {
+    let mut trace = Trace::empty(alloc);
+    for lane in lanes {
+        add_turn(rt, core, *lane, &mut trace);
+    }
+    is_text(rt, alloc, &trace, text);
+}
+
 #[test]
 fn turns_of_no_lane_do_nothing(rt: HostRuntime) {
     let mut core = core_of(&rt, ROW);
-    let mut trace = Trace::empty(rt.alloc());
-    for lane in [1, 255, 0, 2, 0, 4294967295, 0] {
-        add_turn(&rt, &mut core, lane, &mut trace);
-    }
-    is_text(&rt, rt.alloc(), &trace, TRACE);
+    let lanes = [1, 255, 0, 2, 0, 4294967295, 0];
+    turns_have(&rt, rt.alloc(), &mut core, &lanes, TRACE);
     same(&rt, &core.acts().len(), &2);
-}
-
-/// The lane is finished, and nothing is done in a turn of it.
-fn does_nothing<R: Abort>(rt: &R, core: &mut Core, lane: u32) {
-    assert!(rt; core.finished(lane), "lane {lane}");
-    let turn = turn_of(rt, core, lane);
-    assert!(rt; is_empty_turn(&turn, lane), "lane {lane}");
 }
 
 #[test]
 fn finished_lanes_do_nothing(rt: HostRuntime) {
     let mut core = core_of(&rt, NO_LINE);
-    for lane in [0, 1, 4294967295] {
-        does_nothing(&rt, &mut core, lane);
-    }
+    let finished = [
+        core.finished(0),
+        core.finished(1),
+        core.finished(4294967295),
+    ];
+    same(&rt, &finished, &[true, true, true]);
+    turns_have(&rt, rt.alloc(), &mut core, &[0, 1, 4294967295], "");
 }
 
 /// The text of the trace of the first row by a schedule is this.

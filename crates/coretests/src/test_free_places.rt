@@ -40,31 +40,51 @@ fn pages_have_sizes(rt: HostRuntime) {
     has_sizes(&rt, &Pages::new(0, 2, 6), [2, 4, 8, 16, 32, 64]);
 }
 
+const FIRST: Place = Place {
+    shard: 15,
+    page: 0,
+    slot: 0,
+};
+
+const MIDDLE: Place = Place {
+    shard: 15,
+    page: 1,
+    slot: 70,
+};
+
+const LAST: Place = Place {
+    shard: 15,
+    page: 5,
+    slot: 2047,
+};
+
 #[test]
 fn places_have_indexes(rt: HostRuntime) {
     assert!(rt; LARGEST.check().is_ok());
     let pages = Pages::new(15, 64, 6);
-    let (first, middle, last) = (place(15, 0, 0), place(15, 1, 70), place(15, 5, 2047));
-    let indexes = [pages.index(first), pages.index(middle), pages.index(last)];
+    let indexes = [pages.index(FIRST), pages.index(MIDDLE), pages.index(LAST)];
     same(&rt, &indexes, &[0, 134, 4031]);
-    same(&rt, &[pages.place(134), pages.place(4031)], &[middle, last]);
+    same(&rt, &[pages.place(134), pages.place(4031)], &[MIDDLE, LAST]);
 }
+
+/// How many pages are open before each opening, and which is opened.
+const OPENINGS: [(u32, Option<u32>); 8] = [
+    (0, Some(0)),
+    (1, Some(1)),
+    (2, Some(2)),
+    (3, Some(3)),
+    (4, Some(4)),
+    (5, Some(5)),
+    (6, None),
+    (6, None),
+];
 
 #[test]
 fn pages_are_opened_from_the_lowest_on(rt: HostRuntime) {
     assert!(rt; SMALL.check().is_ok());
     let mut pages = Pages::new(3, 2, 6);
-    for (opened, page) in [
-        (0, Some(0)),
-        (1, Some(1)),
-        (2, Some(2)),
-        (3, Some(3)),
-        (4, Some(4)),
-        (5, Some(5)),
-        (6, None),
-        (6, None),
-    ] {
-        same(&rt, &(pages.opened(), pages.open_next()), &(opened, page));
+    for row in OPENINGS {
+        same(&rt, &(pages.opened(), pages.open_next()), &row);
     }
 }
 
@@ -184,10 +204,4 @@ fn returns_have_words(rt: HostRuntime) {
         has_word(&rt, returns, place, word);
     }
     same(&rt, &returns.place(0), &None);
-}
-
-fn place(shard: u8, page: u8, slot: u16) -> Place
-    ensures { result ≡ record { shard = shard; page = page; slot = slot } }
-{
-    Place { shard, page, slot }
 }

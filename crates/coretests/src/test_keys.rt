@@ -42,16 +42,6 @@ fn keys_are_packed_and_unpacked(rt: HostRuntime) {
     }
 }
 
-/// The number is of these parts, or of no key.
-fn has_parts<R: Abort>(rt: &R, number: u64, parts: Option<(u8, Place, u32)>) {
-    same(rt, &Key::unpack_tagged(number), &parts);
-}
-
-/// No key without a tag has this number.
-fn is_no_key<R: Abort>(rt: &R, number: u64) {
-    same_at(rt, &Key::unpack(number), &None, number);
-}
-
 #[test]
 fn keys_have_tags(rt: HostRuntime) {
     let place = Place {
@@ -61,11 +51,14 @@ fn keys_have_tags(rt: HostRuntime) {
     };
     let key = Key::pack_tagged(255, place, 4294967295).expect(&rt, "a key");
     same(&rt, &key.number(), &18446744073709551615);
-    has_parts(&rt, 18446744073709551615, Some((255, place, 4294967295)));
-    is_no_key(&rt, 18446744073709551615);
-    // Those of generation 0.
-    has_parts(&rt, 16777215, None);
-    is_no_key(&rt, 0);
+    // The largest number, and one of generation 0.
+    let tagged = [
+        Key::unpack_tagged(18446744073709551615),
+        Key::unpack_tagged(16777215),
+    ];
+    same(&rt, &tagged, &[Some((255, place, 4294967295)), None]);
+    let keys = [Key::unpack(18446744073709551615), Key::unpack(0)];
+    same(&rt, &keys, &[None, None]);
 }
 
 /// The place, or the generation, is one that no key has.
@@ -86,40 +79,47 @@ fn places_outside_have_no_keys(rt: HostRuntime) {
     }
 }
 
+const TAG: u64 = 7 * 72057594037927936;
+
+/// Numbers, and whether they fit the small shape.
+const NUMBERS: [(u64, bool); 9] = [
+    (TAG + 16777216, true),
+    (TAG + 3 * 16777216 + 65536 + 4096 + 3, true),
+    (16777216, false),
+    (TAG + 0, false),
+    (TAG + 4 * 16777216, false),
+    (TAG + 16777216 + 2 * 65536, false),
+    (TAG + 16777216 + 2 * 4096, false),
+    (TAG + 16777216 + 2, false),
+    (TAG + 16777216 + 4096 + 4, false),
+];
+
 #[test]
 fn numbers_fit_a_shape(rt: HostRuntime) {
-    let tag = 7 * 72057594037927936;
-    for (number, inside) in [
-        (tag + 16777216, true),
-        (tag + 3 * 16777216 + 65536 + 4096 + 3, true),
-        (16777216, false),
-        (tag + 0, false),
-        (tag + 4 * 16777216, false),
-        (tag + 16777216 + 2 * 65536, false),
-        (tag + 16777216 + 2 * 4096, false),
-        (tag + 16777216 + 2, false),
-        (tag + 16777216 + 4096 + 4, false),
-    ] {
+    for (number, inside) in NUMBERS {
         same_at(&rt, &fits(number, &SMALL), &inside, number);
     }
 }
 
 #[test]
 fn words_after_steps(rt: HostRuntime) {
-    for (word, want) in [
-        (published(4294967296, false), 4294967297),
-        (entered(4294967297), 4294967301),
-        (left(4294967301), 4294967297),
-        (entered(4294967297), 4294967301),
-        (marked(4294967301), 4294967303),
-        (left(4294967303), 4294967299),
-        (claimed(4294967299, 4294967295), 8589934592),
-        (claimed(4294967299, 1), 4294967298),
-        (published(4294967296, true), 4294967301),
-        (marked(4294967303), 4294967303),
-    ] {
-        same(&rt, &word, &want);
-    }
+    let words = [
+        published(4294967296, false),
+        entered(4294967297),
+        left(4294967301),
+        entered(4294967297),
+        marked(4294967301),
+        left(4294967303),
+        claimed(4294967299, 4294967295),
+        claimed(4294967299, 1),
+        published(4294967296, true),
+        marked(4294967303),
+    ];
+    let wanted = [
+        4294967297, 4294967301, 4294967297, 4294967301, 4294967303, 4294967299, 8589934592,
+        4294967298, 4294967301, 4294967303,
+    ];
+    same(&rt, &words, &wanted);
 }
 
 #[test]
@@ -232,15 +232,16 @@ fn number_of<R: Abort>(rt: &R, place: Place) -> u32 {
 
 /// The place of this number has this index in its shard, and this position in the largest shape.
 fn stands_at<R: Abort>(rt: &R, number: u32, index: usize, position: usize) {
-    assert!(rt; LARGEST.check().is_ok() && LARGEST.is_place(number));
-    same(
-        rt,
-        &(LARGEST.index(number), LARGEST.position(number)),
-        &(index, position),
-    );
-    assert!(rt; position < LARGEST.all_places());
-    same(rt, &LARGEST.place_at(position), &number);
+    let shape = &LARGEST;
+    assert!(rt; shape.check().is_ok() && shape.is_place(number));
+    let stands = (shape.index(number), shape.position(number));
+    same(rt, &stands, &(index, position));
+    assert!(rt; position < shape.all_places());
+    same(rt, &shape.place_at(position), &number);
 }
+
+/// Numbers of no place of the small shape.
+const OUTSIDE: [u32; 4] = [2 * 65536, 2 * 4096, 2, 4096 + 4];
 
 #[test]
 fn places_have_positions(rt: HostRuntime) {
@@ -253,16 +254,22 @@ fn places_have_positions(rt: HostRuntime) {
         let number = number_of(&rt, Place { shard, page, slot });
         stands_at(&rt, number, index, position);
     }
-    for number in [2 * 65536, 2 * 4096, 2, 4096 + 4] {
-        assert!(rt; !SMALL.is_place(number), "at {number}");
+    for number in OUTSIDE {
+        same_at(&rt, &SMALL.is_place(number), &false, number);
     }
 }
 
+const LAST_PLACE: u32 = 15 * 65536 + 22527;
+
 #[test]
 fn links_stand_for_places(rt: HostRuntime) {
-    for (place, shard, word) in [(0, 0, 1), (65539, 1, 4), (15 * 65536 + 22527, 15, 22528)] {
-        same(&rt, &link_to(place), &word);
-        assert!(rt; shard < 16 && 1 <= word && word <= 65536);
-        same(&rt, &linked_place(shard, word), &place);
-    }
+    let places = [0, 65539, LAST_PLACE];
+    let words = [link_to(0), link_to(65539), link_to(LAST_PLACE)];
+    same(&rt, &words, &[1, 4, 22528]);
+    let linked = [
+        linked_place(0, 1),
+        linked_place(1, 4),
+        linked_place(15, 22528),
+    ];
+    same(&rt, &linked, &places);
 }

@@ -2,6 +2,7 @@ use crate::test_texts::same_at;
 use scripts::parse;
 use seqpool::read_acts;
 use std::alloc::AllocGlobal;
+use std::fmt::Debug;
 use std::process::Abort;
 
 // Script files, each with its first fault and the place of that.
@@ -114,13 +115,24 @@ ActsLine Line(10)|shape 2 1 1 4294967295
 0 home 16777216
 ";
 
+/// A fault and its place are this.
+fn are_told<F: Debug, P: Debug, R: Abort + AllocGlobal>(
+    rt: &R,
+    fault: &F,
+    place: &P,
+    wanted: &str,
+    at: &str,
+) {
+    let told = format!(in rt.alloc(); "{fault:?} {place:?}").expect(rt, "memory for a text");
+    same_at(rt, &told.as_str(), &wanted, at);
+}
+
 /// A file is refused with this fault at this place.
 fn file_is_refused<R: Abort + AllocGlobal>(rt: &R, file: &str, wanted: &str) {
     let refusal = parse(rt.alloc(), file.as_bytes())
         .err()
         .expect(rt, "a refusal");
-    let told = format!(in rt.alloc(); "{:?} {:?}", refusal.fault, refusal.place);
-    same_at(rt, &told.expect(rt, "memory").as_str(), &wanted, file);
+    are_told(rt, &refusal.fault, &refusal.place, wanted, file);
 }
 
 /// A text is refused with this fault at this place.
@@ -128,8 +140,7 @@ fn text_is_refused<R: Abort + AllocGlobal>(rt: &R, text: &str, wanted: &str) {
     let refusal = read_acts(rt.alloc(), text.as_bytes())
         .err()
         .expect(rt, "a refusal");
-    let told = format!(in rt.alloc(); "{:?} {:?}", refusal.fault, refusal.place);
-    same_at(rt, &told.expect(rt, "memory").as_str(), &wanted, text);
+    are_told(rt, &refusal.fault, &refusal.place, wanted, text);
 }
 
 #[test]

@@ -101,7 +101,7 @@ fn reading_fault_of<R: Abort + AllocGlobal>(rt: &R, file: &[u8]) -> Fault {
 }
 
 /// A fault has this number and name.
-fn is_told<R: Abort + AllocGlobal>(rt: &R, fault: Fault, wanted: &str, at: &str) {
+pub(crate) fn is_told<R: Abort + AllocGlobal>(rt: &R, fault: Fault, wanted: &str, at: &str) {
     let (number, name) = fault.expect(rt, "a fault");
     let told = format!(in rt.alloc(); "{number} {name}").expect(rt, "memory for a fault");
     same_at(rt, &told.as_str(), &wanted, at);
@@ -130,8 +130,7 @@ fn refuses<R: Abort + AllocGlobal>(rt: &R, row: &str) {
 
 /// The bytes are no JSON.
 fn is_no_json<R: Abort + AllocGlobal>(rt: &R, file: &[u8]) {
-    let fault = replay_fault_of(rt, file);
-    assert!(rt; fault == Some((31, "NotJson")), "at {file:?}");
+    same_at(rt, &replay_fault_of(rt, file), &Some((31, "NotJson")), file);
 }
 
 /// The fields of a file are no plan's.

@@ -15,89 +15,26 @@ pub(crate) const ROW: &str =
 pub(crate) const TRACE: &str =
     "0 = filling 16777216\n0 = ok\n0 PUBLISH 0 4294967296 4294967297\n0 = key 16777216\n0 ENTER 0 4294967297 4294967301\n0 = some 6869\n0 = 6869\n";
 
-// Scripts, schedules and the traces that they have.
-const REPLAYS: [(&str, &[u32], &str); 12] = [
-    (ROW, &[0, 0], TRACE),
-    // entries for a finished lane, and for numbers that are no lane
-    (ROW, &[0, 1, 7, 0, 0, 0, 4294967295], TRACE),
-    (ROW, &[1, 16], ""),
-    // commands that find a register otherwise than they want it do nothing
-    (
-        "{\"shape\":{\"lanes\":1,\"first_page\":2,\"pages\":1,\"last_generation\":4294967295},\"scripts\":[[[\"read\",0],[\"create\",0],[\"read\",0],[\"write\",1,\"61\"],[\"publish\",1],[\"get\",0,16777216],[\"get\",1,\"@2\"],[\"create\",0]]]}",
-        &[0],
-        "0 = skip\n0 = filling 16777216\n0 = skip\n0 = skip\n0 = skip\n0 = skip\n0 = skip\n0 = skip\n",
-    ),
-    (
-        "{\"shape\":{\"lanes\":1,\"first_page\":2,\"pages\":1,\"last_generation\":4294967295},\"scripts\":[[[\"read\",3],[\"write\",3,\"61\"],[\"publish\",3],[\"get\",0,\"@3\"],[\"create\",0],[\"create\",0],[\"get\",0,16777216],[\"read\",0],[\"publish\",0],[\"get\",1,16777216],[\"get\",1,16777216],[\"write\",1,\"62\"],[\"publish\",1],[\"create\",1],[\"read\",1],[\"publish\",0],[\"get\",2,\"@0\"]]]}",
-        &[0, 0, 0],
-        "0 = skip\n0 = skip\n0 = skip\n0 = skip\n0 = filling 16777216\n0 = skip\n0 = skip\n0 = skip\n0 PUBLISH 0 4294967296 4294967297\n0 = key 16777216\n0 ENTER 0 4294967297 4294967301\n0 = some -\n0 = skip\n0 = skip\n0 = skip\n0 = skip\n0 = -\n0 = skip\n0 ENTER 0 4294967301 4294967305\n0 = some -\n",
-    ),
-    // a script without a line
-    (
-        "{\"shape\":{\"lanes\":1,\"first_page\":2,\"pages\":1,\"last_generation\":4294967295},\"scripts\":[[]]}",
-        &[0],
-        "",
-    ),
-    (
-        "{\"shape\":{\"lanes\":1,\"first_page\":1,\"pages\":1,\"last_generation\":4294967295},\"scripts\":[[[\"create\",0],[\"create\",1]]]}",
-        &[0],
-        "0 = filling 16777216\n0 = full\n",
-    ),
-    (
-        "{\"shape\":{\"lanes\":1,\"first_page\":2,\"pages\":1,\"last_generation\":1},\"scripts\":[[[\"create\",1],[\"get\",0,\"@1\"],[\"publish\",1],[\"create\",1],[\"get\",2,16777216],[\"create\",3]]]}",
-        &[0, 0, 0, 0, 0, 0, 1, 0, 0],
-        "0 = filling 16777216\n0 ENTER 0 4294967296 4294967300\n0 LEAVE 0 4294967300 4294967296\n0 = none\n0 PUBLISH 0 4294967296 4294967297\n0 = key 16777216\n0 = filling 16777217\n0 ENTER 0 4294967297 4294967301\n0 = some -\n0 = full\n",
-    ),
-    (
-        "{\"shape\":{\"lanes\":1,\"first_page\":1,\"pages\":2,\"last_generation\":1},\"scripts\":[[[\"create\",2],[\"create\",3],[\"create\",1],[\"create\",0],[\"write\",2,\"\"]]]}",
-        &[1, 0, 1, 0],
-        "0 = filling 16777216\n0 = filling 16781312\n0 = filling 16781313\n0 = full\n0 = ok\n",
-    ),
-    (
-        "{\"shape\":{\"lanes\":1,\"first_page\":1,\"pages\":1,\"last_generation\":3,\"tag\":7},\"scripts\":[[[\"create\",2],[\"create\",1],[\"write\",2,\"D7d4\"],[\"create\",0]]]}",
-        &[0, 0, 1],
-        "0 = filling 504403158282272768\n0 = full\n0 = ok\n0 = full\n",
-    ),
-    (
-        "{\"shape\":{\"lanes\":1,\"first_page\":2,\"pages\":1,\"last_generation\":4294967295},\"scripts\":[[[\"create\",0],[\"get\",1,16777216]]]}",
-        &[0, 0],
-        "0 = filling 16777216\n0 ENTER 0 4294967296 4294967300\n0 LEAVE 0 4294967300 4294967296\n0 = none\n",
-    ),
-    (
-        "{\"shape\":{\"lanes\":1,\"first_page\":2,\"pages\":1,\"last_generation\":4294967295},\"scripts\":[[[\"get\",0,0],[\"get\",0,18446744073709551615],[\"get\",0,17825792],[\"get\",0,16781312]]]}",
-        &[0],
-        "0 = none\n0 = none\n0 = none\n0 = none\n",
-    ),
-];
-
 #[test]
 fn replays(rt: HostRuntime) {
-    for (file, schedule, trace) in &REPLAYS {
-        replays_as(&rt, file, schedule, false, trace);
-    }
+    replays_as(&rt, ROW, &[0, 0], false, TRACE);
+    // Entries for a finished lane, and for numbers that are no lane.
+    replays_as(&rt, ROW, &[0, 1, 7, 0, 0, 0, 4294967295], false, TRACE);
+    replays_as(&rt, ROW, &[1, 16], false, "");
 }
 
-// Scripts, schedules and the texts of the acts that come of them.
-const ACTS: [(&str, &[u32], &str); 3] = [
-    (
-        ROW,
-        &[0, 0],
-        "shape 1 2 1 4294967295\n0 publish 16777216 6869 0\n0 get 16777216 some 6869\n",
-    ),
-    // a tag, which stands in the shape's line
-    (
-        "{\"shape\":{\"lanes\":1,\"first_page\":1,\"pages\":1,\"last_generation\":4294967295,\"tag\":5},\"scripts\":[[[\"create\",0],[\"publish\",0],[\"get\",1,16777216],[\"get\",1,\"@0\"]]]}",
-        &[0, 0],
-        "shape 1 1 1 4294967295 5\n0 publish 360287970206416896 - 0\n0 get 360287970206416896 some -\n",
-    ),
-    (ROW, &[1], "shape 1 2 1 4294967295\n"),
-];
+// A file with a tag, which stands in the shape's line of its acts.
+const TAGGED: &str =
+    "{\"shape\":{\"lanes\":1,\"first_page\":1,\"pages\":1,\"last_generation\":4294967295,\"tag\":5},\"scripts\":[[[\"create\",0],[\"publish\",0],[\"get\",1,16777216],[\"get\",1,\"@0\"]]]}";
 
 #[test]
 fn writes_acts(rt: HostRuntime) {
-    for (file, schedule, acts) in &ACTS {
-        replays_as(&rt, file, schedule, true, acts);
-    }
+    let acts = "shape 1 2 1 4294967295\n0 publish 16777216 6869 0\n0 get 16777216 some 6869\n";
+    replays_as(&rt, ROW, &[0, 0], true, acts);
+    let acts =
+        "shape 1 1 1 4294967295 5\n0 publish 360287970206416896 - 0\n0 get 360287970206416896 some -\n";
+    replays_as(&rt, TAGGED, &[0, 0], true, acts);
+    replays_as(&rt, ROW, &[1], true, "shape 1 2 1 4294967295\n");
 }
 
 /// So many turns that are drawn for a file, over which it has this trace.

@@ -6,15 +6,9 @@ use poolprogram::stop_after;
 use std::alloc::AllocGlobal;
 use std::process::Abort;
 
-// A script file, a schedule, and what is wanted of them.
-type Row = (&'static str, &'static [u32], &'static str);
-
 // A whole life of an object.
-const WHOLE_LIFE: Row = (
-    "{\"shape\":{\"lanes\":1,\"first_page\":2,\"pages\":1,\"last_generation\":4294967295},\"scripts\":[[[\"create\",0],[\"write\",0,\"6869\"],[\"publish\",0],[\"get\",1,16777216],[\"read\",1],[\"release\",1],[\"clear\",16777216]]]}",
-    &[0, 0, 0, 0, 0, 0, 0],
-    "0 = filling 16777216\n0 = ok\n0 PUBLISH 0 4294967296 4294967297\n0 = key 16777216\n0 ENTER 0 4294967297 4294967301\n0 = some 6869\n0 = 6869\n0 LEAVE 0 4294967301 4294967297\n0 = ok\n0 ENTER 0 4294967297 4294967301\n0 MARK 0 4294967301 4294967303\n0 LEAVE 0 4294967303 4294967299\n0 CLAIM 0 4294967299 8589934592\n0 = true\n",
-);
+const WHOLE_LIFE: &str =
+    "{\"shape\":{\"lanes\":1,\"first_page\":2,\"pages\":1,\"last_generation\":4294967295},\"scripts\":[[[\"create\",0],[\"write\",0,\"6869\"],[\"publish\",0],[\"get\",1,16777216],[\"read\",1],[\"release\",1],[\"clear\",16777216]]]}";
 
 // Titles, and below each a script file, a schedule and the trace that they have.
 const ROWS: &str = "a whole life of an object
@@ -284,6 +278,85 @@ a tag
 0 = none
 0 ENTER 0 4294967297 4294967301
 0 = some -
+;
+commands that find a register otherwise than they want it do nothing
+{\"shape\":{\"lanes\":1,\"first_page\":2,\"pages\":1,\"last_generation\":4294967295},\"scripts\":[[[\"read\",0],[\"create\",0],[\"read\",0],[\"write\",1,\"61\"],[\"publish\",1],[\"get\",0,16777216],[\"get\",1,\"@2\"],[\"create\",0]]]}
+0
+0 = skip
+0 = filling 16777216
+0 = skip
+0 = skip
+0 = skip
+0 = skip
+0 = skip
+0 = skip
+;
+more of these, and a get of an object that the lane published
+{\"shape\":{\"lanes\":1,\"first_page\":2,\"pages\":1,\"last_generation\":4294967295},\"scripts\":[[[\"read\",3],[\"write\",3,\"61\"],[\"publish\",3],[\"get\",0,\"@3\"],[\"create\",0],[\"create\",0],[\"get\",0,16777216],[\"read\",0],[\"publish\",0],[\"get\",1,16777216],[\"get\",1,16777216],[\"write\",1,\"62\"],[\"publish\",1],[\"create\",1],[\"read\",1],[\"publish\",0],[\"get\",2,\"@0\"]]]}
+0,0,0
+0 = skip
+0 = skip
+0 = skip
+0 = skip
+0 = filling 16777216
+0 = skip
+0 = skip
+0 = skip
+0 PUBLISH 0 4294967296 4294967297
+0 = key 16777216
+0 ENTER 0 4294967297 4294967301
+0 = some -
+0 = skip
+0 = skip
+0 = skip
+0 = skip
+0 = -
+0 = skip
+0 ENTER 0 4294967301 4294967305
+0 = some -
+;
+a script without a line
+{\"shape\":{\"lanes\":1,\"first_page\":2,\"pages\":1,\"last_generation\":4294967295},\"scripts\":[[]]}
+0
+;
+a key that isn't published yet, and a generation that is the last
+{\"shape\":{\"lanes\":1,\"first_page\":2,\"pages\":1,\"last_generation\":1},\"scripts\":[[[\"create\",1],[\"get\",0,\"@1\"],[\"publish\",1],[\"create\",1],[\"get\",2,16777216],[\"create\",3]]]}
+0,0,0,0,0,0,1,0,0
+0 = filling 16777216
+0 ENTER 0 4294967296 4294967300
+0 LEAVE 0 4294967300 4294967296
+0 = none
+0 PUBLISH 0 4294967296 4294967297
+0 = key 16777216
+0 = filling 16777217
+0 ENTER 0 4294967297 4294967301
+0 = some -
+0 = full
+;
+pages are opened by need, and a write of no bytes
+{\"shape\":{\"lanes\":1,\"first_page\":1,\"pages\":2,\"last_generation\":1},\"scripts\":[[[\"create\",2],[\"create\",3],[\"create\",1],[\"create\",0],[\"write\",2,\"\"]]]}
+1,0,1,0
+0 = filling 16777216
+0 = filling 16781312
+0 = filling 16781313
+0 = full
+0 = ok
+;
+a tag, and a pool of one place
+{\"shape\":{\"lanes\":1,\"first_page\":1,\"pages\":1,\"last_generation\":3,\"tag\":7},\"scripts\":[[[\"create\",2],[\"create\",1],[\"write\",2,\"D7d4\"],[\"create\",0]]]}
+0,0,1
+0 = filling 504403158282272768
+0 = full
+0 = ok
+0 = full
+;
+gets by numbers outside the shape
+{\"shape\":{\"lanes\":1,\"first_page\":2,\"pages\":1,\"last_generation\":4294967295},\"scripts\":[[[\"get\",0,0],[\"get\",0,18446744073709551615],[\"get\",0,17825792],[\"get\",0,16781312]]]}
+0
+0 = none
+0 = none
+0 = none
+0 = none
 ";
 
 // Titles, and below each a script file, a schedule and how the trace ends.
@@ -381,48 +454,48 @@ fn stops_a_lane_after_a_turn(rt: HostRuntime) {
     );
 }
 
-// Scripts, schedules and what is said of their acts.
-const CHECKED: [Row; 4] = [
-    // a whole life of an object
-    (
-        "{\"shape\":{\"lanes\":1,\"first_page\":2,\"pages\":1,\"last_generation\":4294967295},\"scripts\":[[[\"create\",0],[\"write\",0,\"6869\"],[\"publish\",0],[\"get\",1,16777216],[\"read\",1],[\"release\",1],[\"clear\",16777216]]]}",
-        &[0, 0, 0, 0, 0, 0, 0],
-        "legal acts 5 published 1 reclaimed 1 present 0 marked 0 home 0 retired 0\n",
-    ),
-    // a stranger clears
-    (
-        "{\"shape\":{\"lanes\":2,\"first_page\":1,\"pages\":1,\"last_generation\":4294967295},\"scripts\":[[[\"create\",0],[\"downgrade\",0],[\"clear\",16777216],[\"release\",0]],[[\"get\",0,16777216]]]}",
-        &[0, 0, 0, 0, 0, 1, 0, 1, 1, 1, 1],
-        "legal acts 6 published 1 reclaimed 1 present 0 marked 0 home 1 retired 0\n",
-    ),
-    // lane 1 stopped after its first turn
-    (
-        "{\"shape\":{\"lanes\":2,\"first_page\":1,\"pages\":1,\"last_generation\":4294967295},\"scripts\":[[[\"create\",0],[\"write\",0,\"61\"],[\"publish\",0],[\"get\",1,16777216],[\"clear\",16777216],[\"get\",2,16777216],[\"read\",1],[\"release\",1]],[[\"get\",0,16777216],[\"clear\",16777216],[\"read\",0],[\"release\",0]]]}",
-        &[0, 0, 1, 0, 0, 0, 0, 0, 0],
-        "legal acts 6 published 1 reclaimed 0 present 0 marked 1 home 0 retired 0\n",
-    ),
-    // a tag
-    (
-        "{\"shape\":{\"lanes\":1,\"first_page\":1,\"pages\":1,\"last_generation\":4294967295,\"tag\":5},\"scripts\":[[[\"create\",0],[\"publish\",0],[\"get\",1,16777216],[\"get\",1,\"@0\"]]]}",
-        &[0, 0],
-        "legal acts 2 published 1 reclaimed 0 present 1 marked 0 home 0 retired 0\n",
-    ),
-];
+// Titles, and below each a script file, a schedule and what is said of its acts.
+const CHECKED: &str = "a whole life of an object
+{\"shape\":{\"lanes\":1,\"first_page\":2,\"pages\":1,\"last_generation\":4294967295},\"scripts\":[[[\"create\",0],[\"write\",0,\"6869\"],[\"publish\",0],[\"get\",1,16777216],[\"read\",1],[\"release\",1],[\"clear\",16777216]]]}
+0,0,0,0,0,0,0
+legal acts 5 published 1 reclaimed 1 present 0 marked 0 home 0 retired 0
+;
+a stranger clears
+{\"shape\":{\"lanes\":2,\"first_page\":1,\"pages\":1,\"last_generation\":4294967295},\"scripts\":[[[\"create\",0],[\"downgrade\",0],[\"clear\",16777216],[\"release\",0]],[[\"get\",0,16777216]]]}
+0,0,0,0,0,1,0,1,1,1,1
+legal acts 6 published 1 reclaimed 1 present 0 marked 0 home 1 retired 0
+;
+lane 1 stopped after its first turn
+{\"shape\":{\"lanes\":2,\"first_page\":1,\"pages\":1,\"last_generation\":4294967295},\"scripts\":[[[\"create\",0],[\"write\",0,\"61\"],[\"publish\",0],[\"get\",1,16777216],[\"clear\",16777216],[\"get\",2,16777216],[\"read\",1],[\"release\",1]],[[\"get\",0,16777216],[\"clear\",16777216],[\"read\",0],[\"release\",0]]]}
+0,0,1,0,0,0,0,0,0
+legal acts 6 published 1 reclaimed 0 present 0 marked 1 home 0 retired 0
+;
+a tag
+{\"shape\":{\"lanes\":1,\"first_page\":1,\"pages\":1,\"last_generation\":4294967295,\"tag\":5},\"scripts\":[[[\"create\",0],[\"publish\",0],[\"get\",1,16777216],[\"get\",1,\"@0\"]]]}
+0,0
+legal acts 2 published 1 reclaimed 0 present 1 marked 0 home 0 retired 0
+";
+
+/// What is said of the acts of a row is its text.
+fn is_checked<R: Abort + AllocGlobal>(rt: &R, row: &str) {
+    let (file, schedule, line) = parts_of(rt, row);
+    let schedule = schedule_of(rt, schedule);
+    let text = check_of(rt, file, schedule.as_slice());
+    reads_at(rt, text.as_slice(), line, file);
+}
 
 #[test]
 fn checks_acts_of_rows(rt: HostRuntime) {
-    for (file, schedule, line) in &CHECKED {
-        let text = check_of(&rt, file, schedule);
-        reads_at(&rt, text.as_slice(), line, file);
+    for row in CHECKED.split(';') {
+        is_checked(&rt, row);
     }
 }
 
 #[test]
 fn writes_acts_of_a_whole_life(rt: HostRuntime) {
-    let (file, schedule, _) = WHOLE_LIFE;
     let acts =
         "shape 1 2 1 4294967295\n0 publish 16777216 6869 0\n0 get 16777216 some 6869\n0 release 16777216\n0 clear 16777216 true\n0 reclaim 16777216\n";
-    replays_as(&rt, file, schedule, true, acts);
+    replays_as(&rt, WHOLE_LIFE, &[0, 0, 0, 0, 0, 0, 0], true, acts);
 }
 
 #[test]

@@ -167,17 +167,6 @@ each way in which a command does nothing
 census free 2 unopened 0 filling 0 present 0 marked 0 retired 0
 ";
 
-// Files that are no plan, and the faults of their runs.
-const NO_RUNS: [(&str, u32, &str); 3] = [
-    ("no JSON", 31, "NotJson"),
-    ("[]", 32, "Field"),
-    (
-        "{\"shape\":{\"lanes\":17,\"first_page\":1,\"pages\":1,\"last_generation\":4294967295},\"scripts\":[]}",
-        1,
-        "Lanes",
-    ),
-];
-
 /// A run of a file writes this.
 fn writes<R: Abort + AllocGlobal + Threads + Wait + Sync>(rt: &R, file: &str, wanted: &str) {
     let mut out = Watched::new(Vec::new(rt.alloc()));
@@ -229,9 +218,11 @@ fn runs(rt: HostRuntime) {
 
 #[test]
 fn refuses_files(rt: HostRuntime) {
-    for (file, number, name) in &NO_RUNS {
-        refuses(&rt, file, *number, name);
-    }
+    refuses(&rt, "no JSON", 31, "NotJson");
+    refuses(&rt, "[]", 32, "Field");
+    let file =
+        "{\"shape\":{\"lanes\":17,\"first_page\":1,\"pages\":1,\"last_generation\":4294967295},\"scripts\":[]}";
+    refuses(&rt, file, 1, "Lanes");
 }
 
 #[test]

@@ -22,10 +22,10 @@ pub(crate) fn same_at<T: PartialEq + Debug, A: Debug + Drop, R: Abort>(
     right: &T,
     at: A,
 ) {
-    assert_eq!(rt; *left, *right, "at {at:?}");
+    assert!(rt; *left == *right, "{left:?} in place of {right:?} at {at:?}");
 }
 
 /// Stops the test unless these are equal. A call of this is proved much faster than the comparison written out.
 pub(crate) fn same<T: PartialEq + Debug, R: Abort>(rt: &R, left: &T, right: &T) {
-    assert_eq!(rt; *left, *right);
+    assert!(rt; *left == *right, "{left:?} in place of {right:?}");
 }

@@ -71,15 +71,6 @@ fn turn_of(alloc: Global, lane: u32, step: Step) -> Turn {
     }
 }
 
-/// The text of a trace of this turn alone is this.
-fn is_text<R: Abort>(rt: &R, alloc: Global, turn: Turn, text: &str) {
-    let mut trace = Trace::empty(alloc);
-    trace.push(turn).expect(rt, "memory for a turn");
-    let mut out = Vec::new(alloc);
-    write_trace(&trace, &mut out).expect(rt, "memory for the text");
-    reads(rt, out.as_slice(), text);
-}
-
 const LIFE: Word = Word::Life { place: 0 };
 
 const LINK: Word = Word::Link { place: 0 };
@@ -97,73 +88,59 @@ const PUSH: Kind = Kind::Push {
     link: 1,
 };
 
-/// Steps of a lane, with the word before and after, and their lines.
-const STEPS: [(u32, Kind, Word, u64, u64, &str); 10] = [
-    (
-        0,
-        PUBLISH,
-        LIFE,
-        4294967296,
-        4294967297,
-        "0 PUBLISH 0 4294967296 4294967297\n",
-    ),
-    (
-        0,
-        DOWNGRADE,
-        LIFE,
-        4294967296,
-        4294967301,
-        "0 PUBLISH 0 4294967296 4294967301\n",
-    ),
-    (
-        0,
-        Kind::Enter,
-        LIFE,
-        4294967297,
-        4294967301,
-        "0 ENTER 0 4294967297 4294967301\n",
-    ),
-    (
-        0,
-        Kind::Mark,
-        LIFE,
-        4294967301,
-        4294967303,
-        "0 MARK 0 4294967301 4294967303\n",
-    ),
-    (
-        0,
-        Kind::Leave,
-        LIFE,
-        4294967303,
-        4294967299,
-        "0 LEAVE 0 4294967303 4294967299\n",
-    ),
-    (
-        1,
-        CLAIM,
-        LIFE,
-        4294967299,
-        8589934592,
-        "1 CLAIM 0 4294967299 8589934592\n",
-    ),
-    (1, Kind::Link { expected: 0 }, LINK, 0, 0, "1 LINK 0 0 0\n"),
-    (1, PUSH, STACK, 0, 1, "1 PUSH 0.1 0 1\n"),
-    (0, Kind::Take, STACK, 1, 0, "0 TAKE 0.1 1 0\n"),
-    (0, Kind::Follow, LINK, 0, 0, "0 FOLLOW 0 0 0\n"),
+/// Steps, each with its lane, its kind, and its word before and after.
+const STEPS: [(u32, Kind, Word, u64, u64); 10] = [
+    (0, PUBLISH, LIFE, 4294967296, 4294967297),
+    (0, DOWNGRADE, LIFE, 4294967296, 4294967301),
+    (0, Kind::Enter, LIFE, 4294967297, 4294967301),
+    (0, Kind::Mark, LIFE, 4294967301, 4294967303),
+    (0, Kind::Leave, LIFE, 4294967303, 4294967299),
+    (1, CLAIM, LIFE, 4294967299, 8589934592),
+    (1, Kind::Link { expected: 0 }, LINK, 0, 0),
+    (1, PUSH, STACK, 0, 1),
+    (0, Kind::Take, STACK, 1, 0),
+    (0, Kind::Follow, LINK, 0, 0),
 ];
+
+// Their lines.
+const LINES: &str = "text so far
+0 PUBLISH 0 4294967296 4294967297
+0 PUBLISH 0 4294967296 4294967301
+0 ENTER 0 4294967297 4294967301
+0 MARK 0 4294967301 4294967303
+0 LEAVE 0 4294967303 4294967299
+1 CLAIM 0 4294967299 8589934592
+1 LINK 0 0 0
+1 PUSH 0.1 0 1
+0 TAKE 0.1 1 0
+0 FOLLOW 0 0 0
+";
+
+/// A turn is added to a trace.
+fn add<R: Abort>(rt: &R, trace: &mut Trace, turn: Turn) {
+    trace.push(turn).expect(rt, "memory for a turn");
+}
+
+/// The text of a trace stands behind what was there.
+fn is_text<R: Abort>(rt: &R, alloc: Global, trace: &Trace, text: &str) {
+    let mut out = Vec::from_slice(alloc, b"text so far\n").expect(rt, "memory for the text");
+    write_trace(trace, &mut out).expect(rt, "memory for the text");
+    reads(rt, out.as_slice(), text);
+}
 
 #[test]
 fn writes_each_step(rt: HostRuntime) {
-    for (lane, kind, word, before, after, line) in STEPS {
+    let mut trace = Trace::empty(rt.alloc());
+    for (lane, kind, word, before, after) in STEPS {
         let step = Step {
             kind,
             word,
             before,
             after,
         };
-        is_text(&rt, rt.alloc(), turn_of(rt.alloc(), lane, step), line);
+        add(&rt, &mut trace, turn_of(rt.alloc(), lane, step));
     }
+    is_text(&rt, rt.alloc(), &trace, LINES);
 }
 
 /// No more replies than this one.
@@ -207,15 +184,9 @@ fn idle_turn<R: Abort>(rt: &R, alloc: Global) -> Turn {
 fn writes_turns_in_order(rt: HostRuntime) {
     let alloc = rt.alloc();
     let mut trace = Trace::empty(alloc);
-    trace
-        .push(full_turn(&rt, alloc))
-        .expect(&rt, "memory for a turn");
-    trace
-        .push(idle_turn(&rt, alloc))
-        .expect(&rt, "memory for a turn");
-    let mut out = Vec::from_slice(alloc, b"text so far\n").expect(&rt, "memory for the text");
-    write_trace(&trace, &mut out).expect(&rt, "memory for the text");
+    add(&rt, &mut trace, full_turn(&rt, alloc));
+    add(&rt, &mut trace, idle_turn(&rt, alloc));
     let text =
         "text so far\n0 = filling 16777216\n0 = ok\n0 PUBLISH 0 4294967296 4294967297\n0 = key 16777216\n15 = skip\n";
-    reads(&rt, out.as_slice(), text);
+    is_text(&rt, alloc, &trace, text);
 }

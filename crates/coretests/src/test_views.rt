@@ -1,7 +1,7 @@
-use crate::test_texts::{reads, shows};
-use std::alloc::{AllocError, AllocGlobal};
+use crate::test_texts::{reads, same_at, shows};
+use std::alloc::AllocGlobal;
 use std::process::Abort;
-use traceviews::{Line, ReadFault, Window, picture_text, read_trace, summary_text, words_text};
+use traceviews::{Line, Window, picture_text, read_trace, summary_text, words_text};
 
 // A trace in which the places of one lane are cleared by another, with a claim and a push that fail.
 const TRACE: &str = "0 = filling 16777216
@@ -69,26 +69,21 @@ place 1/0/1 RETIRED count 1 generation 4
 
 /// The lines of a text.
 fn lines_of<R: Abort + AllocGlobal>(rt: &R, text: &str) -> Vec<Line> {
-    match read_trace(rt.alloc(), text.as_bytes()) {
-        Ok(lines) => lines,
-        Err(fault) => panic!(rt; "{fault}"),
-    }
+    read_trace(rt.alloc(), text.as_bytes()).expect(rt, "a trace")
 }
 
 #[test]
-fn decodes_words(rt: HostRuntime) -> Result<(), AllocError> {
+fn decodes_words(rt: HostRuntime) {
     let lines = lines_of(&rt, TRACE);
-    let out = words_text(rt.alloc(), lines.as_slice())?;
+    let out = words_text(rt.alloc(), lines.as_slice()).expect(&rt, "memory");
     reads(&rt, out.as_slice(), WORDS);
-    Ok(())
 }
 
 #[test]
-fn sums_up(rt: HostRuntime) -> Result<(), AllocError> {
+fn sums_up(rt: HostRuntime) {
     let lines = lines_of(&rt, TRACE);
-    let out = summary_text(rt.alloc(), lines.as_slice())?;
+    let out = summary_text(rt.alloc(), lines.as_slice()).expect(&rt, "memory");
     reads(&rt, out.as_slice(), SUMMARY);
-    Ok(())
 }
 
 // Messages, and texts that are no traces.
@@ -150,22 +145,30 @@ fn says_what_is_wanted(rt: HostRuntime) {
 }
 
 #[test]
-fn reads_no_lines(rt: HostRuntime) -> Result<(), ReadFault> {
-    let lines = read_trace(rt.alloc(), b"")?;
-    assert!(rt; lines.is_empty());
-    Ok(())
+fn reads_no_lines(rt: HostRuntime) {
+    assert!(rt; lines_of(&rt, "").is_empty());
+}
+
+/// The picture of these turns.
+fn picture_of<R: Abort + AllocGlobal>(rt: &R, first: usize, count: usize) -> String {
+    let lines = lines_of(rt, TRACE);
+    let window = Window { first, count };
+    let out = picture_text(rt.alloc(), lines.as_slice(), &window).expect(rt, "memory");
+    String::from_utf8(out).ok().expect(rt, "a text")
+}
+
+/// A text has each of these lines in it, and not that one.
+fn has_lines<R: Abort>(rt: &R, text: &str, there: &str, missing: &str) {
+    for line in there.split('\n') {
+        same_at(rt, &text.contains(line), &true, line);
+    }
+    same_at(rt, &text.contains(missing), &false, missing);
 }
 
 /// The picture of these turns has the texts of these lines, and not that one.
 fn draws<R: Abort + AllocGlobal>(rt: &R, first: usize, count: usize, there: &str, missing: &str) {
-    let lines = lines_of(rt, TRACE);
-    let window = Window { first, count };
-    let out = picture_text(rt.alloc(), lines.as_slice(), &window).expect(rt, "memory");
-    let text = String::from_utf8(out).ok().expect(rt, "a text");
-    for words in there.split('\n') {
-        assert!(rt; text.as_str().contains(words));
-    }
-    assert!(rt; !text.as_str().contains(missing));
+    let text = picture_of(rt, first, count);
+    has_lines(rt, text.as_str(), there, missing);
 }
 
 // What the picture of all turns has.

@@ -12,5 +12,5 @@ pub record IsAt (z : Shape) (view : View) (place : ℕ) (at : At) : Type 0 where
   pub spot : IsSpot z at.spot place
   pub lane : at.lane ≡ (the_lane view).lane
   pub below : at.lane < z.lanes
-  pub shard : shard_of place < length at.tops.now
-  pub top : slice_index at.tops.now (shard_of place) ≡ pushed_in (the_lane view).pushed (shard_of place)
+  pub shard : shard_of place < length at.tops.now.items
+  pub top : slice_index at.tops.now.items (shard_of place) ≡ pushed_in (the_lane view).pushed (shard_of place)

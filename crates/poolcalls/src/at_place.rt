@@ -10,7 +10,7 @@ pub struct At<'a> {
     /// The lane's number.
     pub lane: u32,
     /// For each shard the word that the lane last pushed there; 0 where it pushed none.
-    pub tops: &'a [u64],
+    pub tops: &'a Vec<u64>,
 }
 
 impl At<'_> {
@@ -20,8 +20,8 @@ impl At<'_> {
     /// The word that the lane last pushed to the place's shard. Only the return of a place reads it.
     #[inline]
     pub(crate) fn top(&self) -> u64
-        requires { shard_number self.now.spot.place < length self.now.tops.now }
-        ensures { result ≡ slice_index self.now.tops.now (shard_number self.now.spot.place) }
+        requires { shard_number self.now.spot.place < length self.now.tops.now.items }
+        ensures { result ≡ slice_index self.now.tops.now.items (shard_number self.now.spot.place) }
     {
         self.tops[shard_of(self.spot.place) as usize]
     }

@@ -13,7 +13,7 @@ ghost use Rattle.poolcalls.specs.AtPlace.{IsAt};
 ghost use Rattle.poolcalls.specs.Called.{Called, EndsWithActs, IsReclaimed, StandsAt, HasGot, GotStandsAt};
 
 use crate::at_place::At;
-use crate::ends::finish_leave;
+use crate::ends::{finish_if_owed, finish_leave};
 use crate::reclaimed::{Got, Reclaimed};
 use keybits::{is_hit, is_present};
 use poolsteps::{Grid, Hand, Purpose};
@@ -37,7 +37,7 @@ pub fn get<T: Clear + Drop>(grid: &Grid<T>, hand: &mut Hand<T>, at: At, key: u64
         return Got::Hit;
     }
     let left = grid.leave(hand, at.spot, key);
-    Got::Miss(finish_leave(grid, hand, at, left))
+    Got::Miss(finish_if_owed(grid, hand, at, left))
 }
 
 /// A release of a key to which the lane has a reference; its share is back in its slot where that is the last. It takes no
@@ -61,7 +61,7 @@ pub fn release<T: Clear + Drop>(
     ensures at { StandsAt (spots_at grid.now.objects.ptr grid.now.shape (place_of key)) result }
 {
     let left = grid.leave(hand, at.spot, key);
-    finish_leave(grid, hand, at, left)
+    finish_if_owed(grid, hand, at, left)
 }
 
 /// A clear of a key. Answers whether it is the one that marked it, and what became of its place where that was reclaimed. It

@@ -1,4 +1,4 @@
-ghost use Rattle.std.specs.Prelude.{◌≡◌};
+ghost use Rattle.std.specs.Prelude.{◌≡◌, ◌∷◌, []};
 ghost use Rattle.poolsteps.specs.Layout.{spots_at};
 ghost use Rattle.poolsteps.specs.Grids.{IsSpot, IsFirstHand};
 
@@ -8,6 +8,7 @@ use placecell::{Share, Whole};
 use poolcalls::{At, Got, Reclaimed, clear, downgrade, get, publish, release};
 use poolsteps::{Grid, Hand, Spot, acts_law};
 use slotcell::Clear;
+use std::alloc::Global;
 use std::process::Abort;
 
 /// Lane 0 publishes.
@@ -37,15 +38,22 @@ fn downgrade_first<T: Clear + Drop>(
 }
 
 /// Lane 1 clears, and returns the place of lane 0.
-fn clear_alone<T: Clear + Drop, R: Abort>(rt: &R, grid: &Grid<T>, hand: &mut Hand<T>, spot: Spot)
+fn clear_alone<T: Clear + Drop, R: Abort>(
+    rt: &R,
+    grid: &Grid<T>,
+    hand: &mut Hand<T>,
+    spot: Spot,
+    tops: &Vec<u64>,
+)
     requires shape { grid.now.shape ≡ TWO_LANES }
     requires spot { IsSpot grid.now.shape spot 0 }
     requires hand { IsFirstHand grid.now 1 hand.old }
+    requires tops { tops.now.items ≡ 0 ∷ 0 ∷ [] }
 {
     let at = At {
         spot,
         lane: 1,
-        tops: &[0, 0],
+        tops,
     };
     let (marked, reclaimed) = clear(grid, hand, at, KEY);
     assert!(rt; marked);
@@ -58,22 +66,31 @@ fn get_and_release<T: Clear + Drop, R: Abort>(
     grid: &Grid<T>,
     hand: &mut Hand<T>,
     spot: Spot,
+    tops: &Vec<u64>,
 )
     requires shape { grid.now.shape ≡ TWO_LANES }
     requires spot { IsSpot grid.now.shape spot 0 }
     requires hand { IsFirstHand grid.now 1 hand.old }
+    requires tops { tops.now.items ≡ 0 ∷ 0 ∷ [] }
 {
     acts_law();
     let at = At {
         spot,
         lane: 1,
-        tops: &[0, 0],
+        tops,
     };
     let Got::Hit = get(grid, hand, at, KEY) else {
         panic!(rt; "a miss")
     };
     let reclaimed = release(grid, hand, at, KEY);
     assert!(rt; reclaimed.is_none());
+}
+
+/// The words that a lane of a pool of two has pushed at first: none.
+fn no_tops<R: Abort>(rt: &R, alloc: Global) -> Vec<u64>
+    ensures { result.items ≡ 0 ∷ 0 ∷ [] }
+{
+    vec![in alloc; 0, 0].expect(rt, "memory")
 }
 
 #[test]
@@ -83,7 +100,8 @@ fn publishes_and_clears(rt: HostRuntime) {
     let spot = grid.spot(0);
     let whole = object_at(&rt, rt.alloc(), &mut directory, spot.start as usize, 7);
     publish_first(&grid, &mut first, spot, whole);
-    clear_alone(&rt, &grid, &mut second, spot);
+    let tops = no_tops(&rt, rt.alloc());
+    clear_alone(&rt, &grid, &mut second, spot, &tops);
 }
 
 #[test]
@@ -93,7 +111,8 @@ fn gets_and_releases(rt: HostRuntime) {
     let spot = grid.spot(0);
     let whole = object_at(&rt, rt.alloc(), &mut directory, spot.start as usize, 7);
     let share = downgrade_first(&grid, &mut first, spot, whole);
-    get_and_release(&rt, &grid, &mut second, spot);
+    let tops = no_tops(&rt, rt.alloc());
+    get_and_release(&rt, &grid, &mut second, spot, &tops);
     assert_eq!(rt;
         share.read(grid.objects, spot.start as usize).as_slice(),
         [7].as_slice()

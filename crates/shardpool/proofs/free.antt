@@ -6,3 +6,4 @@ pub mod Known
 pub mod Pages
 pub mod OwnLists
 pub mod Takes
+pub mod Words

@@ -20,7 +20,7 @@ use Rattle.poolsteps.specs.Layout.{slot_start, slot_row, shard_start}
 use Rattle.placerows.specs.Objects.{ObjectsOf}
 use Rattle.shardpool.specs.declared.state.HeldKey.{HeldKey}
 use Rattle.shardpool.specs.declared.state.LaneState.{LaneState}
-use Rattle.shardpool.specs.Rows.{AreKeyed, AreStanding}
+use Rattle.shardpool.specs.Rows.{AreStanding}
 use Rattle.shardpool.specs.Places.{IsBlank, IsResting, held_after, left_with}
 
 -- the seat is that of one lane of the pool, which saw a legal history with just its own acts, has nothing under way, and whose acts left it no place of another lane's shard
@@ -67,14 +67,13 @@ module _ {T : Type 0} (content : T → List ℕ) (room : T → ℕ) (z : Shape) 
   -- the row of a place counts the lane's references to its keys, and has the share under them
   pub record FitsRow (v : View) (place : ℕ) (row : HeldKey T) : Type 0 where
     pub counts : (key : ℕ) → is_key z key ≡ true → place_of key ≡ place
-        → references_seen z v key ≡ (if key == row.key then row.count else 0)
-    pub keyed : 0 < row.count → (is_key z row.key ≡ true) × (place_of row.key ≡ place)
-    pub held : 0 < row.count → (s : Share T) × (row.share ≡ Some s) × IsHeld v place (generation_of row.key) s
+        → references_seen z v key ≡ (if generation_of key == row.generation then row.count else 0)
+    pub keyed : 0 < row.count → (key : ℕ) × (is_key z key ≡ true) × (place_of key ≡ place) × (generation_of key ≡ row.generation)
+    pub held : 0 < row.count → (s : Share T) × (row.share ≡ Some s) × IsHeld v place row.generation s
 
   -- so do all rows, and they count as many references as the lane has by its acts
   pub record FitsRows (v : View) (rows : List (HeldKey T)) (references : ℕ) : Type 0 where
     pub wide : length rows ≡ slot_row z
-    pub keyed : AreKeyed z rows
     pub total : sum_by (λ row. row.count) rows ≡ references
     pub by_acts : references ≡ held_after (the_lane v).mine 0
     pub each : (place : ℕ) (row : HeldKey T) → is_place z place ≡ true → slice_get rows (slot_start z place) ≡ Some row → FitsRow v place row
@@ -101,7 +100,7 @@ module _ {T : Type 0} (content : T → List ℕ) (room : T → ℕ) (z : Shape) 
   -- what the lane keeps beside its seat fits what it has seen and did
   pub record Fits (v : View) (s : LaneState T) : Type 0 where
     pub shape_is : s.shape ≡ z
-    pub placed : (s.places.shape ≡ z) × (s.places.shard ≡ s.number)
+    pub placed : s.places.shape ≡ z
     pub seat : FitsSeat z v s.number
     pub last_pushed : FitsTops z v s.last_pushed.items
     pub rows : FitsRows v s.rows.items s.references

@@ -48,12 +48,12 @@ pub record IsFirstState {T : Type 0} (z : PoolShape) (directory : Ptr) (number :
   pub shape_is : s.shape ≡ z
   pub number_is : s.number ≡ number
   pub references : s.references ≡ 0
-  pub rows : s.rows.items ≡ replicate (slot_row z) (record { key = 0; count = 0; share = None })
+  pub rows : s.rows.items ≡ replicate (slot_row z) (record { generation = 0; count = 0; share = None })
   pub last_pushed : s.last_pushed.items ≡ replicate z.lanes 0
   pub free : s.free ≡ record { shard = number; shape = shape_of z.first_page z.pages; own = []; chain = None; room = s.free.room }
   pub pages : s.pages ≡ record { shard = number; shape = shape_of z.first_page z.pages; opened = 0 }
   pub objects : s.objects ≡ record { directory = directory; first = shard_start z number; items = replicate (shard_places z) None; rights = replicate (shard_places z) false; wide = slot_row z }
-  pub places : (s.places.shape ≡ z) × (s.places.shard ≡ number)
+  pub places : s.places.shape ≡ z
 
 -- these are the hands of the lanes of the table, by rising number, with what each keeps before it has a right to a place
 pub record AreFirstParts {T : Type 0} {G : Ghosts T} (grid : Grid T) (parts : List (Unendowed T G)) : Type 0 where

@@ -93,7 +93,8 @@ impl<T: Clear> Lane<T> {
         if self.holds(key) == 0 {
             return None;
         }
-        Some(Ref::to(key, self.state.places.start(place_of(key))))
+        let places = &self.state.places;
+        Some(Ref::to(key, places.start(place_of(key)), places))
     }
 
     /// As a law: the lane has nothing under way, and what it has seen is a legal history of the pool, with a room beside each act, and with
@@ -134,8 +135,7 @@ impl<T: Clear> Lane<T> {
         requires { 1 ≤ holds self.now reference.now.key }
         ensures { (j : ℕ) × PublishedAt self.now.book.seen j reference.now.key (T.content result.now) }
     {
-        let key = reference.key;
-        self.read_at(self.state.start_of(key, reference.start), key)
+        self.read_at(self.state.start_of(reference), reference.key)
     }
 
     /// As `read`, of a key to which the lane has a reference, and whose place stands here, as `Pool::get_at` answers.

@@ -149,7 +149,7 @@ fn part_of<T: Clear + Drop>(
             shard_start(shape, number),
             slot_row(shape),
         )?,
-        places: Places::of(alloc, shape, number)?,
+        places: Places::of(alloc, shape)?,
         alloc,
     };
     let row = HandRow::new(alloc)?;
@@ -158,12 +158,12 @@ fn part_of<T: Clear + Drop>(
 
 /// So many rows, each without a reference. None where memory was refused.
 fn first_rows<T: Drop>(alloc: Global, count: usize) -> Option<Vec<HeldKey<T>>>
-    ensures { IfSome result (λ rows. rows.items ≡ replicate count (record { key = 0; count = 0; share = None })) }
+    ensures { IfSome result (λ rows. rows.items ≡ replicate count (record { generation = 0; count = 0; share = None })) }
 {
     let mut rows = Vec::with_capacity(alloc, count).ok()?;
     for _ in 0..count {
         rows.push_reserved(HeldKey {
-            key: 0,
+            generation: 0,
             count: 0,
             share: Slot::empty(),
         });

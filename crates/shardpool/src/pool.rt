@@ -18,7 +18,7 @@ use crate::rows::{
     add_first_reference, add_reference, count_to, drop_reference, return_last_share,
 };
 use crate::state::LaneState;
-use crate::stores::{give_out, keep_reclaimed};
+use crate::stores::{give_out, keep_if_reclaimed, keep_reclaimed};
 use crate::token::{Filling, Ref};
 use keybits::{Shape, generation_of, place_of, tag_of};
 use placecell::Directory;
@@ -83,7 +83,7 @@ impl<T: Clear + Drop> Pool<T> {
         ensures fillings { (filling : FillingOf T) → Made lane.old filling → Made lane.new filling }
     {
         let start = self.get_at(lane, key)?;
-        Some(Ref::to(key, start))
+        Some(Ref::to(key, start, &lane.state.places))
     }
 
     /// A get whose reference stays with the lane, for who keeps keys in place of references: answers where `Lane::read_at` finds the
@@ -117,7 +117,7 @@ impl<T: Clear + Drop> Pool<T> {
         let got = get(&self.grid, &mut lane.hand, at, key);
         match got {
             Got::Miss(reclaimed) => {
-                keep_reclaimed(&mut lane.state, spot, reclaimed);
+                keep_if_reclaimed(&mut lane.state, spot, reclaimed);
                 return None;
             }
             Got::Hit => {}
@@ -143,7 +143,7 @@ impl<T: Clear + Drop> Pool<T> {
         ensures one_less { (k : ℕ) → holds lane.new k ≡ (if reference.key == k then holds lane.old k - 1 else holds lane.old k) }
         ensures fillings { (filling : FillingOf T) → Made lane.old filling → Made lane.new filling }
     {
-        let start = lane.state.start_of(reference.key, reference.start);
+        let start = lane.state.start_of(&reference);
         let key = reference.spend();
         let spot = Spot {
             place: place_of(key),
@@ -193,14 +193,14 @@ impl<T: Clear + Drop> Pool<T> {
     {
         let number = lane.state.number;
         return_last_share(&self.grid, &mut lane.hand, &mut lane.state, spot, key);
+        drop_reference(&mut lane.state, spot.start as usize);
         let at = At {
             spot,
             lane: number,
             tops: &lane.state.last_pushed,
         };
         let reclaimed = release(&self.grid, &mut lane.hand, at, key);
-        drop_reference(&mut lane.state, spot.start as usize);
-        keep_reclaimed(&mut lane.state, spot, reclaimed);
+        keep_if_reclaimed(&mut lane.state, spot, reclaimed);
     }
 
     /// Clears the object of a key: true where it is this call that marked the key, which a get then finds no more. The last
@@ -285,7 +285,7 @@ impl<T: Clear + Drop> Pool<T> {
         let whole = give_out(&mut lane.state, spot, object);
         let share = downgrade(&self.grid, &mut lane.hand, spot, number, key, whole);
         add_first_reference(&mut lane.state, spot.start as usize, key, share);
-        Ref::to(key, start)
+        Ref::to(key, start, &lane.state.places)
     }
 
     /// Where a key's place stands. None for a number that is no key of the pool.

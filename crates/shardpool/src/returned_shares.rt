@@ -97,10 +97,10 @@ fn give_shard<T: Drop>(
 fn take_row<T: Drop>(rows: &mut Vec<HeldKey<T>>, index: usize) -> HeldKey<T>
     requires { index < length rows.old.items }
     ensures taken { (row : Row T) → slice_get rows.old.items index ≡ Some row → result ≡ row }
-    ensures left { rows.new.items ≡ slice_set rows.old.items index (record { key = 0; count = 0; share = None }) }
+    ensures left { rows.new.items ≡ slice_set rows.old.items index (record { generation = 0; count = 0; share = None }) }
 {
     let none = HeldKey {
-        key: 0,
+        generation: 0,
         count: 0,
         share: Slot::empty(),
     };

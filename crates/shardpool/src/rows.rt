@@ -1,6 +1,6 @@
 //! The rows of a lane: its references to each place, and its shares under them.
 ghost use Rattle.std.specs.Prelude.{◌≡◌, ◌≢◌, ◌==◌, ◌+◌, ◌-◌, ◌<◌, ◌≤◌, Some, None, IsSome, slice_get, slice_set, length, if◌then◌else◌};
-ghost use Rattle.keybits.specs.Keys.{place_of};
+ghost use Rattle.keybits.specs.Keys.{place_of, generation_of};
 ghost use Rattle.steplaws.specs.Facts.{most_references};
 ghost use Rattle.poolsteps.specs.Grids.{IsOf, IsSpot, SameSeat};
 ghost use Rattle.poolsteps.specs.Told.{references_seen};
@@ -9,6 +9,7 @@ ghost use Rattle.shardpool.specs.LaneStates.{Fits};
 ghost use Rattle.shardpool.specs.Lendings.{LendsHome};
 
 use crate::state::{HeldKey, LaneState};
+use keybits::generation_of;
 use placecell::{Share, Slot};
 use poolsteps::{Grid, Hand, Spot, shares_law};
 use slotcell::Clear;
@@ -18,10 +19,14 @@ use std::mem;
 #[inline]
 pub(crate) fn count_to<T>(state: &LaneState<T>, at: usize, key: u64) -> u32
     requires at { at < length state.now.rows.items }
-    ensures { (row : Shown T) → slice_get state.now.rows.items at ≡ Some row → result ≡ (if key == row.key then row.count else 0) }
+    ensures { (row : Shown T) → slice_get state.now.rows.items at ≡ Some row → result ≡ (if generation_of key == row.generation then row.count else 0) }
 {
     let row = &state.rows[at];
-    if row.key == key { row.count } else { 0 }
+    if row.generation == generation_of(key) {
+        row.count
+    } else {
+        0
+    }
 }
 
 /// The row has the first reference to a key, with the share under it.
@@ -34,11 +39,11 @@ pub(crate) fn add_first_reference<T: Drop>(
 )
     requires at { at < length state.old.rows.items }
     requires room { state.old.references < most_references }
-    ensures rows { state.new.rows.items ≡ slice_set state.old.rows.items at (record { key = key; count = 1; share = Some share }) }
+    ensures rows { state.new.rows.items ≡ slice_set state.old.rows.items at (record { generation = generation_of key; count = 1; share = Some share }) }
     ensures rest { state.new ≡ record state.old { rows = state.new.rows; references = state.old.references + 1 } }
 {
     state.rows[at] = HeldKey {
-        key,
+        generation: generation_of(key),
         count: 1,
         share: Slot::filled(share),
     };

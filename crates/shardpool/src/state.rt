@@ -1,5 +1,6 @@
 //! What a lane keeps beside its seat.
 use crate::places::Places;
+use crate::token::Ref;
 use freelists::{LocalFree, Pages};
 use keybits::{Shape, place_of};
 use placecell::Slot;
@@ -9,8 +10,8 @@ use std::alloc::Global;
 /// What a lane has of a place: how many references to which of its keys, and the share under them.
 #[derive(Drop)]
 pub(crate) struct HeldKey<T> {
-    /// The last key of the place to which the lane had a reference; 0, which is no key, before the first.
-    pub(crate) key: u64,
+    /// The generation of the last key of the place to which the lane had a reference; 0, which no key has, before the first.
+    pub(crate) generation: u32,
     pub(crate) count: u32,
     pub(crate) share: Slot<T>,
 }
@@ -43,18 +44,18 @@ impl<T> LaneState<T> {
     ghost use Rattle.std.specs.Prelude.{◌≡◌, true};
     ghost use Rattle.keybits.specs.Keys.{place_of, is_key};
     ghost use Rattle.poolsteps.specs.Layout.{slot_start};
-    ghost use Rattle.shardpool.specs.Rows.{AreKeyed};
 
-    /// Where the place of a key of the pool stands: likely here, as its row then tells.
+    /// Where the place of a reference's key stands, which is one of the pool: as the reference tells, unless it comes from a pool whose
+    /// places stand elsewhere.
     #[inline]
-    pub(crate) fn start_of(&self, key: u64, likely: u32) -> u32
-        requires key { is_key self.now.places.shape key ≡ true }
-        requires keyed { AreKeyed self.now.places.shape self.now.rows.items }
-        ensures { result ≡ slot_start self.now.places.shape (place_of key) }
+    pub(crate) fn start_of(&self, reference: &Ref<T>) -> u32
+        requires { is_key self.now.places.shape reference.now.key ≡ true }
+        ensures { result ≡ slot_start self.now.places.shape (place_of reference.now.key) }
     {
-        match self.rows.get(likely as usize) {
-            Some(row) if row.key == key => likely,
-            _ => self.searched(key),
+        if reference.code == self.places.code {
+            reference.start
+        } else {
+            self.searched(reference.key)
         }
     }
 

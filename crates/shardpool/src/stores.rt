@@ -24,32 +24,35 @@ use poolsteps::Spot;
 use slotcell::Clear;
 use std::alloc::Global;
 
-/// An emptied object of an own place rests with the lane, at the place's index, and the place goes to the end of the lane's list.
+/// An emptied object of an own place rests with the lane, and the place goes to the end of the lane's list.
 #[inline(always)]
-pub(crate) fn keep<T: Drop>(state: &mut LaneState<T>, place: u32, index: usize, whole: Whole<T>)
+pub(crate) fn keep<T: Drop>(state: &mut LaneState<T>, spot: Spot, whole: Whole<T>)
     requires shape { IsShape state.old.shape }
-    requires place { is_place state.old.shape place ≡ true }
-    requires index { index ≡ index_of state.old.shape place }
+    requires spot { IsSpot state.old.shape spot spot.place }
+    requires begins { state.old.objects.first ≡ shard_start state.old.shape (shard_of spot.place) }
     requires narrow { length state.old.objects.items ≡ shard_places state.old.shape }
-    requires away { IsAway state.old.free (place_numbered place) }
-    requires at { whole.spot ≡ record { directory = state.old.objects.directory; index = state.old.objects.first + index } }
-    ensures { KeepsOwn place whole.object state.old state.new }
+    requires away { IsAway state.old.free (place_numbered spot.place) }
+    requires at { whole.spot ≡ spots_at state.old.objects.directory state.old.shape spot.place }
+    ensures { KeepsOwn spot.place whole.object state.old state.new }
 {
-    state.objects.keep(index, whole);
-    state.free.push(Place::of_number(place));
+    state.objects.keep(spot.start as usize, whole);
+    state.free.push(Place::of_number(spot.place));
 }
 
 /// An empty object of an own place, which never had one, rests with the lane, and the place goes to the end of the lane's list.
-fn list<T: Drop>(state: &mut LaneState<T>, place: u32, index: usize, object: Box<T, Global>)
+fn list<T: Drop>(state: &mut LaneState<T>, place: u32, object: Box<T, Global>)
     requires shape { IsShape state.old.shape }
+    requires placed { state.old.places.shape ≡ state.old.shape }
     requires place { is_place state.old.shape place ≡ true }
-    requires index { index ≡ index_of state.old.shape place }
+    requires begins { state.old.objects.first ≡ shard_start state.old.shape (shard_of place) }
     requires narrow { length state.old.objects.items ≡ shard_places state.old.shape }
     requires away { IsAway state.old.free (place_numbered place) }
-    requires right { slice_get state.old.objects.rights index ≡ Some true }
+    requires right { slice_get state.old.objects.rights (index_of state.old.shape place) ≡ Some true }
     ensures { KeepsOwn place object.value state.old state.new }
 {
-    state.objects.fill(index, object);
+    state
+        .objects
+        .fill(state.places.start(place) as usize, object);
     state.free.push(Place::of_number(place));
 }
 
@@ -62,7 +65,6 @@ pub(crate) fn keep_reclaimed<T: Drop>(
 )
     requires shape { IsShape state.old.shape }
     requires spot { IsSpot state.old.shape spot spot.place }
-    requires placed { (state.old.places.shape ≡ state.old.shape) × (state.old.places.shard ≡ state.old.free.shard) }
     requires narrow { length state.old.objects.items ≡ shard_places state.old.shape }
     requires wide { length state.old.last_pushed.items ≡ state.old.shape.lanes }
     requires begins { (state.old.objects.first ≡ shard_start state.old.shape state.old.free.shard) × (state.old.objects.wide ≡ slot_row state.old.shape) }
@@ -72,8 +74,7 @@ pub(crate) fn keep_reclaimed<T: Drop>(
 {
     match reclaimed {
         Some(Reclaimed::Own(whole)) => {
-            let index = state.places.index(spot.start);
-            keep(state, spot.place, index, whole);
+            keep(state, spot, whole);
         }
         Some(Reclaimed::Returned) => {
             state.last_pushed[shard_of(spot.place) as usize] = link_to(spot.place);
@@ -85,13 +86,50 @@ pub(crate) fn keep_reclaimed<T: Drop>(
     }
 }
 
+/// As `keep_reclaimed`, for a call that rarely reclaims a place: what it then does stands apart.
+#[inline(always)]
+pub(crate) fn keep_if_reclaimed<T: Drop>(
+    state: &mut LaneState<T>,
+    spot: Spot,
+    reclaimed: Option<Reclaimed<T>>,
+)
+    requires shape { IsShape state.old.shape }
+    requires spot { IsSpot state.old.shape spot spot.place }
+    requires narrow { length state.old.objects.items ≡ shard_places state.old.shape }
+    requires wide { length state.old.last_pushed.items ≡ state.old.shape.lanes }
+    requires begins { (state.old.objects.first ≡ shard_start state.old.shape state.old.free.shard) × (state.old.objects.wide ≡ slot_row state.old.shape) }
+    requires at { StandsAt (spots_at state.old.objects.directory state.old.shape spot.place) reclaimed }
+    requires away { (whole : Cell T) → reclaimed ≡ Some (Own whole) → IsAway state.old.free (place_numbered spot.place) }
+    ensures { Keeps spot.place reclaimed state.old state.new }
+{
+    if reclaimed.is_some() {
+        keep_apart(state, spot, reclaimed);
+    }
+}
+
+#[cold]
+#[inline(never)]
+fn keep_apart<T: Drop>(state: &mut LaneState<T>, spot: Spot, reclaimed: Option<Reclaimed<T>>)
+    requires shape { IsShape state.old.shape }
+    requires spot { IsSpot state.old.shape spot spot.place }
+    requires narrow { length state.old.objects.items ≡ shard_places state.old.shape }
+    requires wide { length state.old.last_pushed.items ≡ state.old.shape.lanes }
+    requires begins { (state.old.objects.first ≡ shard_start state.old.shape state.old.free.shard) × (state.old.objects.wide ≡ slot_row state.old.shape) }
+    requires at { StandsAt (spots_at state.old.objects.directory state.old.shape spot.place) reclaimed }
+    requires away { (whole : Cell T) → reclaimed ≡ Some (Own whole) → IsAway state.old.free (place_numbered spot.place) }
+    ensures { Keeps spot.place reclaimed state.old state.new }
+{
+    keep_reclaimed(state, spot, reclaimed);
+}
+
 /// The first place of the lane's list, where it stands, and its object. None where the list is empty, which changes nothing.
 #[inline]
 pub(crate) fn take_own<T: Drop>(state: &mut LaneState<T>) -> Option<(Place, u32, Box<T, Global>)>
     requires shape { IsShape state.old.shape }
     requires lane { state.old.free.shard < state.old.shape.lanes }
     requires lists { state.old.free.shape ≡ shape_of state.old.shape.first_page state.old.shape.pages }
-    requires placed { (state.old.places.shape ≡ state.old.shape) × (state.old.places.shard ≡ state.old.free.shard) }
+    requires placed { state.old.places.shape ≡ state.old.shape }
+    requires begins { state.old.objects.first ≡ shard_start state.old.shape state.old.free.shard }
     requires objects { (place : Shown) → Contains state.old.free.own place
         → (object : T) × (slice_get state.old.objects.items (index_of state.old.shape (number_of place)) ≡ Some (Some object)) }
     ensures { MatchOption result ((state.old.free.own ≡ []) × (state.new ≡ state.old)) (λ taken. TakesOwn taken.0 taken.2.value state.old state.new
@@ -99,8 +137,7 @@ pub(crate) fn take_own<T: Drop>(state: &mut LaneState<T>) -> Option<(Place, u32,
 {
     let place = state.free.pop()?;
     let start = state.places.start(place.number());
-    let index = state.places.index(start);
-    match state.objects.take(index) {
+    match state.objects.take(start as usize) {
         Some(object) => Some((place, start, object)),
         None => unreachable!(),
     }
@@ -116,7 +153,6 @@ pub(crate) fn follow_on<T: Drop>(
 ) -> Box<T, Global>
     requires shape { IsShape state.old.shape }
     requires spot { IsSpot state.old.shape spot spot.place }
-    requires placed { (state.old.places.shape ≡ state.old.shape) × (state.old.places.shard ≡ state.old.free.shard) }
     requires own { shard_of spot.place ≡ state.old.free.shard }
     requires narrow { length state.old.objects.items ≡ shard_places state.old.shape }
     requires begins { state.old.objects.first ≡ shard_start state.old.shape state.old.free.shard }
@@ -127,8 +163,7 @@ pub(crate) fn follow_on<T: Drop>(
     ensures follows { FollowsOn spot.place link state.old state.new }
 {
     state.free.follow(link);
-    let index = state.places.index(spot.start);
-    state.objects.vacate(index, whole)
+    state.objects.vacate(spot.start as usize, whole)
 }
 
 /// The place of a filling, with this object, leaves the lane: it stands here, and is among the lane's rights.
@@ -140,7 +175,6 @@ pub(crate) fn give_out<T: Drop>(
 ) -> Whole<T>
     requires shape { IsShape state.old.shape }
     requires spot { IsSpot state.old.shape spot spot.place }
-    requires placed { (state.old.places.shape ≡ state.old.shape) × (state.old.places.shard ≡ state.old.free.shard) }
     requires own { shard_of spot.place ≡ state.old.free.shard }
     requires begins { state.old.objects.first ≡ shard_start state.old.shape state.old.free.shard }
     requires right { slice_get state.old.objects.rights (index_of state.old.shape spot.place) ≡ Some true }
@@ -149,8 +183,7 @@ pub(crate) fn give_out<T: Drop>(
 {
     // A look at the list tells that its places are the lane's.
     let _ = state.free.len();
-    let index = state.places.index(spot.start);
-    state.objects.put(index, object)
+    state.objects.put(spot.start as usize, object)
 }
 
 /// The place that a word leads to becomes the first of the taken chain.
@@ -171,6 +204,8 @@ pub(crate) fn open_next<T: Clear + Drop>(state: &mut LaneState<T>, objects: Vec<
     requires lane { state.old.number < state.old.shape.lanes }
     requires lists { (state.old.free.shard ≡ state.old.number) × (state.old.free.shape ≡ shape_of state.old.shape.first_page state.old.shape.pages) }
     requires paged { state.old.pages.shape ≡ shape_of state.old.shape.first_page state.old.shape.pages }
+    requires placed { state.old.places.shape ≡ state.old.shape }
+    requires begins { state.old.objects.first ≡ shard_start state.old.shape state.old.number }
     requires narrow { length state.old.objects.items ≡ shard_places state.old.shape }
     requires unopened { state.old.pages.opened < state.old.shape.pages }
     requires own { state.old.free.own ≡ [] }
@@ -189,8 +224,6 @@ pub(crate) fn open_next<T: Clear + Drop>(state: &mut LaneState<T>, objects: Vec<
             page: page as u8,
             slot: state.free.len() as u16,
         };
-        let number = place.number();
-        let index = state.shape.index(number);
-        list(state, number, index, object);
+        list(state, place.number(), object);
     }
 }

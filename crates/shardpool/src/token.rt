@@ -1,4 +1,5 @@
 //! Tokens: what a call gives, and another call takes back.
+use crate::places::Places;
 use poolsteps::Hand;
 use std::alloc::Global;
 use std::marker::{Model, PhantomData};
@@ -97,27 +98,37 @@ pub struct Ref<T> {
     pub(crate) key: u64,
     /// Where the key's place stands in the pool that answered the reference.
     pub(crate) start: u32,
+    /// In which pools it stands there.
+    pub(crate) code: u32,
     pub(crate) of: PhantomData<T>,
 }
 
 impl<T> Model for Ref<T> {
+    ghost use Rattle.shardpool.specs.Rows.{StandsIn};
     ghost use Rattle.shardpool.specs.Tokens.{RefOf};
 
     ghost Value = { RefOf };
 
     ghost view = { λ r. record { key = r.key } };
+
+    ghost invariant = { λ r. StandsIn r.code r.key r.start };
 }
 
 impl<T> Ref<T> {
     ghost use Rattle.std.specs.Prelude.{◌≡◌};
+    ghost use Rattle.keybits.specs.Keys.{place_of};
+    ghost use Rattle.poolsteps.specs.Layout.{slot_start};
 
-    /// A reference to this key, whose place stands here.
-    pub(crate) fn to(key: u64, start: u32) -> Ref<T>
+    /// A reference to this key, whose place stands here among these.
+    #[inline]
+    pub(crate) fn to(key: u64, start: u32, places: &Places) -> Ref<T>
+        requires { start ≡ slot_start places.now.shape (place_of key) }
         ensures { result.key ≡ key }
     {
         Ref {
             key,
             start,
+            code: places.code,
             of: PhantomData,
         }
     }
@@ -136,6 +147,7 @@ impl<T> Ref<T> {
         let Ref {
             key,
             start: _,
+            code: _,
             of: _,
         } = self;
         key

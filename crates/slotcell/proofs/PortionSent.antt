@@ -1,4 +1,4 @@
--- What a portion owns says the same to every thread, and so does what may be one.
+-- What a portion owns says the same to every thread.
 use mathlib.Core.Bool.{Bool, true, false}
 use mathlib.Core.List.{[], ◌∷◌}
 use mir.Raw.{raw}
@@ -8,11 +8,10 @@ use denote.RattleType.{RattleType}
 use denote.Memory.{lone}
 use denote.Param.Send.{IsSend, IsSync}
 use denote.RawPtr.{Ptr}
-use Rattle.std.specs.Prelude.{ℕ, Option, Some, None}
+use Rattle.std.specs.Prelude.{ℕ}
 use Rattle.std.proofs.Crossing.{frees}
 use Rattle.std_alloc.proofs.SendSync.{lies, seen}
-use Rattle.slotcell.specs.Portion.{heap_handle, returns_if, portion_owns, portion_shares, maybe_portion_owns, maybe_portion_shares}
-use Rattle.slotcell.specs.Share.{Share}
+use Rattle.slotcell.specs.Portion.{heap_handle, returns_if, portion_owns, portion_shares}
 
 module _ (T : RattleType) (s : IsSend T) where
   returns_keyless : (p : Ptr) (x : T.Denot) (a : ℕ) (y : Bool) → Keyless (returns_if T p x a y)
@@ -22,14 +21,6 @@ module _ (T : RattleType) (s : IsSend T) where
   pub portion_keyless : IsSync T → (p : Ptr) (x : T.Denot) (a name k : ℕ) (y : Bool) → Keyless (portion_owns T p x a name k y)
   portion_keyless shared p x a name k y = (((λ q c. tt), seen T shared p x (a ∷ [])), (tt, returns_keyless p x a y))
 
-  pub maybe_portion_keyless : IsSync T → (p : Ptr) (a : ℕ) (held : Option (Share T.Denot)) → Keyless (maybe_portion_owns T p a held)
-  maybe_portion_keyless shared p a None = tt
-  maybe_portion_keyless shared p a (Some h) = portion_keyless shared p h.object a h.cell _ _
-
 module _ (T : RattleType) (y : IsSync T) where
   pub shares_keyless : (p : Ptr) (x : T.Denot) (a name : ℕ) (κ : Lft) → Keyless (portion_shares T p x a name κ)
   shares_keyless p x a name κ = (((λ q. tt), seen T y p x (a ∷ [])), tt)
-
-  pub maybe_shares_keyless : (p : Ptr) (a : ℕ) (held : Option (Share T.Denot)) (κ : Lft) → Keyless (maybe_portion_shares T p a held κ)
-  maybe_shares_keyless p a None κ = tt
-  maybe_shares_keyless p a (Some h) κ = shares_keyless p h.object a h.cell κ

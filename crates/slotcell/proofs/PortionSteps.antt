@@ -1,5 +1,5 @@
--- The ghost steps of a portion: a cell is lent, and its portions are cut, compared, merged and, once all are there, ended. Assumes `Logic`.
-use Rattle.std.proofs.Common.{◌≡◌, ℕ, ◌+◌, ◌-◌, ◌^◌, ◌<◌, ◌≤◌, Bool, true, false, ◌||◌, [], ◌∷◌, refl, ap, arith}
+-- The ghost steps of a portion: a cell is lent, and its portions are cut, merged and, once all are there, ended. Assumes `Logic`.
+use Rattle.std.proofs.Common.{◌≡◌, ℕ, ◌+◌, ◌-◌, ◌^◌, ◌<◌, ◌≤◌, Bool, true, false, ◌||◌, [], ◌∷◌, refl, arith}
 use seplogic.Ra.Ura.{Ura}
 use base.Fraction.{full_share}
 use base.FractionLaws.{Counts, counts_some, Counts-op, Counts-all}
@@ -15,16 +15,13 @@ use types.Tokens.{lft_new, lft_end, bor_new, lent_back, bor_open, obor_alter, bo
 use denote.RattleType.{RattleType}
 use denote.RawPtr.{Ptr, InBlock, lies_at}
 use denote.Sharing.{ShrLaws, said, one, held}
-use denote.SharingLaws.{contraction, beside_shr_laws, one_shr_laws, held_shr_laws, nothing_shr_laws}
+use denote.SharingLaws.{contraction, beside_shr_laws, one_shr_laws, held_shr_laws}
 use denote.Moves.{moves_from}
 use denote.Steps.{nothing}
 use denote.Param.Laws.{Laws}
-use denote.Struct.Lending.{Lends, Lends-first, Lends-both, Lends-lies, Lends-nothing, lent_at, lent_at_shr_laws, in_block_says}
-use Rattle.slotcell.specs.Portion.{parts_owns, named_code, boxed, returns_if, reads_owns, named, portion_owns, reads_shares, portion_shares, maybe_portion_owns, maybe_portion_shares}
+use denote.Struct.Lending.{Lends, Lends-first, Lends-both, Lends-lies, lent_at, lent_at_shr_laws, in_block_says}
+use Rattle.slotcell.specs.Portion.{heap_handle, parts_owns, named_code, boxed, returns_if, reads_owns, named, portion_owns, reads_shares, portion_shares}
 use Rattle.std.specs.contracts.impls.GlobalAllocator.TheImpl.{ghosts}
-use Rattle.slotcell.specs.Portion.{heap_handle, parts_of}
-use Rattle.slotcell.specs.Share.{Share as Shown}
-use Rattle.std.specs.Prelude.{◌==◌, Option, Some, None, IsSome}
 use mir.Raw.{raw as bare}
 use denote.Memory.{lone}
 
@@ -126,21 +123,6 @@ module _ (R : RattleType) (L : Laws R) (p : Ptr) (x : R.Denot) (a : ℕ) where
     portion_lends name k y l = Lends-both 𝓛 (reads_owns R p x a k) (fsep (named R p x a name) (returns_if R p x a y)) (reads_shares R p x a) (said (named R p x a name)) l
         (reads_lend k l) (Lends-first 𝓛 (named R p x a name) (returns_if R p x a y) (said (named R p x a name)) l (name_lends name l))
 
-pub value_of : {A : Type 0} (o : Option A) → IsSome o → (x : A) × (o ≡ Some x)
-value_of (Some x) is = (x, refl)
-value_of None is = absurd (cc is)
-
--- what a `&` to what may be a portion gives
-module _ (R : RattleType) (L : Laws R) (p : Ptr) (a : ℕ) where
-  pub maybe_shares_laws : (held : Option (Shown R.Denot)) → ShrLaws (maybe_portion_shares R p a held)
-  maybe_shares_laws None = nothing_shr_laws
-  maybe_shares_laws (Some s) = shares_laws R L p s.object a s.cell
-
-  pub maybe_portion_lends : {M : Type 1} {𝓤 : Ura M} (𝓛 : Logic 𝓤) (held : Option (Shown R.Denot)) (l : Lft)
-      → Lends 𝓛 (maybe_portion_owns R p a held) (maybe_portion_shares R p a held) l
-  maybe_portion_lends 𝓛 None l = Lends-nothing 𝓛 ftrue l
-  maybe_portion_lends 𝓛 (Some s) l = portion_lends R L p s.object a 𝓛 s.cell (parts_of s.of s.number) (s.number + 1 == s.of) l
-
 -- a portion
 module _ {M : Type 1} {𝓤 : Ura M} (𝓛 : Logic 𝓤) (R : RattleType) where
   open 𝓛 use {H, A}
@@ -156,9 +138,6 @@ module _ {M : Type 1} {𝓤 : Ura M} (𝓛 : Logic 𝓤) (R : RattleType) where
   names_agree name c d = let P = A.res name ((named_code R).code c) in let Q = A.res name ((named_code R).code d) in
       via 𝓤 _ (via 𝓤 _ (conj_i 𝓤 P Q (fst∗ 𝓤 P Q) (snd∗ 𝓤 P Q)) (𝓛.names.res_one name ((named_code R).code c) ((named_code R).code d)))
       (fact_mono 𝓤 _ (c ≡ d) ((named_code R).inj c d))
-
-  pub named_agree : (c d : Cell) (name : ℕ) → ent 𝓤 (sep 𝓤 (sem 𝓛 (named R c.1.0 c.1.1 c.0 name)) (sem 𝓛 (named R d.1.0 d.1.1 d.0 name))) (fact 𝓤 (c.1.1 ≡ d.1.1))
-  named_agree c d name = via 𝓤 _ (names_agree name c d) (fact_mono 𝓤 (c ≡ d) (c.1.1 ≡ d.1.1) (λ e. ap (λ (m : Cell). m.1.1) e))
 
   pub portions_agree : (c d : Cell) (name k j : ℕ) (y z : Bool)
       → ent 𝓤 (sep 𝓤 (sem 𝓛 (portion_owns R c.1.0 c.1.1 c.0 name k y)) (sem 𝓛 (portion_owns R d.1.0 d.1.1 d.0 name j z))) (fact 𝓤 (c ≡ d))

@@ -1,6 +1,5 @@
 pub mod ByteBuf
 pub mod Parts
 pub mod Portion
-pub mod Rest
 pub mod Share
 pub mod Whole

@@ -1,9 +1,8 @@
 -- How the parts of a cell are dealt among its shares. No public clause cites this module.
-use Rattle.std.specs.Prelude.{◌≡◌, ◌+◌, ◌-◌, ◌^◌, ◌<◌, ◌≤◌, ◌==◌, true}
+use Rattle.std.specs.Prelude.{◌≡◌, ◌+◌, ◌^◌, ◌≤◌, ◌==◌}
 use Rattle.slotcell.specs.declared.portion.Portion.{Portion}
 use Rattle.slotcell.specs.Portion.{parts_of}
 use Rattle.slotcell.specs.Share.{Share}
-use Rattle.slotcell.specs.Rest.{Rest}
 
 module _ {T : Type 0} where
   -- the portion is that of a share; the last share has the right to the box
@@ -13,11 +12,3 @@ module _ {T : Type 0} where
   -- what is seen of it
   abbrev pub shown_by : Portion T → Share T
   shown_by p = record { cell = p.cell; number = p.number; of = p.of; object = p.object }
-
-  -- the portion is that of all shares from its number on, and has the right to the box
-  abbrev pub IsRest : Portion T → Type 0
-  IsRest p = (p.parts ≡ 2 ^ 63 - p.number) × (p.owner ≡ true) × (p.number < p.of) × (p.of ≤ 2 ^ 63)
-
-  -- what is seen of it
-  abbrev pub rest_shown_by : Portion T → Rest T
-  rest_shown_by p = record { cell = p.cell; number = p.number; of = p.of; object = p.object }

@@ -1,8 +1,8 @@
--- What a `Portion` of a cell owns, and a `MaybePortion`.
+-- What a `Portion` of a cell owns.
 --     The cell's box is lent for a lifetime of its own, a. Whoever has the whole token of a can end it, and then has the box back.
 --     The token has 2 ^ 63 equal parts. A portion has some of them, and one portion of a cell also has the right to the box.
 --     A cell's name says for good what its lifetime, its address and its object are: two portions of one name are of one cell.
-use Rattle.std.specs.Prelude.{ℕ, ◌+◌, ◌-◌, ◌^◌, ◌==◌, Bool, true, false, if◌then◌else◌, [], ◌∷◌, Option, Some, None}
+use Rattle.std.specs.Prelude.{ℕ, ◌+◌, ◌-◌, ◌^◌, ◌==◌, Bool, true, false, if◌then◌else◌, [], ◌∷◌}
 use Rattle.std.specs.Coded.{Coded, coded×, coded_ℕ}
 use base.FractionLaws.{Counts}
 use base.Fml.{Lft, Share, Fml, ftrue, fsep, fex, flft, flent, fres}
@@ -14,7 +14,6 @@ use denote.Struct.Lending.{lent_at}
 use Rattle.std.specs.declared.alloc.Global.{Global}
 use Rattle.std.specs.contracts.impls.GlobalAllocator.TheImpl.{ghosts}
 use Rattle.std_alloc.specs.Box.Ownership.{box_owns}
-use Rattle.slotcell.specs.Share.{Share as Shown}
 
 -- k of the 2 ^ 63 parts of the token of lifetime a
 abbrev pub parts_owns : ℕ → ℕ → Fml
@@ -60,13 +59,3 @@ module _ (R : RattleType) (p : Ptr) (x : R.Denot) (a : ℕ) where
 -- share i of n has one of the 2 ^ 63 parts of its cell; the last one has all that the others leave
 abbrev pub parts_of : ℕ → ℕ → ℕ
 parts_of n i = if i + 1 == n then 2 ^ 63 - i else 1
-
--- the portion of this share of a cell at p, whose lifetime is a, or nothing
-abbrev pub maybe_portion_owns : (R : RattleType) → Ptr → ℕ → Option (Shown R.Denot) → Fml
-maybe_portion_owns R p a None = ftrue
-maybe_portion_owns R p a (Some s) = portion_owns R p s.object a s.cell (parts_of s.of s.number) (s.number + 1 == s.of)
-
--- what a `&` to that gives: what one to the portion gives, or nothing
-abbrev pub maybe_portion_shares : (R : RattleType) → Ptr → ℕ → Option (Shown R.Denot) → Lft → Fml
-maybe_portion_shares R p a None κ = ftrue
-maybe_portion_shares R p a (Some s) κ = portion_shares R p s.object a s.cell κ

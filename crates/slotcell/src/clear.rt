@@ -3,10 +3,11 @@ ghost use Rattle.std.specs.Vec.{vec_len, vec_capacity};
 ghost use Rattle.std.specs.Prelude.{◌≡◌, ◌+◌, ◌-◌, ◌≤◌, ◌<◌, ◌↔◌, ℕ, List, [], ◌∷◌, ◌++◌, length, take, replicate, IsTrue, IsOk, OnOk, OnErr, if◌then◌else◌};
 
 use arrayvec::ArrayVec;
+use core::mem::replace_with;
 use std::alloc::Global;
 use std::error::Error;
+use std::fmt;
 use std::marker::Model;
-use std::{fmt, mem};
 
 /// An object that can be emptied in place and filled again, so that its memory is kept.
 ///
@@ -113,9 +114,7 @@ impl ByteBuf {
             return Err(Memory);
         }
         // As a vector of its own it is filled by a block copy, which a field of a borrowed buffer isn't.
-        let empty = Vec::new(*self.bytes.allocator());
-        let bytes = mem::replace(&mut self.bytes, empty);
-        self.bytes = with_appended(bytes, more);
+        replace_with(&mut self.bytes, more, with_appended);
         Ok(())
     }
 
@@ -183,16 +182,16 @@ impl ByteBuf {
 
 // Appends where the capacity has room, and stays. `extend_from_slice` only says that it doesn't shrink.
 #[inline]
-fn with_appended(bytes: Vec<u8>, more: &[u8]) -> Vec<u8>
+fn with_appended(bytes: Vec<u8>, more: &[u8]) -> (Vec<u8>, ())
     requires { vec_len bytes + length more.now ≤ vec_capacity bytes }
-    ensures items { result.items ≡ bytes.items ++ more.now }
-    ensures capacity { vec_capacity result ≡ vec_capacity bytes }
+    ensures items { result.0.items ≡ bytes.items ++ more.now }
+    ensures capacity { vec_capacity result.0 ≡ vec_capacity bytes }
 {
     let mut all = bytes;
     for byte in more {
         all.push_reserved(*byte);
     }
-    all
+    (all, ())
 }
 
 /// At most eight numbers, which are its content and lie in the value itself. Its room is 8, and it never takes memory.

@@ -2,8 +2,6 @@
 //!
 //! A pool hands one object from lane to lane without a lock. What makes that sound is a type: a `Whole` reads and writes
 //! the object of a cell, a `Share` reads it, and all shares of a cell together are the whole again, with that very object.
-//! A `Rest` is the shares from one number on, which are cut off one by one, and a `Slot` keeps a share or none, with no
-//! test at run time.
 //!
 //! Raw pointers stand in `portion` and `unboxed` alone, in functions of a few lines that are proved by hand. All else is
 //! safe code over them.
@@ -11,14 +9,10 @@
 
 mod clear;
 mod portion;
-mod rest;
 mod share;
-mod slot;
 mod unboxed;
 mod whole;
 
 pub use clear::{ByteBuf, Clear, Memory, Record};
-pub use rest::Rest;
 pub use share::Share;
-pub use slot::Slot;
 pub use whole::{Whole, join};

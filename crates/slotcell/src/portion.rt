@@ -1,13 +1,10 @@
 // A cell that is lent to readers, in equal parts.
-ghost use Rattle.std.specs.Prelude.{◌≡◌, ℕ, ◌+◌, ◌-◌, ◌^◌, ◌<◌, ◌≤◌, ◌==◌, Bool, true, false, ◌||◌, Option, Some, None, IsSome, IfSome};
-ghost use Rattle.std.specs.Coded.{coded_option};
-ghost use Rattle.slotcell.specs.Portion.{maybe_portion_owns, maybe_portion_shares, parts_of, portion_owns, portion_shares};
-ghost use Rattle.slotcell.specs.Share.{Share, share_code};
+ghost use Rattle.std.specs.Prelude.{◌≡◌, ℕ, ◌+◌, ◌-◌, ◌^◌, ◌<◌, ◌≤◌, Bool, true, false, ◌||◌};
+ghost use Rattle.slotcell.specs.Portion.{portion_owns, portion_shares};
 
 use crate::unboxed::Unboxed;
 use std::alloc::Global;
 use std::marker::Model;
-use std::ptr::null_mut;
 
 // Some of the 2^63 equal parts of a cell that is lent, `parts` of them. Each part is a right to read. Whoever has all, with
 // the right of the one `owner` to the box, ends the loan. At run time there is only the pointer.
@@ -53,12 +50,6 @@ impl<T> Portion<T> {
         unsafe { &*self.at }
     }
 
-    // Two portions of one cell have one object.
-    pub(crate) fn agree(&self, other: &Portion<T>)
-        requires { self.now.cell ≡ other.now.cell }
-        ensures { self.now.object ≡ other.now.object }
-    {}
-
     // Cuts one part off, under the next number.
     pub(crate) fn cut(&mut self) -> Portion<T>
         requires { (1 < self.old.parts) × (self.old.parts ≤ 2 ^ 63) }
@@ -79,54 +70,3 @@ impl<T> Portion<T> {
 unsafe impl<T: Send + Sync> Send for Portion<T> {}
 
 unsafe impl<T: Send + Sync> Sync for Portion<T> {}
-
-// The portion of a share, or nothing. Proofs alone know which of the two it is: at run time there is only the pointer.
-#[derive(Drop)]
-pub(crate) struct MaybePortion<T> {
-    at: *mut T,
-    pub(crate) ghost lifetime: { ℕ },
-    pub(crate) ghost share: { Option (Share T) } by { coded_option (share_code T.code) },
-}
-
-impl<T> Model for MaybePortion<T> {
-    ghost also_owns = { λ p. maybe_portion_owns T.row p.at p.lifetime p.share };
-
-    ghost also_shares = { λ p _ κ. maybe_portion_shares T.row p.at p.lifetime p.share κ };
-}
-
-impl<T> MaybePortion<T> {
-    ghost use Rattle.slotcell.specs.Parts.{IsOneShare, shown_by};
-
-    pub(crate) fn none() -> MaybePortion<T>
-        ensures { result.share ≡ None }
-    {
-        MaybePortion { at: null_mut() }
-    }
-
-    pub(crate) fn some(portion: Portion<T>) -> MaybePortion<T>
-        requires { IsOneShare portion }
-        ensures { result.share ≡ Some (shown_by portion) }
-    {
-        let Portion { at } = portion;
-        MaybePortion { at }
-    }
-
-    pub(crate) fn read(&self) -> &T
-        requires { IsSome self.now.share }
-        ensures { IfSome self.now.share (λ share. result.now ≡ share.object) }
-    {
-        unsafe { &*self.at }
-    }
-
-    pub(crate) fn into_portion(self) -> Portion<T>
-        requires { IsSome self.share }
-        ensures { (self.share ≡ Some (shown_by result)) × (result.parts ≡ parts_of result.of result.number) × (result.owner ≡ (result.number + 1 == result.of)) }
-    {
-        let MaybePortion { at } = self;
-        Portion { at }
-    }
-}
-
-unsafe impl<T: Send + Sync> Send for MaybePortion<T> {}
-
-unsafe impl<T: Send + Sync> Sync for MaybePortion<T> {}

@@ -7,7 +7,7 @@ use std::marker::Model;
 /// One of the shares of a cell: the right to read the object in it, which nobody writes meanwhile.
 ///
 /// A contract sees which cell the share is of, its number, of how many it is one, and the object, so the object's content
-/// and room. Shares that are of one cell show one object (`agree`). Where `T` is `Send` and `Sync` a share crosses threads.
+/// and room. Shares that are of one cell show one object. Where `T` is `Send` and `Sync` a share crosses threads.
 ///
 /// A share that is dropped frees nothing: its cell can then never be whole again, and its memory is lost.
 #[derive(Drop)]
@@ -36,14 +36,6 @@ impl<T> Share<T> {
         ensures { result.now ≡ self.now.object }
     {
         self.portion.read()
-    }
-
-    /// Two shares of one cell read one object. The call does nothing: its contract is the law.
-    pub fn agree(&self, other: &Share<T>)
-        requires { self.now.cell ≡ other.now.cell }
-        ensures { self.now.object ≡ other.now.object }
-    {
-        self.portion.agree(&other.portion);
     }
 
     pub(crate) fn from_portion(portion: Portion<T>) -> Share<T>

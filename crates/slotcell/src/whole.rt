@@ -4,7 +4,6 @@ ghost use Rattle.std.specs.Borrow.{sem};
 ghost use Rattle.slotcell.specs.Share.{shares_below, AreAllShares, AllShow};
 
 use crate::portion::Portion;
-use crate::rest::Rest;
 use crate::share::Share;
 use crate::unboxed::Unboxed;
 use arrayvec::ArrayVec;
@@ -76,21 +75,13 @@ impl<T: Drop> Whole<T> {
         requires { (0 < n) × (n ≤ 16) }
         ensures { (cell : ℕ) × (result.items ≡ shares_below cell n self n) }
     {
-        let mut rest = self.lend(n);
+        let mut portion = Portion::lend(Unboxed::from_box(self.boxed), n);
         let mut shares = ArrayVec::new();
         for _ in 0..n - 1 {
-            shares.push(Some(rest.cut()));
+            shares.push(Some(Share::from_portion(portion.cut())));
         }
-        shares.push(Some(rest.into_share()));
+        shares.push(Some(Share::from_portion(portion)));
         shares
-    }
-
-    /// Lends the cell in `n` shares, from 1 to 16, all in one hand. Each shows the object. It takes no memory.
-    pub fn lend(self, n: usize) -> Rest<T>
-        requires { (0 < n) × (n ≤ 16) }
-        ensures { (result.number ≡ 0) × (result.of ≡ n) × (result.object ≡ self) }
-    {
-        Rest::from_portion(Portion::lend(Unboxed::from_box(self.boxed), n))
     }
 
     // Ends the loan of which these are all parts.

@@ -98,18 +98,18 @@ module _ {T : Type 0} {content : T → List ℕ} {room : T → ℕ} {z : Shape} 
         let k = key-is w rule place inside in
         ap (references_in (phase-at z w place)) e.fits.seat.number_is
         ∙ (sym (refs-here w rule place inside (the_lane lane.book).lane) ∙ (still-refs rule lane.table e.fits e.seen e.record_is (key-at z w place)
-        ∙ (fit.counts (key-at z w place) k.0 k.1 ∙ count-zero (eqb (key-at z w place) row.key) row.count none)))
+        ∙ (fit.counts (key-at z w place) k.0 k.1 ∙ count-zero (eqb (generation_of (key-at z w place)) row.generation) row.count none)))
 
     -- a row with references: the place is published
     some-referred : 0 < row.count → 0 < references_in (phase-at z w place) s.number
     some-referred some =
         let k = fit.keyed some in
-        let counted = fit.counts row.key k.0 k.1 ∙ ap (λ (b : Bool). cond b row.count 0) (eq-eqb row.key row.key refl) in
-        let still = still-refs rule lane.table e.fits e.seen e.record_is row.key in
-        let there = current-some (is_current z (pool_after z w.history) row.key) (references_in (pool_after z w.history (place_of row.key)).phase (the_lane lane.book).lane)
+        let counted = fit.counts k.0 k.1 k.2 ∙ ap (λ (b : Bool). cond b row.count 0) (eq-eqb (generation_of k.0) row.generation k.3) in
+        let still = still-refs rule lane.table e.fits e.seen e.record_is k.0 in
+        let there = current-some (is_current z (pool_after z w.history) k.0) (references_in (pool_after z w.history (place_of k.0)).phase (the_lane lane.book).lane)
         (subst (λ (n : ℕ). 0 < n) (sym (still ∙ counted)) some) in
-        subst (λ (p : ℕ). 0 < references_in (pool_after z w.history p).phase s.number) k.1
-        (subst (λ (l : ℕ). 0 < references_in (pool_after z w.history (place_of row.key)).phase l) (sym e.fits.seat.number_is) there)
+        subst (λ (p : ℕ). 0 < references_in (pool_after z w.history p).phase s.number) k.2
+        (subst (λ (l : ℕ). 0 < references_in (pool_after z w.history (place_of k.0)).phase l) (sym e.fits.seat.number_is) there)
 
     module _ {spots : ℕ → CellSpot} {slots : Cells T} (shared : Shared content room spots z w.history w.kept slots w.stock) where
       -- the cell of the place

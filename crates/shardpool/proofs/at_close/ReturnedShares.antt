@@ -8,11 +8,10 @@ use native.Mathlib.Decide.{ℕ_discrete}
 use Rattle.core.specs.declared.slots.Slots.{Slots}
 use Rattle.core.specs.Mem.Slots.{slots_items, slots_ptr}
 use Rattle.keybits.specs.declared.shape.Shape.{Shape}
-use Rattle.keybits.specs.Places.{shard_of}
-use Rattle.keybits.specs.Shapes.{IsShape, is_place, all_places, position_of, index_of}
+use Rattle.keybits.specs.Shapes.{IsShape, is_place, all_places, position_of}
 use Rattle.keybits.proofs.ShapeLemmas.{position_of-lt, position_of-injective}
 use Rattle.placecell.specs.Share.{Share}
-use Rattle.poolsteps.specs.Layout.{slot_start, slot_index, shard_start}
+use Rattle.poolsteps.specs.Layout.{slot_start, slot_index}
 use Rattle.poolsteps.proofs.SlotLemmas.{start-injective, slot-apart}
 use Rattle.poolsteps.specs.Joins.{IsSlotRow}
 use Rattle.poolsteps.proofs.Joining.{get-elsewhere}
@@ -91,10 +90,6 @@ module _ {T : Type 0} (z : Shape) (number : ℕ) (rows : List (HeldKey T)) where
     row = (k.full, k.count ∙ h.row.1);
     start = k.start ∙ h.start;
   }
-
--- where a place of a shard stands
-pub stands-from : (z : Shape) (place shard : ℕ) → shard_of place ≡ shard → slot_start z place ≡ shard_start z shard + index_of z place
-stands-from z place shard own = subst (λ (n : ℕ). slot_start z place ≡ shard_start z n + index_of z place) own (omega arith)
 
 -- ---- the states, one after another
 

@@ -55,7 +55,7 @@ use Rattle.shardpool.proofs.references.RowChanges.{end-refs, end-held}
 -- what the lane keeps beside its rows fits what it has seen and did
 pub record FitsBeside {T : Type 0} (content : T → List ℕ) (room : T → ℕ) (z : Shape) (v : View) (s : LaneState T) : Type 0 where
   pub shape_is : s.shape ≡ z
-  pub placed : (s.places.shape ≡ z) × (s.places.shard ≡ s.number)
+  pub placed : s.places.shape ≡ z
   pub seat : FitsSeat z v s.number
   pub last_pushed : FitsTops z v s.last_pushed.items
   pub stores : FitsStores content room z v s.free s.pages s.objects.items
@@ -66,8 +66,8 @@ fits-beside fits = record { shape_is = fits.shape_is; placed = fits.placed; seat
 
 -- so what it knows of places is that of its shard
 pub own-placed : {T : Type 0} {content : T → List ℕ} {room : T → ℕ} {z : Shape} {v : View} {s : LaneState T} → FitsBeside content room z v s
-    → (s.places.shape ≡ s.shape) × (s.places.shard ≡ s.free.shard)
-own-placed fits = (fits.placed.0 ∙ sym fits.shape_is, fits.placed.1 ∙ (fits.seat.number_is ∙ sym fits.stores.lists.0))
+    → s.places.shape ≡ s.shape
+own-placed fits = fits.placed ∙ sym fits.shape_is
 
 -- its rows of rights begin where its shard does
 pub own-begins : {T : Type 0} {content : T → List ℕ} {room : T → ℕ} {z : Shape} {v : View} {s : LaneState T} → FitsBeside content room z v s

@@ -10,7 +10,7 @@ use Rattle.atomic_table.specs.Table.{Me}
 use Rattle.atomic_table.specs.Seated.{TableId}
 use Rattle.keybits.specs.declared.shape.Shape.{Shape}
 use Rattle.keybits.specs.Shapes.{is_place}
-use Rattle.keybits.specs.Keys.{place_of, is_key}
+use Rattle.keybits.specs.Keys.{place_of, is_key, generation_of}
 use Rattle.seqpool.specs.declared.act.Act.{Act}
 use Rattle.seqpool.specs.declared.act.Act.TheVariants as acts
 use Rattle.seqpool.specs.Pool.{with, published, pool_after}
@@ -220,7 +220,7 @@ module _ {T : Type 0} {content : T → List ℕ} {room : T → ℕ} {z : Shape} 
 
   -- it has the first, with the share that was taken out
   pub rows-begun : {spots : ℕ → CellSpot} {share : Share T} {c : Me (Option (Share T)) View} → Outs content room spots z (place_of key) s.number Untouched b share c → row.count ≡ 0
-      → FitsRows content room z c.0 (slice_set s.rows.items (slot_start z (place_of key)) (record { key = key; count = 1; share = Some share })) (s.references + 1)
+      → FitsRows content room z c.0 (slice_set s.rows.items (slot_start z (place_of key)) (record { generation = generation_of key; count = 1; share = Some share })) (s.references + 1)
   rows-begun {share = share} {c = c} outs none =
       let hit = hit-moved called bytes one unmoved (carries-out outs) in
       let number : s.number ≡ (the_lane c.0).lane = fits.seat.number_is ∙ sym hit.passes.acted.lane in

@@ -5,7 +5,7 @@ use Rattle.placecell.specs.Share.{Share}
 use Rattle.keybits.specs.declared.shape.Shape.{Shape}
 use Rattle.keybits.specs.Places.{shard_of}
 use Rattle.keybits.proofs.ShapeLemmas.{is_place-parts}
-use Rattle.keybits.specs.Keys.{place_of, is_key}
+use Rattle.keybits.specs.Keys.{place_of, is_key, generation_of}
 use Rattle.freelists.specs.Queues.{IsAway}
 use Rattle.freelists.specs.Shards.{place_numbered}
 use Rattle.seqpool.specs.declared.act.Act.{Act}
@@ -59,7 +59,7 @@ ready {content = content} {room = room} {view = view} {s = s} {key = key} {spot 
 -- what the row of its place counts is how many references the lane has to the key
 pub counts-held : {T : Type 0} {content : T → List ℕ} {room : T → ℕ} {view lane : LaneOf} {z : Shape} {s : LaneState T} {key : ℕ} {spot : Spot} → view ≡ lane
     → lane.shape ≡ z → Ready content room z key spot view.book s → is_key z key ≡ true → (count : ℕ)
-    → ((row : HeldKey T) → slice_get s.rows.items spot.start ≡ Some row → count ≡ (if key == row.key then row.count else 0)) → count ≡ holds lane key
+    → ((row : HeldKey T) → slice_get s.rows.items spot.start ≡ Some row → count ≡ (if generation_of key == row.generation then row.count else 0)) → count ≡ holds lane key
 counts-held {lane = lane} {z = z} {key = key} {spot = spot} seen owned before inside count counts =
     rows-counts key spot.start before.fits.rows inside before.there.start count counts
     ∙ (ap (λ (l : LaneOf). references_seen z l.book key) seen ∙ ap (λ (y : Shape). references_seen y lane.book key) (sym owned))
@@ -70,7 +70,7 @@ module _ {T : Type 0} {content : T → List ℕ} {room : T → ℕ} {z : Shape} 
   ready-low = subst (λ (i : ℕ). i < length s.rows.items) (sym before.there.start) (rows-low (place_of key) before.fits.rows before.there.inside)
 
   -- and the call acts there
-  pub ready-at : (acting : At) → acting.spot ≡ spot → acting.lane ≡ s.number → acting.tops.now ≡ s.last_pushed.items → IsAt z v (place_of key) acting
+  pub ready-at : (acting : At) → acting.spot ≡ spot → acting.lane ≡ s.number → acting.tops.now.items ≡ s.last_pushed.items → IsAt z v (place_of key) acting
   ready-at acting there number tops =
       let fits = before.fits in
       let at = before.there in record {
@@ -151,10 +151,10 @@ module _ {T : Type 0} {content : T → List ℕ} {room : T → ℕ} {z : Shape} 
 
       -- or its first, with the share that was taken out
       pub gained-first : {at : Ptr} {share : Share T} {c : Me (Option (Share T)) View} → s.objects.directory ≡ at → row.count ≡ 0 → Outs content room (spots_at at z) z spot.place s.number Untouched b share c
-          → t.rows.items ≡ slice_set s.rows.items spot.start (record { key = key; count = 1; share = Some share }) → Gained content room z key got.0 a.0 c.0 s t
+          → t.rows.items ≡ slice_set s.rows.items spot.start (record { generation = generation_of key; count = 1; share = Some share }) → Gained content room z key got.0 a.0 c.0 s t
       gained-first {at = at} {share = share} {c = c} directory none taken written =
           let outs = subst (λ (p : ℕ). Outs content room (spots_at at z) z p s.number Untouched b share c) before.there.place_is taken in
-          let first : HeldKey T = record { key = key; count = 1; share = Some share } in
+          let first : HeldKey T = record { generation = generation_of key; count = 1; share = Some share } in
           let items : t.rows.items ≡ slice_set s.rows.items (slot_start z (place_of key)) first = written ∙ ap (λ (i : ℕ). slice_set s.rows.items i first) before.there.start in
           gained before.fits (hit-moved called got.0 got.1 got.2 (carries-out outs)) t rest
           (subst (λ xs. FitsRows content room z c.0 xs (s.references + 1)) (sym items) (rows-begun before.fits called got.0 got.1 got.2 row stood outs none))

@@ -41,7 +41,7 @@ use Rattle.shardpool.proofs.references.Rows.{row-none}
 
 -- a row without references
 abbrev pub first_row : {T : Type 0} → HeldKey T
-first_row = record { key = 0; count = 0; share = None }
+first_row = record { generation = 0; count = 0; share = None }
 
 -- 0 is no key
 no-key : (z : Shape) (key : ℕ) → key ≡ 0 → is_key z key ≡ true → ⊥
@@ -85,7 +85,6 @@ module _ {T : Type 0} (content : T → List ℕ) (room : T → ℕ) (z : Shape) 
   first-rows : FitsRows content room z (first_book lane) (replicate (slot_row z) first_row) 0
   first-rows = let n : ℕ = slot_row z in record {
     wide = length-replicate n first_row;
-    keyed = λ at row is key. absurd (no-key z row.key (ap (λ (r : HeldKey T). r.key) (entry-is n at first_row row is)) key);
     total = let sum = sum_by-replicate (λ (row : HeldKey T). row.count) n first_row in omega (arith, sum);
     by_acts = refl;
     each = λ place row _ is. subst (FitsRow content room z (first_book lane) place) (sym (entry-is n _ first_row row is)) (row-none place 0 None (λ key _ _. none-referred z lane key));
@@ -148,7 +147,7 @@ module _ {T : Type 0} (content : T → List ℕ) (room : T → ℕ) (z : Shape) 
       let at : objects.directory ≡ directory = ap (λ (o : ObjectsOf T). o.directory) objects_are in
       let fits : Fits content room z (first_book lane) t = record {
         shape_is = is.shape_is;
-        placed = (is.places.0, is.places.1 ∙ sym is.number_is);
+        placed = is.places;
         seat = subst (FitsSeat z (first_book lane)) (sym is.number_is) (first-seat z lane shape below);
         last_pushed = subst (FitsTops z (first_book lane)) (sym is.last_pushed) (first-last_pushed z lane);
         rows = subst (λ (r : List (HeldKey T)). FitsRows content room z (first_book lane) r s.references) (sym is.rows)

@@ -24,7 +24,6 @@ use Rattle.keybits.specs.Shapes.{is_place, index_of}
 use Rattle.poolsteps.specs.declared.grid.Spot.{Spot}
 use Rattle.poolsteps.specs.Grids.{IsSpot}
 use Rattle.poolsteps.specs.Layout.{slot_start}
-use Rattle.poolsteps.proofs.SlotLemmas.{start-injective}
 use Rattle.poolsteps.specs.declared.view.View.{View}
 use Rattle.poolsteps.specs.Views.{the_lane, status_of, known_of}
 use Rattle.poolsteps.specs.Told.{IsIdle, MayPublish, references_seen}
@@ -90,7 +89,7 @@ made-right {z = z} {v = v} {s = s} {filling = filling} fits made =
 
 -- a row for none
 abbrev pub empty-row : {T : Type 0} → HeldKey T
-empty-row = record { key = 0; count = 0; share = None }
+empty-row = record { generation = 0; count = 0; share = None }
 
 module _ {S T : Type 0} {content : T → List ℕ} {room : T → ℕ} {z : Shape} {steps looks count : ℕ} {made : List Act} {a b : Me S View} (s t : LaneState T) (table : TableId) (filling : FillingOf T)
     (bytes : List ℕ) (with_ref : Bool) (fits : Fits content room z a.0 s) (did : DidSo z (place_of filling.key) made steps looks a b) (idle : IsIdle b.0)
@@ -168,7 +167,7 @@ module _ {S T : Type 0} {content : T → List ℕ} {room : T → ℕ} {z : Shape
   fits-with : FitsRows content room z b.0 t.rows.items t.references → AreStanding s.objects.directory t.rows.items → Fits content room z b.0 t
   fits-with rows standing = record {
     shape_is = ap (λ (x : LaneState T). x.shape) rest ∙ fits.shape_is;
-    placed = (ap (λ (x : LaneState T). x.places.shape) rest ∙ fits.placed.0, ap (λ (x : LaneState T). x.places.shard) rest ∙ (fits.placed.1 ∙ sym (ap (λ (x : LaneState T). x.number) rest)));
+    placed = ap (λ (x : LaneState T). x.places.shape) rest ∙ fits.placed;
     seat = subst (λ (x : LaneState T). FitsSeat z b.0 x.number) (sym rest) seat;
     last_pushed = subst (λ (x : LaneState T). FitsTops z b.0 x.last_pushed.items) (sym rest) last_pushed;
     rows = rows;
@@ -205,8 +204,8 @@ module _ {S T : Type 0} {content : T → List ℕ} {room : T → ℕ} {z : Shape
       (λ (none : row.count ≡ 0). none)
       (λ (some : row.count ≢ 0).
       let k = row-was.keyed (omega (arith, some)) in
-      let counts = row-was.counts row.key k.0 k.1 ∙ ap (λ (b : Bool). cond b row.count 0) (eq-eqb row.key row.key refl) in
-      let none = refs-none row.key k.1 in absurd (omega (arith, counts, none, some)))
+      let counts = row-was.counts k.0 k.1 k.2 ∙ ap (λ (b : Bool). cond b row.count 0) (eq-eqb (generation_of k.0) row.generation k.3) in
+      let none = refs-none k.0 k.2 in absurd (omega (arith, counts, none, some)))
 
   -- ---- what the call leaves
 
@@ -246,10 +245,8 @@ module _ {S T : Type 0} {content : T → List ℕ} {room : T → ℕ} {z : Shape
       let none : (k : ℕ) → is_key z k ≡ true → place_of k ≡ place → references_seen z b.0 k ≡ 0
       = λ k inside_k here.
       passes-refs lone fits.seat.own k ∙ (ap (λ (n : ℕ). cond (eqb filling.key k) 0 n) (refs-none k here) ∙ either-same (eqb filling.key k) 0) in
-      let fit : FitsRow content room z b.0 place row = subst (λ (n : ℕ). FitsRow content room z b.0 place (record row { count = n })) (sym row-zero) (row-none place row.key row.share none) in
-      let of_place : is_key z row.key ≡ true → place_of row.key ≡ place
-      = λ key. sym (start-injective z place (place_of row.key) (key_parts z filling.key inside).place (key_parts z row.key key).place (fits.rows.keyed (slot_start z place) row stood key)) in
-      let rows = rows-set lone fits.seat.own place row row fits.seat.shape fits.rows (key_parts z filling.key inside).place stood off (onlyat-publish s.number filling.key bytes false) fit of_place refl refl in
+      let fit : FitsRow content room z b.0 place row = subst (λ (n : ℕ). FitsRow content room z b.0 place (record row { count = n })) (sym row-zero) (row-none place row.generation row.share none) in
+      let rows = rows-set lone fits.seat.own place row row fits.seat.shape fits.rows (key_parts z filling.key inside).place stood off (onlyat-publish s.number filling.key bytes false) fit refl refl in
       fits-with (subst (λ (n : ℕ). FitsRows content room z b.0 t.rows.items n) (sym same_count)
       (subst (λ (xs : List (HeldKey T)). FitsRows content room z b.0 xs s.references) (set-get_or s.rows.items (slot_start z place) empty-row ∙ sym same_rows) rows))
       (standing-same same_rows refl fits.standing)
@@ -257,7 +254,7 @@ module _ {S T : Type 0} {content : T → List ℕ} {room : T → ℕ} {z : Shape
   -- and where it was with one, under which this share stands
   pub published-held-with : (share : Share T) → share.spot ≡ record { directory = s.objects.directory; index = slot_start z place } → with_ref ≡ true → share.number ≡ s.number → share.of ≡ z.lanes → content share.object ≡ bytes
       → status_of (the_lane b.0) place s.number ≡ Emptied → known_of (the_lane b.0) place ≡ stored_of content room share
-      → t.rows.items ≡ slice_set s.rows.items (slot_start z place) (record { key = filling.key; count = 1; share = Some share })
+      → t.rows.items ≡ slice_set s.rows.items (slot_start z place) (record { generation = generation_of filling.key; count = 1; share = Some share })
       → t.references ≡ s.references + 1 → Fits content room z b.0 t
   published-held-with share stands_so referred number of shown emptied known set_so counted =
       let taken : Passes z (λ p. eqb p place) (acts.Publish s.number filling.key bytes true ∷ []) a.0 b.0
@@ -278,6 +275,6 @@ module _ {S T : Type 0} {content : T → List ℕ} {room : T → ℕ} {z : Shape
       let rows = rows-published fits.seat.own fits.seat.shape fits.rows s.number filling.key inside row stood off bytes share taken row-zero held in
       fits-with (subst (λ (n : ℕ). FitsRows content room z b.0 t.rows.items n) (sym counted)
       (subst (λ (xs : List (HeldKey T)). FitsRows content room z b.0 xs (s.references + 1)) (sym set_so) rows))
-      (standing-same set_so refl (standing-set s.rows.items (slot_start z place) (record { key = filling.key; count = 1; share = Some share }) fits.standing (λ shown is.
+      (standing-same set_so refl (standing-set s.rows.items (slot_start z place) (record { generation = generation_of filling.key; count = 1; share = Some share }) fits.standing (λ shown is.
       let same : share ≡ shown = cc is in
       subst (λ (x : Share T). x.spot ≡ record { directory = s.objects.directory; index = slot_start z place }) same stands_so)))

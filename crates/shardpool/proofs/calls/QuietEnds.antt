@@ -61,7 +61,7 @@ module _ {S T : Type 0} {content : T → List ℕ} {room : T → ℕ} {z : Shape
       let e = quiet-ended in
       let rows = rows-ended {v = a.0} {w = b.0} place (the_lane a.0).lane acts_so.0.0 first reclaimed fits e.moved e.passes quiet.references quiet.held in record {
         shape_is = e.same.2 ∙ fits.shape_is;
-        placed = (ap (λ (x : Places). x.shape) e.same.5 ∙ fits.placed.0, ap (λ (x : Places). x.shard) e.same.5 ∙ (fits.placed.1 ∙ sym e.same.3));
+        placed = ap (λ (x : Places). x.shape) e.same.5 ∙ fits.placed;
         seat = e.seat;
         last_pushed = e.last_pushed;
         rows = subst (λ (n : ℕ). FitsRows content room z b.0 t.rows.items n) (sym e.same.1)

@@ -95,7 +95,7 @@ module _ {T : Type 0} {content : T → List ℕ} {room : T → ℕ} {z : Shape} 
     row-fits = fits.rows.each (place_of key) row place-inside stands
 
     -- it counts the lane's references to the key
-    pub row-counts : (is_key z key ≡ true) × (key ≡ row.key) × (0 < row.count) × (references_seen z v key ≡ row.count)
+    pub row-counts : (is_key z key ≡ true) × (generation_of key ≡ row.generation) × (0 < row.count) × (references_seen z v key ≡ row.count)
     row-counts = row-of-refs key row-fits some
 
     pub row-most : row.count ≤ s.references
@@ -130,7 +130,7 @@ module _ {T : Type 0} {content : T → List ℕ} {room : T → ℕ} {z : Shape} 
       let e : Some h.0 ≡ Some share = sym h.1 ∙ (sym (lends.one stands.0 stands.1 (lent-single fits some lends share is)).0 ∙ is) in
       let same : h.0 ≡ share = cc e in
       subst (λ (x : Share T). IsHeld content room z v (place_of key) (generation_of key) x) same
-      (subst (λ (k : ℕ). IsHeld content room z v (place_of key) (generation_of k) h.0) (sym counts.1) h.2)
+      (subst (λ (g : ℕ). IsHeld content room z v (place_of key) g h.0) (sym counts.1) h.2)
 
   -- which stands where its row does
   pub lent-stands : {v : View} (fits : Fits content room z v s) (some : 0 < references_seen z v key) → LendsBack (slot_start z (place_of key)) s m result
@@ -228,7 +228,7 @@ module _ {T : Type 0} {content : T → List ℕ} {room : T → ℕ} {z : Shape} 
   low : at < length s.rows.items
   low = row-low s key fits some
 
-  of : (is_key z key ≡ true) × (key ≡ lent.row.key) × (0 < lent.row.count) × (references_seen z a.0 key ≡ lent.row.count)
+  of : (is_key z key ≡ true) × (generation_of key ≡ lent.row.generation) × (0 < lent.row.count) × (references_seen z a.0 key ≡ lent.row.count)
   of = row-counts s key fits some lent.row lent.stands
 
   fit : FitsRow content room z a.0 place lent.row
@@ -263,7 +263,7 @@ module _ {T : Type 0} {content : T → List ℕ} {room : T → ℕ} {z : Shape} 
   last_pushed-lent = ap (λ (x : LaneState T). x.last_pushed.items) lent.rest
 
   -- so the call acts at the key's place
-  pub lent-at : (acting : At) → IsSpot z acting.spot place → acting.lane ≡ s.number → acting.tops.now ≡ m.last_pushed.items → IsAt z b.0 place acting
+  pub lent-at : (acting : At) → IsSpot z acting.spot place → acting.lane ≡ s.number → acting.tops.now.items ≡ m.last_pushed.items → IsAt z b.0 place acting
   lent-at acting spot lane tops = record {
     spot = spot;
     lane = lane ∙ (fits.seat.number_is ∙ sym lent.did.acted.lane);
@@ -316,7 +316,7 @@ module _ {T : Type 0} {content : T → List ℕ} {room : T → ℕ} {z : Shape} 
         = stores-apart fits.stores fits.seat.paired fits.seat.own lent.did.chain (onlyat-none place) lent-passes (elsewhere-apart fits.stores place (away (the_lane a.0).lane)) in
         record {
           shape_is = ap (λ (x : LaneState T). x.shape) rest-so ∙ fits.shape_is;
-          placed = (ap (λ (x : LaneState T). x.places.shape) rest-so ∙ fits.placed.0, ap (λ (x : LaneState T). x.places.shard) rest-so ∙ (fits.placed.1 ∙ sym (ap (λ (x : LaneState T). x.number) rest-so)));
+          placed = ap (λ (x : LaneState T). x.places.shape) rest-so ∙ fits.placed;
           seat = subst (λ (x : LaneState T). FitsSeat z b.0 x.number) (sym rest-so) seat;
           last_pushed = subst (λ (x : LaneState T). FitsTops z b.0 x.last_pushed.items) (sym rest-so) last_pushed;
           stores = subst (λ (x : LaneState T). FitsStores content room z b.0 x.free x.pages x.objects.items) (sym rest-so) stores;
@@ -370,7 +370,7 @@ module _ {T : Type 0} {content : T → List ℕ} {room : T → ℕ} {z : Shape} 
             let still = lent.still several in
             let none : Passes z (λ p. false) [] a.0 b.0 = passes-still lent.did still.0 in
             let h = fit.held of.2 in
-            let held : IsHeld content room z b.0 place (generation_of lent.row.key) h.0 = held-passes none fits.seat.own h.2 refl in
+            let held : IsHeld content room z b.0 place lent.row.generation h.0 = held-passes none fits.seat.own h.2 refl in
             let seat : FitsSeat z b.0 (the_lane b.0).lane = subst (λ (n : ℕ). FitsSeat z b.0 n) beside.seat.number_is beside.seat in
             let off : touched_by place reclaimed place ≡ false = untouched-held seat held d.0 place reclaimed acts_so.2 in
             let wider : Passes z (touched_by place reclaimed) [] a.0 b.0 = passes-wider (λ p is. absurd (cc is)) none in
@@ -422,7 +422,7 @@ module _ {T : Type 0} {content : T → List ℕ} {room : T → ℕ} {z : Shape} 
 
         pub released : Released content room z key a.0 d.0 s t
         released = record {
-          fits = record { shape_is = shape-now; placed = (ap (λ (x : Places). x.shape) left.same.5 ∙ beside.placed.0, ap (λ (x : Places). x.shard) left.same.5 ∙ (beside.placed.1 ∙ sym left.same.3)); seat = left.seat; last_pushed = left.last_pushed; rows = rows-now; stores = left.stores; rights = left.rights; standing = standing-now };
+          fits = record { shape_is = shape-now; placed = ap (λ (x : Places). x.shape) left.same.5 ∙ beside.placed; seat = left.seat; last_pushed = left.last_pushed; rows = rows-now; stores = left.stores; rights = left.rights; standing = standing-now };
           did = λ table table_now same. (
             behind,
             did-lane z (lane_of table a.0 s) (lane_of table_now d.0 t) fits.shape_is shape-now number-now same directory-now through fits.seat.own list-now pages-now,

@@ -1,9 +1,8 @@
 -- How the rights of a lane to its places go on fitting what it did.
-use Rattle.std.proofs.Common.{◌≡◌, ◌≢◌, ⊎_elim, ℕ, ◌+◌, ◌*◌, ◌<◌, Bool, true, false, not, cond, eqb, List, [], ◌∷◌, ◌++◌, length, Option, Some, None, refl, ap, sym, ◌∙◌, subst, arith, eq-eqb, ne_eqb, eqb-true, length-set}
+use Rattle.std.proofs.Common.{◌≡◌, ◌≢◌, ℕ, ◌+◌, ◌*◌, ◌<◌, Bool, true, false, not, cond, eqb, List, [], ◌∷◌, ◌++◌, length, Some, refl, ap, sym, ◌∙◌, subst, eq-eqb, length-set}
 use Rattle.std.specs.Prelude.{slice_get, slice_set}
 use Rattle.std.specs.List.{All}
-use Rattle.std.proofs.lemmas.Bool.{cases_Bool}
-use Rattle.std.proofs.lemmas.List.Elements.{All-nil, All-cons, All-head, All-tail, All-append, All-weaker}
+use Rattle.std.proofs.lemmas.List.Elements.{All-nil, All-cons, All-head, All-tail, All-weaker}
 use mathlib.Core.Logic.{dite}
 use native.Mathlib.Decide.{ℕ_discrete}
 use Rattle.keybits.specs.declared.shape.Shape.{Shape}
@@ -24,7 +23,7 @@ use Rattle.poolcalls.specs.Acted.{Acted}
 use Rattle.shardpool.specs.Places.{left_by, left_with}
 use Rattle.shardpool.specs.LaneStates.{FitsSeat, FitsRights}
 use Rattle.shardpool.proofs.frame.OtherShards.{left-append, with-own}
-use Rattle.shardpool.proofs.frame.Frames.{Passes, OnlyAt}
+use Rattle.shardpool.proofs.frame.Frames.{OnlyAt}
 use Rattle.shardpool.proofs.free.Stores.{stands-here, stands-else}
 
 -- ---- what acts bring

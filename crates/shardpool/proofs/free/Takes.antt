@@ -1,6 +1,6 @@
 -- What a lane is once it took a chain, or followed the first place of its chain.
 use Rattle.std.proofs.Common.{◌≡◌, ◌≢◌, ⊎_elim, ℕ, ◌<◌, ◌≤◌, Bool, true, false, cond, eqb, List, [], ◌∷◌, length, length-set, Option, Some, None, refl, ap, sym, ◌∙◌, subst, arith, eq-eqb, ne_eqb}
-use Rattle.std.specs.Prelude.{slice_get, slice_set}
+use Rattle.std.specs.Prelude.{slice_get}
 use mathlib.Core.Logic.{dite}
 use native.Mathlib.Decide.{ℕ_discrete}
 use Rattle.std.specs.List.{Contains}
@@ -13,9 +13,9 @@ use Rattle.keybits.specs.declared.place.Place.{Place}
 use Rattle.keybits.specs.Places.{page_of, number_of}
 use Rattle.keybits.specs.Shapes.{index_of}
 use Rattle.keybits.proofs.ShapeLemmas.{index_of-lt}
-use Rattle.keybits.specs.Keys.{place_of}
-use Rattle.keybits.specs.Links.{link_to, linked_place}
-use Rattle.freelists.specs.Shards.{IsOwn, place_numbered}
+use Rattle.keybits.specs.Keys.{place_of, generation_of}
+use Rattle.keybits.specs.Links.{linked_place}
+use Rattle.freelists.specs.Shards.{place_numbered}
 use Rattle.freelists.specs.Queues.{FreePlaces, AreFree, IsAway, GoesOnBy}
 use Rattle.freelists.proofs.ShardLemmas.{OwnNumber}
 use Rattle.seqpool.specs.declared.act.Act.{Act}
@@ -68,9 +68,9 @@ unheld : {T : Type 0} {content : T → List ℕ} {room : T → ℕ} {z : Shape} 
     → ((key : ℕ) → place_of key ≡ place → references_seen z v key ≡ 0) → 0 < row.count → ⊥
 unheld {row = row} fits none some =
     let k = fits.keyed some in
-    let counts = fits.counts row.key k.0 k.1 in
-    let same = ap (λ (b : Bool). cond b row.count 0) (eq-eqb row.key row.key refl) in
-    let zero = none row.key k.1 in
+    let counts = fits.counts k.0 k.1 k.2 in
+    let same = ap (λ (b : Bool). cond b row.count 0) (eq-eqb (generation_of k.0) row.generation k.3) in
+    let zero = none k.0 k.2 in
     omega (arith, counts, same, zero, some)
 
 -- ---- what is told without what the hand holds

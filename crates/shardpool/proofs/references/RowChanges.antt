@@ -12,7 +12,7 @@ use Rattle.seqpool.specs.declared.act.Act.{Act}
 use Rattle.seqpool.specs.declared.act.Act.TheVariants as acts
 use Rattle.seqpool.specs.Pool.{Pool, pool_after, references}
 use Rattle.seqpool.specs.Histories.{PublishedAt, acts_of}
-use Rattle.seqpool.proofs.Ranks.{current-key, same-key}
+use Rattle.seqpool.proofs.Ranks.{current-key}
 use Rattle.placecell.specs.Share.{Share}
 use Rattle.sharelaws.proofs.HeldContents.{held-current}
 use Rattle.poolcalls.specs.declared.reclaimed.Reclaimed.{Reclaimed}
@@ -117,7 +117,7 @@ module _ {T : Type 0} {content : T → List ℕ} {room : T → ℕ} {z : Shape} 
 
   -- the references to a key are those that its place's row counts
   pub rows-counts : {v : View} {rows : List (HeldKey T)} {refs : ℕ} (key at : ℕ) → FitsRows content room z v rows refs → is_key z key ≡ true → at ≡ slot_start z (place_of key)
-      → (count : ℕ) → ((row : HeldKey T) → slice_get rows at ≡ Some row → count ≡ (if key == row.key then row.count else 0)) → count ≡ references_seen z v key
+      → (count : ℕ) → ((row : HeldKey T) → slice_get rows at ≡ Some row → count ≡ (if generation_of key == row.generation then row.count else 0)) → count ≡ references_seen z v key
   rows-counts {rows = rows} key at fits inside here count counts =
       let place = (key_parts z key inside).place in
       let there = stands-there rows (slot_start z (place_of key)) (rows-low (place_of key) fits place) in
@@ -141,13 +141,13 @@ module _ {T : Type 0} {content : T → List ℕ} {room : T → ℕ} {z : Shape} 
       let of = row-of-refs key fits some in
       let h = fits.held of.2 in
       let same : object ≡ h.0.object = subst (λ (o : Option (Share T)). IfSome o (λ share. object ≡ share.object)) h.1 shown in
-      subst (λ (x : T). (j : ℕ) × PublishedAt v.seen j key (content x)) (sym same) (h.2.shows key of.0 refl (ap generation_of of.1))
+      subst (λ (x : T). (j : ℕ) × PublishedAt v.seen j key (content x)) (sym same) (h.2.shows key of.0 refl of.1)
 
   -- ---- rows that calls leave
 
   -- the references of a place's keys, where those of the row's key were changed
   row-steps : {v : View} (w : View) {place : ℕ} (key : ℕ) (f : ℕ → ℕ) {row : HeldKey T} → FitsRow content room z v place row → is_key z key ≡ true → place_of key ≡ place
-      → (0 < row.count → key ≡ row.key) → ((k : ℕ) → is_key z k ≡ true → place_of k ≡ place → ChangesRefs z v w key f k)
+      → (0 < row.count → generation_of key ≡ row.generation) → ((k : ℕ) → is_key z k ≡ true → place_of k ≡ place → ChangesRefs z v w key f k)
       → (k : ℕ) → is_key z k ≡ true → place_of k ≡ place → references_seen z w k ≡ (if k == key then f row.count else 0)
   row-steps {v = v} w key f {row = row} fits inside here same goes k inside_k here_k =
       goes k inside_k here_k ∙ changes f (eqb k key) (references_seen z v k) row.count (row-counts key fits inside here same k inside_k here_k)
@@ -156,7 +156,7 @@ module _ {T : Type 0} {content : T → List ℕ} {room : T → ℕ} {z : Shape} 
   pub row-begun : {v w : View} {place : ℕ} (key : ℕ) {row : HeldKey T} (share : Share T) → FitsRow content room z v place row → row.count ≡ 0
       → is_key z key ≡ true → place_of key ≡ place → ((k : ℕ) → is_key z k ≡ true → place_of k ≡ place → ChangesRefs z v w key (λ n. n + 1) k)
       → IsHeld content room z w place (generation_of key) share
-      → FitsRow content room z w place (record { key = key; count = 1; share = Some share })
+      → FitsRow content room z w place (record { generation = generation_of key; count = 1; share = Some share })
   row-begun {w = w} {place = place} key {row = row} share fits none inside here goes held =
       row-made place key 1 share inside here (λ k inside_k here_k.
       row-steps w key (λ n. n + 1) fits inside here (λ some. absurd (omega (arith, some, none))) goes k inside_k here_k
@@ -166,41 +166,41 @@ module _ {T : Type 0} {content : T → List ℕ} {room : T → ℕ} {z : Shape} 
   pub row-published : {v w : View} {place : ℕ} (key : ℕ) {row : HeldKey T} (share : Share T) → FitsRow content room z v place row → row.count ≡ 0
       → is_key z key ≡ true → place_of key ≡ place → ((k : ℕ) → is_key z k ≡ true → place_of k ≡ place → ChangesRefs z v w key (λ n. 1) k)
       → IsHeld content room z w place (generation_of key) share
-      → FitsRow content room z w place (record { key = key; count = 1; share = Some share })
+      → FitsRow content room z w place (record { generation = generation_of key; count = 1; share = Some share })
   row-published {w = w} {place = place} key share fits none inside here goes held =
       row-made place key 1 share inside here (row-steps w key (λ n. 1) fits inside here (λ some. absurd (omega (arith, some, none))) goes) held
 
   -- a row with this key and share
-  row-as : {w : View} {place : ℕ} (key n : ℕ) (share : Share T) (row : HeldKey T) (s : Option (Share T)) → key ≡ row.key → s ≡ Some share
-      → FitsRow content room z w place (record { key = key; count = n; share = Some share })
+  row-as : {w : View} {place : ℕ} (key n : ℕ) (share : Share T) (row : HeldKey T) (s : Option (Share T)) → generation_of key ≡ row.generation → s ≡ Some share
+      → FitsRow content room z w place (record { generation = generation_of key; count = n; share = Some share })
       → FitsRow content room z w place (record row { count = n; share = s })
   row-as {w = w} {place = place} key n share row s same is fits =
       subst (λ (o : Option (Share T)). FitsRow content room z w place (record row { count = n; share = o })) (sym is)
-      (subst (λ (k : ℕ). FitsRow content room z w place (record { key = k; count = n; share = Some share })) same fits)
+      (subst (λ (g : ℕ). FitsRow content room z w place (record { generation = g; count = n; share = Some share })) same fits)
 
   -- a key that gets a reference beside those of its row is the row's
   again-same : {v : View} (w : View) {place : ℕ} (key : ℕ) {row : HeldKey T} → FitsRow content room z v place row → 0 < row.count → place_of key ≡ place
-      → ((k : ℕ) → is_key z k ≡ true → place_of k ≡ place → ChangesRefs z v w key (λ n. n + 1) k) → 0 < references_seen z w key → key ≡ row.key
+      → ((k : ℕ) → is_key z k ≡ true → place_of k ≡ place → ChangesRefs z v w key (λ n. n + 1) k) → 0 < references_seen z w key → generation_of key ≡ row.generation
   again-same {v = v} w key {row = row} fits some here goes now =
       let k1 = fits.keyed some in
-      let was = fits.counts row.key k1.0 k1.1 ∙ ap (λ (b : Bool). cond b row.count 0) (eq-eqb row.key row.key refl) in
-      let is = goes row.key k1.0 k1.1 in
-      let more = grows (eqb row.key key) (references_seen z v row.key) (omega (arith, was, some)) in
-      let one = key-now z (pool_after z w.seen) (the_lane w).lane row.key (subst (λ (n : ℕ). 0 < n) (sym is) more) in
+      let was = fits.counts k1.0 k1.1 k1.2 ∙ ap (λ (b : Bool). cond b row.count 0) (eq-eqb (generation_of k1.0) row.generation k1.3) in
+      let is = goes k1.0 k1.1 k1.2 in
+      let more = grows (eqb k1.0 key) (references_seen z v k1.0) (omega (arith, was, some)) in
+      let one = key-now z (pool_after z w.seen) (the_lane w).lane k1.0 (subst (λ (n : ℕ). 0 < n) (sym is) more) in
       let two = key-now z (pool_after z w.seen) (the_lane w).lane key now in
-      let there = here ∙ sym k1.1 in
-      same-key z key row.key two.0 k1.0 there (sym two.1 ∙ (ap (λ (p : ℕ). (pool_after z w.seen p).generation) there ∙ one.1))
+      let there = here ∙ sym k1.2 in
+      sym two.1 ∙ (ap (λ (p : ℕ). (pool_after z w.seen p).generation) there ∙ one.1) ∙ k1.3
 
   module _ {at : ℕ → Bool} {made : List Act} {v w : View} (passes : Passes z at made v w) (own : (the_lane v).mine ≡ acts_of (the_lane v).lane v.seen) where
     -- a row gets one reference more
     pub row-again : {place : ℕ} (key : ℕ) {row : HeldKey T} → FitsRow content room z v place row → 0 < row.count → at place ≡ false → place_of key ≡ place
         → ((k : ℕ) → is_key z k ≡ true → place_of k ≡ place → ChangesRefs z v w key (λ n. n + 1) k) → 0 < references_seen z w key
-        → (key ≡ row.key) × FitsRow content room z w place (record row { count = row.count + 1 })
+        → (generation_of key ≡ row.generation) × FitsRow content room z w place (record row { count = row.count + 1 })
     row-again {place = place} key {row = row} fits some off here goes now =
         let same = again-same w key fits some here goes now in
         let inside = (key-now z (pool_after z w.seen) (the_lane w).lane key now).0 in
         let h = fits.held some in
-        let held = subst (λ (k : ℕ). IsHeld content room z w place (generation_of k) h.0) (sym same) (held-passes passes own h.2 off) in (
+        let held = subst (λ (g : ℕ). IsHeld content room z w place g h.0) (sym same) (held-passes passes own h.2 off) in (
           same,
           row-as key (row.count + 1) h.0 row row.share same h.1
               (row-made place key (row.count + 1) h.0 inside here (row-steps w key (λ n. n + 1) fits inside here (λ _. same) goes) held),
@@ -217,12 +217,12 @@ module _ {T : Type 0} {content : T → List ℕ} {room : T → ℕ} {z : Shape} 
         dite (ℕ_discrete (row.count - 1) 0)
         (λ (last : row.count - 1 ≡ 0).
         subst (λ (n : ℕ). FitsRow content room z w place (record row { count = n; share = s })) (sym last)
-        (row-none place row.key s (λ k inside_k here_k.
+        (row-none place row.generation s (λ k inside_k here_k.
         counts k inside_k here_k ∙ (ap (λ (n : ℕ). cond (eqb k key) n 0) last ∙ none-either (eqb k key)))))
         (λ (more : row.count - 1 ≢ 0).
         let h = fits.held of.2 in
         let kept = stays (omega (arith, more)) in
-        let held = subst (λ (k : ℕ). IsHeld content room z w place (generation_of k) h.0) (sym of.1) (held-passes passes own h.2 kept.0) in
+        let held = subst (λ (g : ℕ). IsHeld content room z w place g h.0) (sym of.1) (held-passes passes own h.2 kept.0) in
         row-as key (row.count - 1) h.0 row s of.1 (kept.1 ∙ h.1)
         (row-made place key (row.count - 1) h.0 inside here counts held))
 
@@ -237,14 +237,14 @@ module _ {T : Type 0} {content : T → List ℕ} {room : T → ℕ} {z : Shape} 
     -- a get of a key to which the lane had no reference
     pub rows-got-first : {at : ℕ → Bool} {w : View} → ((p : ℕ) → p ≢ place_of key → at p ≡ false) → (bytes : List ℕ) (share : Share T) → Passes z at (acts.Get lane key (Some bytes) ∷ []) v w → row.count ≡ 0
         → IsHeld content room z w (place_of key) (generation_of key) share
-        → FitsRows content room z w (slice_set rows (slot_start z (place_of key)) (record { key = key; count = 1; share = Some share })) (refs + 1)
+        → FitsRows content room z w (slice_set rows (slot_start z (place_of key)) (record { generation = generation_of key; count = 1; share = Some share })) (refs + 1)
     rows-got-first off bytes share passes none held =
-        rows-set passes own (place_of key) row (record { key = key; count = 1; share = Some share }) shape fits (key_parts z key inside).place stood off
-        (onlyat-get lane key (Some bytes)) (row-begun key share was none inside refl (λ k _ _. refs-got lane key bytes passes own k) held) (λ _. refl) refl (omega (arith, none))
+        rows-set passes own (place_of key) row (record { generation = generation_of key; count = 1; share = Some share }) shape fits (key_parts z key inside).place stood off
+        (onlyat-get lane key (Some bytes)) (row-begun key share was none inside refl (λ k _ _. refs-got lane key bytes passes own k) held) refl (omega (arith, none))
 
     -- and of one to which it had
     pub rows-got-again : {at : ℕ → Bool} {w : View} → ((p : ℕ) → p ≢ place_of key → at p ≡ false) → (bytes : List ℕ) → Passes z at (acts.Get lane key (Some bytes) ∷ []) v w → 0 < row.count → at (place_of key) ≡ false
-        → (key ≡ row.key)
+        → (generation_of key ≡ row.generation)
         × FitsRows content room z w (slice_set rows (slot_start z (place_of key)) (record row { count = row.count + 1 })) (refs + 1)
     rows-got-again {w = w} off bytes passes some still =
         let goes = refs-got lane key bytes passes own in
@@ -253,16 +253,16 @@ module _ {T : Type 0} {content : T → List ℕ} {room : T → ℕ} {z : Shape} 
         let again = row-again passes own key was some still refl (λ k _ _. goes k) (omega (arith, here)) in (
           again.0,
           rows-set passes own (place_of key) row (record row { count = row.count + 1 }) shape fits (key_parts z key inside).place stood off
-              (onlyat-get lane key (Some bytes)) again.1 (λ _. ap place_of (sym again.0)) refl (omega arith),
+              (onlyat-get lane key (Some bytes)) again.1 refl (omega arith),
         )
 
     -- a publish with a reference
     pub rows-published : {at : ℕ → Bool} {w : View} → ((p : ℕ) → p ≢ place_of key → at p ≡ false) → (bytes : List ℕ) (share : Share T) → Passes z at (acts.Publish lane key bytes true ∷ []) v w → row.count ≡ 0
         → IsHeld content room z w (place_of key) (generation_of key) share
-        → FitsRows content room z w (slice_set rows (slot_start z (place_of key)) (record { key = key; count = 1; share = Some share })) (refs + 1)
+        → FitsRows content room z w (slice_set rows (slot_start z (place_of key)) (record { generation = generation_of key; count = 1; share = Some share })) (refs + 1)
     rows-published off bytes share passes none held =
-        rows-set passes own (place_of key) row (record { key = key; count = 1; share = Some share }) shape fits (key_parts z key inside).place stood off
-        (onlyat-publish lane key bytes true) (row-published key share was none inside refl (λ k _ _. refs-published lane key bytes passes own k) held) (λ _. refl) refl (omega (arith, none))
+        rows-set passes own (place_of key) row (record { generation = generation_of key; count = 1; share = Some share }) shape fits (key_parts z key inside).place stood off
+        (onlyat-publish lane key bytes true) (row-published key share was none inside refl (λ k _ _. refs-published lane key bytes passes own k) held) refl (omega (arith, none))
 
     -- a release, and acts of the place behind it that change no references
     pub rows-released : {at : ℕ → Bool} {w : View} → ((p : ℕ) → p ≢ place_of key → at p ≡ false) → (rest : List Act) (s : Option (Share T)) → Passes z at (acts.Release lane key ∷ rest) v w → OnlyAt (place_of key) rest
@@ -276,4 +276,4 @@ module _ {T : Type 0} {content : T → List ℕ} {room : T → ℕ} {z : Shape} 
         rows-set passes own (place_of key) row (record row { count = row.count - 1; share = s }) shape fits (key_parts z key inside).place stood off
         (onlyat-append (place_of key) (acts.Release lane key ∷ []) rest (onlyat-release lane key) only)
         (row-released passes own key s was refl some (λ k _ _. refs-released lane key rest leaves passes own k) stays)
-        (λ _. ap place_of (sym of.1)) (sym (holds (refs - 1))) (omega (arith, most, has))
+        (sym (holds (refs - 1))) (omega (arith, most, has))

@@ -43,51 +43,59 @@ held-append (act ∷ made) more n = held-append made more (held_with act n)
 by-acts : (mine made after : List Act) (refs : ℕ) → after ≡ mine ++ made → refs ≡ held_after mine 0 → held_after made refs ≡ held_after after 0
 by-acts mine made after refs grown is = ap (held_after made) is ∙ (sym (held-append mine made 0) ∙ ap (λ (acts_so : List Act). held_after acts_so 0) (sym grown))
 
+-- two keys of a place are one where their generations are
+pub eqb-generations : (z : Shape) (k key : ℕ) → is_key z k ≡ true → is_key z key ≡ true → place_of k ≡ place_of key → eqb k key ≡ eqb (generation_of k) (generation_of key)
+eqb-generations z k key inside_k inside here = dite (ℕ_discrete (generation_of k) (generation_of key))
+    (λ (same : generation_of k ≡ generation_of key). eq-eqb k key (same-key z k key inside_k inside here same) ∙ sym (eq-eqb (generation_of k) (generation_of key) same))
+    (λ (other : generation_of k ≢ generation_of key). ne_eqb k key (λ (same : k ≡ key). other (ap generation_of same)) ∙ sym (ne_eqb (generation_of k) (generation_of key) other))
+
 module _ {T : Type 0} {content : T → List ℕ} {room : T → ℕ} {z : Shape} where
   -- ---- a row by itself
 
   -- a key to which the lane refers is that of its row
   pub row-of-refs : {v : View} (key : ℕ) {row : HeldKey T} → FitsRow content room z v (place_of key) row → 0 < references_seen z v key
-      → (is_key z key ≡ true) × (key ≡ row.key) × (0 < row.count) × (references_seen z v key ≡ row.count)
+      → (is_key z key ≡ true) × (generation_of key ≡ row.generation) × (0 < row.count) × (references_seen z v key ≡ row.count)
   row-of-refs {v = v} key {row = row} fits some =
       let inside = (current-key z (pool_after z v.seen) key (held-current z (pool_after z v.seen) (the_lane v).lane key some).0).0 in
-      let counts = fits.counts key inside refl in dite (ℕ_discrete key row.key)
-      (λ (same : key ≡ row.key).
-      let is = ap (λ (b : Bool). cond b row.count 0) (eq-eqb key row.key same) in (inside, same, omega (arith, some, counts, is), counts ∙ is))
-      (λ (other : key ≢ row.key).
-      let is = ap (λ (b : Bool). cond b row.count 0) (ne_eqb key row.key other) in absurd (omega (arith, some, counts, is)))
+      let counts = fits.counts key inside refl in dite (ℕ_discrete (generation_of key) row.generation)
+      (λ (same : generation_of key ≡ row.generation).
+      let is = ap (λ (b : Bool). cond b row.count 0) (eq-eqb (generation_of key) row.generation same) in (inside, same, omega (arith, some, counts, is), counts ∙ is))
+      (λ (other : generation_of key ≢ row.generation).
+      let is = ap (λ (b : Bool). cond b row.count 0) (ne_eqb (generation_of key) row.generation other) in absurd (omega (arith, some, counts, is)))
 
   -- a row of so many references to one key of the place, under which this share stands
   pub row-made : {w : View} (place key n : ℕ) (share : Share T) → is_key z key ≡ true → place_of key ≡ place
       → ((k : ℕ) → is_key z k ≡ true → place_of k ≡ place → references_seen z w k ≡ (if k == key then n else 0))
       → IsHeld content room z w place (generation_of key) share
-      → FitsRow content room z w place (record { key = key; count = n; share = Some share })
+      → FitsRow content room z w place (record { generation = generation_of key; count = n; share = Some share })
   row-made place key n share inside here counts held = record {
-    counts = counts;
-    keyed = λ some. (inside, here);
+    counts = λ k inside_k here_k. counts k inside_k here_k ∙ ap (λ (b : Bool). cond b n 0) (eqb-generations z k key inside_k inside (here_k ∙ sym here));
+    keyed = λ some. (key, inside, here, refl);
     held = λ some. (share, refl, held);
   }
 
   -- a row without references
-  pub row-none : {w : View} (place key : ℕ) (share : Option (Share T)) → ((k : ℕ) → is_key z k ≡ true → place_of k ≡ place → references_seen z w k ≡ 0)
-      → FitsRow content room z w place (record { key = key; count = 0; share = share })
-  row-none place key share counts = record {
-    counts = λ k inside here. counts k inside here ∙ sym (either-same (eqb k key) 0);
+  pub row-none : {w : View} (place generation : ℕ) (share : Option (Share T)) → ((k : ℕ) → is_key z k ≡ true → place_of k ≡ place → references_seen z w k ≡ 0)
+      → FitsRow content room z w place (record { generation = generation; count = 0; share = share })
+  row-none place generation share counts = record {
+    counts = λ k inside here. counts k inside here ∙ sym (either-same (eqb (generation_of k) generation) 0);
     keyed = λ some. absurd (omega (arith, some));
     held = λ some. absurd (omega (arith, some));
   }
 
   -- the keys of a row's place have the references of its key, and no others have any
   pub row-counts : {v : View} {place : ℕ} (key : ℕ) {row : HeldKey T} → FitsRow content room z v place row → is_key z key ≡ true → place_of key ≡ place
-      → (0 < row.count → key ≡ row.key)
+      → (0 < row.count → generation_of key ≡ row.generation)
       → (k : ℕ) → is_key z k ≡ true → place_of k ≡ place → references_seen z v k ≡ (if k == key then row.count else 0)
   row-counts {v = v} {place = place} key {row = row} fits inside here same k inside_k here_k = dite (ℕ_discrete row.count 0)
       (λ (none : row.count ≡ 0).
       let is = fits.counts k inside_k here_k in
-      is ∙ ap (λ (n : ℕ). cond (eqb k row.key) n 0) none ∙ either-same (eqb k row.key) 0 ∙ sym (either-same (eqb k key) 0) ∙ ap (λ (n : ℕ). cond (eqb k key) n 0) (sym none))
+      is ∙ ap (λ (n : ℕ). cond (eqb (generation_of k) row.generation) n 0) none ∙ either-same (eqb (generation_of k) row.generation) 0 ∙ sym (either-same (eqb k key) 0)
+      ∙ ap (λ (n : ℕ). cond (eqb k key) n 0) (sym none))
       (λ (some : row.count ≢ 0).
       let is = same (omega (arith, some)) in
-      fits.counts k inside_k here_k ∙ ap (λ (other : ℕ). cond (eqb k other) row.count 0) (sym is))
+      fits.counts k inside_k here_k ∙ (ap (λ (other : ℕ). cond (eqb (generation_of k) other) row.count 0) (sym is)
+      ∙ ap (λ (b : Bool). cond b row.count 0) (sym (eqb-generations z k key inside_k inside (here_k ∙ sym here)))))
 
   -- the share that shows the content of a key to which the lane refers is held under it
   pub held-made : {w : View} (key r : ℕ) (share : Share T) → IsLegal z w.seen → 0 < references_seen z w key
@@ -139,7 +147,6 @@ module _ {T : Type 0} {content : T → List ℕ} {room : T → ℕ} {z : Shape} 
         → held_after made refs ≡ refs → FitsRows content room z w rows refs
     rows-pass {refs = refs} fits still same = record {
       wide = fits.wide;
-      keyed = fits.keyed;
       total = fits.total;
       by_acts = sym same ∙ by-acts (the_lane v).mine made (the_lane w).mine refs passes.acted.mine fits.by_acts;
       each = λ place row inside is.
@@ -150,23 +157,13 @@ module _ {T : Type 0} {content : T → List ℕ} {room : T → ℕ} {z : Shape} 
     -- one row was written
     pub rows-set : {rows : List (HeldKey T)} {refs now : ℕ} (place : ℕ) (old row : HeldKey T) → IsShape z → FitsRows content room z v rows refs → is_place z place ≡ true
         → slice_get rows (slot_start z place) ≡ Some old → ((p : ℕ) → p ≢ place → at p ≡ false) → OnlyAt place made
-        → FitsRow content room z w place row → (is_key z row.key ≡ true → place_of row.key ≡ place) → now ≡ held_after made refs → now + old.count ≡ refs + row.count
+        → FitsRow content room z w place row → now ≡ held_after made refs → now + old.count ≡ refs + row.count
         → FitsRows content room z w (slice_set rows (slot_start z place) row) now
-    rows-set {rows = rows} {refs = refs} {now = now} place old row shape fits inside stood off only fit of_place is sum =
+    rows-set {rows = rows} {refs = refs} {now = now} place old row shape fits inside stood off only fit is sum =
         let i : ℕ = slot_start z place in
         let low : i < length rows = slice_get_within rows i old stood in
         let count : HeldKey T → ℕ = λ r. r.count in record {
           wide = length-set rows i row ∙ fits.wide;
-          keyed = λ at r stands key. dite (ℕ_discrete at i)
-              (λ (here : at ≡ i).
-              let so : Some row ≡ Some r = sym (stands-here rows i row low) ∙ (ap (slice_get (slice_set rows i row)) (sym here) ∙ stands) in
-              let same : row ≡ r = cc so in
-              here ∙ ap (slot_start z) (subst (λ (x : HeldKey T). is_key z x.key ≡ true → place ≡ place_of x.key) same (λ inside_key. sym (of_place inside_key)) key))
-              (λ (there : at ≢ i).
-              let within : at < length rows = subst (λ (n : ℕ). at < n) (length-set rows i row) (slice_get_within (slice_set rows i row) at r stands) in
-              let before : slice_get rows at ≡ Some r
-              = slice_get-get_or rows at r within ∙ ap Some (sym (get_or-set_other rows i at row r there) ∙ get_or_from_slice_get (slice_set rows i row) at r r stands) in
-              fits.keyed at r before key);
           total =
               let set_so = sum_by-set count rows i row row low in
               let was = ap count (get_or_from_slice_get rows i old row stood) in

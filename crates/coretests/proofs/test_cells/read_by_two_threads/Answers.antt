@@ -2,9 +2,8 @@ use Rattle.std.proofs.Common.{◌≡◌, List, [], ◌∷◌, ◌++◌, length, 
 use Rattle.std.specs.List.Sorted.{IsPermutation}
 use Rattle.std.proofs.lemmas.List.Elements.{All-pop}
 use Rattle.std.proofs.lemmas.List.Sorted.{IsPermutation-append_right, IsPermutation-append_comm, IsPermutation-sym, All-permutation}
-use Rattle.slotcell.specs.ByteBuf.{ByteBuf}
 use Rattle.slotcell.specs.Share.{Share, AllShow}
-use Rattle.slotcell.proofs.ShareLemmas.{shares_below-length, shares_below-some, shares_below-cell, all_of_split, all_reordered, split_shows}
+use Rattle.slotcell.proofs.ShareLemmas.{shares_below-length, shares_below-some, all_of_split, all_reordered, split_shows}
 use Rattle.coretests.proofs.test_cells.read_by_two_threads.Goals as goal
 
 module _ {T : Type 0} (all front : List (Option (Share T))) (a b : Option (Share T)) (popped : all ≡ (front ++ b ∷ []) ++ a ∷ []) (others : List (Option (Share T))) (pushed : others ≡ (front ++ a ∷ []) ++ b ∷ []) where
@@ -17,13 +16,6 @@ pub take_last-before-requires : goal.take_last-before-requires
 take_last-before-requires g c = let s = c.split-shares.ensures in let x = c.args.whole in let front = c.take_last-last.new.shares.items in let last = c.take_last-last.result in
     let is = sym s.1 ∙ c.take_last-last.ensures in let long = ap length is ∙ length-append front (Some last ∷ []) in let many = shares_below-length s.0 16 x 16 in
     (omega arith, (omega arith, (All-pop IsSome _ front (Some (Some last)) is (shares_below-some s.0 16 x 16)).0))
-
-pub lengths_agree-agree-requires : goal.lengths_agree-agree-requires
-lengths_agree-agree-requires g c = let s = c.split-shares.ensures in let x = c.args.whole in let last = c.take_last-last.result in let before = c.take_last-before.result in
-    let P : Option (Share ByteBuf) → Type 0 = λ o. IfSome o (λ t. t.cell ≡ s.0) in
-    let back = All-pop P _ c.take_last-last.new.shares.items (Some (Some last)) (sym s.1 ∙ c.take_last-last.ensures) (shares_below-cell s.0 16 x 16) in
-    let here = All-pop P _ c.take_last-before.new.shares.items (Some (Some before)) c.take_last-before.ensures back.0 in
-    back.1 ∙ sym here.1
 
 pub join-requires : goal.join-requires
 join-requires g c = let s = c.split-shares.ensures in let xs = c.split-shares.result.items in let back = c.read_in_threads-last.ensures in let front = c.take_last-before.new.shares.items in

@@ -15,18 +15,18 @@ pub returns-then-is_hit-clause-got : goal.returns-then-is_hit-clause-got
 returns-then-is_hit-clause-got g c = hit-tells c.requires.key g.T.Clear.content g.T.Clear.room c.enter-found.ensures.enters (sym c.is_hit.ensures ∙ c.if-is_hit.true)
 
 -- a miss up to its LEAVE
-opened : (g : Over) (c : goal.After-finish_leave g)
+opened : (g : Over) (c : goal.After-finish_if_owed g)
     → Opened c.args.grid.now.shape (Getting c.args.key) (acts.Get (the_lane c.args.hand.now.me.0).lane c.args.key None) c.args.hand.now.me c.enter-found.new.hand.me
 opened g c = get-misses c.requires.key c.enter-found.ensures.enters (sym c.is_hit.ensures ∙ c.if-is_hit.false)
 
 pub returns-clause-called : goal.returns-clause-called
-returns-clause-called g c = called-after (opened g c) refl c.leave-left.ensures.leaves c.requires.at.spot.place_is c.finish_leave.ensures.ends
+returns-clause-called g c = called-after (opened g c) refl c.leave-left.ensures.leaves c.requires.at.spot.place_is c.finish_if_owed.ensures.ends
 
 pub returns-clause-got : goal.returns-clause-got
 returns-clause-got g c = (
   rw (sym c.requires.at.spot.place_is)
-      (acts-behind (opened g c) refl c.leave-left.ensures.leaves c.requires.at.spot.place_is c.finish_leave.ensures.ends c.finish_leave.result c.finish_leave.ensures.acts),
-  rw (sym c.requires.at.spot.place_is, sym c.requires.at.lane) c.finish_leave.ensures.reclaimed,
+      (acts-behind (opened g c) refl c.leave-left.ensures.leaves c.requires.at.spot.place_is c.finish_if_owed.ensures.ends c.finish_if_owed.result c.finish_if_owed.ensures.acts),
+  rw (sym c.requires.at.spot.place_is, sym c.requires.at.lane) c.finish_if_owed.ensures.reclaimed,
 )
 
 pub enter-found-requires : goal.enter-found-requires
@@ -46,8 +46,8 @@ leave-left-requires g c =
       may = inr (missed.hit, missed.under);
     }
 
-pub finish_leave-requires : goal.finish_leave-requires
-finish_leave-requires g c =
+pub finish_if_owed-requires : goal.finish_if_owed-requires
+finish_if_owed-requires g c =
     let missed : Opened c.args.grid.now.shape (Getting c.args.key) (acts.Get (the_lane c.args.hand.now.me.0).lane c.args.key None) c.args.hand.now.me c.enter-found.new.hand.me
     = get-misses c.requires.key c.enter-found.ensures.enters (sym c.is_hit.ensures ∙ c.if-is_hit.false) in
     let left : HasLeft c.args.grid.now.shape c.args.key c.leave-left.result c.enter-found.new.hand.me c.leave-left.new.hand.me
@@ -65,4 +65,4 @@ pub returns-clause-hand : goal.returns-clause-hand
 returns-clause-hand g c =
     let first = c.enter-found.ensures.hand in
     let second = c.leave-left.ensures.hand in
-    let last = c.finish_leave.ensures.hand in (last.0 ∙ (second.0 ∙ first.0), last.1 ∙ (second.1 ∙ first.1))
+    let last = c.finish_if_owed.ensures.hand in (last.0 ∙ (second.0 ∙ first.0), last.1 ∙ (second.1 ∙ first.1))

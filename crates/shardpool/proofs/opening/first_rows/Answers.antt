@@ -8,11 +8,11 @@ use Rattle.shardpool.proofs.opening.first_rows.Goals as goal
 pub loop-preserved : goal.loop-preserved
 loop-preserved g c =
     let pushed = c.push_reserved.ensures in
-    let row : HeldKey g.row.T.Denot = record { key = 0; count = 0; share = None } in
-    (pushed.items ∙ (ap (λ (share : Option (Share g.row.T.Denot)). c.loop.rows.items ++ (record { key = 0; count = 0; share = share }) ∷ []) c.empty.ensures ∙ ap (λ rows. rows ++ row ∷ []) c.loop.invariant.0 ∙ replicate-append-replicate c.loop.counter 1 row), rw pushed.capacity c.loop.invariant.1)
+    let row : HeldKey g.row.T.Denot = record { generation = 0; count = 0; share = None } in
+    (pushed.items ∙ (ap (λ (share : Option (Share g.row.T.Denot)). c.loop.rows.items ++ (record { generation = 0; count = 0; share = share }) ∷ []) c.empty.ensures ∙ ap (λ rows. rows ++ row ∷ []) c.loop.invariant.0 ∙ replicate-append-replicate c.loop.counter 1 row), rw pushed.capacity c.loop.invariant.1)
 
 pub returns : goal.returns
 returns g c =
-    let row : HeldKey g.row.T.Denot = record { key = 0; count = 0; share = None } in
+    let row : HeldKey g.row.T.Denot = record { generation = 0; count = 0; share = None } in
     let end : c.loop.counter ≡ c.args.count = omega arith in
     c.loop.invariant.0 ∙ ap (λ (n : ℕ). replicate n row) end

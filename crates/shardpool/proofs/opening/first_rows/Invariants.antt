@@ -4,4 +4,4 @@ use Rattle.std.specs.Vec.{vec_capacity}
 use Rattle.shardpool.proofs.opening.first_rows.Given as goal
 
 abbrev pub invariant-loop : goal.invariant-loop
-invariant-loop g l = (l.rows.items ≡ replicate l.counter (record { key = 0; count = 0; share = None })) × (l.count ≤ vec_capacity l.rows)
+invariant-loop g l = (l.rows.items ≡ replicate l.counter (record { generation = 0; count = 0; share = None })) × (l.count ≤ vec_capacity l.rows)

@@ -8,7 +8,8 @@ use Rattle.poolsteps.proofs.SlotLemmas.{in-row, slot-below}
 use Rattle.shardpool.specs.declared.state.HeldKey.{HeldKey}
 use Rattle.shardpool.specs.Remains.{GivesRow, GivesTo}
 use Rattle.shardpool.proofs.at_close.LastHistory.{entry-at}
-use Rattle.shardpool.proofs.at_close.ReturnedShares.{back-more, stands-from}
+use Rattle.shardpool.proofs.at_close.ReturnedShares.{back-more}
+use Rattle.shardpool.proofs.free.Words.{stands-from}
 use Rattle.shardpool.proofs.count.Counts.{at-position}
 use Rattle.shardpool.proofs.returned_shares.give_shard.Goals as goal
 
@@ -61,7 +62,7 @@ loop-index-preserved g c =
     let low = in-row z place inside in
     let wide = c.loop-index.invariant.wide in
     let entry = entry-at rows (slot_start z place) (omega (arith, low, wide)) in
-    let none : HeldKey g.row.T.Denot = record { key = 0; count = 0; share = None } in
+    let none : HeldKey g.row.T.Denot = record { generation = 0; count = 0; share = None } in
     let left = c.take_row-row.ensures.left ∙ ap (λ (i : ℕ). slice_set rows i none) (sym at) in
     let slot : ℕ = c.args.number * c.slot_row-wide.result + first_at in
     let gives = subst (λ (x : HeldKey g.row.T.Denot). GivesRow slot x c.loop-index.slots c.give_row.new.slots)

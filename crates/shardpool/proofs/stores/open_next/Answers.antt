@@ -4,12 +4,14 @@ use Rattle.std.specs.List.{All}
 use Rattle.std.specs.Vec.Iter.{into_iter_items}
 use Rattle.std.proofs.lemmas.List.{nil_from_length}
 use Rattle.keybits.specs.declared.shape.Shape.{Shape}
-use Rattle.keybits.specs.Places.{place_at}
+use Rattle.keybits.specs.Places.{place_at, shard_of}
 use Rattle.keybits.specs.Shapes.{IsShape, is_place, shard_places, index_of}
 use Rattle.std.specs.declared.alloc.Global.{Global}
 use Rattle.std_alloc.specs.declared.boxed.Box.{Box}
 use Rattle.freelists.specs.Queues.{IsAway}
 use Rattle.freelists.specs.Shards.{place_numbered}
+use Rattle.poolsteps.specs.Layout.{shard_start}
+use Rattle.shardpool.specs.declared.state.LaneState.{LaneState}
 use Rattle.shardpool.specs.Stores.{KeepsOwn}
 use Rattle.shardpool.proofs.free.Pages.{MayOpen, OpensSlots, page-opened, none-on, all-on, one-on, same-number, same-shape, low-shard, small-slot, slot-is, inside, shard-is, page-is, slot-away}
 use Rattle.shardpool.proofs.stores.open_next.Goals as goal
@@ -48,8 +50,8 @@ overflow_cast-place g c =
     let low = low-shard content room old may now on in
     omega (arith, same, low)
 
-pub number-number-requires-clause-slot : goal.number-number-requires-clause-slot
-number-number-requires-clause-slot g c =
+pub number-requires-clause-slot : goal.number-requires-clause-slot
+number-requires-clause-slot g c =
     let old = c.args.state.now in
     let content = g.T.Clear.content in
     let room = g.T.Clear.room in
@@ -66,43 +68,6 @@ number-number-requires-clause-slot g c =
     let slot = c.len.ensures.len ∙ slot-is content room old may now on in
     let small = small-slot content room old may now on in
     omega (arith, slot, small)
-
-pub index-index-requires-clause-shape : goal.index-index-requires-clause-shape
-index-index-requires-clause-shape g c =
-    let old = c.args.state.now in
-    let content = g.T.Clear.content in
-    let room = g.T.Clear.room in
-    let may : MayOpen old = record {
-      shape = c.requires.shape;
-      lane = c.requires.lane;
-      shard = c.requires.lists.0;
-      list = c.requires.lists.1;
-      unopened = c.requires.unopened;
-      chain = c.requires.chain;
-    } in
-    let now = c.loop-object.state in
-    let on = subst (λ (left : List (Box g.row.T.Denot Global)). OpensSlots content room old left now) c.in-Some.ensures.steps.0 c.loop-object.invariant.on in
-    subst IsShape (sym (same-shape content room old may now on)) c.requires.shape
-
-pub index-index-requires-clause-place : goal.index-index-requires-clause-place
-index-index-requires-clause-place g c =
-    let old = c.args.state.now in
-    let content = g.T.Clear.content in
-    let room = g.T.Clear.room in
-    let may : MayOpen old = record {
-      shape = c.requires.shape;
-      lane = c.requires.lane;
-      shard = c.requires.lists.0;
-      list = c.requires.lists.1;
-      unopened = c.requires.unopened;
-      chain = c.requires.chain;
-    } in
-    let now = c.loop-object.state in
-    let on = subst (λ (left : List (Box g.row.T.Denot Global)). OpensSlots content room old left now) c.in-Some.ensures.steps.0 c.loop-object.invariant.on in
-    let at : c.number-number.result ≡ place_at old.number old.pages.opened on.slots
-    = c.number-number.ensures ∙ (λ i. place_at (same-number content room old may now on i) (c.opened-page.ensures.opened i) ((c.len.ensures.len ∙ slot-is content room old may now on) i)) in
-    ap (λ (n : ℕ). is_place now.shape n) at ∙ (ap (λ (z : Shape). is_place z (place_at old.number old.pages.opened on.slots)) (same-shape content room old may now on)
-    ∙ inside content room old may now on)
 
 pub list-requires-clause-shape : goal.list-requires-clause-shape
 list-requires-clause-shape g c =
@@ -136,8 +101,8 @@ list-requires-clause-place g c =
     } in
     let now = c.loop-object.state in
     let on = subst (λ (left : List (Box g.row.T.Denot Global)). OpensSlots content room old left now) c.in-Some.ensures.steps.0 c.loop-object.invariant.on in
-    let at : c.number-number.result ≡ place_at old.number old.pages.opened on.slots
-    = c.number-number.ensures ∙ (λ i. place_at (same-number content room old may now on i) (c.opened-page.ensures.opened i) ((c.len.ensures.len ∙ slot-is content room old may now on) i)) in
+    let at : c.number.result ≡ place_at old.number old.pages.opened on.slots
+    = c.number.ensures ∙ (λ i. place_at (same-number content room old may now on i) (c.opened-page.ensures.opened i) ((c.len.ensures.len ∙ slot-is content room old may now on) i)) in
     ap (λ (n : ℕ). is_place now.shape n) at ∙ (ap (λ (z : Shape). is_place z (place_at old.number old.pages.opened on.slots)) (same-shape content room old may now on)
     ∙ inside content room old may now on)
 
@@ -173,9 +138,46 @@ list-requires-clause-away g c =
     } in
     let now = c.loop-object.state in
     let on = subst (λ (left : List (Box g.row.T.Denot Global)). OpensSlots content room old left now) c.in-Some.ensures.steps.0 c.loop-object.invariant.on in
-    let at : c.number-number.result ≡ place_at old.number old.pages.opened on.slots
-    = c.number-number.ensures ∙ (λ i. place_at (same-number content room old may now on i) (c.opened-page.ensures.opened i) ((c.len.ensures.len ∙ slot-is content room old may now on) i)) in
+    let at : c.number.result ≡ place_at old.number old.pages.opened on.slots
+    = c.number.ensures ∙ (λ i. place_at (same-number content room old may now on i) (c.opened-page.ensures.opened i) ((c.len.ensures.len ∙ slot-is content room old may now on) i)) in
     subst (λ (n : ℕ). IsAway now.free (place_numbered n)) (sym at) (slot-away content room old may now on)
+
+pub list-requires-clause-placed : goal.list-requires-clause-placed
+list-requires-clause-placed g c =
+    let old = c.args.state.now in
+    let content = g.T.Clear.content in
+    let room = g.T.Clear.room in
+    let may : MayOpen old = record {
+      shape = c.requires.shape;
+      lane = c.requires.lane;
+      shard = c.requires.lists.0;
+      list = c.requires.lists.1;
+      unopened = c.requires.unopened;
+      chain = c.requires.chain;
+    } in
+    let now = c.loop-object.state in
+    let on = subst (λ (left : List (Box g.row.T.Denot Global)). OpensSlots content room old left now) c.in-Some.ensures.steps.0 c.loop-object.invariant.on in
+    ap (λ (s : LaneState g.row.T.Denot). s.places.shape) on.rest ∙ (c.requires.placed ∙ sym (same-shape content room old may now on))
+
+pub list-requires-clause-begins : goal.list-requires-clause-begins
+list-requires-clause-begins g c =
+    let old = c.args.state.now in
+    let content = g.T.Clear.content in
+    let room = g.T.Clear.room in
+    let may : MayOpen old = record {
+      shape = c.requires.shape;
+      lane = c.requires.lane;
+      shard = c.requires.lists.0;
+      list = c.requires.lists.1;
+      unopened = c.requires.unopened;
+      chain = c.requires.chain;
+    } in
+    let now = c.loop-object.state in
+    let on = subst (λ (left : List (Box g.row.T.Denot Global)). OpensSlots content room old left now) c.in-Some.ensures.steps.0 c.loop-object.invariant.on in
+    let at : c.number.result ≡ place_at old.number old.pages.opened on.slots
+    = c.number.ensures ∙ (λ i. place_at (same-number content room old may now on i) (c.opened-page.ensures.opened i) ((c.len.ensures.len ∙ slot-is content room old may now on) i)) in
+    on.same.1 ∙ (c.requires.begins
+    ∙ (λ i. shard_start (sym (same-shape content room old may now on) i) (sym (ap shard_of at ∙ shard-is content room old may now on) i)))
 
 pub list-requires-clause-right : goal.list-requires-clause-right
 list-requires-clause-right g c =
@@ -192,10 +194,9 @@ list-requires-clause-right g c =
     } in
     let now = c.loop-object.state in
     let on = subst (λ (left : List (Box g.row.T.Denot Global)). OpensSlots content room old left now) c.in-Some.ensures.steps.0 c.loop-object.invariant.on in
-    let at : c.number-number.result ≡ place_at old.number old.pages.opened on.slots
-    = c.number-number.ensures ∙ (λ i. place_at (same-number content room old may now on i) (c.opened-page.ensures.opened i) ((c.len.ensures.len ∙ slot-is content room old may now on) i)) in
-    let index : c.index-index.result ≡ index_of old.shape (place_at old.number old.pages.opened on.slots)
-    = c.index-index.ensures.index ∙ (λ i. index_of (same-shape content room old may now on i) (at i)) in
+    let at : c.number.result ≡ place_at old.number old.pages.opened on.slots
+    = c.number.ensures ∙ (λ i. place_at (same-number content room old may now on i) (c.opened-page.ensures.opened i) ((c.len.ensures.len ∙ slot-is content room old may now on) i)) in
+    let index : index_of now.shape c.number.result ≡ index_of old.shape (place_at old.number old.pages.opened on.slots) = λ i. index_of (same-shape content room old may now on i) (at i) in
     subst (λ (n : ℕ). slice_get now.objects.rights n ≡ Some true) (sym index)
     (on.rights (index_of old.shape (place_at old.number old.pages.opened on.slots))
     (c.requires.rights (place_at old.number old.pages.opened on.slots) (inside content room old may now on) (shard-is content room old may now on) (page-is content room old may now on)))
@@ -215,8 +216,8 @@ loop-object-preserved g c =
     } in
     let now = c.loop-object.state in
     let on = subst (λ (left : List (Box g.row.T.Denot Global)). OpensSlots content room old left now) c.in-Some.ensures.steps.0 c.loop-object.invariant.on in
-    let at : c.number-number.result ≡ place_at old.number old.pages.opened on.slots
-    = c.number-number.ensures ∙ (λ i. place_at (same-number content room old may now on i) (c.opened-page.ensures.opened i) ((c.len.ensures.len ∙ slot-is content room old may now on) i)) in
+    let at : c.number.result ≡ place_at old.number old.pages.opened on.slots
+    = c.number.ensures ∙ (λ i. place_at (same-number content room old may now on i) (c.opened-page.ensures.opened i) ((c.len.ensures.len ∙ slot-is content room old may now on) i)) in
     record {
       on = one-on content room old may now on c.list.new.state (subst (λ (n : ℕ). KeepsOwn n c.in-Some.object.value now c.list.new.state) at c.list.ensures);
       rest = let was = c.loop-object.invariant.rest in let gone = c.in-Some.ensures.steps.1 in let shorter = ap length c.in-Some.ensures.steps.0 in omega arith;

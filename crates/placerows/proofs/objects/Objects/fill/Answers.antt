@@ -1,21 +1,45 @@
 -- The object stands in the row with its place.
-use Rattle.std.proofs.Common.{List, Some, refl, ap, ◌∙◌}
-use Rattle.std.specs.Prelude.{slice_get, slice_set}
+use Rattle.std.proofs.Common.{◌≡◌, ◌-◌, List, Some, true, refl, sym, ap, ◌∙◌, map, arith}
+use Rattle.std.specs.Prelude.{slice_set}
+use Rattle.std.specs.Option.{option_map}
+use Rattle.std.specs.Prelude.{is_some}
 use Rattle.std.proofs.lemmas.List.{set-set}
+use Rattle.std.proofs.lemmas.Option.{slice_get-map}
 use Rattle.placerows.specs.declared.rows.Own.{Own}
 use Rattle.placerows.specs.declared.rows.Own.TheVariants.{Away, Whole}
 use Rattle.placerows.specs.Objects.{ObjectsOf}
-use Rattle.placerows.proofs.Shown.{shown, shown-here}
+use Rattle.placerows.specs.Rows.{is_here}
+use Rattle.placerows.proofs.RowLemmas.{part-get}
+use Rattle.placerows.proofs.Shown.{start-low, right-high, right-at, shown, shown-here}
 use Rattle.placerows.proofs.objects.Objects.fill.Goals as goal
+
+pub claim-requires-clause-start : goal.claim-requires-clause-start
+claim-requires-clause-start g c =
+    let s = c.self.inside in
+    let high = right-high s.directory.ptr s.first s.places s.row.items c.args.self.now c.self.view_is c.args.start c.self.invariant c.requires.start c.requires.right in
+    let room = c.self.invariant.room in omega (arith, high, room)
+
+pub unreachable-requires : goal.unreachable-requires
+unreachable-requires g c =
+    let s = c.self.inside in
+    let low = start-low s.directory.ptr s.first s.places s.row.items c.args.self.now c.self.view_is c.args.start c.requires.start in
+    let high = right-high s.directory.ptr s.first s.places s.row.items c.args.self.now c.self.view_is c.args.start c.self.invariant c.requires.start c.requires.right in
+    let away : Own g.row.T.Denot = Away in
+    let seen = right-at s.directory.ptr s.first s.places s.row.items c.args.self.now c.self.view_is c.args.start c.requires.right in
+    let none : Some (is_here away) ≡ Some true
+    = ap (option_map is_here) (sym (c.claim.ensures.none (ap is_some c.in_default.is))) ∙ (sym (slice_get-map is_here s.row.items c.args.start) ∙ (sym (part-get s.first s.places (map is_here s.row.items) c.args.start low high) ∙ seen)) in
+    absurd (cc none)
 
 pub returns : goal.returns
 returns g c =
     let s = c.self.inside in
+    let low = start-low s.directory.ptr s.first s.places s.row.items c.args.self.now c.self.view_is c.args.start c.requires.start in
+    let high = right-high s.directory.ptr s.first s.places s.row.items c.args.self.now c.self.view_is c.args.start c.self.invariant c.requires.start c.requires.right in
     let away : Own g.row.T.Denot = Away in
     let left : Own g.row.T.Denot = Whole c.put.result in
-    ap (λ (row : List (Own g.row.T.Denot)). shown s.directory.ptr s.first (slice_set row c.args.index left) s.spare.items) c.claim.ensures.row
-    ∙ (ap (λ (row : List (Own g.row.T.Denot)). shown s.directory.ptr s.first row s.spare.items) (set-set s.row.items c.args.index away left)
-    ∙ (shown-here s.directory.ptr s.first s.row.items s.spare.items c.args.index left
-    (ap (λ (v : ObjectsOf g.row.T.Denot). slice_get v.rights c.args.index) c.self.view_is ∙ c.requires) refl
-    ∙ (ap (λ (v : ObjectsOf g.row.T.Denot). record v { items = slice_set v.items c.args.index (Some c.put.result.object) }) c.self.view_is
-    ∙ ap (λ (x : g.row.T.Denot). record c.args.self.now { items = slice_set c.args.self.now.items c.args.index (Some x) }) c.put.ensures.1)))
+    ap (λ (row : List (Own g.row.T.Denot)). shown s.directory.ptr s.first s.places (slice_set row c.args.start left)) c.claim.ensures.row
+    ∙ (ap (λ (row : List (Own g.row.T.Denot)). shown s.directory.ptr s.first s.places row) (set-set s.row.items c.args.start away left)
+    ∙ (shown-here s.directory.ptr s.first s.places s.row.items c.args.start low high left
+    (right-at s.directory.ptr s.first s.places s.row.items c.args.self.now c.self.view_is c.args.start c.requires.right) refl
+    ∙ (ap (λ (v : ObjectsOf g.row.T.Denot). record v { items = slice_set v.items (c.args.start - v.first) (Some c.put.result.object) }) c.self.view_is
+    ∙ ap (λ (x : g.row.T.Denot). record c.args.self.now { items = slice_set c.args.self.now.items (c.args.start - c.args.self.now.first) (Some x) }) c.put.ensures.1)))

@@ -1,22 +1,24 @@
 -- No right is here.
-use Rattle.std.proofs.Common.{◌≡◌, ℕ, List, Bool, Option, None, false, map, replicate, refl, ap, ◌∙◌}
+use Rattle.std.proofs.Common.{◌≡◌, ◌+◌, ◌≤◌, ℕ, List, map, replicate, length, refl, ap, ◌∙◌}
 use Rattle.std.proofs.lemmas.List.{length-replicate}
 use Rattle.placerows.specs.declared.rows.Own.{Own}
 use Rattle.placerows.specs.declared.rows.Own.TheVariants.{Away}
-use Rattle.placerows.specs.Rows.{object_in, is_here}
-use Rattle.placerows.proofs.RowLemmas.{replicate-each, map-same}
+use Rattle.placerows.specs.Rows.{object_in, is_here, part}
+use Rattle.placerows.proofs.RowLemmas.{replicate-each, map-same, part-replicate}
 use Rattle.placerows.proofs.objects.Objects.new.Goals as goal
 
 module _ {T B : Type 0} (f : Own T → B) where
-  all-away : (n : ℕ) (row : List (Own T)) → row ≡ replicate n Away → map f row ≡ replicate n (f Away)
-  all-away n row is =
-      ap (map f) is ∙ (map-same f (f Away) (replicate n Away) (λ j z at. ap f (replicate-each n Away j z at)) ∙ ap (λ (k : ℕ). replicate k (f Away)) (length-replicate n (let a : Own T = Away in a)))
+  all-away : (first places n : ℕ) (row : List (Own T)) → first + places ≤ n → row ≡ replicate n Away → part first places (map f row) ≡ replicate places (f Away)
+  all-away first places n row room is =
+      let away : Own T = Away in
+      let all = ap (map f) is ∙ (map-same f (f Away) (replicate n Away) (λ j z at. ap f (replicate-each n Away j z at)) ∙ ap (λ (k : ℕ). replicate k (f Away)) (length-replicate n away)) in
+      ap (part first places) all ∙ part-replicate first places n (f Away) room
 
 pub returns : goal.returns
 returns g c = (
   refl,
   refl,
-  all-away object_in c.args.places c.in_ok-row.row.items c.in_ok-row.ensures,
-  all-away is_here c.args.places c.in_ok-row.row.items c.in_ok-row.ensures,
-  ap Rattle.std.proofs.Common.length c.in_ok-spare.ensures ∙ length-replicate c.args.total (let n : Option Rattle.placecell.specs.Spot.Spot = None in n),
+  all-away object_in c.args.first c.args.places c.args.total c.in_ok-row.row.items c.requires c.in_ok-row.ensures,
+  all-away is_here c.args.first c.args.places c.args.total c.in_ok-row.row.items c.requires c.in_ok-row.ensures,
+  ap length c.in_ok-row.ensures ∙ length-replicate c.args.total (let away : Own g.row.T.Denot = Away in away),
 )

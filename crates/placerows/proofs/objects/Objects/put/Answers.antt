@@ -1,15 +1,39 @@
 -- Nothing stands in the row.
-use Rattle.std.proofs.Common.{None, false, ap, ◌∙◌, List}
+use Rattle.std.proofs.Common.{◌≡◌, ◌-◌, Some, None, true, false, sym, ap, ◌∙◌, List, map, arith}
 use Rattle.std.specs.Prelude.{slice_set}
+use Rattle.std.specs.Option.{option_map}
+use Rattle.std.specs.Prelude.{is_some}
+use Rattle.std.proofs.lemmas.Option.{slice_get-map}
 use Rattle.placerows.specs.declared.rows.Own.{Own}
 use Rattle.placerows.specs.declared.rows.Own.TheVariants.{Away}
 use Rattle.placerows.specs.Objects.{ObjectsOf}
-use Rattle.placerows.proofs.Shown.{shown, shown-set}
+use Rattle.placerows.specs.Rows.{is_here}
+use Rattle.placerows.proofs.RowLemmas.{part-get}
+use Rattle.placerows.proofs.Shown.{start-low, right-high, right-at, shown, shown-set}
 use Rattle.placerows.proofs.objects.Objects.put.Goals as goal
+
+pub claim-requires-clause-start : goal.claim-requires-clause-start
+claim-requires-clause-start g c =
+    let s = c.self.inside in
+    let high = right-high s.directory.ptr s.first s.places s.row.items c.args.self.now c.self.view_is c.args.start c.self.invariant c.requires.start c.requires.right in
+    let room = c.self.invariant.room in omega (arith, high, room)
+
+pub unreachable-requires : goal.unreachable-requires
+unreachable-requires g c =
+    let s = c.self.inside in
+    let low = start-low s.directory.ptr s.first s.places s.row.items c.args.self.now c.self.view_is c.args.start c.requires.start in
+    let high = right-high s.directory.ptr s.first s.places s.row.items c.args.self.now c.self.view_is c.args.start c.self.invariant c.requires.start c.requires.right in
+    let away : Own g.row.T.Denot = Away in
+    let seen = right-at s.directory.ptr s.first s.places s.row.items c.args.self.now c.self.view_is c.args.start c.requires.right in
+    let none : Some (is_here away) ≡ Some true
+    = ap (option_map is_here) (sym (c.claim.ensures.none (ap is_some c.in_default.is))) ∙ (sym (slice_get-map is_here s.row.items c.args.start) ∙ (sym (part-get s.first s.places (map is_here s.row.items) c.args.start low high) ∙ seen)) in
+    absurd (cc none)
 
 pub returns-clause-objects : goal.returns-clause-objects
 returns-clause-objects g c =
     let s = c.self.inside in
-    ap (λ (row : List (Own g.row.T.Denot)). shown s.directory.ptr s.first row s.spare.items) c.claim.ensures.row
-    ∙ (shown-set s.directory.ptr s.first s.row.items s.spare.items c.args.index Away
-    ∙ ap (λ (v : ObjectsOf g.row.T.Denot). record v { items = slice_set v.items c.args.index None; rights = slice_set v.rights c.args.index false }) c.self.view_is)
+    let low = start-low s.directory.ptr s.first s.places s.row.items c.args.self.now c.self.view_is c.args.start c.requires.start in
+    let high = right-high s.directory.ptr s.first s.places s.row.items c.args.self.now c.self.view_is c.args.start c.self.invariant c.requires.start c.requires.right in
+    ap (λ (row : List (Own g.row.T.Denot)). shown s.directory.ptr s.first s.places row) c.claim.ensures.row
+    ∙ (shown-set s.directory.ptr s.first s.places s.row.items c.args.start low high Away
+    ∙ ap (λ (v : ObjectsOf g.row.T.Denot). record v { items = slice_set v.items (c.args.start - v.first) None; rights = slice_set v.rights (c.args.start - v.first) false }) c.self.view_is)

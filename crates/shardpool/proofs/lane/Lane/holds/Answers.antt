@@ -12,13 +12,13 @@ use Rattle.shardpool.proofs.lane.Lane.holds.Goals as goal
 -- where the place of the key stands
 stands : (g : Over) (c : After-start g) → c.start.result ≡ slot_start c.self.inside.state.shape (place_of c.args.key)
 stands g c =
-    c.start.ensures.start ∙ (ap (λ (y : Shape). slot_start y c.place_of.result) c.self.invariant.1.placed.0 ∙ ap (slot_start c.self.inside.state.shape) c.place_of.ensures.place)
+    c.start.ensures.start ∙ (ap (λ (y : Shape). slot_start y c.place_of.result) c.self.invariant.1.placed ∙ ap (slot_start c.self.inside.state.shape) c.place_of.ensures.place)
 
 pub start-requires : goal.start-requires
 start-requires g c =
     let s = c.self.inside.state in let z = s.shape in let key = c.args.key in
     let inside : is_key z key ≡ true = sym c.fits.ensures ∙ c.if-not-fits.false in
-    subst (λ (y : Shape). is_place y c.place_of.result ≡ true) (sym c.self.invariant.1.placed.0)
+    subst (λ (y : Shape). is_place y c.place_of.result ≡ true) (sym c.self.invariant.1.placed)
     (subst (λ (p : ℕ). is_place z p ≡ true) (sym c.place_of.ensures.place) (key_parts z key inside).place)
 
 pub count_to-requires : goal.count_to-requires

@@ -5,7 +5,7 @@ use Rattle.shardpool.proofs.calls.CallParts.{calls-more}
 use Rattle.shardpool.proofs.calls.Halts.{fits-own}
 use Rattle.shardpool.proofs.references.Holdings.{clear-holds}
 use Rattle.shardpool.proofs.frame.SeenHistories.{same-directory}
-use Rattle.shardpool.proofs.calls.Ends.{fits-beside, own-spot, own-placed, own-begins, own-stands}
+use Rattle.shardpool.proofs.calls.Ends.{fits-beside, own-spot, own-begins, own-stands}
 use Rattle.shardpool.proofs.calls.KeyCalls.{ready, ready-at, cleared-away, cleared}
 use Rattle.shardpool.proofs.frame.Standing.{missed-outside, cleared-since, unmarked-since, seen-of}
 use Rattle.shardpool.proofs.pool.Pool.clear.Goals as goal
@@ -13,7 +13,7 @@ use Rattle.shardpool.proofs.pool.Pool.clear.Goals as goal
 pub clear-marked-requires-clause-at : goal.clear-marked-requires-clause-at
 clear-marked-requires-clause-at g c =
     let before = ready c.lane.view_is c.requires.owns.1 c.self.view_is c.lane.invariant.1 c.in-Some.ensures.spot in
-    ready-at before _ refl refl c.deref.ensures.value
+    ready-at before _ refl refl refl
 
 pub clear-marked-requires-clause-key : goal.clear-marked-requires-clause-key
 clear-marked-requires-clause-key g c = ap (λ p. is_key p.shape c.args.key) c.self.view_is ∙ c.in-Some.ensures.some.0 refl
@@ -22,9 +22,6 @@ pub keep_reclaimed-requires-clause-spot : goal.keep_reclaimed-requires-clause-sp
 keep_reclaimed-requires-clause-spot g c =
     let before = ready c.lane.view_is c.requires.owns.1 c.self.view_is c.lane.invariant.1 c.in-Some.ensures.spot in
     own-spot (fits-beside before.fits) before.there
-
-pub keep_reclaimed-requires-clause-placed : goal.keep_reclaimed-requires-clause-placed
-keep_reclaimed-requires-clause-placed g c = own-placed (fits-beside c.lane.invariant.1)
 
 pub keep_reclaimed-requires-clause-begins : goal.keep_reclaimed-requires-clause-begins
 keep_reclaimed-requires-clause-begins g c = own-begins (fits-beside c.lane.invariant.1)

@@ -1,7 +1,7 @@
 use Rattle.std.proofs.Common.{◌≡◌, ◌<◌, ◌+◌, true, List, [], ◌∷◌, ℕ, length, slice_get, slice_set, Some, refl, sym, ap, ◌∙◌, subst, arith}
 use Rattle.keybits.specs.declared.shape.Shape.{Shape}
 use Rattle.poolsteps.specs.Layout.{slot_start, spots_at}
-use Rattle.keybits.specs.Keys.{place_of}
+use Rattle.keybits.specs.Keys.{place_of, generation_of}
 use Rattle.seqpool.specs.declared.act.Act.{Act}
 use Rattle.seqpool.specs.declared.act.Act.TheVariants as acts
 use Rattle.steplaws.specs.Calls.Call.{Publishing}
@@ -18,7 +18,7 @@ use Rattle.keybits.specs.Places.{shard_of}
 use Rattle.keybits.specs.Shapes.{index_of}
 use Rattle.shardpool.specs.Stores.{GivesOut}
 use Rattle.shardpool.proofs.frame.SeenHistories.{same-shape, same-directory}
-use Rattle.shardpool.proofs.calls.Ends.{fits-beside, own-placed, own-begins}
+use Rattle.shardpool.proofs.calls.Ends.{fits-beside, own-begins}
 use Rattle.shardpool.proofs.frame.LaneFacts.{lane_of}
 use Rattle.shardpool.proofs.pool.Pool.downgrade.Given.{Over}
 use Rattle.shardpool.proofs.references.Holdings.{publish-holds}
@@ -55,9 +55,6 @@ give_out-whole-requires-clause-spot g c =
     let spot : Spot = record { place = c.place_of.result; start = c.spend-key.result.1 } in
     let there = made-spot spot c.spend-key.result.0 c.requires.made (sym (ap (λ l. l.shape) c.lane.view_is)) c.spend-key.ensures.0 c.spend-key.ensures.1 c.place_of.ensures.place in
     subst (IsSpot c.lane.inside.state.shape spot) (sym there.place_is) there
-
-pub give_out-whole-requires-clause-placed : goal.give_out-whole-requires-clause-placed
-give_out-whole-requires-clause-placed g c = own-placed (fits-beside c.lane.invariant.1)
 
 pub give_out-whole-requires-clause-begins : goal.give_out-whole-requires-clause-begins
 give_out-whole-requires-clause-begins g c = (own-begins (fits-beside c.lane.invariant.1)).0
@@ -100,7 +97,7 @@ invariant_of-lane g c =
     let s = c.lane.inside.state in
     let told = c.downgrade-share.ensures in
     let share = c.downgrade-share.result in
-    let row : HeldKey g.row.T.Denot = record { key = c.spend-key.result.0; count = 1; share = Some share } in
+    let row : HeldKey g.row.T.Denot = record { generation = generation_of c.spend-key.result.0; count = 1; share = Some share } in
     let at : c.spend-key.result.1 ≡ slot_start z (place_of c.spend-key.result.0)
     = (made-spot (record { place = c.place_of.result; start = c.spend-key.result.1 }) c.spend-key.result.0 c.requires.made (c.requires.owns.1 ∙ sym (ap (λ p. p.shape) c.self.view_is))
     c.spend-key.ensures.0 c.spend-key.ensures.1 c.place_of.ensures.place).start in

@@ -8,7 +8,7 @@ use Rattle.shardpool.specs.Lanes.{Made}
 use Rattle.shardpool.specs.Creates.{FollowsChain}
 use Rattle.shardpool.proofs.frame.LaneFacts.{lane_of}
 use Rattle.poolsteps.specs.Layout.{spots_at}
-use Rattle.shardpool.proofs.calls.Ends.{fits-beside, own-placed, own-begins}
+use Rattle.shardpool.proofs.calls.Ends.{fits-beside, own-begins}
 use Rattle.shardpool.proofs.frame.SeenHistories.{same-shape, same-directory}
 use Rattle.shardpool.proofs.free.Takes.{follows-here, hung-inside, hung-begins, hung-rests, follow-goes, followed-fits, followed-chain, followed-fillings}
 use Rattle.shardpool.proofs.pool.Pool.follow.Goals as goal
@@ -59,9 +59,6 @@ pub follow_on-object-requires-clause-spot : goal.follow_on-object-requires-claus
 follow_on-object-requires-clause-spot g c =
     subst (λ (z : Shape). IsSpot z c.spot-spot.result c.spot-spot.result.place) (same-shape c.lane.view_is c.requires.owns.1 c.self.view_is)
     (subst (IsSpot c.self.inside.grid.shape c.spot-spot.result) (sym c.spot-spot.ensures.place_is) c.spot-spot.ensures)
-
-pub follow_on-object-requires-clause-placed : goal.follow_on-object-requires-clause-placed
-follow_on-object-requires-clause-placed g c = own-placed (fits-beside c.lane.invariant.1)
 
 pub follow_on-object-requires-clause-begins : goal.follow_on-object-requires-clause-begins
 follow_on-object-requires-clause-begins g c = (own-begins (fits-beside c.lane.invariant.1)).0

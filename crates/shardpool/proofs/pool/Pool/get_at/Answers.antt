@@ -10,7 +10,7 @@ use Rattle.shardpool.proofs.calls.Halts.{fits-own}
 use Rattle.shardpool.proofs.references.Holdings.{get-holds}
 use Rattle.poolsteps.specs.Layout.{spots_at}
 use Rattle.shardpool.proofs.frame.SeenHistories.{same-directory}
-use Rattle.shardpool.proofs.calls.Ends.{fits-beside, own-spot, own-placed, own-begins, own-stands}
+use Rattle.shardpool.proofs.calls.Ends.{fits-beside, own-spot, own-begins, own-stands}
 use Rattle.shardpool.proofs.calls.KeyCalls.{ready, ready-low, ready-at, missed-away, missed, hit-touches, hit-untouched, gained-again, gained-first}
 use Rattle.shardpool.proofs.references.RowChanges.{rows-count-le}
 use Rattle.shardpool.proofs.frame.Standing.{missed-outside, found-since, missed-since, seen-of}
@@ -19,7 +19,7 @@ use Rattle.shardpool.proofs.pool.Pool.get_at.Goals as goal
 pub get-got-requires-clause-at : goal.get-got-requires-clause-at
 get-got-requires-clause-at g c =
     let before = ready c.lane.view_is c.requires.owns.1 c.self.view_is c.lane.invariant.1 c.in_ok-spot.ensures.spot in
-    ready-at before _ refl refl c.deref.ensures.value
+    ready-at before _ refl refl refl
 
 pub get-got-requires-clause-key : goal.get-got-requires-clause-key
 get-got-requires-clause-key g c = ap (λ p. is_key p.shape c.args.key) c.self.view_is ∙ c.in_ok-spot.ensures.some.0 refl
@@ -33,31 +33,28 @@ get-got-requires-clause-room g c =
 
 -- ---- a miss
 
-pub keep_reclaimed-requires-clause-spot : goal.keep_reclaimed-requires-clause-spot
-keep_reclaimed-requires-clause-spot g c =
+pub keep_if_reclaimed-requires-clause-spot : goal.keep_if_reclaimed-requires-clause-spot
+keep_if_reclaimed-requires-clause-spot g c =
     let before = ready c.lane.view_is c.requires.owns.1 c.self.view_is c.lane.invariant.1 c.in_ok-spot.ensures.spot in
     own-spot (fits-beside before.fits) before.there
 
-pub keep_reclaimed-requires-clause-placed : goal.keep_reclaimed-requires-clause-placed
-keep_reclaimed-requires-clause-placed g c = own-placed (fits-beside c.lane.invariant.1)
+pub keep_if_reclaimed-requires-clause-begins : goal.keep_if_reclaimed-requires-clause-begins
+keep_if_reclaimed-requires-clause-begins g c = own-begins (fits-beside c.lane.invariant.1)
 
-pub keep_reclaimed-requires-clause-begins : goal.keep_reclaimed-requires-clause-begins
-keep_reclaimed-requires-clause-begins g c = own-begins (fits-beside c.lane.invariant.1)
-
-pub keep_reclaimed-requires-clause-at : goal.keep_reclaimed-requires-clause-at
-keep_reclaimed-requires-clause-at g c =
+pub keep_if_reclaimed-requires-clause-at : goal.keep_if_reclaimed-requires-clause-at
+keep_if_reclaimed-requires-clause-at g c =
     let before = ready c.lane.view_is c.requires.owns.1 c.self.view_is c.lane.invariant.1 c.in_ok-spot.ensures.spot in
     own-stands c.in-Miss.reclaimed (fits-beside before.fits) (same-directory c.lane.view_is c.requires.owns.2 c.self.view_is) before.there.place_is c.in-Miss.ensures.at
 
-pub keep_reclaimed-requires-clause-away : goal.keep_reclaimed-requires-clause-away
-keep_reclaimed-requires-clause-away g c =
+pub keep_if_reclaimed-requires-clause-away : goal.keep_if_reclaimed-requires-clause-away
+keep_if_reclaimed-requires-clause-away g c =
     let before = ready c.lane.view_is c.requires.owns.1 c.self.view_is c.lane.invariant.1 c.in_ok-spot.ensures.spot in
     missed-away before c.in-Miss.reclaimed c.in-Miss.ensures.called c.in-Miss.ensures.got
 
 pub invariant_of-lane : goal.invariant_of-lane
 invariant_of-lane g c =
     let before = ready c.lane.view_is c.requires.owns.1 c.self.view_is c.lane.invariant.1 c.in_ok-spot.ensures.spot in
-    let left = missed before c.in-Miss.reclaimed c.keep_reclaimed.new.state c.keep_reclaimed.ensures c.in-Miss.ensures.called c.in-Miss.ensures.got in
+    let left = missed before c.in-Miss.reclaimed c.keep_if_reclaimed.new.state c.keep_if_reclaimed.ensures c.in-Miss.ensures.called c.in-Miss.ensures.got in
     (c.in-Miss.ensures.called.did.held ∙ c.lane.invariant.0, fits-own left.fits)
 
 pub returns-in-Miss-clause-called : goal.returns-in-Miss-clause-called
@@ -67,19 +64,19 @@ returns-in-Miss-clause-called g c key =
 pub returns-in-Miss-clause-gets : goal.returns-in-Miss-clause-gets
 returns-in-Miss-clause-gets g c key =
     let before = ready c.lane.view_is c.requires.owns.1 c.self.view_is c.lane.invariant.1 c.in_ok-spot.ensures.spot in
-    let left = missed before c.in-Miss.reclaimed c.keep_reclaimed.new.state c.keep_reclaimed.ensures c.in-Miss.ensures.called c.in-Miss.ensures.got in
+    let left = missed before c.in-Miss.reclaimed c.keep_if_reclaimed.new.state c.keep_if_reclaimed.ensures c.in-Miss.ensures.called c.in-Miss.ensures.got in
     rw (← c.lane.view_is) (left.did c.lane.inside.hand.table_id c.get-got.new.hand.table_id c.in-Miss.ensures.hand.0)
 
 pub returns-in-Miss-clause-refs : goal.returns-in-Miss-clause-refs
 returns-in-Miss-clause-refs g c =
     let before = ready c.lane.view_is c.requires.owns.1 c.self.view_is c.lane.invariant.1 c.in_ok-spot.ensures.spot in
-    let left = missed before c.in-Miss.reclaimed c.keep_reclaimed.new.state c.keep_reclaimed.ensures c.in-Miss.ensures.called c.in-Miss.ensures.got in
+    let left = missed before c.in-Miss.reclaimed c.keep_if_reclaimed.new.state c.keep_if_reclaimed.ensures c.in-Miss.ensures.called c.in-Miss.ensures.got in
     let same = left.refs in rw (← c.lane.view_is) (omega (arith, same))
 
 pub returns-in-Miss-clause-fillings : goal.returns-in-Miss-clause-fillings
 returns-in-Miss-clause-fillings g c filling =
     let before = ready c.lane.view_is c.requires.owns.1 c.self.view_is c.lane.invariant.1 c.in_ok-spot.ensures.spot in
-    let left = missed before c.in-Miss.reclaimed c.keep_reclaimed.new.state c.keep_reclaimed.ensures c.in-Miss.ensures.called c.in-Miss.ensures.got in
+    let left = missed before c.in-Miss.reclaimed c.keep_if_reclaimed.new.state c.keep_if_reclaimed.ensures c.in-Miss.ensures.called c.in-Miss.ensures.got in
     rw (← c.lane.view_is) (left.fillings c.lane.inside.hand.table_id c.get-got.new.hand.table_id c.in-Miss.ensures.hand.0 filling)
 
 -- ---- a hit, of a key that the lane has

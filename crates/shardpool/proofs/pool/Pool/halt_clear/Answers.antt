@@ -27,7 +27,7 @@ pub returns-clause-outside : goal.returns-clause-outside
 returns-clause-outside g c out = let bad : true ≡ false = sym (c.in-Some.ensures.some.0 refl) ∙ out in absurd (cc bad)
 
 pub clear_within-requires-clause-at : goal.clear_within-requires-clause-at
-clear_within-requires-clause-at g c = ready-at (ready-parts c.self.view_is c.requires.parts c.in-Some.ensures.spot) _ refl refl c.deref.ensures.value
+clear_within-requires-clause-at g c = ready-at (ready-parts c.self.view_is c.requires.parts c.in-Some.ensures.spot) _ refl refl refl
 
 pub clear_within-requires-clause-seen : goal.clear_within-requires-clause-seen
 clear_within-requires-clause-seen g c = lawful-parts c.self.view_is c.requires.parts

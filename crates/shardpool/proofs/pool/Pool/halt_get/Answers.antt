@@ -38,7 +38,7 @@ pub returns-clause-outside : goal.returns-clause-outside
 returns-clause-outside g c out = let bad : true ≡ false = sym (c.in-Some.ensures.some.0 refl) ∙ out in absurd (cc bad)
 
 pub get_within-requires-clause-at : goal.get_within-requires-clause-at
-get_within-requires-clause-at g c = ready-at (ready-parts c.self.view_is c.requires.parts c.in-Some.ensures.spot) _ refl refl c.deref.ensures.value
+get_within-requires-clause-at g c = ready-at (ready-parts c.self.view_is c.requires.parts c.in-Some.ensures.spot) _ refl refl refl
 
 pub get_within-requires-clause-seen : goal.get_within-requires-clause-seen
 get_within-requires-clause-seen g c = lawful-parts c.self.view_is c.requires.parts

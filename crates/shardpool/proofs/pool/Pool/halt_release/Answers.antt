@@ -33,7 +33,7 @@ pub release_within-requires-clause-at : goal.release_within-requires-clause-at
 release_within-requires-clause-at g c =
     let refers = refers-parts c.self.view_is c.requires.parts c.requires.held in
     let spot = subst (IsSpot c.self.inside.grid.shape c.spot-spot.result) c.place_of.ensures.place c.spot-spot.ensures in
-    lent-at refers c.return_last_share.ensures.lends _ spot refl c.deref.ensures.value
+    lent-at refers c.return_last_share.ensures.lends _ spot refl refl
 
 pub returns-clause-called : goal.returns-clause-called
 returns-clause-called g c =

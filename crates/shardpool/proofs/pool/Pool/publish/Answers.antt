@@ -16,7 +16,7 @@ use Rattle.keybits.specs.Places.{shard_of}
 use Rattle.keybits.specs.Shapes.{index_of}
 use Rattle.shardpool.specs.Stores.{GivesOut}
 use Rattle.shardpool.proofs.frame.SeenHistories.{same-shape, same-directory}
-use Rattle.shardpool.proofs.calls.Ends.{fits-beside, own-placed, own-begins}
+use Rattle.shardpool.proofs.calls.Ends.{fits-beside, own-begins}
 use Rattle.shardpool.proofs.frame.LaneFacts.{lane_of}
 use Rattle.shardpool.proofs.pool.Pool.publish.Given.{Over}
 use Rattle.shardpool.proofs.references.Holdings.{publish-alone}
@@ -53,9 +53,6 @@ give_out-whole-requires-clause-spot g c =
     let spot : Spot = record { place = c.place_of.result; start = c.spend-key.result.1 } in
     let there = made-spot spot c.spend-key.result.0 c.requires.made (sym (ap (λ l. l.shape) c.lane.view_is)) c.spend-key.ensures.0 c.spend-key.ensures.1 c.place_of.ensures.place in
     subst (IsSpot c.lane.inside.state.shape spot) (sym there.place_is) there
-
-pub give_out-whole-requires-clause-placed : goal.give_out-whole-requires-clause-placed
-give_out-whole-requires-clause-placed g c = own-placed (fits-beside c.lane.invariant.1)
 
 pub give_out-whole-requires-clause-begins : goal.give_out-whole-requires-clause-begins
 give_out-whole-requires-clause-begins g c = (own-begins (fits-beside c.lane.invariant.1)).0

@@ -12,7 +12,7 @@ use Rattle.shardpool.specs.LaneStates.{Fits}
 use Rattle.shardpool.specs.Lanes.{Made}
 use Rattle.shardpool.proofs.calls.CallParts.{calls-more, calls-behind}
 use Rattle.shardpool.proofs.frame.SeenHistories.{same-directory}
-use Rattle.shardpool.proofs.calls.Ends.{own-spot, own-placed, own-begins, own-stands}
+use Rattle.shardpool.proofs.calls.Ends.{own-spot, own-begins, own-stands}
 use Rattle.shardpool.proofs.calls.Releases.{EndsAt, Released, refers-held, lent-some, lent-share, lent-at, end-low, end-more, end-within, beside, released-away, released}
 use Rattle.shardpool.proofs.references.Holdings.{release-holds}
 use Rattle.shardpool.proofs.pool.Pool.release_at.Given.{Over}
@@ -42,7 +42,7 @@ pub release-reclaimed-requires-clause-at : goal.release-reclaimed-requires-claus
 release-reclaimed-requires-clause-at g c =
     let refers = refers-held c.lane.view_is c.requires.owns.1 c.self.view_is c.lane.invariant.1 c.requires.held refl in
     let spot = subst (λ (p : PoolOf). IsSpot p.shape c.args.spot (place_of c.args.key)) (sym c.self.view_is) c.requires.spot in
-    lent-at refers c.return_last_share.ensures.lends _ spot refl c.deref.ensures.value
+    lent-at refers c.return_last_share.ensures.lends _ spot refl (ap (λ x. x.last_pushed.items) c.drop_reference.ensures.rest)
 
 pub drop_reference-requires-clause-at : goal.drop_reference-requires-clause-at
 drop_reference-requires-clause-at g c =
@@ -60,37 +60,30 @@ pub drop_reference-requires-clause-within : goal.drop_reference-requires-clause-
 drop_reference-requires-clause-within g c =
     end-within (refers-held c.lane.view_is c.requires.owns.1 c.self.view_is c.lane.invariant.1 c.requires.held refl) c.return_last_share.ensures.lends
 
-pub keep_reclaimed-requires-clause-shape : goal.keep_reclaimed-requires-clause-shape
-keep_reclaimed-requires-clause-shape g c =
+pub keep_if_reclaimed-requires-clause-shape : goal.keep_if_reclaimed-requires-clause-shape
+keep_if_reclaimed-requires-clause-shape g c =
     let refers = refers-held c.lane.view_is c.requires.owns.1 c.self.view_is c.lane.invariant.1 c.requires.held refl in
     let spot = subst (λ (p : PoolOf). IsSpot p.shape c.args.spot (place_of c.args.key)) (sym c.self.view_is) c.requires.spot in
     let ends = subst (λ (n : ℕ). EndsAt n c.return_last_share.new.state c.drop_reference.new.state) spot.start (c.drop_reference.ensures.rows, c.drop_reference.ensures.rest) in
     let so = beside refers c.return_last_share.ensures.lends c.drop_reference.new.state ends in
     subst IsShape (sym so.shape_is) so.seat.shape
 
-pub keep_reclaimed-requires-clause-spot : goal.keep_reclaimed-requires-clause-spot
-keep_reclaimed-requires-clause-spot g c =
+pub keep_if_reclaimed-requires-clause-spot : goal.keep_if_reclaimed-requires-clause-spot
+keep_if_reclaimed-requires-clause-spot g c =
     let refers = refers-held c.lane.view_is c.requires.owns.1 c.self.view_is c.lane.invariant.1 c.requires.held refl in
     let spot = subst (λ (p : PoolOf). IsSpot p.shape c.args.spot (place_of c.args.key)) (sym c.self.view_is) c.requires.spot in
     let ends = subst (λ (n : ℕ). EndsAt n c.return_last_share.new.state c.drop_reference.new.state) spot.start (c.drop_reference.ensures.rows, c.drop_reference.ensures.rest) in
     own-spot (beside refers c.return_last_share.ensures.lends c.drop_reference.new.state ends) spot
 
-pub keep_reclaimed-requires-clause-placed : goal.keep_reclaimed-requires-clause-placed
-keep_reclaimed-requires-clause-placed g c =
-    let refers = refers-held c.lane.view_is c.requires.owns.1 c.self.view_is c.lane.invariant.1 c.requires.held refl in
-    let spot = subst (λ (p : PoolOf). IsSpot p.shape c.args.spot (place_of c.args.key)) (sym c.self.view_is) c.requires.spot in
-    let ends = subst (λ (n : ℕ). EndsAt n c.return_last_share.new.state c.drop_reference.new.state) spot.start (c.drop_reference.ensures.rows, c.drop_reference.ensures.rest) in
-    own-placed (beside refers c.return_last_share.ensures.lends c.drop_reference.new.state ends)
-
-pub keep_reclaimed-requires-clause-begins : goal.keep_reclaimed-requires-clause-begins
-keep_reclaimed-requires-clause-begins g c =
+pub keep_if_reclaimed-requires-clause-begins : goal.keep_if_reclaimed-requires-clause-begins
+keep_if_reclaimed-requires-clause-begins g c =
     let refers = refers-held c.lane.view_is c.requires.owns.1 c.self.view_is c.lane.invariant.1 c.requires.held refl in
     let spot = subst (λ (p : PoolOf). IsSpot p.shape c.args.spot (place_of c.args.key)) (sym c.self.view_is) c.requires.spot in
     let ends = subst (λ (n : ℕ). EndsAt n c.return_last_share.new.state c.drop_reference.new.state) spot.start (c.drop_reference.ensures.rows, c.drop_reference.ensures.rest) in
     own-begins (beside refers c.return_last_share.ensures.lends c.drop_reference.new.state ends)
 
-pub keep_reclaimed-requires-clause-at : goal.keep_reclaimed-requires-clause-at
-keep_reclaimed-requires-clause-at g c =
+pub keep_if_reclaimed-requires-clause-at : goal.keep_if_reclaimed-requires-clause-at
+keep_if_reclaimed-requires-clause-at g c =
     let refers = refers-held c.lane.view_is c.requires.owns.1 c.self.view_is c.lane.invariant.1 c.requires.held refl in
     let spot = subst (λ (p : PoolOf). IsSpot p.shape c.args.spot (place_of c.args.key)) (sym c.self.view_is) c.requires.spot in
     let ends = subst (λ (n : ℕ). EndsAt n c.return_last_share.new.state c.drop_reference.new.state) spot.start (c.drop_reference.ensures.rows, c.drop_reference.ensures.rest) in
@@ -101,8 +94,8 @@ keep_reclaimed-requires-clause-at g c =
 pub return_last_share-requires-clause-directory : goal.return_last_share-requires-clause-directory
 return_last_share-requires-clause-directory g c = same-directory c.lane.view_is c.requires.owns.2 c.self.view_is
 
-pub keep_reclaimed-requires-clause-away : goal.keep_reclaimed-requires-clause-away
-keep_reclaimed-requires-clause-away g c =
+pub keep_if_reclaimed-requires-clause-away : goal.keep_if_reclaimed-requires-clause-away
+keep_if_reclaimed-requires-clause-away g c =
     let refers = refers-held c.lane.view_is c.requires.owns.1 c.self.view_is c.lane.invariant.1 c.requires.held refl in
     let spot = subst (λ (p : PoolOf). IsSpot p.shape c.args.spot (place_of c.args.key)) (sym c.self.view_is) c.requires.spot in
     let ends = subst (λ (n : ℕ). EndsAt n c.return_last_share.new.state c.drop_reference.new.state) spot.start (c.drop_reference.ensures.rows, c.drop_reference.ensures.rest) in
@@ -110,17 +103,17 @@ keep_reclaimed-requires-clause-away g c =
     λ whole is. subst (λ (p : ℕ). IsAway c.drop_reference.new.state.free (place_numbered p)) (sym spot.place_is)
     (released-away refers c.return_last_share.ensures.lends c.drop_reference.new.state ends c.release-reclaimed.result told.called.did told.acts told.reclaimed whole is)
 
-module _ (g : Over) (c : goal.After-keep_reclaimed g) where
+module _ (g : Over) (c : goal.After-keep_if_reclaimed g) where
   -- what the call leaves of the lane
   leaves : Released g.T.Clear.content g.T.Clear.room c.self.inside.grid.shape c.args.key c.lane.inside.hand.me.0 c.release-reclaimed.new.hand.me.0 c.lane.inside.state
-      c.keep_reclaimed.new.state
+      c.keep_if_reclaimed.new.state
   leaves =
       let refers = refers-held c.lane.view_is c.requires.owns.1 c.self.view_is c.lane.invariant.1 c.requires.held refl in
       let spot = subst (λ (p : PoolOf). IsSpot p.shape c.args.spot (place_of c.args.key)) (sym c.self.view_is) c.requires.spot in
       let ends = subst (λ (n : ℕ). EndsAt n c.return_last_share.new.state c.drop_reference.new.state) spot.start (c.drop_reference.ensures.rows, c.drop_reference.ensures.rest) in
       let told = c.release-reclaimed.ensures in
-      released refers c.return_last_share.ensures.lends c.drop_reference.new.state ends c.release-reclaimed.result told.called.did told.acts told.reclaimed told.called.idle c.keep_reclaimed.new.state
-      (subst (λ (p : ℕ). Keeps p c.release-reclaimed.result c.drop_reference.new.state c.keep_reclaimed.new.state) spot.place_is c.keep_reclaimed.ensures)
+      released refers c.return_last_share.ensures.lends c.drop_reference.new.state ends c.release-reclaimed.result told.called.did told.acts told.reclaimed told.called.idle c.keep_if_reclaimed.new.state
+      (subst (λ (p : ℕ). Keeps p c.release-reclaimed.result c.drop_reference.new.state c.keep_if_reclaimed.new.state) spot.place_is c.keep_if_reclaimed.ensures)
 
   table : c.release-reclaimed.new.hand.table_id ≡ c.lane.inside.hand.table_id
   table = c.release-reclaimed.ensures.hand.0 ∙ c.return_last_share.ensures.hand.0
@@ -129,7 +122,7 @@ pub invariant_of-lane : goal.invariant_of-lane
 invariant_of-lane g c =
     let now = (leaves g c).fits in (
       c.release-reclaimed.ensures.called.did.held ∙ (c.return_last_share.ensures.lends.did.held ∙ c.lane.invariant.0),
-      subst (λ (z : Shape). Fits g.T.Clear.content g.T.Clear.room z c.release-reclaimed.new.hand.me.0 c.keep_reclaimed.new.state) (sym now.shape_is) now,
+      subst (λ (z : Shape). Fits g.T.Clear.content g.T.Clear.room z c.release-reclaimed.new.hand.me.0 c.keep_if_reclaimed.new.state) (sym now.shape_is) now,
     )
 
 pub returns-clause-called : goal.returns-clause-called

@@ -1,7 +1,7 @@
-use Rattle.std.proofs.Common.{◌≡◌}
+use Rattle.std.proofs.Common.{◌≡◌, ◌-◌, ◌^◌}
 use Rattle.slotcell.specs.Share.{shares_below}
 use Rattle.slotcell.proofs.whole.Whole.split.Given as goal
 
--- the shares so far are of one cell, and the rest has the others
+-- the shares so far are of one cell, and the portion has what the others are to have
 abbrev pub invariant-loop : goal.invariant-loop
-invariant-loop g l = (l.rest ≡ record l.initial.rest { number = l.counter; of = l.fn.n; object = l.fn.self }) × (l.shares.items ≡ shares_below l.initial.rest.cell l.fn.n l.fn.self l.counter)
+invariant-loop g l = (l.portion ≡ record l.initial.portion { parts = 2 ^ 63 - l.counter; number = l.counter }) × (l.shares.items ≡ shares_below l.initial.portion.cell l.fn.n l.fn.self l.counter)
