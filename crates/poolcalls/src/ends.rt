@@ -74,6 +74,7 @@ pub(crate) fn finish_if_owed<T: Clear + Drop>(
     }
 }
 
+/// What the last that left a marked place does. Away from the calls' own paths: few calls come here.
 #[cold]
 #[inline(never)]
 fn finish_owed<T: Clear + Drop>(

@@ -107,6 +107,7 @@ pub(crate) fn keep_if_reclaimed<T: Drop>(
     }
 }
 
+/// Keeps what was reclaimed, as `keep_if_reclaimed` does, away from the calls' own paths.
 #[cold]
 #[inline(never)]
 fn keep_apart<T: Drop>(state: &mut LaneState<T>, spot: Spot, reclaimed: Option<Reclaimed<T>>)

@@ -31,11 +31,6 @@ module _ {T : Type 0} (cell n : ℕ) (x : T) where
   shares_below-some zero = All-nil IsSome
   shares_below-some (suc k) = All-push IsSome (shares_below cell n x k) (Some (share_of cell n x k)) (shares_below-some k) refl
 
-  -- they are of the cell
-  pub shares_below-cell : (k : ℕ) → All (λ o. IfSome o (λ s. s.cell ≡ cell)) (shares_below cell n x k)
-  shares_below-cell zero = All-nil (λ o. IfSome o (λ s. s.cell ≡ cell))
-  shares_below-cell (suc k) = All-push (λ o. IfSome o (λ s. s.cell ≡ cell)) (shares_below cell n x k) (Some (share_of cell n x k)) (shares_below-cell k) refl
-
   pub map-label-shares_below : (k : ℕ) → map label (shares_below cell n x k) ≡ labels_below cell n k
   map-label-shares_below zero = refl
   map-label-shares_below (suc k) = map-append label (shares_below cell n x k) (Some (share_of cell n x k) ∷ []) ∙ ap (λ ls. ls ++ Some (cell, (n, k)) ∷ []) (map-label-shares_below k)

@@ -43,12 +43,6 @@ use Rattle.shardpool.proofs.references.Rows.{row-none}
 abbrev pub first_row : {T : Type 0} → HeldKey T
 first_row = record { generation = 0; count = 0; share = None }
 
--- 0 is no key
-no-key : (z : Shape) (key : ℕ) → key ≡ 0 → is_key z key ≡ true → ⊥
-no-key z key none is =
-    let first = (key_parts z key is).first in
-    let generation : generation_of key ≡ 0 = ap generation_of none in omega (arith, first, generation)
-
 -- an entry of a list of one thing over and over is that thing
 entry-is : {A : Type 0} → (n at : ℕ) (a entry : A) → slice_get (replicate n a) at ≡ Some entry → entry ≡ a
 entry-is n at a entry is =
