@@ -60,6 +60,7 @@ impl<T: Clear + Drop> Pool<T> {
     /// The places come from the lane's own list, first in first out; then from the taken chain; then from the places that other
     /// lanes returned, which are taken from the first stack by rising lane that has some; then from the next page. It takes memory only to
     /// open a page, and none where the lane has a free place.
+    #[inline(always)]
     pub fn create(&self, lane: &mut Lane<T>) -> Result<Filling<T>, CreateFault>
         requires owns { Owns self.now lane.old }
         ensures owns { Owns self.now lane.new }
@@ -79,6 +80,27 @@ impl<T: Clear + Drop> Pool<T> {
         if let Some((spot, object)) = pop(lane) {
             return Ok(self.fill(lane, spot, object));
         }
+        self.create_apart(lane)
+    }
+
+    /// A create where the lane's own list is empty. Apart, so that the short way of a create stands where it is called.
+    #[cold]
+    #[inline(never)]
+    fn create_apart(&self, lane: &mut Lane<T>) -> Result<Filling<T>, CreateFault>
+        requires owns { Owns self.now lane.old }
+        requires own { lane.old.free.own ≡ [] }
+        ensures owns { Owns self.now lane.new }
+        ensures gives { IfOk result (Gives T.content T.room lane.old lane.new) }
+        ensures none { IsErr result → GivesNone lane.old lane.new }
+        ensures full { IsErrOf result Full → lane.old.pages.opened ≡ lane.old.shape.pages }
+        ensures memory { IsErrOf result Memory → lane.old.pages.opened < lane.old.shape.pages }
+        ensures succeeds { IsSome lane.old.free.chain → IsOk result }
+        ensures refs { refs lane.new ≡ refs lane.old }
+        ensures held { (key : ℕ) → holds lane.new key ≡ holds lane.old key }
+        ensures fillings { (filling : FillingOf T) → Made lane.old filling → Made lane.new filling }
+    {
+        // A proof knows the invariant of a lane once a field of it is seen.
+        let _ = &lane.state;
         self.take_returned(lane);
         if let Some((spot, object)) = self.follow(lane) {
             return Ok(self.fill(lane, spot, object));

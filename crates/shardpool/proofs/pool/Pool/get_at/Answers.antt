@@ -272,6 +272,21 @@ returns-clause-found g c some = found-since _ _ _ _ (returns-clause-gets g c (c.
 pub returns-clause-seen : goal.returns-clause-seen
 returns-clause-seen g c = seen-of (returns-clause-gets g c (c.in_ok-spot.ensures.some.0 refl)).3.goes
 
+pub returns-in_err-spot-clause-owns : goal.returns-in_err-spot-clause-owns
+returns-in_err-spot-clause-owns g c = c.requires.owns
+
+pub returns-in_err-spot-clause-same : goal.returns-in_err-spot-clause-same
+returns-in_err-spot-clause-same g c = (refl, refl, refl, refl)
+
+pub returns-in_err-spot-clause-outside : goal.returns-in_err-spot-clause-outside
+returns-in_err-spot-clause-outside g c = λ outside. rw c.from_residual.ensures (refl, refl)
+
+pub returns-in_err-spot-clause-no_more : goal.returns-in_err-spot-clause-no_more
+returns-in_err-spot-clause-no_more g c = λ none k. refl
+
+pub returns-in_err-spot-clause-fillings : goal.returns-in_err-spot-clause-fillings
+returns-in_err-spot-clause-fillings g c = λ filling made. made
+
 pub returns-in_err-spot-clause-missed : goal.returns-in_err-spot-clause-missed
 returns-in_err-spot-clause-missed g c none =
     missed-outside c.args.self.now.shape c.args.lane.now c.args.key (rw (← c.lane.view_is) c.lane.invariant.1.seat.legal) c.requires.owns.1 (λ is. cc (c.in_err-spot.ensures.some.1 is))

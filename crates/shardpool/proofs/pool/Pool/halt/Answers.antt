@@ -1,5 +1,6 @@
 -- Each call over the hand is that of the lane.
 use Rattle.std.proofs.Common.{ℕ, sym, ap, ◌∙◌, subst}
+use Rattle.keybits.specs.declared.shape.Shape.{Shape}
 use Rattle.steplaws.specs.Calls.{Call}
 use Rattle.steplaws.specs.Calls.Call.{Releasing}
 use Rattle.poolcalls.specs.Halted.{CalledWithin}
@@ -7,6 +8,7 @@ use Rattle.shardpool.specs.declared.halt.LastCall.{LastCall}
 use Rattle.shardpool.specs.declared.halt.LastCall.TheVariants.{Get, Clear, Release, Create}
 use Rattle.shardpool.specs.Creates.{creating}
 use Rattle.shardpool.specs.Halts.{HaltedOf, HaltsIn}
+use Rattle.shardpool.specs.LaneStates.{Fits}
 use Rattle.shardpool.proofs.calls.Halts.{halts-by}
 use Rattle.shardpool.proofs.pool.Pool.halt.Goals.{in-Get, in-Clear, in-Release, in-Create}
 use Rattle.shardpool.proofs.pool.Pool.halt.Goals as goal
@@ -53,3 +55,43 @@ returns-clause-halts g c =
           (halts-by shape before (ap (λ h. h.me.0) w.hand-is) Create (λ none. absurd none)
           (subst (λ (call : Call). CalledWithin z call limit c.lane.inside.hand.me w.halt_create.new.hand.me) (ap creating c.lane.view_is) w.halt_create.ensures.called))
     ]
+
+-- ---- the hand and the state are the lane's
+
+pub halt_get-requires-clause-parts : goal.halt_get-requires-clause-parts
+halt_get-requires-clause-parts g c =
+    record {
+      table = ap (λ l. l.table) c.lane.view_is ∙ c.requires.owns.0;
+      directory = ap (λ l. l.directory) c.lane.view_is ∙ c.requires.owns.2;
+      bare = c.lane.invariant.0;
+      fits = subst (λ (z : Shape). Fits g.T.Clear.content g.T.Clear.room z c.lane.inside.hand.me.0 c.lane.inside.state) (ap (λ l. l.shape) c.lane.view_is ∙ c.requires.owns.1) c.lane.invariant.1;
+    }
+
+pub halt_clear-requires : goal.halt_clear-requires
+halt_clear-requires g c = record {
+  parts = record {
+    table = ap (λ l. l.table) c.lane.view_is ∙ c.requires.owns.0;
+    directory = ap (λ l. l.directory) c.lane.view_is ∙ c.requires.owns.2;
+    bare = c.lane.invariant.0;
+    fits = subst (λ (z : Shape). Fits g.T.Clear.content g.T.Clear.room z c.lane.inside.hand.me.0 c.lane.inside.state) (ap (λ l. l.shape) c.lane.view_is ∙ c.requires.owns.1) c.lane.invariant.1;
+  };
+}
+
+pub halt_release-requires-clause-parts : goal.halt_release-requires-clause-parts
+halt_release-requires-clause-parts g c =
+    record {
+      table = ap (λ l. l.table) c.lane.view_is ∙ c.requires.owns.0;
+      directory = ap (λ l. l.directory) c.lane.view_is ∙ c.requires.owns.2;
+      bare = c.lane.invariant.0;
+      fits = subst (λ (z : Shape). Fits g.T.Clear.content g.T.Clear.room z c.lane.inside.hand.me.0 c.lane.inside.state) (ap (λ l. l.shape) c.lane.view_is ∙ c.requires.owns.1) c.lane.invariant.1;
+    }
+
+pub halt_create-requires : goal.halt_create-requires
+halt_create-requires g c = record {
+  parts = record {
+    table = ap (λ l. l.table) c.lane.view_is ∙ c.requires.owns.0;
+    directory = ap (λ l. l.directory) c.lane.view_is ∙ c.requires.owns.2;
+    bare = c.lane.invariant.0;
+    fits = subst (λ (z : Shape). Fits g.T.Clear.content g.T.Clear.room z c.lane.inside.hand.me.0 c.lane.inside.state) (ap (λ l. l.shape) c.lane.view_is ∙ c.requires.owns.1) c.lane.invariant.1;
+  };
+}
