@@ -1,17 +1,18 @@
 -- What the calls that take a closure leave of a lane.
-use Rattle.std.proofs.Common.{◌≡◌, ◌==◌, ℕ, ◌+◌, ◌-◌, Bool, true, false, cond, List, [], ◌∷◌, Some, sym, ap, ◌∙◌, subst, arith}
+use Rattle.std.proofs.Common.{◌≡◌, ◌==◌, ℕ, ◌+◌, ◌-◌, ◌≤◌, Bool, true, false, cond, List, [], ◌∷◌, Some, sym, ap, ◌∙◌, subst, arith}
 use Rattle.std.specs.Fn.{FnOnceReturnsAtMut, Once}
 use Rattle.std.specs.Borrow.{MutBor}
 use Rattle.keybits.specs.Keys.{place_of}
+use Rattle.seqpool.specs.declared.act.Act.{Act}
 use Rattle.seqpool.specs.declared.act.Act.TheVariants as acts
 use Rattle.sharelaws.specs.Shares.{room_of}
 use Rattle.shardpool.specs.Tokens.{PoolOf, LaneOf, FillingOf, RefOf}
-use Rattle.shardpool.specs.Lanes.{Owns, Did, Gets}
+use Rattle.shardpool.specs.Lanes.{Owns, Did, Gets, holds}
 use Rattle.shardpool.specs.Creates.{Gives}
 use Rattle.shardpool.specs.Seen.{PublishedSince}
 use Rattle.shardpool.proofs.frame.Standing.{seen-of, published-earlier}
 use Rattle.shardpool.proofs.references.Holdings.{got-held}
-use Rattle.guards.specs.Guarded.{CreatesWith, MayRelease, MayPublish}
+use Rattle.guards.specs.Guarded.{CreatesWith, Uses, MayRelease, MayPublish}
 
 -- ---- references
 
@@ -23,6 +24,18 @@ back false h m is = is
 pub given-back : (key of other before between now : ℕ) → of ≡ key → between ≡ cond (key == other) (before + 1) before → now ≡ cond (of == other) (between - 1) between → now ≡ before
 given-back key of other before between now is more less =
     less ∙ (ap (λ (k : ℕ). cond (k == other) (between - 1) between) is ∙ back (key == other) before between more)
+
+-- a get that found the key, and a release of its reference
+pub uses : (key : ℕ) (old between new : LaneOf) (reference : RefOf) → Gets key old between (Some reference) → between.number ≡ old.number
+    → (rest : List Act) → Did (acts.Release between.number reference.key ∷ rest) between new → Uses key old new
+uses key old between new reference gets is rest did = record {
+  between = between;
+  reference = reference;
+  gets = gets;
+  rest = rest;
+  releases = subst (λ (k : ℕ). Did (acts.Release old.number k ∷ rest) between new) gets.0
+      (subst (λ (n : ℕ). Did (acts.Release n reference.key ∷ rest) between new) is did);
+}
 
 -- ---- creates
 
@@ -47,12 +60,16 @@ module _ {T : Type 0} {content : T → List ℕ} {room : T → ℕ} {old between
 
 -- ---- guards: what holds of the parts holds of a guard that has them
 
+pub guard-holds : {lane now : LaneOf} {pool now_pool : PoolOf} {reference now_reference : RefOf} → now ≡ lane → now_pool ≡ pool → now_reference ≡ reference
+    → Owns pool lane → 1 ≤ holds lane reference.key → MayRelease now_pool now now_reference
+guard-holds {lane} {now} {pool} {now_pool} {reference} {now_reference} lanes pools is owns held =
+    subst (λ (p : PoolOf). MayRelease p now now_reference) (sym pools)
+    (subst (λ (l : LaneOf). MayRelease pool l now_reference) (sym lanes)
+    (subst (λ (r : RefOf). MayRelease pool lane r) (sym is) (owns, held)))
+
 module _ {old lane now : LaneOf} {pool now_pool : PoolOf} (lanes : now ≡ lane) (pools : now_pool ≡ pool) (owns : Owns pool lane) where
   pub guard-may : (key : ℕ) (reference now_reference : RefOf) → now_reference ≡ reference → Gets key old lane (Some reference) → MayRelease now_pool now now_reference
-  guard-may key reference now_reference is gets =
-      subst (λ (p : PoolOf). MayRelease p now now_reference) (sym pools)
-      (subst (λ (l : LaneOf). MayRelease pool l now_reference) (sym lanes)
-      (subst (λ (r : RefOf). MayRelease pool lane r) (sym is) (owns, got-held key old lane reference gets)))
+  guard-may key reference now_reference is gets = guard-holds lanes pools is owns (got-held key old lane reference gets)
 
   pub guard-gets : (key : ℕ) (reference now_reference : RefOf) → now_reference ≡ reference → Gets key old lane (Some reference) → Gets key old now (Some now_reference)
   guard-gets key reference now_reference is gets =

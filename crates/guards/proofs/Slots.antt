@@ -1,20 +1,19 @@
 -- Lanes in slots, by their numbers.
-use Rattle.std.proofs.Common.{◌≡◌, ℕ, suc, ◌+◌, ◌<◌, true, false, List, [], ◌∷◌, ◌++◌, length, map, slice_get, Option, Some, None, is_some, IfSome, unwrap_or, option_map, refl, sym, ap, ◌∙◌, subst, ⊎_elim, arith, length-append}
-use Rattle.std.specs.Prelude.{slice_index_or, slice_set}
-use Rattle.std.proofs.lemmas.List.{length-map, length-set, get_or_read, get_or-set_same, get_or-set_other}
+use Rattle.std.proofs.Common.{◌≡◌, ℕ, suc, ◌+◌, ◌<◌, ◌≤◌, true, false, List, [], ◌∷◌, ◌++◌, length, map, slice_get, Option, Some, None, is_some, IfSome, unwrap_or, option_map, refl, sym, ap, ◌∙◌, subst, ⊎_elim, arith, length-append}
+use Rattle.std.specs.Prelude.{slice_index_or, slice_set, Result, Ok, Err, IfOk}
+use Rattle.std.specs.Result.{result_ok}
+use Rattle.std.proofs.lemmas.List.{length-map, length-set, get_or_past, get_or_read, get_or-set_same, get_or-set_other}
 use Rattle.std.proofs.lemmas.Option.{slice_get_cases, slice_get-map, unwrap_or-slice_get}
 use mathlib.Core.Logic.{dite}
 use native.Mathlib.Decide.{ℕ_discrete}
 use Rattle.poolsteps.specs.declared.view.View.{View}
 use Rattle.poolsteps.specs.Views.{the_lane}
-use Rattle.atomic_table.specs.Seated.{TableId}
-use Rattle.keybits.specs.declared.shape.Shape.{Shape}
 use Rattle.shardpool.specs.Tokens.{PoolOf, LaneOf}
 use Rattle.shardpool.specs.Lanes.{Owns, refs}
 use Rattle.shardpool.specs.Opened.{AreFirstLanes}
 use Rattle.shardpool.specs.Places.{held_after}
 use Rattle.shardpool.specs.Closings.{AreLanes}
-use Rattle.guards.specs.Here.{LanesOf, lane_at, AreSlots, AreFirstHere, HoldNothing, AreHereBelow, IsFirstMissing}
+use Rattle.guards.specs.Here.{LanesOf, lane_at, AreSlots, AreFirstHere, HoldNothing, SameOthers, AreHereBelow, IsFirstMissing}
 
 -- ---- lists
 
@@ -37,6 +36,11 @@ all-some (slot ∷ more) here =
     let rest = all-some more (λ n low. here (suc n) (omega (arith, low))) in
     let one = first.1 in
     let all = rest.1 in (first.0 ∷ rest.0, cc (one, all))
+
+-- what holds of a value that was made holds of it where `ok` and `?` took it out
+pub ok-holds : {A E : Type 0} (made : Result A E) (P : A → Type 0) (x : A) → IfOk made P → Some x ≡ result_ok made → P x
+ok-holds (Ok y) P x holds is = let same : y ≡ x = cc is in subst P same holds
+ok-holds (Err e) P x holds is = absurd (cc is)
 
 some-of : {A : Type 0} (slot : Option A) → is_some slot ≡ true → (x : A) × (slot ≡ Some x)
 some-of None is = absurd (cc is)
@@ -110,6 +114,39 @@ module _ (lanes : LanesOf) (number : ℕ) (slot : Option LaneOf) (lane : LaneOf)
         (λ same. subst (λ (l : LaneOf). refs l ≡ 0) (same-lane other found at same) none)
         (λ differs. nothing.each other found (sym (get_or-set_other lanes.slots number other slot None differs) ∙ at));
   }
+
+-- ---- a lane that is taken out
+
+-- past the slots there is none
+pub past-slots : (lanes : LanesOf) (number : ℕ) → length lanes.slots ≤ number → lane_at lanes number ≡ None
+past-slots lanes number high = get_or_past lanes.slots number None high
+
+module _ (lanes : LanesOf) (number : ℕ) (slot : Option LaneOf) (low : number < length lanes.slots) (none : slot ≡ None) where
+  pub taken-gone : slice_index_or (slice_set lanes.slots number slot) number None ≡ None
+  taken-gone = get_or-set_same lanes.slots number slot None low ∙ none
+
+  stayed : (other : ℕ) (found : LaneOf) → slice_index_or (slice_set lanes.slots number slot) other None ≡ Some found → lane_at lanes other ≡ Some found
+  stayed other found at = dite (ℕ_discrete other number)
+      (λ same. let here = ap (λ (n : ℕ). slice_index_or (slice_set lanes.slots number slot) n None) (sym same) ∙ at in let gone = taken-gone in absurd (cc (here, gone)))
+      (λ differs. sym (get_or-set_other lanes.slots number other slot None differs) ∙ at)
+
+  pub taken-slots : AreSlots lanes → AreSlots (record { pool = lanes.pool; slots = slice_set lanes.slots number slot })
+  taken-slots are = record {
+    count = length-set lanes.slots number slot ∙ are.count;
+    each = λ other found at. are.each other found (stayed other found at);
+  }
+
+  pub taken-nothing : HoldNothing lanes → HoldNothing (record { pool = lanes.pool; slots = slice_set lanes.slots number slot })
+  taken-nothing nothing = record { each = λ other found at. nothing.each other found (stayed other found at) }
+
+-- a slot that is written leaves the others
+pub same-others : (lanes : LanesOf) (number : ℕ) (slot : Option LaneOf) → SameOthers number lanes (record { pool = lanes.pool; slots = slice_set lanes.slots number slot })
+same-others lanes number slot = record { pool = refl; others = λ other differs. get_or-set_other lanes.slots number other slot None differs }
+
+-- what was found here has no reference, where none has
+pub found-nothing : (lanes : LanesOf) (number : ℕ) → HoldNothing lanes → (found : Option LaneOf) → found ≡ lane_at lanes number → IfSome found (λ lane. refs lane ≡ 0)
+found-nothing lanes number nothing None is = tt
+found-nothing lanes number nothing (Some lane) is = nothing.each number lane (sym is)
 
 -- ---- all lanes
 

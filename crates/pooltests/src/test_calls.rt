@@ -140,6 +140,21 @@ pub(crate) fn close_two<T: Clear + Drop, R: Abort>(
     close_all(rt, pool, lanes)
 }
 
+/// A filling of a pool that gives one.
+fn create_again<T: Clear + Drop, R: Abort>(rt: &R, pool: &Pool<T>, lane: &mut Lane<T>) -> Filling<T>
+    requires { Owns pool.now lane.old }
+    ensures owns { Owns pool.now lane.new }
+    ensures refs { refs lane.new ≡ refs lane.old }
+    ensures held { (key : ℕ) → holds lane.new key ≡ holds lane.old key }
+    ensures made { Made lane.new result }
+    ensures fillings { (filling : FillingOf T) → Made lane.old filling → Made lane.new filling }
+{
+    let Ok(filling) = pool.create(lane) else {
+        panic!(rt; "no filling")
+    };
+    filling
+}
+
 /// A filling. Where the memory of a page is refused, the page stays unopened, and the call is made again.
 pub(crate) fn create<T: Clear + Drop, R: Abort>(
     rt: &R,
@@ -158,7 +173,7 @@ pub(crate) fn create<T: Clear + Drop, R: Abort>(
         Err(fault) => {
             same(rt, &fault, &CreateFault::Memory);
             same(rt, &fault.number(), &22);
-            pool.create(lane).ok().expect(rt, "a filling")
+            create_again(rt, pool, lane)
         }
     }
 }

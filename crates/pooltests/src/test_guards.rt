@@ -1,7 +1,7 @@
 ghost use Rattle.std.specs.Prelude.{◌≡◌};
 ghost use Rattle.shardpool.specs.Lanes.{Owns, refs};
 
-use crate::test_calls::{open_last, same, shape_of};
+use crate::test_calls::{clear, open_last, same, shape_of};
 use guards::{FillGuard, ReadGuard, create_with, with};
 use shardpool::{CreateFault, Lane, Pool};
 use slotcell::{ByteBuf, Record};
@@ -17,7 +17,9 @@ fn filled(
     ensures { Owns pool.now lane.new × (refs lane.new ≡ refs lane.old) }
 {
     let mut guard = FillGuard::new(lane, pool)?;
-    let number = number.ok_or(CreateFault::Memory)?;
+    let Some(number) = number else {
+        return Err(CreateFault::Memory);
+    };
     guard.value_mut().push(number);
     Ok(guard.key())
 }
@@ -93,21 +95,33 @@ fn downgrade_guard<R: Abort>(rt: &R, pool: &Pool<Record>, lane: &mut Lane<Record
     same(rt, &guard.value().as_slice().len(), &0);
 }
 
+/// A guard that is dropped in the middle publishes an empty record.
+fn end_in_the_middle<R: Abort>(rt: &R, pool: &Pool<Record>, lane: &mut Lane<Record>)
+    requires { Owns pool.now lane.old × (refs lane.old ≡ 0) }
+    ensures { Owns pool.now lane.new × (refs lane.new ≡ 0) }
+{
+    same(rt, &filled(pool, lane, None), &Err(CreateFault::Memory));
+    same(rt, &numbers_of(pool, lane, 16777216), &Some(0));
+    same(rt, &first_of(pool, lane, 16777216), &None);
+    clear(rt, pool, lane, 16777216, true);
+}
+
+/// A guard that gets a number publishes it.
+fn end_with_a_number<R: Abort>(rt: &R, pool: &Pool<Record>, lane: &mut Lane<Record>)
+    requires { Owns pool.now lane.old × (refs lane.old ≡ 0) }
+    ensures { Owns pool.now lane.new × (refs lane.new ≡ 0) }
+{
+    same(rt, &filled(pool, lane, Some(7)), &Ok(33554432));
+    same(rt, &first_of(pool, lane, 33554432), &Some(7));
+    same(rt, &first_of(pool, lane, 16777216), &None);
+    same(rt, &lane.refs(), &0);
+    clear(rt, pool, lane, 33554432, true);
+}
+
 #[test]
 fn guards_end_by_themselves(rt: HostRuntime) {
     let (pool, mut lane) = open_last(&rt, rt.alloc(), shape_of(1, 1, 1));
-    same(
-        &rt,
-        &filled(&pool, &mut lane, None),
-        &Err(CreateFault::Memory),
-    );
-    same(&rt, &numbers_of(&pool, &mut lane, 16777216), &Some(0));
-    same(&rt, &first_of(&pool, &mut lane, 16777216), &None);
-    assert!(rt; pool.clear(&mut lane, 16777216));
-    same(&rt, &filled(&pool, &mut lane, Some(7)), &Ok(33554432));
-    same(&rt, &first_of(&pool, &mut lane, 33554432), &Some(7));
-    same(&rt, &first_of(&pool, &mut lane, 16777216), &None);
-    same(&rt, &lane.refs(), &0);
-    assert!(rt; pool.clear(&mut lane, 33554432));
+    end_in_the_middle(&rt, &pool, &mut lane);
+    end_with_a_number(&rt, &pool, &mut lane);
     downgrade_guard(&rt, &pool, &mut lane);
 }

@@ -50,6 +50,20 @@ fn finds<R: Abort>(rt: &R, pool: &Pool<ByteBuf>, lane: &mut Lane<ByteBuf>, key: 
     }
 }
 
+/// Lane 0 finds no key, and clears none. The key that it then creates.
+fn create_after_miss<R: Abort>(
+    rt: &R,
+    pool: &Pool<ByteBuf>,
+    lane: &mut Lane<ByteBuf>,
+    key: u64,
+) -> u64
+    requires { Owns pool.now lane.old }
+{
+    assert!(rt; !finds(rt, pool, lane, key));
+    clear(rt, pool, lane, key, false);
+    created_key(rt, pool, lane)
+}
+
 /// Lane 1 stops in a get of a key that lane 0 has cleared, and lane 0 gives its last reference to the key back. The key that it then creates.
 fn create_after_get<R: Abort>(
     rt: &R,
@@ -66,9 +80,7 @@ fn create_after_get<R: Abort>(
     clear(rt, pool, first, 16777216, true);
     pool.halt(second, LastCall::Get(16777216), limit).leave();
     pool.release(first, reference);
-    assert!(rt; !finds(rt, pool, first, 16777216));
-    clear(rt, pool, first, 16777216, false);
-    created_key(rt, pool, first)
+    create_after_miss(rt, pool, first, 16777216)
 }
 
 /// Lane 1 stops in a clear of a key to which lane 0 refers. Whether lane 0 then finds the key.

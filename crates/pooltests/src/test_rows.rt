@@ -137,16 +137,30 @@ enum Calls {
     CreateWhatWasReturned,
 }
 
+/// These calls of two lanes with a place each.
+fn call_in_turn<R: Abort>(
+    rt: &R,
+    pool: &Pool<ByteBuf>,
+    first: &mut Lane<ByteBuf>,
+    second: &mut Lane<ByteBuf>,
+    calls: Calls,
+)
+    requires first { Owns pool.now first.old × (refs first.old < 1000) }
+    requires second { Owns pool.now second.old × (refs second.old < 1000) }
+{
+    match calls {
+        Calls::ReadOnAfterAClear => clear_under_two(rt, pool, first, second),
+        Calls::PublishAReturnedPlace => return_and_publish(rt, pool, first, second),
+        Calls::ReadWhatAnotherCleared => clear_of_a_held_key(rt, pool, first, second),
+        Calls::FindAKeyHeardOf => hear_and_get(rt, pool, first, second),
+        Calls::CreateWhatWasReturned => hear_and_create(rt, pool, first, second),
+    }
+}
+
 /// Two lanes of a pool with a place each make these calls.
 fn call<R: Abort>(rt: &R, alloc: Global, calls: Calls) {
     let (pool, mut first, mut second) = open_pair(rt, alloc, shape_of(2, 1, 1));
-    match calls {
-        Calls::ReadOnAfterAClear => clear_under_two(rt, &pool, &mut first, &mut second),
-        Calls::PublishAReturnedPlace => return_and_publish(rt, &pool, &mut first, &mut second),
-        Calls::ReadWhatAnotherCleared => clear_of_a_held_key(rt, &pool, &mut first, &mut second),
-        Calls::FindAKeyHeardOf => hear_and_get(rt, &pool, &mut first, &mut second),
-        Calls::CreateWhatWasReturned => hear_and_create(rt, &pool, &mut first, &mut second),
-    }
+    call_in_turn(rt, &pool, &mut first, &mut second, calls);
 }
 
 #[test]
@@ -196,21 +210,31 @@ fn fill_all<R: Abort>(rt: &R, pool: &Pool<ByteBuf>, lane: &mut Lane<ByteBuf>, ke
     finds_full(rt, pool, lane);
 }
 
+/// The keys of some places of a lane of the largest shape, by their numbers.
+fn keys_of(shard: u64) -> [(u32, u64); 6]
+    requires { shard ≤ 983040 }
+{
+    [
+        (1, shard + 16777216),
+        (64, shard + 16777279),
+        (65, shard + 16781312),
+        (192, shard + 16781439),
+        (193, shard + 16785408),
+        (4032, shard + 16799743),
+    ]
+}
+
+/// All places of the last of so many lanes are filled.
+fn fill_last<R: Abort>(rt: &R, alloc: Global, lanes: u32, keys: &[(u32, u64)]) {
+    let (pool, mut lane) = open_last(rt, alloc, shape_of(lanes, 64, 6));
+    fill_all(rt, &pool, &mut lane, keys);
+}
+
 #[test]
 fn fills_all_places_of_a_lane(rt: HostRuntime) {
     // Those of lane 0, and of lane 15.
-    for (lanes, shard) in [(1, 0), (16, 983040)] {
-        let (pool, mut lane) = open_last(&rt, rt.alloc(), shape_of(lanes, 64, 6));
-        let keys = [
-            (1, shard + 16777216),
-            (64, shard + 16777279),
-            (65, shard + 16781312),
-            (192, shard + 16781439),
-            (193, shard + 16785408),
-            (4032, shard + 16799743),
-        ];
-        fill_all(&rt, &pool, &mut lane, &keys);
-    }
+    fill_last(&rt, rt.alloc(), 1, &keys_of(0));
+    fill_last(&rt, rt.alloc(), 16, &keys_of(983040));
 }
 
 /// The object of a filling is emptied.
@@ -349,10 +373,14 @@ fn call_each<T: Clear + Drop, R: Abort>(
     leave_each(rt, pool, first, second);
 }
 
+/// Each call is made of a pool of its own, whose objects are of this type.
+fn call_each_of_a_pool<T: Clear + Drop, R: Abort>(rt: &R, alloc: Global) {
+    let (pool, mut first, mut second) = open_pair::<T, _>(rt, alloc, shape_of(2, 1, 1));
+    call_each(rt, &pool, &mut first, &mut second);
+}
+
 #[test]
 fn calls_pools_of_buffers_and_of_records(rt: HostRuntime) {
-    let (pool, mut first, mut second) = open_pair::<ByteBuf, _>(&rt, rt.alloc(), shape_of(2, 1, 1));
-    call_each(&rt, &pool, &mut first, &mut second);
-    let (pool, mut first, mut second) = open_pair::<Record, _>(&rt, rt.alloc(), shape_of(2, 1, 1));
-    call_each(&rt, &pool, &mut first, &mut second);
+    call_each_of_a_pool::<ByteBuf, _>(&rt, rt.alloc());
+    call_each_of_a_pool::<Record, _>(&rt, rt.alloc());
 }

@@ -9,8 +9,9 @@ use crate::messages::{Subject, Told};
 use crate::tracers::Tracer;
 use anyhow::anyhow;
 use crossbeam_channel::{Receiver, Sender, bounded};
-use guards::Opened;
-use shardpool::Lane;
+use guards::{Lanes, Opened};
+use shardpool::{Lane, Pool};
+use slotcell::Clear;
 use std::alloc::Global;
 use std::sync::Wait;
 use std::thread;
@@ -126,22 +127,120 @@ fn close_each<S: Subject, T: Counted + Drop, R: Wait>(
     (tracer.into_lane(), well)
 }
 
+/// The channels: from the first lane to the second, and from that to the third.
+#[derive(Drop)]
+struct Channels<S: Subject, T: Clear> {
+    to_second: Sender<Told<S, T>, Global>,
+    from_first: Receiver<Told<S, T>, Global>,
+    to_third: Sender<Told<S, T>, Global>,
+    from_second: Receiver<Told<S, T>, Global>,
+}
+
+/// Opens the channels.
+///
+/// # Errors
+///
+/// Where memory was refused for one of them.
+fn open_channels<S: Subject, T: Counted + Drop>(alloc: Global) -> anyhow::Result<Channels<S, T>> {
+    let (to_second, from_first) = bounded(alloc, 1)?;
+    let (to_third, from_second) = bounded(alloc, 1)?;
+    Ok(Channels {
+        to_second,
+        from_first,
+        to_third,
+        from_second,
+    })
+}
+
+/// Takes a lane out. Answers its tracer, or None where the lane isn't here.
+fn take_tracer<'p, S: Subject, T: Counted + Drop>(
+    pool: &'p Pool<T>,
+    lanes: &mut Lanes<T>,
+    number: u32,
+) -> Option<Tracer<'p, S, T>>
+    requires pool { pool.now ≡ S.pool }
+    requires of { lanes.old.pool ≡ S.pool }
+    requires nothing { HoldNothing lanes.old }
+    ensures pool { lanes.new.pool ≡ lanes.old.pool }
+    ensures nothing { HoldNothing lanes.new }
+{
+    let lane = lanes.take(number)?;
+    Some(Tracer::new(pool, lane))
+}
+
+/// Takes three lanes out. Answers their tracers, or None where one of the lanes isn't here.
+fn take_tracers<'p, S: Subject, T: Counted + Drop>(
+    pool: &'p Pool<T>,
+    lanes: &mut Lanes<T>,
+) -> Option<(Tracer<'p, S, T>, (Tracer<'p, S, T>, Tracer<'p, S, T>))>
+    requires pool { pool.now ≡ S.pool }
+    requires of { lanes.old.pool ≡ S.pool }
+    requires nothing { HoldNothing lanes.old }
+    ensures { lanes.new.pool ≡ lanes.old.pool }
+{
+    let first = take_tracer(pool, lanes, 0);
+    let second = take_tracer(pool, lanes, 1);
+    let third = take_tracer(pool, lanes, 2);
+    first.zip(second.zip(third))
+}
+
+/// Gives back the lane of a thread that has ended. Answers whether all went well there.
+fn give_back<T: Counted + Drop>(lanes: &mut Lanes<T>, ended: (Lane<T>, bool)) -> bool
+    requires { Owns lanes.old.pool ended.0 }
+    ensures { lanes.new.pool ≡ lanes.old.pool }
+{
+    let (lane, well) = ended;
+    lanes.give(lane);
+    well
+}
+
 /// The second lane passes on what it hears, and the third closes it, each in a thread of its own.
 fn pass_and_close<S: Subject + Send, T: Counted + Drop + Send + Sync, R: Threads + Wait + Sync>(
     rt: &R,
     second: Tracer<'_, S, T>,
     third: Tracer<'_, S, T>,
-    from: Receiver<Told<S, T>, Global>,
-    between: (Sender<Told<S, T>, Global>, Receiver<Told<S, T>, Global>),
+    from_first: Receiver<Told<S, T>, Global>,
+    to_third: Sender<Told<S, T>, Global>,
+    from_second: Receiver<Told<S, T>, Global>,
 ) -> ((Lane<T>, bool), (Lane<T>, bool))
     ensures second { Owns S.pool result.0.0 }
     ensures third { Owns S.pool result.1.0 }
 {
-    let (to_third, from_second) = between;
     thread::join(
         rt,
-        || pass_each::<S, T, R>(rt, second, from, to_third),
+        || pass_each::<S, T, R>(rt, second, from_first, to_third),
         || close_each::<S, T, R>(rt, third, from_second),
+    )
+}
+
+/// The first lane opens spans, and the others pass them on and close them, each in a thread of its own.
+fn open_and_pass<
+    S: Subject + Send,
+    T: Counted + Drop + Send + Sync,
+    D: Details<T> + Sync,
+    R: Threads + Wait + Sync,
+>(
+    rt: &R,
+    tracers: (Tracer<'_, S, T>, (Tracer<'_, S, T>, Tracer<'_, S, T>)),
+    channels: Channels<S, T>,
+    details: &D,
+) -> ((Lane<T>, bool), ((Lane<T>, bool), (Lane<T>, bool)))
+    requires { D.content details.now ≡ S.content }
+    ensures first { Owns S.pool result.0.0 }
+    ensures second { Owns S.pool result.1.0.0 }
+    ensures third { Owns S.pool result.1.1.0 }
+{
+    let (first, (second, third)) = tracers;
+    let Channels {
+        to_second,
+        from_first,
+        to_third,
+        from_second,
+    } = channels;
+    thread::join(
+        rt,
+        || open_each::<S, T, D, R>(rt, first, details, to_second),
+        || pass_and_close::<S, T, R>(rt, second, third, from_first, to_third, from_second),
     )
 }
 
@@ -160,28 +259,14 @@ pub fn pass_on<
     requires content { D.content details.now ≡ S.content }
     requires nothing { HoldNothing opened.old.lanes }
 {
-    let (to_second, from_first) = bounded(alloc, 1)?;
-    let between = bounded(alloc, 1)?;
-    let lanes = &mut opened.lanes;
-    let (Some(first), Some(second), Some(third)) = (lanes.take(0), lanes.take(1), lanes.take(2))
-    else {
+    let channels = open_channels::<S, T>(alloc)?;
+    let Some(tracers) = take_tracers::<S, T>(&opened.pool, &mut opened.lanes) else {
         return Err(anyhow!("a lane isn't here"));
     };
-    let pool = &opened.pool;
-    let first = Tracer::<S, T>::new(pool, first);
-    let second = Tracer::<S, T>::new(pool, second);
-    let third = Tracer::<S, T>::new(pool, third);
-    let ((first, well_opened), ((second, passed), (third, closed))) = thread::join(
-        rt,
-        || open_each::<S, T, D, R>(rt, first, details, to_second),
-        || pass_and_close::<S, T, R>(rt, second, third, from_first, between),
-    );
-    opened.lanes.give(first);
-    opened.lanes.give(second);
-    opened.lanes.give(third);
+    let (first, (second, third)) = open_and_pass::<S, T, D, R>(rt, tracers, channels, details);
     Ok(Findings {
-        opened: well_opened,
-        passed,
-        closed,
+        opened: give_back(&mut opened.lanes, first),
+        passed: give_back(&mut opened.lanes, second),
+        closed: give_back(&mut opened.lanes, third),
     })
 }

@@ -1,4 +1,5 @@
-use Rattle.std.proofs.Common.{refl, sym, ap, ◌∙◌, subst}
+use Rattle.std.proofs.Common.{refl, sym, ap, ◌∙◌, subst, arith}
+use mathlib.Core.Bool.{true≢false}
 use mathlib.Core.Option.{some}
 use Rattle.shardpool.specs.Tokens.{LaneOf}
 use Rattle.shardpool.specs.Lanes.{Made, SameLane, refs}
@@ -29,4 +30,32 @@ returns g c =
         refs = ap refs of.0 ∙ got.refs;
         fillings = λ filling made. subst (λ (lane : LaneOf). Made lane filling) (sym of.0) (got.fillings filling made);
       },
+    )
+
+pub get-requires-clause-owns : goal.get-requires-clause-owns
+get-requires-clause-owns g c = c.requires.owns
+
+pub get-requires-clause-room : goal.get-requires-clause-room
+get-requires-clause-room g c = c.requires.room
+
+pub returns-in_err-reference : goal.returns-in_err-reference
+returns-in_err-reference g c =
+    let got = c.in_err-reference.ensures in
+    let same_refs = got.refs in
+    rw c.from_residual.ensures (
+      (
+        refl,
+        λ w. tt,
+        record {
+          owns = got.owns;
+          outside = λ out. (got.outside out).1;
+          gets = got.gets;
+          same = got.same;
+          missed = got.missed refl;
+          seen = got.seen;
+          refs_are = omega (arith, same_refs);
+          fillings = got.fillings;
+        },
+      ),
+      record { misses = tt; same_reference = tt; pool = tt; may = tt; inside = λ some. absurd (true≢false (sym some)); gets = tt; found = tt; same = tt; refs = tt; fillings = tt },
     )
