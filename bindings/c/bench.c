@@ -2,7 +2,8 @@
  *
  * bench CASE THREADS ROUNDS, where CASE is
  *   get-many  a get of one of 16 own keys in turn, a read of the length, a release
- *   cycle     a create, an append of 64 bytes, a publish and a clear
+ *   cycle     a put of 64 bytes and a clear
+ *   calls     the same with a create, an append and a publish in place of the put
  *
  * Prints one number, so that the work is done. */
 #include "pardz.h"
@@ -35,6 +36,12 @@ static void must(uint32_t code) {
 
 static uint64_t put(pardz_lane *lane) {
     uint64_t key;
+    must(pardz_put(lane, BYTES, sizeof BYTES, &key));
+    return key;
+}
+
+static uint64_t put_by_calls(pardz_lane *lane) {
+    uint64_t key;
     must(pardz_create(lane, &key));
     must(pardz_append(lane, key, BYTES, sizeof BYTES));
     must(pardz_publish(lane, key));
@@ -65,15 +72,26 @@ static void *cycle(void *at) {
     return NULL;
 }
 
+static void *calls(void *at) {
+    struct seat *seat = at;
+    for (long round = 0; round < seat->rounds; round++) {
+        must(pardz_clear(&seat->lane, put_by_calls(&seat->lane)));
+        seat->count++;
+    }
+    return NULL;
+}
+
 int main(int argc, char **argv) {
     void *(*work)(void *) = NULL;
     if (argc == 4 && strcmp(argv[1], "get-many") == 0)
         work = get_many;
     if (argc == 4 && strcmp(argv[1], "cycle") == 0)
         work = cycle;
+    if (argc == 4 && strcmp(argv[1], "calls") == 0)
+        work = calls;
     long threads = argc == 4 ? atol(argv[2]) : 0;
     if (work == NULL || threads < 1 || threads > MOST_THREADS) {
-        fprintf(stderr, "words: get-many or cycle, a number of threads up to 16, and a number of rounds\n");
+        fprintf(stderr, "words: get-many, cycle or calls, a number of threads up to 16, and a number of rounds\n");
         return 1;
     }
     const pardz_shape shape = { (uint32_t)threads, 32, 1, UINT32_MAX, 0 };

@@ -118,6 +118,11 @@ uint32_t pardz_publish(pardz_lane *lane, uint64_t key);
  * PARDZ_EMPTY_LANE, PARDZ_NO_FILLING, PARDZ_REFERENCES. */
 uint32_t pardz_downgrade(pardz_lane *lane, uint64_t key);
 
+/* Publishes bytes in a place of their own, and answers the key: as a create, an append and a publish, and faster. It needs no filling
+ * to be free. Where memory is refused for the bytes, a place that was had is free again, under a new key.
+ * PARDZ_MEMORY, PARDZ_EMPTY_LANE, PARDZ_FULL. */
+uint32_t pardz_put(pardz_lane *lane, const uint8_t *bytes, size_t len, uint64_t *key);
+
 /* Gives a filling up. Its place is lost until the pool is closed.
  * PARDZ_EMPTY_LANE, PARDZ_NO_FILLING. */
 uint32_t pardz_leave(pardz_lane *lane, uint64_t key);

@@ -10,9 +10,8 @@ int main(void) {
         return 1;
 
     uint64_t key;                                            /* on the first thread */
-    if (pardz_create(&lanes[0], &key) != PARDZ_OK || pardz_append(&lanes[0], key, (const uint8_t *)"hello", 5) != PARDZ_OK)
-        return 1;
-    pardz_publish(&lanes[0], key);
+    if (pardz_put(&lanes[0], (const uint8_t *)"hello", 5, &key) != PARDZ_OK)
+        return 1;                                            /* (pardz_create, pardz_append and pardz_publish fill it bit by bit) */
 
     const uint8_t *at;                                       /* on the second one, which was told the key */
     size_t len;

@@ -9,12 +9,12 @@ _Static_assert(sizeof(pardz_lane) == 16, "as the library has it");
 _Static_assert(sizeof(pardz_shape) == 20, "as the library has it");
 _Static_assert(sizeof(pardz_census) == 24, "as the library has it");
 
-enum call { OPEN, CREATE, APPEND, ROOM, WROTE, PUBLISH, DOWNGRADE, LEAVE, GET, READ, RELEASE, CLEAR, JOIN, CLOSE, CALLS };
+enum call { OPEN, CREATE, APPEND, ROOM, WROTE, PUBLISH, DOWNGRADE, LEAVE, PUT, GET, READ, RELEASE, CLEAR, JOIN, CLOSE, CALLS };
 
 #define CODES 15
 #define BIT(code) (1u << PARDZ_##code)
 
-static const char *const NAMES[CALLS] = { "open", "create", "append", "room", "wrote", "publish", "downgrade", "leave", "get", "read",
+static const char *const NAMES[CALLS] = { "open", "create", "append", "room", "wrote", "publish", "downgrade", "leave", "put", "get", "read",
                                           "release", "clear", "join", "close" };
 
 /* The codes that each call can answer, as pardz.h has them. */
@@ -27,6 +27,7 @@ static const uint32_t ALL[CALLS] = {
     [PUBLISH] = BIT(OK) | BIT(EMPTY_LANE) | BIT(NO_FILLING),
     [DOWNGRADE] = BIT(OK) | BIT(EMPTY_LANE) | BIT(NO_FILLING) | BIT(REFERENCES),
     [LEAVE] = BIT(OK) | BIT(EMPTY_LANE) | BIT(NO_FILLING),
+    [PUT] = BIT(OK) | BIT(MEMORY) | BIT(EMPTY_LANE) | BIT(FULL),
     [GET] = BIT(OK) | BIT(EMPTY_LANE) | BIT(GONE) | BIT(REFERENCES),
     [READ] = BIT(OK) | BIT(EMPTY_LANE) | BIT(NO_REFERENCE),
     [RELEASE] = BIT(OK) | BIT(EMPTY_LANE) | BIT(NO_REFERENCE),
@@ -101,6 +102,7 @@ static void empty_lanes(pardz_lane *empty, pardz_lane *full) {
     EXPECT(PUBLISH, EMPTY_LANE, pardz_publish(empty, 1));
     EXPECT(DOWNGRADE, EMPTY_LANE, pardz_downgrade(empty, 1));
     EXPECT(LEAVE, EMPTY_LANE, pardz_leave(empty, 1));
+    EXPECT(PUT, EMPTY_LANE, pardz_put(empty, NULL, 0, &key));
     EXPECT(GET, EMPTY_LANE, pardz_get(empty, 1, &at, &len));
     EXPECT(READ, EMPTY_LANE, pardz_read(empty, 1, &at, &len));
     EXPECT(RELEASE, EMPTY_LANE, pardz_release(empty, 1));
@@ -199,6 +201,29 @@ static void from_a_reference(pardz_lane *lane) {
     EXPECT(CLEAR, OK, pardz_clear(lane, second));
 }
 
+/* What is put is read under its key, by any lane; bytes of a reference can be put too. */
+static void puts_bytes(pardz_lane *a, pardz_lane *b) {
+    uint64_t keys[3] = { 0, 0, 0 };
+    const uint8_t *at = NULL;
+    size_t len = 99;
+    EXPECT(PUT, OK, pardz_put(a, (const uint8_t *)"twice", 5, &keys[0]));
+    EXPECT(GET, OK, pardz_get(b, keys[0], &at, &len));
+    CHECK(len == 5 && memcmp(at, "twice", 5) == 0);
+    EXPECT(PUT, OK, pardz_put(b, at, len, &keys[1]));
+    EXPECT(RELEASE, OK, pardz_release(b, keys[0]));
+    EXPECT(GET, OK, pardz_get(a, keys[1], &at, &len));
+    CHECK(len == 5 && memcmp(at, "twice", 5) == 0);
+    EXPECT(RELEASE, OK, pardz_release(a, keys[1]));
+    EXPECT(PUT, OK, pardz_put(a, NULL, 0, &keys[2]));
+    EXPECT(GET, OK, pardz_get(b, keys[2], &at, &len));
+    CHECK(len == 0);
+    EXPECT(RELEASE, OK, pardz_release(b, keys[2]));
+    for (int i = 0; i < 3; i++) {
+        EXPECT(PUBLISH, NO_FILLING, pardz_publish(i == 1 ? b : a, keys[i]));
+        EXPECT(CLEAR, OK, pardz_clear(b, keys[i]));
+    }
+}
+
 /* As many fillings, places and references as there can be, and one more. */
 static void limits(void) {
     const pardz_shape shape = { 2, 8, 2, UINT32_MAX, 0 };
@@ -215,6 +240,7 @@ static void limits(void) {
     for (int i = 16; i < 24; i++)
         EXPECT(CREATE, OK, pardz_create(&lanes[0], &keys[i]));
     EXPECT(CREATE, FULL, pardz_create(&lanes[0], &key));
+    EXPECT(PUT, FULL, pardz_put(&lanes[0], NULL, 0, &key));
     CHECK(key == 99);
     for (long i = 0; i < 1048575; i++)
         CHECK(pardz_get(&lanes[0], keys[i % 16], &at, &len) == PARDZ_OK);
@@ -232,7 +258,7 @@ static void limits(void) {
     CHECK(census.present == 16 && census.filling == 8 && census.marked == 1 && census.free == 7 && census.unopened == 16);
 }
 
-/* Memory is refused to a create, an append and a room; each goes on afterwards. */
+/* Memory is refused to a create, an append, a room and a put; each goes on afterwards. */
 static void memory(void) {
     pardz_lane lanes[2] = { PARDZ_EMPTY, PARDZ_EMPTY };
     uint64_t key = 99;
@@ -250,9 +276,18 @@ static void memory(void) {
     heap_begin(0, 0);
     EXPECT(APPEND, OK, pardz_append(&lanes[0], key, bytes, sizeof bytes));
     EXPECT(PUBLISH, OK, pardz_publish(&lanes[0], key));
+    /* The page's other place is had, and given back; then a page is wanted. */
+    uint64_t other = 99;
+    heap_begin(1, 1000);
+    EXPECT(PUT, MEMORY, pardz_put(&lanes[0], bytes, sizeof bytes, &other));
+    EXPECT(PUT, MEMORY, pardz_put(&lanes[1], bytes, 1, &other));
+    CHECK(other == 99);
+    heap_begin(0, 0);
+    EXPECT(PUT, OK, pardz_put(&lanes[0], bytes, sizeof bytes, &other));
+    CHECK(other >> 24 == (key >> 24) + 1);
     pardz_census census;
     close_two(lanes, &census);
-    CHECK(census.present == 1);
+    CHECK(census.present == 2 && census.filling == 0 && census.unopened == 10);
 }
 
 /* The order of joins, and two pools of one shape and tag. */
@@ -321,6 +356,7 @@ int main(void) {
     for (int i = 0; i < 20; i++)
         life(&lanes[i % 2], &lanes[(i + 1) % 2]);
     from_a_reference(&lanes[0]);
+    puts_bytes(&lanes[0], &lanes[1]);
     pardz_census census;
     close_two(lanes, &census);
     CHECK(census.present + census.marked + census.filling + census.retired == 0);

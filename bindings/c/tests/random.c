@@ -138,17 +138,12 @@ static uint32_t count(int shard, enum state state) {
     return found;
 }
 
-static void create(int lane) {
-    uint64_t key = 0;
-    uint32_t code = pardz_create(&lanes[lane], &key);
+/* The place of a key that a create or a put of this lane answered with a code. None where the lane had no place. */
+static struct place *had(int lane, uint32_t code, uint64_t key) {
     int is_free = count(lane, FREE) != 0;
-    if (fillings[lane] == 16) {
-        told(code, PARDZ_FILLINGS);
-        return;
-    }
     if (!is_free && opened[lane] == shard_places) {
         told(code, PARDZ_FULL);
-        return;
+        return NULL;
     }
     told(code, PARDZ_OK);
     if (!is_free) {
@@ -161,10 +156,38 @@ static void create(int lane) {
     }
     struct place *place = find(key);
     CHECK(place != NULL && place->state == FREE && place >= places[lane] && place < places[lane] + MOST_PLACES);
-    place->state = FILLING;
     place->lent = 0;
-    fillings[lane]++;
     old_keys[draw(OLD_KEYS)] = key;
+    return place;
+}
+
+static void create(int lane) {
+    uint64_t key = 0;
+    uint32_t code = pardz_create(&lanes[lane], &key);
+    if (fillings[lane] == 16) {
+        told(code, PARDZ_FILLINGS);
+        return;
+    }
+    struct place *place = had(lane, code, key);
+    if (place == NULL)
+        return;
+    place->state = FILLING;
+    fillings[lane]++;
+}
+
+static void put(int lane) {
+    uint64_t key = 0;
+    uint8_t bytes[24];
+    size_t len = (size_t)draw(sizeof bytes + 1);
+    for (size_t i = 0; i < len; i++)
+        bytes[i] = (uint8_t)draw(256);
+    uint32_t code = pardz_put(&lanes[lane], len != 0 ? bytes : NULL, len, &key);
+    struct place *place = had(lane, code, key);
+    if (place == NULL)
+        return;
+    memcpy(place->bytes, bytes, len);
+    place->len = len;
+    place->state = PRESENT;
 }
 
 static void append(int lane, uint64_t key) {
@@ -288,7 +311,7 @@ static void clear(int lane, uint64_t key) {
 
 static void call(void) {
     int lane = (int)draw(2);
-    switch (draw(13)) {
+    switch (draw(14)) {
     case 0: create(lane); break;
     case 1: append(lane, some_key(is_filling, lane)); break;
     case 2: room(lane, some_key(is_filling, lane)); break;
@@ -298,6 +321,7 @@ static void call(void) {
     case 6: case 7: get(lane, some_key(is_present, lane)); break;
     case 8: read(lane, some_key(is_held, lane)); break;
     case 9: case 10: case 11: release(lane, some_key(is_held, lane)); break;
+    case 12: put(lane); break;
     default: clear(lane, some_key(is_present, lane)); break;
     }
 }

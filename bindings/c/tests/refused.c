@@ -1,5 +1,5 @@
 /* Each request for memory refused in turn, alone and with all that follow it: a code, nothing else changed, no leak, and the pool
- * goes on. Only open, create, append and room make requests. */
+ * goes on. Only open, create, append, room and put make requests. */
 #include "../pardz.h"
 #include "check.h"
 #include "counting_heap.h"
@@ -21,11 +21,15 @@ static long codes;
         CHECK(code == PARDZ_OK);            \
     } while (0)
 
-/* Fills and publishes one buffer of this length, half by an append and half by a room. */
+/* Fills and publishes one buffer of this length, at once, or half by an append and half by a room. */
 static uint64_t put(pardz_lane *lane, size_t len) {
     uint8_t bytes[512], *to = NULL;
     uint64_t key = 0;
     memset(bytes, (int)len, sizeof bytes);
+    if (len % 40 == 10) {
+        AGAIN(pardz_put(lane, bytes, len, &key));
+        return key;
+    }
     AGAIN(pardz_create(lane, &key));
     AGAIN(pardz_append(lane, key, bytes, len / 2));
     AGAIN(pardz_room(lane, key, len - len / 2, &to));

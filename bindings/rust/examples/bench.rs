@@ -2,9 +2,9 @@
 //!
 //!     bench CASE THREADS ROUNDS
 //!
-//! The cases: `get-many`, a get of one of 16 own keys in turn, a read of the length, a drop; `cycle`, a create, an append of 64
-//! bytes, a publish and a clear; `object-get-many` and `object-cycle`, the same with objects that are vectors. Prints one number,
-//! so that the work is done.
+//! The cases: `get-many`, a get of one of 16 own keys in turn, a read of the length, a drop; `cycle`, a put of 64 bytes and a
+//! clear; `calls`, the same with a create, an append and a publish in place of the put; `object-get-many` and `object-cycle`, a
+//! get and a cycle with objects that are vectors. Prints one number, so that the work is done.
 use pardz::{typed, Key, Pool, Shape};
 use std::process::ExitCode;
 use std::{array, env, thread};
@@ -17,6 +17,10 @@ const MANY: usize = 16;
 type Objects = typed::Pool<Vec<u8>>;
 
 fn put(lane: &pardz::Lane) -> Key {
+    lane.put(&BYTES).expect("a free place")
+}
+
+fn put_by_calls(lane: &pardz::Lane) -> Key {
     let mut filling = lane.create().expect("a free place");
     filling.append(&BYTES).expect("memory");
     filling.publish()
@@ -37,6 +41,10 @@ fn get_many(lane: &pardz::Lane, rounds: usize) -> usize {
 
 fn cycle(lane: &pardz::Lane, rounds: usize) -> usize {
     (0..rounds).filter(|_| lane.clear(put(lane))).count()
+}
+
+fn calls(lane: &pardz::Lane, rounds: usize) -> usize {
+    (0..rounds).filter(|_| lane.clear(put_by_calls(lane))).count()
 }
 
 fn object_get_many(lane: &typed::Lane<Vec<u8>>, rounds: usize) -> usize {
@@ -87,6 +95,7 @@ fn run() -> Option<usize> {
     match case.as_str() {
         "get-many" => Some(on_threads(lanes(), |lane| get_many(lane, rounds))),
         "cycle" => Some(on_threads(lanes(), |lane| cycle(lane, rounds))),
+        "calls" => Some(on_threads(lanes(), |lane| calls(lane, rounds))),
         "object-get-many" => Some(on_threads(object_lanes(), |lane| {
             object_get_many(lane, rounds)
         })),

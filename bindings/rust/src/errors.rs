@@ -22,6 +22,15 @@ pub enum CreateError {
     Memory,
 }
 
+/// Why bytes aren't put into a pool.
+#[derive(Clone, Copy, Debug, PartialEq, Eq)]
+pub enum PutError {
+    /// No place of the lane is free.
+    Full,
+    /// Memory was refused.
+    Memory,
+}
+
 /// Memory was refused. What was to grow is as it was.
 #[derive(Clone, Copy, Debug, PartialEq, Eq)]
 pub struct MemoryRefused;
@@ -45,6 +54,15 @@ impl fmt::Display for CreateError {
     }
 }
 
+impl fmt::Display for PutError {
+    fn fmt(&self, f: &mut fmt::Formatter<'_>) -> fmt::Result {
+        f.write_str(match self {
+            PutError::Full => "no place of the lane is free",
+            PutError::Memory => "memory was refused",
+        })
+    }
+}
+
 impl fmt::Display for MemoryRefused {
     fn fmt(&self, f: &mut fmt::Formatter<'_>) -> fmt::Result {
         f.write_str("memory was refused")
@@ -53,6 +71,7 @@ impl fmt::Display for MemoryRefused {
 
 impl Error for OpenError {}
 impl Error for CreateError {}
+impl Error for PutError {}
 impl Error for MemoryRefused {}
 
 impl From<MemoryRefused> for io::Error {

@@ -37,6 +37,7 @@ extern "C" {
     pub(crate) fn pardz_wrote(lane: *mut Slot, key: u64, count: usize) -> u32;
     pub(crate) fn pardz_publish(lane: *mut Slot, key: u64) -> u32;
     pub(crate) fn pardz_downgrade(lane: *mut Slot, key: u64) -> u32;
+    pub(crate) fn pardz_put(lane: *mut Slot, bytes: *const u8, len: usize, key: *mut u64) -> u32;
     pub(crate) fn pardz_get(lane: *mut Slot, key: u64, at: *mut *const u8, len: *mut usize) -> u32;
     pub(crate) fn pardz_read(lane: *mut Slot, key: u64, at: *mut *const u8, len: *mut usize)
         -> u32;

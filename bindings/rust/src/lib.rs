@@ -51,6 +51,6 @@ mod pool;
 pub mod typed;
 
 pub use buffers::{Filling, Ref};
-pub use errors::{CreateError, MemoryRefused, OpenError};
+pub use errors::{CreateError, MemoryRefused, OpenError, PutError};
 pub use key::Key;
 pub use pool::{Census, Lane, Pool, Shape};

@@ -1,6 +1,6 @@
 //! Pools and their lanes.
 use crate::buffers::{Filling, Ref};
-use crate::errors::{CreateError, OpenError};
+use crate::errors::{CreateError, OpenError, PutError};
 use crate::ffi::{self, Slot};
 use crate::key::Key;
 use std::cell::UnsafeCell;
@@ -312,6 +312,35 @@ impl Lane<'_> {
             ffi::FULL => Err(CreateError::Full),
             ffi::FILLINGS => Err(CreateError::Fillings),
             code => ffi::unexpected("create", code),
+        }
+    }
+
+    /// Publishes bytes, which are copied into a buffer of the pool: as a create, an append and a publish, and faster.
+    ///
+    /// # Errors
+    ///
+    /// [`PutError::Full`] where no place of the lane is free, [`PutError::Memory`] where memory was refused. Nothing is then
+    /// published, and no place is lost.
+    ///
+    /// ```
+    /// # use pardz::{OpenError, Pool, PutError, Shape};
+    /// let pool = Pool::open(Shape { lanes: 1, first_page: 1, pages: 1, ..Shape::default() })?;
+    /// let lane = pool.lane().expect("a lane");
+    /// let key = lane.put(b"short").expect("one place");
+    /// assert_eq!(&lane.get(key).expect("published")[..], b"short");
+    /// assert_eq!(lane.put(b"more").err(), Some(PutError::Full));
+    /// # Ok::<(), OpenError>(())
+    /// ```
+    #[inline]
+    pub fn put(&self, bytes: &[u8]) -> Result<Key, PutError> {
+        let mut key = 0;
+        // SAFETY: as in `create`; pointer and length are of one slice, which is of no filling, since a read of one ends what was
+        // lent of it.
+        match unsafe { ffi::pardz_put(self.slot(), bytes.as_ptr(), bytes.len(), &mut key) } {
+            ffi::OK => Ok(Key::from(key)),
+            ffi::MEMORY => Err(PutError::Memory),
+            ffi::FULL => Err(PutError::Full),
+            code => ffi::unexpected("put", code),
         }
     }
 

@@ -8,7 +8,7 @@ use Rattle.poolhandle.specs.declared.refusal.Refusal.{Refusal}
 use Rattle.poolhandle.specs.declared.handle.Handle.{Handle}
 use Rattle.poolhandle.specs.declared.refusal.Refusal.TheVariants.{NoReference}
 use Rattle.shardpool.specs.Lanes.{holds}
-use Rattle.poolhandle.specs.Calls.{lane_of, pool_of, Creates, Got, NotGot, AreLent, Joins, JoinsNot, ClosesNot}
+use Rattle.poolhandle.specs.Calls.{lane_of, pool_of, Creates, Puts, Got, NotGot, AreLent, Joins, JoinsNot, ClosesNot}
 use Rattle.shardpool.specs.Tokens.{LaneOf}
 use Rattle.shardpool.specs.declared.census.Census.{Census}
 use Rattle.shardpool.specs.Closings.{Closes}
@@ -45,6 +45,10 @@ Calls {A} R old new code = (HasNoLane old × (code ≡ 2) × (new ≡ old))
 -- a create, whose key was written
 abbrev pub CreatesKey : ℕ → Handle → Handle → Result ℕ Refusal → Type 0
 CreatesKey key before after answer = Creates before after answer × IfOk answer (λ made. key ≡ made)
+
+-- a put, whose key was written
+abbrev pub PutsKey : List ℕ → ℕ → Handle → Handle → Result ℕ Refusal → Type 0
+PutsKey bytes key before after answer = Puts bytes before after answer × IfOk answer (λ made. key ≡ made)
 
 -- a get, with as many bytes lent as were written to be
 abbrev pub Lends : ℕ → ℕ → Handle → Handle → Result (List ℕ) Refusal → Type 0

@@ -5,7 +5,7 @@
 
 ghost use Rattle.std.specs.Prelude.{◌≡◌};
 ghost use Rattle.poolhandle.specs.Calls.{Appends, Rooms, Wrote, Publishes, Downgrades, Leaves, Releases, Clears};
-ghost use Rattle.poolffi.specs.Exports.{Calls, CreatesKey, Lends, Reads, JoinsSlots, ClosesSlot, AreCounts, Opens, shape_of};
+ghost use Rattle.poolffi.specs.Exports.{Calls, CreatesKey, PutsKey, Lends, Reads, JoinsSlots, ClosesSlot, AreCounts, Opens, shape_of};
 
 mod lanes;
 mod slots;
@@ -139,6 +139,23 @@ pub extern "C" fn pardz_downgrade(slot: &mut Slot, key: u64) -> u32
         return EMPTY_LANE;
     };
     code(handle.downgrade(key))
+}
+
+/// Publishes these bytes in a place of their own, and tells the key: a create, an append and a publish in one.
+#[unsafe(no_mangle)]
+pub extern "C" fn pardz_put(slot: &mut Slot, bytes: &[u8], key: &mut u64) -> u32
+    ensures { Calls (PutsKey bytes.now key.new) slot.old.items slot.new.items result }
+{
+    let Some(handle) = slot.lend() else {
+        return EMPTY_LANE;
+    };
+    match handle.put(bytes) {
+        Ok(published) => {
+            *key = published;
+            OK
+        }
+        Err(refusal) => code_of(refusal),
+    }
 }
 
 /// A reference more to a key, and where its bytes are: they may be read until the lane has given back all its references to it.

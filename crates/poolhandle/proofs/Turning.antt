@@ -71,6 +71,10 @@ pub made-taken : (lane : LaneOf) (old rest : List Kept) (kept : Kept) → IsPerm
 made-taken lane old rest kept same made =
     let P = λ (k : Kept). Made lane k.filling in All-tail P kept rest (All-permutation P old (kept ∷ rest) same made)
 
+-- what a lane made, after a call that keeps what was made
+pub made-on : (given old new : LaneOf) (places : List Kept) → given ≡ old → ((filling : FillingOf ByteBuf) → Made given filling → Made new filling) → AreMade old places → AreMade new places
+made-on given old new places same on made k d low = on (slice_index_or places k d).filling (subst (λ (lane : LaneOf). Made lane (slice_index_or places k d).filling) (sym same) (made k d low))
+
 pub by-answer : (P : Type 0) (answer : Bool) → (IsTrue answer → P) → (IsFalse answer → P) → P
 by-answer P true if_true if_false = if_true refl
 by-answer P false if_true if_false = if_false refl

@@ -41,13 +41,16 @@ abbrev pub Turns : ℕ → (List ℕ → List ℕ → List ℕ → List ℕ → 
 Turns key R before after = (content room content_now room_now : List ℕ) × Have key content room (filled before) × Have key content_now room_now (filled after)
     × R content room content_now room_now × (lane_of after ≡ lane_of before)
 
+-- no place was had, for this reason: all pages are opened and nothing is free, or memory was refused for a page
+abbrev pub CreatesNone : Handle → Handle → Refusal → Type 0
+CreatesNone before after refusal = ((refusal ≡ Full) × GivesNone (lane_of before) (lane_of after) × ((lane_of before).pages.opened ≡ (lane_of before).shape.pages))
+    ⊎ ((refusal ≡ Memory) × GivesNone (lane_of before) (lane_of after) × ((lane_of before).pages.opened < (lane_of before).shape.pages))
+
 -- a create: the answer is the key of a new filling, which is empty
 abbrev pub Creates : Handle → Handle → Result ℕ Refusal → Type 0
 Creates before after (Ok key) = (filling : FillingOf ByteBuf) × (filling.key ≡ key) × Gives (λ b. b.bytes) (λ b. b.room) (lane_of before) (lane_of after) filling
     × Have key [] [] (filled after)
-Creates before after (Err refusal) = ((refusal ≡ Fillings) × (16 ≤ length (filled before)) × (after ≡ before))
-    ⊎ (((refusal ≡ Full) × GivesNone (lane_of before) (lane_of after) × ((lane_of before).pages.opened ≡ (lane_of before).shape.pages))
-    ⊎ ((refusal ≡ Memory) × GivesNone (lane_of before) (lane_of after) × ((lane_of before).pages.opened < (lane_of before).shape.pages)))
+Creates before after (Err refusal) = ((refusal ≡ Fillings) × (16 ≤ length (filled before)) × (after ≡ before)) ⊎ CreatesNone before after refusal
 
 -- an append: these bytes stand behind the content; or memory was refused of which there was need, and the content is as before
 abbrev pub Appends : ℕ → List ℕ → Handle → Handle → Result (Unit {0}) Refusal → Type 0
@@ -87,6 +90,20 @@ Downgrades key before after (Err refusal) = ((refusal ≡ NoFilling) × HasNone 
 abbrev pub Leaves : ℕ → Handle → Handle → Result (Unit {0}) Refusal → Type 0
 Leaves key before after (Ok done) = (lane_of after ≡ lane_of before) × ((content room : List ℕ) × Have key content room (filled before)) × HaveNot key (filled after)
 Leaves key before after (Err refusal) = (refusal ≡ NoFilling) × HasNone key before after
+
+-- a filling was published with this content and cleared, so that its place can be had again: its key is found no more
+abbrev pub GivesUp : ℕ → List ℕ → LaneOf → LaneOf → Type 0
+GivesUp key content before after = (middle : LaneOf) × Did (acts.Publish before.number key content false ∷ []) before middle
+    × (ClearedSince key middle after ⊎ MissedSince key middle after)
+
+-- a create, an append and a publish in one: the answer is the key under which these bytes are published; or no place was had; or memory was refused for
+-- the bytes, of which there was need, and the place was given up
+abbrev pub Puts : List ℕ → Handle → Handle → Result ℕ Refusal → Type 0
+Puts bytes before after (Ok key) = (middle : LaneOf) × ((filling : FillingOf ByteBuf) × (filling.key ≡ key) × Gives (λ b. b.bytes) (λ b. b.room) (lane_of before) middle filling)
+    × Did (acts.Publish middle.number key bytes false ∷ []) middle (lane_of after) × (filled after ≡ filled before)
+Puts bytes before after (Err refusal) = CreatesNone before after refusal ⊎ ((refusal ≡ Memory)
+    × ((middle : LaneOf) × (filling : FillingOf ByteBuf) × Gives (λ b. b.bytes) (λ b. b.room) (lane_of before) middle filling
+    × (filling.object.room < length bytes) × GivesUp filling.key [] middle (lane_of after)) × (filled after ≡ filled before))
 
 -- a get: one reference more; else the key wasn't found, or the lane has as many references as it can
 abbrev pub Got : ℕ → Handle → Handle → Type 0

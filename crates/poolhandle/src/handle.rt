@@ -8,7 +8,7 @@ use crate::fillings::Fillings;
 use crate::kept::Kept;
 use crate::refusal::Refusal;
 use crate::shared::Shared;
-use shardpool::{CreateFault, Lane};
+use shardpool::{CreateFault, Filling, Lane};
 use slotcell::ByteBuf;
 use std::sync::Arc;
 
@@ -36,7 +36,9 @@ impl Handle {
     ghost use Rattle.poolsteps.specs.Layout.{slot_start};
     ghost use Rattle.shardpool.specs.Lanes.{holds};
     ghost use Rattle.poolhandle.specs.declared.refusal.Refusal.TheVariants.{NoReference};
-    ghost use Rattle.poolhandle.specs.Calls.{lane_of, filled, Creates, Appends, Rooms, Wrote, Publishes, Downgrades, Leaves, Got, NotGot, AreLent, Releases, Clears};
+    ghost use Rattle.poolhandle.specs.Calls.{lane_of, filled, Creates, Appends, Rooms, Wrote, Publishes, Downgrades, Leaves, Puts, GivesUp, Got, NotGot, AreLent, Releases, Clears};
+    ghost use Rattle.shardpool.specs.Lanes.{Made};
+    ghost use Rattle.poolhandle.specs.Filled.{HaveNot};
 
     /// Takes a place to be filled. Answers the key under which it will be published.
     pub fn create(&mut self) -> Result<u64, Refusal>
@@ -136,6 +138,37 @@ impl Handle {
         };
         self.fillings.take(index).into_content().leave();
         Ok(())
+    }
+
+    /// Publishes these bytes in a place of their own: a create, an append and a publish in one. Answers the key. Where memory is refused, nothing
+    /// stays published, and the lane fills no place more than before.
+    pub fn put(&mut self, bytes: &[u8]) -> Result<u64, Refusal>
+        ensures { Puts bytes.now self.old self.new result }
+    {
+        match self.shared.pool.create(&mut self.lane) {
+            Ok(mut filling) => match filling.value_mut().append(bytes) {
+                Ok(()) => Ok(self.shared.pool.publish(&mut self.lane, filling)),
+                Err(_refused) => {
+                    self.give_up(filling);
+                    Err(Refusal::Memory)
+                }
+            },
+            Err(CreateFault::Full) => Err(Refusal::Full),
+            Err(CreateFault::Memory) => Err(Refusal::Memory),
+        }
+    }
+
+    /// Gives a place back to which its bytes couldn't be appended: it is published as it is, and cleared.
+    #[cold]
+    #[inline(never)]
+    fn give_up(&mut self, filling: Filling<ByteBuf>)
+        requires made { Made (lane_of self.old) filling }
+        requires apart { HaveNot filling.key (filled self.old) }
+        ensures gives_up { GivesUp filling.key filling.object.bytes (lane_of self.old) (lane_of self.new) }
+        ensures others { filled self.new ≡ filled self.old }
+    {
+        let key = self.shared.pool.publish(&mut self.lane, filling);
+        self.shared.pool.clear(&mut self.lane, key);
     }
 
     /// A reference more to a key, where it is published and not cleared. Answers where `bytes_at` finds its bytes.

@@ -1,9 +1,9 @@
 -- Each lane that a pool is opened with has a handle.
-use Rattle.std.proofs.Common.{rules, refl, ◌<◌, ◌≤◌, ◌≡◌, ◌+◌, List, [], ◌∷◌, ◌++◌, length, sym, ap, ◌∙◌, subst, arith, Box, Global}
+use Rattle.std.proofs.Common.{rules, refl, ◌≡◌, ◌+◌, List, [], ◌∷◌, ◌++◌, length, sym, ap, ◌∙◌, subst, arith, Box, Global}
 use Rattle.std.proofs.lemmas.List.{nil_from_length, length_push}
 use Rattle.std.specs.Vec.Iter.{into_iter_items}
 use Rattle.std.specs.Arc.{arc_value}
-use Rattle.shardpool.specs.Tokens.{PoolOf, LaneOf}
+use Rattle.shardpool.specs.Tokens.{LaneOf}
 use Rattle.shardpool.specs.Lanes.{Owns}
 use Rattle.shardpool.specs.Opened.{AreFirstLanes}
 use Rattle.poolhandle.specs.declared.handle.Handle.{Handle}

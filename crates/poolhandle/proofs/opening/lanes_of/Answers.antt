@@ -1,5 +1,5 @@
 -- The lane of each handle is the pool's.
-use Rattle.std.proofs.Common.{rules, ◌≡◌, [], ◌∷◌, ◌++◌, All, List, sym, ◌∙◌, subst, ap, Box, Global}
+use Rattle.std.proofs.Common.{rules, ◌≡◌, [], ◌∷◌, ◌++◌, All, sym, ◌∙◌, subst, ap, Box, Global}
 use Rattle.std.proofs.lemmas.List.Elements.{All-head, All-tail, All-push}
 use Rattle.std.specs.Vec.Iter.{into_iter_items}
 use Rattle.std.specs.Arc.{arc_value}

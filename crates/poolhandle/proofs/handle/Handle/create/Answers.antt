@@ -7,7 +7,7 @@ use Rattle.shardpool.specs.Lanes.{Made}
 use Rattle.shardpool.specs.Creates.{Gives}
 use Rattle.poolhandle.specs.declared.kept.Kept.{Kept}
 use Rattle.poolhandle.specs.Filled.{AreMade}
-use Rattle.poolhandle.proofs.Turning.{all-content, no-room}
+use Rattle.poolhandle.proofs.Turning.{all-content, no-room, made-on}
 use Rattle.poolhandle.proofs.handle.Handle.create.Goals as goal
 
 pub invariant_of-self-in-Ok : goal.invariant_of-self-in-Ok
@@ -19,6 +19,14 @@ invariant_of-self-in-Ok c =
     record {
       owned = (did.owns.0 ∙ search rules, did.owns.1 ∙ search rules, did.owns.2 ∙ search rules);
       made = subst (AreMade lane) (sym c.keep.ensures) (All-push P old kept (λ k d low. did.fillings (slice_index_or old k d).filling (was k d low)) own);
+      empty = before.empty;
+    }
+
+pub invariant_of-self-in-Err-1 : goal.invariant_of-self-in-Err-1
+invariant_of-self-in-Err-1 c =
+    let before = c.args.self.now in let did = c.create.ensures in record {
+      owned = (did.owns.0 ∙ search rules, did.owns.1 ∙ search rules, did.owns.2 ∙ search rules);
+      made = made-on c.deref_mut.result.now before.lane.value c.create.new.lane before.fillings.list.items c.deref_mut.ensures.value did.fillings before.made;
       empty = before.empty;
     }
 
