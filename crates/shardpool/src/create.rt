@@ -83,9 +83,8 @@ impl<T: Clear + Drop> Pool<T> {
         self.create_apart(lane)
     }
 
-    /// A create where the lane's own list is empty. Apart, so that the short way of a create stands where it is called.
-    #[cold]
-    #[inline(never)]
+    /// A create where the lane's own list is empty. Apart, so that the short way of a create stands where it is called; where that is one place
+    /// alone, the compiler may put this there too.
     fn create_apart(&self, lane: &mut Lane<T>) -> Result<Filling<T>, CreateFault>
         requires owns { Owns self.now lane.old }
         requires own { lane.old.free.own ≡ [] }
