@@ -133,27 +133,47 @@ fn part_of<T: Clear + Drop>(
     requires hand { hand.me ≡ (first_book number, []) }
     ensures { IfSome result (λ part. (part.hand ≡ hand) × IsFirstState shape.now directory.ptr number part.state) }
 {
+    let row = HandRow::new(alloc)?;
+    let state = first_state(alloc, shape, number, directory)?;
+    Some(Unendowed { hand, state, row })
+}
+
+/// What the lane of this number keeps before it has a right to a place. None where memory was refused.
+fn first_state<T: Clear + Drop>(
+    alloc: Global,
+    shape: &Shape,
+    number: u32,
+    directory: Base<Box<T, Global>>,
+) -> Option<LaneState<T>>
+    requires shape { IsShape shape.now }
+    requires number { number < shape.now.lanes }
+    ensures { IfSome result (λ state. IsFirstState shape.now directory.ptr number state) }
+{
     let shard = number as u8;
-    let state = LaneState {
+    // (What is dropped with least ado comes first: each way out behind it drops it.)
+    let last_pushed = vec![in alloc; 0; shape.lanes as usize].ok()?;
+    let free = LocalFree::new(alloc, shard, shape.first_page, shape.pages)?;
+    let places = Places::of(alloc, shape)?;
+    let rows = first_rows(alloc, slot_row(shape))?;
+    let objects = Objects::new(
+        alloc,
+        directory,
+        shape.shard_places() as usize,
+        shard_start(shape, number),
+        slot_row(shape),
+    )?;
+    Some(LaneState {
         shape: *shape,
         number,
         references: 0,
-        rows: first_rows(alloc, slot_row(shape))?,
-        last_pushed: vec![in alloc; 0; shape.lanes as usize].ok()?,
-        free: LocalFree::new(alloc, shard, shape.first_page, shape.pages)?,
+        rows,
+        last_pushed,
+        free,
         pages: Pages::new(shard, shape.first_page, shape.pages),
-        objects: Objects::new(
-            alloc,
-            directory,
-            shape.shard_places() as usize,
-            shard_start(shape, number),
-            slot_row(shape),
-        )?,
-        places: Places::of(alloc, shape)?,
+        objects,
+        places,
         alloc,
-    };
-    let row = HandRow::new(alloc)?;
-    Some(Unendowed { hand, state, row })
+    })
 }
 
 /// So many rows, each without a reference. None where memory was refused.

@@ -22,7 +22,7 @@ use Rattle.poolsteps.specs.Views.{the_lane}
 use Rattle.poolsteps.proofs.ViewLemmas.{prefix-self}
 use Rattle.shardpool.specs.Tokens.{PoolOf, LaneOf, FillingOf, RefOf}
 use Rattle.shardpool.specs.Lanes.{Owns, IsFilling, Made, SameLane, Calls, Did, Gets, holds, refs}
-use Rattle.shardpool.specs.Creates.{Gives}
+use Rattle.shardpool.specs.Creates.{Gives, GivesNone}
 use Rattle.shardpool.proofs.references.Holdings.{gives-refs}
 use Rattle.workers.specs.declared.registers.Register.{Register}
 use Rattle.workers.specs.declared.registers.Held.{Held}
@@ -117,6 +117,18 @@ module _ {pool : PoolOf} {old new : LaneOf} {rs : List Register} (register : Num
     runs-create key now key_is now_is =
         subst (λ (x : List Register). Runs pool (desk old rs) (Create register) (replies.Filling key) (desk new x)) (sym now_is)
         (subst (λ (k : ℕ). Runs pool (desk old rs) (Create register) (replies.Filling k) (desk new (with_new rs register.number k (Filling filling)))) (sym key_is) created)
+
+  -- a create that gave none
+  pub runs-uncreated : ((filling : FillingOf ByteBuf) → Made old filling → Made new filling) → is_empty (register_at rs register.number).held ≡ true → GivesNone old new
+      → refs new ≡ refs old → (reply : Reply)
+      → ((reply ≡ replies.Full) × (old.pages.opened ≡ old.shape.pages)) ⊎ ((reply ≡ replies.Memory) × (old.pages.opened < old.shape.pages))
+      → Runs pool (desk old rs) (Create register) reply (desk new rs)
+  runs-uncreated fillings is none refs_same reply why = record {
+    line = where-empty (register_at rs register.number).held _ _ is (inr (none, refl, why));
+    tidy = tidy-lane tidy owns fillings none.created.held refs_same;
+    same = none.created.same;
+    seen = (none.created.goes.more, sym none.created.goes.seen);
+  }
 
 -- ---- a write
 

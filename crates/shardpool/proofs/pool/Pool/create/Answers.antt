@@ -1,9 +1,11 @@
 -- A create gives the first place of the own list, or what is given apart.
 use Rattle.std.proofs.Common.{◌∙◌, refl, sym, ap, subst}
+use Rattle.std.specs.Prelude.{IfOk, IsErr}
 use Rattle.keybits.specs.declared.shape.Shape.{Shape}
 use Rattle.poolsteps.specs.Grids.{IsSpot}
 use Rattle.shardpool.specs.Tokens.{LaneOf}
 use Rattle.shardpool.specs.Lanes.{Owns, refs, holds}
+use Rattle.shardpool.specs.Creates.{Gives, GivesNone}
 use Rattle.shardpool.proofs.frame.Standing.{seen-of}
 use Rattle.shardpool.proofs.calls.Creates.{gives-apart, IsSound, sound-fits, list-gives}
 use Rattle.shardpool.proofs.references.Holdings.{gives-refs}
@@ -45,6 +47,23 @@ pub returns-in-Some-clause-fillings : goal.returns-in-Some-clause-fillings
 returns-in-Some-clause-fillings g c filling was = c.fill.ensures.fillings filling (c.pop.ensures.fillings filling was)
 
 -- ---- it is given apart, and the lane that was popped is as before
+
+pub create_apart-requires-clause-owns : goal.create_apart-requires-clause-owns
+create_apart-requires-clause-owns g c = subst (Owns c.args.self.now) (sym (c.in_default.ensures.none refl).0) c.requires.owns
+
+pub create_apart-requires-clause-own : goal.create_apart-requires-clause-own
+create_apart-requires-clause-own g c = let none = c.in_default.ensures.none refl in ap (λ (lane : LaneOf). lane.free.own) none.0 ∙ none.1
+
+pub returns-clause-owns : goal.returns-clause-owns
+returns-clause-owns g c = c.create_apart.ensures.owns
+
+pub returns-clause-gives : goal.returns-clause-gives
+returns-clause-gives g c =
+    subst (λ (lane : LaneOf). IfOk c.create_apart.result (Gives g.T.Clear.content g.T.Clear.room lane c.create_apart.new.lane)) (c.in_default.ensures.none refl).0 c.create_apart.ensures.gives
+
+pub returns-clause-none : goal.returns-clause-none
+returns-clause-none g c =
+    subst (λ (lane : LaneOf). IsErr c.create_apart.result → GivesNone lane c.create_apart.new.lane) (c.in_default.ensures.none refl).0 c.create_apart.ensures.none
 
 pub returns-clause-refs : goal.returns-clause-refs
 returns-clause-refs g c = c.create_apart.ensures.refs ∙ ap refs (c.in_default.ensures.none refl).0
