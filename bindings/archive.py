@@ -3,8 +3,8 @@
 
 usage: python3 bindings/archive.py OUT.a
 
-It proves nothing anew: the compiler reads what was proved, and refuses a crate that isn't. Where out/ lacks a library below, run `rt check` in
-crates/poolffi first.
+It proves none of the libraries below anew: the compiler reads what was proved of them, and refuses one that isn't. poolffi itself is checked once
+more, which takes a minute of processor. Where out/ lacks a library below, run `rt check` in crates/poolffi first.
 """
 import os
 import shutil
