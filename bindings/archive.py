@@ -32,7 +32,7 @@ def main():
     crate = rtlib.Crate(os.path.join(root, "crates", NAME), root, {})
     made = os.path.join(crate.folder, "out", f"lib{NAME}.a")
     os.makedirs(os.path.dirname(made), exist_ok=True)
-    words = crate.words(["--jobs", "2"], keeps=False)
+    words = crate.words(["--jobs", "1"], keeps=False)
     tools = ["--toolchain", f"{rtlib.KIT}/toolchain"]
     status = crate.call(rtlib.RATTLE, "build", *words, *tools, "-o", f"out/lib{NAME}.a")
     if status:
