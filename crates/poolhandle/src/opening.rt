@@ -133,20 +133,34 @@ fn give_up(
     requires rest { All (λ lane. Owns (arc_value shared).pool lane) (into_iter_items rest) }
     requires row { row.items ≡ [] }
 {
-    let Some(mut lanes) = lanes_of(&shared, handles, row) else {
+    let Some(lanes) = all_lanes(&shared, handles, next, rest, row) else {
         return;
     };
-    if lanes.push(next).is_err() {
-        return;
-    }
-    for lane in rest {
-        if lanes.push(lane).is_err() {
-            return;
-        }
-    }
     if let Some(shared) = Arc::into_inner(shared) {
         drop(close_lanes(shared.pool, lanes));
     }
+}
+
+/// The lanes of these handles, the next one and the rest, in an empty row. None where that has no room for them.
+fn all_lanes(
+    shared: &Arc<Shared>,
+    handles: Vec<Box<Handle>>,
+    next: Lane<ByteBuf>,
+    rest: IntoIter<Lane<ByteBuf>>,
+    row: Vec<Lane<ByteBuf>>,
+) -> Option<Vec<Lane<ByteBuf>>>
+    requires handles { All (λ handle. arc_value handle.value.shared ≡ arc_value shared.now) handles.items }
+    requires next { Owns (arc_value shared.now).pool next }
+    requires rest { All (λ lane. Owns (arc_value shared.now).pool lane) (into_iter_items rest) }
+    requires row { row.items ≡ [] }
+    ensures { IfSome result (λ lanes. All (λ lane. Owns (arc_value shared.now).pool lane) lanes.items) }
+{
+    let mut lanes = lanes_of(shared, handles, row)?;
+    lanes.push(next).ok()?;
+    for lane in rest {
+        lanes.push(lane).ok()?;
+    }
+    Some(lanes)
 }
 
 /// The lanes of these handles, in an empty row. None where that has no room for them.

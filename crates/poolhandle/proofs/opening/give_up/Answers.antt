@@ -1,38 +1,11 @@
--- All lanes are the pool's.
-use Rattle.std.proofs.Common.{rules, ◌≡◌, [], ◌∷◌, ◌++◌, All, sym, subst}
-use Rattle.std.proofs.lemmas.List.Elements.{All-head, All-tail, All-push}
-use Rattle.std.specs.Vec.Iter.{into_iter_items}
-use Rattle.std.specs.Arc.{arc_value}
+-- The lanes are the pool's.
+use Rattle.std.proofs.Common.{All, sym, subst}
 use Rattle.shardpool.specs.Tokens.{LaneOf}
 use Rattle.shardpool.specs.Lanes.{Owns}
 use Rattle.poolhandle.specs.declared.shared.Shared.{Shared}
 use Rattle.poolhandle.proofs.opening.give_up.Goals as goal
 
-pub loop-lane-init : goal.loop-lane-init
-loop-lane-init c =
-    let Mine = λ (lane : LaneOf). Owns (arc_value c.args.shared).pool lane in
-    let lanes = c.in-Some.lanes.items in
-    let items : c.push.new.self.items ≡ lanes ++ c.args.next ∷ [] = search rules in
-    let all : All Mine lanes = c.in-Some.ensures in
-    let same : into_iter_items c.into_iter-lane-iterator.result ≡ into_iter_items c.args.rest = search rules in
-    record {
-      left = subst (All Mine) (sym same) c.requires.rest;
-      lanes = subst (All Mine) (sym items) (All-push Mine lanes c.args.next all c.requires.next);
-    }
-
-pub loop-lane-preserved : goal.loop-lane-preserved
-loop-lane-preserved c =
-    let Mine = λ (lane : LaneOf). Owns (arc_value c.args.shared).pool lane in
-    let lanes = c.loop-lane.lanes.items in
-    let rest = into_iter_items c.next-in-loop-lane.new.self in
-    let left = subst (All Mine) c.in-Some-lane.ensures.steps.0 c.loop-lane.invariant.left in
-    let items : c.push-in-loop-lane.new.self.items ≡ lanes ++ c.in-Some-lane.lane ∷ [] = search rules in
-    record {
-      left = All-tail Mine c.in-Some-lane.lane rest left;
-      lanes = subst (All Mine) (sym items) (All-push Mine lanes c.in-Some-lane.lane c.loop-lane.invariant.lanes (All-head Mine c.in-Some-lane.lane rest left));
-    }
-
 pub close_lanes-requires : goal.close_lanes-requires
 close_lanes-requires c = record {
-  owned = subst (λ (shared : Shared). All (λ (lane : LaneOf). Owns shared.pool lane) c.loop-lane.lanes.items) (sym c.in-Some-into_inner.ensures) c.loop-lane.invariant.lanes;
+  owned = subst (λ (shared : Shared). All (λ (lane : LaneOf). Owns shared.pool lane) c.in-Some.lanes.items) (sym c.in-Some-into_inner.ensures) c.in-Some.ensures;
 }

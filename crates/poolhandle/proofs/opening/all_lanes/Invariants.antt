@@ -4,10 +4,10 @@ use Rattle.std.specs.Vec.Iter.{into_iter_items}
 use Rattle.std.specs.Arc.{arc_value}
 use Rattle.shardpool.specs.Tokens.{LaneOf}
 use Rattle.shardpool.specs.Lanes.{Owns}
-use Rattle.poolhandle.proofs.opening.give_up.Given as goal
+use Rattle.poolhandle.proofs.opening.all_lanes.Given as goal
 
 abbrev pub invariant-loop-lane : goal.invariant-loop-lane
 invariant-loop-lane l = record {
-  left : All (λ (lane : LaneOf). Owns (arc_value l.fn.shared).pool lane) (into_iter_items l.lane-iterator);
-  lanes : All (λ (lane : LaneOf). Owns (arc_value l.fn.shared).pool lane) l.lanes.items;
+  left : All (λ (lane : LaneOf). Owns (arc_value l.shared).pool lane) (into_iter_items l.lane-iterator);
+  lanes : All (λ (lane : LaneOf). Owns (arc_value l.shared).pool lane) l.lanes.items;
 }
