@@ -1,6 +1,8 @@
 -- The next step of a call, told by its last step alone.
 use Rattle.std.proofs.Common.{◌≡◌, ◌≢◌, ℕ, zero, suc, ◌+◌, ◌<◌, ◌≤◌, Bool, true, false, not, cond, eqb, ltb, ◌&&◌, List, [], ◌∷◌, ◌++◌, Option, Some, None, refl, ap, sym, ◌∙◌, subst, arith, append-nil, append_assoc, eq-eqb, ne_eqb, drop, length, get_or, slice_get, slice_index}
 use Rattle.std.proofs.lemmas.Bool.{eqb-true, eqb-false}
+use Rattle.std.proofs.lemmas.List.{drop_all}
+use borrow.Author.Tests.{ltb-false}
 use Rattle.keybits.specs.declared.shape.Shape.{Shape}
 use Rattle.keybits.specs.declared.step.Kind.{Kind}
 use Rattle.keybits.specs.declared.step.Kind.TheVariants as kinds
@@ -344,6 +346,39 @@ module _ (c : Caller) where
       = λ steps. other (eqb opened 0) None (take_next c (first_lane c.lane) steps) n.0 in
       goes (step ∷ more) ∙ takes_told (Creating [] [] opened) [] (first_lane c.lane) (step ∷ more) last goes are e
 
+-- ---- the first step of a create
+
+first_empty : (xs ys : List ℕ) → xs ++ ys ≡ [] → xs ≡ []
+first_empty [] ys e = refl
+first_empty (x ∷ xs) ys e = absurd (cc e)
+
+-- where nothing of its own is left, and nothing of a chain
+module _ (c : Caller) (own chain own_more chain_more : List ℕ) (opened : ℕ) (used : own ++ own_more ≡ []) (followed : chain ++ chain_more ≡ []) where
+  abbrev First : Option Aim
+  First = next_step c (Creating own chain opened) []
+
+  only_opened : First ≡ cond (eqb opened 0) None (take_next c (first_lane c.lane) [])
+  only_opened = ap (λ (t : List ℕ × List ℕ). next_step c (Creating t.0 t.1 opened) [])
+      (λ i. (first_empty own own_more used i, first_empty chain chain_more followed i))
+
+  -- no page was opened
+  pub opens_first : opened ≡ 0 → First ≡ None
+  opens_first none = only_opened ∙ chosen (eqb opened 0) None (take_next c (first_lane c.lane) []) (eq-eqb opened 0 none)
+
+  -- a page was opened
+  pub takes_first : (aimed : Option OwnAim) (from : ℕ) → (opened ≡ 0 → ⊥) → from ≡ first_lane c.lane
+      → IsAim aimed (cond (ltb from c.shape.lanes) (Some (aim kinds.Take (Stack c.lane from))) None) → IsAim aimed First
+  takes_first aimed from some is told = subst (IsAim aimed)
+      (sym (only_opened ∙ other (eqb opened 0) None (take_next c (first_lane c.lane) []) (ne_eqb opened 0 some)
+      ∙ ap (λ (n : ℕ). take_next c n []) (sym is))) told
+
+-- the lane that is taken from first
+pub first_where_none : (own : ℕ) → own ≡ 0 → 1 ≡ first_lane own
+first_where_none own is = sym (chosen (eqb own 0) 1 0 (eq-eqb own 0 is))
+
+pub first_unless_none : (own : ℕ) → (own ≡ 0 → ⊥) → 0 ≡ first_lane own
+first_unless_none own isnt = sym (other (eqb own 0) 1 0 (ne_eqb own 0 isnt))
+
 -- ---- what the functions answer
 
 -- after the last step of a call that is no create, and which was no ENTER that hit
@@ -569,6 +604,12 @@ module _ (c : Caller) (key : ℕ) (last : Step) (enters : last.kind ≡ kinds.En
         let only : steps ≡ last ∷ [] = l.all ∙ ap (λ (xs : List Step). xs ++ last ∷ []) (clear_first l.front l.next) in
         ap (next_step c (Clearing key)) only
         ∙ chosen (is_hit key last.before) (Some (aim kinds.Mark (Life (place_of key)))) (end_next c (place_of key) []) hit
+
+-- a release makes no ENTER
+pub release_enters : {A : Type 0} (c : Caller) (key : ℕ) (steps : List Step) (last : Step) → AreSteps c (Releasing key) [] steps
+    → last_step steps ≡ Some last → last.kind ≡ kinds.Enter → A
+release_enters c key steps last are e enters =
+    let l = last_of c (Releasing key) [] steps last are e in no_enter_end c (place_of key) l.front last.kind last.word enters l.next
 
 -- ---- a TAKE
 
@@ -815,6 +856,12 @@ pub no_call : (z : Shape) (number : ℕ) (b : Book) (script : List Command) (don
     → slice_get script done ≡ Some command → call_of b command ≡ None → next_aim z number b ≡ None
 no_call z number b script done command left there none =
     ap (next_in (caller z number b) b.steps) (under_way b script done command left there ∙ none)
+
+-- and so at the script's end
+pub no_command : (z : Shape) (number : ℕ) (b : Book) (script : List Command) (done : ℕ) → drop done script ≡ b.left
+    → ltb done (length script) ≡ false → next_aim z number b ≡ None
+no_command z number b script done left end =
+    ap (λ (more : List Command). next_in (caller z number b) b.steps (call_of_first b more)) (sym left ∙ drop_all done script (ltb-false done (length script) end))
 
 -- what an index reads is what the list has there
 pub read_at : (script : List Command) (done : ℕ) (command : Command) → done < length script → command ≡ get_or script done command

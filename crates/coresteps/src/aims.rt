@@ -44,8 +44,12 @@ impl Shared {
         ensures { (w : World) → IsDraft self.now w (option_copied made.entry) → IsLaneAt self.now.shape w.history number lane.now progress.now (w.books number)
             → IsAim result (next_aim self.now.shape number (w.books number)) }
     {
-        let command = lane.script.as_slice().get(progress.done)?;
-        let call = progress.call_of(command)?;
+        let Some(command) = lane.script.as_slice().get(progress.done) else {
+            return None;
+        };
+        let Some(call) = progress.call_of(command) else {
+            return None;
+        };
         match progress.last {
             Some(step) => next_step(&self.shape, number, &progress.pushed, call, step),
             None => self.first_step(number, progress, call, made),
@@ -103,7 +107,8 @@ impl Shared {
                 word: Word::Link { place },
             });
         }
-        if progress.own.opened == 0 {
+        let none_opened = progress.own.opened == 0;
+        if none_opened {
             return None;
         }
         take_from(&self.shape, number, if number == 0 { 1 } else { 0 })
@@ -113,7 +118,9 @@ impl Shared {
     pub(crate) fn chained(&self, chain: Chain, made: Option<&Made>) -> Option<u32>
         ensures { (places : List ℕ) → IsChained (self.now.acts.items ++ made_acts (option_copied made.entry)) chain places → MatchOption result (places ≡ []) (λ place. (more : List ℕ) × (places ≡ place ∷ more) × (chain.followed < 18446744073709551615)) }
     {
-        let index = chain.collect?;
+        let Some(index) = chain.collect else {
+            return None;
+        };
         match self.act_at(index, made) {
             Some(Act::Collect { places, .. }) => places.as_slice().get(chain.followed).copied(),
             _ => None,

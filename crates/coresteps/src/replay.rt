@@ -115,48 +115,45 @@ impl Core {
 }
 
 impl Shared {
-    /// Makes a step: its act joins the history, and its word has the value after it. Where memory is refused, nothing changes.
-    fn keep(&mut self, made: Made) -> Result<(), CoreFault>
-        requires draft { (w : World) × IsDraft self.old w (Some made) }
-        requires word { IsWordOf self.old.shape made.step.word }
-        requires place { (lane key : ℕ) (content : List ℕ) (with_ref : Bool) → made.act ≡ Some (Publish lane key content with_ref)
+    /// Makes a step: a copy of its act joins the history, and its word has the value after it. Where memory is refused, nothing
+    /// changes.
+    fn keep(&mut self, made: &Made) -> Result<(), CoreFault>
+        requires draft { (w : World) × IsDraft self.old w (Some made.now) }
+        requires word { IsWordOf self.old.shape made.now.step.word }
+        requires place { (lane key : ℕ) (content : List ℕ) (with_ref : Bool) → made.now.act ≡ Some (Publish lane key content with_ref)
             → is_place self.old.shape (place_of key) ≡ true }
-        ensures ok { OnOk result ((w : World) → IsDraft self.old w (Some made) → IsDraft self.new w None) }
+        ensures ok { OnOk result ((w : World) → IsDraft self.old w (Some made.now) → IsDraft self.new w None) }
         ensures same { OnErr result (SameShared self.old self.new) }
         ensures shape { self.new.shape ≡ self.old.shape }
     {
-        let Made { step, act } = made;
-        if let Some(act) = act {
+        if let Some(act) = &made.act {
             self.keep_act(act)?;
         }
-        self.words.store(&self.shape, step.word, step.after);
+        self.words
+            .store(&self.shape, made.step.word, made.step.after);
         Ok(())
     }
 
-    /// An act joins the history, and where it publishes a key, that key's place has its index. Where memory is refused, nothing
-    /// changes.
-    fn keep_act(&mut self, act: Act) -> Result<(), CoreFault>
+    /// A copy of an act joins the history, and where it publishes a key, that key's place has its index. Where memory is refused,
+    /// nothing changes.
+    fn keep_act(&mut self, act: &Act) -> Result<(), CoreFault>
         requires shape { IsShape self.old.shape }
         requires rows { length self.old.published.items ≡ all_places self.old.shape }
-        requires place { (lane key : ℕ) (content : List ℕ) (with_ref : Bool) → act ≡ Publish lane key content with_ref
+        requires place { (lane key : ℕ) (content : List ℕ) (with_ref : Bool) → act.now ≡ Publish lane key content with_ref
             → is_place self.old.shape (place_of key) ≡ true }
-        ensures history { OnOk result (self.new.acts.items ≡ self.old.acts.items ++ act ∷ []) }
+        ensures history { OnOk result (self.new.acts.items ≡ self.old.acts.items ++ act.now ∷ []) }
         ensures published { OnOk result ((place : ℕ) → is_place self.old.shape place ≡ true
             → slice_index self.new.published.items (position_of self.old.shape place)
-            ≡ index_of_publish self.old.shape self.old.published.items (length self.old.acts.items) (act ∷ []) place) }
+            ≡ index_of_publish self.old.shape self.old.published.items (length self.old.acts.items) (act.now ∷ []) place) }
         ensures same { OnErr result (SameShared self.old self.new) }
         ensures rows { length self.new.published.items ≡ length self.old.published.items }
         ensures words { self.new.words ≡ self.old.words }
         ensures shape { self.new.shape ≡ self.old.shape }
     {
         let index = self.acts.len();
-        let published = match &act {
-            Act::Publish { key, .. } => Some(place_of(*key)),
-            _ => None,
-        };
-        self.acts.push(act)?;
-        if let Some(place) = published {
-            self.published[self.shape.position(place)] = index;
+        self.acts.push(act.copy(self.alloc)?)?;
+        if let Act::Publish { key, .. } = act {
+            self.published[self.shape.position(place_of(*key))] = index;
         }
         Ok(())
     }
@@ -212,14 +209,12 @@ fn advance(
     let command = &of.script.as_slice()[progress.done];
     progress.note(&shared.shape, lane, command, &made, index);
     let after = shared.work(of, lane, progress, Some(&made))?;
-    let act = copy_of(shared.alloc, &made.act)?;
-    let step = made.step;
-    shared.keep(made)?;
+    shared.keep(&made)?;
     Ok(Turn {
         lane,
         before,
-        step: Some(step),
-        act,
+        step: Some(made.step),
+        act: made.act,
         after,
     })
 }
@@ -235,16 +230,6 @@ fn keep_progress(of: &mut Lane, progress: Progress)
 {
     of.progress = progress;
     of.progress.own.put_added(&mut of.ring);
-}
-
-/// A copy of an act.
-fn copy_of(alloc: Global, act: &Option<Act>) -> Result<Option<Act>, CoreFault>
-    ensures { IfOk result (λ copy. copy ≡ act.now) }
-{
-    match act {
-        Some(act) => Ok(Some(act.copy(alloc)?)),
-        None => Ok(None),
-    }
 }
 
 /// The lanes of these scripts before their first turns, each with room for the places of its shard.

@@ -1,11 +1,9 @@
 -- The turn is the next of its lane, and what all lanes share and the lane itself tell of the world after it.
-use Rattle.std.proofs.Common.{◌≡◌, ◌++◌, ◌+◌, ◌∙◌, List, length, Option, sym, subst, refl, None, Some, []}
+use Rattle.std.proofs.Common.{◌≡◌, ◌++◌, ◌∙◌, List, length, Option, sym, subst, refl, None, []}
 use Rattle.steplaws.specs.Calls.{aim}
 use Rattle.seqpool.specs.declared.act.Act.{Act}
 use Rattle.traces.specs.declared.reply.Reply.{Reply}
-use Rattle.traces.specs.Books.{act_list}
-use Rattle.traces.specs.Lawful.{World, world_after, book_before, book_after, IsStep, IsNextTurn}
-use Rattle.coresteps.specs.Lanes.{counted}
+use Rattle.traces.specs.Lawful.{World, world_after, book_after, IsStep, IsNextTurn}
 use Rattle.coresteps.specs.Kept.{IsDraft, IsLaneAt}
 use Rattle.coresteps.proofs.CoreLemmas.{before_step, turn_of, after_made, history_length, replied_at, commanded_at, in_script, end_turn, made_draft, made_at, step_next, step_world, step_at, step_most}
 use Rattle.coresteps.proofs.StepLemmas.{word_inside, published_inside}
@@ -206,7 +204,4 @@ returns-clause-ok c = λ w draft at unfinished.
     let draft_new = subst (λ (v : World). IsDraft new v None) world (c.in_ok-keep.ensures.ok _ worked_after.draft) in
     let at_new = step_at shared w n of p0 p1 before worked made is.0 p2 p3 after worked_after in
     let most = step_most shared w n of p0 p1 before worked made is.0 p2 p3 after worked_after _ left.1 noted.1 in
-    subst (λ (act : Option Act). (n ≡ n) × IsNextTurn z w (turn_of n before (Some made.step) act after) × IsDraft new (world_after z w (turn_of n before (Some made.step) act after)) None
-    × IsLaneAt z (w.history ++ act_list act) n of p3 (book_after z w (turn_of n before (Some made.step) act after))
-    × (p3.most ≡ counted (book_before z w (turn_of n before (Some made.step) act after)).left (length (book_before z w (turn_of n before (Some made.step) act after)).steps + 1) p0.most))
-    (sym c.in_ok-act.ensures) (refl, turn, draft_new, at_new, most)
+    (refl, turn, draft_new, at_new, most)

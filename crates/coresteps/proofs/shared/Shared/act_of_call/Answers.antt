@@ -1,5 +1,5 @@
 -- Each kind of step of a call makes one act.
-use Rattle.std.proofs.Common.{refl, sym, ◌∙◌, subst}
+use Rattle.std.proofs.Common.{◌≡◌, ℕ, ⊎_elim, refl, sym, ◌∙◌, subst}
 use Rattle.std.proofs.lemmas.Result.{IfOk-weaker}
 use Rattle.keybits.specs.declared.step.Kind.TheVariants as kinds
 use Rattle.steplaws.specs.Facts.{Words}
@@ -79,3 +79,11 @@ returns-in-Take c = IfOk-weaker c.act_of_take.result _ _ (λ made f w act draft 
     let g = going z w c.args.number c.args.lane.now.script c.args.done c.args.call c.args.step act call step in
     f w.words (caller z c.args.number (w.books c.args.number)) act
     (subst (λ (words : Words). IsTable z words c.args.self.now.words) (sym draft.words) draft.table) (g.makes kinds.Take c.in-Take.is) refl) c.act_of_take.ensures
+
+pub returns-in-Link : goal.returns-in-Link
+returns-in-Link c = λ w act draft call step legal.
+    let z = c.args.self.now.shape in
+    let g = going z w c.args.number c.args.lane.now.script c.args.done c.args.call c.args.step act call step in
+    ⊎_elim
+    (λ (is : (expected : ℕ) × (c.args.step.kind ≡ kinds.Link expected)). sym (g.makes (kinds.Link is.0) is.1))
+    (λ (is : c.args.step.kind ≡ kinds.Follow). sym (g.makes kinds.Follow is)) c.in-Link.is

@@ -10,12 +10,13 @@ keep_act-requires-clause-place c = λ lane key content with_ref e. c.requires.pl
 pub returns-clause-ok : goal.returns-clause-ok
 returns-clause-ok c = λ w draft.
     let old = c.args.self.now in
-    step_kept old c.match-act.self _ w c.args.made
-    (elim c.match-act.branch [
+    let made = c.args.made.now in
+    step_kept old c.match-made.self _ w made
+    (elim c.match-made.branch [
       | in-Some+in_ok-keep_act v ↦
           let e = v.in_ok-keep_act.ensures in
-          joined_some old c.match-act.self v.keep_act.new.self c.args.made.act v.in-Some.act v.in-Some.is v.self-is
+          joined_some old c.match-made.self v.keep_act.new.self made.act v.in-Some.act v.in-Some.is v.self-is
           record { shape = e.shape; words = e.words; acts_are = e.history; places = e.rows; rows = e.published }
-      | in_default v ↦ joined_none old c.match-act.self c.args.made.act v.in_default.is v.self-is
+      | in_default v ↦ joined_none old c.match-made.self made.act v.in_default.is v.self-is
     ])
     c.store.ensures refl refl refl draft
