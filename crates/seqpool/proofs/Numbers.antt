@@ -1,12 +1,10 @@
 -- Decimal numbers.
-use Rattle.std.proofs.Common.{◌≡◌, ◌≢◌, ℕ, ◌<◌, ◌≤◌, ◌^◌, List, [], ◌∷◌, length, get_or, Some, None, Result, Ok, Err, decimal, IsUtf8, sym, ap, ◌∙◌, arith, subst, inl, inr, Bor}
+use Rattle.std.proofs.Common.{◌≡◌, ◌≢◌, ℕ, ◌<◌, ◌≤◌, ◌^◌, List, [], ◌∷◌, length, get_or, Result, Ok, Err, decimal, IsUtf8, sym, ap, ◌∙◌, arith, subst, inl, inr}
 use Rattle.std.specs.Str.Parse.{digits_value, ParsesUnsigned, AllDigits}
 use Rattle.std.proofs.lemmas.Fmt.{decimal_is_IsNumeral, decimal_nonempty, first_decimal, decimal_digit, decimal-digits_value, parse-decimal, IsAscii-decimal, decimal_injective}
 use Rattle.std.proofs.lemmas.Str.{IsUtf8-from_ascii}
 use Rattle.std.proofs.lemmas.Str.Parse.{IsNumeralModel, numerals_by_value, tells_digits, parse_plain, digit_from_value, digit_at}
 use Rattle.std.proofs.lemmas.Bool.{cases_eq}
-use Rattle.std.proofs.lemmas.Option.{same_Some}
-use Rattle.std.specs.Result.{MatchResult, result_ok}
 use Rattle.keybits.specs.declared.place.TheConstants.{GREATEST_PLACE}
 use Rattle.seqpool.specs.ActsText.{IsU32, IsKeyNumber, IsPlaceNumber}
 use Rattle.seqpool.specs.ReadTexts.{Without, spaced}
@@ -44,45 +42,26 @@ number-zeros limit text small zero long n low is =
     let one : length (decimal n) ≡ 1 = zero-alone n (omega arith) (sym (ap (λ (xs : List ℕ). get_or xs 0 0) is) ∙ zero) in
     let same : length text ≡ length (decimal n) = ap length is in omega arith
 
--- where `from_utf8` answers an error it is no text, and else the same text
-never-utf8 : {A E : Type 0} (r : Result A E) (U : Type 0) (P : A → Type 0) (V : E → Type 0) → None ≡ result_ok r
-    → MatchResult r P (λ e. ¬ U × V e) → ¬ U
-never-utf8 (Ok x) U P V e h = absurd (cc)
-never-utf8 (Err x) U P V e h = h.0
+pub number-no_text : (limit : ℕ) (text : List ℕ) → limit < 2 ^ 64 → ¬ (IsUtf8 text) → IsNoNumber limit text
+number-no_text limit text small none n low is =
+    none (subst (λ (xs : List ℕ). IsUtf8 xs) (sym is) (IsUtf8-from_ascii (decimal n) (IsAscii-decimal n (omega arith))))
 
-pub number-no_text : {A E : Type 0} (limit : ℕ) (text : List ℕ) (r : Result A E) (P : A → Type 0) (V : E → Type 0) → limit < 2 ^ 64
-    → None ≡ result_ok r → MatchResult r P (λ e. ¬ (IsUtf8 text) × V e) → IsNoNumber limit text
-number-no_text limit text r P V small none cases n low is =
-    never-utf8 r (IsUtf8 text) P V none cases
-    (subst (λ (xs : List ℕ). IsUtf8 xs) (sym is) (IsUtf8-from_ascii (decimal n) (IsAscii-decimal n (omega arith))))
-
-pub is-text : {E : Type 0} (text : List ℕ) (r : Result (Bor (List ℕ)) E) (s : Bor (List ℕ)) (U : Type 0) (Q : E → Type 0)
-    → Some s ≡ result_ok r → MatchResult r (λ t. (t.now ≡ text) × U) Q → s.now ≡ text
-is-text text (Ok t) s U Q e h = ap (λ (x : Bor (List ℕ)). x.now) (same_Some s t e) ∙ h.0
-is-text text (Err x) s U Q e h = absurd (cc)
-
-result_ok-some : {E : Type 0} (r : Result ℕ E) (m : ℕ) → Some m ≡ result_ok r → r ≡ Ok m
-result_ok-some (Ok x) m e = ap (λ (n : ℕ). Ok n) (sym (same_Some m x e))
-result_ok-some (Err x) m e = absurd (cc)
-
-pub number-unparsed : {E : Type 0} (limit : ℕ) (text digits : List ℕ) (r : Result ℕ E) → limit < 2 ^ 64 → digits ≡ text
-    → None ≡ result_ok r → ParsesUnsigned 64 10 digits r → IsNoNumber limit text
-number-unparsed {E} limit text digits r small same none parsed n low is =
-    let ok : r ≡ Ok n = parse-decimal 64 n digits r (omega arith) (omega arith) (same ∙ is) parsed in
-    let some : result_ok r ≡ Some n = ap (λ (q : Result ℕ E). result_ok q) ok in absurd (cc)
+pub number-unparsed : {E : Type 0} (limit : ℕ) (text digits : List ℕ) (r : Result ℕ E) (e : E) → limit < 2 ^ 64 → digits ≡ text
+    → r ≡ Err e → ParsesUnsigned 64 10 digits r → IsNoNumber limit text
+number-unparsed limit text digits r e small same none parsed n low is =
+    let ok : r ≡ Ok n = parse-decimal 64 n digits r (omega arith) (omega arith) (same ∙ is) parsed in absurd (cc)
 
 pub number-large : {E : Type 0} (limit : ℕ) (text digits : List ℕ) (r : Result ℕ E) (m : ℕ) → limit < 2 ^ 64 → digits ≡ text
-    → Some m ≡ result_ok r → ParsesUnsigned 64 10 digits r → limit < m → IsNoNumber limit text
-number-large {E} limit text digits r m small same some parsed large n low is =
+    → r ≡ Ok m → ParsesUnsigned 64 10 digits r → limit < m → IsNoNumber limit text
+number-large limit text digits r m small same some parsed large n low is =
     let ok : r ≡ Ok n = parse-decimal 64 n digits r (omega arith) (omega arith) (same ∙ is) parsed in
-    let equal : m ≡ n = same_Some m n (some ∙ ap (λ (q : Result ℕ E). result_ok q) ok) in omega arith
+    let equal : m ≡ n = cc in omega arith
 
-pub number-parsed : {E : Type 0} (text digits : List ℕ) (r : Result ℕ E) (m : ℕ) → digits ≡ text → Some m ≡ result_ok r
+pub number-parsed : {E : Type 0} (text digits : List ℕ) (r : Result ℕ E) (m : ℕ) → digits ≡ text → r ≡ Ok m
     → ParsesUnsigned 64 10 digits r → get_or text 0 0 ≢ 43 → (get_or text 0 0 ≡ 48 → length text ≤ 1) → text ≡ decimal m
 number-parsed {E} text digits r m same some parsed unsigned alone =
     let here : ParsesUnsigned 64 10 text r = subst (λ (xs : List ℕ). ParsesUnsigned 64 10 xs r) same parsed in
-    let read : ParsesUnsigned {E = E} 64 10 text (Ok m) =
-    subst (λ (q : Result ℕ E). ParsesUnsigned 64 10 text q) (result_ok-some r m some) here in
+    let read : ParsesUnsigned {E = E} 64 10 text (Ok m) = subst (λ (q : Result ℕ E). ParsesUnsigned 64 10 text q) some here in
     let plain = parse_plain own {E = E} 64 text (Ok m) read unsigned in
     let value : m ≡ digits_value 10 text = plain.1 in
     let written : decimal (digits_value 10 text) ≡ text =

@@ -138,6 +138,10 @@ no-tag generation text rest (low, is) never (g, t) (few, less, inl tagged) =
 no-tag generation text rest (low, is) never (g, t) (few, less, inr (none, untagged)) =
     uncut 32 (decimal g) (decimal generation) rest (u32-Without 32 g (omega arith) few) (sym untagged ∙ is)
 
+pub no-ending : (text : List ℕ) → IsNotLed 4294967295 text → IsNoNumber 4294967295 text → NothingHas AreLast text
+no-ending text unled never (g, t) (few, less, inl tagged) = unled g (decimal t) few tagged
+no-ending text unled never (g, t) (few, less, inr (none, untagged)) = never g few untagged
+
 -- a line is that of one shape
 
 last-same : (g t h u : ℕ) (text : List ℕ) → AreLast (g, t) text → AreLast (h, u) text → (g ≡ h) × (t ≡ u)

@@ -1,11 +1,13 @@
 -- Lines of text, piece after piece.
-use Rattle.std.proofs.Common.{◌≡◌, ◌≢◌, ℕ, ◌+◌, ◌<◌, ◌==◌, not, List, [], ◌∷◌, ◌++◌, length, get_or, take, flat_map, decimal, codes, sym, ap, ◌∙◌, subst, arith, append_assoc, append-nil, length-take-le}
+use Rattle.std.proofs.Common.{◌≡◌, ◌≢◌, ℕ, ◌+◌, Result, Ok, Err, cond, ◌<◌, ◌==◌, not, List, [], ◌∷◌, ◌++◌, length, get_or, take, flat_map, decimal, codes, sym, ap, ◌∙◌, subst, arith, append_assoc, append-nil, length-take-le}
 use Rattle.std.specs.List.{AllZip}
+use Rattle.std.specs.Result.{OnOk, is_ok}
 use Rattle.std.proofs.lemmas.List.{take_more}
 use Rattle.std.proofs.lemmas.List.Concat.{flat_map-append}
 use Rattle.seqpool.specs.declared.act.Act.{Act}
 use Rattle.keybits.specs.declared.shape.Shape.{Shape}
 use Rattle.seqpool.specs.ActsText.{hex_pair, hex, places_text, shape_text, act_text, IsWritten, IsTextOf}
+use Rattle.seqpool.specs.ReadTexts.{spaced}
 use Rattle.seqpool.proofs.HistoryLaws.{one-more}
 
 -- one more byte
@@ -47,6 +49,29 @@ pub two-digits : (start middle last first_text : List ℕ) {second_text : List �
 two-digits start middle last first_text {second_text} first second one is two then =
     two ∙ (ap (λ (xs : List ℕ). xs ++ second_text) one ∙ (ap (λ (xs : List ℕ). (start ++ xs) ++ second_text) is
     ∙ (ap (λ (xs : List ℕ). (start ++ first ∷ []) ++ xs) then ∙ append_assoc start (first ∷ []) (second ∷ []))))
+
+-- what a text is where a piece was pushed to it
+pub pushed : {T E : Type 0} (r : Result T E) (left grown other : List ℕ) → left ≡ cond (is_ok r) grown other → OnOk r (left ≡ grown)
+pushed (Ok done) left grown other is = is
+pushed (Err fault) left grown other is = tt
+
+-- the front of a line, and what ends it
+pub head-end : (start front grown lane word key last ending : List ℕ) → front ≡ start ++ spaced lane (spaced word key) → grown ≡ front ++ last
+    → last ≡ 32 ∷ (ending ++ 10 ∷ []) → grown ≡ start ++ (((((lane ++ (32 ∷ (word ++ 32 ∷ []))) ++ key) ++ 32 ∷ []) ++ ending) ++ 10 ∷ [])
+head-end start front grown lane word key last ending one two three = let whole = at start lane word key ending in cc
+  where
+    at : (a l w k e : List ℕ) → (a ++ spaced l (spaced w k)) ++ (32 ∷ (e ++ 10 ∷ [])) ≡ a ++ (((((l ++ (32 ∷ (w ++ 32 ∷ []))) ++ k) ++ 32 ∷ []) ++ e) ++ 10 ∷ [])
+    at a l w k e = simp append_assoc
+
+-- the front of a line, and a reply with a content
+pub head-content : (start front one two three lane word key some piece content : List ℕ) → front ≡ start ++ spaced lane (spaced word key)
+    → one ≡ front ++ 32 ∷ some → two ≡ one ++ piece → piece ≡ content → three ≡ two ++ 10 ∷ []
+    → three ≡ start ++ (((((lane ++ (32 ∷ (word ++ 32 ∷ []))) ++ key) ++ 32 ∷ []) ++ (some ++ content)) ++ 10 ∷ [])
+head-content start front one two three lane word key some piece content a b c d e = let whole = at start lane word key some content in cc
+  where
+    at : (a l w k s c : List ℕ) → (((a ++ spaced l (spaced w k)) ++ 32 ∷ s) ++ c) ++ 10 ∷ []
+        ≡ a ++ (((((l ++ (32 ∷ (w ++ 32 ∷ []))) ++ k) ++ 32 ∷ []) ++ (s ++ c)) ++ 10 ∷ [])
+    at a l w k s c = simp append_assoc
 
 zip-push : (xs ys : List Act) (x y : Act) → AllZip IsWritten xs ys → IsWritten x y → AllZip IsWritten (xs ++ x ∷ []) (ys ++ y ∷ [])
 zip-push [] [] x y all is = (is, tt)

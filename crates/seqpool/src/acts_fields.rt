@@ -47,8 +47,12 @@ fn read_number(text: &[u8], limit: u64) -> Option<u64>
     if text[0] == b'0' && text.len() > 1 {
         return None;
     }
-    let digits = from_utf8(text).ok()?;
-    let number = digits.parse::<u64>().ok()?;
+    let Ok(digits) = from_utf8(text) else {
+        return None;
+    };
+    let Ok(number) = digits.parse::<u64>() else {
+        return None;
+    };
     if number > limit {
         return None;
     }
@@ -87,8 +91,12 @@ pub(crate) fn read_u32_before(text: &[u8]) -> Option<(u32, &[u8])>
         ((n : ℕ) (rest : List ℕ) → n ≤ 4294967295 → text.now ≡ spaced (decimal n) rest → ⊥)
         (λ p. (p.0 ≤ 4294967295) × (text.now ≡ spaced (decimal p.0) p.1.now)) }
 {
-    let (number, rest) = cut(text, b' ')?;
-    let number = read_u32(number)?;
+    let Some((number, rest)) = cut(text, b' ') else {
+        return None;
+    };
+    let Some(number) = read_u32(number) else {
+        return None;
+    };
     Some((number, rest))
 }
 
@@ -98,8 +106,12 @@ pub(crate) fn read_key_before(text: &[u8]) -> Option<(u64, &[u8])>
         ((n : ℕ) (rest : List ℕ) → n ≤ 18446744073709551615 → text.now ≡ spaced (decimal n) rest → ⊥)
         (λ p. (p.0 ≤ 18446744073709551615) × (text.now ≡ spaced (decimal p.0) p.1.now)) }
 {
-    let (key, rest) = cut(text, b' ')?;
-    let key = read_key(key)?;
+    let Some((key, rest)) = cut(text, b' ') else {
+        return None;
+    };
+    let Some(key) = read_key(key) else {
+        return None;
+    };
     Some((key, rest))
 }
 
@@ -152,7 +164,9 @@ fn read_bytes(alloc: Global, text: &[u8]) -> Result<Bytes, ActsFault>
     let mut bytes = Vec::with_capacity(alloc, text.len() / 2)?;
     let mut rest = text;
     while rest.len() >= 2 {
-        let byte = read_byte(rest[0], rest[1]).ok_or(ActsFault::ActsLine)?;
+        let Some(byte) = read_byte(rest[0], rest[1]) else {
+            return Err(ActsFault::ActsLine);
+        };
         bytes.push(byte)?;
         rest = &rest[2..];
     }
@@ -205,7 +219,9 @@ pub(crate) fn read_truth(text: &[u8]) -> Option<bool>
 fn read_some(alloc: Global, text: &[u8]) -> Result<Bytes, ActsFault>
     ensures { Reads (λ bytes words. AreBytes bytes × (words ≡ codes "some " ++ content_text bytes)) text.now result }
 {
-    let (word, content) = cut(text, b' ').ok_or(ActsFault::ActsLine)?;
+    let Some((word, content)) = cut(text, b' ') else {
+        return Err(ActsFault::ActsLine);
+    };
     if !is_word(word, "some") {
         return Err(ActsFault::ActsLine);
     }

@@ -23,10 +23,16 @@ use std::alloc::Global;
 fn read_publish(alloc: Global, lane: u32, operands: &[u8]) -> Result<Act, ActsFault>
     ensures { Reads (HasOperands lane names.Publish) operands.now result }
 {
-    let (key, rest) = read_key_before(operands).ok_or(ActsFault::ActsLine)?;
-    let (content, flag) = cut(rest, b' ').ok_or(ActsFault::ActsLine)?;
+    let Some((key, rest)) = read_key_before(operands) else {
+        return Err(ActsFault::ActsLine);
+    };
+    let Some((content, flag)) = cut(rest, b' ') else {
+        return Err(ActsFault::ActsLine);
+    };
+    let Some(with_ref) = read_flag(flag) else {
+        return Err(ActsFault::ActsLine);
+    };
     let content = read_content(alloc, content)?;
-    let with_ref = read_flag(flag).ok_or(ActsFault::ActsLine)?;
     Ok(Act::Publish {
         lane,
         key,
@@ -38,7 +44,9 @@ fn read_publish(alloc: Global, lane: u32, operands: &[u8]) -> Result<Act, ActsFa
 fn read_get(alloc: Global, lane: u32, operands: &[u8]) -> Result<Act, ActsFault>
     ensures { Reads (HasOperands lane names.Get) operands.now result }
 {
-    let (key, reply) = read_key_before(operands).ok_or(ActsFault::ActsLine)?;
+    let Some((key, reply)) = read_key_before(operands) else {
+        return Err(ActsFault::ActsLine);
+    };
     let reply = read_reply(alloc, reply)?;
     Ok(Act::Get { lane, key, reply })
 }
@@ -46,8 +54,12 @@ fn read_get(alloc: Global, lane: u32, operands: &[u8]) -> Result<Act, ActsFault>
 fn read_clear(lane: u32, operands: &[u8]) -> Option<Act>
     ensures { Finds (HasOperands lane names.Clear) operands.now result }
 {
-    let (key, reply) = read_key_before(operands)?;
-    let reply = read_truth(reply)?;
+    let Some((key, reply)) = read_key_before(operands) else {
+        return None;
+    };
+    let Some(reply) = read_truth(reply) else {
+        return None;
+    };
     Some(Act::Clear { lane, key, reply })
 }
 
@@ -59,16 +71,22 @@ fn read_act_with(alloc: Global, name: ActName, lane: u32, operands: &[u8]) -> Re
         ActName::Publish => read_publish(alloc, lane, operands),
         ActName::Get => read_get(alloc, lane, operands),
         ActName::Release => {
-            let key = read_key(operands).ok_or(ActsFault::ActsLine)?;
+            let Some(key) = read_key(operands) else {
+                return Err(ActsFault::ActsLine);
+            };
             Ok(Act::Release { lane, key })
         }
         ActName::Clear => read_clear(lane, operands).ok_or(ActsFault::ActsLine),
         ActName::Reclaim => {
-            let key = read_key(operands).ok_or(ActsFault::ActsLine)?;
+            let Some(key) = read_key(operands) else {
+                return Err(ActsFault::ActsLine);
+            };
             Ok(Act::Reclaim { lane, key })
         }
         ActName::Home => {
-            let place = read_place(operands).ok_or(ActsFault::ActsLine)?;
+            let Some(place) = read_place(operands) else {
+                return Err(ActsFault::ActsLine);
+            };
             Ok(Act::Home { lane, place })
         }
         ActName::Collect => {
@@ -82,9 +100,15 @@ fn read_act_with(alloc: Global, name: ActName, lane: u32, operands: &[u8]) -> Re
 fn read_act(alloc: Global, line: &[u8]) -> Result<Act, ActsFault>
     ensures { Reads IsAct line.now result }
 {
-    let (lane, rest) = read_u32_before(line).ok_or(ActsFault::ActsLine)?;
-    let (name, operands) = cut(rest, b' ').ok_or(ActsFault::ActsLine)?;
-    let name = read_name(name).ok_or(ActsFault::ActsLine)?;
+    let Some((lane, rest)) = read_u32_before(line) else {
+        return Err(ActsFault::ActsLine);
+    };
+    let Some((name, operands)) = cut(rest, b' ') else {
+        return Err(ActsFault::ActsLine);
+    };
+    let Some(name) = read_name(name) else {
+        return Err(ActsFault::ActsLine);
+    };
     read_act_with(alloc, name, lane, operands)
 }
 
@@ -94,11 +118,15 @@ fn read_ending(text: &[u8]) -> Option<(u32, u32)>
 {
     match read_u32_before(text) {
         Some((last_generation, tag)) => {
-            let tag = read_u32(tag)?;
+            let Some(tag) = read_u32(tag) else {
+                return None;
+            };
             Some((last_generation, tag))
         }
         None => {
-            let last_generation = read_u32(text)?;
+            let Some(last_generation) = read_u32(text) else {
+                return None;
+            };
             Some((last_generation, 0))
         }
     }
@@ -107,10 +135,18 @@ fn read_ending(text: &[u8]) -> Option<(u32, u32)>
 fn read_numbers(text: &[u8]) -> Option<Shape>
     ensures { Finds (λ z numbers. IsShapeOf z (codes "shape " ++ numbers)) text.now result }
 {
-    let (lanes, rest) = read_u32_before(text)?;
-    let (first_page, rest) = read_u32_before(rest)?;
-    let (pages, rest) = read_u32_before(rest)?;
-    let (last_generation, tag) = read_ending(rest)?;
+    let Some((lanes, rest)) = read_u32_before(text) else {
+        return None;
+    };
+    let Some((first_page, rest)) = read_u32_before(rest) else {
+        return None;
+    };
+    let Some((pages, rest)) = read_u32_before(rest) else {
+        return None;
+    };
+    let Some((last_generation, tag)) = read_ending(rest) else {
+        return None;
+    };
     Some(Shape {
         lanes,
         first_page,
@@ -124,7 +160,9 @@ fn read_numbers(text: &[u8]) -> Option<Shape>
 fn read_shape(line: &[u8]) -> Option<Shape>
     ensures { Finds IsShapeOf line.now result }
 {
-    let (word, numbers) = cut(line, b' ')?;
+    let Some((word, numbers)) = cut(line, b' ') else {
+        return None;
+    };
     if !is_word(word, "shape") {
         return None;
     }

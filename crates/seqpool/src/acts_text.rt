@@ -1,9 +1,11 @@
 //! The text of acts, as it is written.
 
-ghost use Rattle.std.specs.Prelude.{◌≡◌, ◌++◌, ◌==◌, ◌<◌, ℕ, List, true, false, not, OnOk, OnErr, string_bytes};
+ghost use Rattle.std.specs.Prelude.{◌≡◌, ◌++◌, ◌==◌, ◌<◌, ℕ, List, true, false, not, OnOk, OnErr, string_bytes, codes, decimal, IsPermutation, IsSorted};
+ghost use Rattle.std.specs.Ordering.{nat_cmp};
 ghost use Rattle.seqpool.specs.declared.act.Act.{Act};
 ghost use Rattle.seqpool.specs.declared.act.Act.TheVariants as acts;
 ghost use Rattle.seqpool.specs.ActsText.{hex_digit, hex_pair, content_text, places_text, numbers_text, shape_text, act_text, IsWritten, IsTextOf};
+ghost use Rattle.seqpool.specs.ReadTexts.{spaced};
 
 use crate::act::Act;
 use crate::contents::{Bytes, Places};
@@ -92,6 +94,13 @@ fn write_places(text: &mut String, places: &[u32]) -> Result<(), AllocError>
     Ok(())
 }
 
+/// The lane, the name and the number that a line begins with.
+fn write_head(text: &mut String, lane: u32, name: &str, number: u64) -> Result<(), AllocError>
+    ensures { OnOk result (string_bytes text.new ≡ string_bytes text.old ++ spaced (decimal lane) (spaced name.now (decimal number))) }
+{
+    write!(text, "{lane} {name} {number}")
+}
+
 fn write_publish(
     text: &mut String,
     lane: u32,
@@ -101,9 +110,10 @@ fn write_publish(
 ) -> Result<(), AllocError>
     ensures { OnOk result (string_bytes text.new ≡ string_bytes text.old ++ act_text (acts.Publish lane key content.now with_ref)) }
 {
-    write!(text, "{lane} publish {key} ")?;
+    write_head(text, lane, "publish", key)?;
+    text.push_str(" ")?;
     write_content(text, content.as_slice())?;
-    write!(text, " {}\n", u8::from(with_ref))
+    text.push_str(if with_ref { " 1\n" } else { " 0\n" })
 }
 
 fn write_get(
@@ -114,36 +124,57 @@ fn write_get(
 ) -> Result<(), AllocError>
     ensures { OnOk result (string_bytes text.new ≡ string_bytes text.old ++ act_text (acts.Get lane key reply.now)) }
 {
+    write_head(text, lane, "get", key)?;
     match reply {
         Some(content) => {
-            write!(text, "{lane} get {key} some ")?;
+            text.push_str(" some ")?;
             write_content(text, content.as_slice())?;
             text.push_str("\n")
         }
-        None => write!(text, "{lane} get {key} none\n"),
+        None => text.push_str(" none\n"),
     }
 }
 
 fn write_clear(text: &mut String, lane: u32, key: u64, reply: bool) -> Result<(), AllocError>
     ensures { OnOk result (string_bytes text.new ≡ string_bytes text.old ++ act_text (acts.Clear lane key reply)) }
 {
-    if reply {
-        write!(text, "{lane} clear {key} true\n")
-    } else {
-        write!(text, "{lane} clear {key} false\n")
-    }
+    write_head(text, lane, "clear", key)?;
+    text.push_str(if reply { " true\n" } else { " false\n" })
 }
 
-fn write_collect(text: &mut String, lane: u32, places: &Places) -> Result<(), AllocError>
-    ensures { OnOk result (string_bytes text.new ≡ string_bytes text.old ++ act_text (acts.Collect lane places.now)) }
+/// The line of an act that has a number alone.
+fn write_short(text: &mut String, lane: u32, name: &str, number: u64) -> Result<(), AllocError>
+    ensures { OnOk result (string_bytes text.new ≡ string_bytes text.old ++ (spaced (decimal lane) (spaced name.now (decimal number)) ++ codes "\n")) }
 {
-    write!(text, "{lane} collect ")?;
-    write_places(text, places.as_slice())?;
+    write_head(text, lane, name, number)?;
     text.push_str("\n")
 }
 
-fn write_line(text: &mut String, act: &Act) -> Result<(), AllocError>
-    ensures { OnOk result (string_bytes text.new ≡ string_bytes text.old ++ act_text act.now) }
+fn write_collect(text: &mut String, lane: u32, places: &[u32]) -> Result<(), AllocError>
+    ensures { OnOk result (string_bytes text.new ≡ string_bytes text.old ++ act_text (acts.Collect lane places.now)) }
+{
+    write!(text, "{lane} collect ")?;
+    write_places(text, places)?;
+    text.push_str("\n")
+}
+
+/// The line of a collect, with its places in rising order.
+fn write_risen(
+    alloc: Global,
+    text: &mut String,
+    lane: u32,
+    places: &Places,
+) -> Result<(), AllocError>
+    ensures { OnOk result ((risen : List ℕ) × IsPermutation places.now risen × IsSorted nat_cmp risen
+        × (string_bytes text.new ≡ string_bytes text.old ++ act_text (acts.Collect lane risen))) }
+{
+    let mut risen = Vec::from_slice(alloc, places.as_slice())?;
+    risen.sort()?;
+    write_collect(text, lane, risen.as_slice())
+}
+
+fn write_act(alloc: Global, text: &mut String, act: &Act) -> Result<(), AllocError>
+    ensures { OnOk result ((written : Act) × IsWritten act.now written × (string_bytes text.new ≡ string_bytes text.old ++ act_text written)) }
 {
     match act {
         Act::Publish {
@@ -153,28 +184,11 @@ fn write_line(text: &mut String, act: &Act) -> Result<(), AllocError>
             with_ref,
         } => write_publish(text, *lane, *key, content, *with_ref),
         Act::Get { lane, key, reply } => write_get(text, *lane, *key, reply),
-        Act::Release { lane, key } => write!(text, "{lane} release {key}\n"),
+        Act::Release { lane, key } => write_short(text, *lane, "release", *key),
         Act::Clear { lane, key, reply } => write_clear(text, *lane, *key, *reply),
-        Act::Reclaim { lane, key } => write!(text, "{lane} reclaim {key}\n"),
-        Act::Home { lane, place } => write!(text, "{lane} home {place}\n"),
-        Act::Collect { lane, places } => write_collect(text, *lane, places),
-    }
-}
-
-fn write_act(alloc: Global, text: &mut String, act: &Act) -> Result<(), AllocError>
-    ensures { OnOk result ((written : Act) × IsWritten act.now written × (string_bytes text.new ≡ string_bytes text.old ++ act_text written)) }
-{
-    match act {
-        Act::Collect { lane, places } => {
-            let mut risen = Vec::from_slice(alloc, places.as_slice())?;
-            risen.sort()?;
-            let written = Act::Collect {
-                lane: *lane,
-                places: Places::from_vec(risen),
-            };
-            write_line(text, &written)
-        }
-        _ => write_line(text, act),
+        Act::Reclaim { lane, key } => write_short(text, *lane, "reclaim", *key),
+        Act::Home { lane, place } => write_short(text, *lane, "home", u64::from(*place)),
+        Act::Collect { lane, places } => write_risen(alloc, text, *lane, places),
     }
 }
 

@@ -128,10 +128,11 @@ impl SeqPool {
             return Err(ApplyFault::NotWithLane);
         }
         let place = place_of(key);
-        if !self.row(place).is_with(lane) {
+        let row = self.row(place);
+        if !row.is_with(lane) {
             return Err(ApplyFault::NotWithLane);
         }
-        if self.row(place).generation != generation_of(key) {
+        if row.generation != generation_of(key) {
             return Err(ApplyFault::WrongGeneration);
         }
         Ok(place)
@@ -227,13 +228,14 @@ impl SeqPool {
         match self.current(key) {
             None => Err(ApplyFault::NotMarked),
             Some(place) => {
-                if !self.row(place).is_marked() {
+                let row = self.row(place);
+                if !row.is_marked() {
                     return Err(ApplyFault::NotMarked);
                 }
-                if self.row(place).is_held() {
+                if row.is_held() {
                     return Err(ApplyFault::StillHeld);
                 }
-                let generation = self.row(place).generation;
+                let generation = row.generation;
                 if generation == self.shape.last_generation {
                     self.put(place, generation, Standing::Retired);
                 } else {

@@ -132,9 +132,14 @@ impl Row {
             ((lane : ℕ) → references_in (phase_of self.now.standing) lane ≡ 0) }
     {
         match &self.standing {
-            Standing::Published { references, .. } => references
-                .iter()
-                .any(|tally| tally.count() != 0),
+            Standing::Published { references, .. } => {
+                for tally in references.as_slice() {
+                    if tally.count() != 0 {
+                        return true;
+                    }
+                }
+                false
+            }
             _ => false,
         }
     }
@@ -156,10 +161,10 @@ impl Row {
         ensures ok { OnOk result (spot_of self.new ≡ spot self.old.generation (gained lane (phase_of self.old.standing))) }
         ensures err { OnErr result (self.new ≡ self.old) }
     {
-        if let Standing::Published { references, .. } = &mut self.standing {
-            references[lane as usize].add()?;
+        match &mut self.standing {
+            Standing::Published { references, .. } => references[lane as usize].add(),
+            _ => Ok(()),
         }
-        Ok(())
     }
 
     /// One reference less of the lane, which has one.

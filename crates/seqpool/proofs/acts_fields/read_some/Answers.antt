@@ -1,6 +1,5 @@
 use Rattle.std.proofs.Common.{◌≡◌, ◌≢◌, ◌∙◌, ◌++◌, ℕ, List, codes, refl, sym}
 use Rattle.std.proofs.lemmas.Bool.{false≢true}
-use Rattle.std.proofs.lemmas.Option.{MatchOption-at_some}
 use Rattle.seqpool.specs.ActsText.{content_text, AreBytes}
 use Rattle.seqpool.specs.ReadTexts.{NothingHas}
 use Rattle.seqpool.proofs.Parts.{IsCut, one-cut, lacks-Without}
@@ -13,6 +12,5 @@ unworded text a b (cuts, one) other bytes (are, is) =
 
 pub returns-then-not-is_word : goal.returns-then-not-is_word
 returns-then-not-is_word c =
-    let cuts = MatchOption-at_some _ _ (c.in_ok-word.word, c.in_ok-word.content) (c.in_ok-word.ensures {u = tt}).ok_part c.cut.ensures in
-    let other : c.in_ok-word.word.now ≢ codes "some" = λ same. absurd (false≢true (sym c.if-not-is_word.true ∙ c.is_word.ensures.1 same)) in
-    unworded c.args.text.now c.in_ok-word.word.now c.in_ok-word.content.now cuts other
+    let other : c.in-Some.word.now ≢ codes "some" = λ same. absurd (false≢true (sym c.if-not-is_word.true ∙ c.is_word.ensures.1 same)) in
+    unworded c.args.text.now c.in-Some.word.now c.in-Some.content.now c.in-Some.ensures other

@@ -1,29 +1,25 @@
-use Rattle.std.proofs.Common.{rules, ◌≡◌, None}
-use Rattle.seqpool.proofs.ShapeTexts.{shape-of, no-first_page, no-pages, no-last}
+use Rattle.seqpool.proofs.ShapeTexts.{shape-of, no-lanes, no-first_page, no-pages, no-last}
 use Rattle.seqpool.proofs.acts_reader.read_numbers.Goals as goal
 
-pub returns-in_err-first_page : goal.returns-in_err-first_page
-returns-in_err-first_page c =
-    let left : c.from_residual-in_err-first_page.result ≡ None = search rules in
-    rw left
-    (no-first_page c.in_ok-lanes.lanes c.args.text.now c.in_ok-lanes.rest.now c.in_ok-lanes.ensures (c.in_err-first_page.ensures {u = tt}))
+pub returns-in_default : goal.returns-in_default
+returns-in_default c = no-lanes c.args.text.now c.in_default.ensures
 
-pub returns-in_err-pages : goal.returns-in_err-pages
-returns-in_err-pages c =
-    let left : c.from_residual-in_err-pages.result ≡ None = search rules in
-    rw left
-    (no-pages c.in_ok-lanes.lanes c.in_ok-first_page.first_page c.args.text.now c.in_ok-lanes.rest.now c.in_ok-first_page.rest.now
-    c.in_ok-lanes.ensures c.in_ok-first_page.ensures (c.in_err-pages.ensures {u = tt}))
+pub returns-in_default-read_u32_before : goal.returns-in_default-read_u32_before
+returns-in_default-read_u32_before c =
+    no-first_page c.in-Some.lanes c.args.text.now c.in-Some.rest.now c.in-Some.ensures c.in_default-read_u32_before.ensures
 
-pub returns-in_err-last_generation : goal.returns-in_err-last_generation
-returns-in_err-last_generation c =
-    let left : c.from_residual-in_err-last_generation.result ≡ None = search rules in
-    rw left
-    (no-last c.in_ok-lanes.lanes c.in_ok-first_page.first_page c.in_ok-pages.pages c.args.text.now c.in_ok-lanes.rest.now
-    c.in_ok-first_page.rest.now c.in_ok-pages.rest.now c.in_ok-lanes.ensures c.in_ok-first_page.ensures c.in_ok-pages.ensures
-    (c.in_err-last_generation.ensures {u = tt}))
+pub returns-in_default-read_u32_before-2 : goal.returns-in_default-read_u32_before-2
+returns-in_default-read_u32_before-2 c =
+    no-pages c.in-Some.lanes c.in-Some-read_u32_before.first_page c.args.text.now c.in-Some.rest.now c.in-Some-read_u32_before.rest.now
+    c.in-Some.ensures c.in-Some-read_u32_before.ensures c.in_default-read_u32_before-2.ensures
+
+pub returns-in_default-read_ending : goal.returns-in_default-read_ending
+returns-in_default-read_ending c =
+    no-last c.in-Some.lanes c.in-Some-read_u32_before.first_page c.in-Some-read_u32_before-2.pages c.args.text.now c.in-Some.rest.now
+    c.in-Some-read_u32_before.rest.now c.in-Some-read_u32_before-2.rest.now c.in-Some.ensures c.in-Some-read_u32_before.ensures
+    c.in-Some-read_u32_before-2.ensures c.in_default-read_ending.ensures
 
 pub returns : goal.returns
 returns c =
-    shape-of _ c.args.text.now c.in_ok-lanes.rest.now c.in_ok-first_page.rest.now c.in_ok-pages.rest.now c.in_ok-lanes.ensures
-    c.in_ok-first_page.ensures c.in_ok-pages.ensures c.in_ok-last_generation.ensures
+    shape-of _ c.args.text.now c.in-Some.rest.now c.in-Some-read_u32_before.rest.now c.in-Some-read_u32_before-2.rest.now c.in-Some.ensures
+    c.in-Some-read_u32_before.ensures c.in-Some-read_u32_before-2.ensures c.in-Some-read_ending.ensures

@@ -5,5 +5,5 @@ use Rattle.seqpool.proofs.acts_reader.read_shape.Goals as goal
 
 pub returns-then-not-is_word : goal.returns-then-not-is_word
 returns-then-not-is_word c =
-    let other : c.in_ok-word.word.now ≢ codes "shape" = λ same. absurd (false≢true (sym c.if-not-is_word.true ∙ c.is_word.ensures.1 same)) in
-    shape-unworded c.args.line.now c.in_ok-word.word.now c.in_ok-word.numbers.now c.in_ok-word.ensures other
+    let other : c.in-Some.word.now ≢ codes "shape" = λ same. absurd (false≢true (sym c.if-not-is_word.true ∙ c.is_word.ensures.1 same)) in
+    shape-unworded c.args.line.now c.in-Some.word.now c.in-Some.numbers.now c.in-Some.ensures other
