@@ -186,7 +186,9 @@ fn open_page<T: Clear + Drop>(lane: &mut Lane<T>) -> Result<(), CreateFault>
         return Err(CreateFault::Full);
     }
     let size = lane.state.shape.page_size(page);
-    let objects = fresh_objects(lane.state.alloc, size).ok_or(CreateFault::Memory)?;
+    let Some(objects) = fresh_objects(lane.state.alloc, size) else {
+        return Err(CreateFault::Memory);
+    };
     open_next(&mut lane.state, objects);
     Ok(())
 }

@@ -249,13 +249,13 @@ impl<T: Clear + Drop> Pool<T> {
         ensures room { room_of lane.new.book.seen lane.new.book.rooms (place_of filling.key) ≡ T.room filling.object }
         ensures fillings { (other : FillingOf T) → other.key ≢ filling.key → Made lane.old other → Made lane.new other }
     {
-        let (key, start, object) = filling.spend();
+        let (key, start, written) = filling.spend();
         let spot = Spot {
             place: place_of(key),
             start,
         };
         let number = lane.state.number;
-        let whole = give_out(&mut lane.state, spot, object);
+        let whole = give_out(&mut lane.state, spot, written);
         publish(&self.grid, &mut lane.hand, spot, number, key, whole);
         key
     }

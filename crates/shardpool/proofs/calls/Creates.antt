@@ -1,8 +1,8 @@
 -- How the parts of a create make the whole.
-use Rattle.std.proofs.Common.{◌≡◌, ◌≢◌, ◌⊎◌, inl, inr, ⊎_elim, ℕ, zero, suc, ◌+◌, ◌^◌, ◌<◌, ◌≤◌, ◌==◌, ◌&&◌, Bool, true, false, cond, eqb, nat_lt, List, [], ◌∷◌, ◌++◌, map, length, Option, Some, None, refl, sym, ap, ◌∙◌, subst, arith, eq-eqb, ne_eqb, eqb-true, append-nil, length-append}
+use Rattle.std.proofs.Common.{◌≡◌, ◌≢◌, ◌⊎◌, inl, inr, ⊎_elim, ℕ, zero, suc, ◌+◌, ◌^◌, ◌<◌, ◌≤◌, ◌==◌, ◌&&◌, Bool, true, false, cond, eqb, nat_lt, List, [], ◌∷◌, ◌++◌, map, length, Option, Some, None, refl, sym, ap, ◌∙◌, subst, arith, eq-eqb, ne_eqb, eqb-true, append-nil, length-append, Ok, Err, is_err}
 use Rattle.std.specs.List.{Contains}
 use Rattle.std.specs.Prelude.{IsSome}
-use Rattle.std.proofs.lemmas.Bool.{cases_Bool}
+use Rattle.std.proofs.lemmas.Bool.{cases_Bool, false≢true}
 use Rattle.std.proofs.lemmas.List.Elements.{All-nil, All-cons, All-head, All-contains_itself}
 use mathlib.Core.Logic.{dite}
 use mathlib.Core.List.{IsPrefix}
@@ -52,6 +52,10 @@ use Rattle.shardpool.proofs.frame.Standing.{sees-on}
 use Rattle.shardpool.proofs.frame.LaneFrames.{acted-refs}
 use Rattle.shardpool.proofs.frame.KeptPlaces.{none-brings}
 use Rattle.shardpool.specs.Creates.{creating, Created, HandsOut, GivesNone, IsLoose, Gives, Pops, TakesReturned, FollowsChain, OpensPage, Fills, page_slots}
+
+-- what is given is no fault
+pub given-isnt : {A E : Type 0} {given : A} {fault : E} → Ok given ≡ Err fault → ⊥
+given-isnt is = false≢true (ap is_err is)
 
 -- what a create needs of its lane: the seat is sound, the places of unopened pages are with the lane, and the first place of its chain is known
 pub record IsSound (lane : LaneOf) : Type 0 where

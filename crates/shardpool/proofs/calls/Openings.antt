@@ -11,8 +11,6 @@ use Rattle.std.proofs.lemmas.List.Folds.{sum_by-replicate}
 use Rattle.keybits.specs.declared.shape.Shape.{Shape}
 use Rattle.keybits.specs.Places.{shard_of}
 use Rattle.keybits.specs.Shapes.{IsShape, shard_places, index_of}
-use Rattle.keybits.specs.Keys.{is_key, generation_of}
-use Rattle.keybits.proofs.KeyLemmas.{key_parts}
 use Rattle.keybits.proofs.ShapeLemmas.{index_of-lt}
 use Rattle.placerows.specs.Objects.{ObjectsOf}
 use Rattle.poolsteps.specs.declared.layout.TheConstants.{SHARDS_APART}

@@ -1,8 +1,9 @@
 -- The first place of the list comes off it.
-use Rattle.std.proofs.Common.{◌≡◌, true, ℕ, refl, ap, sym, ◌∙◌, subst}
+use Rattle.std.proofs.Common.{◌≡◌, ◌<◌, true, ℕ, refl, ap, sym, ◌∙◌, subst}
+use Rattle.std.proofs.lemmas.Bool.{false≢true}
 use Rattle.keybits.specs.Shapes.{is_place}
 use Rattle.poolsteps.specs.Grids.{IsSpot}
-use Rattle.poolsteps.specs.Layout.{slot_start}
+use Rattle.poolsteps.specs.Layout.{slot_start, shard_start}
 use Rattle.shardpool.specs.Tokens.{LaneOf}
 use Rattle.shardpool.specs.Creates.{Pops}
 use Rattle.shardpool.specs.Lanes.{Made}
@@ -10,6 +11,20 @@ use Rattle.shardpool.proofs.calls.Ends.{fits-beside, own-placed}
 use Rattle.shardpool.proofs.frame.LaneFacts.{lane_of}
 use Rattle.shardpool.proofs.free.OwnLists.{listed-object, popped-inside, popped-fits, popped, popped-fillings}
 use Rattle.shardpool.proofs.create.pop.Goals as goal
+
+pub take_own-requires-clause-shape : goal.take_own-requires-clause-shape
+take_own-requires-clause-shape g c = c.lane.invariant.1.seat.shape
+
+pub take_own-requires-clause-lane : goal.take_own-requires-clause-lane
+take_own-requires-clause-lane g c =
+    let fits = c.lane.invariant.1 in
+    subst (λ (n : ℕ). n < c.lane.inside.state.shape.lanes) (fits.seat.number_is ∙ sym fits.stores.lists.0) fits.seat.below
+
+pub take_own-requires-clause-lists : goal.take_own-requires-clause-lists
+take_own-requires-clause-lists g c = c.lane.invariant.1.stores.lists.1
+
+pub take_own-requires-clause-begins : goal.take_own-requires-clause-begins
+take_own-requires-clause-begins g c = let fits = c.lane.invariant.1 in fits.rights.first_is ∙ ap (shard_start c.lane.inside.state.shape) (sym fits.stores.lists.0)
 
 pub take_own-requires-clause-objects : goal.take_own-requires-clause-objects
 take_own-requires-clause-objects g c = listed-object c.lane.invariant.1
@@ -45,3 +60,15 @@ returns-clause-spot g c =
 pub returns-clause-fillings : goal.returns-clause-fillings
 returns-clause-fillings g c = λ filling made.
     popped-fillings c.lane.invariant.1 c.in_ok-place.ensures.0 c.lane.inside.hand.table_id filling (subst (λ (lane : LaneOf). Made lane filling) (sym c.lane.view_is) made)
+
+pub number-requires-clause-page : goal.number-requires-clause-page
+number-requires-clause-page g c = (popped-inside c.lane.invariant.1 c.in_ok-place.ensures.0).low_page
+
+pub returns-clause-none : goal.returns-clause-none
+returns-clause-none g c = λ none. absurd (false≢true (sym none))
+
+pub returns-in_err-place-clause-some : goal.returns-in_err-place-clause-some
+returns-in_err-place-clause-some g c = rw c.from_residual.ensures tt
+
+pub returns-in_err-place-clause-spot : goal.returns-in_err-place-clause-spot
+returns-in_err-place-clause-spot g c = rw c.from_residual.ensures tt

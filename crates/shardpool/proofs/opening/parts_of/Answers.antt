@@ -27,12 +27,12 @@ loop-hand-init g c =
 
 pub part_of-requires-clause-hand : goal.part_of-requires-clause-hand
 part_of-requires-clause-hand g c =
-    let stand : c.len-number.result ≡ length c.loop-hand.parts.items = search rules in
+    let stand : c.len-number.result ≡ length c.loop-hand.parts.items = c.len-number.ensures ∙ c.loop-hand.parts.ok.0 in
     (next g (goal.at.part_of-requires-clause-hand g c).In-Some).1.1 ∙ ap (λ (n : ℕ). (first_book n, [])) (sym (stand ∙ c.loop-hand.invariant.made.stand))
 
 pub part_of-requires-clause-number : goal.part_of-requires-clause-number
 part_of-requires-clause-number g c =
-    let number : c.len-number.result ≡ length c.loop-hand.parts.items = search rules in
+    let number : c.len-number.result ≡ length c.loop-hand.parts.items = c.len-number.ensures ∙ c.loop-hand.parts.ok.0 in
     let stand = c.loop-hand.invariant.made.stand in
     let low = (next g (goal.at.part_of-requires-clause-number g c).In-Some).0 in
     let lanes : c.in_ok-grid.grid.shape.lanes ≡ c.args.shape.now.lanes = λ i. (c.in_ok-grid.ensures.shape.0 i).lanes in
@@ -51,7 +51,7 @@ loop-hand-preserved g c =
     let before = c.loop-hand in
     let grid = c.in_ok-grid.grid in
     let pushed = c.push_reserved in
-    let stand : c.len-number.result ≡ length before.parts.items = search rules in
+    let stand : c.len-number.result ≡ length before.parts.items = c.len-number.ensures ∙ before.parts.ok.0 in
     let first = next g (goal.at.loop-hand-preserved g c).In-Some in
     let part = part-made grid c.args.shape.now c.args.directory.ptr c.len-number.result (length before.yielded) c.in-Some.hand c.in_ok-part_of.field-0 c.in_ok-grid.ensures.shape.0
     (λ i. (c.in_ok-grid.ensures.shape.1 i).ptr) (stand ∙ before.invariant.made.stand) first.1 c.in_ok-part_of.ensures.0 c.in_ok-part_of.ensures.1 in record {

@@ -2,7 +2,7 @@
 use Rattle.std.proofs.Common.{◌≡◌, ◌+◌, ◌*◌, ◌<◌, ℕ, true, None, length, ap, sym, ◌∙◌, subst, arith, length-set}
 use Rattle.std.specs.Prelude.{slice_get, slice_set}
 use Rattle.keybits.specs.declared.shape.Shape.{Shape}
-use Rattle.keybits.specs.Shapes.{is_place, position_of, shard_places}
+use Rattle.keybits.specs.Shapes.{is_place, position_of, shard_places, all_places}
 use Rattle.poolsteps.specs.Layout.{slot_start, slot_row, slot_index, shard_start}
 use Rattle.poolsteps.proofs.SlotLemmas.{in-row, slot-below}
 use Rattle.shardpool.specs.declared.state.HeldKey.{HeldKey}
@@ -10,7 +10,7 @@ use Rattle.shardpool.specs.Remains.{GivesRow, GivesTo}
 use Rattle.shardpool.proofs.at_close.LastHistory.{entry-at}
 use Rattle.shardpool.proofs.at_close.ReturnedShares.{back-more}
 use Rattle.shardpool.proofs.free.Words.{stands-from}
-use Rattle.shardpool.proofs.count.Counts.{at-position}
+use Rattle.shardpool.proofs.count.Counts.{at-position, position-below}
 use Rattle.shardpool.proofs.returned_shares.give_shard.Goals as goal
 
 -- where the place of this index stands, and its slot
@@ -24,6 +24,61 @@ starts z shard index place first places first_is same low inside position =
 
 slot-is : (z : Shape) (place number row at : ℕ) → row ≡ slot_row z → slot_start z place ≡ at → number * row + at ≡ slot_index z place number
 slot-is z place number row at row_is at_is = ap (λ (n : ℕ). number * n + at) row_is ∙ ap (λ (n : ℕ). number * slot_row z + n) (sym at_is)
+
+none-more : (n : ℕ) → n ≡ n + 0
+none-more n = omega arith
+
+-- the place is one of the pool
+in-all : (z : Shape) (shard index places : ℕ) → shard < z.lanes → places ≡ shard_places z → index < places → shard * places + index < all_places z
+in-all z shard index places low same below =
+    subst (λ (n : ℕ). shard * n + index < all_places z) (sym same) (position-below z shard index low (omega (arith, below, same)))
+
+-- ---- the shape is within its limits, and the shard is one of its lanes
+
+pub shard_places-places-requires : goal.shard_places-places-requires
+shard_places-places-requires g c = c.requires.shape
+
+pub shard_start-start-requires-clause-shape : goal.shard_start-start-requires-clause-shape
+shard_start-start-requires-clause-shape g c = c.requires.shape
+
+pub slot_row-wide-requires : goal.slot_row-wide-requires
+slot_row-wide-requires g c = c.requires.shape
+
+pub place_at-requires-clause-shape : goal.place_at-requires-clause-shape
+place_at-requires-clause-shape g c = c.requires.shape
+
+pub shard_start-start-requires-clause-shard : goal.shard_start-start-requires-clause-shard
+shard_start-start-requires-clause-shard g c = c.requires.lanes.1
+
+-- ---- the rows
+
+pub loop-index-init : goal.loop-index-init
+loop-index-init g c =
+    let z = c.args.shape.now in
+    let none : c.args.shard * shard_places z ≡ c.args.shard * shard_places z + 0 = none-more (c.args.shard * shard_places z) in record {
+      wide = c.requires.wide;
+      row = c.requires.row;
+      given = λ all first h. subst (λ (n : ℕ). GivesTo z c.args.number all n c.args.rows.now.items first c.args.slots.now) none h;
+    }
+
+pub place_at-requires-clause-position : goal.place_at-requires-clause-position
+place_at-requires-clause-position g c =
+    in-all c.args.shape.now c.args.shard c.loop-index.index c.shard_places-places.result c.requires.lanes.1 c.shard_places-places.ensures c.loop-index-test.true
+
+pub overflow_mul-shard : goal.overflow_mul-shard
+overflow_mul-shard g c =
+    let low = in-all c.args.shape.now c.args.shard c.loop-index.index c.shard_places-places.result c.requires.lanes.1 c.shard_places-places.ensures c.loop-index-test.true in
+    let wide = c.slot_row-wide.ensures in
+    omega (arith, low, wide)
+
+pub overflow_add-shard : goal.overflow_add-shard
+overflow_add-shard g c =
+    let low = in-all c.args.shape.now c.args.shard c.loop-index.index c.shard_places-places.result c.requires.lanes.1 c.shard_places-places.ensures c.loop-index-test.true in
+    let wide = c.slot_row-wide.ensures in
+    omega (arith, low, wide)
+
+pub give_row-requires-clause-full : goal.give_row-requires-clause-full
+give_row-requires-clause-full g c = c.loop-index.invariant.row.0
 
 pub take_row-row-requires : goal.take_row-row-requires
 take_row-row-requires g c =
@@ -79,6 +134,12 @@ loop-index-preserved g c =
           (slot-is z place c.args.number c.slot_row-wide.result first_at c.slot_row-wide.ensures at)
           (sym (before.stay place inside (omega (arith, position))) ∙ entry.1) left before gives);
     }
+
+pub returns-clause-wide : goal.returns-clause-wide
+returns-clause-wide g c = c.loop-index.invariant.wide
+
+pub returns-clause-row : goal.returns-clause-row
+returns-clause-row g c = c.loop-index.invariant.row
 
 pub returns-clause-gives : goal.returns-clause-gives
 returns-clause-gives g c = λ all first h.

@@ -1,5 +1,7 @@
 -- A clear: what it leaves of the lane.
 use Rattle.std.proofs.Common.{◌≡◌, true, false, refl, sym, ap, ◌∙◌, arith}
+use Rattle.std.proofs.lemmas.Bool.{false≢true}
+use Rattle.poolsteps.proofs.ViewLemmas.{prefix-self}
 use Rattle.keybits.specs.Keys.{is_key}
 use Rattle.shardpool.proofs.calls.CallParts.{calls-more}
 use Rattle.shardpool.proofs.calls.Halts.{fits-own}
@@ -103,3 +105,46 @@ returns-clause-seen g c = seen-of (returns-clause-clears g c (c.in-Some.ensures.
 pub returns-in_default-clause-missed : goal.returns-in_default-clause-missed
 returns-in_default-clause-missed g c none =
     missed-outside c.args.self.now.shape c.args.lane.now c.args.key (rw (← c.lane.view_is) c.lane.invariant.1.seat.legal) c.requires.owns.1 (λ is. cc (c.in_default.ensures.some.1 is))
+
+-- ---- it is no key of the pool
+
+pub returns-in_default-clause-owns : goal.returns-in_default-clause-owns
+returns-in_default-clause-owns g c = c.requires.owns
+
+pub returns-in_default-clause-same : goal.returns-in_default-clause-same
+returns-in_default-clause-same g c = (refl, refl, refl, refl)
+
+pub returns-in_default-clause-outside : goal.returns-in_default-clause-outside
+returns-in_default-clause-outside g c = λ outside. (refl, refl)
+
+pub returns-in_default-clause-called : goal.returns-in_default-clause-called
+returns-in_default-clause-called g c = λ inside. absurd (false≢true (c.in_default.ensures.some.1 inside))
+
+pub returns-in_default-clause-clears : goal.returns-in_default-clause-clears
+returns-in_default-clause-clears g c = λ inside. absurd (false≢true (c.in_default.ensures.some.1 inside))
+
+pub returns-in_default-clause-cleared : goal.returns-in_default-clause-cleared
+returns-in_default-clause-cleared g c = λ yes. absurd (false≢true yes)
+
+pub returns-in_default-clause-seen : goal.returns-in_default-clause-seen
+returns-in_default-clause-seen g c = prefix-self c.args.lane.now.book.seen
+
+pub returns-in_default-clause-refs : goal.returns-in_default-clause-refs
+returns-in_default-clause-refs g c = refl
+
+pub returns-in_default-clause-held : goal.returns-in_default-clause-held
+returns-in_default-clause-held g c = λ key. refl
+
+pub returns-in_default-clause-fillings : goal.returns-in_default-clause-fillings
+returns-in_default-clause-fillings g c = λ filling made. made
+
+-- ---- what became of the place is kept
+
+pub keep_reclaimed-requires-clause-shape : goal.keep_reclaimed-requires-clause-shape
+keep_reclaimed-requires-clause-shape g c = c.lane.invariant.1.seat.shape
+
+pub keep_reclaimed-requires-clause-narrow : goal.keep_reclaimed-requires-clause-narrow
+keep_reclaimed-requires-clause-narrow g c = c.lane.invariant.1.stores.narrow
+
+pub keep_reclaimed-requires-clause-wide : goal.keep_reclaimed-requires-clause-wide
+keep_reclaimed-requires-clause-wide g c = c.lane.invariant.1.last_pushed.wide

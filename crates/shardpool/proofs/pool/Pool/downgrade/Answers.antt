@@ -1,5 +1,6 @@
 use Rattle.std.proofs.Common.{◌≡◌, ◌<◌, ◌+◌, true, List, [], ◌∷◌, ℕ, length, slice_get, slice_set, Some, refl, sym, ap, ◌∙◌, subst, arith}
 use Rattle.keybits.specs.declared.shape.Shape.{Shape}
+use Rattle.sharelaws.specs.Shares.{room_of}
 use Rattle.poolsteps.specs.Layout.{slot_start, spots_at}
 use Rattle.keybits.specs.Keys.{place_of, generation_of}
 use Rattle.seqpool.specs.declared.act.Act.{Act}
@@ -49,6 +50,9 @@ module _ (g : Over) (c : goal.After-to g) where
 
   was : Made before filling
   was = subst (λ (f : FillingOf g.row.T.Denot). Made before f) (sym same) (subst (λ (l : LaneOf). Made l c.args.filling) (sym c.lane.view_is) c.requires.made)
+
+pub give_out-whole-requires-clause-shape : goal.give_out-whole-requires-clause-shape
+give_out-whole-requires-clause-shape g c = c.lane.invariant.1.seat.shape
 
 pub give_out-whole-requires-clause-spot : goal.give_out-whole-requires-clause-spot
 give_out-whole-requires-clause-spot g c =
@@ -132,6 +136,9 @@ returns-clause-publishes g c =
     = ap (λ (f : FillingOf g.row.T.Denot). acts.Publish s.number f.key (g.T.Clear.content f.object) true) (same g c) in
     rw (← c.lane.view_is) (subst (λ (x : Act). Did (x ∷ []) (before g c) (lane_of c.downgrade-share.new.hand.table_id c.downgrade-share.new.hand.me.0 c.add_first_reference.new.state)) one did)
 
+pub returns-clause-owns : goal.returns-clause-owns
+returns-clause-owns g c = let same = (returns-clause-publishes g c).same in (same.0 ∙ c.requires.owns.0, same.1 ∙ c.requires.owns.1, same.3 ∙ c.requires.owns.2)
+
 pub returns-clause-refs : goal.returns-clause-refs
 returns-clause-refs g c =
     let s = c.lane.inside.state in
@@ -156,3 +163,11 @@ returns-clause-published g c = published-since _ _ _ _ _ (returns-clause-publish
 
 pub returns-clause-seen : goal.returns-clause-seen
 returns-clause-seen g c = seen-of (returns-clause-publishes g c).goes
+
+-- ---- the room is that of its object
+
+pub returns-clause-room : goal.returns-clause-room
+returns-clause-room g c =
+    let now = c.downgrade-share.new.hand.me.0 in
+    ap (λ (key : ℕ). room_of now.seen now.rooms (place_of key)) (sym c.spend-key.ensures.0)
+    ∙ (c.downgrade-share.ensures.room ∙ ap g.T.Clear.room (c.give_out-whole.ensures.whole.1 ∙ c.spend-key.ensures.2))

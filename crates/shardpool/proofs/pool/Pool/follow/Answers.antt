@@ -1,5 +1,9 @@
 -- The chain's first place is followed.
-use Rattle.std.proofs.Common.{◌≡◌, ◌<◌, Some, refl, ap, sym, ◌∙◌, subst}
+use Rattle.std.proofs.Common.{◌≡◌, ◌<◌, Option, Some, None, is_some, refl, ap, sym, ◌∙◌, subst}
+use Rattle.std.proofs.lemmas.Bool.{false≢true}
+use Rattle.keybits.specs.declared.place.Place.{Place}
+use Rattle.poolsteps.specs.Views.{the_lane}
+use Rattle.shardpool.specs.LaneStates.{IsFirst}
 use Rattle.keybits.specs.declared.shape.Shape.{Shape}
 use Rattle.seqpool.specs.Pool.{with}
 use Rattle.poolsteps.specs.Grids.{IsSpot}
@@ -12,6 +16,41 @@ use Rattle.shardpool.proofs.calls.Ends.{fits-beside, own-begins}
 use Rattle.shardpool.proofs.frame.SeenHistories.{same-shape, same-directory}
 use Rattle.shardpool.proofs.free.Takes.{follows-here, hung-inside, hung-begins, hung-rests, follow-goes, followed-fits, followed-chain, followed-fillings}
 use Rattle.shardpool.proofs.pool.Pool.follow.Goals as goal
+
+-- ---- no taken place is still to be followed
+
+pub returns-in_err-first-clause-none : goal.returns-in_err-first-clause-none
+returns-in_err-first-clause-none g c = λ none.
+    let hung : c.lane.inside.state.free.chain ≡ None = sym c.chain.ensures.first ∙ c.in_err-first.was in (
+      refl,
+      ap (λ (lane : LaneOf). (the_lane lane.book).chain) (sym c.lane.view_is)
+          ∙ subst (λ (first : Option Place). IsFirst first (the_lane c.lane.inside.hand.me.0).chain) hung c.lane.invariant.1.stores.first,
+    )
+
+pub returns-in_err-first-clause-some : goal.returns-in_err-first-clause-some
+returns-in_err-first-clause-some g c = rw c.from_residual.ensures tt
+
+pub returns-in_err-first-clause-spot : goal.returns-in_err-first-clause-spot
+returns-in_err-first-clause-spot g c = rw c.from_residual.ensures tt
+
+pub returns-in_err-first-clause-fillings : goal.returns-in_err-first-clause-fillings
+returns-in_err-first-clause-fillings g c = λ filling made. made
+
+-- ---- the first is followed
+
+pub follow_on-object-requires-clause-shape : goal.follow_on-object-requires-clause-shape
+follow_on-object-requires-clause-shape g c = c.lane.invariant.1.seat.shape
+
+pub follow_on-object-requires-clause-narrow : goal.follow_on-object-requires-clause-narrow
+follow_on-object-requires-clause-narrow g c = c.lane.invariant.1.stores.narrow
+
+pub follow_on-object-requires-clause-chain : goal.follow_on-object-requires-clause-chain
+follow_on-object-requires-clause-chain g c =
+    let hung : c.lane.inside.state.free.chain ≡ Some c.in_ok-first.first = sym c.chain.ensures.first ∙ c.in_ok-first.was in
+    ap (λ (first : Option Place). is_some first) hung
+
+pub returns-clause-none : goal.returns-clause-none
+returns-clause-none g c = λ none. absurd (false≢true (sym none))
 
 pub number-requires-clause-page : goal.number-requires-clause-page
 number-requires-clause-page g c =

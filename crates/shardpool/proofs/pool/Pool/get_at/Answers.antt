@@ -1,5 +1,7 @@
 -- A get: what a miss leaves of the lane, and what a hit does whose key the lane has already, or not yet.
-use Rattle.std.proofs.Common.{◌≡◌, ℕ, true, false, refl, sym, ap, ◌∙◌, subst, arith}
+use Rattle.std.proofs.Common.{◌≡◌, ◌+◌, ℕ, true, false, refl, sym, ap, ◌∙◌, subst, arith}
+use Rattle.std.proofs.lemmas.Bool.{false≢true}
+use Rattle.poolsteps.proofs.ViewLemmas.{prefix-self}
 use Rattle.keybits.specs.Keys.{is_key}
 use Rattle.sharelaws.specs.declared.stored.Status.TheVariants.{Untouched}
 use Rattle.poolsteps.specs.Moved.{Outs}
@@ -32,6 +34,15 @@ get-got-requires-clause-room g c =
     let all = before.fits.rows.by_acts in omega (arith, most, few, all)
 
 -- ---- a miss
+
+pub keep_if_reclaimed-requires-clause-shape : goal.keep_if_reclaimed-requires-clause-shape
+keep_if_reclaimed-requires-clause-shape g c = c.lane.invariant.1.seat.shape
+
+pub keep_if_reclaimed-requires-clause-narrow : goal.keep_if_reclaimed-requires-clause-narrow
+keep_if_reclaimed-requires-clause-narrow g c = c.lane.invariant.1.stores.narrow
+
+pub keep_if_reclaimed-requires-clause-wide : goal.keep_if_reclaimed-requires-clause-wide
+keep_if_reclaimed-requires-clause-wide g c = c.lane.invariant.1.last_pushed.wide
 
 pub keep_if_reclaimed-requires-clause-spot : goal.keep_if_reclaimed-requires-clause-spot
 keep_if_reclaimed-requires-clause-spot g c =
@@ -272,6 +283,11 @@ returns-clause-found g c some = found-since _ _ _ _ (returns-clause-gets g c (c.
 pub returns-clause-seen : goal.returns-clause-seen
 returns-clause-seen g c = seen-of (returns-clause-gets g c (c.in_ok-spot.ensures.some.0 refl)).3.goes
 
+-- ---- it is no key of the pool
+
+none-more : (n : ℕ) → n ≡ n + 0
+none-more n = omega arith
+
 pub returns-in_err-spot-clause-owns : goal.returns-in_err-spot-clause-owns
 returns-in_err-spot-clause-owns g c = c.requires.owns
 
@@ -290,3 +306,47 @@ returns-in_err-spot-clause-fillings g c = λ filling made. made
 pub returns-in_err-spot-clause-missed : goal.returns-in_err-spot-clause-missed
 returns-in_err-spot-clause-missed g c none =
     missed-outside c.args.self.now.shape c.args.lane.now c.args.key (rw (← c.lane.view_is) c.lane.invariant.1.seat.legal) c.requires.owns.1 (λ is. cc (c.in_err-spot.ensures.some.1 is))
+
+pub returns-in_err-spot-clause-called : goal.returns-in_err-spot-clause-called
+returns-in_err-spot-clause-called g c = λ inside. absurd (false≢true (c.in_err-spot.ensures.some.1 inside))
+
+pub returns-in_err-spot-clause-gets : goal.returns-in_err-spot-clause-gets
+returns-in_err-spot-clause-gets g c = λ inside. absurd (false≢true (c.in_err-spot.ensures.some.1 inside))
+
+pub returns-in_err-spot-clause-found : goal.returns-in_err-spot-clause-found
+returns-in_err-spot-clause-found g c = rw c.from_residual.ensures (λ some. absurd (false≢true some))
+
+pub returns-in_err-spot-clause-seen : goal.returns-in_err-spot-clause-seen
+returns-in_err-spot-clause-seen g c = prefix-self c.args.lane.now.book.seen
+
+pub returns-in_err-spot-clause-refs : goal.returns-in_err-spot-clause-refs
+returns-in_err-spot-clause-refs g c = rw c.from_residual.ensures (none-more _)
+
+pub returns-in_err-spot-clause-held : goal.returns-in_err-spot-clause-held
+returns-in_err-spot-clause-held g c = rw c.from_residual.ensures tt
+
+pub returns-in_err-spot-clause-one_more : goal.returns-in_err-spot-clause-one_more
+returns-in_err-spot-clause-one_more g c = rw c.from_residual.ensures (λ some. absurd (false≢true some))
+
+-- ---- a miss is no hit, and a hit no miss
+
+pub returns-in-Miss-clause-found : goal.returns-in-Miss-clause-found
+returns-in-Miss-clause-found g c = λ some. absurd (false≢true some)
+
+pub returns-in-Miss-clause-held : goal.returns-in-Miss-clause-held
+returns-in-Miss-clause-held g c = tt
+
+pub returns-in-Miss-clause-one_more : goal.returns-in-Miss-clause-one_more
+returns-in-Miss-clause-one_more g c = λ some. absurd (false≢true some)
+
+pub returns-then-index-gt0-clause-missed : goal.returns-then-index-gt0-clause-missed
+returns-then-index-gt0-clause-missed g c = λ none. absurd (false≢true (sym none))
+
+pub returns-then-index-gt0-clause-no_more : goal.returns-then-index-gt0-clause-no_more
+returns-then-index-gt0-clause-no_more g c = λ none. absurd (false≢true (sym none))
+
+pub returns-clause-missed : goal.returns-clause-missed
+returns-clause-missed g c = λ none. absurd (false≢true (sym none))
+
+pub returns-clause-no_more : goal.returns-clause-no_more
+returns-clause-no_more g c = λ none. absurd (false≢true (sym none))

@@ -1,6 +1,7 @@
 use Rattle.std.proofs.Common.{◌≡◌, ℕ, true, false, [], ◌∷◌, slice_get, Some, refl, sym, ap, ◌∙◌, subst, arith}
 use Rattle.keybits.specs.declared.shape.Shape.{Shape}
 use Rattle.keybits.specs.Keys.{place_of}
+use Rattle.sharelaws.specs.Shares.{room_of}
 use Rattle.poolsteps.specs.Layout.{spots_at}
 use Rattle.seqpool.specs.declared.act.Act.{Act}
 use Rattle.seqpool.specs.declared.act.Act.TheVariants as acts
@@ -48,6 +49,9 @@ module _ (g : Over) (c : goal.After-publish g) where
   was : Made before filling
   was = subst (λ (f : FillingOf g.row.T.Denot). Made before f) (sym same) (subst (λ (l : LaneOf). Made l c.args.filling) (sym c.lane.view_is) c.requires.made)
 
+pub give_out-whole-requires-clause-shape : goal.give_out-whole-requires-clause-shape
+give_out-whole-requires-clause-shape g c = c.lane.invariant.1.seat.shape
+
 pub give_out-whole-requires-clause-spot : goal.give_out-whole-requires-clause-spot
 give_out-whole-requires-clause-spot g c =
     let spot : Spot = record { place = c.place_of.result; start = c.spend-key.result.1 } in
@@ -78,6 +82,9 @@ pub publish-requires-clause-spot : goal.publish-requires-clause-spot
 publish-requires-clause-spot g c =
     made-spot (record { place = c.place_of.result; start = c.spend-key.result.1 }) c.spend-key.result.0 c.requires.made (c.requires.owns.1 ∙ sym (ap (λ p. p.shape) c.self.view_is))
     c.spend-key.ensures.0 c.spend-key.ensures.1 c.place_of.ensures.place
+
+pub returns-clause-key : goal.returns-clause-key
+returns-clause-key g c = c.spend-key.ensures.0
 
 pub invariant_of-lane : goal.invariant_of-lane
 invariant_of-lane g c =
@@ -133,3 +140,11 @@ returns-clause-published g c = published-since _ _ _ _ _ (returns-clause-publish
 
 pub returns-clause-seen : goal.returns-clause-seen
 returns-clause-seen g c = seen-of (returns-clause-publishes g c).goes
+
+-- ---- the room is that of its object
+
+pub returns-clause-room : goal.returns-clause-room
+returns-clause-room g c =
+    let now = c.publish.new.hand.me.0 in
+    ap (λ (key : ℕ). room_of now.seen now.rooms (place_of key)) (sym c.spend-key.ensures.0)
+    ∙ (c.publish.ensures.room ∙ ap g.T.Clear.room (c.give_out-whole.ensures.whole.1 ∙ c.spend-key.ensures.2))
