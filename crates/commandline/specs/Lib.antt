@@ -5,3 +5,6 @@ pub mod Lines
 pub mod MistakeTexts
 pub mod Mistakes
 pub mod Tasks
+pub mod ViewLines
+pub mod ViewMistakes
+pub mod Statuses

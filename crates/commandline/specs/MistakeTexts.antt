@@ -2,7 +2,7 @@
 use Rattle.std.specs.Prelude.{ℕ, List, ◌++◌, codes, string_bytes}
 use Rattle.commandline.specs.declared.mistakes.Mistake.{Mistake}
 use Rattle.commandline.specs.declared.mistakes.Reason.{Reason}
-use Rattle.commandline.specs.declared.mistakes.Reason.TheVariants.{NoTurns, SeedAlone, TurnsAlone, ScheduleAndMore, BadSchedule, BadSeed, BadTurns, BadStop, BadNumber, BadHexadecimal, NoText, Missing}
+use Rattle.commandline.specs.declared.mistakes.Reason.TheVariants.{NoTurns, SeedAlone, TurnsAlone, ScheduleAndMore, BadSchedule, BadSeed, BadTurns, BadStop, BadNumber, BadHexadecimal, BadFrom, BadCount, NoText, Missing}
 
 -- before the text that the reason is about: the option
 abbrev pub before_of : Reason → List ℕ
@@ -16,6 +16,8 @@ before_of BadTurns = codes "--turns \""
 before_of BadStop = codes "--stop \""
 before_of BadNumber = codes "N \""
 before_of BadHexadecimal = codes "N \""
+before_of BadFrom = codes "--from \""
+before_of BadCount = codes "--turns \""
 before_of NoText = codes "a word is no text"
 before_of Missing = codes "a word is missing"
 
@@ -31,6 +33,8 @@ after_of BadTurns = codes "\" is no number of turns: one to twenty decimal digit
 after_of BadStop = codes "\" is no stop: a lane, a colon and a number of turns, each of one to twenty decimal digits and at most 4294967295"
 after_of BadNumber = codes "\" is no number: one to twenty decimal digits, at most 18446744073709551615; with --hex hexadecimal digits"
 after_of BadHexadecimal = codes "\" is no hexadecimal number: one to sixteen hexadecimal digits, with or without 0x before them"
+after_of BadFrom = codes "\" is no turn: one to twenty decimal digits, at most 4294967295"
+after_of BadCount = codes "\" is no number of turns: one to twenty decimal digits, at most 4294967295"
 after_of NoText = codes ": words are texts in UTF-8"
 after_of Missing = codes ": --help says which words there are"
 

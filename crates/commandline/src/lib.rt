@@ -1,16 +1,22 @@
-//! The words of the command line, the task that they stand for, and why they stand for none.
+//! The words of the command lines of `poolrun` and `poolview`, what they ask for, and why they ask for nothing.
 #![tactic(auto)]
 
 mod fault;
 mod hexadecimal;
 mod lines;
 mod mistakes;
+mod reports;
 mod requests;
+mod run_lines;
 mod tasks;
 mod turns;
+mod view_lines;
+mod views;
 mod words;
 
 pub use fault::TaskFault;
 pub use mistakes::{Mistake, Reason, write_mistake};
+pub use reports::{Untold, read_args, report_words};
 pub use requests::{Request, read_request, task};
 pub use tasks::{Stop, Task, Turns};
+pub use views::{View, Viewing, read_viewing};

@@ -1,18 +1,15 @@
-ghost use Rattle.std.specs.Prelude.{◌≡◌, IfOk, false, true};
+//! Commands for `clap`, from tables of what each takes.
+ghost use Rattle.std.specs.Prelude.{◌≡◌, IfOk, false};
 ghost use Rattle.clap.specs.Words.{app_of, rule_of, new_app};
 ghost use Rattle.clap.specs.declared.builder.command.Command.TheViews.{out-Command as fields_of};
-ghost use Rattle.commandline.specs.CommandLines.{program, command_line};
 ghost use Rattle.commandline.specs.Lines.{rule_for, line_for, with_lines};
 
 use clap::{Arg, ArgAction, Command};
 use std::alloc::{AllocError, Global};
 
-/// The version of the program.
-const VERSION: &str = "0.1.0";
-
 /// How an argument is given, with the name that help has for its value.
 #[derive(Clone, Copy)]
-enum Kind<'a> {
+pub(crate) enum Kind<'a> {
     /// By its place, and it must be there.
     Positional(&'a str),
     /// By its name, with a value behind it.
@@ -22,208 +19,25 @@ enum Kind<'a> {
 }
 
 /// An argument of a subcommand: how it is given, its name, and what help says of it.
-struct Argument<'a> {
-    kind: Kind<'a>,
-    name: &'a str,
-    help: &'a str,
+pub(crate) struct Argument<'a> {
+    pub(crate) kind: Kind<'a>,
+    pub(crate) name: &'a str,
+    pub(crate) help: &'a str,
 }
 
-/// What help says of a command, around its arguments.
+/// What help says of a command, around its arguments; the usage is told by `clap` where none is said.
 #[derive(Clone, Copy)]
-struct Help<'a> {
-    about: &'a str,
-    usage: &'a str,
-    more: &'a str,
+pub(crate) struct Help<'a> {
+    pub(crate) about: &'a str,
+    pub(crate) usage: Option<&'a str>,
+    pub(crate) more: &'a str,
 }
 
 /// A subcommand: its name, what help says of it, and its arguments.
-struct Line<'a> {
-    name: &'a str,
-    help: Help<'a>,
-    arguments: &'a [Argument<'a>],
-}
-
-/// What help says of the program.
-static PROGRAM_HELP: Help<'static> = Help {
-    about: "A pool of objects that are cleared and used again in place: replays scripts on it step by step, runs them on threads,\nchecks what was recorded of it, and decodes its keys.",
-    usage: "poolrun <COMMAND>",
-    more: "\
-Script files are JSON texts: a shape, and for each lane a list of commands, as
-  {\"shape\":{\"lanes\":1,\"first_page\":2,\"pages\":1,\"last_generation\":4294967295},
-   \"scripts\":[[[\"create\",0],[\"write\",0,\"6869\"],[\"publish\",0],[\"get\",1,\"@0\"],[\"read\",1]]]}
-  The shape: lanes 1 to 16; first_page 1, 2, 4, 8, 16, 32 or 64; pages 1 to 6;
-    last_generation 1 to 4294967295; perhaps tag, 0 to 255.
-  The commands: create R, write R BYTES, publish R, downgrade R, get R KEY, read R, release R,
-    clear KEY. R is 0 to 15, BYTES are pairs of hexadecimal digits in quotes, KEY is a number,
-    or \"@R\" for the last key of R.
-
-A file named - is standard input; ./- is the file of that name.
-
-Exit status: 0 where it is done, and after help; 1 after a fault, which is a line on standard error,
-after an illegal act and where there is no key; 2 after a mistake in these words.
-
-Example: poolrun replay first.json --schedule 0,0",
-};
-
-/// What help says of the option by which mistakes are explained.
-const EXPLAIN: &str = "Says on standard error where a mistake is, and what is wanted there";
-
-/// The subcommands of the program.
-static LINES: [Line<'static>; 4] = [
-    Line {
-        name: "replay",
-        help: Help {
-            about: "Replays the scripts of a file over a schedule, step by step, and prints what each step did",
-            usage: "poolrun replay <FILE> --schedule <LANES> [--stop <L:K>] [--acts] [--explain]\n       poolrun replay <FILE> --seed <N> --turns <M> [--stop <L:K>] [--acts] [--explain]",
-            more: "\
-Give either --schedule, or both --seed and --turns. The same words print the same text each time.
-
-Prints a line for each reply of a command and for each atomic step, in the order of the turns; with
---acts the text of acts that `poolrun check` reads. A fault prints `fault NUMBER NAME` on standard
-error, and nothing on standard output.
-
-Exit status: 0 where it is done, 1 after a fault, 2 after a mistake in these words.
-
-Example: poolrun replay first.json --schedule 0,0",
-        },
-        arguments: &[
-            Argument {
-                kind: Kind::Positional("FILE"),
-                name: "file",
-                help: "The script file, or - for standard input",
-            },
-            Argument {
-                kind: Kind::Valued("LANES"),
-                name: "schedule",
-                help: "The lanes that take turns, as 0,1,1: numbers of at most 255",
-            },
-            Argument {
-                kind: Kind::Valued("N"),
-                name: "seed",
-                help: "The seed that turns are drawn from, at most 18446744073709551615",
-            },
-            Argument {
-                kind: Kind::Valued("M"),
-                name: "turns",
-                help: "How many turns are drawn, at most 1000000",
-            },
-            Argument {
-                kind: Kind::Valued("L:K"),
-                name: "stop",
-                help: "Lane L has no turn after its K-th",
-            },
-            Argument {
-                kind: Kind::Flag,
-                name: "acts",
-                help: "Prints the acts in place of the trace",
-            },
-            Argument {
-                kind: Kind::Flag,
-                name: "explain",
-                help: EXPLAIN,
-            },
-        ],
-    },
-    Line {
-        name: "check",
-        help: Help {
-            about: "Checks that acts are a legal history of a pool, and prints its summary",
-            usage: "poolrun check <ACTS> [--explain]",
-            more: "\
-Reads the acts that `poolrun replay --acts` prints: a line `shape LANES FIRST_PAGE PAGES
-LAST_GENERATION`, and a line for each act. Prints the counts of a legal history, or `illegal I N NAME`:
-the first act that is refused, counted from 0, and why.
-
-Exit status: 0 for a legal history; 1 for an illegal one, and after a fault, as a line that is no
-act; 2 after a mistake in these words.
-
-Example: poolrun check first.acts",
-        },
-        arguments: &[
-            Argument {
-                kind: Kind::Positional("ACTS"),
-                name: "acts",
-                help: "The file of acts, or - for standard input",
-            },
-            Argument {
-                kind: Kind::Flag,
-                name: "explain",
-                help: EXPLAIN,
-            },
-        ],
-    },
-    Line {
-        name: "run",
-        help: Help {
-            about: "Runs each script of a file on a thread of its own, on one pool, and prints the replies",
-            usage: "poolrun run <FILE> [--explain]",
-            more: "\
-Prints the replies of lane 0, then those of lane 1, and so on; then what each place of the pool was
-when it was closed. What lanes find of one another may differ from run to run.
-
-Exit status: 0 where it is done, 1 after a fault, 2 after a mistake in these words.
-
-Example: poolrun run first.json",
-        },
-        arguments: &[
-            Argument {
-                kind: Kind::Positional("FILE"),
-                name: "file",
-                help: "The script file, or - for standard input",
-            },
-            Argument {
-                kind: Kind::Flag,
-                name: "explain",
-                help: EXPLAIN,
-            },
-        ],
-    },
-    Line {
-        name: "key",
-        help: Help {
-            about: "Prints what a number says as a key, or as a lifecycle word of a trace",
-            usage: "poolrun key <N> [--hex] [--word] [--explain]",
-            more: "\
-Prints the shard, the page, the slot and the generation of a key, and its tag where that isn't 0; or
-`no key`. With --word the state, the count and the generation of a lifecycle word, as the lines of a
-trace have them behind ENTER, LEAVE, PUBLISH, MARK and CLAIM.
-
-Exit status: 0 where it is done, 1 where there is no key and after a fault, 2 after a mistake in these
-words.
-
-Example: poolrun key 16777216
-Example: poolrun key --word 4294967301",
-        },
-        arguments: &[
-            Argument {
-                kind: Kind::Positional("N"),
-                name: "number",
-                help: "The number: one to twenty decimal digits, at most 18446744073709551615",
-            },
-            Argument {
-                kind: Kind::Flag,
-                name: "hex",
-                help: "N is one to sixteen hexadecimal digits, with or without 0x before them",
-            },
-            Argument {
-                kind: Kind::Flag,
-                name: "word",
-                help: "N is a lifecycle word",
-            },
-            Argument {
-                kind: Kind::Flag,
-                name: "explain",
-                help: EXPLAIN,
-            },
-        ],
-    },
-];
-
-/// The subcommands, one after the other.
-fn subcommands<'a>() -> &'a [Line<'a>]
-    ensures { with_lines program result.now ≡ command_line }
-{
-    &LINES
+pub(crate) struct Line<'a> {
+    pub(crate) name: &'a str,
+    pub(crate) help: Help<'a>,
+    pub(crate) arguments: &'a [Argument<'a>],
 }
 
 /// An argument for `clap`.
@@ -240,15 +54,16 @@ fn argument_of<'a>(alloc: Global, argument: &Argument<'a>) -> Arg<'a>
 }
 
 /// A command without arguments: its name, and what help says of it.
-fn command_named<'a>(alloc: Global, name: &'a str, help: Help<'a>) -> Command<'a>
+pub(crate) fn command_named<'a>(alloc: Global, name: &'a str, help: Help<'a>) -> Command<'a>
     ensures app { app_of result ≡ new_app name.now }
     ensures local { (fields_of result).has_globals ≡ false }
 {
     let Help { about, usage, more } = help;
-    Command::new(alloc, name)
-        .about(about)
-        .override_usage(usage)
-        .after_help(more)
+    let command = Command::new(alloc, name).about(about).after_help(more);
+    match usage {
+        Some(usage) => command.override_usage(usage),
+        None => command,
+    }
 }
 
 /// A subcommand for `clap`.
@@ -263,17 +78,18 @@ fn subcommand_of<'a>(alloc: Global, line: &Line<'a>) -> Result<Command<'a>, Allo
     Ok(command)
 }
 
-/// The program's command line.
-pub(crate) fn program_command<'a>(alloc: Global) -> Result<Command<'a>, AllocError>
-    ensures { IfOk result (λ c. app_of c ≡ command_line) }
+/// A program's command with these subcommands.
+pub(crate) fn with_subcommands<'a>(
+    alloc: Global,
+    program: Command<'a>,
+    lines: &'a [Line<'a>],
+) -> Result<Command<'a>, AllocError>
+    ensures { IfOk result (λ c. app_of c ≡ with_lines (app_of program.entry) lines.now) }
 {
-    let mut program = command_named(alloc, "poolrun", PROGRAM_HELP)
-        .version(VERSION)
-        .subcommand_required(true);
-    let lines = subcommands();
+    let mut command = program;
     for line in lines {
         let subcommand = subcommand_of(alloc, line)?;
-        program = program.subcommand(subcommand)?;
+        command = command.subcommand(subcommand)?;
     }
-    Ok(program)
+    Ok(command)
 }

@@ -29,6 +29,10 @@ pub enum Reason {
     BadNumber,
     /// The number is none of hexadecimal digits, or has too many.
     BadHexadecimal,
+    /// The first turn of a picture is no number, or too large.
+    BadFrom,
+    /// The number of a picture's turns is none, or too large.
+    BadCount,
     /// A word is no text in UTF-8.
     NoText,
     /// A word is missing without which there is no task.
@@ -60,6 +64,8 @@ fn before(reason: Reason) -> &'static str
         Reason::BadStop => "--stop \"",
         Reason::BadNumber => "N \"",
         Reason::BadHexadecimal => "N \"",
+        Reason::BadFrom => "--from \"",
+        Reason::BadCount => "--turns \"",
         Reason::NoText => "a word is no text",
         Reason::Missing => "a word is missing",
     }
@@ -87,6 +93,9 @@ fn after(reason: Reason) -> &'static str
             "\" is no number: one to twenty decimal digits, at most 18446744073709551615; with --hex hexadecimal digits",
         Reason::BadHexadecimal =>
             "\" is no hexadecimal number: one to sixteen hexadecimal digits, with or without 0x before them",
+        Reason::BadFrom => "\" is no turn: one to twenty decimal digits, at most 4294967295",
+        Reason::BadCount =>
+            "\" is no number of turns: one to twenty decimal digits, at most 4294967295",
         Reason::NoText => ": words are texts in UTF-8",
         Reason::Missing => ": --help says which words there are",
     }

@@ -5,7 +5,7 @@ ghost use Rattle.commandline.specs.CommandLines.{command_line, AreMatchesOf};
 ghost use Rattle.commandline.specs.Mistakes.{Tells, RefusesMatches, wrong_replay, wrong_file, wrong_key};
 
 use crate::fault::{TaskFault, mistaken_without};
-use crate::lines::program_command;
+use crate::run_lines::program_command;
 use crate::mistakes::Reason;
 use crate::tasks::Task;
 use crate::turns::{read_key_number, read_turns, stop_given};
@@ -25,7 +25,7 @@ pub(crate) fn read_words<'a>(
 }
 
 /// The text that is given under an id, if there is one.
-fn given<'a>(matches: &ArgMatches<'a>, id: &str) -> Option<&'a str>
+pub(crate) fn given<'a>(matches: &ArgMatches<'a>, id: &str) -> Option<&'a str>
     ensures { text_of result ≡ first_of id.now (rows_of (found_of matches.now)) }
 {
     matches.get_str(id)

@@ -45,6 +45,8 @@ mod test_texts;
 #[cfg(test)]
 mod test_trace_texts;
 #[cfg(test)]
+mod test_viewings;
+#[cfg(test)]
 mod test_views;
 #[cfg(test)]
 mod test_words;

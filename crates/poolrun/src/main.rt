@@ -6,25 +6,17 @@
 
 ghost use Rattle.std.specs.Prelude.{◌≡◌, ◌≤◌};
 ghost use Rattle.std.specs.Process.{exit_status};
-ghost use Rattle.clap.specs.Values.{kind_of};
-ghost use Rattle.clap.specs.declared.error.Error.{Error as ClapError};
-ghost use Rattle.std.specs.declared.alloc.AllocError.{AllocError};
-ghost use Rattle.commandline.specs.declared.mistakes.Mistake.{Mistake};
+ghost use Rattle.commandline.specs.Statuses.{AreWrong, AskForHelp, WantsMemory};
 ghost use Rattle.poolprogram.specs.Tasks.{task_status};
-ghost use Rattle.poolrun.specs.Statuses.{IsHelp, IsMistake};
 
-use clap::Error as ClapError;
-use clap::error::ErrorKind;
-use commandline::{Mistake, Reason, Request, Task, TaskFault, read_request, write_mistake};
+use commandline::{Request, Task, TaskFault, Untold, read_args, read_request, report_words};
 use poolprogram::{
     RunFault, Subject, Watched, do_task, explain, load, load_input, status_of, subject_of,
     write_report,
 };
-use std::alloc::AllocError;
 use std::process::ExitCode;
 use std::sync::Wait;
 use std::thread::Threads;
-use std::{env, io};
 
 /// Prints the line of a task's fault, where it has one, and ends with the task's status.
 fn finish(rt: &HostRuntime, done: &Result<bool, RunFault>) -> ExitCode
@@ -34,59 +26,17 @@ fn finish(rt: &HostRuntime, done: &Result<bool, RunFault>) -> ExitCode
     ExitCode::from(status_of(done))
 }
 
-/// Prints what `clap` says. The status is 2 for a mistake in the words, and 0 for help, or 1 where that can't be printed.
-/// A want of memory is a fault.
-fn report_clap(rt: &HostRuntime, error: &ClapError) -> ExitCode
-    ensures memory { kind_of error.now ≡ ErrorKind.OutOfMemory → exit_status result ≡ 1 }
-    ensures help { IsHelp (kind_of error.now) → exit_status result ≤ 1 }
-    ensures mistake { IsMistake (kind_of error.now) → exit_status result ≡ 2 }
-{
-    if error.kind() == ErrorKind::OutOfMemory {
-        return finish(rt, &Err(RunFault::Memory));
-    }
-    let printed = error.print(rt);
-    if error.use_stderr() {
-        return ExitCode::from(2);
-    }
-    if printed.is_err() {
-        return finish(rt, &Err(RunFault::Output));
-    }
-    ExitCode::SUCCESS
-}
-
 /// Prints what is wrong with the words, and behind it why, where that is wanted. The status is 2, but for a want
 /// of memory, which is a fault, and for help.
-fn report_words(rt: &HostRuntime, fault: TaskFault, explain: bool) -> ExitCode
-    ensures words { (mistake : Mistake) → fault ≡ TaskFault.Words mistake → exit_status result ≡ 2 }
-    ensures memory { (refused : AllocError) → fault ≡ TaskFault.Memory refused → exit_status result ≡ 1 }
-    ensures clap { (error : ClapError) → fault ≡ TaskFault.Clap error → IsMistake (kind_of error) → exit_status result ≡ 2 }
+fn end_by_words(rt: &HostRuntime, fault: &TaskFault, explain: bool) -> ExitCode
+    ensures wrong { AreWrong fault.now → exit_status result ≡ 2 }
+    ensures memory { WantsMemory fault.now → exit_status result ≡ 1 }
+    ensures help { AskForHelp fault.now → exit_status result ≤ 1 }
 {
-    match fault {
-        TaskFault::Clap(error) => report_clap(rt, &error),
-        TaskFault::Words(mistake) => {
-            let _ = eprintln!(rt; "words");
-            if explain {
-                let _ = write_mistake(&mistake, &mut rt.stderr());
-            }
-            ExitCode::from(2)
-        }
-        TaskFault::Memory(_) => finish(rt, &Err(RunFault::Memory)),
-    }
-}
-
-/// The words of the command line. One that is no text is a mistake in the words.
-fn read_args(rt: &HostRuntime) -> Result<Vec<String>, TaskFault> {
-    match env::args(rt) {
-        Ok(args) => Ok(args.collect(rt.alloc())?),
-        Err(error) => {
-            if error.kind() == io::ErrorKind::OutOfMemory {
-                return Err(TaskFault::Memory(AllocError));
-            }
-            Err(TaskFault::Words(Mistake {
-                reason: Reason::NoText,
-                found: String::new(rt.alloc()),
-            }))
-        }
+    match report_words(rt, &mut rt.stderr(), fault, explain) {
+        Ok(status) => ExitCode::from(status),
+        Err(Untold::Memory) => finish(rt, &Err(RunFault::Memory)),
+        Err(Untold::Output) => finish(rt, &Err(RunFault::Output)),
     }
 }
 
@@ -165,6 +115,6 @@ fn main(rt: HostRuntime) -> ExitCode {
     match task {
         Ok(task) if explain => run_and_explain(&rt, &rt, task),
         Ok(task) => run_task(&rt, &rt, task),
-        Err(fault) => report_words(&rt, fault, explain),
+        Err(fault) => end_by_words(&rt, &fault, explain),
     }
 }

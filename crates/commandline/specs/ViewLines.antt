@@ -1,0 +1,54 @@
+-- What the words of `poolview` stand for, by what `clap` matches.
+use Rattle.std.specs.Prelude.{◌≡◌, ℕ, List, [], ◌∷◌, Option, Some, None, true, codes}
+use Rattle.clap.specs.Simple.{new_shape}
+use Rattle.clap.specs.Words.{App, Row, first_of, subcommand_of, with_subcommand}
+use Rattle.schedules.specs.Numbers.{number_of}
+use Rattle.commandline.specs.CommandLines.{positional, option_named, line_of}
+use Rattle.commandline.specs.declared.views.View.{View}
+use Rattle.commandline.specs.declared.views.View.TheVariants as views
+use Rattle.commandline.specs.declared.views.Viewing.{Viewing}
+
+-- the subcommand `picture`
+abbrev pub picture_line : App
+picture_line = line_of (codes "picture") (positional (codes "file") ∷ option_named (codes "from") ∷ option_named (codes "turns") ∷ [])
+
+-- the subcommand of this name, about a file alone
+abbrev pub plain_line : List ℕ → App
+plain_line name = line_of name (positional (codes "file") ∷ [])
+
+-- the program, before its subcommands
+abbrev pub view_program : App
+view_program = record { top = record (new_shape (codes "poolview")) { subcommand_required = true }; subs = [] }
+
+-- the program's command line
+abbrev pub view_line : App
+view_line = with_subcommand (with_subcommand (with_subcommand view_program picture_line.top) (plain_line (codes "words")).top) (plain_line (codes "summary")).top
+
+-- a number of turns, or of a turn: of one to twenty digits, at most 4294967295
+abbrev pub turn_number : List ℕ → Option ℕ
+turn_number text = number_of 20 4294967295 text
+
+-- the number of a text; this one where no text is given
+abbrev pub IsNumber : ℕ → Option (List ℕ) → ℕ → Type 0
+IsNumber default None number = number ≡ default
+IsNumber default (Some text) number = turn_number text ≡ Some number
+
+-- what the subcommand of this name asks for, by its matches: a picture from the first turn on and of all turns, unless others are given
+abbrev pub IsView : List ℕ → List Row → View → Type 0
+IsView name rows (views.Picture first count) =
+    (name ≡ codes "picture") × IsNumber 0 (first_of (codes "from") rows) first
+    × IsNumber 18446744073709551615 (first_of (codes "turns") rows) count
+IsView name rows views.Words = name ≡ codes "words"
+IsView name rows views.Summary = name ≡ codes "summary"
+
+-- what clap matched, a subcommand's name and its matches, asks for this
+pub record IsViewing (matched : Option (List ℕ × List Row)) (viewing : Viewing) : Type 0 where
+  pub name : List ℕ
+  pub rows : List Row
+  pub is : matched ≡ Some (name, rows)
+  pub file : first_of (codes "file") rows ≡ Some viewing.file.now
+  pub view : IsView name rows viewing.view
+
+-- the words ask for this
+abbrev pub AreViewWordsOf : List (List ℕ) → Viewing → Type 0
+AreViewWordsOf words viewing = IsViewing (subcommand_of view_line words) viewing

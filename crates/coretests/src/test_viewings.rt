@@ -1,0 +1,29 @@
+//! The words of `poolview`, and what is printed where they ask for nothing.
+use crate::test_programs::words_of;
+use crate::test_texts::reads;
+use commandline::{View, read_viewing, report_words};
+
+#[test]
+fn reads_what_is_viewed(rt: HostRuntime) {
+    let words = words_of(&rt, "poolview|picture|trace|--from|10|--turns|20");
+    let viewing = read_viewing(rt.alloc(), words.as_slice())
+        .ok()
+        .expect(&rt, "a viewing");
+    assert_eq!(rt; viewing.file, "trace");
+    assert!(rt; matches!(viewing.view, View::Picture { first: 10, count: 20 }));
+}
+
+#[test]
+fn explains_a_wrong_turn(rt: HostRuntime) {
+    let words = words_of(&rt, "poolview|picture|trace|--from|x");
+    let fault = read_viewing(rt.alloc(), words.as_slice())
+        .err()
+        .expect(&rt, "a mistake");
+    let mut said = Vec::new(rt.alloc());
+    assert!(rt; matches!(report_words(&rt, &mut said, &fault, true), Ok(2)));
+    reads(
+        &rt,
+        said.as_slice(),
+        "words\n--from \"x\" is no turn: one to twenty decimal digits, at most 4294967295\n",
+    );
+}
