@@ -78,14 +78,13 @@ fn trace<T: Counted + Drop + Send + Sync, D: Details<T> + Sync, R: Threads + Wai
 ) -> anyhow::Result<Report> {
     let mut opened = open_lanes(alloc, SHAPE)?;
     let findings = pass_on::<Brand, T, D, R>(rt, alloc, &mut opened, details);
-    let census = close_spans(opened).map_err(|missing| anyhow!(
-        "lane {} is missing",
-        missing.number
-    ))?;
-    Ok(Report {
-        findings: findings?,
-        census,
-    })
+    match close_spans(opened) {
+        Ok(census) => Ok(Report {
+            findings: findings?,
+            census,
+        }),
+        Err(missing) => Err(anyhow!("lane {} is missing", missing.number)),
+    }
 }
 
 // Nothing is printed before both pools are closed: a failed print that ends main would leave the lanes to be dropped.
@@ -97,7 +96,6 @@ fn main(rt: HostRuntime) -> anyhow::Result<()> {
         events: &[11, 12],
     };
     let spans = trace::<Span, _, _>(&rt, rt.alloc(), &fields)?;
-    println!(rt; "names: {names}")?;
-    println!(rt; "spans: {spans}")?;
+    println!(rt; "names: {names}\nspans: {spans}")?;
     Ok(())
 }

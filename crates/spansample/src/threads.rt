@@ -1,6 +1,5 @@
 //! Three lanes pass spans on, each in a thread of its own.
 ghost use Rattle.std.specs.Prelude.{◌≡◌, IfSome, length};
-ghost use Rattle.shardpool.specs.Lanes.{Owns};
 ghost use Rattle.guards.specs.Here.{HoldNothing};
 ghost use Rattle.spansample.specs.Histories.{IsPublished};
 
@@ -10,7 +9,7 @@ use crate::tracers::Tracer;
 use anyhow::anyhow;
 use crossbeam_channel::{Receiver, Sender, bounded};
 use guards::{Lanes, Opened};
-use shardpool::{Lane, Pool};
+use shardpool::Pool;
 use slotcell::Clear;
 use std::alloc::Global;
 use std::sync::Wait;
@@ -37,27 +36,26 @@ fn open_one<S: Subject, T: Counted + Drop, D: Details<T>, R: Wait>(
 ) -> bool
     requires { D.content details.now ≡ S.content }
 {
-    let Ok(key) = tracer.new_span(details) else {
-        return false;
-    };
-    to.send(rt, tracer.tell_span(key)).is_ok()
+    match tracer.new_span(details) {
+        Ok(key) => to.send(rt, tracer.tell_span(key)).is_ok(),
+        Err(_) => false,
+    }
 }
 
 /// Opens spans.
 fn open_each<S: Subject, T: Counted + Drop, D: Details<T>, R: Wait>(
     rt: &R,
-    mut tracer: Tracer<'_, S, T>,
+    tracer: &mut Tracer<'_, S, T>,
     details: &D,
     to: Sender<Told<S, T>, Global>,
-) -> (Lane<T>, bool)
+) -> bool
     requires { D.content details.now ≡ S.content }
-    ensures { Owns S.pool result.0 }
 {
     let mut well = true;
     for _ in 0..SPANS {
-        well &= open_one(rt, &mut tracer, details, &to);
+        well &= open_one(rt, tracer, details, &to);
     }
-    (tracer.into_lane(), well)
+    well
 }
 
 /// How many numbers a span is, of which the lane has heard.
@@ -80,23 +78,22 @@ fn pass_one<S: Subject, T: Counted + Drop, R: Wait>(
     };
     let key = tracer.hear_span(told);
     let told = tracer.tell_span(key);
-    count(tracer, key).is_some() && to.send(rt, told).is_ok()
+    let found = count(tracer, key).is_some();
+    to.send(rt, told).is_ok() && found
 }
 
 /// Passes spans on.
 fn pass_each<S: Subject, T: Counted + Drop, R: Wait>(
     rt: &R,
-    mut tracer: Tracer<'_, S, T>,
+    tracer: &mut Tracer<'_, S, T>,
     from: Receiver<Told<S, T>, Global>,
     to: Sender<Told<S, T>, Global>,
-) -> (Lane<T>, bool)
-    ensures { Owns S.pool result.0 }
-{
+) -> bool {
     let mut well = true;
     for _ in 0..SPANS {
-        well &= pass_one(rt, &mut tracer, &from, &to);
+        well &= pass_one(rt, tracer, &from, &to);
     }
-    (tracer.into_lane(), well)
+    well
 }
 
 /// Hears of a span, looks at it and closes it.
@@ -115,16 +112,14 @@ fn close_one<S: Subject, T: Counted + Drop, R: Wait>(
 /// Closes spans.
 fn close_each<S: Subject, T: Counted + Drop, R: Wait>(
     rt: &R,
-    mut tracer: Tracer<'_, S, T>,
+    tracer: &mut Tracer<'_, S, T>,
     from: Receiver<Told<S, T>, Global>,
-) -> (Lane<T>, bool)
-    ensures { Owns S.pool result.0 }
-{
+) -> bool {
     let mut well = true;
     for _ in 0..SPANS {
-        well &= close_one(rt, &mut tracer, &from);
+        well &= close_one(rt, tracer, &from);
     }
-    (tracer.into_lane(), well)
+    well
 }
 
 /// The channels: from the first lane to the second, and from that to the third.
@@ -184,28 +179,24 @@ fn take_tracers<'p, S: Subject, T: Counted + Drop>(
     first.zip(second.zip(third))
 }
 
-/// Gives back the lane of a thread that has ended. Answers whether all went well there.
-fn give_back<T: Counted + Drop>(lanes: &mut Lanes<T>, ended: (Lane<T>, bool)) -> bool
-    requires { Owns lanes.old.pool ended.0 }
+/// Gives the lane of a tracer back.
+fn give_back<S: Subject, T: Counted + Drop>(lanes: &mut Lanes<T>, tracer: Tracer<'_, S, T>)
+    requires { lanes.old.pool ≡ S.pool }
     ensures { lanes.new.pool ≡ lanes.old.pool }
 {
-    let (lane, well) = ended;
-    lanes.give(lane);
-    well
+    lanes.give(tracer.into_lane());
 }
 
-/// The second lane passes on what it hears, and the third closes it, each in a thread of its own.
+/// The second lane passes on what it hears, and the third closes it, each in a thread of its own. Answers whether all went
+/// well in each.
 fn pass_and_close<S: Subject + Send, T: Counted + Drop + Send + Sync, R: Threads + Wait + Sync>(
     rt: &R,
-    second: Tracer<'_, S, T>,
-    third: Tracer<'_, S, T>,
+    second: &mut Tracer<'_, S, T>,
+    third: &mut Tracer<'_, S, T>,
     from_first: Receiver<Told<S, T>, Global>,
     to_third: Sender<Told<S, T>, Global>,
     from_second: Receiver<Told<S, T>, Global>,
-) -> ((Lane<T>, bool), (Lane<T>, bool))
-    ensures second { Owns S.pool result.0.0 }
-    ensures third { Owns S.pool result.1.0 }
-{
+) -> (bool, bool) {
     thread::join(
         rt,
         || pass_each::<S, T, R>(rt, second, from_first, to_third),
@@ -213,7 +204,8 @@ fn pass_and_close<S: Subject + Send, T: Counted + Drop + Send + Sync, R: Threads
     )
 }
 
-/// The first lane opens spans, and the others pass them on and close them, each in a thread of its own.
+/// The first lane opens spans, and the others pass them on and close them, each in a thread of its own. The lanes are then given
+/// back.
 fn open_and_pass<
     S: Subject + Send,
     T: Counted + Drop + Send + Sync,
@@ -221,27 +213,42 @@ fn open_and_pass<
     R: Threads + Wait + Sync,
 >(
     rt: &R,
+    lanes: &mut Lanes<T>,
     tracers: (Tracer<'_, S, T>, (Tracer<'_, S, T>, Tracer<'_, S, T>)),
     channels: Channels<S, T>,
     details: &D,
-) -> ((Lane<T>, bool), ((Lane<T>, bool), (Lane<T>, bool)))
-    requires { D.content details.now ≡ S.content }
-    ensures first { Owns S.pool result.0.0 }
-    ensures second { Owns S.pool result.1.0.0 }
-    ensures third { Owns S.pool result.1.1.0 }
+) -> Findings
+    requires of { lanes.old.pool ≡ S.pool }
+    requires content { D.content details.now ≡ S.content }
+    ensures { lanes.new.pool ≡ lanes.old.pool }
 {
-    let (first, (second, third)) = tracers;
+    let (mut first, (mut second, mut third)) = tracers;
     let Channels {
         to_second,
         from_first,
         to_third,
         from_second,
     } = channels;
-    thread::join(
+    let (opened, (passed, closed)) = thread::join(
         rt,
-        || open_each::<S, T, D, R>(rt, first, details, to_second),
-        || pass_and_close::<S, T, R>(rt, second, third, from_first, to_third, from_second),
-    )
+        || open_each::<S, T, D, R>(rt, &mut first, details, to_second),
+        || pass_and_close::<S, T, R>(
+            rt,
+            &mut second,
+            &mut third,
+            from_first,
+            to_third,
+            from_second,
+        ),
+    );
+    give_back(lanes, first);
+    give_back(lanes, second);
+    give_back(lanes, third);
+    Findings {
+        opened,
+        passed,
+        closed,
+    }
 }
 
 /// Three lanes pass spans on. All lanes are then here again.
@@ -260,13 +267,14 @@ pub fn pass_on<
     requires nothing { HoldNothing opened.old.lanes }
 {
     let channels = open_channels::<S, T>(alloc)?;
-    let Some(tracers) = take_tracers::<S, T>(&opened.pool, &mut opened.lanes) else {
-        return Err(anyhow!("a lane isn't here"));
-    };
-    let (first, (second, third)) = open_and_pass::<S, T, D, R>(rt, tracers, channels, details);
-    Ok(Findings {
-        opened: give_back(&mut opened.lanes, first),
-        passed: give_back(&mut opened.lanes, second),
-        closed: give_back(&mut opened.lanes, third),
-    })
+    match take_tracers::<S, T>(&opened.pool, &mut opened.lanes) {
+        Some(tracers) => Ok(open_and_pass::<S, T, D, R>(
+            rt,
+            &mut opened.lanes,
+            tracers,
+            channels,
+            details,
+        )),
+        None => Err(anyhow!("a lane isn't here")),
+    }
 }
