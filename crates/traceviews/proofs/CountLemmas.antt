@@ -1,12 +1,12 @@
 -- What is counted, as far as a loop over the lines has come.
-use Rattle.std.proofs.Common.{◌≡◌, ℕ, ◌+◌, ◌<◌, ◌≤◌, max, Bool, true, false, cond, nat_eq, List, [], ◌∷◌, ◌++◌, length, get_or, drop, refl, sym, ap, ◌∙◌, arith, append_assoc}
+use Rattle.std.proofs.Common.{◌≡◌, ℕ, ◌+◌, ◌<◌, ◌≤◌, max, Bool, true, false, cond, nat_eq, List, [], ◌∷◌, length, get_or, drop, refl, sym, ap, ◌∙◌, arith}
 use Rattle.std.proofs.lemmas.List.{at_drop_more}
-use Rattle.keybits.specs.Words.{state_bits, state_in, count_in, generation_in}
+use Rattle.keybits.specs.Words.{state_bits}
 use Rattle.keybits.specs.declared.life.State.{State}
 use Rattle.keybits.specs.declared.life.State.TheVariants as states
 use Rattle.traceviews.specs.declared.line.Line.{Line}
 use Rattle.traceviews.specs.Counts.{is_step, unfinished_after, unfinished_from, steps_after, longest_from}
-use Rattle.traceviews.specs.Decoded.{state_text, state_with, counts_text, life_text}
+use Rattle.traceviews.specs.Decoded.{state_with}
 
 pub state-with : (s : State) → state_with (state_bits s) ≡ s
 state-with states.Idle = refl
@@ -39,6 +39,10 @@ near false step steps = omega arith
 steps-near : (steps lane : ℕ) (line : Line) → steps_after steps lane line ≤ steps + 1
 steps-near steps lane line = near (nat_eq line.lane lane) (is_step line.entry) steps
 
+longest-whole : (steps most next more rest left all : ℕ) → left ≡ max steps rest → next ≤ rest → steps ≤ most → more ≡ max most next
+    → max most left ≡ all → max more rest ≡ all
+longest-whole steps most next more rest left all is behind found more-is whole = omega arith
+
 pub longest-next : (lane steps most next i more : ℕ) (lines : List Line) (line : Line) → i < length lines → IsLongestSoFar lane steps most i lines
     → line ≡ get_or lines i line → next ≡ steps_after steps lane line → more ≡ max most next → IsLongestSoFar lane next more (i + 1) lines
 longest-next lane steps most next i more lines line within so_far at is more-is =
@@ -48,18 +52,6 @@ longest-next lane steps most next i more lines line within so_far at is more-is 
     let here : longest_from steps lane (drop i lines) ≡ max steps (longest_from next lane (drop (i + 1) lines)) =
     at_drop_more (longest_from steps lane) lines i line within
     ∙ ap (λ (n : ℕ). max steps (longest_from n lane (drop (i + 1) lines))) reached in
-    let whole = so_far.whole in
-    let found = so_far.found in
     let few = so_far.few in
-    record { few = omega arith; found = omega arith; whole = omega arith }
-
--- a lifecycle word, written after its state
-pub life-parts : (old name mid new : List ℕ) (state : State) (count generation word : ℕ) → mid ≡ old ++ name → name ≡ state_text state
-    → state ≡ state_with (state_in word) → count ≡ count_in word → generation ≡ generation_in word
-    → new ≡ mid ++ counts_text count generation → new ≡ old ++ life_text word
-life-parts old name mid new state count generation word is named state-is count-is generation-is written =
-    written
-    ∙ (ap (λ (xs : List ℕ). xs ++ counts_text count generation) (is ∙ ap (λ (xs : List ℕ). old ++ xs) (named ∙ ap state_text state-is))
-    ∙ (append_assoc old (state_text (state_with (state_in word))) (counts_text count generation)
-    ∙ (ap (λ (n : ℕ). old ++ (state_text (state_with (state_in word)) ++ counts_text n generation)) count-is
-    ∙ ap (λ (n : ℕ). old ++ (state_text (state_with (state_in word)) ++ counts_text (count_in word) n)) generation-is)))
+    record { few = omega arith; found = omega arith;
+    whole = longest-whole steps most next more _ _ _ here behind so_far.found more-is so_far.whole }

@@ -37,11 +37,6 @@ fn key_of(word: Word) -> WordKey {
     }
 }
 
-/// Whether a step leaves a word of its own: it changes the word, or stores what is there already.
-fn leaves(step: &NamedStep) -> bool {
-    step.before != step.after || step.name == StepName::Link
-}
-
 impl Writers {
     /// Nobody.
     pub(crate) fn new(alloc: Global) -> Writers {
@@ -51,13 +46,13 @@ impl Writers {
     }
 
     /// Who left what a step finds, where that is known.
-    pub(crate) fn before(&self, step: &NamedStep) -> Option<Writer> {
-        self.writers.get(&key_of(step.word)).copied()
+    pub(crate) fn before(&self, step: &NamedStep) -> Option<&Writer> {
+        self.writers.get(&key_of(step.word))
     }
 
-    /// A step was made: it is the one who left its word, where it left one.
+    /// A step was made: it is the one who left its word, where it changed the word, or stored what was there already.
     pub(crate) fn note(&mut self, step: &NamedStep, writer: Writer) -> Result<(), AllocError> {
-        if leaves(step) {
+        if step.before != step.after || step.name == StepName::Link {
             self.writers.insert(key_of(step.word), writer)?;
         }
         Ok(())

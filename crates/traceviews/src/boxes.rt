@@ -111,29 +111,31 @@ fn push_content(name: &str, content: &[u8], out: &mut Page) {
     if content.is_empty() {
         out.text("-");
     }
-    for byte in content.iter().take(SHOWN_BYTES) {
+    let shown = content.len().min(SHOWN_BYTES);
+    for byte in &content[..shown] {
         out.bytes(&hex_pair(*byte));
     }
-    if content.len() > SHOWN_BYTES {
+    if shown < content.len() {
         out.text("…");
     }
 }
 
 /// Appends a reply, in short.
 fn push_reply(reply: &Reply, out: &mut Page) {
-    match reply {
-        Reply::Filling(key) => push_key("= filling ", *key, out),
-        Reply::Key(key) => push_key("= key ", *key, out),
-        Reply::Found(content) => push_content("= some ", content.as_slice(), out),
-        Reply::Content(content) => push_content("= ", content.as_slice(), out),
-        Reply::Full => out.text("= full"),
-        Reply::Memory => out.text("= memory"),
-        Reply::Done => out.text("= ok"),
-        Reply::Missing => out.text("= none"),
-        Reply::Cleared(true) => out.text("= true"),
-        Reply::Cleared(false) => out.text("= false"),
-        Reply::Skip => out.text("= skip"),
-    }
+    let plain = match reply {
+        Reply::Filling(key) => return push_key("= filling ", *key, out),
+        Reply::Key(key) => return push_key("= key ", *key, out),
+        Reply::Found(content) => return push_content("= some ", content.as_slice(), out),
+        Reply::Content(content) => return push_content("= ", content.as_slice(), out),
+        Reply::Full => "= full",
+        Reply::Memory => "= memory",
+        Reply::Done => "= ok",
+        Reply::Missing => "= none",
+        Reply::Cleared(true) => "= true",
+        Reply::Cleared(false) => "= false",
+        Reply::Skip => "= skip",
+    };
+    out.text(plain);
 }
 
 /// Appends the name of a step with its word, and whether it failed.

@@ -1,8 +1,7 @@
 ghost use Rattle.std.specs.Prelude.{◌≡◌};
-ghost use Rattle.traceviews.specs.declared.fault.LineFault.TheVariants as line_faults;
 ghost use Rattle.traceviews.specs.declared.fault.ReadFault.TheVariants as read_faults;
 
-use std::alloc::{AllocError, AllocFailed};
+use std::alloc::AllocFailed;
 use std::error::Error;
 use std::fmt;
 
@@ -49,30 +48,6 @@ pub(crate) enum LineFault {
     Lacks(Wanted),
     /// Memory was refused.
     Memory,
-}
-
-impl From<Wanted> for LineFault {
-    ghost from_gives = { λ wanted fault. fault ≡ line_faults.Lacks wanted };
-
-    fn from(wanted: Wanted) -> LineFault {
-        LineFault::Lacks(wanted)
-    }
-}
-
-impl From<AllocError> for LineFault {
-    ghost from_gives = { λ _ fault. fault ≡ line_faults.Memory };
-
-    fn from(_refused: AllocError) -> LineFault {
-        LineFault::Memory
-    }
-}
-
-impl<T: Drop> From<AllocFailed<T>> for LineFault {
-    ghost from_gives = { λ _ fault. fault ≡ line_faults.Memory };
-
-    fn from(_refused: AllocFailed<T>) -> LineFault {
-        LineFault::Memory
-    }
 }
 
 /// Why a text is not read as that of a trace.

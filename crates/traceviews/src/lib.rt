@@ -2,11 +2,11 @@
 //!
 //! - The text: `reader`, line by line, each a step (`steps`) or a reply (`replies`) of a lane, as `line` has it; its `fields`; why
 //!   it is none, `fault`.
-//! - The lines with their words decoded: `words`; a word, a place and a step's name as text: `decoded`.
+//! - The lines with their words decoded: `words`; a state and a step's name as text: `decoded`.
 //! - The summary: `counts`, `ends` and `summary`; which lanes and places there are: `found`, over the sorted `numbers`.
 //! - The picture: `rows` puts lines together to turns, `picture` draws them; `strips` draws places, `arrows` who finds what another
 //!   left, `boxes` a turn, `head` the title and the legend, `shapes` the elements of SVG.
-//! - What they write to: `page`, a text that remembers a refusal of memory, over `pieces`.
+//! - What they write to: `page`, a text that remembers a refusal of memory; it has words and places as text.
 #![tactic(auto)]
 
 mod arrows;
@@ -22,7 +22,6 @@ mod line;
 mod numbers;
 mod page;
 mod picture;
-mod pieces;
 mod reader;
 mod replies;
 mod rows;

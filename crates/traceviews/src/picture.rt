@@ -61,10 +61,10 @@ fn lines_of<'a>(lines: &'a [Line], row: &Row) -> &'a [Line] {
 
 /// The lines of some turns, one after the other.
 fn lines_of_all<'a>(lines: &'a [Line], rows: &[Row]) -> &'a [Line] {
-    match (rows.first(), rows.last()) {
-        (Some(first), Some(last)) => lines_between(lines, first.first, last.end),
-        _ => &lines[..0],
+    if rows.is_empty() {
+        return &lines[..0];
     }
+    lines_between(lines, rows[0].first, rows[rows.len() - 1].end)
 }
 
 /// What is drawn, in three layers, and where the next turn is drawn.
@@ -80,8 +80,8 @@ struct Canvas {
     y: u64,
 }
 
-/// Notes who left what words have when the first turn is drawn.
-fn note_earlier(lines: &[Line], rows: &[Row], canvas: &mut Canvas) -> Result<(), AllocError> {
+/// Notes who left what words have when the first turn is drawn. Where memory is refused for it, the arrows aren't whole.
+fn note_earlier(lines: &[Line], rows: &[Row], canvas: &mut Canvas) {
     for (turn, row) in rows.iter().enumerate() {
         if let Some(step) = step_of(lines_of(lines, row)) {
             let column = position_of(canvas.lanes.as_slice(), row.lane);
@@ -92,20 +92,22 @@ fn note_earlier(lines: &[Line], rows: &[Row], canvas: &mut Canvas) -> Result<(),
                 step: TOP,
                 bottom: TOP,
             };
-            canvas.writers.note(step, writer)?;
+            let noted = canvas.writers.note(step, writer);
+            canvas.arrows.note(noted);
         }
     }
-    Ok(())
 }
 
 /// Begins the strip of each place with what its first step finds.
 fn begin_strips(lines: &[Line], rows: &[Row], strips: &mut Strips) {
-    for row in rows.iter().rev() {
+    let mut rest = rows;
+    while let Some((row, earlier)) = rest.split_last() {
         if let Some(step) = step_of(lines_of(lines, row)) {
             if let Word::Life { place } = step.word {
                 strips.begin(place, step.before);
             }
         }
+        rest = earlier;
     }
 }
 
@@ -121,28 +123,24 @@ fn above_step(lines: &[Line]) -> u64 {
     0
 }
 
-/// Draws the step of a turn: its arrow, and the strip of its place.
-fn draw_step(step: &NamedStep, to: Writer, canvas: &mut Canvas) -> Result<(), AllocError> {
+/// Draws the step of a turn: its arrow, and the strip of its place. Where memory is refused for what it left, the arrows aren't
+/// whole.
+fn draw_step(step: &NamedStep, to: Writer, canvas: &mut Canvas) {
     if let Some(from) = canvas.writers.before(step) {
-        push_arrow(&canvas.columns, &from, &to, &mut canvas.arrows);
+        push_arrow(&canvas.columns, from, &to, &mut canvas.arrows);
     }
-    canvas.writers.note(step, to)?;
+    let noted = canvas.writers.note(step, to);
+    canvas.arrows.note(noted);
     if let Word::Life { place } = step.word {
         let since = canvas.y;
         canvas
             .strips
             .change(place, step.after, since, &mut canvas.below);
     }
-    Ok(())
 }
 
 /// Draws a turn, and goes down by its height.
-fn draw_row(
-    number: usize,
-    lines: &[Line],
-    row: &Row,
-    canvas: &mut Canvas,
-) -> Result<(), AllocError> {
+fn draw_row(number: usize, lines: &[Line], row: &Row, canvas: &mut Canvas) {
     let lines = lines_of(lines, row);
     let step = step_of(lines);
     let column = position_of(canvas.lanes.as_slice(), row.lane);
@@ -163,24 +161,21 @@ fn draw_row(
         bottom: area.y.saturating_add(area.height),
     };
     if let Some(step) = step {
-        draw_step(step, turn, canvas)?;
+        draw_step(step, turn, canvas);
     }
     push_box(&turn, row.lane, lines, step, &area, &mut canvas.boxes);
-    canvas.y = area.y.saturating_add(area.height).saturating_add(GAP);
-    Ok(())
+    canvas.y = turn.bottom.saturating_add(GAP);
 }
 
-/// Draws turns, the first of which has this number.
-fn draw_rows(
-    first: usize,
-    lines: &[Line],
-    rows: &[Row],
-    canvas: &mut Canvas,
-) -> Result<(), AllocError> {
-    for (index, row) in rows.iter().enumerate() {
-        draw_row(first.saturating_add(index), lines, row, canvas)?;
+/// Draws the turns that a window shows.
+fn draw(lines: &[Line], rows: &[Row], window: &Window, canvas: &mut Canvas) {
+    let first = window.first.min(rows.len());
+    let shown_rows = shown(rows, window);
+    note_earlier(lines, &rows[..first], canvas);
+    begin_strips(lines, shown_rows, &mut canvas.strips);
+    for (index, row) in shown_rows.iter().enumerate() {
+        draw_row(first.saturating_add(index), lines, row, canvas);
     }
-    Ok(())
 }
 
 /// Appends the names of the lanes, and a line down each column.
@@ -245,22 +240,6 @@ fn extent_of(canvas: &Canvas, first: usize, drawn: usize, count: usize) -> Exten
     }
 }
 
-/// Draws turns on a canvas.
-fn drawn(
-    alloc: Global,
-    lines: &[Line],
-    rows: &[Row],
-    window: &Window,
-) -> Result<Canvas, AllocError> {
-    let first = window.first.min(rows.len());
-    let shown_rows = shown(rows, window);
-    let mut canvas = canvas_for(alloc, lines, rows, window)?;
-    note_earlier(lines, &rows[..first], &mut canvas)?;
-    begin_strips(lines, shown_rows, &mut canvas.strips);
-    draw_rows(first, lines, shown_rows, &mut canvas)?;
-    Ok(canvas)
-}
-
 /// The picture of some turns of a trace, as an SVG: each lane a column, each turn a row with its replies and its step, and beside
 /// them a strip for each place that these turns step on. A window past the end shows no turn.
 ///
@@ -270,7 +249,8 @@ fn drawn(
 pub fn picture_text(alloc: Global, lines: &[Line], window: &Window) -> Result<Vec<u8>, AllocError> {
     let rows = rows_of(alloc, lines)?;
     let rows = rows.as_slice();
-    let canvas = drawn(alloc, lines, rows, window)?;
+    let mut canvas = canvas_for(alloc, lines, rows, window)?;
+    draw(lines, rows, window, &mut canvas);
     let first = window.first.min(rows.len());
     let extent = extent_of(&canvas, first, shown(rows, window).len(), rows.len());
     let mut out = Page::new(alloc);

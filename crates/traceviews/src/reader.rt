@@ -50,8 +50,10 @@ fn read_named(alloc: Global, word: &[u8], operands: &[u8]) -> Result<Entry, Line
     let Some(name) = read_name(word) else {
         return Err(LineFault::Lacks(Wanted::Entry));
     };
-    let step = read_step(name, operands)?;
-    Ok(Entry::Step(step))
+    match read_step(name, operands) {
+        Ok(step) => Ok(Entry::Step(step)),
+        Err(wanted) => Err(LineFault::Lacks(wanted)),
+    }
 }
 
 /// The entry behind a lane.

@@ -44,31 +44,24 @@ fn joined(row: Row, line: &Line, at: usize) -> Option<Row> {
     })
 }
 
-/// The turn with the line at this index: the last one with it more, or one that it begins, and then the last one is appended.
-fn next_row(
-    last: Option<Row>,
-    line: &Line,
-    at: usize,
-    rows: &mut Vec<Row>,
-) -> Result<Row, AllocError> {
-    if let Some(row) = last {
-        if let Some(longer) = joined(row, line, at) {
-            return Ok(longer);
+/// Puts the line at this index to the last turn, or appends one that it begins.
+fn add_line(rows: &mut Vec<Row>, line: &Line, at: usize) -> Result<(), AllocError> {
+    let count = rows.len();
+    if count > 0 {
+        if let Some(longer) = joined(rows[count - 1], line, at) {
+            rows[count - 1] = longer;
+            return Ok(());
         }
-        rows.push(row)?;
     }
-    Ok(begun(line, at))
+    rows.push(begun(line, at))?;
+    Ok(())
 }
 
 /// The turns of some lines.
 pub(crate) fn rows_of(alloc: Global, lines: &[Line]) -> Result<Vec<Row>, AllocError> {
     let mut rows = Vec::new(alloc);
-    let mut last: Option<Row> = None;
     for (at, line) in lines.iter().enumerate() {
-        last = Some(next_row(last, line, at, &mut rows)?);
-    }
-    if let Some(row) = last {
-        rows.push(row)?;
+        add_line(&mut rows, line, at)?;
     }
     Ok(rows)
 }

@@ -15,9 +15,15 @@ use seqpool::{cut, read_key, read_place, read_u32};
 fn read_stack(text: &[u8]) -> Option<Word>
     ensures { Finds (λ word stack. IsStackWord word × (stack ≡ word_text word)) text.now result }
 {
-    let (shard, lane) = cut(text, b'.')?;
-    let shard = read_u32(shard)?;
-    let lane = read_u32(lane)?;
+    let Some((shard, lane)) = cut(text, b'.') else {
+        return None;
+    };
+    let Some(shard) = read_u32(shard) else {
+        return None;
+    };
+    let Some(lane) = read_u32(lane) else {
+        return None;
+    };
     Some(Word::Stack { shard, lane })
 }
 

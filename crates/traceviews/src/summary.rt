@@ -47,14 +47,23 @@ fn push_lane(lines: &[Line], lane: u32, out: &mut Page) {
     push_steps(lines, lane, out);
 }
 
-/// Appends the line of a place: what it is at the end.
-fn push_place_line(lines: &[Line], place: u32, out: &mut Page) {
-    if let Some(word) = last_word(lines, place) {
-        out.text("place ");
-        out.place(place);
-        out.text(" ");
-        out.life(word);
-        out.text("\n");
+/// Appends a line for each lane.
+fn push_lanes(lines: &[Line], lanes: &[u32], out: &mut Page) {
+    for lane in lanes {
+        push_lane(lines, *lane, out);
+    }
+}
+
+/// Appends a line for each place: what it is at the end.
+fn push_places(lines: &[Line], places: &[u32], out: &mut Page) {
+    for place in places {
+        if let Some(word) = last_word(lines, *place) {
+            out.text("place ");
+            out.place(*place);
+            out.text(" ");
+            out.life(word);
+            out.text("\n");
+        }
     }
 }
 
@@ -87,12 +96,8 @@ pub fn summary_text(alloc: Global, lines: &[Line]) -> Result<Vec<u8>, AllocError
     out.named("turns ", turns as u64);
     out.named(" lines ", lines.len() as u64);
     out.text("\n");
-    for lane in &lanes {
-        push_lane(lines, *lane, &mut out);
-    }
+    push_lanes(lines, lanes.as_slice(), &mut out);
     push_states(lines, places.as_slice(), &mut out);
-    for place in &places {
-        push_place_line(lines, *place, &mut out);
-    }
+    push_places(lines, places.as_slice(), &mut out);
     out.finish()
 }

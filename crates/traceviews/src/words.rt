@@ -1,57 +1,54 @@
 //! The lines of a trace with their words decoded.
 
-ghost use Rattle.std.specs.Prelude.{◌≡◌, ◌++◌, OnOk, IfOk, codes, flat_map};
-ghost use Rattle.traceviews.specs.Decoded.{failed_text, step_words, entry_words, line_words, value_text};
+ghost use Rattle.std.specs.Prelude.{◌≡◌, ◌++◌, false, IfOk, codes, flat_map};
+ghost use Rattle.traceviews.specs.Decoded.{failed_text, step_words, line_words, value_text};
 
-use crate::decoded::{is_failed, push_aim, push_value, step_name};
+use crate::decoded::{is_failed, step_name};
 use crate::line::{Entry, Line, NamedStep};
-use crate::pieces::{push_named, push_number, push_text};
-use keybits::Word;
+use crate::page::Page;
 use std::alloc::{AllocError, Global};
-use traces::write_reply_line;
 
 /// Appends what a step found, an arrow, what it left, and whether it failed.
-fn push_values(step: &NamedStep, out: &mut Vec<u8>) -> Result<(), AllocError>
-    ensures { OnOk result (out.new.items ≡ out.old.items
+fn push_values(step: &NamedStep, out: &mut Page)
+    ensures { out.new.refused ≡ false → (out.old.refused ≡ false) × (out.new.bytes.items ≡ out.old.bytes.items
         ++ (value_text step.now.word step.now.before ++ codes " -> " ++ value_text step.now.word step.now.after ++ failed_text step.now)) }
 {
-    push_value(step.word, step.before, out)?;
-    push_text(" -> ", out)?;
-    push_value(step.word, step.after, out)?;
-    push_text(if is_failed(step) { " failed\n" } else { "\n" }, out)
+    out.value(step.word, step.before);
+    out.text(" -> ");
+    out.value(step.word, step.after);
+    out.text(if is_failed(step) { " failed\n" } else { "\n" });
 }
 
 /// Appends the line of a step.
-fn push_step(lane: u32, step: &NamedStep, out: &mut Vec<u8>) -> Result<(), AllocError>
-    ensures { OnOk result (out.new.items ≡ out.old.items ++ step_words lane step.now) }
+fn push_step(lane: u32, step: &NamedStep, out: &mut Page)
+    ensures { out.new.refused ≡ false → (out.old.refused ≡ false) × (out.new.bytes.items ≡ out.old.bytes.items ++ step_words lane step.now) }
 {
-    push_number(u64::from(lane), out)?;
-    push_text(" ", out)?;
-    push_text(step_name(step.name), out)?;
-    push_text(" ", out)?;
-    push_aim(step.word, out)?;
-    push_text(" ", out)?;
-    push_values(step, out)
+    out.number(u64::from(lane));
+    out.text(" ");
+    out.text(step_name(step.name));
+    out.text(" ");
+    out.aim(step.word);
+    out.text(" ");
+    push_values(step, out);
 }
 
 /// Appends a line.
-fn push_line(line: &Line, out: &mut Vec<u8>) -> Result<(), AllocError>
-    ensures { OnOk result (out.new.items ≡ out.old.items ++ line_words line.now) }
+fn push_line(line: &Line, out: &mut Page)
+    ensures { out.new.refused ≡ false → (out.old.refused ≡ false) × (out.new.bytes.items ≡ out.old.bytes.items ++ line_words line.now) }
 {
     match &line.entry {
         Entry::Step(step) => push_step(line.lane, step, out),
-        Entry::Reply(reply) => write_reply_line(line.lane, reply, out),
+        Entry::Reply(reply) => out.reply_line(line.lane, reply),
     }
 }
 
 /// Appends the lines of a trace.
-fn push_lines(lines: &[Line], out: &mut Vec<u8>) -> Result<(), AllocError>
-    ensures { OnOk result (out.new.items ≡ out.old.items ++ flat_map line_words lines.now) }
+fn push_lines(lines: &[Line], out: &mut Page)
+    ensures { out.new.refused ≡ false → (out.old.refused ≡ false) × (out.new.bytes.items ≡ out.old.bytes.items ++ flat_map line_words lines.now) }
 {
     for line in lines {
-        push_line(line, out)?;
+        push_line(line, out);
     }
-    Ok(())
 }
 
 /// The lines of a trace with each word decoded: a lifecycle word as its state, its count and its generation, a link or stack word
@@ -64,7 +61,7 @@ fn push_lines(lines: &[Line], out: &mut Vec<u8>) -> Result<(), AllocError>
 pub fn words_text(alloc: Global, lines: &[Line]) -> Result<Vec<u8>, AllocError>
     ensures { IfOk result (λ text. text.items ≡ flat_map line_words lines.now) }
 {
-    let mut out = Vec::new(alloc);
-    push_lines(lines, &mut out)?;
-    Ok(out)
+    let mut out = Page::new(alloc);
+    push_lines(lines, &mut out);
+    out.finish()
 }
