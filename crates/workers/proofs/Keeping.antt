@@ -139,11 +139,16 @@ hit-weight : (b : Bool) (m : ℕ) → b ≡ true → m ≡ cond b 1 0 → m ≡ 
 hit-weight true m hit is = is
 hit-weight false m hit is = absurd (cc hit)
 
+-- where the lane has the references of the registers it has that of each
+pub least-held : (lane : LaneOf) (rs : List Register) → ((key : ℕ) → sum_by (λ x. key_weight key x.held) rs ≤ holds lane key) → (n : ℕ) → n < length rs
+    → (reference : RefOf) → reference_in (register_at rs n).held ≡ Some reference → 1 ≤ holds lane reference.key
+least-held lane rs held n low reference is =
+    let heavy = (reference-heavy (register_at rs n).held reference is).1 reference.key in
+    let one = hit-weight (reference.key == reference.key) _ (eq-eqb reference.key reference.key refl) heavy in
+    let part = sum-part (λ x. key_weight reference.key x.held) rs n low in
+    omega (arith, one, part, held reference.key)
+
 -- the reference of a register is one of the lane
 pub tidy-held : {pool : PoolOf} {lane : LaneOf} {rs : List Register} → Tidy pool (desk lane rs) → (n : ℕ) → n < 16 → (reference : RefOf)
     → reference_in (register_at rs n).held ≡ Some reference → 1 ≤ holds lane reference.key
-tidy-held {rs = rs} tidy n low reference is =
-    let heavy = (reference-heavy (register_at rs n).held reference is).1 reference.key in
-    let one = hit-weight (reference.key == reference.key) _ (eq-eqb reference.key reference.key refl) heavy in
-    let part = sum-part (λ x. key_weight reference.key x.held) rs n (omega (arith, tidy.sixteen)) in
-    omega (arith, one, part, tidy.held reference.key)
+tidy-held {lane = lane} {rs = rs} tidy n low reference is = least-held lane rs tidy.held n (omega (arith, low, tidy.sixteen)) reference is

@@ -5,3 +5,4 @@ pub mod Running
 pub mod Lining
 pub mod Lanes
 pub mod Pairs
+pub mod Parting

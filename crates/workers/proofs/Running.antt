@@ -12,7 +12,7 @@ use Rattle.seqpool.specs.Laws.{GetLaw, OnceLaw}
 use Rattle.steplaws.specs.Calls.{Call}
 use Rattle.steplaws.specs.Calls.Call.{Publishing, Getting, Releasing, Clearing}
 use Rattle.slotcell.specs.ByteBuf.{ByteBuf}
-use Rattle.traces.specs.declared.script.Command.TheVariants.{Create, Write, Publish, Downgrade, Get, Release, Clear}
+use Rattle.traces.specs.declared.script.Command.TheVariants.{Create, Write, Publish, Downgrade, Get, Read, Release, Clear}
 use Rattle.traces.specs.declared.script.Operand.{Operand}
 use Rattle.traces.specs.declared.script.Register.{Register as Number}
 use Rattle.traces.specs.declared.reply.Reply.{Reply}
@@ -28,7 +28,7 @@ use Rattle.workers.specs.declared.registers.Register.{Register}
 use Rattle.workers.specs.declared.registers.Held.{Held}
 use Rattle.workers.specs.declared.registers.Held.TheVariants.{Empty, Filling, Reference}
 use Rattle.workers.specs.Held.{is_empty, filling_in, reference_in}
-use Rattle.workers.specs.Lines.{register_at, operand_key, with_held, with_new, WhereEmpty, WhereFilling, WhereReference, WhereKey, WhereInside, GetsInto, Clears}
+use Rattle.workers.specs.Lines.{register_at, operand_key, with_held, with_new, WhereEmpty, WhereFilling, WhereReference, WhereKey, WhereInside, GetsInto, Clears, IsLine}
 use Rattle.workers.specs.Tidy.{desk, weight, key_weight, Tidy, Runs}
 use Rattle.workers.proofs.Setting.{at-same, set-again, set-same}
 use Rattle.workers.proofs.Keeping.{empty-light, filling-light, reference-heavy, tidy-lane, tidy-set}
@@ -369,3 +369,14 @@ module _ {pool : PoolOf} {old new : LaneOf} {rs : List Register} (tidy : Tidy po
       let put : now ≡ with_new rs register.number key (Reference of_key) = now_is ∙ ap (λ (r : RefOf). with_new rs register.number key (Reference r)) one in
       subst (λ (x : List Register). Runs pool (desk old rs) (Get register operand) reply (desk new x)) (sym put)
       (found reply (⊎_elim (λ (f : reply ≡ replies.Found shown). inl (f ∙ ap replies.Found (shown_is ∙ content))) (λ (m : reply ≡ replies.Memory). inr m) replied))
+
+-- ---- a read
+
+pub read-content : (lane : LaneOf) (rs : List Register) (register : Number) (reference : RefOf) (bytes shown : List ℕ) (reply : Reply)
+    → reference_in (register_at rs register.number).held ≡ Some reference → ((j : ℕ) × PublishedAt lane.book.seen j reference.key bytes) → shown ≡ bytes
+    → (reply ≡ replies.Content shown) ⊎ (reply ≡ replies.Memory) → IsLine (desk lane rs) (Read register) reply (desk lane rs)
+read-content lane rs register reference bytes shown reply is published shown_is replied =
+    where-reference (register_at rs register.number).held _ _ reference is (
+      refl,
+      ⊎_elim (λ (c : reply ≡ replies.Content shown). inl (bytes, published.0, published.1, c ∙ ap replies.Content shown_is)) (λ (m : reply ≡ replies.Memory). inr m) replied,
+    )

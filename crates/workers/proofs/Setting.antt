@@ -1,13 +1,38 @@
 -- Registers of which one is set.
-use Rattle.std.proofs.Common.{◌≡◌, ◌≢◌, ℕ, zero, suc, ◌+◌, ◌<◌, ◌≤◌, List, [], ◌∷◌, length, set, sum_by, refl, ap, arith}
+use Rattle.std.proofs.Common.{◌≡◌, ◌≢◌, ℕ, zero, suc, ◌+◌, ◌<◌, ◌≤◌, List, [], ◌∷◌, length, set, get_or, sum_by, refl, sym, ap, ◌∙◌, arith, true, Option, Some, None, is_some}
 use Rattle.std.proofs.lemmas.List.Sums.{sum_by-cons}
 use Rattle.workers.specs.declared.registers.Register.{Register}
-use Rattle.workers.specs.Lines.{register_at}
+use Rattle.workers.specs.declared.registers.Held.{Held}
+use Rattle.workers.specs.declared.registers.Held.TheVariants.{Empty}
+use Rattle.workers.specs.Held.{where_some}
+use Rattle.workers.specs.Lines.{register_at, with_held}
 
 pub at-same : (xs : List Register) (n : ℕ) (r : Register) → n < length xs → register_at (set xs n r) n ≡ r
 at-same [] n r inside = absurd (omega arith)
 at-same (x ∷ xs) zero r inside = refl
 at-same (x ∷ xs) (suc n) r inside = at-same xs n r (omega arith)
+
+-- what an index reads
+pub at-got : (xs : List Register) (n : ℕ) (r : Register) → n < length xs → register_at xs n ≡ get_or xs n r
+at-got [] n r inside = absurd (omega arith)
+at-got (x ∷ xs) zero r inside = refl
+at-got (x ∷ xs) (suc n) r inside = at-got xs n r (omega arith)
+
+pub put-back : (xs : List Register) (n : ℕ) (r : Register) → n < length xs → set xs n (get_or xs n r) ≡ xs
+put-back [] n r inside = absurd (omega arith)
+put-back (x ∷ xs) zero r inside = refl
+put-back (x ∷ xs) (suc n) r inside = ap (λ (ys : List Register). x ∷ ys) (put-back xs n r (omega arith))
+
+-- something else is held
+pub held-now : (xs : List Register) (n : ℕ) (r : Register) (held : Held) → n < length xs
+    → set xs n (record { held = held; last_key = (get_or xs n r).last_key }) ≡ with_held xs n held
+held-now xs n r held inside = ap (λ (x : Register). set xs n (record { held = held; last_key = x.last_key })) (sym (at-got xs n r inside))
+
+-- what was held is taken out
+pub taken-out : {A : Type 0} (taken : Option A) (xs : List Register) (n : ℕ) (r : Register) (held : Held) → n < length xs → true ≡ is_some taken → held ≡ Empty
+    → set xs n (record { held = held; last_key = (get_or xs n r).last_key }) ≡ where_some taken (with_held xs n Empty) xs
+taken-out None xs n r held inside some is = absurd (cc some)
+taken-out (Some taken) xs n r held inside some is = held-now xs n r held inside ∙ ap (λ (h : Held). with_held xs n h) is
 
 pub at-other : (xs : List Register) (n i : ℕ) (r : Register) → i ≢ n → register_at (set xs n r) i ≡ register_at xs i
 at-other [] zero i r other = refl

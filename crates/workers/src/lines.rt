@@ -207,6 +207,8 @@ fn content(alloc: Global, bytes: &[u8]) -> Reply
 fn copied(alloc: Global, bytes: &[u8]) -> Result<Bytes, AllocError>
     ensures { IfOk result (λ copy. copy ≡ bytes.now) }
 {
-    let copy = Vec::from_slice(alloc, bytes)?;
+    let Ok(copy) = Vec::from_slice(alloc, bytes) else {
+        return Err(AllocError);
+    };
     Ok(Bytes::from_vec(copy))
 }

@@ -17,7 +17,9 @@ pub fn jobs_of(
     ensures lanes { IfOk result (λ jobs. map (λ job. job.lane) jobs.items ≡ lanes.items) }
     ensures scripts { IfOk result (λ jobs. map (λ job. job.script) jobs.items ≡ scripts.items) }
 {
-    let mut jobs = Vec::with_capacity(alloc, lanes.len())?;
+    let Ok(mut jobs) = Vec::with_capacity(alloc, lanes.len()) else {
+        return Err(AllocError);
+    };
     let mut scripts = scripts.into_iter();
     for lane in lanes {
         let Some(script) = scripts.next() else {
@@ -36,8 +38,12 @@ pub fn parts_of(
     ensures lanes { IfOk result (λ parts. parts.0.items ≡ map (λ done. done.lane) dones.items) }
     ensures reports { IfOk result (λ parts. parts.1.items ≡ map (λ done. done.report) dones.items) }
 {
-    let mut lanes = Vec::with_capacity(alloc, dones.len())?;
-    let mut reports = Vec::with_capacity(alloc, dones.len())?;
+    let Ok(mut lanes) = Vec::with_capacity(alloc, dones.len()) else {
+        return Err(AllocError);
+    };
+    let Ok(mut reports) = Vec::with_capacity(alloc, dones.len()) else {
+        return Err(AllocError);
+    };
     for done in dones {
         let Done { lane, report } = done;
         lanes.push_reserved(lane);

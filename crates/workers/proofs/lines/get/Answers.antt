@@ -10,6 +10,12 @@ get-requires-clause-room c =
     tidy-room c.requires.tidy c.args.register.number c.args.register.small
     (empty-light (register_at c.args.registers.now c.args.register.number).held (sym c.if-not-is_free.ensures)).0
 
+pub get-requires-clause-owns : goal.get-requires-clause-owns
+get-requires-clause-owns c = c.requires.tidy.owns
+
+pub read-requires : goal.read-requires
+read-requires c = c.in-Some-get.ensures.held.1
+
 pub returns-in_default-get : goal.returns-in_default-get
 returns-in_default-get c =
     let did = c.in_default-get.ensures in
