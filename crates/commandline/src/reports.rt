@@ -8,8 +8,8 @@ use crate::mistakes::{Mistake, Reason, write_mistake};
 use clap::Error as ClapError;
 use clap::error::ErrorKind;
 use std::alloc::{AllocError, Global};
-use std::io::Write;
 use std::env::Env;
+use std::io::Write;
 use std::{env, io};
 
 /// Why what there is to say of the words wasn't said.

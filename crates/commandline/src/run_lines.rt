@@ -42,7 +42,9 @@ static LINES: [Line<'static>; 4] = [
         name: "replay",
         help: Help {
             about: "Replays the scripts of a file over a schedule, step by step, and prints what each step did",
-            usage: Some("poolrun replay <FILE> --schedule <LANES> [--stop <L:K>] [--acts] [--explain]\n       poolrun replay <FILE> --seed <N> --turns <M> [--stop <L:K>] [--acts] [--explain]"),
+            usage: Some(
+                "poolrun replay <FILE> --schedule <LANES> [--stop <L:K>] [--acts] [--explain]\n       poolrun replay <FILE> --seed <N> --turns <M> [--stop <L:K>] [--acts] [--explain]",
+            ),
             more: "\
 Give either --schedule, or both --seed and --turns. The same words print the same text each time.
 

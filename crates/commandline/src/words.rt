@@ -5,8 +5,8 @@ ghost use Rattle.commandline.specs.CommandLines.{command_line, AreMatchesOf};
 ghost use Rattle.commandline.specs.Mistakes.{Tells, RefusesMatches, wrong_replay, wrong_file, wrong_key};
 
 use crate::fault::{TaskFault, mistaken_without};
-use crate::run_lines::program_command;
 use crate::mistakes::Reason;
+use crate::run_lines::program_command;
 use crate::tasks::Task;
 use crate::turns::{read_key_number, read_turns, stop_given};
 use clap::{ArgMatches, Error as ClapError};

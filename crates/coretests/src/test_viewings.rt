@@ -10,7 +10,15 @@ fn reads_what_is_viewed(rt: HostRuntime) {
         .ok()
         .expect(&rt, "a viewing");
     assert_eq!(rt; viewing.file, "trace");
-    assert!(rt; matches!(viewing.view, View::Picture { first: 10, count: 20 }));
+    assert!(rt;
+        matches!(
+            viewing.view,
+            View::Picture {
+                first: 10,
+                count: 20
+            }
+        )
+    );
 }
 
 #[test]

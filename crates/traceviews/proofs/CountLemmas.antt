@@ -53,5 +53,8 @@ longest-next lane steps most next i more lines line within so_far at is more-is 
     at_drop_more (longest_from steps lane) lines i line within
     ∙ ap (λ (n : ℕ). max steps (longest_from n lane (drop (i + 1) lines))) reached in
     let few = so_far.few in
-    record { few = omega arith; found = omega arith;
-    whole = longest-whole steps most next more _ _ _ here behind so_far.found more-is so_far.whole }
+    record {
+      few = omega arith;
+      found = omega arith;
+      whole = longest-whole steps most next more _ _ _ here behind so_far.found more-is so_far.whole;
+    }

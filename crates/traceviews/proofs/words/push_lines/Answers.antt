@@ -12,10 +12,11 @@ loop-line-preserved c = λ whole.
     let before = take at.line-index c.args.lines.now in
     let old = c.args.out.now.bytes.items in
     let next = c.push_line.ensures whole in
-    let so_far = at.invariant next.0 in
-    (so_far.0,
-    next.1
-    ∙ ap (λ (text : List ℕ). text ++ line_words line) so_far.1
-    ∙ flat_map_more line_words old before line
-    ∙ ap (λ (lines : List Line). old ++ flat_map line_words lines)
-    (ap (λ (l : Line). before ++ l ∷ []) c.line-item.is ∙ sym (take_more c.args.lines.now at.line-index line c.loop-line-test.true)))
+    let so_far = at.invariant next.0 in (
+      so_far.0,
+      next.1
+          ∙ ap (λ (text : List ℕ). text ++ line_words line) so_far.1
+          ∙ flat_map_more line_words old before line
+          ∙ ap (λ (lines : List Line). old ++ flat_map line_words lines)
+          (ap (λ (l : Line). before ++ l ∷ []) c.line-item.is ∙ sym (take_more c.args.lines.now at.line-index line c.loop-line-test.true)),
+    )

@@ -25,15 +25,16 @@ returns c = λ whole.
     let new = c.push_values.new.out.bytes.items in
     let begun = decimal c.args.lane ++ codes " " in
     let named = begun ++ kind_text (kind_of step.name) in
-    let aimed = named ++ codes " " ++ aim_text step.word in
-    (lane.0,
-    appended old (aimed ++ codes " ")
-    (value_text step.word step.before ++ codes " -> " ++ value_text step.word step.after ++ failed_text step) six new
-    (appended old aimed (codes " ") five six
-    (appended old (named ++ codes " ") (aim_text step.word) four five
-    (appended old named (codes " ") three four
-    (appended old begun (kind_text (kind_of step.name)) two three
-    (appended old (decimal c.args.lane) (codes " ") one two
-    (lane.1 ∙ ap (λ (n : ℕ). old ++ decimal n) c.from.ensures) first.1)
-    (name.1 ∙ ap (λ (text : List ℕ). two ++ text) c.step_name.ensures))
-    second.1) aim.1) third.1) values.1)
+    let aimed = named ++ codes " " ++ aim_text step.word in (
+      lane.0,
+      appended old (aimed ++ codes " ")
+          (value_text step.word step.before ++ codes " -> " ++ value_text step.word step.after ++ failed_text step) six new
+          (appended old aimed (codes " ") five six
+          (appended old (named ++ codes " ") (aim_text step.word) four five
+          (appended old named (codes " ") three four
+          (appended old begun (kind_text (kind_of step.name)) two three
+          (appended old (decimal c.args.lane) (codes " ") one two
+          (lane.1 ∙ ap (λ (n : ℕ). old ++ decimal n) c.from.ensures) first.1)
+          (name.1 ∙ ap (λ (text : List ℕ). two ++ text) c.step_name.ensures))
+          second.1) aim.1) third.1) values.1,
+    )
