@@ -1,5 +1,5 @@
 -- The calls of a key: steps up to a LEAVE, and the end that follows it.
-use Rattle.std.proofs.Common.{◌≡◌, ◌==◌, ℕ, ◌+◌, ◌-◌, ◌≤◌, Bool, true, false, cond, List, [], ◌∷◌, ◌++◌, length, Option, Some, None, refl, sym, ap, ◌∙◌, subst, arith, append_assoc, append-nil, length-append}
+use Rattle.std.proofs.Common.{◌≡◌, ◌==◌, ⊎_elim, ℕ, ◌+◌, ◌-◌, ◌≤◌, Bool, true, false, cond, List, [], ◌∷◌, ◌++◌, length, Option, Some, None, refl, sym, ap, ◌∙◌, subst, arith, append_assoc, append-nil, length-append}
 use Rattle.atomic_table.specs.Table.{Me}
 use Rattle.keybits.specs.declared.shape.Shape.{Shape}
 use Rattle.keybits.specs.declared.step.Kind.{Kind}
@@ -16,12 +16,12 @@ use Rattle.steplaws.specs.Calls.{Call, Caller, aim, end_next, mark_next, next_st
 use Rattle.steplaws.specs.Calls.Call.{Getting, Releasing, Clearing}
 use Rattle.poolsteps.specs.declared.view.LaneRecord.{LaneRecord}
 use Rattle.poolsteps.specs.declared.view.View.{View}
-use Rattle.poolsteps.specs.Views.{head_record, the_lane, acts_in, after_step}
-use Rattle.poolsteps.specs.Told.{LifeSteps, EntersGet, EntersClear, Leaves, Marks, IsIdle}
-use Rattle.poolcalls.specs.Called.{caller_of, Make, IsUnmoved, Did, AreEnd, GoesToEnd, Ends, Called, EndsWithActs, MovedNothing, HasGot, end_acts, end_pushed}
+use Rattle.poolsteps.specs.Views.{head_record, the_lane, status_of, known_of, acts_in, after_step}
+use Rattle.poolsteps.specs.Told.{LifeSteps, EntersGet, EntersClear, Leaves, Marks, Sees, IsIdle}
+use Rattle.poolcalls.specs.Called.{caller_of, Make, MarksAtLast, IsUnmoved, Did, AreEnd, GoesToEnd, Ends, Called, EndsWithActs, MovedNothing, HasGot, end_acts, end_pushed}
 use Rattle.poolcalls.specs.declared.reclaimed.Reclaimed.{Reclaimed}
 use Rattle.poolcalls.specs.declared.reclaimed.Got.TheVariants.{Hit}
-use Rattle.poolcalls.proofs.Doing.{unmoved-now, unmoved-more, life-next, did-step, did-most, did-more, make-one, make-more, same-caller}
+use Rattle.poolcalls.proofs.Doing.{unmoved-now, unmoved-more, life-next, did-step, did-sees, did-most, did-more, make-one, make-more, same-caller}
 
 -- ---- the steps of a call, one after another
 
@@ -50,11 +50,11 @@ end-steps c call done follows front (step ∷ behind) are = (
 
 -- ---- the first steps of a call
 
--- a call began with these steps, which made these acts
+-- a call began with these steps, which made these acts, and with a look at most
 pub record Opens {S : Type 0} (z : Shape) (call : Call) (steps : List Step) (made : List Act) (a b : Me S View) : Type 0 where
   pub are : AreSteps (caller_of z a.0) call [] steps
   pub make : Make z (caller_of z a.0) call steps made
-  pub did : Did z (place_of (key_in call)) made (length steps) 0 a b
+  pub did : Did z (place_of (key_in call)) made (length steps) 1 a b
   pub pushed : (the_lane b.0).pushed ≡ (the_lane a.0).pushed
   pub same : caller_of z b.0 ≡ caller_of z a.0
   pub unmoved : IsUnmoved (place_of (key_in call)) (the_lane a.0) (the_lane b.0)
@@ -91,11 +91,28 @@ module _ {S : Type 0} {z : Shape} {kind : Kind} {found left : ℕ} {act : Option
   opens-first call next makes = record {
     are = (next, tt);
     make = make-one z (caller_of z a.0) call (life-step kind (key_in call) found left) act no-links steps.changes makes;
-    did = did-life (place_of (key_in call));
+    did = did-most (did-life (place_of (key_in call))) (omega arith);
     pushed = ap (λ (r : LaneRecord). r.pushed) now;
     same = life-caller;
     unmoved = life-unmoved (place_of (key_in call));
   }
+
+  -- the first, with a look behind it that moves nothing
+  pub opens-look : {c : Me S View} (call : Call) → next_step (caller_of z a.0) call [] ≡ Some (aim kind (Life (place_of (key_in call))))
+      → Makes (caller_of z a.0) call no-links (life-step kind (key_in call) found left) act → Sees z b c
+      → Opens z call (life-step kind (key_in call) found left ∷ []) (acts_in act) a c
+  opens-look {c = c} call next makes sees =
+      let place : ℕ = place_of (key_in call) in
+      let first = opens-first call next makes in
+      let still : the_lane c.0 ≡ the_lane b.0 = ap head_record sees.goes.lanes in record {
+        are = first.are;
+        make = first.make;
+        did = subst (λ (made : List Act). Did z place made 1 1 a c) (append-nil (acts_in act)) (did-more (did-life place) (did-sees sees));
+        pushed = ap (λ (r : LaneRecord). r.pushed) still ∙ first.pushed;
+        same = same-caller z b.0 c.0 (ap (λ (r : LaneRecord). r.lane) still) (ap (λ (r : LaneRecord). r.pushed) still) ∙ first.same;
+        unmoved = unmoved-more first.unmoved
+            (record { deeds = λ number. ap (λ (r : LaneRecord). status_of r place number) still; cell = ap (λ (r : LaneRecord). known_of r place) still });
+      }
 
   -- one after others
   pub opens-more : {first : Me S View} {call : Call} {done : List Step} {made : List Act} → Opens z call done made first a
@@ -108,7 +125,7 @@ module _ {S : Type 0} {z : Shape} {kind : Kind} {found left : ℕ} {act : Option
       let place : ℕ = place_of (key_in call) in record {
         are = steps-more c call [] done (step ∷ []) opens.are (next, tt);
         make = make-more z c call done (step ∷ []) made (acts_in act) opens.make (make-one z c call step act no-links steps.changes makes);
-        did = subst (λ (n : ℕ). Did z place (made ++ acts_in act) n 0 first b) (sym (length-append done (step ∷ []))) (did-more opens.did (did-life place));
+        did = subst (λ (n : ℕ). Did z place (made ++ acts_in act) n 1 first b) (sym (length-append done (step ∷ []))) (did-more opens.did (did-life place));
         pushed = ap (λ (r : LaneRecord). r.pushed) now ∙ opens.pushed;
         same = life-caller ∙ opens.same;
         unmoved = unmoved-more opens.unmoved (life-unmoved place);
@@ -125,7 +142,7 @@ module _ {S : Type 0} {z : Shape} {call : Call} {made : List Act} {a b : Me S Vi
 
   -- one that goes on as an end after these, from its LEAVE
   pub called-by-end : {c : Me S View} (done : List Step) (leave : Step) → Opens z call (done ++ leave ∷ []) made a b → length done ≤ 2
-      → GoesOnAsEnd (caller_of z a.0) call done → GoesToEnd z (place_of (key_in call)) (leave ∷ []) 5 34 b c → Called z call 34 a c
+      → GoesOnAsEnd (caller_of z a.0) call done → GoesToEnd z (place_of (key_in call)) (leave ∷ []) 5 33 b c → Called z call 34 a c
   called-by-end {c = c} done leave opens few follows rest =
       let front : List Step = done ++ leave ∷ [] in
       let place : ℕ = place_of (key_in call) in
@@ -181,8 +198,8 @@ module _ {S : Type 0} {z : Shape} {call : Call} {act : Act} {a b c d : Me S View
   abbrev leave : Step
   leave = life-step kinds.Leave (key_in call) left (left - 4)
 
-  rest : GoesToEnd z (place_of (key_in call)) (leave ∷ []) 5 34 c d
-  rest = subst (λ (p : ℕ). GoesToEnd z p (leave ∷ []) 5 34 c d) at (ends leave refl)
+  rest : GoesToEnd z (place_of (key_in call)) (leave ∷ []) 5 33 c d
+  rest = subst (λ (p : ℕ). GoesToEnd z p (leave ∷ []) 5 33 c d) at (ends leave refl)
 
   pub called-after : Called z call 34 a d
   called-after =
@@ -207,7 +224,7 @@ pub release-called : {S : Type 0} {z : Shape} {key left place : ℕ} {a b c : Me
 release-called {z = z} {key = key} {left = left} {b = b} {c = c} idle leaves at ends =
     let leave : Step = life-step kinds.Leave key left (left - 4) in
     called-by-end [] leave (opens-first (leaves.0 idle) (Releasing key) refl refl) (omega arith) (λ s. refl)
-    (subst (λ (p : ℕ). GoesToEnd z p (leave ∷ []) 5 34 b c) at (ends leave refl))
+    (subst (λ (p : ℕ). GoesToEnd z p (leave ∷ []) 5 33 b c) at (ends leave refl))
 
 pub release-acts : {S T : Type 0} {z : Shape} {key left : ℕ} {a b : Me S View} (place : ℕ) (c : View) (reclaimed : Option (Reclaimed T)) → IsIdle a.0 → Leaves z key a left b
     → EndsWithActs z place [] b.0 c reclaimed → EndsWithActs z place (acts.Release (the_lane a.0).lane key ∷ []) a.0 c reclaimed
@@ -246,6 +263,24 @@ module _ (c : Caller) (key found : ℕ) where
   -- and after the MARK
   pub clear-ends : (word : ℕ) → is_hit key found ≡ true → GoesOnAsEnd c (Clearing key) (enter-step key found ∷ mark-step key word ∷ [])
   clear-ends word hit s = mark-follows hit (mark-step key word ∷ s)
+
+module _ {S : Type 0} {z : Shape} {key found word : ℕ} {a b c : Me S View} (entered : Opens z (Clearing key) (enter-step key found ∷ []) [] a b) (hit : is_hit key found ≡ true)
+    (marks : Marks z key b word c) where
+  -- a clear that hit, and its MARK
+  pub clear-marked : Opens z (Clearing key) (enter-step key found ∷ mark-step key word ∷ []) (acts.Clear (the_lane a.0).lane key (state_in word == 1) ∷ []) a c
+  clear-marked =
+      let marked = opens-more marks entered (mark-follows (caller_of z a.0) key found hit []) (ap (λ (l : ℕ). Some (acts.Clear l key (state_in word == 1))) entered.did.acted.lane) in
+      subst (λ (l : ℕ). Opens z (Clearing key) (enter-step key found ∷ mark-step key word ∷ []) (acts.Clear l key (state_in word == 1) ∷ []) a c) entered.did.acted.lane marked
+
+  clear-ended : Opened z (Clearing key) (acts.Clear (the_lane a.0).lane key (state_in word == 1)) a c
+  clear-ended = record {
+    done = enter-step key found ∷ mark-step key word ∷ [];
+    opens = clear-marked;
+    few = omega arith;
+    follows = clear-ends (caller_of z a.0) key found word hit;
+    hit = true;
+    under = life-under marks;
+  }
 
 module _ {S : Type 0} {z : Shape} {key found : ℕ} {a b : Me S View} (inside : is_key z key ≡ true) where
   -- a get up to its ENTER, which hits
@@ -297,13 +332,10 @@ module _ {S : Type 0} {z : Shape} {key found : ℕ} {a b : Me S View} (inside : 
   clear-entered enters hit = opens-first (enters.0 hit) (Clearing key) (enter-next key (is_key z key) inside)
       (ap (λ (b : Bool). cond b None (Some (acts.Clear (the_lane a.0).lane key false))) (sym hit))
 
-  -- then its MARK
-  pub clear-marked : {word : ℕ} {c : Me S View} → EntersClear z key a found b → is_hit key found ≡ true → Marks z key b word c
-      → Opens z (Clearing key) (enter-step key found ∷ mark-step key word ∷ []) (acts.Clear (the_lane a.0).lane key (state_in word == 1) ∷ []) a c
-  clear-marked {word = word} {c = c} enters hit marks =
-      let entered = clear-entered enters hit in
-      let marked = opens-more marks entered (mark-follows (caller_of z a.0) key found hit []) (ap (λ (l : ℕ). Some (acts.Clear l key (state_in word == 1))) entered.did.acted.lane) in
-      subst (λ (l : ℕ). Opens z (Clearing key) (enter-step key found ∷ mark-step key word ∷ []) (acts.Clear l key (state_in word == 1) ∷ []) a c) entered.did.acted.lane marked
+  -- also with a look behind it
+  pub clear-looked : {c : Me S View} → EntersClear z key a found b → is_hit key found ≡ true → Sees z b c → Opens z (Clearing key) (enter-step key found ∷ []) [] a c
+  clear-looked enters hit sees = opens-look (enters.0 hit) (Clearing key) (enter-next key (is_key z key) inside)
+      (ap (λ (b : Bool). cond b None (Some (acts.Clear (the_lane a.0).lane key false))) (sym hit)) sees
 
   -- a clear that misses
   pub clear-misses : EntersClear z key a found b → is_hit key found ≡ false → Opened z (Clearing key) (acts.Clear (the_lane a.0).lane key false) a b
@@ -317,13 +349,8 @@ module _ {S : Type 0} {z : Shape} {key found : ℕ} {a b : Me S View} (inside : 
   }
 
   -- and one that hits, with its MARK
-  pub clear-marks : {word : ℕ} {c : Me S View} → EntersClear z key a found b → is_hit key found ≡ true → Marks z key b word c
-      → Opened z (Clearing key) (acts.Clear (the_lane a.0).lane key (state_in word == 1)) a c
-  clear-marks {word = word} enters hit marks = record {
-    done = enter-step key found ∷ mark-step key word ∷ [];
-    opens = clear-marked enters hit marks;
-    few = omega arith;
-    follows = clear-ends (caller_of z a.0) key found word hit;
-    hit = true;
-    under = life-under marks;
-  }
+  pub clear-marks : {word : ℕ} {d : Me S View} → EntersClear z key a found b → is_hit key found ≡ true → MarksAtLast z key b word d
+      → Opened z (Clearing key) (acts.Clear (the_lane a.0).lane key (state_in word == 1)) a d
+  clear-marks {word = word} {d = d} enters hit marks = ⊎_elim
+      (λ (at_once : Marks z key b word d). clear-ended (clear-entered enters hit) hit at_once)
+      (λ (later : (between : Me S View) × Sees z b between × Marks z key between word d). clear-ended (clear-looked enters hit later.1) hit later.2) marks

@@ -15,7 +15,7 @@ use Rattle.steplaws.specs.Calls.{Call, Caller, aim, end_next, key_in, Makes}
 use Rattle.poolsteps.specs.declared.view.LaneRecord.{LaneRecord}
 use Rattle.poolsteps.specs.declared.view.View.{View}
 use Rattle.poolsteps.specs.Views.{head_record, the_lane, pushed_in, status_of, known_of, acts_in, after_step, with_cell}
-use Rattle.poolsteps.specs.Told.{GoesOn, Steps, IsIdle}
+use Rattle.poolsteps.specs.Told.{GoesOn, Steps, Sees, IsIdle}
 use Rattle.poolsteps.specs.Returned.{with_return, pushed_record}
 use Rattle.poolcalls.specs.Carried.{Carries}
 use Rattle.poolcalls.specs.Called.{caller_of, Make, IsUnmoved, Did, AreEnd, GoesToEnd}
@@ -86,6 +86,12 @@ module _ {S : Type 0} {z : Shape} {place : ℕ} {a b : Me S View} where
   pub did-step : {kind : Kind} {found left : ℕ} {act : Option Act} {r : LaneRecord} → Steps z kind found left a b act r → IsNext place (acts_in act) (the_lane a.0) r
       → Did z place (acts_in act) 1 0 a b
   did-step {act = act} {r = r} steps next = did-goes steps.goes (even-in r act) next steps.held steps.steps (let same = steps.looks in omega arith)
+
+  -- a look that moves nothing
+  pub did-sees : Sees z a b → Did z place [] 0 1 a b
+  did-sees sees = did-goes sees.goes refl
+      (record { lane = refl; mine = sym (append-nil (the_lane a.0).mine); chain = refl; deeds = λ p number other. refl; cells = λ p other. refl })
+      sees.held (let steps = sees.steps in omega arith) (let looked = sees.looks in omega arith)
 
   -- moves of the place's shares
   pub did-carries : {n looks : ℕ} → Carries z place n a b → n ≤ looks → Did z place [] 0 looks a b

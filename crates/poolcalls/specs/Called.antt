@@ -1,5 +1,5 @@
 -- What calls did, and parts of calls: their steps, the acts that these made, and nothing more.
-use Rattle.std.specs.Prelude.{◌≡◌, ◌≢◌, ℕ, ◌+◌, ◌≤◌, true, List, [], ◌∷◌, ◌++◌, length, Option, Some, None, IfSome}
+use Rattle.std.specs.Prelude.{◌≡◌, ◌≢◌, ◌⊎◌, ℕ, ◌+◌, ◌≤◌, true, List, [], ◌∷◌, ◌++◌, length, Option, Some, None, IfSome}
 use Rattle.atomic_table.specs.Table.{Me}
 use Rattle.placecell.specs.Spot.{Spot as CellSpot}
 use Rattle.keybits.specs.declared.shape.Shape.{Shape}
@@ -20,7 +20,7 @@ use Rattle.sharelaws.specs.Shares.{room_of}
 use Rattle.poolsteps.specs.declared.view.LaneRecord.{LaneRecord}
 use Rattle.poolsteps.specs.declared.view.View.{View}
 use Rattle.poolsteps.specs.Views.{the_lane, pushed_in, status_of, known_of, acts_in}
-use Rattle.poolsteps.specs.Told.{IsIdle, Quiet, HasPlace, LeftAlone, references_seen}
+use Rattle.poolsteps.specs.Told.{Sees, Marks, IsIdle, Quiet, HasPlace, LeftAlone, references_seen}
 use Rattle.poolcalls.specs.Acted.{Acted}
 use Rattle.poolcalls.specs.Carried.{AreEmptied}
 use Rattle.poolcalls.specs.declared.reclaimed.Got.{Got}
@@ -81,11 +81,11 @@ GivesHome z place before after = (leave claim : Step) → is_claimed (generation
 -- what follows a CLAIM of this generation that succeeded
 abbrev pub Tails : {S : Type 0} → Shape → ℕ → ℕ → Me S View → Me S View → Type 0
 Tails z place generation before after = (leave claim : Step) → generation_in leave.before ≡ generation → is_claimed generation claim.before ≡ true
-    → GoesToEnd z place (leave ∷ claim ∷ []) 4 34 before after
+    → GoesToEnd z place (leave ∷ claim ∷ []) 4 33 before after
 
 -- what follows a LEAVE that found this word
 abbrev pub Ends : {S : Type 0} → Shape → ℕ → ℕ → Me S View → Me S View → Type 0
-Ends z place found before after = (leave : Step) → leave.before ≡ found → GoesToEnd z place (leave ∷ []) 5 34 before after
+Ends z place found before after = (leave : Step) → leave.before ≡ found → GoesToEnd z place (leave ∷ []) 5 33 before after
 
 -- what became of the place, by what the seat then saw and knows: the object of an own place is empty, with at least the place's room
 abbrev pub IsReclaimed : {T : Type 0} → (T → List ℕ) → (T → ℕ) → Shape → ℕ → ℕ → View → Reclaimed T → Type 0
@@ -158,6 +158,10 @@ pub record Called {S : Type 0} (z : Shape) (call : Call) (looks : ℕ) (before a
   pub did : Did z (place_of (key_in call)) made (length steps) looks before after
   pub few : length steps ≤ 8
   pub idle : IsIdle after.0
+
+-- the lane made its MARK, at once or after a look that moved nothing
+abbrev pub MarksAtLast : {S : Type 0} → Shape → ℕ → Me S View → ℕ → Me S View → Type 0
+MarksAtLast {S} z key before found after = Marks z key before found after ⊎ ((between : Me S View) × Sees z before between × Marks z key between found after)
 
 -- what a get answers of a reclaimed place stands in this word
 abbrev pub GotStandsAt : {T : Type 0} → CellSpot → Got T → Type 0

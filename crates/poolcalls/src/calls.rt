@@ -4,19 +4,20 @@ ghost use Rattle.keybits.specs.Keys.{place_of, is_key};
 ghost use Rattle.seqpool.specs.declared.act.Act.TheVariants as acts;
 ghost use Rattle.sharelaws.specs.declared.stored.Status.TheVariants.{Untouched};
 ghost use Rattle.steplaws.specs.Calls.Call.{Getting, Releasing, Clearing};
+ghost use Rattle.steplaws.specs.declared.pending.Pending.TheVariants.{Undo};
 ghost use Rattle.steplaws.specs.Facts.{most_references};
 ghost use Rattle.poolsteps.specs.Layout.{spots_at};
 ghost use Rattle.poolsteps.specs.Views.{the_lane, status_of, IsOne};
-ghost use Rattle.poolsteps.specs.Grids.{IsOf, SameSeat};
+ghost use Rattle.poolsteps.specs.Grids.{IsSpot, IsOf, SameSeat};
 ghost use Rattle.poolsteps.specs.Told.{IsIdle, references_seen};
 ghost use Rattle.poolcalls.specs.AtPlace.{IsAt};
-ghost use Rattle.poolcalls.specs.Called.{Called, EndsWithActs, IsReclaimed, StandsAt, HasGot, GotStandsAt};
+ghost use Rattle.poolcalls.specs.Called.{Called, MarksAtLast, EndsWithActs, IsReclaimed, StandsAt, HasGot, GotStandsAt};
 
 use crate::at_place::At;
 use crate::ends::{finish_if_owed, finish_leave};
 use crate::reclaimed::{Got, Reclaimed};
-use keybits::{is_hit, is_present};
-use poolsteps::{Grid, Hand, Purpose};
+use keybits::{ONE_COUNT, is_hit, is_present};
+use poolsteps::{Grid, Hand, Purpose, Spot};
 use slotcell::Clear;
 
 /// A get of a key: where it hits, the lane has one reference more. It takes no memory.
@@ -84,7 +85,25 @@ pub fn clear<T: Clear + Drop>(
     ensures at { StandsAt (spots_at grid.now.objects.ptr grid.now.shape (place_of key)) result.1 }
 {
     let found = grid.enter(hand, at.spot, key, Purpose::ToClear);
-    let marked = is_hit(key, found) && is_present(grid.mark(hand, at.spot, key));
+    let marked = is_hit(key, found) && is_present(mark(grid, hand, at.spot, key, found));
     let left = grid.leave(hand, at.spot, key);
     (marked, finish_leave(grid, hand, at, left))
+}
+
+/// MARK, after the ENTER of a clear that hit and found this word. Where nobody stepped on the word since, it is one compare-exchange;
+/// else that was a look. Answers the word that was found.
+#[inline(always)]
+fn mark<T: Clear>(grid: &Grid<T>, hand: &mut Hand<T>, spot: Spot, key: u64, entered: u64) -> u64
+    requires hand { IsOf grid.now hand.old × IsOne hand.old.me.0 }
+    requires spot { IsSpot grid.now.shape spot (place_of key) }
+    requires under { (the_lane hand.old.me.0).under ≡ Undo key true }
+    ensures hand { SameSeat hand.old hand.new }
+    ensures marks { MarksAtLast grid.now.shape key hand.old.me result hand.new.me }
+{
+    let expected = entered.wrapping_add(ONE_COUNT);
+    let found = grid.mark_from(hand, spot, key, expected);
+    if found == expected {
+        return found;
+    }
+    grid.mark(hand, spot, key)
 }

@@ -139,6 +139,10 @@ module _ {S : Type 0} (z : Shape) where
   Marks key before found after =
       LifeSteps kinds.Mark found (found + 3 - state_in found) before after (Some (acts.Clear (the_lane before.0).lane key (state_in found == 1))) (Undo key true)
 
+  -- MARK from the one word that is expected; where another is found it was a look
+  abbrev pub MarksFrom : ℕ → ℕ → Me S View → ℕ → Me S View → Type 0
+  MarksFrom expected key before found after = (found ≡ expected → Marks key before found after) × (found ≢ expected → Sees z before after)
+
   -- CLAIM: it succeeds from the one word alone; the lane then has all shares of the place, in slots that it left alone, and knows their cell, whose room is the place's
   abbrev pub Claims : ℕ → ℕ → Me S View → ℕ → Me S View → Type 0
   Claims place generation before found after = let r : LaneRecord = the_lane before.0 in let act : Option Act = Some (reclaim z r.lane place generation) in

@@ -183,6 +183,17 @@ impl<S, J: Aim> Play<S, View> for Mark<J> {
     ghost then = { λ step before found after. Marks J.shape J.key before found after };
 }
 
+/// MARK from an expected word.
+pub(crate) struct MarkFrom<J: Aim> {
+    of: PhantomData<J>,
+}
+
+impl<S, J: Aim> Play<S, View> for MarkFrom<J> {
+    ghost use Rattle.poolsteps.specs.Told.{MarksFrom};
+
+    ghost then = { λ step before found after. MarksFrom J.shape step.first J.key before found after };
+}
+
 /// CLAIM, of a place and generation that its lane owes.
 pub(crate) struct Claim<J: Aim> {
     of: PhantomData<J>,

@@ -6,12 +6,12 @@ ghost use Rattle.steplaws.specs.Facts.{most_references};
 ghost use Rattle.poolsteps.specs.declared.plays.Purpose.TheVariants.{ToGet};
 ghost use Rattle.poolsteps.specs.Views.{the_lane, known_of, IsOne};
 ghost use Rattle.poolsteps.specs.Grids.{IsSpot, IsOf, SameSeat};
-ghost use Rattle.poolsteps.specs.Told.{Enters, Leaves, Publishes, Marks, Claims, IsIdle, references_seen, MayLeave, MayPublish, IsShared, MayRenew};
+ghost use Rattle.poolsteps.specs.Told.{Enters, Leaves, Publishes, Marks, MarksFrom, Claims, IsIdle, references_seen, MayLeave, MayPublish, IsShared, MayRenew};
 ghost use Rattle.poolsteps.specs.Moved.{stored_of};
 
 use crate::grid::{Grid, Hand, Spot};
 use crate::layout::LIVES_START;
-use crate::plays::{Aim, Claim, Enter, Leave, Mark, Publish, Purpose};
+use crate::plays::{Aim, Claim, Enter, Leave, Mark, MarkFrom, Publish, Purpose};
 use keybits::{MARK_BIT, ONE_COUNT, PUBLISHED_BIT, claimable, claimed};
 use placecell::Share;
 use slotcell::Clear;
@@ -178,6 +178,43 @@ impl<T: Clear> Grid<T> {
         self.table
             .shared
             .fetch_or::<Mark<J>>(hand, LIVES_START + spot.start as usize, MARK_BIT)
+    }
+
+    /// MARK, after the ENTER of a clear that hit, where the word is still the one that is expected: so it is one compare-exchange,
+    /// which costs less than a MARK of any word. Where it finds another word, it changes nothing and was a look. Answers the word that was found.
+    #[inline]
+    pub fn mark_from(&self, hand: &mut Hand<T>, spot: Spot, key: u64, expected: u64) -> u64
+        requires hand { IsOf self.now hand.old × IsOne hand.old.me.0 }
+        requires spot { IsSpot self.now.shape spot (place_of key) }
+        requires under { (the_lane hand.old.me.0).under ≡ Undo key true }
+        ensures hand { SameSeat hand.old hand.new }
+        ensures marks { MarksFrom self.now.shape expected key hand.old.me result hand.new.me }
+    {
+        self.mark_from_as::<Brand>(hand, spot, key, expected)
+    }
+
+    #[inline]
+    fn mark_from_as<J: Aim>(
+        &self,
+        hand: &mut Hand<T>,
+        spot: Spot,
+        key: u64,
+        expected: u64,
+    ) -> u64
+        requires aim { (J.shape ≡ self.now.shape) × (J.key ≡ key) }
+        requires hand { IsOf self.now hand.old × IsOne hand.old.me.0 }
+        requires spot { IsSpot self.now.shape spot (place_of key) }
+        requires under { (the_lane hand.old.me.0).under ≡ Undo key true }
+        ensures hand { SameSeat hand.old hand.new }
+        ensures marks { MarksFrom self.now.shape expected key hand.old.me result hand.new.me }
+    {
+        let _ = key;
+        self.table.shared.compare_exchange::<MarkFrom<J>>(
+            hand,
+            LIVES_START + spot.start as usize,
+            expected,
+            expected | MARK_BIT,
+        )
     }
 
     /// CLAIM of the place and generation that the lane owes: it succeeds where the word found is (generation, MARKED, count

@@ -14,7 +14,7 @@ returns-then-generation-grid-clause-tails g c leave claim is claimed =
     let place : ℕ = c.args.at.spot.place in
     let carries = c.take_cell-whole.ensures.carries in
     let last = c.if-generation-grid.true in
-    let few : 2 ≤ 34 = omega arith in
+    let few : 2 ≤ 33 = omega arith in
     goes-most
     (goes-none (leave ∷ claim ∷ []) (did-carries carries few) (ends-at-last (caller_of z c.args.hand.now.me.0) place leave claim (is ∙ last))
     (carries.elsewhere.under ∙ (c.requires.under ∙ none-at-last z c.args.at.lane place c.args.generation last))) (omega arith) (omega arith)
@@ -25,7 +25,7 @@ returns-then-shard_of-at-clause-tails g c leave claim is claimed =
     let place : ℕ = c.args.at.spot.place in
     let carries = c.take_cell-whole.ensures.carries in
     let own = sym c.shard_of.ensures ∙ c.if-shard_of-at.true in
-    let few : 2 ≤ 34 = omega arith in
+    let few : 2 ≤ 33 = omega arith in
     goes-most
     (goes-none (leave ∷ claim ∷ []) (did-carries carries few) (ends-at-own (caller_of z c.args.hand.now.me.0) place leave claim (own ∙ c.requires.at.lane))
     (carries.elsewhere.under ∙ (c.requires.under ∙ none-at-own z c.args.at.lane place c.args.generation own))) (omega arith) (omega arith)
@@ -90,7 +90,7 @@ returns-clause-tails g c leave claim is claimed =
     let z : Shape = c.args.grid.now.shape in
     let took = c.take_cell-whole.ensures.carries in
     let rests = c.rest_cell.ensures.carries in
-    let few : 2 + 2 ≤ 34 = omega arith in
+    let few : 2 + 2 ≤ 33 = omega arith in
     let lane_is = rests.elsewhere.lane ∙ took.elsewhere.lane in
     goes-moves (leave ∷ claim ∷ []) (caller-still rests ∙ caller-still took) (did-carries (carries-more took rests) few)
     (c.give_home.ensures.gives leave claim (ap (λ n. is_claimed n claim.before) is ∙ claimed) (λ last. c.if-generation-grid.false (sym is ∙ last))

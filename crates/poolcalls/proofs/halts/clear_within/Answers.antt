@@ -35,7 +35,7 @@ returns-clause-called g c =
     let none = c.if-limit-eq0.false in
     let one = c.if-limit-eq1.false in
     let key : ℕ = c.args.key in
-    called-undoes (enter-step key c.enter-found.result ∷ mark-step key c.mark.result ∷ []) (clear-marked c.requires.key c.enter-found.ensures.enters hit c.mark.ensures.marks)
+    called-undoes (enter-step key c.enter-found.result ∷ mark-step key c.mark.result ∷ []) (clear-marked (clear-entered c.requires.key c.enter-found.ensures.enters hit) hit c.mark.ensures.marks)
     (clear-ends (caller_of c.args.grid.now.shape c.args.hand.now.me.0) key c.enter-found.result c.mark.result hit) refl true (life-under c.mark.ensures.marks)
     c.leave_within-2.ensures.leaves c.args.limit (omega (arith, none, one))
 
@@ -84,7 +84,7 @@ leave_within-requires-2 g c =
     let key : ℕ = c.args.key in
     let marked : Opens c.args.grid.now.shape (Clearing key) (enter-step key c.enter-found.result ∷ mark-step key c.mark.result ∷ [])
     (acts.Clear (the_lane c.args.hand.now.me.0).lane key (state_in c.mark.result == 1) ∷ []) c.args.hand.now.me c.mark.new.hand.me
-    = clear-marked c.requires.key c.enter-found.ensures.enters hit c.mark.ensures.marks in
+    = clear-marked (clear-entered c.requires.key c.enter-found.ensures.enters hit) hit c.mark.ensures.marks in
     record {
       hand = (c.mark.ensures.hand.0 ∙ (c.enter-found.ensures.hand.0 ∙ c.requires.hand.0), marked.did.acted.one);
       bare = marked.did.held ∙ c.requires.bare;
