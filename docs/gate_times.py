@@ -17,18 +17,30 @@ import time
 TICKS = os.sysconf("SC_CLK_TCK")
 
 
+def stat_of(pid):
+    """Returns what the system tells of a process, from its state on."""
+    with open(f"/proc/{pid}/stat", encoding="utf-8") as it:
+        return it.read().rpartition(")")[2].split()
+
+
+def is_below(pid):
+    """Whether a process was started by this one, or by one that it started."""
+    while pid not in ("0", "1"):
+        if pid == str(os.getpid()):
+            return True
+        pid = stat_of(pid)[1]
+    return False
+
+
 def part_of(pid):
-    """Returns the crate and the part that a process works for, or None if it is no process of the checker for this repository."""
+    """Returns the crate and the part that a process works for, or None if it is no process of the checker for the command."""
     with open(f"/proc/{pid}/cmdline", encoding="utf-8") as it:
         words = it.read().split("\0")
-    if os.path.basename(words[0]) != "rattle" or "--crate-name" not in words:
+    if os.path.basename(words[0]) != "rattle" or "--crate-name" not in words or not is_below(pid):
         return None
     crate = words[words.index("--crate-name") + 1]
-    folder = os.readlink(f"/proc/{pid}/cwd")
-    if "/rt-edit-" in folder:
+    if "/rt-edit-" in os.readlink(f"/proc/{pid}/cwd"):
         return crate, "edits"
-    if not folder.startswith(os.getcwd() + "/") and "/rt-copy-" not in folder:
-        return None
     return crate, "tests" if "--test" in words else "proof"
 
 
@@ -36,8 +48,7 @@ def sample(parts, seconds):
     """Notes the time that each process of the checker has had."""
     for pid in filter(str.isdigit, os.listdir("/proc")):
         try:
-            with open(f"/proc/{pid}/stat", encoding="utf-8") as it:
-                fields = it.read().rpartition(")")[2].split()
+            fields = stat_of(pid)
             process = pid, fields[19]
             if not parts.get(process):
                 # (again, where it was seen before it had become the checker)

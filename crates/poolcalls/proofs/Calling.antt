@@ -18,9 +18,8 @@ use Rattle.poolsteps.specs.declared.view.LaneRecord.{LaneRecord}
 use Rattle.poolsteps.specs.declared.view.View.{View}
 use Rattle.poolsteps.specs.Views.{head_record, the_lane, status_of, known_of, acts_in, after_step}
 use Rattle.poolsteps.specs.Told.{LifeSteps, EntersGet, EntersClear, Leaves, Marks, Sees, IsIdle}
-use Rattle.poolcalls.specs.Called.{caller_of, Make, MarksAtLast, IsUnmoved, Did, AreEnd, GoesToEnd, Ends, Called, EndsWithActs, MovedNothing, HasGot, end_acts, end_pushed}
+use Rattle.poolcalls.specs.Called.{caller_of, Make, MarksAtLast, IsUnmoved, Did, AreEnd, GoesToEnd, Ends, Called, EndsWithActs, MovedNothing, GetHits, end_acts, end_pushed}
 use Rattle.poolcalls.specs.declared.reclaimed.Reclaimed.{Reclaimed}
-use Rattle.poolcalls.specs.declared.reclaimed.Got.TheVariants.{Hit}
 use Rattle.poolcalls.proofs.Doing.{unmoved-now, unmoved-more, life-next, did-step, did-sees, did-most, did-more, make-one, make-more, same-caller}
 
 -- ---- the steps of a call, one after another
@@ -299,8 +298,8 @@ module _ {S : Type 0} {z : Shape} {key found : ℕ} {a b : Me S View} (inside : 
   get-hits enters hit = called-at-once (get-entered enters hit).1 (get-ends (caller_of z a.0) key found hit) (omega arith) (life-under (enters.0 hit).2)
 
   -- it makes its reply, moves nothing, and leaves its slot alone where it had no reference
-  pub hit-tells : {T : Type 0} (content : T → List ℕ) (room : T → ℕ) → EntersGet z key a found b → is_hit key found ≡ true → HasGot content room z key a b Hit
-  hit-tells content room enters hit =
+  pub hit-tells : EntersGet z key a found b → is_hit key found ≡ true → GetHits z key a b
+  hit-tells enters hit =
       let told = enters.0 hit in
       let now = ap head_record told.2.goes.lanes in
       let unmoved = life-unmoved told.2 (place_of key) in (

@@ -4,7 +4,6 @@ pub mod Ending
 pub mod Filling
 pub mod Calling
 pub mod Standing
-pub mod Having
 pub mod Moves
 pub mod Spreads
 pub mod Going

@@ -23,8 +23,6 @@ use Rattle.poolsteps.specs.Views.{the_lane, pushed_in, status_of, known_of, acts
 use Rattle.poolsteps.specs.Told.{Sees, Marks, IsIdle, Quiet, HasPlace, LeftAlone, references_seen}
 use Rattle.poolcalls.specs.Acted.{Acted}
 use Rattle.poolcalls.specs.Carried.{AreEmptied}
-use Rattle.poolcalls.specs.declared.reclaimed.Got.{Got}
-use Rattle.poolcalls.specs.declared.reclaimed.Got.TheVariants.{Hit, Miss}
 use Rattle.poolcalls.specs.declared.reclaimed.Reclaimed.{Reclaimed}
 use Rattle.poolcalls.specs.declared.reclaimed.Reclaimed.TheVariants.{Own, Returned, Retired}
 
@@ -161,17 +159,15 @@ pub record Called {S : Type 0} (z : Shape) (call : Call) (looks : ℕ) (before a
 
 -- the lane made its MARK, at once or after a look that moved nothing
 abbrev pub MarksAtLast : {S : Type 0} → Shape → ℕ → Me S View → ℕ → Me S View → Type 0
-MarksAtLast {S} z key before found after = Marks z key before found after ⊎ ((between : Me S View) × Sees z before between × Marks z key between found after)
+MarksAtLast z key before found after = Marks z key before found after ⊎ ((between : Me _ View) × Sees z before between × Marks z key between found after)
 
--- what a get answers of a reclaimed place stands in this word
-abbrev pub GotStandsAt : {T : Type 0} → CellSpot → Got T → Type 0
-GotStandsAt spot Hit = Unit {0}
-GotStandsAt spot (Miss reclaimed) = StandsAt spot reclaimed
-
--- what a get answered: at a hit the reply is a content, the lane moved nothing, and its slot is left alone where it had no reference
-abbrev pub HasGot : {S T : Type 0} → (T → List ℕ) → (T → ℕ) → Shape → ℕ → Me S View → Me S View → Got T → Type 0
-HasGot content room z key before after Hit = let r : LaneRecord = the_lane before.0 in
+-- a get hit: the reply is a content, the lane moved nothing, and its slot is left alone where it had no reference
+abbrev pub GetHits : {S : Type 0} → Shape → ℕ → Me S View → Me S View → Type 0
+GetHits z key before after = let r : LaneRecord = the_lane before.0 in
     (bytes : List ℕ) × MadeOne before.0 after.0 (acts.Get r.lane key (Some bytes)) × IsUnmoved (place_of key) r (the_lane after.0)
     × (references_seen z before.0 key ≡ 0 → status_of (the_lane after.0) (place_of key) r.lane ≡ Untouched)
-HasGot content room z key before after (Miss reclaimed) = let r : LaneRecord = the_lane before.0 in
+
+-- a get missed: the reply is none, and this became of its place
+abbrev pub GetMisses : {S T : Type 0} → (T → List ℕ) → (T → ℕ) → Shape → ℕ → Me S View → Me S View → Option (Reclaimed T) → Type 0
+GetMisses content room z key before after reclaimed = let r : LaneRecord = the_lane before.0 in
     EndsWithActs z (place_of key) (acts.Get r.lane key None ∷ []) before.0 after.0 reclaimed × IfSome reclaimed (IsReclaimed content room z (place_of key) r.lane after.0)

@@ -1,69 +1,22 @@
-//! The calls of a key: get, release and clear. A key's place is one of the pool's.
-ghost use Rattle.std.specs.Prelude.{◌∷◌, [], ◌≡◌, ◌≢◌, ◌<◌, IfSome, true};
+//! The clear of a key. A key's place is one of the pool's.
+ghost use Rattle.std.specs.Prelude.{◌∷◌, [], ◌≡◌, IfSome, true};
 ghost use Rattle.keybits.specs.Keys.{place_of, is_key};
 ghost use Rattle.seqpool.specs.declared.act.Act.TheVariants as acts;
-ghost use Rattle.sharelaws.specs.declared.stored.Status.TheVariants.{Untouched};
-ghost use Rattle.steplaws.specs.Calls.Call.{Getting, Releasing, Clearing};
+ghost use Rattle.steplaws.specs.Calls.Call.{Clearing};
 ghost use Rattle.steplaws.specs.declared.pending.Pending.TheVariants.{Undo};
-ghost use Rattle.steplaws.specs.Facts.{most_references};
 ghost use Rattle.poolsteps.specs.Layout.{spots_at};
-ghost use Rattle.poolsteps.specs.Views.{the_lane, status_of, IsOne};
+ghost use Rattle.poolsteps.specs.Views.{the_lane, IsOne};
 ghost use Rattle.poolsteps.specs.Grids.{IsSpot, IsOf, SameSeat};
-ghost use Rattle.poolsteps.specs.Told.{IsIdle, references_seen};
+ghost use Rattle.poolsteps.specs.Told.{IsIdle};
 ghost use Rattle.poolcalls.specs.AtPlace.{IsAt};
-ghost use Rattle.poolcalls.specs.Called.{Called, MarksAtLast, EndsWithActs, IsReclaimed, StandsAt, HasGot, GotStandsAt};
+ghost use Rattle.poolcalls.specs.Called.{Called, MarksAtLast, EndsWithActs, IsReclaimed, StandsAt};
 
 use crate::at_place::At;
-use crate::ends::{finish_if_owed, finish_leave};
-use crate::reclaimed::{Got, Reclaimed};
+use crate::ends::finish_leave;
+use crate::reclaimed::Reclaimed;
 use keybits::{ONE_COUNT, is_hit, is_present};
 use poolsteps::{Grid, Hand, Purpose, Spot};
 use slotcell::Clear;
-
-/// A get of a key: where it hits, the lane has one reference more. It takes no memory.
-pub fn get<T: Clear + Drop>(grid: &Grid<T>, hand: &mut Hand<T>, at: At, key: u64) -> Got<T>
-    requires hand { IsOf grid.now hand.old × IsOne hand.old.me.0 }
-    requires bare { hand.old.me.1 ≡ [] }
-    requires at { IsAt grid.now.shape hand.old.me.0 (place_of key) at }
-    requires key { is_key grid.now.shape key ≡ true }
-    requires idle { IsIdle hand.old.me.0 }
-    requires room { references_seen grid.now.shape hand.old.me.0 key < most_references }
-    ensures hand { SameSeat hand.old hand.new }
-    ensures called { Called grid.now.shape (Getting key) 34 hand.old.me hand.new.me }
-    ensures got { HasGot T.content T.room grid.now.shape key hand.old.me hand.new.me result }
-    ensures at { GotStandsAt (spots_at grid.now.objects.ptr grid.now.shape (place_of key)) result }
-{
-    let found = grid.enter(hand, at.spot, key, Purpose::ToGet);
-    if is_hit(key, found) {
-        return Got::Hit;
-    }
-    let left = grid.leave(hand, at.spot, key);
-    Got::Miss(finish_if_owed(grid, hand, at, left))
-}
-
-/// A release of a key to which the lane has a reference; its share is back in its slot where that is the last. It takes no
-/// memory.
-pub fn release<T: Clear + Drop>(
-    grid: &Grid<T>,
-    hand: &mut Hand<T>,
-    at: At,
-    key: u64,
-) -> Option<Reclaimed<T>>
-    requires hand { IsOf grid.now hand.old × IsOne hand.old.me.0 }
-    requires bare { hand.old.me.1 ≡ [] }
-    requires at { IsAt grid.now.shape hand.old.me.0 (place_of key) at }
-    requires idle { IsIdle hand.old.me.0 }
-    requires held { 0 < references_seen grid.now.shape hand.old.me.0 key }
-    requires share { status_of (the_lane hand.old.me.0) (place_of key) at.lane ≢ Untouched → 1 < references_seen grid.now.shape hand.old.me.0 key }
-    ensures hand { SameSeat hand.old hand.new }
-    ensures called { Called grid.now.shape (Releasing key) 34 hand.old.me hand.new.me }
-    ensures acts { EndsWithActs grid.now.shape (place_of key) (acts.Release at.entry.lane key ∷ []) hand.old.me.0 hand.new.me.0 result }
-    ensures reclaimed { IfSome result (IsReclaimed T.content T.room grid.now.shape (place_of key) at.entry.lane hand.new.me.0) }
-    ensures at { StandsAt (spots_at grid.now.objects.ptr grid.now.shape (place_of key)) result }
-{
-    let left = grid.leave(hand, at.spot, key);
-    finish_if_owed(grid, hand, at, left)
-}
 
 /// A clear of a key. Answers whether it is the one that marked it, and what became of its place where that was reclaimed. It
 /// takes no memory.

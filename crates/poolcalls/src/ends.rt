@@ -22,7 +22,7 @@ use slotcell::Clear;
 /// place's object is cleared in place, and a place of another shard returned. None where no place was reclaimed. It takes no
 /// memory.
 #[inline(always)]
-pub(crate) fn finish_leave<T: Clear + Drop>(
+pub fn finish_leave<T: Clear + Drop>(
     grid: &Grid<T>,
     hand: &mut Hand<T>,
     at: At,
@@ -45,56 +45,6 @@ pub(crate) fn finish_leave<T: Clear + Drop>(
         return None;
     }
     Some(reclaim_place(grid, hand, at, generation))
-}
-
-/// As `finish_leave`, for a call that is rarely the last to leave: what it then does stands apart, and takes no registers of the call's own
-/// path.
-#[inline(always)]
-pub(crate) fn finish_if_owed<T: Clear + Drop>(
-    grid: &Grid<T>,
-    hand: &mut Hand<T>,
-    at: At,
-    found: u64,
-) -> Option<Reclaimed<T>>
-    requires hand { IsOf grid.now hand.old × IsOne hand.old.me.0 }
-    requires bare { hand.old.me.1 ≡ [] }
-    requires at { IsAt grid.now.shape hand.old.me.0 at.spot.place at }
-    requires seen { IsLawful grid.now.shape hand.old.me.0 }
-    requires owes { (the_lane hand.old.me.0).under ≡ owed_after at.spot.place found }
-    ensures hand { SameSeat hand.old hand.new }
-    ensures ends { Ends grid.now.shape at.entry.spot.place found hand.old.me hand.new.me }
-    ensures acts { EndsWithActs grid.now.shape at.entry.spot.place [] hand.old.me.0 hand.new.me.0 result }
-    ensures reclaimed { IfSome result (IsReclaimed T.content T.room grid.now.shape at.entry.spot.place at.entry.lane hand.new.me.0) }
-    ensures at { StandsAt (spots_at grid.now.objects.ptr grid.now.shape at.entry.spot.place) result }
-{
-    if owes_claim(found) {
-        finish_owed(grid, hand, at, found)
-    } else {
-        None
-    }
-}
-
-/// What the last that left a marked place does. Away from the calls' own paths: few calls come here.
-#[cold]
-#[inline(never)]
-fn finish_owed<T: Clear + Drop>(
-    grid: &Grid<T>,
-    hand: &mut Hand<T>,
-    at: At,
-    found: u64,
-) -> Option<Reclaimed<T>>
-    requires hand { IsOf grid.now hand.old × IsOne hand.old.me.0 }
-    requires bare { hand.old.me.1 ≡ [] }
-    requires at { IsAt grid.now.shape hand.old.me.0 at.spot.place at }
-    requires seen { IsLawful grid.now.shape hand.old.me.0 }
-    requires owes { (the_lane hand.old.me.0).under ≡ owed_after at.spot.place found }
-    ensures hand { SameSeat hand.old hand.new }
-    ensures ends { Ends grid.now.shape at.entry.spot.place found hand.old.me hand.new.me }
-    ensures acts { EndsWithActs grid.now.shape at.entry.spot.place [] hand.old.me.0 hand.new.me.0 result }
-    ensures reclaimed { IfSome result (IsReclaimed T.content T.room grid.now.shape at.entry.spot.place at.entry.lane hand.new.me.0) }
-    ensures at { StandsAt (spots_at grid.now.objects.ptr grid.now.shape at.entry.spot.place) result }
-{
-    finish_leave(grid, hand, at, found)
 }
 
 /// The generation whose claim a LEAVE that found this word owes, where it owes one.

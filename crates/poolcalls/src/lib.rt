@@ -14,9 +14,10 @@ mod reclaimed;
 mod takes;
 
 pub use at_place::At;
-pub use calls::{clear, get, release};
+pub use calls::clear;
 pub use cells::{rest_cell, spread_cell, spread_others, take_cell, take_resting};
+pub use ends::finish_leave;
 pub use fills::{downgrade, publish};
 pub use halts::{clear_within, collect_within, follow_within, get_within, release_within};
-pub use reclaimed::{Got, Reclaimed};
+pub use reclaimed::Reclaimed;
 pub use takes::{collect, follow, next_key};

@@ -1,4 +1,4 @@
-//! What becomes of a place that was reclaimed, and what a get answers.
+//! What becomes of a place that was reclaimed.
 use placecell::{Vacancy, Whole};
 
 /// What became of a place that a call reclaimed.
@@ -10,13 +10,4 @@ pub enum Reclaimed<T> {
     Returned,
     /// Its last generation was over: it is retired, its object was dropped, and it is vacant.
     Retired(Vacancy<T>),
-}
-
-/// What a get answers.
-#[derive(Drop)]
-pub enum Got<T> {
-    /// The lane has a reference more.
-    Hit,
-    /// The key is not published, or cleared. Where the last to leave its place was this get, the place was reclaimed.
-    Miss(Option<Reclaimed<T>>),
 }

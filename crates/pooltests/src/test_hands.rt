@@ -2,11 +2,12 @@ ghost use Rattle.std.specs.Prelude.{◌≡◌, ◌∷◌, []};
 ghost use Rattle.poolsteps.specs.Layout.{spots_at};
 ghost use Rattle.poolsteps.specs.Grids.{IsSpot, IsFirstHand};
 
+use crate::test_calls::is_word;
 use crate::test_cells::{directory_of, object_at};
 use crate::test_steps::{KEY, TWO_LANES, grid_of_two};
 use placecell::{Share, Whole};
-use poolcalls::{At, Got, Reclaimed, clear, downgrade, get, publish, release};
-use poolsteps::{Grid, Hand, Spot, acts_law};
+use poolcalls::{At, Reclaimed, clear, downgrade, finish_leave, publish};
+use poolsteps::{Grid, Hand, Purpose, Spot};
 use slotcell::Clear;
 use std::alloc::Global;
 use std::process::Abort;
@@ -60,8 +61,8 @@ fn clear_alone<T: Clear + Drop, R: Abort>(
     assert!(rt; matches!(reclaimed, Some(Reclaimed::Returned)));
 }
 
-/// Lane 1 gets the key and gives its reference back, while lane 0 has one.
-fn get_and_release<T: Clear + Drop, R: Abort>(
+/// Lane 1 counts itself at the key's place and leaves it, while lane 0 has a reference: nothing follows.
+fn enter_and_finish<T: Clear + Drop, R: Abort>(
     rt: &R,
     grid: &Grid<T>,
     hand: &mut Hand<T>,
@@ -73,17 +74,16 @@ fn get_and_release<T: Clear + Drop, R: Abort>(
     requires hand { IsFirstHand grid.now 1 hand.old }
     requires tops { tops.now.items ≡ 0 ∷ 0 ∷ [] }
 {
-    acts_law();
     let at = At {
         spot,
         lane: 1,
         tops,
     };
-    let Got::Hit = get(grid, hand, at, KEY) else {
-        panic!(rt; "a miss")
-    };
-    let reclaimed = release(grid, hand, at, KEY);
-    assert!(rt; reclaimed.is_none());
+    let entered = grid.enter(hand, spot, KEY, Purpose::ToClear);
+    is_word(rt, entered, 4294967301);
+    let left = grid.leave(hand, spot, KEY);
+    is_word(rt, left, 4294967305);
+    assert!(rt; finish_leave(grid, hand, at, left).is_none());
 }
 
 /// The words that a lane of a pool of two has pushed at first: none.
@@ -105,14 +105,14 @@ fn publishes_and_clears(rt: HostRuntime) {
 }
 
 #[test]
-fn gets_and_releases(rt: HostRuntime) {
+fn enters_and_finishes(rt: HostRuntime) {
     let mut directory = directory_of(&rt, rt.alloc(), 1);
     let (grid, mut first, mut second) = grid_of_two(&rt, rt.alloc(), directory.base());
     let spot = grid.spot(0);
     let whole = object_at(&rt, rt.alloc(), &mut directory, spot.start as usize, 7);
     let share = downgrade_first(&grid, &mut first, spot, whole);
     let tops = no_tops(&rt, rt.alloc());
-    get_and_release(&rt, &grid, &mut second, spot, &tops);
+    enter_and_finish(&rt, &grid, &mut second, spot, &tops);
     assert_eq!(rt;
         share.read(grid.objects, spot.start as usize).as_slice(),
         [7].as_slice()

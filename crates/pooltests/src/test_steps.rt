@@ -279,7 +279,7 @@ fn publish_alone<T: Clear + Drop>(
     is_word(rt, found, 4294967296);
 }
 
-/// A clear of lane 1 alone hits, marks and claims the place of lane 0.
+/// A clear of lane 1 alone hits, marks and claims the place of lane 0; a MARK from another word than the one that stands there changes nothing.
 fn clear_and_claim<T: Clear>(rt: &impl Abort, grid: &Grid<T>, hand: &mut Hand<T>, spot: Spot)
     requires shape { grid.now.shape ≡ TWO_LANES }
     requires spot { IsSpot grid.now.shape spot 0 }
@@ -293,7 +293,9 @@ fn clear_and_claim<T: Clear>(rt: &impl Abort, grid: &Grid<T>, hand: &mut Hand<T>
 {
     let entered = grid.enter(hand, spot, KEY, Purpose::ToClear);
     is_word(rt, entered, 4294967297);
-    let marked = grid.mark(hand, spot, KEY);
+    let another = grid.mark_from(hand, spot, KEY, 4294967297);
+    is_word(rt, another, 4294967301);
+    let marked = grid.mark_from(hand, spot, KEY, 4294967301);
     is_word(rt, marked, 4294967301);
     let left = grid.leave(hand, spot, KEY);
     is_word(rt, left, 4294967303);

@@ -7,6 +7,7 @@ pub mod Lanes
 pub mod Seen
 pub mod Fillings
 pub mod Stores
+pub mod Finishes
 pub mod Lendings
 pub mod Opened
 pub mod Creates

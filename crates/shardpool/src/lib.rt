@@ -5,6 +5,7 @@
 mod census;
 mod closing;
 mod create;
+mod ends;
 mod fault;
 mod halt;
 mod lane;

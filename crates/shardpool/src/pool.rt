@@ -13,18 +13,19 @@ ghost use Rattle.shardpool.specs.Tokens.{FillingOf};
 ghost use Rattle.shardpool.specs.Lanes.{Owns, Made, SameLane, Calls, Did, Gets, holds, refs};
 ghost use Rattle.shardpool.specs.Seen.{PublishedSince, FoundSince, MissedSince, ClearedSince};
 
+use crate::ends::finish_if_owed;
 use crate::lane::Lane;
 use crate::rows::{
     add_first_reference, add_reference, count_to, drop_reference, return_last_share,
 };
 use crate::state::LaneState;
-use crate::stores::{give_out, keep_if_reclaimed, keep_reclaimed};
+use crate::stores::{give_out, keep_reclaimed};
 use crate::token::{Filling, Ref};
-use keybits::{Shape, generation_of, place_of, tag_of};
+use keybits::{Shape, generation_of, is_hit, place_of, tag_of};
 use placecell::Directory;
 use placerows::Objects;
-use poolcalls::{At, Got, clear, downgrade, get, publish, release};
-use poolsteps::{Grid, Spot, shares_law};
+use poolcalls::{At, clear, downgrade, publish};
+use poolsteps::{Grid, Purpose, Spot, shares_law};
 use slotcell::Clear;
 use std::alloc::Global;
 use std::marker::Model;
@@ -109,18 +110,11 @@ impl<T: Clear + Drop> Pool<T> {
         shares_law();
         let number = lane.state.number;
         let spot = self.find(key)?;
-        let at = At {
-            spot,
-            lane: number,
-            tops: &lane.state.last_pushed,
-        };
-        let got = get(&self.grid, &mut lane.hand, at, key);
-        match got {
-            Got::Miss(reclaimed) => {
-                keep_if_reclaimed(&mut lane.state, spot, reclaimed);
-                return None;
-            }
-            Got::Hit => {}
+        let found = self.grid.enter(&mut lane.hand, spot, key, Purpose::ToGet);
+        if !is_hit(key, found) {
+            let left = self.grid.leave(&mut lane.hand, spot, key);
+            finish_if_owed(&self.grid, &mut lane.hand, &mut lane.state, spot, key, left);
+            return None;
         }
         if lane.state.rows[spot.start as usize].count > 0 {
             add_reference(&mut lane.state, spot.start as usize);
@@ -191,16 +185,10 @@ impl<T: Clear + Drop> Pool<T> {
         ensures one_less { (k : ℕ) → holds lane.new k ≡ (if key == k then holds lane.old k - 1 else holds lane.old k) }
         ensures fillings { (filling : FillingOf T) → Made lane.old filling → Made lane.new filling }
     {
-        let number = lane.state.number;
         return_last_share(&self.grid, &mut lane.hand, &mut lane.state, spot, key);
         drop_reference(&mut lane.state, spot.start as usize);
-        let at = At {
-            spot,
-            lane: number,
-            tops: &lane.state.last_pushed,
-        };
-        let reclaimed = release(&self.grid, &mut lane.hand, at, key);
-        keep_if_reclaimed(&mut lane.state, spot, reclaimed);
+        let left = self.grid.leave(&mut lane.hand, spot, key);
+        finish_if_owed(&self.grid, &mut lane.hand, &mut lane.state, spot, key, left);
     }
 
     /// Clears the object of a key: true where it is this call that marked the key, which a get then finds no more. The last

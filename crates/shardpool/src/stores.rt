@@ -86,43 +86,6 @@ pub(crate) fn keep_reclaimed<T: Drop>(
     }
 }
 
-/// As `keep_reclaimed`, for a call that rarely reclaims a place: what it then does stands apart.
-#[inline(always)]
-pub(crate) fn keep_if_reclaimed<T: Drop>(
-    state: &mut LaneState<T>,
-    spot: Spot,
-    reclaimed: Option<Reclaimed<T>>,
-)
-    requires shape { IsShape state.old.shape }
-    requires spot { IsSpot state.old.shape spot spot.place }
-    requires narrow { length state.old.objects.items ≡ shard_places state.old.shape }
-    requires wide { length state.old.last_pushed.items ≡ state.old.shape.lanes }
-    requires begins { (state.old.objects.first ≡ shard_start state.old.shape state.old.free.shard) × (state.old.objects.wide ≡ slot_row state.old.shape) }
-    requires at { StandsAt (spots_at state.old.objects.directory state.old.shape spot.place) reclaimed }
-    requires away { (whole : Cell T) → reclaimed ≡ Some (Own whole) → IsAway state.old.free (place_numbered spot.place) }
-    ensures { Keeps spot.place reclaimed state.old state.new }
-{
-    if reclaimed.is_some() {
-        keep_apart(state, spot, reclaimed);
-    }
-}
-
-/// Keeps what was reclaimed, as `keep_if_reclaimed` does, away from the calls' own paths.
-#[cold]
-#[inline(never)]
-fn keep_apart<T: Drop>(state: &mut LaneState<T>, spot: Spot, reclaimed: Option<Reclaimed<T>>)
-    requires shape { IsShape state.old.shape }
-    requires spot { IsSpot state.old.shape spot spot.place }
-    requires narrow { length state.old.objects.items ≡ shard_places state.old.shape }
-    requires wide { length state.old.last_pushed.items ≡ state.old.shape.lanes }
-    requires begins { (state.old.objects.first ≡ shard_start state.old.shape state.old.free.shard) × (state.old.objects.wide ≡ slot_row state.old.shape) }
-    requires at { StandsAt (spots_at state.old.objects.directory state.old.shape spot.place) reclaimed }
-    requires away { (whole : Cell T) → reclaimed ≡ Some (Own whole) → IsAway state.old.free (place_numbered spot.place) }
-    ensures { Keeps spot.place reclaimed state.old state.new }
-{
-    keep_reclaimed(state, spot, reclaimed);
-}
-
 /// The first place of the lane's list, where it stands, and its object. None where the list is empty, which changes nothing.
 #[inline]
 pub(crate) fn take_own<T: Drop>(state: &mut LaneState<T>) -> Option<(Place, u32, Box<T, Global>)>

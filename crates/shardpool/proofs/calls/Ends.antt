@@ -24,7 +24,7 @@ use Rattle.sharelaws.specs.PlaceLaws.{gives_away, brings}
 use Rattle.poolsteps.specs.declared.grid.Spot.{Spot}
 use Rattle.poolsteps.specs.Grids.{IsSpot}
 use Rattle.poolsteps.specs.declared.view.View.{View}
-use Rattle.poolsteps.specs.Views.{the_lane, status_of}
+use Rattle.poolsteps.specs.Views.{the_lane, pushed_in, status_of}
 use Rattle.poolsteps.specs.ViewLaws.{references_with, references_made}
 use Rattle.sharelaws.specs.declared.stored.Status.TheVariants.{Untouched, Emptied}
 use Rattle.placecell.specs.Share.{Share}
@@ -41,6 +41,7 @@ use Rattle.shardpool.specs.declared.state.LaneState.{LaneState}
 use Rattle.shardpool.specs.Places.{held_after, left_with}
 use Rattle.shardpool.specs.LaneStates.{FitsSeat, FitsTops, FitsStores, FitsRights, IsHeld, FitsRows, Fits}
 use Rattle.shardpool.specs.Stores.{Keeps}
+use Rattle.shardpool.specs.Finishes.{IsKeeper}
 use Rattle.shardpool.specs.Lanes.{freed}
 use Rattle.shardpool.proofs.frame.OtherShards.{NoneAbroad, abroad-append, abroad-own, abroad-returned, abroad-retired}
 use Rattle.shardpool.proofs.frame.Frames.{Passes, OnlyAt}
@@ -76,6 +77,22 @@ own-begins fits = (
   fits.rights.first_is ∙ (λ i. shard_start (sym fits.shape_is i) (sym fits.stores.lists.0 i)),
   fits.rights.wide ∙ ap slot_row (sym fits.shape_is),
 )
+
+-- after steps by which the lane pushed nothing, it can keep what becomes of a place
+pub keeper : {T : Type 0} {content : T → List ℕ} {room : T → ℕ} {z : Shape} {v w : View} {s : LaneState T} {directory : Ptr} {place : ℕ} → FitsBeside content room z v s
+    → s.objects.directory ≡ directory → is_place z place ≡ true → (the_lane w).lane ≡ (the_lane v).lane → (the_lane w).pushed ≡ (the_lane v).pushed → IsKeeper z directory place w s
+keeper {z = z} {place = place} fits directory inside lane pushed =
+    let shard = (is_place-parts z place inside).0 in record {
+      shape = fits.seat.shape;
+      shape_is = fits.shape_is;
+      directory_is = directory;
+      narrow = fits.stores.narrow;
+      wide = fits.last_pushed.wide;
+      begins = (fits.rights.first_is ∙ ap (shard_start z) (sym fits.stores.lists.0), fits.rights.wide);
+      lane = fits.seat.number_is ∙ sym lane;
+      below = fits.seat.below;
+      top = fits.last_pushed.each (shard_of place) shard ∙ ap (λ (pushes : List (ℕ × ℕ)). pushed_in pushes (shard_of place)) (sym pushed);
+    }
 
 -- and what became of a place stands in a word of the lane's directory
 pub own-stands : {T : Type 0} {content : T → List ℕ} {room : T → ℕ} {z : Shape} {v : View} {s : LaneState T} {directory : Ptr} {place at : ℕ} (reclaimed : Option (Reclaimed T))

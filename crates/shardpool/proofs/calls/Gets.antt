@@ -30,9 +30,8 @@ use Rattle.poolsteps.specs.Moved.{Outs}
 use Rattle.poolsteps.specs.ViewLaws.{HeldLaw}
 use Rattle.poolcalls.specs.Carried.{Carries}
 use Rattle.poolcalls.proofs.Moves.{out-moves, carries-out, moves-here, moves-known}
-use Rattle.poolcalls.specs.declared.reclaimed.Got.TheVariants.{Miss}
 use Rattle.poolcalls.specs.declared.reclaimed.Reclaimed.{Reclaimed}
-use Rattle.poolcalls.specs.Called.{Did as DidSo, Called, MadeOne, IsUnmoved, HasGot, IsReclaimed, EndsWithActs}
+use Rattle.poolcalls.specs.Called.{Did as DidSo, Called, MadeOne, IsUnmoved, GetMisses, IsReclaimed, EndsWithActs}
 use Rattle.poolcalls.proofs.Doing.{did-more, did-carries}
 use Rattle.shardpool.specs.declared.state.HeldKey.{HeldKey}
 use Rattle.shardpool.specs.declared.state.LaneState.{LaneState}
@@ -233,7 +232,7 @@ module _ {T : Type 0} {content : T → List ℕ} {room : T → ℕ} {z : Shape} 
 
 -- what a get that missed tells, with the number that the state has
 pub miss-told : {T : Type 0} {content : T → List ℕ} {room : T → ℕ} {z : Shape} {key n : ℕ} {a b : Me (Option (Share T)) View} {s : LaneState T} (reclaimed : Option (Reclaimed T))
-    → Fits content room z a.0 s → Called z (Getting key) n a b → HasGot content room z key a b (Miss reclaimed)
+    → Fits content room z a.0 s → Called z (Getting key) n a b → GetMisses content room z key a b reclaimed
     → EndsWithActs z (place_of key) (acts.Get s.number key None ∷ []) a.0 b.0 reclaimed × IfSome reclaimed (IsReclaimed content room z (place_of key) s.number b.0)
 miss-told {content = content} {room = room} {z = z} {key = key} {a = a} {b = b} reclaimed fits called got =
     subst (λ (l : ℕ). EndsWithActs z (place_of key) (acts.Get l key None ∷ []) a.0 b.0 reclaimed × IfSome reclaimed (IsReclaimed content room z (place_of key) l b.0))

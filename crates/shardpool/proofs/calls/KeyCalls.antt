@@ -22,12 +22,11 @@ use Rattle.poolsteps.specs.Grids.{IsSpot}
 use Rattle.poolsteps.specs.Told.{MayTouch, references_seen}
 use Rattle.poolsteps.specs.Moved.{Outs}
 use Rattle.poolsteps.specs.ViewLaws.{HeldLaw}
-use Rattle.poolcalls.specs.declared.reclaimed.Got.TheVariants.{Hit, Miss}
 use Rattle.poolcalls.specs.declared.reclaimed.Reclaimed.{Reclaimed}
 use Rattle.poolcalls.specs.declared.reclaimed.Reclaimed.TheVariants.{Own}
 use Rattle.poolcalls.specs.declared.at_place.At.{At}
 use Rattle.poolcalls.specs.AtPlace.{IsAt}
-use Rattle.poolcalls.specs.Called.{Called, HasGot, IsReclaimed, EndsWithActs}
+use Rattle.poolcalls.specs.Called.{Called, GetHits, GetMisses, IsReclaimed, EndsWithActs}
 use Rattle.poolcalls.proofs.Moves.{carries-out}
 use Rattle.shardpool.specs.declared.state.HeldKey.{HeldKey}
 use Rattle.shardpool.specs.declared.state.LaneState.{LaneState}
@@ -95,17 +94,17 @@ module _ {T : Type 0} {content : T → List ℕ} {room : T → ℕ} {z : Shape} 
 
 module _ {T : Type 0} {content : T → List ℕ} {room : T → ℕ} {z : Shape} {key looks : ℕ} {spot : Spot} {a b : Me (Option (Share T)) View} {s : LaneState T}
     (before : Ready content room z key spot a.0 s) (reclaimed : Option (Reclaimed T)) where
-  pub missed-away : Called z (Getting key) looks a b → HasGot content room z key a b (Miss reclaimed) → (whole : Whole T) → reclaimed ≡ Some (Own whole)
-      → IsAway s.free (place_numbered spot.place)
-  missed-away called got = let told = miss-told reclaimed before.fits called got in away-after before b.0 (acts.Get s.number key None ∷ []) reclaimed told.0 told.1
+  pub missed-away : Called z (Getting key) looks a b → GetMisses content room z key a b reclaimed → (whole : Whole T) → reclaimed ≡ Some (Own whole)
+      → IsAway s.free (place_numbered (place_of key))
+  missed-away called got whole is =
+      let told = miss-told reclaimed before.fits called got in own-away before.fits b.0 (place_of key) reclaimed before.there.inside told.0.2 told.1 whole is
 
   -- a get that misses
-  pub missed : (t : LaneState T) → Keeps spot.place reclaimed s t → Called z (Getting key) looks a b → HasGot content room z key a b (Miss reclaimed)
+  pub missed : (t : LaneState T) → Keeps (place_of key) reclaimed s t → Called z (Getting key) looks a b → GetMisses content room z key a b reclaimed
       → Quieted content room z (acts.Get s.number key None ∷ []) a.0 b.0 s t
   missed t kept called got =
       let told = miss-told reclaimed before.fits called got in
-      quieted s t (acts.Get s.number key None ∷ []) reclaimed before.fits called.did called.idle told.0 told.1 before.there.inside (quiet-miss z s.number s.number key)
-      (kept-there before reclaimed t kept)
+      quieted s t (acts.Get s.number key None ∷ []) reclaimed before.fits called.did called.idle told.0 told.1 before.there.inside (quiet-miss z s.number s.number key) kept
 
   pub cleared-away : (reply : Bool) → Called z (Clearing key) looks a b → EndsWithActs z (place_of key) (acts.Clear s.number key reply ∷ []) a.0 b.0 reclaimed
       → IfSome reclaimed (IsReclaimed content room z (place_of key) s.number b.0) → (whole : Whole T) → reclaimed ≡ Some (Own whole) → IsAway s.free (place_numbered spot.place)
@@ -122,7 +121,7 @@ module _ {T : Type 0} {content : T → List ℕ} {room : T → ℕ} {z : Shape} 
 -- ---- a get that hits
 
 module _ {T : Type 0} {content : T → List ℕ} {room : T → ℕ} {z : Shape} {key looks : ℕ} {spot : Spot} {a b : Me (Option (Share T)) View} {s : LaneState T}
-    (before : Ready content room z key spot a.0 s) (called : Called z (Getting key) looks a b) (got : HasGot content room z key a b Hit) where
+    (before : Ready content room z key spot a.0 s) (called : Called z (Getting key) looks a b) (got : GetHits z key a b) where
   -- the lane may have its share
   pub hit-touches : HeldLaw → MayTouch z b.0 spot.place s.number
   hit-touches law = subst (λ (p : ℕ). MayTouch z b.0 p s.number) (sym before.there.place_is) (hit-may before.fits (hit-again called got.0 got.1 got.2) law)

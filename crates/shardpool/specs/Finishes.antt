@@ -1,0 +1,44 @@
+-- What a lane does behind a LEAVE, and keeps of it.
+use Rattle.std.specs.Prelude.{◌≡◌, ◌<◌, ℕ, List, [], Option, Some, IfSome, length, slice_index}
+use denote.RawPtr.{Ptr}
+use Rattle.atomic_table.specs.Table.{Me}
+use Rattle.placecell.specs.Whole.{Whole}
+use Rattle.keybits.specs.declared.shape.Shape.{Shape}
+use Rattle.keybits.specs.Places.{shard_of}
+use Rattle.keybits.specs.Shapes.{IsShape, shard_places}
+use Rattle.freelists.specs.Shards.{place_numbered}
+use Rattle.freelists.specs.Queues.{IsAway}
+use Rattle.poolsteps.specs.declared.view.View.{View}
+use Rattle.poolsteps.specs.Views.{the_lane, pushed_in}
+use Rattle.poolsteps.specs.Layout.{slot_row, shard_start}
+use Rattle.poolcalls.specs.declared.reclaimed.Reclaimed.{Reclaimed}
+use Rattle.poolcalls.specs.declared.reclaimed.Reclaimed.TheVariants.{Own}
+use Rattle.poolcalls.specs.Called.{Ends, EndsWithActs, IsReclaimed}
+use Rattle.shardpool.specs.declared.state.LaneState.{LaneState}
+use Rattle.shardpool.specs.Stores.{Keeps}
+
+-- the lane, whose places stand in this directory, can keep what becomes of a place, and knows the word that it last pushed to the place's shard
+pub record IsKeeper {T : Type 0} (z : Shape) (directory : Ptr) (place : ℕ) (v : View) (s : LaneState T) : Type 0 where
+  pub shape : IsShape z
+  pub shape_is : s.shape ≡ z
+  pub directory_is : s.objects.directory ≡ directory
+  pub narrow : length s.objects.items ≡ shard_places z
+  pub wide : length s.last_pushed.items ≡ z.lanes
+  pub begins : (s.objects.first ≡ shard_start z s.free.shard) × (s.objects.wide ≡ slot_row z)
+  pub lane : s.number ≡ (the_lane v).lane
+  pub below : s.number < z.lanes
+  pub top : slice_index s.last_pushed.items (shard_of place) ≡ pushed_in (the_lane v).pushed (shard_of place)
+
+module _ {S T : Type 0} (content : T → List ℕ) (room : T → ℕ) (z : Shape) (place found : ℕ) where
+  -- whatever follows the LEAVE that found this word: an own place that is then reclaimed isn't on the lane's list
+  abbrev pub MayFinish : Me S View → LaneState T → Type 0
+  MayFinish before s = (after : Me S View) (reclaimed : Option (Reclaimed T)) → Ends z place found before after → EndsWithActs z place [] before.0 after.0 reclaimed
+      → IfSome reclaimed (IsReclaimed content room z place s.number after.0) → (whole : Whole T) → reclaimed ≡ Some (Own whole) → IsAway s.free (place_numbered place)
+
+  -- what follows the LEAVE was done, and what became of the place is kept
+  pub record Finishes (before after : Me S View) (s t : LaneState T) : Type 0 where
+    pub reclaimed : Option (Reclaimed T)
+    pub ends : Ends z place found before after
+    pub acts : EndsWithActs z place [] before.0 after.0 reclaimed
+    pub told : IfSome reclaimed (IsReclaimed content room z place s.number after.0)
+    pub kept : Keeps place reclaimed s t
