@@ -1,15 +1,18 @@
 -- A get: what a miss leaves of the lane, and what a hit does whose key the lane has already, or not yet.
-use Rattle.std.proofs.Common.{◌≡◌, ◌+◌, ℕ, inr, true, false, refl, sym, ap, ◌∙◌, subst, arith}
+use Rattle.std.proofs.Common.{◌≡◌, ◌+◌, ℕ, inr, [], ◌∷◌, None, true, false, refl, sym, ap, ◌∙◌, subst, arith}
 use Rattle.std.proofs.lemmas.Bool.{false≢true}
 use Rattle.poolsteps.proofs.ViewLemmas.{prefix-self}
 use Rattle.keybits.specs.Keys.{is_key}
+use Rattle.seqpool.specs.declared.act.Act.TheVariants as acts
+use Rattle.steplaws.specs.Calls.Call.{Getting}
+use Rattle.poolcalls.specs.Called.{Called, GetHits}
 use Rattle.sharelaws.specs.declared.stored.Status.TheVariants.{Untouched}
 use Rattle.poolsteps.specs.Moved.{Outs}
 use Rattle.poolcalls.proofs.Moves.{carries-out}
 use Rattle.poolcalls.proofs.Standing.{has-left, lawful}
 use Rattle.poolcalls.proofs.Calling.{called-after, acts-behind, life-under, get-hits, hit-tells, get-misses}
 use Rattle.shardpool.proofs.calls.CallParts.{calls-more}
-use Rattle.shardpool.proofs.calls.Gets.{called-then, seen-within}
+use Rattle.shardpool.proofs.calls.Gets.{Gained, called-then, seen-within}
 use Rattle.shardpool.proofs.calls.Halts.{fits-own}
 use Rattle.shardpool.proofs.references.Holdings.{get-holds}
 use Rattle.poolsteps.specs.Layout.{spots_at}
@@ -18,6 +21,8 @@ use Rattle.shardpool.proofs.calls.Ends.{fits-beside, keeper}
 use Rattle.shardpool.proofs.calls.KeyCalls.{ready, ready-low, missed-away, missed, hit-touches, hit-untouched, gained-again, gained-first}
 use Rattle.shardpool.proofs.references.RowChanges.{rows-count-le}
 use Rattle.shardpool.proofs.frame.Standing.{missed-outside, found-since, missed-since, seen-of}
+use Rattle.shardpool.proofs.calls.QuietEnds.{Quieted}
+use Rattle.shardpool.proofs.pool.Pool.get_at.Given.{Over}
 use Rattle.shardpool.proofs.pool.Pool.get_at.Goals as goal
 
 pub enter-found-requires-clause-key : goal.enter-found-requires-clause-key
@@ -60,46 +65,39 @@ finish_if_owed-requires-clause-may g c after reclaimed ends acts_so told =
     missed-away before reclaimed (called-after opened refl c.leave-left.ensures.leaves refl ends)
     (acts-behind opened refl c.leave-left.ensures.leaves refl ends reclaimed acts_so, rw before.fits.seat.number_is at told)
 
+module _ (g : Over) (c : goal.After-finish_if_owed g) where
+  missed-called : Called c.self.inside.grid.shape (Getting c.args.key) 34 c.lane.inside.hand.me c.finish_if_owed.new.hand.me
+  missed-called =
+      let opened = get-misses (ap (λ p. is_key p.shape c.args.key) c.self.view_is ∙ c.in_ok-spot.ensures.some.0 refl) c.enter-found.ensures.enters (sym c.is_hit.ensures ∙ c.if-not-is_hit.true) in
+      called-after opened refl c.leave-left.ensures.leaves refl c.finish_if_owed.ensures.finishes.ends
+
+  missed-left : Quieted g.T.Clear.content g.T.Clear.room c.self.inside.grid.shape (acts.Get c.lane.inside.state.number c.args.key None ∷ []) c.lane.inside.hand.me.0 c.finish_if_owed.new.hand.me.0 c.lane.inside.state c.finish_if_owed.new.state
+  missed-left =
+      let before = ready c.lane.view_is c.requires.owns.1 c.self.view_is c.lane.invariant.1 c.in_ok-spot.ensures.spot in
+      let told = c.finish_if_owed.ensures.finishes in
+      let opened = get-misses (ap (λ p. is_key p.shape c.args.key) c.self.view_is ∙ c.in_ok-spot.ensures.some.0 refl) c.enter-found.ensures.enters (sym c.is_hit.ensures ∙ c.if-not-is_hit.true) in
+      missed before told.reclaimed c.finish_if_owed.new.state told.kept missed-called
+      (acts-behind opened refl c.leave-left.ensures.leaves refl told.ends told.reclaimed told.acts, rw before.fits.seat.number_is at told.told)
+
 pub invariant_of-lane : goal.invariant_of-lane
 invariant_of-lane g c =
-    let before = ready c.lane.view_is c.requires.owns.1 c.self.view_is c.lane.invariant.1 c.in_ok-spot.ensures.spot in
-    let told = c.finish_if_owed.ensures.finishes in
-    let opened = get-misses (ap (λ p. is_key p.shape c.args.key) c.self.view_is ∙ c.in_ok-spot.ensures.some.0 refl) c.enter-found.ensures.enters (sym c.is_hit.ensures ∙ c.if-not-is_hit.true) in
-    let left = missed before told.reclaimed c.finish_if_owed.new.state told.kept (called-after opened refl c.leave-left.ensures.leaves refl told.ends)
-    (acts-behind opened refl c.leave-left.ensures.leaves refl told.ends told.reclaimed told.acts, rw before.fits.seat.number_is at told.told) in
-    ((called-after opened refl c.leave-left.ensures.leaves refl told.ends).did.held ∙ c.lane.invariant.0, fits-own left.fits)
+    ((missed-called g c).did.held ∙ c.lane.invariant.0, fits-own (missed-left g c).fits)
 
 pub returns-then-not-is_hit-clause-called : goal.returns-then-not-is_hit-clause-called
 returns-then-not-is_hit-clause-called g c key =
-    let opened = get-misses (ap (λ p. is_key p.shape c.args.key) c.self.view_is ∙ c.in_ok-spot.ensures.some.0 refl) c.enter-found.ensures.enters (sym c.is_hit.ensures ∙ c.if-not-is_hit.true) in
-    rw (← c.self.view_is, ← c.lane.view_is) (calls-more (called-after opened refl c.leave-left.ensures.leaves refl c.finish_if_owed.ensures.finishes.ends) (omega arith))
+    rw (← c.self.view_is, ← c.lane.view_is) (calls-more (missed-called g c) (omega arith))
 
 pub returns-then-not-is_hit-clause-gets : goal.returns-then-not-is_hit-clause-gets
 returns-then-not-is_hit-clause-gets g c key =
-    let before = ready c.lane.view_is c.requires.owns.1 c.self.view_is c.lane.invariant.1 c.in_ok-spot.ensures.spot in
-    let told = c.finish_if_owed.ensures.finishes in
-    let opened = get-misses (ap (λ p. is_key p.shape c.args.key) c.self.view_is ∙ c.in_ok-spot.ensures.some.0 refl) c.enter-found.ensures.enters (sym c.is_hit.ensures ∙ c.if-not-is_hit.true) in
-    let left = missed before told.reclaimed c.finish_if_owed.new.state told.kept (called-after opened refl c.leave-left.ensures.leaves refl told.ends)
-    (acts-behind opened refl c.leave-left.ensures.leaves refl told.ends told.reclaimed told.acts, rw before.fits.seat.number_is at told.told) in
-    rw (← c.lane.view_is) (left.did c.lane.inside.hand.table_id c.finish_if_owed.new.hand.table_id (c.finish_if_owed.ensures.hand.0 ∙ (c.leave-left.ensures.hand.0 ∙ c.enter-found.ensures.hand.0)))
+    rw (← c.lane.view_is) ((missed-left g c).did c.lane.inside.hand.table_id c.finish_if_owed.new.hand.table_id (c.finish_if_owed.ensures.hand.0 ∙ (c.leave-left.ensures.hand.0 ∙ c.enter-found.ensures.hand.0)))
 
 pub returns-then-not-is_hit-clause-refs : goal.returns-then-not-is_hit-clause-refs
 returns-then-not-is_hit-clause-refs g c =
-    let before = ready c.lane.view_is c.requires.owns.1 c.self.view_is c.lane.invariant.1 c.in_ok-spot.ensures.spot in
-    let told = c.finish_if_owed.ensures.finishes in
-    let opened = get-misses (ap (λ p. is_key p.shape c.args.key) c.self.view_is ∙ c.in_ok-spot.ensures.some.0 refl) c.enter-found.ensures.enters (sym c.is_hit.ensures ∙ c.if-not-is_hit.true) in
-    let left = missed before told.reclaimed c.finish_if_owed.new.state told.kept (called-after opened refl c.leave-left.ensures.leaves refl told.ends)
-    (acts-behind opened refl c.leave-left.ensures.leaves refl told.ends told.reclaimed told.acts, rw before.fits.seat.number_is at told.told) in
-    let same = left.refs in rw (← c.lane.view_is) (omega (arith, same))
+    let same = (missed-left g c).refs in rw (← c.lane.view_is) (omega (arith, same))
 
 pub returns-then-not-is_hit-clause-fillings : goal.returns-then-not-is_hit-clause-fillings
 returns-then-not-is_hit-clause-fillings g c filling =
-    let before = ready c.lane.view_is c.requires.owns.1 c.self.view_is c.lane.invariant.1 c.in_ok-spot.ensures.spot in
-    let told = c.finish_if_owed.ensures.finishes in
-    let opened = get-misses (ap (λ p. is_key p.shape c.args.key) c.self.view_is ∙ c.in_ok-spot.ensures.some.0 refl) c.enter-found.ensures.enters (sym c.is_hit.ensures ∙ c.if-not-is_hit.true) in
-    let left = missed before told.reclaimed c.finish_if_owed.new.state told.kept (called-after opened refl c.leave-left.ensures.leaves refl told.ends)
-    (acts-behind opened refl c.leave-left.ensures.leaves refl told.ends told.reclaimed told.acts, rw before.fits.seat.number_is at told.told) in
-    rw (← c.lane.view_is) (left.fillings c.lane.inside.hand.table_id c.finish_if_owed.new.hand.table_id (c.finish_if_owed.ensures.hand.0 ∙ (c.leave-left.ensures.hand.0 ∙ c.enter-found.ensures.hand.0)) filling)
+    rw (← c.lane.view_is) ((missed-left g c).fillings c.lane.inside.hand.table_id c.finish_if_owed.new.hand.table_id (c.finish_if_owed.ensures.hand.0 ∙ (c.leave-left.ensures.hand.0 ∙ c.enter-found.ensures.hand.0)) filling)
 
 -- ---- a hit, of a key that the lane has
 
@@ -118,37 +116,37 @@ add_reference-requires-clause-within g c row stands =
     let before = ready c.lane.view_is c.requires.owns.1 c.self.view_is c.lane.invariant.1 c.in_ok-spot.ensures.spot in
     rows-count-le c.in_ok-spot.spot.start row before.fits.rows stands
 
+module _ (g : Over) (c : goal.After-add_reference g) where
+  again-called : Called c.self.inside.grid.shape (Getting c.args.key) 34 c.lane.inside.hand.me c.enter-found.new.hand.me
+  again-called = get-hits (ap (λ p. is_key p.shape c.args.key) c.self.view_is ∙ c.in_ok-spot.ensures.some.0 refl) c.enter-found.ensures.enters (sym c.is_hit.ensures ∙ c.if-not-is_hit.false)
+
+  again-got : GetHits c.self.inside.grid.shape c.args.key c.lane.inside.hand.me c.enter-found.new.hand.me
+  again-got = hit-tells (ap (λ p. is_key p.shape c.args.key) c.self.view_is ∙ c.in_ok-spot.ensures.some.0 refl) c.enter-found.ensures.enters (sym c.is_hit.ensures ∙ c.if-not-is_hit.false)
+
+  again-left : Gained g.T.Clear.content g.T.Clear.room c.self.inside.grid.shape c.args.key again-got.0 c.lane.inside.hand.me.0 c.enter-found.new.hand.me.0 c.lane.inside.state c.add_reference.new.state
+  again-left =
+      let before = ready c.lane.view_is c.requires.owns.1 c.self.view_is c.lane.invariant.1 c.in_ok-spot.ensures.spot in
+      gained-again before again-called again-got c.index.result.now c.index.ensures c.add_reference.new.state c.add_reference.ensures.rest c.if-index-gt0.true c.add_reference.ensures.rows
+
 pub invariant_of-lane-then-index-gt0 : goal.invariant_of-lane-then-index-gt0
 invariant_of-lane-then-index-gt0 g c =
-    let before = ready c.lane.view_is c.requires.owns.1 c.self.view_is c.lane.invariant.1 c.in_ok-spot.ensures.spot in
-    let left = gained-again before (get-hits (ap (λ p. is_key p.shape c.args.key) c.self.view_is ∙ c.in_ok-spot.ensures.some.0 refl) c.enter-found.ensures.enters (sym c.is_hit.ensures ∙ c.if-not-is_hit.false)) (hit-tells (ap (λ p. is_key p.shape c.args.key) c.self.view_is ∙ c.in_ok-spot.ensures.some.0 refl) c.enter-found.ensures.enters (sym c.is_hit.ensures ∙ c.if-not-is_hit.false)) c.index.result.now c.index.ensures c.add_reference.new.state c.add_reference.ensures.rest c.if-index-gt0.true
-    c.add_reference.ensures.rows in
-    ((get-hits (ap (λ p. is_key p.shape c.args.key) c.self.view_is ∙ c.in_ok-spot.ensures.some.0 refl) c.enter-found.ensures.enters (sym c.is_hit.ensures ∙ c.if-not-is_hit.false)).did.held ∙ c.lane.invariant.0, fits-own left.fits)
+    ((again-called g c).did.held ∙ c.lane.invariant.0, fits-own (again-left g c).fits)
 
 pub returns-then-index-gt0-clause-called : goal.returns-then-index-gt0-clause-called
 returns-then-index-gt0-clause-called g c key =
-    rw (← c.self.view_is, ← c.lane.view_is) (calls-more (get-hits (ap (λ p. is_key p.shape c.args.key) c.self.view_is ∙ c.in_ok-spot.ensures.some.0 refl) c.enter-found.ensures.enters (sym c.is_hit.ensures ∙ c.if-not-is_hit.false)) (omega arith))
+    rw (← c.self.view_is, ← c.lane.view_is) (calls-more (again-called g c) (omega arith))
 
 pub returns-then-index-gt0-clause-gets : goal.returns-then-index-gt0-clause-gets
 returns-then-index-gt0-clause-gets g c key =
-    let before = ready c.lane.view_is c.requires.owns.1 c.self.view_is c.lane.invariant.1 c.in_ok-spot.ensures.spot in
-    let left = gained-again before (get-hits (ap (λ p. is_key p.shape c.args.key) c.self.view_is ∙ c.in_ok-spot.ensures.some.0 refl) c.enter-found.ensures.enters (sym c.is_hit.ensures ∙ c.if-not-is_hit.false)) (hit-tells (ap (λ p. is_key p.shape c.args.key) c.self.view_is ∙ c.in_ok-spot.ensures.some.0 refl) c.enter-found.ensures.enters (sym c.is_hit.ensures ∙ c.if-not-is_hit.false)) c.index.result.now c.index.ensures c.add_reference.new.state c.add_reference.ensures.rest c.if-index-gt0.true
-    c.add_reference.ensures.rows in
-    rw (← c.lane.view_is) (refl, left.holds, (hit-tells (ap (λ p. is_key p.shape c.args.key) c.self.view_is ∙ c.in_ok-spot.ensures.some.0 refl) c.enter-found.ensures.enters (sym c.is_hit.ensures ∙ c.if-not-is_hit.false)).0, left.did c.lane.inside.hand.table_id c.enter-found.new.hand.table_id c.enter-found.ensures.hand.0)
+    rw (← c.lane.view_is) (refl, (again-left g c).holds, (again-got g c).0, (again-left g c).did c.lane.inside.hand.table_id c.enter-found.new.hand.table_id c.enter-found.ensures.hand.0)
 
 pub returns-then-index-gt0-clause-refs : goal.returns-then-index-gt0-clause-refs
 returns-then-index-gt0-clause-refs g c =
-    let before = ready c.lane.view_is c.requires.owns.1 c.self.view_is c.lane.invariant.1 c.in_ok-spot.ensures.spot in
-    let left = gained-again before (get-hits (ap (λ p. is_key p.shape c.args.key) c.self.view_is ∙ c.in_ok-spot.ensures.some.0 refl) c.enter-found.ensures.enters (sym c.is_hit.ensures ∙ c.if-not-is_hit.false)) (hit-tells (ap (λ p. is_key p.shape c.args.key) c.self.view_is ∙ c.in_ok-spot.ensures.some.0 refl) c.enter-found.ensures.enters (sym c.is_hit.ensures ∙ c.if-not-is_hit.false)) c.index.result.now c.index.ensures c.add_reference.new.state c.add_reference.ensures.rest c.if-index-gt0.true
-    c.add_reference.ensures.rows in
-    rw (← c.lane.view_is) left.refs
+    rw (← c.lane.view_is) (again-left g c).refs
 
 pub returns-then-index-gt0-clause-fillings : goal.returns-then-index-gt0-clause-fillings
 returns-then-index-gt0-clause-fillings g c filling =
-    let before = ready c.lane.view_is c.requires.owns.1 c.self.view_is c.lane.invariant.1 c.in_ok-spot.ensures.spot in
-    let left = gained-again before (get-hits (ap (λ p. is_key p.shape c.args.key) c.self.view_is ∙ c.in_ok-spot.ensures.some.0 refl) c.enter-found.ensures.enters (sym c.is_hit.ensures ∙ c.if-not-is_hit.false)) (hit-tells (ap (λ p. is_key p.shape c.args.key) c.self.view_is ∙ c.in_ok-spot.ensures.some.0 refl) c.enter-found.ensures.enters (sym c.is_hit.ensures ∙ c.if-not-is_hit.false)) c.index.result.now c.index.ensures c.add_reference.new.state c.add_reference.ensures.rest c.if-index-gt0.true
-    c.add_reference.ensures.rows in
-    rw (← c.lane.view_is) (left.fillings c.lane.inside.hand.table_id c.enter-found.new.hand.table_id c.enter-found.ensures.hand.0 filling)
+    rw (← c.lane.view_is) ((again-left g c).fillings c.lane.inside.hand.table_id c.enter-found.new.hand.table_id c.enter-found.ensures.hand.0 filling)
 
 -- ---- a hit, of a key that the lane has not yet
 
@@ -169,54 +167,45 @@ add_first_reference-requires-clause-at g c =
     let before = ready c.lane.view_is c.requires.owns.1 c.self.view_is c.lane.invariant.1 c.in_ok-spot.ensures.spot in
     ready-low before
 
+module _ (g : Over) (c : goal.After-add_first_reference g) where
+  first-called : Called c.self.inside.grid.shape (Getting c.args.key) 34 c.lane.inside.hand.me c.enter-found.new.hand.me
+  first-called = get-hits (ap (λ p. is_key p.shape c.args.key) c.self.view_is ∙ c.in_ok-spot.ensures.some.0 refl) c.enter-found.ensures.enters (sym c.is_hit.ensures ∙ c.if-not-is_hit.false)
+
+  first-got : GetHits c.self.inside.grid.shape c.args.key c.lane.inside.hand.me c.enter-found.new.hand.me
+  first-got = hit-tells (ap (λ p. is_key p.shape c.args.key) c.self.view_is ∙ c.in_ok-spot.ensures.some.0 refl) c.enter-found.ensures.enters (sym c.is_hit.ensures ∙ c.if-not-is_hit.false)
+
+  first-left : Gained g.T.Clear.content g.T.Clear.room c.self.inside.grid.shape c.args.key first-got.0 c.lane.inside.hand.me.0 c.out-share.new.hand.me.0 c.lane.inside.state c.add_first_reference.new.state
+  first-left =
+      let before = ready c.lane.view_is c.requires.owns.1 c.self.view_is c.lane.invariant.1 c.in_ok-spot.ensures.spot in
+      let some = c.if-index-gt0.false in
+      let none : c.index.result.now.count ≡ 0 = omega (arith, some) in
+      gained-first before first-called first-got c.index.result.now c.index.ensures c.add_first_reference.new.state c.add_first_reference.ensures.rest
+      (same-directory c.lane.view_is c.requires.owns.2 c.self.view_is) none c.out-share.ensures.outs c.add_first_reference.ensures.rows
+
 pub invariant_of-lane-2 : goal.invariant_of-lane-2
 invariant_of-lane-2 g c =
-    let before = ready c.lane.view_is c.requires.owns.1 c.self.view_is c.lane.invariant.1 c.in_ok-spot.ensures.spot in
-    let some = c.if-index-gt0.false in
-    let none : c.index.result.now.count ≡ 0 = omega (arith, some) in
-    let left = gained-first before (get-hits (ap (λ p. is_key p.shape c.args.key) c.self.view_is ∙ c.in_ok-spot.ensures.some.0 refl) c.enter-found.ensures.enters (sym c.is_hit.ensures ∙ c.if-not-is_hit.false)) (hit-tells (ap (λ p. is_key p.shape c.args.key) c.self.view_is ∙ c.in_ok-spot.ensures.some.0 refl) c.enter-found.ensures.enters (sym c.is_hit.ensures ∙ c.if-not-is_hit.false)) c.index.result.now c.index.ensures c.add_first_reference.new.state c.add_first_reference.ensures.rest
-    (same-directory c.lane.view_is c.requires.owns.2 c.self.view_is) none c.out-share.ensures.outs
-    c.add_first_reference.ensures.rows in
-    (c.out-share.ensures.outs.held ∙ ((get-hits (ap (λ p. is_key p.shape c.args.key) c.self.view_is ∙ c.in_ok-spot.ensures.some.0 refl) c.enter-found.ensures.enters (sym c.is_hit.ensures ∙ c.if-not-is_hit.false)).did.held ∙ c.lane.invariant.0), fits-own left.fits)
+    (c.out-share.ensures.outs.held ∙ ((first-called g c).did.held ∙ c.lane.invariant.0), fits-own (first-left g c).fits)
 
 pub returns-clause-called : goal.returns-clause-called
 returns-clause-called g c key =
     let there = c.in_ok-spot.ensures.spot in
     let outs = subst (λ (p : ℕ). Outs g.T.Clear.content g.T.Clear.room (spots_at c.self.inside.grid.objects.ptr c.self.inside.grid.shape) c.self.inside.grid.shape p c.lane.inside.state.number Untouched c.enter-found.new.hand.me c.out-share.result c.out-share.new.hand.me)
     there.place_is c.out-share.ensures.outs in
-    rw (← c.self.view_is, ← c.lane.view_is) (calls-more (called-then (get-hits (ap (λ p. is_key p.shape c.args.key) c.self.view_is ∙ c.in_ok-spot.ensures.some.0 refl) c.enter-found.ensures.enters (sym c.is_hit.ensures ∙ c.if-not-is_hit.false)) (carries-out outs)) (omega arith))
+    rw (← c.self.view_is, ← c.lane.view_is) (calls-more (called-then (first-called g c) (carries-out outs)) (omega arith))
 
 pub returns-clause-gets : goal.returns-clause-gets
 returns-clause-gets g c key =
-    let before = ready c.lane.view_is c.requires.owns.1 c.self.view_is c.lane.invariant.1 c.in_ok-spot.ensures.spot in
-    let some = c.if-index-gt0.false in
-    let none : c.index.result.now.count ≡ 0 = omega (arith, some) in
-    let left = gained-first before (get-hits (ap (λ p. is_key p.shape c.args.key) c.self.view_is ∙ c.in_ok-spot.ensures.some.0 refl) c.enter-found.ensures.enters (sym c.is_hit.ensures ∙ c.if-not-is_hit.false)) (hit-tells (ap (λ p. is_key p.shape c.args.key) c.self.view_is ∙ c.in_ok-spot.ensures.some.0 refl) c.enter-found.ensures.enters (sym c.is_hit.ensures ∙ c.if-not-is_hit.false)) c.index.result.now c.index.ensures c.add_first_reference.new.state c.add_first_reference.ensures.rest
-    (same-directory c.lane.view_is c.requires.owns.2 c.self.view_is) none c.out-share.ensures.outs
-    c.add_first_reference.ensures.rows in
     rw (← c.lane.view_is)
-    (refl, left.holds, (hit-tells (ap (λ p. is_key p.shape c.args.key) c.self.view_is ∙ c.in_ok-spot.ensures.some.0 refl) c.enter-found.ensures.enters (sym c.is_hit.ensures ∙ c.if-not-is_hit.false)).0, left.did c.lane.inside.hand.table_id c.out-share.new.hand.table_id (c.out-share.ensures.hand.0 ∙ c.enter-found.ensures.hand.0))
+    (refl, (first-left g c).holds, (first-got g c).0, (first-left g c).did c.lane.inside.hand.table_id c.out-share.new.hand.table_id (c.out-share.ensures.hand.0 ∙ c.enter-found.ensures.hand.0))
 
 pub returns-clause-refs : goal.returns-clause-refs
 returns-clause-refs g c =
-    let before = ready c.lane.view_is c.requires.owns.1 c.self.view_is c.lane.invariant.1 c.in_ok-spot.ensures.spot in
-    let some = c.if-index-gt0.false in
-    let none : c.index.result.now.count ≡ 0 = omega (arith, some) in
-    let left = gained-first before (get-hits (ap (λ p. is_key p.shape c.args.key) c.self.view_is ∙ c.in_ok-spot.ensures.some.0 refl) c.enter-found.ensures.enters (sym c.is_hit.ensures ∙ c.if-not-is_hit.false)) (hit-tells (ap (λ p. is_key p.shape c.args.key) c.self.view_is ∙ c.in_ok-spot.ensures.some.0 refl) c.enter-found.ensures.enters (sym c.is_hit.ensures ∙ c.if-not-is_hit.false)) c.index.result.now c.index.ensures c.add_first_reference.new.state c.add_first_reference.ensures.rest
-    (same-directory c.lane.view_is c.requires.owns.2 c.self.view_is) none c.out-share.ensures.outs
-    c.add_first_reference.ensures.rows in
-    rw (← c.lane.view_is) left.refs
+    rw (← c.lane.view_is) (first-left g c).refs
 
 pub returns-clause-fillings : goal.returns-clause-fillings
 returns-clause-fillings g c filling =
-    let before = ready c.lane.view_is c.requires.owns.1 c.self.view_is c.lane.invariant.1 c.in_ok-spot.ensures.spot in
-    let some = c.if-index-gt0.false in
-    let none : c.index.result.now.count ≡ 0 = omega (arith, some) in
-    let left = gained-first before (get-hits (ap (λ p. is_key p.shape c.args.key) c.self.view_is ∙ c.in_ok-spot.ensures.some.0 refl) c.enter-found.ensures.enters (sym c.is_hit.ensures ∙ c.if-not-is_hit.false)) (hit-tells (ap (λ p. is_key p.shape c.args.key) c.self.view_is ∙ c.in_ok-spot.ensures.some.0 refl) c.enter-found.ensures.enters (sym c.is_hit.ensures ∙ c.if-not-is_hit.false)) c.index.result.now c.index.ensures c.add_first_reference.new.state c.add_first_reference.ensures.rest
-    (same-directory c.lane.view_is c.requires.owns.2 c.self.view_is) none c.out-share.ensures.outs
-    c.add_first_reference.ensures.rows in
     rw (← c.lane.view_is)
-    (left.fillings c.lane.inside.hand.table_id c.out-share.new.hand.table_id (c.out-share.ensures.hand.0 ∙ c.enter-found.ensures.hand.0) filling)
+    ((first-left g c).fillings c.lane.inside.hand.table_id c.out-share.new.hand.table_id (c.out-share.ensures.hand.0 ∙ c.enter-found.ensures.hand.0) filling)
 
 -- ---- its references to each key
 
