@@ -10,7 +10,7 @@ ghost use Rattle.traces.specs.Lawful.{IsLawful, World, first_world, is_finished,
 ghost use Rattle.traces.specs.Parts.{StandsThroughout};
 ghost use Rattle.coresteps.specs.declared.progress.Most.{Most};
 ghost use Rattle.coresteps.specs.Lanes.{first_progress, no_most, counted_step};
-ghost use Rattle.coresteps.specs.Kept.{IsCore, IsCoreAt, IsDraft, IsLaneAt, IsRun, IsWordOf, MakesTurn, SameShared, Turns, index_of_publish};
+ghost use Rattle.coresteps.specs.Kept.{IsCore, IsCoreAt, IsDraft, IsLaneAt, IsRun, IsWordOf, IsWorked, MakesTurn, SameShared, Turns, index_of_publish};
 
 use crate::commands::Commands;
 use crate::fault::CoreFault;
@@ -208,8 +208,7 @@ fn advance(
     let index = shared.acts.len();
     let command = &of.script.as_slice()[progress.done];
     progress.note(&shared.shape, lane, command, &made, index);
-    let after = shared.work(of, lane, progress, Some(&made))?;
-    shared.keep(&made)?;
+    let after = finish_step(shared, of, lane, progress, &made)?;
     Ok(Turn {
         lane,
         before,
@@ -217,6 +216,32 @@ fn advance(
         act: made.act,
         after,
     })
+}
+
+/// The work behind a step that was noted, and then the step itself, with the replies of that work. Where memory is refused, what
+/// all lanes share is as before.
+fn finish_step(
+    shared: &mut Shared,
+    of: &Lane,
+    lane: u32,
+    progress: &mut Progress,
+    made: &Made,
+) -> Result<Replies, CoreFault>
+    requires lane { lane < shared.old.shape.lanes }
+    requires draft { (w : World) × IsDraft shared.old w (Some made.now) × IsLaneAt shared.old.shape w.history lane of.now progress.old (w.books lane) }
+    requires word { IsWordOf shared.old.shape made.now.step.word }
+    requires place { (lane key : ℕ) (content : List ℕ) (with_ref : Bool) → made.now.act ≡ Some (Publish lane key content with_ref)
+        → is_place shared.old.shape (place_of key) ≡ true }
+    ensures ok { IfOk result (λ replies. (w : World) → IsDraft shared.old w (Some made.now)
+        → IsLaneAt shared.old.shape w.history lane of.now progress.old (w.books lane)
+        → IsWorked shared.old w (Some made.now) lane of.now progress.old replies progress.new
+        × ((v : World) → IsDraft shared.old v (Some made.now) → IsDraft shared.new v None)) }
+    ensures same { OnErr result (SameShared shared.old shared.new) }
+    ensures shape { shared.new.shape ≡ shared.old.shape }
+{
+    let replies = shared.work(of, lane, progress, Some(made))?;
+    shared.keep(made)?;
+    Ok(replies)
 }
 
 /// Keeps how far a lane has come.
