@@ -1,5 +1,14 @@
-use Rattle.std.proofs.Common.{◌+◌, ℕ, suc, drop, ap, sym, ◌∙◌, subst, arith}
+use Rattle.std.proofs.Common.{◌≡◌, ◌+◌, ℕ, suc, ltb, true, false, inl, inr, List, length, drop, refl, Option, Some, None, ap, sym, ◌∙◌, subst, arith}
+use Rattle.std.specs.Prelude.{is_some}
+use Rattle.std.proofs.lemmas.Bool.{ltb-false}
+use Rattle.std.proofs.lemmas.List.{drop_all}
+use Rattle.std.proofs.lemmas.Result.{IfOk-from_err}
 use Rattle.seqpool.specs.Pool.{pool_after}
+use Rattle.steplaws.specs.Calls as steps
+use Rattle.traces.specs.declared.script.Command.{Command}
+use Rattle.traces.specs.Lawful.{at_end}
+use Rattle.coresteps.specs.declared.aims.Aim.{Aim}
+use Rattle.coresteps.specs.Lanes.{IsAim}
 use Rattle.traces.specs.Books.{next_aim, answered}
 use Rattle.coresteps.specs.declared.progress.Progress.{Progress}
 use Rattle.coresteps.specs.Kept.{IsLaneAt}
@@ -45,3 +54,42 @@ returns c = λ w draft at.
       ap (λ (p : Progress). p.done) end ∙ ap (λ (n : ℕ). n + 1) replied.1.done,
       λ e. ap (λ (p : Progress). p.own.added) end ∙ replied.1.settled e,
     )
+
+-- the script's end
+at_its_end : (script slice left : List Command) (done : ℕ) → slice ≡ script → false ≡ ltb done (length slice) → drop done script ≡ left → at_end left ≡ true
+at_its_end script slice left done same over is =
+    let beyond = ltb-false done (length script) (subst (λ (xs : List Command). ltb done (length xs) ≡ false) same (sym over)) in
+    ap at_end (sym is ∙ drop_all done script beyond)
+
+pub returns-in_default : goal.returns-in_default
+returns-in_default c = λ w draft at. (
+  inl (at_its_end c.args.lane.now.script c.as_slice.result.now (w.books c.args.number).left c.args.progress.now.done
+      c.as_slice.ensures c.in_default.ensures.lookup.0 at.left),
+  refl,
+)
+
+-- a step
+some_aim : (a : Option Aim) (next : Option steps.Aim) → true ≡ is_some a → IsAim a next → is_some next ≡ true
+some_aim None next some is = absurd (cc some)
+some_aim (Some a) next some is = ap is_some is
+
+pub returns-then-is_some : goal.returns-then-is_some
+returns-then-is_some c = λ w draft at.
+    (inr (some_aim c.next_aim.result (next_aim c.args.self.now.shape c.args.number (w.books c.args.number)) c.if-is_some.ensures (c.next_aim.ensures w draft at)), refl)
+
+pub returns-in_err-reply : goal.returns-in_err-reply
+returns-in_err-reply c = IfOk-from_err c.from_residual.result _ c.from_residual.ensures.0
+
+pub next_aim-requires-clause-draft : goal.next_aim-requires-clause-draft
+next_aim-requires-clause-draft c = c.requires.draft
+
+pub reply-requires-clause-draft : goal.reply-requires-clause-draft
+reply-requires-clause-draft c =
+    let d = c.requires.draft in
+    let slice = c.as_slice.result.now in
+    let done = c.args.progress.now.done in
+    let found = c.in-Some.ensures.lookup.3 in
+    let left = next_left c.args.lane.now.script slice done c.in-Some.command.now (d.0.books c.args.number).left c.as_slice.ensures found.0 found.1 d.2.left in
+    let over = no_aim c.next_aim.result (next_aim c.args.self.now.shape c.args.number (d.0.books c.args.number)) c.if-is_some.ensures
+    (c.next_aim.ensures d.0 d.1 d.2) in
+    (d.0, drop (suc done) slice, d.1, d.2, over, left)

@@ -1,7 +1,7 @@
 -- The act joins the history, and the place of a key that is published has the act's index.
-use Rattle.std.proofs.Common.{◌≡◌, ◌∙◌, ◌++◌, ◌∷◌, [], ℕ, Result, Ok, Err, length, length-set, ap, sym, refl, set, get_or, arith}
+use Rattle.std.proofs.Common.{◌≡◌, ◌∙◌, ◌++◌, ◌∷◌, [], ℕ, Result, Ok, Err, length, length-set, ap, sym, subst, refl, true, ◌<◌, set, get_or, arith}
 use Rattle.std.specs.Result.{OnOk, OnErr, IsErr}
-use Rattle.keybits.specs.Shapes.{position_of}
+use Rattle.keybits.specs.Shapes.{position_of, is_place}
 use Rattle.keybits.specs.Keys.{place_of}
 use Rattle.seqpool.specs.declared.act.Act.{Act}
 use Rattle.coresteps.specs.Kept.{index_of_publish}
@@ -85,3 +85,19 @@ returns-in_err-push-clause-words c = refl
 
 pub returns-in_err-push-clause-shape : goal.returns-in_err-push-clause-shape
 returns-in_err-push-clause-shape c = refl
+
+pub returns-in_err-push-clause-same : goal.returns-in_err-push-clause-same
+returns-in_err-push-clause-same c = in_err c.from_residual-in_err-push.result _ (refl, refl, refl, c.in_err-push.ensures.items)
+
+pub position-requires-clause-shape : goal.position-requires-clause-shape
+position-requires-clause-shape c = c.requires.shape
+
+pub position-requires-clause-place : goal.position-requires-clause-place
+position-requires-clause-place c =
+    let a = c.in-Publish in
+    subst (λ (place : ℕ). is_place c.args.self.now.shape place ≡ true) (sym c.place_of.ensures.place)
+    (c.requires.place a.lane a.key a.content a.with_ref a.is)
+
+pub index_mut-requires : goal.index_mut-requires
+index_mut-requires c =
+    subst (λ (n : ℕ). c.position.result < n) (sym (c.args.self.now.published.ok.0 ∙ c.requires.rows)) c.position.ensures.below
