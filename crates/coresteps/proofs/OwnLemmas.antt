@@ -128,7 +128,7 @@ end_next size first count end low high is = ⊎_elim
     ⊎_elim (λ (e : first + suc count ≡ end). absurd (omega (arith, n.1))) (λ (e : first + suc count ≡ end + size). inl (omega (arith, n.0, n.1))) is)
     (next_is size first low)
 
-next-lt : (size at : ℕ) → at < size → next_in_ring size at < size
+pub next-lt : (size at : ℕ) → at < size → next_in_ring size at < size
 next-lt size at less = ⊎_elim
     (λ (n : (next_in_ring size at ≡ at + 1) × (at + 1 < size)). omega (arith, n.0, n.1))
     (λ (n : (next_in_ring size at ≡ 0) × (at + 1 ≡ size)). omega (arith, n.0))

@@ -1,5 +1,7 @@
 -- The lane's next turn is made, and the core keeps the world after it.
-use Rattle.std.proofs.Common.{◌≡◌, ◌<◌, ◌∙◌, length, slice_get, Some, subst, refl, arith}
+use Rattle.std.proofs.Common.{◌≡◌, ◌<◌, ◌∙◌, ℕ, length, slice_get, Some, sym, subst, refl, arith}
+use Rattle.std.specs.Prelude.{Result, Ok, Err, OnErr}
+use Rattle.std.proofs.lemmas.Result.{IfOk-from_err}
 use Rattle.std.proofs.lemmas.Option.{slice_get_read}
 use Rattle.keybits.specs.declared.shape.Shape.{Shape}
 use Rattle.traces.specs.Lawful.{world_after, book_after}
@@ -100,3 +102,31 @@ returns-clause-ok c = λ w most k unfinished.
     let at = c.keep_progress.ensures.lane old.shape (world_after old.shape w t).history n (book_after old.shape w t)
     (subst (λ (l : Lane). IsLaneAt old.shape (world_after old.shape w t).history n l p (book_after old.shape w t)) same turn.3) in
     turn_made old new w most lanes of settled t n k c.in_ok-turn.ensures.shape turn.0 turn.1 turn.2 got at c.keep_progress.ensures.added (c.keep_progress.ensures.most ∙ turn.4)
+
+-- after a refusal the core is as before
+in_err : {T E : Type 0} (r : Result T E) (P : Type 0) → P → OnErr r P
+in_err (Ok x) P p = tt
+in_err (Err e) P p = p
+
+pub returns-in_err-turn : goal.returns-in_err-turn
+returns-in_err-turn c = record {
+  ok = IfOk-from_err c.from_residual.result _ c.from_residual.ensures.0;
+  same = in_err c.from_residual.result _ (c.in_err-turn.ensures.same, refl);
+  shape = c.in_err-turn.ensures.shape;
+}
+
+pub index-of-requires : goal.index-of-requires
+index-of-requires c =
+    let below = turn_below c.args.shared.now.shape c.requires.0 c.args.lane c.requires.3 in
+    subst (λ (n : ℕ). c.args.lane < n) (sym (c.args.lanes.now.ok.0 ∙ c.requires.2.count)) below
+
+pub index_mut-requires : goal.index_mut-requires
+index_mut-requires c =
+    let below = turn_below c.args.shared.now.shape c.requires.0 c.args.lane c.requires.3 in
+    subst (λ (n : ℕ). c.args.lane < n) (sym (c.args.lanes.now.ok.0 ∙ c.requires.2.count)) below
+
+pub returns-clause-same : goal.returns-clause-same
+returns-clause-same c = tt
+
+pub returns-clause-shape : goal.returns-clause-shape
+returns-clause-shape c = c.in_ok-turn.ensures.shape

@@ -1,0 +1,7 @@
+-- Each place has its row.
+use Rattle.std.proofs.Common.{ℕ, ◌<◌, ◌∙◌, sym, subst}
+use Rattle.coresteps.proofs.shared.Shared.index_of_publish.Goals as goal
+
+pub index-requires : goal.index-requires
+index-requires c =
+    subst (λ (n : ℕ). c.position.result < n) (sym (c.args.self.now.published.ok.0 ∙ c.requires.published)) c.position.ensures.below
