@@ -40,7 +40,7 @@ module _ (z : Shape) where
           made z P Q (Publish lane key content with_ref) place (place_of key) (spot generation f) (λ x. refl) at s wrote,
         )
 
-    found-here : (key : ℕ) → is_current z P key ≡ true → found z P key ≡ content_in (P (place_of key)).phase
+    pub found-here : (key : ℕ) → is_current z P key ≡ true → found z P key ≡ content_in (P (place_of key)).phase
     found-here key here = ap (λ b. cond b (content_in (P (place_of key)).phase) None) here
 
     pub gets : (lane key place : ℕ) (content : List ℕ) → is_current z P key ≡ true → place ≡ place_of key → content_in (P place).phase ≡ Some content
