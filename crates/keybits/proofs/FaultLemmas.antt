@@ -1,5 +1,5 @@
 -- Which fault of a shape comes first.
-use Rattle.std.proofs.Common.{◌≡◌, ◌<◌, ◌↔◌, IsErrOf, Ok, Err, refl, subst, arith, ⊎_elim}
+use Rattle.std.proofs.Common.{◌≡◌, ◌<◌, ◌↔◌, IsOk, IsErrOf, Ok, Err, refl, subst, arith, ⊎_elim}
 use Rattle.std.proofs.lemmas.Bool.{cases_order}
 use Rattle.keybits.specs.declared.shape.Shape.{Shape}
 use Rattle.keybits.specs.declared.shape.ShapeFault.{ShapeFault}
@@ -45,12 +45,29 @@ within z ok Pages = ok.pages
 within z ok Generation = ok.generations
 within z ok Tag = ok.tag
 
+-- a shape with a fault is not within its limits
+pub not_shape : (z : Shape) (f : ShapeFault) → ¬ IsWithin z f → IsOk {T = Unit {0}} {E = ShapeFault} (Err f) ↔ IsShape z
+not_shape z f wrong = (
+  λ (e : IsOk {T = Unit {0}} {E = ShapeFault} (Err f)). absurd (cc e),
+  λ (ok : IsShape z). absurd (wrong (within z ok f)),
+)
+
 -- a shape within its limits has no fault
 pub no_fault : (z : Shape) → IsShape z → (g : ShapeFault) → IsErrOf {T = Unit {0}} {E = ShapeFault} (Ok tt) g ↔ IsFirstFault z g
 no_fault z ok g = (
   λ (e : IsErrOf {T = Unit {0}} {E = ShapeFault} (Ok tt) g). absurd (cc e),
   λ (other : IsFirstFault z g). absurd (other.0 (within z ok g)),
 )
+
+pub lanes_first : (z : Shape) → ¬ IsWithin z Lanes → IsFirstFault z Lanes
+lanes_first z wrong = (wrong, go)
+  where
+    go : (earlier : ShapeFault) → shape_fault_number earlier < 1 → IsWithin z earlier
+    go Lanes h = absurd (omega arith)
+    go FirstPage h = absurd (omega arith)
+    go Pages h = absurd (omega arith)
+    go Generation h = absurd (omega arith)
+    go Tag h = absurd (omega arith)
 
 pub first_page_first : (z : Shape) → IsWithin z Lanes → ¬ IsWithin z FirstPage → IsFirstFault z FirstPage
 first_page_first z a wrong = (wrong, go)

@@ -1,13 +1,20 @@
 use Rattle.std.proofs.Common.{◌≡◌, ◌≤◌, sym, ◌∙◌, true, false, arith}
 use Rattle.keybits.specs.declared.shape.Shape.{Shape}
-use Rattle.keybits.specs.declared.shape.ShapeFault.TheVariants.{Lanes, FirstPage, Pages, Generation}
+use Rattle.keybits.specs.declared.shape.ShapeFault.TheVariants.{Lanes, FirstPage, Pages, Generation, Tag}
+use Rattle.keybits.specs.Shapes.{IsShape}
 use Rattle.keybits.specs.ShapeFaults.{IsWithin}
-use Rattle.keybits.proofs.FaultLemmas.{only_first, first_page_first, pages_first, generation_first}
+use Rattle.keybits.proofs.FaultLemmas.{only_first, no_fault, not_shape, lanes_first, first_page_first, pages_first, generation_first, tag_first}
 use Rattle.keybits.proofs.shape.Shape.check.Goals as goal
-use Rattle.keybits.proofs.shape.Shape.check.Goals.{then-self-eq0-2-via-then-self-eq0-2, then-self-eq0-2-via-else-self-eq0-2+then-self-gt-MOST_PAGES}
+use Rattle.keybits.proofs.shape.Shape.check.Goals.{then-self-eq0-via-then-self-eq0, then-self-eq0-via-else-self-eq0+then-self-gt-MOST_LANES, then-self-eq0-2-via-then-self-eq0-2, then-self-eq0-2-via-else-self-eq0-2+then-self-gt-MOST_PAGES}
 
 from_one : (z : Shape) → (z.lanes ≡ 0 → ⊥) → z.lanes ≤ 16 → IsWithin z Lanes
 from_one z some few = (omega (arith, some), few)
+
+pub returns-then-self-eq0-clause-err : goal.returns-then-self-eq0-clause-err
+returns-then-self-eq0-clause-err c =
+    only_first c.args.self.now Lanes
+    (lanes_first c.args.self.now
+    (λ h. elim c.then-self-eq0.branch [ then-self-eq0-via-then-self-eq0 w ↦ omega (arith, h.0) | then-self-eq0-via-else-self-eq0+then-self-gt-MOST_LANES w ↦ omega (arith, h.1) ]))
 
 pub returns-then-not-is_first_page-clause-err : goal.returns-then-not-is_first_page-clause-err
 returns-then-not-is_first_page-clause-err c =
@@ -27,3 +34,42 @@ returns-then-self-eq0-3-clause-err c =
     only_first c.args.self.now Generation
     (generation_first c.args.self.now (from_one c.args.self.now c.if-self-eq0.false c.if-self-gt-MOST_LANES.false) (c.is_first_page.ensures.0 c.if-not-is_first_page.false) pages
     (λ h. omega arith))
+
+pub returns-then-self-gt-GREATEST_TAG-clause-err : goal.returns-then-self-gt-GREATEST_TAG-clause-err
+returns-then-self-gt-GREATEST_TAG-clause-err c =
+    let pages : (1 ≤ c.args.self.now.pages) × (c.args.self.now.pages ≤ 6) = (omega arith, omega arith) in
+    only_first c.args.self.now Tag
+    (tag_first c.args.self.now (from_one c.args.self.now c.if-self-eq0.false c.if-self-gt-MOST_LANES.false) (c.is_first_page.ensures.0 c.if-not-is_first_page.false) pages
+    (omega arith) (λ h. omega (arith, h)))
+
+pub returns-then-self-eq0-clause-ok : goal.returns-then-self-eq0-clause-ok
+returns-then-self-eq0-clause-ok c =
+    not_shape c.args.self.now Lanes
+    (λ h. elim c.then-self-eq0.branch [ then-self-eq0-via-then-self-eq0 w ↦ omega (arith, h.0) | then-self-eq0-via-else-self-eq0+then-self-gt-MOST_LANES w ↦ omega (arith, h.1) ])
+
+pub returns-then-not-is_first_page-clause-ok : goal.returns-then-not-is_first_page-clause-ok
+returns-then-not-is_first_page-clause-ok c =
+    not_shape c.args.self.now FirstPage
+    (λ h. let bad : false ≡ true = sym c.if-not-is_first_page.true ∙ c.is_first_page.ensures.1 h in cc bad)
+
+pub returns-then-self-eq0-2-clause-ok : goal.returns-then-self-eq0-2-clause-ok
+returns-then-self-eq0-2-clause-ok c =
+    not_shape c.args.self.now Pages
+    (λ h. elim c.then-self-eq0-2.branch [ then-self-eq0-2-via-then-self-eq0-2 w ↦ omega (arith, h.0) | then-self-eq0-2-via-else-self-eq0-2+then-self-gt-MOST_PAGES w ↦ omega (arith, h.1) ])
+
+pub returns-then-self-eq0-3-clause-ok : goal.returns-then-self-eq0-3-clause-ok
+returns-then-self-eq0-3-clause-ok c = not_shape c.args.self.now Generation (λ h. omega arith)
+
+pub returns-then-self-gt-GREATEST_TAG-clause-ok : goal.returns-then-self-gt-GREATEST_TAG-clause-ok
+returns-then-self-gt-GREATEST_TAG-clause-ok c = not_shape c.args.self.now Tag (λ h. omega (arith, h))
+
+pub returns-clause-err : goal.returns-clause-err
+returns-clause-err c =
+    let shape : IsShape c.args.self.now = record {
+      lanes = from_one c.args.self.now c.if-self-eq0.false c.if-self-gt-MOST_LANES.false;
+      first_page = c.is_first_page.ensures.0 c.if-not-is_first_page.false;
+      pages = (omega arith, omega arith);
+      generations = omega arith;
+      tag = omega arith;
+    } in
+    no_fault c.args.self.now shape
