@@ -231,3 +231,18 @@ returns-clause-same c = tt
 
 pub returns-clause-shape : goal.returns-clause-shape
 returns-clause-shape c = c.finish_step.ensures.shape
+
+pub work-requires-clause-lane : goal.work-requires-clause-lane
+work-requires-clause-lane c = c.requires.lane
+
+pub next_aim-requires-clause-lane : goal.next_aim-requires-clause-lane
+next_aim-requires-clause-lane c = c.requires.lane
+
+pub make-requires-clause-lane : goal.make-requires-clause-lane
+make-requires-clause-lane c = c.requires.lane
+
+pub note-requires-clause-lane : goal.note-requires-clause-lane
+note-requires-clause-lane c = c.requires.lane
+
+pub finish_step-requires-clause-lane : goal.finish_step-requires-clause-lane
+finish_step-requires-clause-lane c = c.requires.lane

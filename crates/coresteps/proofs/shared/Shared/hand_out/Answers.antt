@@ -5,7 +5,7 @@ use Rattle.keybits.specs.declared.shape.Shape.{Shape}
 use Rattle.traces.specs.Books.{Free, free_with, handed_first, after_own, after_chain, after_opening}
 use Rattle.traces.proofs.SlotLemmas.{not_below}
 use Rattle.coresteps.specs.declared.own.OwnList.{OwnList}
-use Rattle.coresteps.specs.OwnLists.{own_places}
+use Rattle.coresteps.specs.OwnLists.{own_places, IsOwnList}
 use Rattle.coresteps.specs.Kept.{made_acts}
 use Rattle.std.specs.Prelude.{option_copied, MatchOption}
 use Rattle.keybits.specs.Places.{place_at}
@@ -156,3 +156,43 @@ returns-clause-free c = λ places chained.
     (λ place. (c.take.new.self.opened < z.pages) × (place ≡ place_at c.args.number c.take.new.self.opened 0) × (c.open_page.new.self.opened ≡ c.take.new.self.opened + 1)
     × (own_places z c.args.number r c.open_page.new.self ≡ drop 1 (page_places z c.args.number c.take.new.self.opened)))) same c.open_page.ensures.place)
     chained
+
+-- ---- what of the rest is as before
+
+pub take-requires-clause-list : goal.take-requires-clause-list
+take-requires-clause-list c =
+    subst (λ (ring : List ℕ). IsOwnList c.args.self.now.shape ring c.args.progress.now.own) (sym c.as_slice.ensures.value) c.requires.list
+
+pub open_page-requires-clause-list : goal.open_page-requires-clause-list
+open_page-requires-clause-list c =
+    subst (λ (ring : List ℕ). IsOwnList c.args.self.now.shape ring c.take.new.self) (c.as_slice.ensures.value ∙ sym c.as_slice-2.ensures.value) c.in_default.ensures.list
+
+pub returns-in-Some-clause-list : goal.returns-in-Some-clause-list
+returns-in-Some-clause-list c =
+    subst (λ (ring : List ℕ). IsOwnList c.args.self.now.shape ring c.take.new.self) c.as_slice.ensures.value c.in-Some.ensures.list
+
+pub returns-in-Some-clause-rest : goal.returns-in-Some-clause-rest
+returns-in-Some-clause-rest c = refl
+
+pub returns-in-Some-clause-settled : goal.returns-in-Some-clause-settled
+returns-in-Some-clause-settled c = c.in-Some.ensures.settled
+
+pub returns-in-Some-chained-clause-list : goal.returns-in-Some-chained-clause-list
+returns-in-Some-chained-clause-list c =
+    subst (λ (ring : List ℕ). IsOwnList c.args.self.now.shape ring c.take.new.self) c.as_slice.ensures.value c.in_default.ensures.list
+
+pub returns-in-Some-chained-clause-rest : goal.returns-in-Some-chained-clause-rest
+returns-in-Some-chained-clause-rest c = refl
+
+pub returns-in-Some-chained-clause-settled : goal.returns-in-Some-chained-clause-settled
+returns-in-Some-chained-clause-settled c = c.in_default.ensures.settled
+
+pub returns-clause-list : goal.returns-clause-list
+returns-clause-list c =
+    subst (λ (ring : List ℕ). IsOwnList c.args.self.now.shape ring c.open_page.new.self) c.as_slice-2.ensures.value c.open_page.ensures.list
+
+pub returns-clause-rest : goal.returns-clause-rest
+returns-clause-rest c = refl
+
+pub returns-clause-settled : goal.returns-clause-settled
+returns-clause-settled c = λ none. c.open_page.ensures.settled (c.in_default.ensures.settled none)
