@@ -1,5 +1,5 @@
 use Rattle.std.proofs.Common.{◌≡◌, ◌∙◌, ◌+◌, ◌<◌, ◌/◌, ◌%◌, ◌==◌, ◌++◌, ◌∷◌, [], ℕ, List, Bool, true, false, cond, nat_lt, length, get_or, take, string_bytes, refl, sym, ap, arith}
-use Rattle.std.proofs.lemmas.Bool.{ltb-true, false≢true}
+use Rattle.std.proofs.lemmas.Bool.{false≢true}
 use Rattle.std.proofs.lemmas.List.{take_all}
 use Rattle.seqpool.specs.ActsText.{hex_digit, hex_pair, hex, content_text}
 use Rattle.seqpool.proofs.WrittenLines.{hex-more, two-digits}

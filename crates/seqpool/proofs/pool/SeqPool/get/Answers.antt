@@ -3,7 +3,7 @@ use Rattle.std.proofs.lemmas.Bool.{false≢true}
 use Rattle.std.proofs.lemmas.Option.{MatchOption-at_none}
 use Rattle.keybits.specs.Keys.{place_of}
 use Rattle.seqpool.specs.declared.act.Act.TheVariants.{Get}
-use Rattle.seqpool.specs.Pool.{Phase, with, published, home, retired, after, Spot, content_in, is_unmarked, is_current, found}
+use Rattle.seqpool.specs.Pool.{Phase, with, published, home, retired, after, Spot, content_in, is_unmarked, is_current}
 use Rattle.seqpool.specs.Rows.{pool_in, phase_of}
 use Rattle.seqpool.proofs.Acts.{gets, found-here}
 use Rattle.seqpool.proofs.pool.SeqPool.get.Goals as goal
