@@ -194,13 +194,7 @@ impl<T: Clear> Grid<T> {
     }
 
     #[inline]
-    fn mark_from_as<J: Aim>(
-        &self,
-        hand: &mut Hand<T>,
-        spot: Spot,
-        key: u64,
-        expected: u64,
-    ) -> u64
+    fn mark_from_as<J: Aim>(&self, hand: &mut Hand<T>, spot: Spot, key: u64, expected: u64) -> u64
         requires aim { (J.shape ≡ self.now.shape) × (J.key ≡ key) }
         requires hand { IsOf self.now hand.old × IsOne hand.old.me.0 }
         requires spot { IsSpot self.now.shape spot (place_of key) }
