@@ -1,6 +1,7 @@
 //! The clear of a key. A key's place is one of the pool's.
-ghost use Rattle.std.specs.Prelude.{◌∷◌, [], ◌≡◌, IfSome, true};
+ghost use Rattle.std.specs.Prelude.{◌∷◌, [], ◌≡◌, ◌==◌, ℕ, IfSome, true};
 ghost use Rattle.keybits.specs.Keys.{place_of, is_key};
+ghost use Rattle.keybits.specs.Words.{state_in};
 ghost use Rattle.seqpool.specs.declared.act.Act.TheVariants as acts;
 ghost use Rattle.steplaws.specs.Calls.Call.{Clearing};
 ghost use Rattle.steplaws.specs.declared.pending.Pending.TheVariants.{Undo};
@@ -38,25 +39,26 @@ pub fn clear<T: Clear + Drop>(
     ensures at { StandsAt (spots_at grid.now.objects.ptr grid.now.shape (place_of key)) result.1 }
 {
     let found = grid.enter(hand, at.spot, key, Purpose::ToClear);
-    let marked = is_hit(key, found) && is_present(mark(grid, hand, at.spot, key, found));
+    let marked = is_hit(key, found) && mark(grid, hand, at.spot, key, found);
     let left = grid.leave(hand, at.spot, key);
     (marked, finish_leave(grid, hand, at, left))
 }
 
 /// MARK, after the ENTER of a clear that hit and found this word. Where nobody stepped on the word since, it is one compare-exchange;
-/// else that was a look. Answers the word that was found.
+/// else that was a look. Answers whether it is this clear that marked the key.
 #[inline(always)]
-fn mark<T: Clear>(grid: &Grid<T>, hand: &mut Hand<T>, spot: Spot, key: u64, entered: u64) -> u64
+fn mark<T: Clear>(grid: &Grid<T>, hand: &mut Hand<T>, spot: Spot, key: u64, entered: u64) -> bool
+    requires present { state_in entered ≡ 1 }
     requires hand { IsOf grid.now hand.old × IsOne hand.old.me.0 }
     requires spot { IsSpot grid.now.shape spot (place_of key) }
     requires under { (the_lane hand.old.me.0).under ≡ Undo key true }
     ensures hand { SameSeat hand.old hand.new }
-    ensures marks { MarksAtLast grid.now.shape key hand.old.me result hand.new.me }
+    ensures marks { (word : ℕ) × MarksAtLast grid.now.shape key hand.old.me word hand.new.me × (result ≡ (state_in word == 1)) }
 {
     let expected = entered.wrapping_add(ONE_COUNT);
     let found = grid.mark_from(hand, spot, key, expected);
     if found == expected {
-        return found;
+        return true;
     }
-    grid.mark(hand, spot, key)
+    is_present(grid.mark(hand, spot, key))
 }

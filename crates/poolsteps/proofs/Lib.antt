@@ -1,6 +1,7 @@
 pub mod LayoutLemmas
 pub mod ViewLemmas
 pub mod PageLemmas
+mod KeyRanges
 pub mod FirstWords
 pub mod FirstSlots
 pub mod Solo

@@ -1,5 +1,6 @@
 //! The table of a pool, the hands of its lanes, and where the words of a place stand.
-ghost use Rattle.std.specs.Prelude.{◌≡◌, ◌*◌};
+ghost use Rattle.std.specs.Prelude.{◌≡◌, ◌*◌, ◌/◌};
+ghost use Rattle.keybits.specs.Keys.{key_number};
 ghost use Rattle.keybits.specs.Shapes.{IsShape};
 ghost use Rattle.keybits.specs.SameShapes.{IsShape-prop};
 ghost use Rattle.poolsteps.specs.Layout.{word_count, page_rows, slot_count, slot_row, links_start};
@@ -47,6 +48,8 @@ pub struct Grid<T: Clear> {
     pub(crate) links: usize,
     /// Where the places of each page stand.
     pub(crate) pages: Vec<PageRow>,
+    /// What the first key of each place is without its place: the pool's tag, and generation 1.
+    pub(crate) first_key: u64,
     ghost board_is: { table.shared.key ≡ record { shape = shape; directory = record { at = objects.ptr } } },
     ghost checked: { IsShape shape } by { IsShape-prop shape },
     ghost sized: { table.shared.table_id.words ≡ word_count shape },
@@ -54,4 +57,5 @@ pub struct Grid<T: Clear> {
     ghost pages_are: { pages.items ≡ page_rows shape (16 * shape.lanes) },
     ghost row_is: { row ≡ slot_row shape },
     ghost links_are: { links ≡ links_start shape },
+    ghost first_key_is: { first_key ≡ key_number shape.tag 0 1 / 16777216 },
 }

@@ -111,6 +111,7 @@ impl<T: Clear> Grid<T> {
             row: _,
             links: _,
             pages: _,
+            first_key: _,
         } = self;
         table.close_with(all)
     }

@@ -4,6 +4,7 @@ ghost use Rattle.keybits.specs.declared.step.Word.TheVariants as words;
 ghost use Rattle.poolsteps.specs.Layout.{page_row, index_in};
 ghost use Rattle.keybits.specs.declared.place.TheConstants.{PAGE_NUMBERS};
 ghost use Rattle.keybits.specs.Shapes.{IsShape, is_place};
+ghost use Rattle.keybits.specs.Keys.{is_key, place_of};
 ghost use Rattle.poolsteps.specs.Rule.{first_view};
 ghost use Rattle.poolsteps.specs.Seats.{without_first, first_alone};
 ghost use Rattle.poolsteps.specs.Grids.{IsSpot, IsOf, SameSeat, AreFirstHands};
@@ -12,7 +13,7 @@ use crate::grid::{Board, Grid, Hand, Spot};
 use crate::layout::{PageRow, first_slots, first_words, links_start, page_rows, slot_row};
 use crate::plays::Deal;
 use atomic_table::Table;
-use keybits::{PAGE_NUMBERS, Shape};
+use keybits::{PAGE_NUMBERS, Shape, place_of};
 use placecell::Base;
 use slotcell::Clear;
 use std::alloc::Global;
@@ -59,6 +60,7 @@ impl<T: Clear> Grid<T> {
             row: slot_row(&shape),
             links: links_start(&shape),
             pages,
+            first_key: (u64::from(shape.tag) << 32) + 1,
             shape,
             objects,
         };
@@ -72,6 +74,28 @@ impl<T: Clear> Grid<T> {
         ensures rest { SameSeat seat.old seat.new × (seat.new.me ≡ (without_first seat.old.me.0, seat.old.me.1)) }
     {
         self.table.shared.split_seat::<Deal>(seat)
+    }
+
+    /// Where the words and the slots of a key's place stand. None for a number that is no key of the pool.
+    #[inline]
+    pub fn find_key(&self, key: u64) -> Option<Spot>
+        ensures some { IfSome result (λ spot. IsSpot self.now.shape spot (place_of key)) }
+        ensures none { IsSome result ↔ is_key self.now.shape key ≡ true }
+    {
+        // In front of the first key of its place a number's distance to it wraps, and is longer than any to a key.
+        let behind = (key >> 24).wrapping_sub(self.first_key);
+        if behind >= u64::from(self.last_generation()) {
+            return None;
+        }
+        self.find(place_of(key))
+    }
+
+    /// The last generation of each place.
+    #[inline]
+    fn last_generation(&self) -> u32
+        ensures { result ≡ self.now.shape.last_generation }
+    {
+        self.shape.last_generation
     }
 
     /// Where the words and the slots of a place stand. None where the pool has no place of this number.

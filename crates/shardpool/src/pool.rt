@@ -21,7 +21,7 @@ use crate::rows::{
 use crate::state::LaneState;
 use crate::stores::{give_out, keep_reclaimed};
 use crate::token::{Filling, Ref};
-use keybits::{Shape, generation_of, is_hit, place_of, tag_of};
+use keybits::{Shape, is_hit, place_of};
 use placecell::Directory;
 use placerows::Objects;
 use poolcalls::{At, clear, downgrade, publish};
@@ -110,13 +110,15 @@ impl<T: Clear + Drop> Pool<T> {
         shares_law();
         let number = lane.state.number;
         let spot = self.find(key)?;
+        // Behind the ENTER a processor may make this load wait for the ENTER's store, where both stand alike in their pages.
+        let held = lane.state.rows[spot.start as usize].count;
         let found = self.grid.enter(&mut lane.hand, spot, key, Purpose::ToGet);
         if !is_hit(key, found) {
             let left = self.grid.leave(&mut lane.hand, spot, key);
             finish_if_owed(&self.grid, &mut lane.hand, &mut lane.state, spot, key, left);
             return None;
         }
-        if lane.state.rows[spot.start as usize].count > 0 {
+        if held > 0 {
             add_reference(&mut lane.state, spot.start as usize);
             return Some(spot.start);
         }
@@ -282,14 +284,6 @@ impl<T: Clear + Drop> Pool<T> {
         ensures some { IsSome result ↔ is_key self.now.shape key ≡ true }
         ensures spot { IfSome result (λ spot. IsSpot self.now.shape spot (place_of key)) }
     {
-        let shape = &self.grid.shape;
-        let generation = generation_of(key);
-        if u32::from(tag_of(key)) != shape.tag
-            || generation < 1
-            || generation > shape.last_generation
-        {
-            return None;
-        }
-        self.grid.find(place_of(key))
+        self.grid.find_key(key)
     }
 }

@@ -1,4 +1,7 @@
-use Rattle.std.proofs.Common.{[], ◌∷◌, inr, refl, sym, ◌∙◌}
+use Rattle.std.proofs.Common.{◌==◌, [], ◌∷◌, inr, refl, sym, ◌∙◌}
+use Rattle.std.proofs.lemmas.Bool.{and_parts, eqb-true}
+use Rattle.keybits.specs.Keys.{generation_of}
+use Rattle.keybits.specs.Words.{generation_in, state_in}
 use Rattle.seqpool.specs.declared.act.Act.TheVariants as acts
 use Rattle.steplaws.specs.Calls.Call.{Clearing}
 use Rattle.poolsteps.specs.Grids.{SameSeat}
@@ -13,8 +16,8 @@ opened : (g : Over) (c : goal.After-finish_leave g)
     → Opened c.args.grid.now.shape (Clearing c.args.key) (acts.Clear c.args.at.lane c.args.key c.if-is_hit.marked) c.args.hand.now.me c.if-is_hit.hand.me
 opened g c = elim c.if-is_hit.branch [
   | then-is_hit w ↦
-      rw (c.requires.at.lane, w.hand-is, w.marked-is, w.is_present-marked.ensures)
-      (clear-marks c.requires.key c.enter-found.ensures.enters (sym c.is_hit.ensures ∙ w.if-is_hit.true) w.mark.ensures.marks)
+      rw (c.requires.at.lane, w.hand-is, w.marked-is, w.mark-marked.ensures.marks.2)
+      (clear-marks c.requires.key c.enter-found.ensures.enters (sym c.is_hit.ensures ∙ w.if-is_hit.true) w.mark-marked.ensures.marks.1)
   | else-is_hit w ↦
       rw (c.requires.at.lane, w.hand-is, w.marked-is, w.if-is_hit.false)
       (clear-misses c.requires.key c.enter-found.ensures.enters (sym c.is_hit.ensures ∙ w.if-is_hit.false))
@@ -31,12 +34,13 @@ pub enter-found-requires : goal.enter-found-requires
 enter-found-requires g c =
     record { hand = c.requires.hand; spot = c.requires.at.spot; key = c.requires.key; idle = c.requires.idle; room = λ get. absurd (cc get) }
 
-pub mark-requires : goal.mark-requires
-mark-requires g c =
+pub mark-marked-requires : goal.mark-marked-requires
+mark-marked-requires g c =
     let hit = sym c.is_hit.ensures ∙ c.if-is_hit.true in
     let entered : Opens c.args.grid.now.shape (Clearing c.args.key) (enter-step c.args.key c.enter-found.result ∷ []) [] c.args.hand.now.me c.enter-found.new.hand.me
     = clear-entered c.requires.key c.enter-found.ensures.enters hit in
     record {
+      present = eqb-true (state_in c.enter-found.result) 1 (and_parts (generation_in c.enter-found.result == generation_of c.args.key) (state_in c.enter-found.result == 1) hit).1;
       hand = (c.enter-found.ensures.hand.0 ∙ c.requires.hand.0, entered.did.acted.one);
       spot = c.requires.at.spot;
       under = life-under (c.enter-found.ensures.enters.0 hit);
@@ -47,14 +51,14 @@ leave-left-requires g c =
     let opened : Opened c.args.grid.now.shape (Clearing c.args.key) (acts.Clear c.args.at.lane c.args.key c.if-is_hit.marked) c.args.hand.now.me c.if-is_hit.hand.me
     = elim c.if-is_hit.branch [
       | then-is_hit w ↦
-          rw (c.requires.at.lane, w.hand-is, w.marked-is, w.is_present-marked.ensures)
-          (clear-marks c.requires.key c.enter-found.ensures.enters (sym c.is_hit.ensures ∙ w.if-is_hit.true) w.mark.ensures.marks)
+          rw (c.requires.at.lane, w.hand-is, w.marked-is, w.mark-marked.ensures.marks.2)
+          (clear-marks c.requires.key c.enter-found.ensures.enters (sym c.is_hit.ensures ∙ w.if-is_hit.true) w.mark-marked.ensures.marks.1)
       | else-is_hit w ↦
           rw (c.requires.at.lane, w.hand-is, w.marked-is, w.if-is_hit.false)
           (clear-misses c.requires.key c.enter-found.ensures.enters (sym c.is_hit.ensures ∙ w.if-is_hit.false))
     ] in
     let same : SameSeat c.args.hand.now c.if-is_hit.hand = elim c.if-is_hit.branch [
-      | then-is_hit w ↦ rw w.hand-is (w.mark.ensures.hand.0 ∙ c.enter-found.ensures.hand.0, w.mark.ensures.hand.1 ∙ c.enter-found.ensures.hand.1)
+      | then-is_hit w ↦ rw w.hand-is (w.mark-marked.ensures.hand.0 ∙ c.enter-found.ensures.hand.0, w.mark-marked.ensures.hand.1 ∙ c.enter-found.ensures.hand.1)
       | else-is_hit w ↦ rw w.hand-is c.enter-found.ensures.hand
     ] in
     record { hand = (same.0 ∙ c.requires.hand.0, opened.opens.did.acted.one); spot = c.requires.at.spot; may = inr (opened.hit, opened.under) }
@@ -64,14 +68,14 @@ finish_leave-requires g c =
     let opened : Opened c.args.grid.now.shape (Clearing c.args.key) (acts.Clear c.args.at.lane c.args.key c.if-is_hit.marked) c.args.hand.now.me c.if-is_hit.hand.me
     = elim c.if-is_hit.branch [
       | then-is_hit w ↦
-          rw (c.requires.at.lane, w.hand-is, w.marked-is, w.is_present-marked.ensures)
-          (clear-marks c.requires.key c.enter-found.ensures.enters (sym c.is_hit.ensures ∙ w.if-is_hit.true) w.mark.ensures.marks)
+          rw (c.requires.at.lane, w.hand-is, w.marked-is, w.mark-marked.ensures.marks.2)
+          (clear-marks c.requires.key c.enter-found.ensures.enters (sym c.is_hit.ensures ∙ w.if-is_hit.true) w.mark-marked.ensures.marks.1)
       | else-is_hit w ↦
           rw (c.requires.at.lane, w.hand-is, w.marked-is, w.if-is_hit.false)
           (clear-misses c.requires.key c.enter-found.ensures.enters (sym c.is_hit.ensures ∙ w.if-is_hit.false))
     ] in
     let same : SameSeat c.args.hand.now c.if-is_hit.hand = elim c.if-is_hit.branch [
-      | then-is_hit w ↦ rw w.hand-is (w.mark.ensures.hand.0 ∙ c.enter-found.ensures.hand.0, w.mark.ensures.hand.1 ∙ c.enter-found.ensures.hand.1)
+      | then-is_hit w ↦ rw w.hand-is (w.mark-marked.ensures.hand.0 ∙ c.enter-found.ensures.hand.0, w.mark-marked.ensures.hand.1 ∙ c.enter-found.ensures.hand.1)
       | else-is_hit w ↦ rw w.hand-is c.enter-found.ensures.hand
     ] in
     let left : HasLeft c.args.grid.now.shape c.args.key c.leave-left.result c.if-is_hit.hand.me c.leave-left.new.hand.me
@@ -88,7 +92,7 @@ finish_leave-requires g c =
 pub returns-clause-hand : goal.returns-clause-hand
 returns-clause-hand g c =
     let same : SameSeat c.args.hand.now c.if-is_hit.hand = elim c.if-is_hit.branch [
-      | then-is_hit w ↦ rw w.hand-is (w.mark.ensures.hand.0 ∙ c.enter-found.ensures.hand.0, w.mark.ensures.hand.1 ∙ c.enter-found.ensures.hand.1)
+      | then-is_hit w ↦ rw w.hand-is (w.mark-marked.ensures.hand.0 ∙ c.enter-found.ensures.hand.0, w.mark-marked.ensures.hand.1 ∙ c.enter-found.ensures.hand.1)
       | else-is_hit w ↦ rw w.hand-is c.enter-found.ensures.hand
     ] in
     let left = c.leave-left.ensures.hand in

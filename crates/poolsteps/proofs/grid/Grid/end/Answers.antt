@@ -1,4 +1,3 @@
-use Rattle.poolsteps.specs.Layout.{spots_at}
 -- Each round of the loop takes in one hand more.
 use Rattle.std.proofs.Common.{rules, ◌≡◌, [], length, ap, ◌∙◌, sym, arith}
 use Rattle.std.specs.Mem.Slots.{slots_items}

@@ -25,6 +25,12 @@ use Rattle.shardpool.proofs.calls.QuietEnds.{Quieted}
 use Rattle.shardpool.proofs.pool.Pool.get_at.Given.{Over}
 use Rattle.shardpool.proofs.pool.Pool.get_at.Goals as goal
 
+-- the place has a row
+pub index-requires : goal.index-requires
+index-requires g c =
+    let before = ready {pool = c.args.self.now} c.lane.view_is c.requires.owns.1 refl c.lane.invariant.1 c.in_ok-spot.ensures.spot in
+    let low = ready-low before in omega (arith, low)
+
 pub enter-found-requires-clause-key : goal.enter-found-requires-clause-key
 enter-found-requires-clause-key g c = ap (λ p. is_key p.shape c.args.key) c.self.view_is ∙ c.in_ok-spot.ensures.some.0 refl
 
@@ -101,11 +107,6 @@ returns-then-not-is_hit-clause-fillings g c filling =
 
 -- ---- a hit, of a key that the lane has
 
-pub index-requires : goal.index-requires
-index-requires g c =
-    let before = ready c.lane.view_is c.requires.owns.1 c.self.view_is c.lane.invariant.1 c.in_ok-spot.ensures.spot in
-    let low = ready-low before in omega (arith, low)
-
 pub add_reference-requires-clause-at : goal.add_reference-requires-clause-at
 add_reference-requires-clause-at g c =
     let before = ready c.lane.view_is c.requires.owns.1 c.self.view_is c.lane.invariant.1 c.in_ok-spot.ensures.spot in
@@ -126,26 +127,26 @@ module _ (g : Over) (c : goal.After-add_reference g) where
   again-left : Gained g.T.Clear.content g.T.Clear.room c.self.inside.grid.shape c.args.key again-got.0 c.lane.inside.hand.me.0 c.enter-found.new.hand.me.0 c.lane.inside.state c.add_reference.new.state
   again-left =
       let before = ready c.lane.view_is c.requires.owns.1 c.self.view_is c.lane.invariant.1 c.in_ok-spot.ensures.spot in
-      gained-again before again-called again-got c.index.result.now c.index.ensures c.add_reference.new.state c.add_reference.ensures.rest c.if-index-gt0.true c.add_reference.ensures.rows
+      gained-again before again-called again-got c.index.result.now c.index.ensures c.add_reference.new.state c.add_reference.ensures.rest c.if-held-gt0.true c.add_reference.ensures.rows
 
-pub invariant_of-lane-then-index-gt0 : goal.invariant_of-lane-then-index-gt0
-invariant_of-lane-then-index-gt0 g c =
+pub invariant_of-lane-then-held-gt0 : goal.invariant_of-lane-then-held-gt0
+invariant_of-lane-then-held-gt0 g c =
     ((again-called g c).did.held ∙ c.lane.invariant.0, fits-own (again-left g c).fits)
 
-pub returns-then-index-gt0-clause-called : goal.returns-then-index-gt0-clause-called
-returns-then-index-gt0-clause-called g c key =
+pub returns-then-held-gt0-clause-called : goal.returns-then-held-gt0-clause-called
+returns-then-held-gt0-clause-called g c key =
     rw (← c.self.view_is, ← c.lane.view_is) (calls-more (again-called g c) (omega arith))
 
-pub returns-then-index-gt0-clause-gets : goal.returns-then-index-gt0-clause-gets
-returns-then-index-gt0-clause-gets g c key =
+pub returns-then-held-gt0-clause-gets : goal.returns-then-held-gt0-clause-gets
+returns-then-held-gt0-clause-gets g c key =
     rw (← c.lane.view_is) (refl, (again-left g c).holds, (again-got g c).0, (again-left g c).did c.lane.inside.hand.table_id c.enter-found.new.hand.table_id c.enter-found.ensures.hand.0)
 
-pub returns-then-index-gt0-clause-refs : goal.returns-then-index-gt0-clause-refs
-returns-then-index-gt0-clause-refs g c =
+pub returns-then-held-gt0-clause-refs : goal.returns-then-held-gt0-clause-refs
+returns-then-held-gt0-clause-refs g c =
     rw (← c.lane.view_is) (again-left g c).refs
 
-pub returns-then-index-gt0-clause-fillings : goal.returns-then-index-gt0-clause-fillings
-returns-then-index-gt0-clause-fillings g c filling =
+pub returns-then-held-gt0-clause-fillings : goal.returns-then-held-gt0-clause-fillings
+returns-then-held-gt0-clause-fillings g c filling =
     rw (← c.lane.view_is) ((again-left g c).fillings c.lane.inside.hand.table_id c.enter-found.new.hand.table_id c.enter-found.ensures.hand.0 filling)
 
 -- ---- a hit, of a key that the lane has not yet
@@ -158,7 +159,7 @@ out-share-requires-clause-may g c =
 pub out-share-requires-clause-left : goal.out-share-requires-clause-left
 out-share-requires-clause-left g c =
     let before = ready c.lane.view_is c.requires.owns.1 c.self.view_is c.lane.invariant.1 c.in_ok-spot.ensures.spot in
-    let some = c.if-index-gt0.false in
+    let some = c.if-held-gt0.false in
     let none : c.index.result.now.count ≡ 0 = omega (arith, some) in
     hit-untouched before (get-hits (ap (λ p. is_key p.shape c.args.key) c.self.view_is ∙ c.in_ok-spot.ensures.some.0 refl) c.enter-found.ensures.enters (sym c.is_hit.ensures ∙ c.if-not-is_hit.false)) (hit-tells (ap (λ p. is_key p.shape c.args.key) c.self.view_is ∙ c.in_ok-spot.ensures.some.0 refl) c.enter-found.ensures.enters (sym c.is_hit.ensures ∙ c.if-not-is_hit.false)) c.index.result.now c.index.ensures none
 
@@ -177,7 +178,7 @@ module _ (g : Over) (c : goal.After-add_first_reference g) where
   first-left : Gained g.T.Clear.content g.T.Clear.room c.self.inside.grid.shape c.args.key first-got.0 c.lane.inside.hand.me.0 c.out-share.new.hand.me.0 c.lane.inside.state c.add_first_reference.new.state
   first-left =
       let before = ready c.lane.view_is c.requires.owns.1 c.self.view_is c.lane.invariant.1 c.in_ok-spot.ensures.spot in
-      let some = c.if-index-gt0.false in
+      let some = c.if-held-gt0.false in
       let none : c.index.result.now.count ≡ 0 = omega (arith, some) in
       gained-first before first-called first-got c.index.result.now c.index.ensures c.add_first_reference.new.state c.add_first_reference.ensures.rest
       (same-directory c.lane.view_is c.requires.owns.2 c.self.view_is) none c.out-share.ensures.outs c.add_first_reference.ensures.rows
@@ -214,8 +215,8 @@ returns-then-not-is_hit-clause-no_more g c none k =
     let inside = c.in_ok-spot.ensures.some.0 refl in
     get-holds (returns-then-not-is_hit-clause-called g c inside) (returns-then-not-is_hit-clause-gets g c inside).1 k
 
-pub returns-then-index-gt0-clause-one_more : goal.returns-then-index-gt0-clause-one_more
-returns-then-index-gt0-clause-one_more g c some k = (returns-then-index-gt0-clause-gets g c (c.in_ok-spot.ensures.some.0 refl)).3.held k
+pub returns-then-held-gt0-clause-one_more : goal.returns-then-held-gt0-clause-one_more
+returns-then-held-gt0-clause-one_more g c some k = (returns-then-held-gt0-clause-gets g c (c.in_ok-spot.ensures.some.0 refl)).3.held k
 
 pub returns-clause-one_more : goal.returns-clause-one_more
 returns-clause-one_more g c some k = (returns-clause-gets g c (c.in_ok-spot.ensures.some.0 refl)).3.held k
@@ -225,8 +226,8 @@ returns-clause-one_more g c some k = (returns-clause-gets g c (c.in_ok-spot.ensu
 pub returns-then-not-is_hit-clause-same : goal.returns-then-not-is_hit-clause-same
 returns-then-not-is_hit-clause-same g c = (returns-then-not-is_hit-clause-gets g c (c.in_ok-spot.ensures.some.0 refl)).1.same
 
-pub returns-then-index-gt0-clause-same : goal.returns-then-index-gt0-clause-same
-returns-then-index-gt0-clause-same g c = (returns-then-index-gt0-clause-gets g c (c.in_ok-spot.ensures.some.0 refl)).3.same
+pub returns-then-held-gt0-clause-same : goal.returns-then-held-gt0-clause-same
+returns-then-held-gt0-clause-same g c = (returns-then-held-gt0-clause-gets g c (c.in_ok-spot.ensures.some.0 refl)).3.same
 
 pub returns-clause-same : goal.returns-clause-same
 returns-clause-same g c = (returns-clause-gets g c (c.in_ok-spot.ensures.some.0 refl)).3.same
@@ -236,8 +237,8 @@ returns-clause-same g c = (returns-clause-gets g c (c.in_ok-spot.ensures.some.0 
 pub returns-then-not-is_hit-clause-owns : goal.returns-then-not-is_hit-clause-owns
 returns-then-not-is_hit-clause-owns g c = let same = returns-then-not-is_hit-clause-same g c in (same.0 ∙ c.requires.owns.0, same.1 ∙ c.requires.owns.1, same.3 ∙ c.requires.owns.2)
 
-pub returns-then-index-gt0-clause-owns : goal.returns-then-index-gt0-clause-owns
-returns-then-index-gt0-clause-owns g c = let same = returns-then-index-gt0-clause-same g c in (same.0 ∙ c.requires.owns.0, same.1 ∙ c.requires.owns.1, same.3 ∙ c.requires.owns.2)
+pub returns-then-held-gt0-clause-owns : goal.returns-then-held-gt0-clause-owns
+returns-then-held-gt0-clause-owns g c = let same = returns-then-held-gt0-clause-same g c in (same.0 ∙ c.requires.owns.0, same.1 ∙ c.requires.owns.1, same.3 ∙ c.requires.owns.2)
 
 pub returns-clause-owns : goal.returns-clause-owns
 returns-clause-owns g c = let same = returns-clause-same g c in (same.0 ∙ c.requires.owns.0, same.1 ∙ c.requires.owns.1, same.3 ∙ c.requires.owns.2)
@@ -247,17 +248,17 @@ returns-clause-owns g c = let same = returns-clause-same g c in (same.0 ∙ c.re
 pub returns-then-not-is_hit-clause-outside : goal.returns-then-not-is_hit-clause-outside
 returns-then-not-is_hit-clause-outside g c out = let bad : true ≡ false = sym (c.in_ok-spot.ensures.some.0 refl) ∙ out in absurd (cc bad)
 
-pub returns-then-index-gt0-clause-outside : goal.returns-then-index-gt0-clause-outside
-returns-then-index-gt0-clause-outside g c out = let bad : true ≡ false = sym (c.in_ok-spot.ensures.some.0 refl) ∙ out in absurd (cc bad)
+pub returns-then-held-gt0-clause-outside : goal.returns-then-held-gt0-clause-outside
+returns-then-held-gt0-clause-outside g c out = let bad : true ≡ false = sym (c.in_ok-spot.ensures.some.0 refl) ∙ out in absurd (cc bad)
 
 pub returns-clause-outside : goal.returns-clause-outside
 returns-clause-outside g c out = let bad : true ≡ false = sym (c.in_ok-spot.ensures.some.0 refl) ∙ out in absurd (cc bad)
 
 -- ---- it has the reference
 
-pub returns-then-index-gt0-clause-held : goal.returns-then-index-gt0-clause-held
-returns-then-index-gt0-clause-held g c =
-    let gets = returns-then-index-gt0-clause-gets g c (c.in_ok-spot.ensures.some.0 refl) in (c.in_ok-spot.ensures.spot.start, gets.1)
+pub returns-then-held-gt0-clause-held : goal.returns-then-held-gt0-clause-held
+returns-then-held-gt0-clause-held g c =
+    let gets = returns-then-held-gt0-clause-gets g c (c.in_ok-spot.ensures.some.0 refl) in (c.in_ok-spot.ensures.spot.start, gets.1)
 
 pub returns-clause-held : goal.returns-clause-held
 returns-clause-held g c =
@@ -271,11 +272,11 @@ returns-then-not-is_hit-clause-missed g c none = missed-since _ _ _ _ (returns-t
 pub returns-then-not-is_hit-clause-seen : goal.returns-then-not-is_hit-clause-seen
 returns-then-not-is_hit-clause-seen g c = seen-of (returns-then-not-is_hit-clause-gets g c (c.in_ok-spot.ensures.some.0 refl)).1.goes
 
-pub returns-then-index-gt0-clause-found : goal.returns-then-index-gt0-clause-found
-returns-then-index-gt0-clause-found g c some = found-since _ _ _ _ (returns-then-index-gt0-clause-gets g c (c.in_ok-spot.ensures.some.0 refl)).3
+pub returns-then-held-gt0-clause-found : goal.returns-then-held-gt0-clause-found
+returns-then-held-gt0-clause-found g c some = found-since _ _ _ _ (returns-then-held-gt0-clause-gets g c (c.in_ok-spot.ensures.some.0 refl)).3
 
-pub returns-then-index-gt0-clause-seen : goal.returns-then-index-gt0-clause-seen
-returns-then-index-gt0-clause-seen g c = seen-of (returns-then-index-gt0-clause-gets g c (c.in_ok-spot.ensures.some.0 refl)).3.goes
+pub returns-then-held-gt0-clause-seen : goal.returns-then-held-gt0-clause-seen
+returns-then-held-gt0-clause-seen g c = seen-of (returns-then-held-gt0-clause-gets g c (c.in_ok-spot.ensures.some.0 refl)).3.goes
 
 pub returns-clause-found : goal.returns-clause-found
 returns-clause-found g c some = found-since _ _ _ _ (returns-clause-gets g c (c.in_ok-spot.ensures.some.0 refl)).3
@@ -339,11 +340,11 @@ returns-then-not-is_hit-clause-held g c = tt
 pub returns-then-not-is_hit-clause-one_more : goal.returns-then-not-is_hit-clause-one_more
 returns-then-not-is_hit-clause-one_more g c = λ some. absurd (false≢true some)
 
-pub returns-then-index-gt0-clause-missed : goal.returns-then-index-gt0-clause-missed
-returns-then-index-gt0-clause-missed g c = λ none. absurd (false≢true (sym none))
+pub returns-then-held-gt0-clause-missed : goal.returns-then-held-gt0-clause-missed
+returns-then-held-gt0-clause-missed g c = λ none. absurd (false≢true (sym none))
 
-pub returns-then-index-gt0-clause-no_more : goal.returns-then-index-gt0-clause-no_more
-returns-then-index-gt0-clause-no_more g c = λ none. absurd (false≢true (sym none))
+pub returns-then-held-gt0-clause-no_more : goal.returns-then-held-gt0-clause-no_more
+returns-then-held-gt0-clause-no_more g c = λ none. absurd (false≢true (sym none))
 
 pub returns-clause-missed : goal.returns-clause-missed
 returns-clause-missed g c = λ none. absurd (false≢true (sym none))
