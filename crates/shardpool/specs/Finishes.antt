@@ -1,9 +1,10 @@
 -- What a lane does behind a LEAVE, and keeps of it.
-use Rattle.std.specs.Prelude.{◌≡◌, ◌<◌, ℕ, List, [], Option, Some, IfSome, length, slice_index}
+use Rattle.std.specs.Prelude.{◌≡◌, ◌<◌, ℕ, false, List, [], Option, Some, IfSome, length, slice_index}
 use denote.RawPtr.{Ptr}
 use Rattle.atomic_table.specs.Table.{Me}
 use Rattle.placecell.specs.Whole.{Whole}
 use Rattle.keybits.specs.declared.shape.Shape.{Shape}
+use Rattle.keybits.specs.Keys.{place_of}
 use Rattle.keybits.specs.Places.{shard_of}
 use Rattle.keybits.specs.Shapes.{IsShape, shard_places}
 use Rattle.freelists.specs.Shards.{place_numbered}
@@ -11,9 +12,11 @@ use Rattle.freelists.specs.Queues.{IsAway}
 use Rattle.poolsteps.specs.declared.view.View.{View}
 use Rattle.poolsteps.specs.Views.{the_lane, pushed_in}
 use Rattle.poolsteps.specs.Layout.{slot_row, shard_start}
+use Rattle.poolsteps.specs.Told.{Leaves}
+use Rattle.steplaws.specs.declared.pending.Pending.TheVariants.{Undo}
 use Rattle.poolcalls.specs.declared.reclaimed.Reclaimed.{Reclaimed}
 use Rattle.poolcalls.specs.declared.reclaimed.Reclaimed.TheVariants.{Own}
-use Rattle.poolcalls.specs.Called.{Ends, EndsWithActs, IsReclaimed}
+use Rattle.poolcalls.specs.Called.{Ends, EndsWithActs, IsLawful, IsReclaimed}
 use Rattle.shardpool.specs.declared.state.LaneState.{LaneState}
 use Rattle.shardpool.specs.Stores.{Keeps}
 
@@ -42,3 +45,17 @@ module _ {S T : Type 0} (content : T → List ℕ) (room : T → ℕ) (z : Shape
     pub acts : EndsWithActs z place [] before.0 after.0 reclaimed
     pub told : IfSome reclaimed (IsReclaimed content room z place s.number after.0)
     pub kept : Keeps place reclaimed s t
+
+module _ {S T : Type 0} (content : T → List ℕ) (room : T → ℕ) (z : Shape) (key : ℕ) where
+  -- a call of the key entered and missed: it may undo its ENTER, and whatever follows that
+  pub record MayMiss (directory : Ptr) (before : Me S View) (s : LaneState T) : Type 0 where
+    pub under : (the_lane before.0).under ≡ Undo key false
+    pub left : (found : ℕ) (left : Me S View) → Leaves z key before found left
+        → IsLawful z left.0 × IsKeeper z directory (place_of key) left.0 s × MayFinish content room z (place_of key) found left s
+
+  -- the ENTER was undone, and what follows that was done
+  pub record Misses (before after : Me S View) (s t : LaneState T) : Type 0 where
+    pub found : ℕ
+    pub left : Me S View
+    pub leaves : Leaves z key before found left
+    pub finishes : Finishes content room z (place_of key) found left after s t

@@ -7,7 +7,7 @@ ghost use Rattle.poolsteps.specs.Layout.{slot_start};
 ghost use Rattle.poolsteps.specs.Views.{the_lane, IsOne};
 ghost use Rattle.poolsteps.specs.Grids.{IsSpot, IsOf, SameSeat};
 ghost use Rattle.poolcalls.specs.Called.{IsLawful};
-ghost use Rattle.shardpool.specs.Finishes.{IsKeeper, MayFinish, Finishes};
+ghost use Rattle.shardpool.specs.Finishes.{IsKeeper, MayFinish, Finishes, MayMiss, Misses};
 
 use crate::state::LaneState;
 use crate::stores::keep_reclaimed;
@@ -76,4 +76,25 @@ fn finish<T: Clear + Drop>(
     };
     let reclaimed = finish_leave(grid, hand, at, found);
     keep_reclaimed(state, spot, reclaimed);
+}
+
+/// The end of a call whose ENTER missed: its LEAVE, and what follows that. Apart from the call's own path, so that the hit is likely there.
+#[cold]
+#[inline(never)]
+pub(crate) fn end_miss<T: Clear + Drop>(
+    grid: &Grid<T>,
+    hand: &mut Hand<T>,
+    state: &mut LaneState<T>,
+    spot: Spot,
+    key: u64,
+)
+    requires hand { IsOf grid.now hand.old × IsOne hand.old.me.0 }
+    requires bare { hand.old.me.1 ≡ [] }
+    requires spot { IsSpot grid.now.shape spot (place_of key) }
+    requires may { MayMiss T.content T.room grid.now.shape key grid.now.objects.ptr hand.old.me state.old }
+    ensures hand { SameSeat hand.old hand.new }
+    ensures misses { Misses T.content T.room grid.now.shape key hand.old.me hand.new.me state.old state.new }
+{
+    let left = grid.leave(hand, spot, key);
+    finish_if_owed(grid, hand, state, spot, key, left);
 }

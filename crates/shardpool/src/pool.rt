@@ -13,7 +13,7 @@ ghost use Rattle.shardpool.specs.Tokens.{FillingOf};
 ghost use Rattle.shardpool.specs.Lanes.{Owns, Made, SameLane, Calls, Did, Gets, holds, refs};
 ghost use Rattle.shardpool.specs.Seen.{PublishedSince, FoundSince, MissedSince, ClearedSince};
 
-use crate::ends::finish_if_owed;
+use crate::ends::{end_miss, finish_if_owed};
 use crate::lane::Lane;
 use crate::rows::{
     add_first_reference, add_reference, count_to, drop_reference, return_last_share,
@@ -114,8 +114,7 @@ impl<T: Clear + Drop> Pool<T> {
         let held = lane.state.rows[spot.start as usize].count;
         let found = self.grid.enter(&mut lane.hand, spot, key, Purpose::ToGet);
         if !is_hit(key, found) {
-            let left = self.grid.leave(&mut lane.hand, spot, key);
-            finish_if_owed(&self.grid, &mut lane.hand, &mut lane.state, spot, key, left);
+            end_miss(&self.grid, &mut lane.hand, &mut lane.state, spot, key);
             return None;
         }
         if held > 0 {

@@ -43,47 +43,37 @@ enter-found-requires-clause-room g c _ =
 
 -- ---- a miss
 
-pub leave-left-requires-clause-may : goal.leave-left-requires-clause-may
-leave-left-requires-clause-may g c =
-    let opened = get-misses (ap (λ p. is_key p.shape c.args.key) c.self.view_is ∙ c.in_ok-spot.ensures.some.0 refl) c.enter-found.ensures.enters (sym c.is_hit.ensures ∙ c.if-not-is_hit.true) in inr (opened.hit, opened.under)
+pub end_miss-requires-clause-bare : goal.end_miss-requires-clause-bare
+end_miss-requires-clause-bare g c = (c.enter-found.ensures.enters.1 (sym c.is_hit.ensures ∙ c.if-not-is_hit.true)).held ∙ c.lane.invariant.0
 
-pub finish_if_owed-requires-clause-bare : goal.finish_if_owed-requires-clause-bare
-finish_if_owed-requires-clause-bare g c = (c.leave-left.ensures.leaves.1 false (life-under (c.enter-found.ensures.enters.1 (sym c.is_hit.ensures ∙ c.if-not-is_hit.true)))).held
-    ∙ ((c.enter-found.ensures.enters.1 (sym c.is_hit.ensures ∙ c.if-not-is_hit.true)).held ∙ c.lane.invariant.0)
-
-pub finish_if_owed-requires-clause-seen : goal.finish_if_owed-requires-clause-seen
-finish_if_owed-requires-clause-seen g c =
-    let opened = get-misses (ap (λ p. is_key p.shape c.args.key) c.self.view_is ∙ c.in_ok-spot.ensures.some.0 refl) c.enter-found.ensures.enters (sym c.is_hit.ensures ∙ c.if-not-is_hit.true) in
-    let left = has-left (inr (opened.hit, opened.under)) c.leave-left.ensures.leaves in lawful {made = left.made} left.acted
-
-pub finish_if_owed-requires-clause-keeper : goal.finish_if_owed-requires-clause-keeper
-finish_if_owed-requires-clause-keeper g c =
+pub end_miss-requires-clause-may : goal.end_miss-requires-clause-may
+end_miss-requires-clause-may g c =
     let before = ready c.lane.view_is c.requires.owns.1 c.self.view_is c.lane.invariant.1 c.in_ok-spot.ensures.spot in
-    let opened = get-misses (ap (λ p. is_key p.shape c.args.key) c.self.view_is ∙ c.in_ok-spot.ensures.some.0 refl) c.enter-found.ensures.enters (sym c.is_hit.ensures ∙ c.if-not-is_hit.true) in
-    let left = has-left (inr (opened.hit, opened.under)) c.leave-left.ensures.leaves in
-    keeper (fits-beside before.fits) (same-directory c.lane.view_is c.requires.owns.2 c.self.view_is) before.there.inside
-    (left.acted.lane ∙ opened.opens.did.acted.lane) (left.pushed ∙ opened.opens.pushed)
+    let opened = get-misses (ap (λ p. is_key p.shape c.args.key) c.self.view_is ∙ c.in_ok-spot.ensures.some.0 refl) c.enter-found.ensures.enters (sym c.is_hit.ensures ∙ c.if-not-is_hit.true) in record {
+      under = life-under (c.enter-found.ensures.enters.1 (sym c.is_hit.ensures ∙ c.if-not-is_hit.true));
+      left = λ found after_leave leaves.
+          let left = has-left (inr (opened.hit, opened.under)) leaves in (
+            lawful {made = left.made} left.acted,
+            keeper (fits-beside before.fits) (same-directory c.lane.view_is c.requires.owns.2 c.self.view_is) before.there.inside
+                (left.acted.lane ∙ opened.opens.did.acted.lane) (left.pushed ∙ opened.opens.pushed),
+            λ after reclaimed ends acts_so told. missed-away before reclaimed (called-after opened refl leaves refl ends)
+                (acts-behind opened refl leaves refl ends reclaimed acts_so, rw before.fits.seat.number_is at told),
+          );
+    }
 
-pub finish_if_owed-requires-clause-may : goal.finish_if_owed-requires-clause-may
-finish_if_owed-requires-clause-may g c after reclaimed ends acts_so told =
-    let before = ready c.lane.view_is c.requires.owns.1 c.self.view_is c.lane.invariant.1 c.in_ok-spot.ensures.spot in
-    let opened = get-misses (ap (λ p. is_key p.shape c.args.key) c.self.view_is ∙ c.in_ok-spot.ensures.some.0 refl) c.enter-found.ensures.enters (sym c.is_hit.ensures ∙ c.if-not-is_hit.true) in
-    missed-away before reclaimed (called-after opened refl c.leave-left.ensures.leaves refl ends)
-    (acts-behind opened refl c.leave-left.ensures.leaves refl ends reclaimed acts_so, rw before.fits.seat.number_is at told)
-
-module _ (g : Over) (c : goal.After-finish_if_owed g) where
-  missed-called : Called c.self.inside.grid.shape (Getting c.args.key) 34 c.lane.inside.hand.me c.finish_if_owed.new.hand.me
+module _ (g : Over) (c : goal.After-end_miss g) where
+  missed-called : Called c.self.inside.grid.shape (Getting c.args.key) 34 c.lane.inside.hand.me c.end_miss.new.hand.me
   missed-called =
       let opened = get-misses (ap (λ p. is_key p.shape c.args.key) c.self.view_is ∙ c.in_ok-spot.ensures.some.0 refl) c.enter-found.ensures.enters (sym c.is_hit.ensures ∙ c.if-not-is_hit.true) in
-      called-after opened refl c.leave-left.ensures.leaves refl c.finish_if_owed.ensures.finishes.ends
+      called-after opened refl c.end_miss.ensures.misses.leaves refl c.end_miss.ensures.misses.finishes.ends
 
-  missed-left : Quieted g.T.Clear.content g.T.Clear.room c.self.inside.grid.shape (acts.Get c.lane.inside.state.number c.args.key None ∷ []) c.lane.inside.hand.me.0 c.finish_if_owed.new.hand.me.0 c.lane.inside.state c.finish_if_owed.new.state
+  missed-left : Quieted g.T.Clear.content g.T.Clear.room c.self.inside.grid.shape (acts.Get c.lane.inside.state.number c.args.key None ∷ []) c.lane.inside.hand.me.0 c.end_miss.new.hand.me.0 c.lane.inside.state c.end_miss.new.state
   missed-left =
       let before = ready c.lane.view_is c.requires.owns.1 c.self.view_is c.lane.invariant.1 c.in_ok-spot.ensures.spot in
-      let told = c.finish_if_owed.ensures.finishes in
+      let told = c.end_miss.ensures.misses.finishes in
       let opened = get-misses (ap (λ p. is_key p.shape c.args.key) c.self.view_is ∙ c.in_ok-spot.ensures.some.0 refl) c.enter-found.ensures.enters (sym c.is_hit.ensures ∙ c.if-not-is_hit.true) in
-      missed before told.reclaimed c.finish_if_owed.new.state told.kept missed-called
-      (acts-behind opened refl c.leave-left.ensures.leaves refl told.ends told.reclaimed told.acts, rw before.fits.seat.number_is at told.told)
+      missed before told.reclaimed c.end_miss.new.state told.kept missed-called
+      (acts-behind opened refl c.end_miss.ensures.misses.leaves refl told.ends told.reclaimed told.acts, rw before.fits.seat.number_is at told.told)
 
 pub invariant_of-lane : goal.invariant_of-lane
 invariant_of-lane g c =
@@ -95,7 +85,7 @@ returns-then-not-is_hit-clause-called g c key =
 
 pub returns-then-not-is_hit-clause-gets : goal.returns-then-not-is_hit-clause-gets
 returns-then-not-is_hit-clause-gets g c key =
-    rw (← c.lane.view_is) ((missed-left g c).did c.lane.inside.hand.table_id c.finish_if_owed.new.hand.table_id (c.finish_if_owed.ensures.hand.0 ∙ (c.leave-left.ensures.hand.0 ∙ c.enter-found.ensures.hand.0)))
+    rw (← c.lane.view_is) ((missed-left g c).did c.lane.inside.hand.table_id c.end_miss.new.hand.table_id (c.end_miss.ensures.hand.0 ∙ c.enter-found.ensures.hand.0))
 
 pub returns-then-not-is_hit-clause-refs : goal.returns-then-not-is_hit-clause-refs
 returns-then-not-is_hit-clause-refs g c =
@@ -103,7 +93,7 @@ returns-then-not-is_hit-clause-refs g c =
 
 pub returns-then-not-is_hit-clause-fillings : goal.returns-then-not-is_hit-clause-fillings
 returns-then-not-is_hit-clause-fillings g c filling =
-    rw (← c.lane.view_is) ((missed-left g c).fillings c.lane.inside.hand.table_id c.finish_if_owed.new.hand.table_id (c.finish_if_owed.ensures.hand.0 ∙ (c.leave-left.ensures.hand.0 ∙ c.enter-found.ensures.hand.0)) filling)
+    rw (← c.lane.view_is) ((missed-left g c).fillings c.lane.inside.hand.table_id c.end_miss.new.hand.table_id (c.end_miss.ensures.hand.0 ∙ c.enter-found.ensures.hand.0) filling)
 
 -- ---- a hit, of a key that the lane has
 
