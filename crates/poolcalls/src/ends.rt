@@ -7,6 +7,7 @@ ghost use Rattle.poolsteps.specs.Layout.{spots_at};
 ghost use Rattle.poolsteps.specs.Views.{the_lane, known_of, IsOne};
 ghost use Rattle.poolsteps.specs.Grids.{IsOf, SameSeat};
 ghost use Rattle.poolsteps.specs.Told.{HasPlace, LeftAlone, claimed_under};
+ghost use Rattle.placecell.specs.Spot.{IsAt as StandsIn};
 ghost use Rattle.poolcalls.specs.AtPlace.{IsAt};
 ghost use Rattle.poolcalls.specs.Called.{EndsWithActs, TailActs, IsLawful, Ends, Tails, IsReclaimed, StandsAt};
 
@@ -15,8 +16,10 @@ use crate::cells::{rest_cell, take_cell};
 use crate::homes::give_home;
 use crate::reclaimed::Reclaimed;
 use keybits::{Life, claimable, owes_claim, shard_of};
+use placecell::{Base, Vacancy, Whole};
 use poolsteps::{Grid, Hand, shares_law};
 use slotcell::Clear;
+use std::alloc::Global;
 
 /// What follows a LEAVE that found this word: where it left (g, MARKED, 0), the CLAIM of g; and where that succeeded, the
 /// place's object is cleared in place, and a place of another shard returned. None where no place was reclaimed. It takes no
@@ -83,9 +86,7 @@ fn reclaim_place<T: Clear + Drop>(
     let start = at.spot.start as usize;
     let mut whole = take_cell(grid, hand, at.spot, at.lane);
     if generation == grid.shape.last_generation {
-        let (vacancy, object) = whole.take(grid.objects, start);
-        drop(object);
-        return Reclaimed::Retired(vacancy);
+        return Reclaimed::Retired(vacate(grid.objects, start, whole));
     }
     whole.get_mut(grid.objects, start).clear();
     if shard_of(at.spot.place) == at.lane {
@@ -94,4 +95,16 @@ fn reclaim_place<T: Clear + Drop>(
     rest_cell(grid, hand, at.spot, at.lane, whole);
     give_home(grid, hand, at);
     Reclaimed::Returned
+}
+
+/// Drops the object of a place that gets none any more. Apart, for each place comes here once at most.
+#[cold]
+#[inline(never)]
+fn vacate<T: Drop>(objects: Base<Box<T, Global>>, start: usize, whole: Whole<T>) -> Vacancy<T>
+    requires { StandsIn whole.spot objects.ptr start }
+    ensures { result ≡ whole.spot }
+{
+    let (vacancy, object) = whole.take(objects, start);
+    drop(object);
+    vacancy
 }

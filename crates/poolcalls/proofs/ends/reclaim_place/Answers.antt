@@ -121,8 +121,8 @@ returns-clause-hand g c =
 pub get_mut-requires : goal.get_mut-requires
 get_mut-requires g c = stands-in c.requires.at.spot c.take_cell-whole.ensures.cell.2
 
-pub take-vacancy-requires : goal.take-vacancy-requires
-take-vacancy-requires g c = stands-in c.requires.at.spot c.take_cell-whole.ensures.cell.2
+pub vacate-requires : goal.vacate-requires
+vacate-requires g c = stands-in c.requires.at.spot c.take_cell-whole.ensures.cell.2
 
 pub returns-then-generation-grid-clause-at : goal.returns-then-generation-grid-clause-at
-returns-then-generation-grid-clause-at g c = c.take-vacancy.ensures.0 ∙ c.take_cell-whole.ensures.cell.2
+returns-then-generation-grid-clause-at g c = c.vacate.ensures ∙ c.take_cell-whole.ensures.cell.2
