@@ -1,4 +1,4 @@
-use Rattle.std.proofs.Common.{◌≡◌, inl, inr, sym, ◌∙◌, arith, eq-eqb}
+use Rattle.std.proofs.Common.{◌≡◌, inl, inr, sym, arith, eq-eqb}
 use Rattle.keybits.specs.Words.{state_in}
 use Rattle.poolcalls.proofs.calls.mark.Goals as goal
 
