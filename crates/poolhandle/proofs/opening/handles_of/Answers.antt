@@ -11,3 +11,6 @@ close_lanes-requires-in-Err c = record {
   owned = subst (λ (pool : PoolOf). All (λ (lane : LaneOf). Owns pool lane) c.args.lanes.items) (sym (ap (λ (shared : Shared). shared.pool) c.in-Err.ensures.value_returned))
       (owned-next 0 c.args.lanes.items (first-lanes c.requires));
 }
+
+pub close_lanes-requires : goal.close_lanes-requires
+close_lanes-requires c = record { owned = owned-next 0 c.args.lanes.items (first-lanes c.requires) }
