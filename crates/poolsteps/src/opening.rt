@@ -90,7 +90,7 @@ impl<T: Clear> Grid<T> {
         self.find(place_of(key))
     }
 
-    /// The last generation of each place.
+    /// The last generation of each place. A call, since a proof knows of its answer that it fits 32 bits.
     #[inline]
     fn last_generation(&self) -> u32
         ensures { result ≡ self.now.shape.last_generation }

@@ -489,6 +489,26 @@ fn enters_and_leaves_on_two_threads(rt: HostRuntime) {
     is_word(&rt, found, 4294967296);
 }
 
+/// Whether a number leads to a place of the grid is this.
+fn finds<R: Abort>(rt: &R, grid: &Grid<ByteBuf>, number: u64, found: bool) {
+    same(rt, &grid.find_key(number).is_some(), &found);
+}
+
+#[test]
+fn finds_keys(rt: HostRuntime) {
+    let mut directory = directory_of(&rt, rt.alloc(), 1);
+    let (grid, _first, _second) = grid_of_two(&rt, rt.alloc(), directory.base());
+    // Generations 0 to 3 of the first place, of which 1 and 2 are the shape's.
+    finds(&rt, &grid, 0, false);
+    finds(&rt, &grid, 16777216, true);
+    finds(&rt, &grid, 33554432, true);
+    finds(&rt, &grid, 50331648, false);
+    // The second lane's place, one behind it, and the first place under another tag.
+    finds(&rt, &grid, 16842752, true);
+    finds(&rt, &grid, 16842753, false);
+    finds(&rt, &grid, 72057594054705152, false);
+}
+
 /// A grid of this shape is made and ended.
 fn makes_and_ends<R: Abort>(rt: &R, alloc: Global, shape: Shape) {
     assert!(rt; shape.check().is_ok());
