@@ -6,7 +6,8 @@
 //! `bare` is two fetch_adds on a word of the thread's own, and `alu` a round in registers alone. The other cases are
 //! PEER-ROUNDS. The peers:
 //!
-//! - `slab`: the `Pool` of the real sharded-slab, as Debian has it;
+//! - `slab`: the `Pool` of the real sharded-slab, as Debian has it; `slab16k` with buffers of 16 KiB, `slab192` with objects of 192
+//!   bytes;
 //! - `map`: a hash map of buffers behind a `Mutex`;
 //! - `stack`: a stack of spare buffers behind a `Mutex`, from which a thread takes one to own it;
 //! - `local`: a list of spare buffers for each thread, each an `Arc<Mutex<..>>`, of which a handle is a clone;
@@ -17,7 +18,10 @@
 //! - `get-own`, `get-shared`, `get-others`: the length of one buffer is read, which the thread itself, the first thread or
 //!   the next thread has put;
 //! - `get-many`: the same of 16 own buffers in turn;
+//! - `get-two`, `cycle-two`: `get-many` and `cycle` from two places of call, one after the other;
 //! - `cycle`: a buffer is put and taken away;
+//! - `held`: a buffer is put, and taken away while it is read;
+//! - `miss`: a buffer that was taken away is taken away again (`slab`, `map`);
 //! - `churn`: 24 buffers are live: the oldest is taken away, and a new one put;
 //! - `pass`: a buffer is put by one thread and taken away by another, for an even number of threads (`slab`, `map`);
 //! - `page`: a fresh store is given 1,985 buffers, and dropped (`slab`, `map`).
@@ -130,11 +134,56 @@ fn get_many<S: Store>(store: &S, plan: Plan) -> u64 {
     })
 }
 
+/// The same, two rounds one after the other from two places of call.
+fn get_two<S: Store>(store: &S, plan: Plan) -> u64 {
+    on_threads(plan.threads, |_| {
+        let handles: [S::Handle; MANY] = std::array::from_fn(|_| store.put());
+        (0..plan.rounds / 2)
+            .map(|round| {
+                let first = (round % (MANY as u64 / 2)) as usize;
+                let bytes = store.read(&handles[first]) as u64;
+                bytes + store.read(&handles[first + MANY / 2]) as u64
+            })
+            .sum()
+    })
+}
+
 /// Each thread puts a buffer and takes it away.
 fn cycle<S: Store>(store: &S, plan: Plan) -> u64 {
     on_threads(plan.threads, |_| {
         (0..plan.rounds)
             .filter(|_| store.take(black_box(store.put())))
+            .count() as u64
+    })
+}
+
+/// The same, two rounds one after the other from two places of call.
+fn cycle_two<S: Store>(store: &S, plan: Plan) -> u64 {
+    on_threads(plan.threads, |_| {
+        (0..plan.rounds / 2)
+            .map(|_| {
+                let first = store.take(black_box(store.put()));
+                u64::from(first) + u64::from(store.take(black_box(store.put())))
+            })
+            .sum()
+    })
+}
+
+/// Each thread puts a buffer and takes it away while it reads it.
+fn held<S: Store>(store: &S, plan: Plan) -> u64 {
+    on_threads(plan.threads, |_| {
+        (0..plan.rounds)
+            .map(|_| store.read_last(black_box(store.put())) as u64)
+            .sum()
+    })
+}
+
+/// Each thread puts a buffer, and takes it away again and again.
+fn miss<S: Store<Handle = u64>>(store: &S, plan: Plan) -> u64 {
+    on_threads(plan.threads, |_| {
+        let key = store.put();
+        (0..plan.rounds)
+            .filter(|_| store.take(black_box(key)))
             .count() as u64
     })
 }
@@ -205,7 +254,10 @@ fn do_rounds<S: Store>(store: &S, rounds: &str, plan: Plan) -> Option<u64> {
         "get-shared" => Some(get(store, plan, Whose::Shared)),
         "get-others" => Some(get(store, plan, Whose::Others)),
         "get-many" => Some(get_many(store, plan)),
+        "get-two" => Some(get_two(store, plan)),
         "cycle" => Some(cycle(store, plan)),
+        "cycle-two" => Some(cycle_two(store, plan)),
+        "held" => Some(held(store, plan)),
         "churn" => Some(churn(store, plan)),
         _ => None,
     }
@@ -216,6 +268,7 @@ fn do_keyed<S: Store<Handle = u64> + Default>(rounds: &str, plan: Plan) -> Optio
     match rounds {
         "pass" if plan.threads % 2 == 0 => Some(pass(&S::default(), plan)),
         "pass" => None,
+        "miss" => Some(miss(&S::default(), plan)),
         "page" => Some(page::<S>(plan)),
         _ => do_rounds(&S::default(), rounds, plan),
     }
@@ -231,7 +284,11 @@ fn do_case(case: &str, plan: Plan) -> Option<u64> {
     let (peer, rounds) = case.split_once('-')?;
     match peer {
         #[cfg(sharded_slab)]
-        "slab" => do_keyed::<slab::Slab>(rounds, plan),
+        "slab" => do_keyed::<slab::Slab<slab::Buffer>>(rounds, plan),
+        #[cfg(sharded_slab)]
+        "slab16k" => do_keyed::<slab::Slab<slab::Large>>(rounds, plan),
+        #[cfg(sharded_slab)]
+        "slab192" => do_keyed::<slab::Slab<slab::Record>>(rounds, plan),
         "map" => do_keyed::<Map>(rounds, plan),
         "stack" => do_rounds(&Stack::default(), rounds, plan),
         "local" => do_rounds(&Local, rounds, plan),

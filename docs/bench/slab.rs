@@ -2,9 +2,16 @@
 use crate::stores::{Store, BYTES};
 use sharded_slab::{Clear, Pool};
 
-/// A buffer that is cleared in place.
+/// What is pooled: how it is filled, and what a reader sees of it.
+pub trait Pooled: Clear + Default + Send + Sync {
+    fn fill(&mut self);
+
+    fn size(&self) -> usize;
+}
+
+/// A buffer of 64 bytes that is cleared in place.
 #[derive(Default)]
-struct Buffer(Vec<u8>);
+pub struct Buffer(Vec<u8>);
 
 impl Clear for Buffer {
     fn clear(&mut self) {
@@ -12,28 +19,96 @@ impl Clear for Buffer {
     }
 }
 
+impl Pooled for Buffer {
+    #[inline]
+    fn fill(&mut self) {
+        self.0.extend_from_slice(&BYTES);
+    }
+
+    #[inline]
+    fn size(&self) -> usize {
+        self.0.len()
+    }
+}
+
+static LARGE: [u8; 16_384] = [7; 16_384];
+
+/// A buffer of 16 KiB that is cleared in place.
+#[derive(Default)]
+pub struct Large(Vec<u8>);
+
+impl Clear for Large {
+    fn clear(&mut self) {
+        self.0.clear();
+    }
+}
+
+impl Pooled for Large {
+    #[inline]
+    fn fill(&mut self) {
+        self.0.extend_from_slice(&LARGE);
+    }
+
+    #[inline]
+    fn size(&self) -> usize {
+        self.0.len()
+    }
+}
+
+/// An object of 192 bytes, without memory of its own.
+#[derive(Default)]
+pub struct Record {
+    numbers: [u64; 23],
+    count: usize,
+}
+
+impl Clear for Record {
+    #[inline]
+    fn clear(&mut self) {
+        self.count = 0;
+    }
+}
+
+impl Pooled for Record {
+    #[inline]
+    fn fill(&mut self) {
+        self.numbers[self.count] = 7;
+        self.count += 1;
+    }
+
+    #[inline]
+    fn size(&self) -> usize {
+        self.count * 8
+    }
+}
+
 /// The pool. The thread that calls it picks the shard.
 #[derive(Default)]
-pub struct Slab(Pool<Buffer>);
+pub struct Slab<T: Pooled>(Pool<T>);
 
-impl Store for Slab {
+impl<T: Pooled> Store for Slab<T> {
     type Handle = u64;
 
     #[inline]
     fn put(&self) -> u64 {
-        let key = self
-            .0
-            .create_with(|buffer| buffer.0.extend_from_slice(&BYTES));
+        let key = self.0.create_with(T::fill);
         key.expect("the pool isn't full") as u64
     }
 
     #[inline]
     fn read(&self, key: &u64) -> usize {
-        self.0.get(*key as usize).map_or(0, |buffer| buffer.0.len())
+        self.0.get(*key as usize).map_or(0, |object| object.size())
     }
 
     #[inline]
     fn take(&self, key: u64) -> bool {
         self.0.clear(key as usize)
+    }
+
+    #[inline]
+    fn read_last(&self, key: u64) -> usize {
+        let object = self.0.get(key as usize);
+        self.0.clear(key as usize);
+        object.map_or(0, |object| object.size())
     }
 }

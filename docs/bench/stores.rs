@@ -20,6 +20,14 @@ pub trait Store: Sync {
 
     /// Takes a buffer away: whether it was there.
     fn take(&self, handle: Self::Handle) -> bool;
+
+    /// How many bytes a buffer has, which is taken away while it is read; where a store has no references, after that.
+    #[inline]
+    fn read_last(&self, handle: Self::Handle) -> usize {
+        let bytes = self.read(&handle);
+        self.take(handle);
+        bytes
+    }
 }
 
 /// What a lock guards. No thread panics under it.

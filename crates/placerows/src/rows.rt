@@ -33,11 +33,14 @@ impl<T> Own<T> {
     }
 }
 
+// How many bytes of room stand behind a row, so that what follows it in memory isn't on two lines of a processor's cache with it.
+const BYTES_APART: usize = 128;
+
 // A row for so many words, with nothing. None where memory was refused.
 pub(crate) fn none_own<T>(alloc: Global, count: usize) -> Option<Vec<Own<T>>>
     ensures { IfSome result (λ row. row.items ≡ replicate count owns.Away) }
 {
-    let mut row = Vec::with_capacity(alloc, count).ok()?;
+    let mut row = Vec::with_capacity(alloc, count.saturating_add(BYTES_APART)).ok()?;
     for _ in 0..count {
         row.push_reserved(Own::Away);
     }

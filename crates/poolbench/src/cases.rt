@@ -14,19 +14,23 @@ pub enum Case {
 }
 
 /// The cases by name.
-pub const CASES: [(&str, Case); 17] = [
+pub const CASES: [(&str, Case); 21] = [
     ("bare", Case::Solo(Solo::Bare)),
     ("alu", Case::Solo(Solo::Alu)),
     ("get-own", Case::Pool(Deed::Get(Whose::Own))),
     ("get-shared", Case::Pool(Deed::Get(Whose::Shared))),
     ("get-others", Case::Pool(Deed::Get(Whose::Others))),
     ("get-many", Case::Pool(Deed::Own(Own::GetMany))),
+    ("get-two", Case::Pool(Deed::Own(Own::GetTwo))),
     ("get16-own", Case::Pool16(Deed::Get(Whose::Own))),
     ("get16-many", Case::Pool16(Deed::Own(Own::GetMany))),
     ("cycle", Case::Pool(Deed::Own(Own::Cycle))),
+    ("cycle-two", Case::Pool(Deed::Own(Own::CycleTwo))),
     ("cycle16", Case::Pool16(Deed::Own(Own::Cycle))),
     ("churn", Case::Pool(Deed::Own(Own::Churn))),
     ("churn16", Case::Pool16(Deed::Own(Own::Churn))),
+    ("held", Case::Pool(Deed::Own(Own::Held))),
+    ("miss", Case::Pool(Deed::Own(Own::Miss))),
     ("pass", Case::Pool(Deed::Pass)),
     ("pass16", Case::Pool16(Deed::Pass)),
     ("full16", Case::Pool16(Deed::Own(Own::Full))),

@@ -55,6 +55,18 @@ impl Worker<'_> {
         length
     }
 
+    /// Gets an object, clears it, reads how long it is, and gives the reference back.
+    #[inline]
+    pub fn read_last(&mut self, key: u64) -> usize {
+        let Some(last) = self.pool.get(&mut self.lane, key) else {
+            return 0;
+        };
+        self.pool.clear(&mut self.lane, key);
+        let length = self.lane.read(&last).len();
+        self.pool.release(&mut self.lane, last);
+        length
+    }
+
     /// Clears an object.
     #[inline]
     pub fn take(&mut self, key: u64) -> bool {

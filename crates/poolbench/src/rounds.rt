@@ -31,10 +31,18 @@ pub enum Solo {
 pub enum Own {
     /// Each of 16 objects is read in turn.
     GetMany,
+    /// The same, two rounds one after the other from two places of call.
+    GetTwo,
     /// An object is put and taken away.
     Cycle,
+    /// The same, two rounds one after the other from two places of call.
+    CycleTwo,
     /// 24 objects are live: the oldest is taken away, and a new one put.
     Churn,
+    /// An object is put, and taken away while it is read.
+    Held,
+    /// An object that was taken away is taken away again.
+    Miss,
     /// No place is free, as a create finds.
     Full,
 }
@@ -117,8 +125,12 @@ impl Own {
     fn run(self, worker: &mut Worker, rounds: u64) -> u64 {
         match self {
             Own::GetMany => get_many(worker, rounds),
+            Own::GetTwo => get_two(worker, rounds),
             Own::Cycle => cycle(worker, rounds),
+            Own::CycleTwo => cycle_two(worker, rounds),
             Own::Churn => churn(worker, rounds),
+            Own::Held => held(worker, rounds),
+            Own::Miss => miss(worker, rounds),
             Own::Full => full(worker, rounds),
         }
     }
@@ -176,9 +188,34 @@ fn get_many(worker: &mut Worker, rounds: u64) -> u64 {
     bytes
 }
 
+fn get_two(worker: &mut Worker, rounds: u64) -> u64 {
+    let mut keys = [0; MANY];
+    worker.put_all(&mut keys);
+    let mut bytes = 0u64;
+    for round in 0..rounds / 2 {
+        let first = (round % (MANY as u64 / 2)) as usize;
+        bytes = bytes.wrapping_add(worker.read(keys[first]) as u64);
+        bytes = bytes.wrapping_add(worker.read(keys[first + MANY / 2]) as u64);
+    }
+    bytes
+}
+
 fn cycle(worker: &mut Worker, rounds: u64) -> u64 {
     let mut taken = 0u64;
     for _ in 0..rounds {
+        if let Some(key) = worker.put() {
+            taken = taken.wrapping_add(u64::from(worker.take(key)));
+        }
+    }
+    taken
+}
+
+fn cycle_two(worker: &mut Worker, rounds: u64) -> u64 {
+    let mut taken = 0u64;
+    for _ in 0..rounds / 2 {
+        if let Some(key) = worker.put() {
+            taken = taken.wrapping_add(u64::from(worker.take(key)));
+        }
         if let Some(key) = worker.put() {
             taken = taken.wrapping_add(u64::from(worker.take(key)));
         }
@@ -194,6 +231,25 @@ fn churn(worker: &mut Worker, rounds: u64) -> u64 {
         let oldest = &mut keys[(round % LIVE as u64) as usize];
         taken = taken.wrapping_add(u64::from(worker.take(*oldest)));
         *oldest = worker.put().unwrap_or(0);
+    }
+    taken
+}
+
+fn held(worker: &mut Worker, rounds: u64) -> u64 {
+    let mut bytes = 0u64;
+    for _ in 0..rounds {
+        if let Some(key) = worker.put() {
+            bytes = bytes.wrapping_add(worker.read_last(key) as u64);
+        }
+    }
+    bytes
+}
+
+fn miss(worker: &mut Worker, rounds: u64) -> u64 {
+    let key = worker.put().unwrap_or(0);
+    let mut taken = 0u64;
+    for _ in 0..rounds {
+        taken = taken.wrapping_add(u64::from(worker.take(key)));
     }
     taken
 }

@@ -4,6 +4,7 @@ pub mod Ending
 pub mod Filling
 pub mod Calling
 pub mod Standing
+pub mod AtOnce
 pub mod Moves
 pub mod Spreads
 pub mod Going

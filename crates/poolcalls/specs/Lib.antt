@@ -1,6 +1,7 @@
 pub mod AtPlace
 pub mod Acted
 pub mod Called
+pub mod Clears
 pub mod Carried
 pub mod Taken
 pub mod Halted

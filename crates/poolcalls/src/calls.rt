@@ -1,27 +1,65 @@
 //! The clear of a key. A key's place is one of the pool's.
-ghost use Rattle.std.specs.Prelude.{◌∷◌, [], ◌≡◌, ◌==◌, ℕ, IfSome, true};
+ghost use Rattle.std.specs.Prelude.{[], ◌≡◌, ◌==◌, ℕ, IsNone, IfSome, true};
 ghost use Rattle.keybits.specs.Keys.{place_of, is_key};
 ghost use Rattle.keybits.specs.Words.{state_in};
-ghost use Rattle.seqpool.specs.declared.act.Act.TheVariants as acts;
-ghost use Rattle.steplaws.specs.Calls.Call.{Clearing};
 ghost use Rattle.steplaws.specs.declared.pending.Pending.TheVariants.{Undo};
 ghost use Rattle.poolsteps.specs.Layout.{spots_at};
 ghost use Rattle.poolsteps.specs.Views.{the_lane, IsOne};
 ghost use Rattle.poolsteps.specs.Grids.{IsSpot, IsOf, SameSeat};
 ghost use Rattle.poolsteps.specs.Told.{IsIdle};
+ghost use Rattle.poolsteps.specs.AtOnce.{unreferred};
 ghost use Rattle.poolcalls.specs.AtPlace.{IsAt};
-ghost use Rattle.poolcalls.specs.Called.{Called, MarksAtLast, EndsWithActs, IsReclaimed, StandsAt};
+ghost use Rattle.poolcalls.specs.Called.{MarksAtLast};
+ghost use Rattle.poolcalls.specs.Clears.{Clears, LooksTwice};
 
 use crate::at_place::At;
-use crate::ends::finish_leave;
+use crate::ends::{finish_leave, reclaim_place};
 use crate::reclaimed::Reclaimed;
-use keybits::{ONE_COUNT, is_hit, is_present};
+use keybits::{Life, ONE_COUNT, State, generation_of, is_hit, is_present, owes_claim};
 use poolsteps::{Grid, Hand, Purpose, Spot};
 use slotcell::Clear;
 
-/// A clear of a key. Answers whether it is the one that marked it, and what became of its place where that was reclaimed. It
-/// takes no memory.
-pub fn clear<T: Clear + Drop>(
+/// A clear of a key whose steps are one operation. Answers whether it is the one that marked the key, and what became of its place where
+/// that was reclaimed. None where another lane stepped on the key's word meanwhile: then it looked, and did nothing. It takes no memory.
+#[inline(always)]
+pub fn try_clear<T: Clear + Drop>(
+    grid: &Grid<T>,
+    hand: &mut Hand<T>,
+    at: At,
+    key: u64,
+) -> Option<(bool, Option<Reclaimed<T>>)>
+    requires hand { IsOf grid.now hand.old × IsOne hand.old.me.0 }
+    requires bare { hand.old.me.1 ≡ [] }
+    requires at { IsAt grid.now.shape hand.old.me.0 (place_of key) at }
+    requires key { is_key grid.now.shape key ≡ true }
+    requires idle { IsIdle hand.old.me.0 }
+    ensures hand { SameSeat hand.old hand.new }
+    ensures clears { IfSome result (λ answer. Clears T.content T.room grid.now.shape (spots_at grid.now.objects.ptr grid.now.shape (place_of key)) key at.entry.lane 35
+        hand.old.me hand.new.me answer.0 answer.1) }
+    ensures looks { IsNone result → LooksTwice grid.now.shape hand.old.me hand.new.me }
+{
+    let generation = generation_of(key);
+    let found = grid.sweep(hand, at.spot, key);
+    if found == unreferred(generation) {
+        let reclaimed = reclaim_place(grid, hand, at, generation);
+        return Some((true, Some(reclaimed)));
+    }
+    if is_hit(key, found) {
+        if grid.strike(hand, at.spot, key, found) == found {
+            return Some((true, None));
+        }
+        return None;
+    }
+    if owes_claim(found.wrapping_add(ONE_COUNT)) {
+        return None;
+    }
+    Some((false, None))
+}
+
+/// A clear of a key, each of whose steps is an operation. Answers whether it is the one that marked the key, and what became of its place
+/// where that was reclaimed. It takes no memory.
+#[inline(always)]
+pub fn clear_by_steps<T: Clear + Drop>(
     grid: &Grid<T>,
     hand: &mut Hand<T>,
     at: At,
@@ -33,15 +71,26 @@ pub fn clear<T: Clear + Drop>(
     requires key { is_key grid.now.shape key ≡ true }
     requires idle { IsIdle hand.old.me.0 }
     ensures hand { SameSeat hand.old hand.new }
-    ensures called { Called grid.now.shape (Clearing key) 34 hand.old.me hand.new.me }
-    ensures acts { EndsWithActs grid.now.shape (place_of key) (acts.Clear at.entry.lane key result.0 ∷ []) hand.old.me.0 hand.new.me.0 result.1 }
-    ensures reclaimed { IfSome result.1 (IsReclaimed T.content T.room grid.now.shape (place_of key) at.entry.lane hand.new.me.0) }
-    ensures at { StandsAt (spots_at grid.now.objects.ptr grid.now.shape (place_of key)) result.1 }
+    ensures clears { Clears T.content T.room grid.now.shape (spots_at grid.now.objects.ptr grid.now.shape (place_of key)) key at.entry.lane 34
+        hand.old.me hand.new.me result.0 result.1 }
 {
     let found = grid.enter(hand, at.spot, key, Purpose::ToClear);
     let marked = is_hit(key, found) && mark(grid, hand, at.spot, key, found);
     let left = grid.leave(hand, at.spot, key);
     (marked, finish_leave(grid, hand, at, left))
+}
+
+/// The word of a place whose key of this generation is published and unmarked, and to which nobody refers.
+#[inline]
+fn unreferred(generation: u32) -> u64
+    ensures { result ≡ unreferred generation }
+{
+    let life = Life {
+        generation,
+        count: 0,
+        state: State::Present,
+    };
+    life.word()
 }
 
 /// MARK, after the ENTER of a clear that hit and found this word. Where nobody stepped on the word since, it is one compare-exchange;

@@ -64,7 +64,7 @@ pub(crate) fn owed_by(found: u64) -> Option<u32>
 
 /// What follows a CLAIM of this generation that succeeded.
 #[inline(always)]
-fn reclaim_place<T: Clear + Drop>(
+pub(crate) fn reclaim_place<T: Clear + Drop>(
     grid: &Grid<T>,
     hand: &mut Hand<T>,
     at: At,

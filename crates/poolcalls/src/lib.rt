@@ -14,7 +14,7 @@ mod reclaimed;
 mod takes;
 
 pub use at_place::At;
-pub use calls::clear;
+pub use calls::{clear_by_steps, try_clear};
 pub use cells::{rest_cell, spread_cell, spread_others, take_cell, take_resting};
 pub use ends::finish_leave;
 pub use fills::{downgrade, publish};

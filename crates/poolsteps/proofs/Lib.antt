@@ -30,6 +30,8 @@ pub mod Starts
 pub mod LookWords
 pub mod Chains
 pub mod Seeing
+pub mod Composing
+pub mod AtOnce
 pub mod Deeds
 pub mod Taking
 pub mod Following

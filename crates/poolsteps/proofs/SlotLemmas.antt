@@ -12,6 +12,7 @@ use Rattle.keybits.proofs.ShapeLemmas.{is_place-parts, index_of-lt, index_of-inj
 use Rattle.placecell.specs.Share.{Share}
 use Rattle.sharelaws.specs.Shares.{with_slot}
 use Rattle.sharelaws.proofs.Cases.{each-slot}
+use Rattle.poolsteps.specs.declared.layout.TheConstants.{SHARDS_APART}
 use Rattle.poolsteps.specs.Layout.{slot_start, slot_row, slot_count, slot_index, slots_in}
 
 -- the slot of a place stands inside a row
@@ -22,7 +23,7 @@ in-row z place inside =
     omega arith
 
 -- each shard has the slots of its places in a row, and those behind them
-in-shards : (shard places index : ℕ) → shard * (places + 8) + index ≡ shard * places + index + 8 * shard
+in-shards : (shard places index : ℕ) → shard * (places + SHARDS_APART) + index ≡ shard * places + index + SHARDS_APART * shard
 in-shards shard places index = omega arith
 
 -- two slots at one place of a row are of one place
@@ -30,7 +31,7 @@ pub start-injective : (z : Shape) (p q : ℕ) → is_place z p ≡ true → is_p
 start-injective z p q p_inside q_inside same =
     let p_low = index_of-lt z p p_inside in
     let q_low = index_of-lt z q q_inside in
-    let both = same_from_place (shard_of p) (index_of z p) (shard_of q) (index_of z q) (shard_places z + 8) (omega arith) (omega arith)
+    let both = same_from_place (shard_of p) (index_of z p) (shard_of q) (index_of z q) (shard_places z + SHARDS_APART) (omega arith) (omega arith)
     (in-shards (shard_of p) (shard_places z) (index_of z p) ∙ (same ∙ sym (in-shards (shard_of q) (shard_places z) (index_of z q)))) in
     index_of-injective z p q p_inside q_inside both.0 both.1
 

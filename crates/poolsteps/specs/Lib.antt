@@ -9,3 +9,4 @@ pub mod Grids
 pub mod Returned
 pub mod ViewLaws
 pub mod Joins
+pub mod AtOnce

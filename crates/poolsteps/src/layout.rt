@@ -1,5 +1,5 @@
 //! Where each word of a pool stands among the words of its table, and each slot among its slots: words that different lanes
-//! change by themselves stand 64 bytes apart, and so do the slots of neighbouring shards. No step changes the first words: the
+//! change by themselves stand 128 bytes apart, as a processor may fetch two lines of 64 together, and so do the words of neighbouring shards. No step changes the first words: the
 //! very first is read where seats are cut and joined, and behind it each lane has one that it looks at.
 ghost use Rattle.std.specs.Prelude.{◌≡◌, ◌<◌, ◌*◌, ℕ, true, None, List, Option, length, slice_get, Some, IfSome};
 ghost use Rattle.keybits.specs.Shapes.{IsShape, position_of, is_place};
@@ -14,14 +14,14 @@ use placecell::Slot;
 use std::alloc::Global;
 
 /// How many words stand between two that different lanes change by themselves.
-pub(crate) const WORDS_APART: usize = 8;
+pub(crate) const WORDS_APART: usize = 16;
 
-/// How many slots stand unused behind those of each shard in a lane's row, so that those of neighbouring shards don't share a
-/// line of a processor's cache.
-pub const SHARDS_APART: usize = 8;
+/// How many places' words stand unused behind those of each shard in a row, so that those of neighbouring shards don't share two lines
+/// of a processor's cache.
+pub const SHARDS_APART: usize = 16;
 
 /// Where the lifecycle words begin: behind the very first word and, as far apart, one for each of the most lanes.
-pub(crate) const LIVES_START: usize = 136;
+pub(crate) const LIVES_START: usize = 272;
 
 /// How many words there are.
 pub(crate) fn word_count(shape: &Shape) -> usize

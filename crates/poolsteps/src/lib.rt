@@ -3,6 +3,7 @@
 //! dropped.
 #![tactic(auto)]
 
+mod at_once;
 mod batches;
 mod closing;
 mod grid;

@@ -205,6 +205,28 @@ impl<S, J: Aim> Play<S, View> for Claim<J> {
     ghost then = { λ step before found after. Claims J.shape (owed_place before.0) (owed_generation before.0) before found after };
 }
 
+/// SWEEP.
+pub(crate) struct Sweep<J: Aim> {
+    of: PhantomData<J>,
+}
+
+impl<S, J: Aim> Play<S, View> for Sweep<J> {
+    ghost use Rattle.poolsteps.specs.AtOnce.{Sweeps};
+
+    ghost then = { λ step before found after. Sweeps J.shape J.key before found after };
+}
+
+/// STRIKE from an expected word.
+pub(crate) struct Strike<J: Aim> {
+    of: PhantomData<J>,
+}
+
+impl<S, J: Aim> Play<S, View> for Strike<J> {
+    ghost use Rattle.poolsteps.specs.AtOnce.{Strikes};
+
+    ghost then = { λ step before found after. Strikes J.shape J.key step.first before found after };
+}
+
 /// LINK.
 pub(crate) struct Link<J: Aim> {
     of: PhantomData<J>,

@@ -12,6 +12,8 @@ mod test_close;
 #[cfg(test)]
 mod test_drops;
 #[cfg(test)]
+mod test_fights;
+#[cfg(test)]
 mod test_guards;
 #[cfg(test)]
 mod test_halts;

@@ -20,7 +20,7 @@ const ROUNDS: u32 = 10_000;
 const TURNS: u32 = 3_000_000;
 
 /// An object is published with the bytes of its key, the lowest first.
-fn publish_key<R: Abort>(rt: &R, pool: &Pool<ByteBuf>, lane: &mut Lane<ByteBuf>) -> u64
+pub(crate) fn publish_key<R: Abort>(rt: &R, pool: &Pool<ByteBuf>, lane: &mut Lane<ByteBuf>) -> u64
     requires { Owns pool.now lane.old }
     ensures owns { Owns pool.now lane.new }
     ensures refs { refs lane.new ≡ refs lane.old }
@@ -58,7 +58,7 @@ fn reads_key<R: Abort>(rt: &R, lane: &Lane<ByteBuf>, reference: &Ref<ByteBuf>)
 }
 
 /// A reference reads the bytes of its key, and is given back.
-fn read_and_release<R: Abort>(
+pub(crate) fn read_and_release<R: Abort>(
     rt: &R,
     pool: &Pool<ByteBuf>,
     lane: &mut Lane<ByteBuf>,
@@ -75,7 +75,7 @@ fn read_and_release<R: Abort>(
 }
 
 /// A key of another lane is got, which may be cleared at any moment, and read where it is found.
-fn look<R: Abort>(rt: &R, pool: &Pool<ByteBuf>, lane: &mut Lane<ByteBuf>, key: u64)
+pub(crate) fn look<R: Abort>(rt: &R, pool: &Pool<ByteBuf>, lane: &mut Lane<ByteBuf>, key: u64)
     requires owns { Owns pool.now lane.old }
     requires room { refs lane.old < most_references }
     ensures owns { Owns pool.now lane.new }
@@ -151,7 +151,7 @@ fn on_two_threads<R: Threads + Abort + Sync>(
 }
 
 /// The census of a pool of which nothing is in use: each of its places is free, or of a page that was never opened.
-fn counts_free<R: Abort>(rt: &R, census: Census, places: u64) {
+pub(crate) fn counts_free<R: Abort>(rt: &R, census: Census, places: u64) {
     let Census { free, unopened, .. } = census;
     same(
         rt,
@@ -270,7 +270,7 @@ fn two_turns<R: Threads + Abort + Sync>(
 }
 
 /// Closes a pool of four lanes.
-fn close_pairs<R: Abort>(
+pub(crate) fn close_pairs<R: Abort>(
     rt: &R,
     alloc: Global,
     pool: Pool<ByteBuf>,

@@ -1,5 +1,5 @@
--- What a lane does behind a LEAVE, and keeps of it.
-use Rattle.std.specs.Prelude.{◌≡◌, ◌<◌, ℕ, false, List, [], Option, Some, IfSome, length, slice_index}
+-- What a lane does behind a LEAVE, or in a clear, and keeps of it.
+use Rattle.std.specs.Prelude.{◌≡◌, ◌<◌, ℕ, Bool, false, List, [], Option, Some, IfSome, length, slice_index}
 use denote.RawPtr.{Ptr}
 use Rattle.atomic_table.specs.Table.{Me}
 use Rattle.placecell.specs.Whole.{Whole}
@@ -11,12 +11,13 @@ use Rattle.freelists.specs.Shards.{place_numbered}
 use Rattle.freelists.specs.Queues.{IsAway}
 use Rattle.poolsteps.specs.declared.view.View.{View}
 use Rattle.poolsteps.specs.Views.{the_lane, pushed_in}
-use Rattle.poolsteps.specs.Layout.{slot_row, shard_start}
+use Rattle.poolsteps.specs.Layout.{slot_row, shard_start, spots_at}
 use Rattle.poolsteps.specs.Told.{Leaves}
 use Rattle.steplaws.specs.declared.pending.Pending.TheVariants.{Undo}
 use Rattle.poolcalls.specs.declared.reclaimed.Reclaimed.{Reclaimed}
 use Rattle.poolcalls.specs.declared.reclaimed.Reclaimed.TheVariants.{Own}
 use Rattle.poolcalls.specs.Called.{Ends, EndsWithActs, IsLawful, IsReclaimed}
+use Rattle.poolcalls.specs.Clears.{Clears}
 use Rattle.shardpool.specs.declared.state.LaneState.{LaneState}
 use Rattle.shardpool.specs.Stores.{Keeps}
 
@@ -59,3 +60,16 @@ module _ {S T : Type 0} (content : T → List ℕ) (room : T → ℕ) (z : Shape
     pub left : Me S View
     pub leaves : Leaves z key before found left
     pub finishes : Finishes content room z (place_of key) found left after s t
+
+module _ {S T : Type 0} (content : T → List ℕ) (room : T → ℕ) (z : Shape) (key : ℕ) (directory : Ptr) where
+  -- the lane may make a clear of the key: an own place that it then reclaims isn't on the lane's list
+  abbrev pub MayClear : Me S View → LaneState T → Type 0
+  MayClear before s = (looks : ℕ) (after : Me S View) (marked : Bool) (reclaimed : Option (Reclaimed T))
+      → Clears content room z (spots_at directory z (place_of key)) key s.number looks before after marked reclaimed
+      → (whole : Whole T) → reclaimed ≡ Some (Own whole) → IsAway s.free (place_numbered (place_of key))
+
+  -- the lane made a clear of the key, in so many looks at most, with this reply, and keeps what became of the place
+  pub record ClearsAndKeeps (looks : ℕ) (before after : Me S View) (s t : LaneState T) (marked : Bool) : Type 0 where
+    pub reclaimed : Option (Reclaimed T)
+    pub clears : Clears content room z (spots_at directory z (place_of key)) key s.number looks before after marked reclaimed
+    pub kept : Keeps (place_of key) reclaimed s t

@@ -94,7 +94,12 @@ fn take_apart<T: Clear + Drop>(
 fn taken_apart<T: Clear>(lane: Lane<T>) -> (Hand<T>, LaneState<T>, HandRow<T>)
     ensures { IsParted T.content T.room lane result.0 result.1 }
 {
-    let Lane { hand, state, row } = lane;
+    let Lane {
+        hand,
+        state,
+        row,
+        ..
+    } = lane;
     // A look at the list tells that its places are the lane's.
     let _ = state.free.len();
     (hand, state, row)

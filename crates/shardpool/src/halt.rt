@@ -71,6 +71,7 @@ impl<T: Clear + Drop> Pool<T> {
             mut hand,
             mut state,
             row,
+            ..
         } = lane;
         drop(row);
         match call {

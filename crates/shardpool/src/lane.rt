@@ -1,4 +1,5 @@
 //! Lanes: each owns a shard of a pool.
+use crate::apart::Apart;
 use crate::closing::HandRow;
 use crate::rows::count_to;
 use crate::state::LaneState;
@@ -12,8 +13,10 @@ use std::marker::Model;
 #[derive(Drop)]
 pub struct Lane<T: Clear> {
     pub(crate) hand: Hand<T>,
+    pub(crate) ahead: Apart,
     pub(crate) state: LaneState<T>,
     pub(crate) row: HandRow<T>,
+    pub(crate) behind: Apart,
 }
 
 impl<T: Clear> Model for Lane<T> {

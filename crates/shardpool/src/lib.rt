@@ -2,7 +2,9 @@
 //! without a lock and in a stated number of steps.
 #![tactic(auto)]
 
+mod apart;
 mod census;
+mod clears;
 mod closing;
 mod create;
 mod ends;

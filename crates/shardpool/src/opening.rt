@@ -8,6 +8,7 @@ ghost use Rattle.std.specs.Vec.{vec_capacity};
 ghost use Rattle.poolsteps.specs.Layout.{slot_row};
 ghost use Rattle.shardpool.specs.Opened.{first_book, AreFirstLanes, AreFirstParts, IsFirstState};
 
+use crate::apart::Apart;
 use crate::closing::HandRow;
 use crate::fault::OpenFault;
 use crate::lane::Lane;
@@ -115,7 +116,13 @@ fn endow<T: Clear + Drop>(
             row,
         } = part;
         state.objects.endow(directory, SHARDS_APART);
-        lanes.push_reserved(Lane { hand, state, row });
+        lanes.push_reserved(Lane {
+            hand,
+            ahead: Apart::new(),
+            state,
+            row,
+            behind: Apart::new(),
+        });
     }
     lanes
 }

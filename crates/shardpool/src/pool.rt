@@ -13,18 +13,19 @@ ghost use Rattle.shardpool.specs.Tokens.{FillingOf};
 ghost use Rattle.shardpool.specs.Lanes.{Owns, Made, SameLane, Calls, Did, Gets, holds, refs};
 ghost use Rattle.shardpool.specs.Seen.{PublishedSince, FoundSince, MissedSince, ClearedSince};
 
+use crate::clears::clear_and_keep;
 use crate::ends::{end_miss, finish_if_owed};
 use crate::lane::Lane;
 use crate::rows::{
     add_first_reference, add_reference, count_to, drop_reference, return_last_share,
 };
 use crate::state::LaneState;
-use crate::stores::{give_out, keep_reclaimed};
+use crate::stores::give_out;
 use crate::token::{Filling, Ref};
 use keybits::{Shape, is_hit, place_of};
 use placecell::Directory;
 use placerows::Objects;
-use poolcalls::{At, clear, downgrade, publish};
+use poolcalls::{At, downgrade, publish};
 use poolsteps::{Grid, Purpose, Spot, shares_law};
 use slotcell::Clear;
 use std::alloc::Global;
@@ -66,6 +67,7 @@ impl<T: Clear + Drop> Pool<T> {
 
     /// A reference to the object of a key, where it is published and not cleared. None otherwise, and for a number that is no
     /// key of the pool, without a step.
+    #[inline(always)]
     pub fn get(&self, lane: &mut Lane<T>, key: u64) -> Option<Ref<T>>
         requires owns { Owns self.now lane.old }
         requires room { refs lane.old < most_references }
@@ -127,6 +129,7 @@ impl<T: Clear + Drop> Pool<T> {
     }
 
     /// Gives a reference back. Where it was the last to a key that is cleared, the object is cleared in place.
+    #[inline(always)]
     pub fn release(&self, lane: &mut Lane<T>, reference: Ref<T>)
         requires owns { Owns self.now lane.old }
         requires held { 1 ≤ holds lane.old reference.key }
@@ -209,18 +212,11 @@ impl<T: Clear + Drop> Pool<T> {
         ensures held { (k : ℕ) → holds lane.new k ≡ holds lane.old k }
         ensures fillings { (filling : FillingOf T) → Made lane.old filling → Made lane.new filling }
     {
-        let number = lane.state.number;
         let Some(spot) = self.find(key) else {
+            lane.seen_law();
             return false;
         };
-        let at = At {
-            spot,
-            lane: number,
-            tops: &lane.state.last_pushed,
-        };
-        let (marked, reclaimed) = clear(&self.grid, &mut lane.hand, at, key);
-        keep_reclaimed(&mut lane.state, spot, reclaimed);
-        marked
+        clear_and_keep(&self.grid, &mut lane.hand, &mut lane.state, spot.start, key)
     }
 
     /// Publishes a filling: a get of its key finds the content that was written last. Answers the key.

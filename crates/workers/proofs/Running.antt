@@ -9,6 +9,7 @@ use Rattle.seqpool.specs.declared.act.Act.TheVariants as acts
 use Rattle.seqpool.specs.Pool.{Phase, references_in, pool_after}
 use Rattle.seqpool.specs.Histories.{PublishedAt}
 use Rattle.seqpool.specs.Laws.{GetLaw, OnceLaw}
+use Rattle.sharelaws.specs.Shares.{room_of}
 use Rattle.steplaws.specs.Calls.{Call}
 use Rattle.steplaws.specs.Calls.Call.{Publishing, Getting, Releasing, Clearing}
 use Rattle.slotcell.specs.ByteBuf.{ByteBuf}
@@ -140,10 +141,10 @@ module _ {pool : PoolOf} {lane : LaneOf} {rs : List Register} (register : Number
   now-made : Made lane now_filling
   now-made = let made = tidy.made register.number filling is in record { table = made.table; start = made.start; place = made.place; may = made.may; emptied = made.emptied }
 
-  written : object.bytes ≡ filling.object.bytes ++ bytes
+  written : object.bytes ≡ filling.object.bytes ++ bytes → filling.object.room ≤ object.room
       → Runs pool (desk lane rs) (Write register bytes) replies.Done (desk lane (with_held rs register.number (Filling now_filling)))
-  written more = record {
-    line = where-filling (register_at rs register.number).held _ _ filling is (refl, inl (object, more, refl, refl));
+  written more roomy = record {
+    line = where-filling (register_at rs register.number).held _ _ filling is (refl, inl (object, more, refl, refl, roomy));
     tidy = tidy-set tidy tidy.owns register.number (record (register_at rs register.number) { held = Filling now_filling }) register.small
         (λ i other there at. tidy.made i other at)
         (λ other at. let same : now_filling ≡ other = cc at in subst (λ (f : FillingOf ByteBuf). Made lane f) same now-made)
@@ -162,15 +163,16 @@ module _ {pool : PoolOf} {lane : LaneOf} {rs : List Register} (register : Number
     put : now ≡ with_held rs register.number (Filling now_filling)
     put = now_is ∙ (ap (λ (x : List Register). with_held x register.number (Filling now_filling)) between_is ∙ held-again rs register.number Empty (Filling now_filling) inside)
 
-    pub runs-write : object.bytes ≡ filling.object.bytes ++ bytes → Runs pool (desk lane rs) (Write register bytes) replies.Done (desk lane now)
-    runs-write more = subst (λ (x : List Register). Runs pool (desk lane rs) (Write register bytes) replies.Done (desk lane x)) (sym put) (written more)
+    pub runs-write : object.bytes ≡ filling.object.bytes ++ bytes → filling.object.room ≤ object.room → Runs pool (desk lane rs) (Write register bytes) replies.Done (desk lane now)
+    runs-write more roomy = subst (λ (x : List Register). Runs pool (desk lane rs) (Write register bytes) replies.Done (desk lane x)) (sym put) (written more roomy)
 
-    pub runs-refused : object ≡ filling.object → Runs pool (desk lane rs) (Write register bytes) replies.Memory (desk lane now)
-    runs-refused same =
+    pub runs-refused : object ≡ filling.object → filling.object.room < length filling.object.bytes + length bytes
+        → Runs pool (desk lane rs) (Write register bytes) replies.Memory (desk lane now)
+    runs-refused same small =
         let back : now ≡ rs = put ∙ (ap (λ (x : ByteBuf). with_held rs register.number (Filling (record filling { object = x }))) same
         ∙ held-back rs register.number filling inside is) in
         subst (λ (x : List Register). Runs pool (desk lane rs) (Write register bytes) replies.Memory (desk lane x)) (sym back) (record {
-          line = where-filling (register_at rs register.number).held _ _ filling is (refl, inr (refl, refl));
+          line = where-filling (register_at rs register.number).held _ _ filling is (refl, inr (refl, refl, small));
           tidy = tidy;
           same = same-self lane;
           seen = prefix-self lane.book.seen;
@@ -200,10 +202,11 @@ module _ {pool : PoolOf} {old new : LaneOf} {rs : List Register} (register : Num
   light = filling-light (register_at rs register.number).held filling is
 
   module _ (called : Calls pool.shape (Publishing filling.key filling.object.bytes false) old.book new.book)
-      (did : Did (acts.Publish old.number filling.key filling.object.bytes false ∷ []) old new) (refs_same : refs new ≡ refs old) where
+      (did : Did (acts.Publish old.number filling.key filling.object.bytes false ∷ []) old new) (refs_same : refs new ≡ refs old)
+      (roomy : room_of new.book.seen new.book.rooms (place_of filling.key) ≡ filling.object.room) where
     published : Runs pool (desk old rs) (Publish register) (replies.Key filling.key) (desk new (with_held rs register.number Empty))
     published = record {
-      line = where-filling (register_at rs register.number).held _ _ filling is (of-shape pool old (Publishing filling.key filling.object.bytes false) old.book new.book tidy.owns called, did, refl, refl);
+      line = where-filling (register_at rs register.number).held _ _ filling is (of-shape pool old (Publishing filling.key filling.object.bytes false) old.book new.book tidy.owns called, did, refl, refl, roomy);
       tidy = tidy-set tidy owns register.number (record (register_at rs register.number) { held = Empty }) register.small others-made
           (λ other at. absurd (cc at)) (λ i this other at there also same. absurd (cc at))
           (λ key. let h = at-publish (filling.key == key) (holds old key) (holds new key) 0 (unheld key) (did.held key) in let l = light.1 key in omega (arith, h, l))
@@ -219,13 +222,14 @@ module _ {pool : PoolOf} {old new : LaneOf} {rs : List Register} (register : Num
         (subst (λ (k : ℕ). Runs pool (desk old rs) (Publish register) (replies.Key k) (desk new (with_held rs register.number Empty))) (sym key_is) published)
 
   module _ (called : Calls pool.shape (Publishing filling.key filling.object.bytes true) old.book new.book)
-      (did : Did (acts.Publish old.number filling.key filling.object.bytes true ∷ []) old new) (refs_more : refs new ≡ refs old + 1) where
+      (did : Did (acts.Publish old.number filling.key filling.object.bytes true ∷ []) old new) (refs_more : refs new ≡ refs old + 1)
+      (roomy : room_of new.book.seen new.book.rooms (place_of filling.key) ≡ filling.object.room) where
     abbrev of_filling : RefOf
     of_filling = record { key = filling.key }
 
     downgraded : Runs pool (desk old rs) (Downgrade register) (replies.Key filling.key) (desk new (with_held rs register.number (Reference of_filling)))
     downgraded = record {
-      line = where-filling (register_at rs register.number).held _ _ filling is (of-shape pool old (Publishing filling.key filling.object.bytes true) old.book new.book tidy.owns called, did, refl, refl);
+      line = where-filling (register_at rs register.number).held _ _ filling is (of-shape pool old (Publishing filling.key filling.object.bytes true) old.book new.book tidy.owns called, did, refl, refl, roomy);
       tidy = tidy-set tidy owns register.number (record (register_at rs register.number) { held = Reference of_filling }) register.small others-made
           (λ other at. absurd (cc at)) (λ i this other at there also same. absurd (cc at))
           (λ key. let h = at-publish (filling.key == key) (holds old key) (holds new key) 1 (unheld key) (did.held key) in let l = light.1 key in omega (arith, h, l))

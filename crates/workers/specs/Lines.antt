@@ -1,9 +1,10 @@
 -- Running the lines of a script: what each does with a lane and its registers, and what it replies.
-use Rattle.std.specs.Prelude.{◌≡◌, ◌⊎◌, ℕ, ◌<◌, Bool, true, false, List, [], ◌∷◌, ◌++◌, Option, Some, None, replicate, slice_get, slice_set, if◌then◌else◌}
-use Rattle.keybits.specs.Keys.{is_key}
+use Rattle.std.specs.Prelude.{◌≡◌, ◌⊎◌, ℕ, ◌+◌, ◌<◌, ◌≤◌, Bool, true, false, List, [], ◌∷◌, ◌++◌, length, Option, Some, None, replicate, slice_get, slice_set, if◌then◌else◌}
+use Rattle.keybits.specs.Keys.{place_of, is_key}
 use Rattle.seqpool.specs.declared.act.Act.{Act}
 use Rattle.seqpool.specs.declared.act.Act.TheVariants as acts
 use Rattle.seqpool.specs.Histories.{PublishedAt}
+use Rattle.sharelaws.specs.Shares.{room_of}
 use Rattle.steplaws.specs.Calls.Call.{Publishing, Getting, Releasing, Clearing}
 use Rattle.traces.specs.declared.script.Command.{Command}
 use Rattle.traces.specs.declared.script.Command.TheVariants.{Create, Write, Publish, Downgrade, Get, Read, Release, Clear}
@@ -68,20 +69,21 @@ Creates register old reply new =
     ⊎ (GivesNone old.lane new.lane × (new.registers ≡ old.registers)
     × (((reply ≡ replies.Full) × (old.lane.pages.opened ≡ old.lane.shape.pages)) ⊎ ((reply ≡ replies.Memory) × (old.lane.pages.opened < old.lane.shape.pages))))
 
--- bytes are appended to a filling; or memory was refused, and the filling is as before
+-- bytes are appended to a filling, whose room stays or grows; or the room was too small, memory was refused, and the filling is as before
 abbrev pub Writes : ℕ → List ℕ → FillingOf ByteBuf → Desk → Reply → Desk → Type 0
 Writes register bytes filling old reply new = (new.lane ≡ old.lane)
     × (((object : ByteBuf) × (object.bytes ≡ filling.object.bytes ++ bytes) × (reply ≡ replies.Done)
-    × (new.registers ≡ with_held old.registers register (Filling (record filling { object = object }))))
-    ⊎ ((reply ≡ replies.Memory) × (new.registers ≡ old.registers)))
+    × (new.registers ≡ with_held old.registers register (Filling (record filling { object = object }))) × (filling.object.room ≤ object.room))
+    ⊎ ((reply ≡ replies.Memory) × (new.registers ≡ old.registers) × (filling.object.room < length filling.object.bytes + length bytes)))
 
--- a filling is published, with its content; with a reference, which the register then has
+-- a filling is published, with its content and its room; with a reference, which the register then has
 abbrev pub Publishes : ℕ → Bool → FillingOf ByteBuf → Desk → Reply → Desk → Type 0
 Publishes register with_ref filling old reply new =
     Calls old.lane.shape (Publishing filling.key filling.object.bytes with_ref) old.lane.book new.lane.book
     × Did (acts.Publish old.lane.number filling.key filling.object.bytes with_ref ∷ []) old.lane new.lane
     × (reply ≡ replies.Key filling.key)
     × (new.registers ≡ with_held old.registers register (if with_ref then Reference (record { key = filling.key }) else Empty))
+    × (room_of new.lane.book.seen new.lane.book.rooms (place_of filling.key) ≡ filling.object.room)
 
 -- a get of a key of the pool: the reply is its act's, and where it hit the register has the reference; where the copy of the content for the reply was
 -- refused memory, the reply says so, and the act stands

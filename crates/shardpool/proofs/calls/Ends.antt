@@ -23,6 +23,7 @@ use Rattle.steplaws.specs.StepLaws.{reclaim}
 use Rattle.sharelaws.specs.PlaceLaws.{gives_away, brings}
 use Rattle.poolsteps.specs.declared.grid.Spot.{Spot}
 use Rattle.poolsteps.specs.Grids.{IsSpot}
+use Rattle.poolsteps.specs.declared.view.LaneRecord.{LaneRecord}
 use Rattle.poolsteps.specs.declared.view.View.{View}
 use Rattle.poolsteps.specs.Views.{the_lane, pushed_in, status_of}
 use Rattle.poolsteps.specs.ViewLaws.{references_with, references_made}
@@ -93,6 +94,19 @@ keeper {z = z} {place = place} fits directory inside lane pushed =
       below = fits.seat.below;
       top = fits.last_pushed.each (shard_of place) shard ∙ ap (λ (pushes : List (ℕ × ℕ)). pushed_in pushes (shard_of place)) (sym pushed);
     }
+
+pub keeper-still : {T : Type 0} {z : Shape} {v w : View} {s : LaneState T} {directory : Ptr} {place : ℕ} → the_lane w ≡ the_lane v → IsKeeper z directory place v s → IsKeeper z directory place w s
+keeper-still {place = place} still before = record {
+  shape = before.shape;
+  shape_is = before.shape_is;
+  directory_is = before.directory_is;
+  narrow = before.narrow;
+  wide = before.wide;
+  begins = before.begins;
+  lane = before.lane ∙ ap (λ (r : LaneRecord). r.lane) (sym still);
+  below = before.below;
+  top = before.top ∙ ap (λ (r : LaneRecord). pushed_in r.pushed (shard_of place)) (sym still);
+}
 
 -- and what became of a place stands in a word of the lane's directory
 pub own-stands : {T : Type 0} {content : T → List ℕ} {room : T → ℕ} {z : Shape} {v : View} {s : LaneState T} {directory : Ptr} {place at : ℕ} (reclaimed : Option (Reclaimed T))

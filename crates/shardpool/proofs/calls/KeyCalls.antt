@@ -8,7 +8,6 @@ use Rattle.keybits.proofs.ShapeLemmas.{is_place-parts}
 use Rattle.keybits.specs.Keys.{place_of, is_key, generation_of}
 use Rattle.freelists.specs.Queues.{IsAway}
 use Rattle.freelists.specs.Shards.{place_numbered}
-use Rattle.seqpool.specs.declared.act.Act.{Act}
 use Rattle.seqpool.specs.declared.act.Act.TheVariants as acts
 use Rattle.sharelaws.specs.declared.stored.Status.TheVariants.{Untouched}
 use Rattle.steplaws.specs.Calls.Call.{Getting, Clearing}
@@ -81,15 +80,6 @@ module _ {T : Type 0} {content : T → List ℕ} {room : T → ℕ} {z : Shape} 
             ∙ fits.last_pushed.each (shard_of (place_of key)) (is_place-parts z (place_of key) at.inside).0;
       }
 
-  -- an object that a call answers may be kept
-  away-after : (w : View) (first : List Act) (reclaimed : Option (Reclaimed T)) → EndsWithActs z (place_of key) first v w reclaimed
-      → IfSome reclaimed (IsReclaimed content room z (place_of key) s.number w) → (whole : Whole T) → reclaimed ≡ Some (Own whole) → IsAway s.free (place_numbered spot.place)
-  away-after w first reclaimed acts_so told whole is = subst (λ (p : ℕ). IsAway s.free (place_numbered p)) (sym before.there.place_is)
-      (own-away before.fits w (place_of key) reclaimed before.there.inside acts_so.2 told whole is)
-
-  kept-there : (reclaimed : Option (Reclaimed T)) (t : LaneState T) → Keeps spot.place reclaimed s t → Keeps (place_of key) reclaimed s t
-  kept-there reclaimed t kept = subst (λ (p : ℕ). Keeps p reclaimed s t) before.there.place_is kept
-
 -- ---- a call that makes no reference and gives none back
 
 module _ {T : Type 0} {content : T → List ℕ} {room : T → ℕ} {z : Shape} {key looks : ℕ} {spot : Spot} {a b : Me (Option (Share T)) View} {s : LaneState T}
@@ -106,17 +96,16 @@ module _ {T : Type 0} {content : T → List ℕ} {room : T → ℕ} {z : Shape} 
       let told = miss-told reclaimed before.fits called got in
       quieted s t (acts.Get s.number key None ∷ []) reclaimed before.fits called.did called.idle told.0 told.1 before.there.inside (quiet-miss z s.number s.number key) kept
 
-  pub cleared-away : (reply : Bool) → Called z (Clearing key) looks a b → EndsWithActs z (place_of key) (acts.Clear s.number key reply ∷ []) a.0 b.0 reclaimed
-      → IfSome reclaimed (IsReclaimed content room z (place_of key) s.number b.0) → (whole : Whole T) → reclaimed ≡ Some (Own whole) → IsAway s.free (place_numbered spot.place)
-  cleared-away reply called acts_so told = away-after before b.0 (acts.Clear s.number key reply ∷ []) reclaimed acts_so told
-
   -- a clear
-  pub cleared : (t : LaneState T) → Keeps spot.place reclaimed s t → (reply : Bool) → Called z (Clearing key) looks a b
+  pub cleared-away : (reply : Bool) → Called z (Clearing key) looks a b → EndsWithActs z (place_of key) (acts.Clear s.number key reply ∷ []) a.0 b.0 reclaimed
+      → IfSome reclaimed (IsReclaimed content room z (place_of key) s.number b.0) → (whole : Whole T) → reclaimed ≡ Some (Own whole) → IsAway s.free (place_numbered (place_of key))
+  cleared-away reply called acts_so told whole is = own-away before.fits b.0 (place_of key) reclaimed before.there.inside acts_so.2 told whole is
+
+  pub cleared : (t : LaneState T) → Keeps (place_of key) reclaimed s t → (reply : Bool) → Called z (Clearing key) looks a b
       → EndsWithActs z (place_of key) (acts.Clear s.number key reply ∷ []) a.0 b.0 reclaimed → IfSome reclaimed (IsReclaimed content room z (place_of key) s.number b.0)
       → Quieted content room z (acts.Clear s.number key reply ∷ []) a.0 b.0 s t
   cleared t kept reply called acts_so told =
-      quieted s t (acts.Clear s.number key reply ∷ []) reclaimed before.fits called.did called.idle acts_so told before.there.inside (quiet-clear z s.number s.number key reply)
-      (kept-there before reclaimed t kept)
+      quieted s t (acts.Clear s.number key reply ∷ []) reclaimed before.fits called.did called.idle acts_so told before.there.inside (quiet-clear z s.number s.number key reply) kept
 
 -- ---- a get that hits
 

@@ -3,6 +3,7 @@ use Rattle.std.proofs.Common.{rules, ◌≡◌, ◌+◌, ◌<◌, ℕ, [], Optio
 use Rattle.std.specs.Vec.Iter.{into_iter_items}
 use Rattle.std.proofs.lemmas.List.{nil_from_length, length_push, length-replicate}
 use Rattle.keybits.specs.Shapes.{shard_places}
+use Rattle.poolsteps.specs.declared.layout.TheConstants.{SHARDS_APART}
 use Rattle.poolsteps.specs.Layout.{shard_start}
 use Rattle.shardpool.specs.Opened.{IsFirstLane}
 use Rattle.shardpool.proofs.calls.Openings.{AreNumbered, IsFirstPart, pool_of, none-numbered, one-numbered, next-part, left-of, all-of, all-lanes, first-lane, first-fits, endowed, next-start, within-row}
@@ -97,8 +98,8 @@ loop-part-preserved g c =
       next =
           let places = wide g some in
           let begins = before.invariant.next in
-          let goes : c.endow.new.directory.next ≡ before.directory.next + length part.state.objects.items + 8 = λ i. (c.endow.ensures.directory i).next in
-          let is : c.endow.new.directory.next ≡ shard_start grid.shape number + shard_places grid.shape + 8 = omega (arith, places, begins, goes) in
+          let goes : c.endow.new.directory.next ≡ before.directory.next + length part.state.objects.items + SHARDS_APART = λ i. (c.endow.ensures.directory i).next in
+          let is : c.endow.new.directory.next ≡ shard_start grid.shape number + shard_places grid.shape + SHARDS_APART = omega (arith, places, begins, goes) in
           is ∙ (next-start grid.shape number ∙ ap (λ (n : ℕ). shard_start grid.shape n) (sym long));
     }
 

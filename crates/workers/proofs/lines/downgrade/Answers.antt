@@ -15,5 +15,5 @@ downgrade-reference-requires-clause-room c =
 pub returns : goal.returns
 returns c =
     let did = c.downgrade-reference.ensures in
-    runs-downgrade c.args.register c.requires.tidy did.owns c.in-Some.filling (sym c.in-Some.ensures.filling) did.fillings did.called did.publishes did.refs
+    runs-downgrade c.args.register c.requires.tidy did.owns c.in-Some.filling (sym c.in-Some.ensures.filling) did.fillings did.called did.publishes did.refs did.room
     c.downgrade-reference.result c.key-key.result c.take_filling.new.registers c.hold.new.registers did.key.0 c.key-key.ensures c.in-Some.ensures.registers c.hold.ensures

@@ -7,71 +7,70 @@ use Rattle.shardpool.proofs.calls.CallParts.{calls-more}
 use Rattle.shardpool.proofs.calls.Halts.{fits-own}
 use Rattle.shardpool.proofs.references.Holdings.{clear-holds}
 use Rattle.shardpool.proofs.frame.SeenHistories.{same-directory}
-use Rattle.shardpool.proofs.calls.Ends.{fits-beside, own-spot, own-begins, own-stands}
-use Rattle.shardpool.proofs.calls.KeyCalls.{ready, ready-at, cleared-away, cleared}
+use Rattle.shardpool.proofs.calls.Ends.{fits-beside, keeper}
+use Rattle.shardpool.proofs.calls.KeyCalls.{ready, cleared-away, cleared}
 use Rattle.shardpool.proofs.frame.Standing.{missed-outside, cleared-since, unmarked-since, seen-of}
 use Rattle.shardpool.proofs.pool.Pool.clear.Goals as goal
 
-pub clear-marked-requires-clause-at : goal.clear-marked-requires-clause-at
-clear-marked-requires-clause-at g c =
+-- ---- the call may be made
+
+pub clear_and_keep-requires-clause-key : goal.clear_and_keep-requires-clause-key
+clear_and_keep-requires-clause-key g c = ap (λ p. is_key p.shape c.args.key) c.self.view_is ∙ c.in-Some.ensures.some.0 refl
+
+pub clear_and_keep-requires-clause-inside : goal.clear_and_keep-requires-clause-inside
+clear_and_keep-requires-clause-inside g c =
+    let before = ready c.lane.view_is c.requires.owns.1 c.self.view_is c.lane.invariant.1 c.in-Some.ensures.spot in before.there.inside
+
+pub clear_and_keep-requires-clause-start : goal.clear_and_keep-requires-clause-start
+clear_and_keep-requires-clause-start g c =
+    let before = ready c.lane.view_is c.requires.owns.1 c.self.view_is c.lane.invariant.1 c.in-Some.ensures.spot in before.there.start
+
+pub clear_and_keep-requires-clause-keeper : goal.clear_and_keep-requires-clause-keeper
+clear_and_keep-requires-clause-keeper g c =
     let before = ready c.lane.view_is c.requires.owns.1 c.self.view_is c.lane.invariant.1 c.in-Some.ensures.spot in
-    ready-at before _ refl refl refl
+    keeper (fits-beside before.fits) (same-directory c.lane.view_is c.requires.owns.2 c.self.view_is) before.there.inside refl refl
 
-pub clear-marked-requires-clause-key : goal.clear-marked-requires-clause-key
-clear-marked-requires-clause-key g c = ap (λ p. is_key p.shape c.args.key) c.self.view_is ∙ c.in-Some.ensures.some.0 refl
-
-pub keep_reclaimed-requires-clause-spot : goal.keep_reclaimed-requires-clause-spot
-keep_reclaimed-requires-clause-spot g c =
+pub clear_and_keep-requires-clause-may : goal.clear_and_keep-requires-clause-may
+clear_and_keep-requires-clause-may g c looks after marked reclaimed clears =
     let before = ready c.lane.view_is c.requires.owns.1 c.self.view_is c.lane.invariant.1 c.in-Some.ensures.spot in
-    own-spot (fits-beside before.fits) before.there
+    cleared-away before reclaimed marked clears.called clears.acts clears.told
 
-pub keep_reclaimed-requires-clause-begins : goal.keep_reclaimed-requires-clause-begins
-keep_reclaimed-requires-clause-begins g c = own-begins (fits-beside c.lane.invariant.1)
-
-pub keep_reclaimed-requires-clause-at : goal.keep_reclaimed-requires-clause-at
-keep_reclaimed-requires-clause-at g c =
-    let before = ready c.lane.view_is c.requires.owns.1 c.self.view_is c.lane.invariant.1 c.in-Some.ensures.spot in
-    own-stands c.clear-marked.result.1 (fits-beside before.fits) (same-directory c.lane.view_is c.requires.owns.2 c.self.view_is) before.there.place_is c.clear-marked.ensures.at
-
-pub keep_reclaimed-requires-clause-away : goal.keep_reclaimed-requires-clause-away
-keep_reclaimed-requires-clause-away g c =
-    let before = ready c.lane.view_is c.requires.owns.1 c.self.view_is c.lane.invariant.1 c.in-Some.ensures.spot in
-    let told = c.clear-marked.ensures in cleared-away before c.clear-marked.result.1 c.clear-marked.result.0 told.called told.acts told.reclaimed
+-- ---- what it leaves
 
 pub invariant_of-lane : goal.invariant_of-lane
 invariant_of-lane g c =
     let before = ready c.lane.view_is c.requires.owns.1 c.self.view_is c.lane.invariant.1 c.in-Some.ensures.spot in
-    let told = c.clear-marked.ensures in
-    let left = cleared before c.clear-marked.result.1 c.keep_reclaimed.new.state c.keep_reclaimed.ensures c.clear-marked.result.0 told.called told.acts told.reclaimed in
-    (told.called.did.held ∙ c.lane.invariant.0, fits-own left.fits)
+    let told = c.clear_and_keep.ensures.clears in
+    let left = cleared before told.reclaimed c.clear_and_keep.new.state told.kept c.clear_and_keep.result told.clears.called told.clears.acts told.clears.told in
+    (told.clears.called.did.held ∙ c.lane.invariant.0, fits-own left.fits)
 
 pub returns-clause-clears : goal.returns-clause-clears
 returns-clause-clears g c key =
     let before = ready c.lane.view_is c.requires.owns.1 c.self.view_is c.lane.invariant.1 c.in-Some.ensures.spot in
-    let told = c.clear-marked.ensures in
-    let left = cleared before c.clear-marked.result.1 c.keep_reclaimed.new.state c.keep_reclaimed.ensures c.clear-marked.result.0 told.called told.acts told.reclaimed in
-    rw (← c.lane.view_is) (left.did c.lane.inside.hand.table_id c.clear-marked.new.hand.table_id told.hand.0)
+    let told = c.clear_and_keep.ensures.clears in
+    let left = cleared before told.reclaimed c.clear_and_keep.new.state told.kept c.clear_and_keep.result told.clears.called told.clears.acts told.clears.told in
+    rw (← c.lane.view_is) (left.did c.lane.inside.hand.table_id c.clear_and_keep.new.hand.table_id c.clear_and_keep.ensures.hand.0)
 
 pub returns-clause-refs : goal.returns-clause-refs
 returns-clause-refs g c =
     let before = ready c.lane.view_is c.requires.owns.1 c.self.view_is c.lane.invariant.1 c.in-Some.ensures.spot in
-    let told = c.clear-marked.ensures in
-    let left = cleared before c.clear-marked.result.1 c.keep_reclaimed.new.state c.keep_reclaimed.ensures c.clear-marked.result.0 told.called told.acts told.reclaimed in
+    let told = c.clear_and_keep.ensures.clears in
+    let left = cleared before told.reclaimed c.clear_and_keep.new.state told.kept c.clear_and_keep.result told.clears.called told.clears.acts told.clears.told in
     rw (← c.lane.view_is) left.refs
 
 pub returns-clause-fillings : goal.returns-clause-fillings
 returns-clause-fillings g c filling =
     let before = ready c.lane.view_is c.requires.owns.1 c.self.view_is c.lane.invariant.1 c.in-Some.ensures.spot in
-    let told = c.clear-marked.ensures in
-    let left = cleared before c.clear-marked.result.1 c.keep_reclaimed.new.state c.keep_reclaimed.ensures c.clear-marked.result.0 told.called told.acts told.reclaimed in
-    rw (← c.lane.view_is) (left.fillings c.lane.inside.hand.table_id c.clear-marked.new.hand.table_id told.hand.0 filling)
+    let told = c.clear_and_keep.ensures.clears in
+    let left = cleared before told.reclaimed c.clear_and_keep.new.state told.kept c.clear_and_keep.result told.clears.called told.clears.acts told.clears.told in
+    rw (← c.lane.view_is) (left.fillings c.lane.inside.hand.table_id c.clear_and_keep.new.hand.table_id c.clear_and_keep.ensures.hand.0 filling)
 
 pub returns-clause-owns : goal.returns-clause-owns
 returns-clause-owns g c =
     let before = ready c.lane.view_is c.requires.owns.1 c.self.view_is c.lane.invariant.1 c.in-Some.ensures.spot in
-    let told = c.clear-marked.ensures in
-    let left = cleared before c.clear-marked.result.1 c.keep_reclaimed.new.state c.keep_reclaimed.ensures c.clear-marked.result.0 told.called told.acts told.reclaimed in
-    let same = (left.did c.lane.inside.hand.table_id c.clear-marked.new.hand.table_id told.hand.0).1.same in (
+    let told = c.clear_and_keep.ensures.clears in
+    let left = cleared before told.reclaimed c.clear_and_keep.new.state told.kept c.clear_and_keep.result told.clears.called told.clears.acts told.clears.told in
+    let same = (left.did c.lane.inside.hand.table_id c.clear_and_keep.new.hand.table_id c.clear_and_keep.ensures.hand.0).1.same in (
       same.0 ∙ (ap (λ l. l.table) c.lane.view_is ∙ c.requires.owns.0),
       same.1 ∙ (ap (λ l. l.shape) c.lane.view_is ∙ c.requires.owns.1),
       same.3 ∙ (ap (λ l. l.directory) c.lane.view_is ∙ c.requires.owns.2),
@@ -81,7 +80,7 @@ pub returns-clause-outside : goal.returns-clause-outside
 returns-clause-outside g c out = let bad : true ≡ false = sym (c.in-Some.ensures.some.0 refl) ∙ out in absurd (cc bad)
 
 pub returns-clause-called : goal.returns-clause-called
-returns-clause-called g c key = rw (← c.self.view_is, ← c.lane.view_is) (calls-more c.clear-marked.ensures.called (omega arith))
+returns-clause-called g c key = rw (← c.self.view_is, ← c.lane.view_is) (calls-more c.clear_and_keep.ensures.clears.clears.called (omega arith))
 
 pub returns-clause-held : goal.returns-clause-held
 returns-clause-held g c k =
@@ -104,7 +103,7 @@ returns-clause-seen g c = seen-of (returns-clause-clears g c (c.in-Some.ensures.
 
 pub returns-in_default-clause-missed : goal.returns-in_default-clause-missed
 returns-in_default-clause-missed g c none =
-    missed-outside c.args.self.now.shape c.args.lane.now c.args.key (rw (← c.lane.view_is) c.lane.invariant.1.seat.legal) c.requires.owns.1 (λ is. cc (c.in_default.ensures.some.1 is))
+    missed-outside c.args.self.now.shape c.args.lane.now c.args.key c.seen_law.ensures.legal c.requires.owns.1 (λ is. cc (c.in_default.ensures.some.1 is))
 
 -- ---- it is no key of the pool
 
@@ -137,14 +136,3 @@ returns-in_default-clause-held g c = λ key. refl
 
 pub returns-in_default-clause-fillings : goal.returns-in_default-clause-fillings
 returns-in_default-clause-fillings g c = λ filling made. made
-
--- ---- what became of the place is kept
-
-pub keep_reclaimed-requires-clause-shape : goal.keep_reclaimed-requires-clause-shape
-keep_reclaimed-requires-clause-shape g c = c.lane.invariant.1.seat.shape
-
-pub keep_reclaimed-requires-clause-narrow : goal.keep_reclaimed-requires-clause-narrow
-keep_reclaimed-requires-clause-narrow g c = c.lane.invariant.1.stores.narrow
-
-pub keep_reclaimed-requires-clause-wide : goal.keep_reclaimed-requires-clause-wide
-keep_reclaimed-requires-clause-wide g c = c.lane.invariant.1.last_pushed.wide

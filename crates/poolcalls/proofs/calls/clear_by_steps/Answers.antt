@@ -7,9 +7,9 @@ use Rattle.steplaws.specs.Calls.Call.{Clearing}
 use Rattle.poolsteps.specs.Grids.{SameSeat}
 use Rattle.poolcalls.proofs.Calling.{Opens, Opened, enter-step, called-after, acts-behind, life-under, clear-entered, clear-misses, clear-marks}
 use Rattle.poolcalls.proofs.Standing.{HasLeft, has-left, at-same, left-at, left-owes, lawful}
-use Rattle.poolcalls.proofs.calls.clear.Given.{Over}
-use Rattle.poolcalls.proofs.calls.clear.Goals as goal
-use Rattle.poolcalls.proofs.calls.clear.Goals.{then-is_hit, else-is_hit}
+use Rattle.poolcalls.proofs.calls.clear_by_steps.Given.{Over}
+use Rattle.poolcalls.proofs.calls.clear_by_steps.Goals as goal
+use Rattle.poolcalls.proofs.calls.clear_by_steps.Goals.{then-is_hit, else-is_hit}
 
 -- the call up to its LEAVE
 opened : (g : Over) (c : goal.After-finish_leave g)
@@ -23,12 +23,16 @@ opened g c = elim c.if-is_hit.branch [
       (clear-misses c.requires.key c.enter-found.ensures.enters (sym c.is_hit.ensures ∙ w.if-is_hit.false))
 ]
 
-pub returns-clause-called : goal.returns-clause-called
-returns-clause-called g c = called-after (opened g c) refl c.leave-left.ensures.leaves c.requires.at.spot.place_is c.finish_leave.ensures.ends
-
-pub returns-clause-acts : goal.returns-clause-acts
-returns-clause-acts g c = rw (sym c.requires.at.spot.place_is)
-    (acts-behind (opened g c) refl c.leave-left.ensures.leaves c.requires.at.spot.place_is c.finish_leave.ensures.ends c.finish_leave.result c.finish_leave.ensures.acts)
+pub returns-clause-clears : goal.returns-clause-clears
+returns-clause-clears g c =
+    let left = c.leave-left.ensures.leaves in
+    let place_is = c.requires.at.spot.place_is in
+    let ends = c.finish_leave.ensures.ends in record {
+      called = called-after (opened g c) refl left place_is ends;
+      acts = rw (sym place_is) (acts-behind (opened g c) refl left place_is ends c.finish_leave.result c.finish_leave.ensures.acts);
+      told = rw (sym place_is) c.finish_leave.ensures.reclaimed;
+      at = rw (sym place_is) c.finish_leave.ensures.at;
+    }
 
 pub enter-found-requires : goal.enter-found-requires
 enter-found-requires g c =
@@ -97,6 +101,3 @@ returns-clause-hand g c =
     ] in
     let left = c.leave-left.ensures.hand in
     let last = c.finish_leave.ensures.hand in (last.0 ∙ (left.0 ∙ same.0), last.1 ∙ (left.1 ∙ same.1))
-
-pub returns-clause-reclaimed : goal.returns-clause-reclaimed
-returns-clause-reclaimed g c = rw (sym c.requires.at.spot.place_is) c.finish_leave.ensures.reclaimed

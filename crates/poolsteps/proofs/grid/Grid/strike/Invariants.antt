@@ -1,0 +1,8 @@
+use Rattle.std.proofs.Common.{false}
+use Rattle.sharelaws.specs.Shares.{nothing_stored}
+use Rattle.poolsteps.specs.declared.plays.Purpose.TheVariants.{ToGet}
+use Rattle.poolsteps.proofs.grid.Grid.strike.Given as goal
+
+-- the key that the caller marks, at this grid
+abbrev pub ghosts-strike_as : goal.ghosts-strike_as
+ghosts-strike_as g a = record { shape = a.self.now.shape; purpose = ToGet; key = a.key; stored = nothing_stored; with_ref = false }

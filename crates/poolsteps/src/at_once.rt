@@ -1,0 +1,87 @@
+//! Several steps of a clear, one after another with nothing between them, as one operation on the key's word.
+ghost use Rattle.std.specs.Prelude.{◌≡◌, true};
+ghost use Rattle.keybits.specs.Keys.{place_of, is_key};
+ghost use Rattle.keybits.specs.Words.{is_hit};
+ghost use Rattle.poolsteps.specs.Views.{IsOne};
+ghost use Rattle.poolsteps.specs.Grids.{IsSpot, IsOf, SameSeat};
+ghost use Rattle.poolsteps.specs.Told.{IsIdle};
+ghost use Rattle.poolsteps.specs.AtOnce.{Sweeps, Strikes};
+
+use crate::grid::{Grid, Hand, Spot};
+use crate::layout::LIVES_START;
+use crate::plays::{Aim, Strike, Sweep};
+use keybits::{MARK_BIT, claimable, claimed, generation_of};
+use slotcell::Clear;
+use std::marker::Brand;
+
+impl<T: Clear> Grid<T> {
+    /// SWEEP: where a key is published and unmarked and nobody refers to it, the ENTER, MARK, LEAVE and CLAIM of its clear, by one
+    /// compare-exchange. Else it changes nothing: where the key misses and no claim is owed at the word that was found, it was the ENTER
+    /// and LEAVE of a clear that misses, and otherwise a look. Answers the word that was found.
+    #[inline]
+    pub fn sweep(&self, hand: &mut Hand<T>, spot: Spot, key: u64) -> u64
+        requires hand { IsOf self.now hand.old × IsOne hand.old.me.0 }
+        requires spot { IsSpot self.now.shape spot (place_of key) }
+        requires key { is_key self.now.shape key ≡ true }
+        requires idle { IsIdle hand.old.me.0 }
+        ensures hand { SameSeat hand.old hand.new }
+        ensures sweeps { Sweeps self.now.shape key hand.old.me result hand.new.me }
+    {
+        self.sweep_as::<Brand>(hand, spot, key)
+    }
+
+    #[inline]
+    fn sweep_as<J: Aim>(&self, hand: &mut Hand<T>, spot: Spot, key: u64) -> u64
+        requires aim { (J.shape ≡ self.now.shape) × (J.key ≡ key) }
+        requires hand { IsOf self.now hand.old × IsOne hand.old.me.0 }
+        requires spot { IsSpot self.now.shape spot (place_of key) }
+        requires key { is_key self.now.shape key ≡ true }
+        requires idle { IsIdle hand.old.me.0 }
+        ensures hand { SameSeat hand.old hand.new }
+        ensures sweeps { Sweeps self.now.shape key hand.old.me result hand.new.me }
+    {
+        let marked = claimable(generation_of(key));
+        let new = claimed(marked, self.shape.last_generation);
+        self.table.shared.compare_exchange::<Sweep<J>>(
+            hand,
+            LIVES_START + spot.start as usize,
+            marked - MARK_BIT,
+            new,
+        )
+    }
+
+    /// STRIKE, from a word that hits the key: where its word is still the one that is expected, the ENTER, MARK and LEAVE of its clear, by
+    /// one compare-exchange. Where it finds another word, it changes nothing and was a look. Answers the word that was found.
+    #[inline]
+    pub fn strike(&self, hand: &mut Hand<T>, spot: Spot, key: u64, expected: u64) -> u64
+        requires hand { IsOf self.now hand.old × IsOne hand.old.me.0 }
+        requires spot { IsSpot self.now.shape spot (place_of key) }
+        requires key { is_key self.now.shape key ≡ true }
+        requires idle { IsIdle hand.old.me.0 }
+        requires hit { is_hit key expected ≡ true }
+        ensures hand { SameSeat hand.old hand.new }
+        ensures strikes { Strikes self.now.shape key expected hand.old.me result hand.new.me }
+    {
+        self.strike_as::<Brand>(hand, spot, key, expected)
+    }
+
+    #[inline]
+    fn strike_as<J: Aim>(&self, hand: &mut Hand<T>, spot: Spot, key: u64, expected: u64) -> u64
+        requires aim { (J.shape ≡ self.now.shape) × (J.key ≡ key) }
+        requires hand { IsOf self.now hand.old × IsOne hand.old.me.0 }
+        requires spot { IsSpot self.now.shape spot (place_of key) }
+        requires key { is_key self.now.shape key ≡ true }
+        requires idle { IsIdle hand.old.me.0 }
+        requires hit { is_hit key expected ≡ true }
+        ensures hand { SameSeat hand.old hand.new }
+        ensures strikes { Strikes self.now.shape key expected hand.old.me result hand.new.me }
+    {
+        let _ = key;
+        self.table.shared.compare_exchange::<Strike<J>>(
+            hand,
+            LIVES_START + spot.start as usize,
+            expected,
+            expected.wrapping_add(MARK_BIT),
+        )
+    }
+}
