@@ -5,19 +5,32 @@ usage: python3 bindings/archive.py OUT.a
 
 It proves none of the libraries below anew: the compiler reads what was proved of them, and refuses one that isn't. poolffi itself is checked once
 more, which takes a minute of processor. Where out/ lacks a library below, run `rt check` in crates/poolffi first.
+
+The heap that the archive calls gets the library's prefix, by objcopy: so a program may link other libraries of Rattle beside it.
 """
 import os
-import shutil
 import subprocess
 import sys
 
 NAME = "poolffi"
+HEAP = ("alloc", "realloc", "dealloc")
 
 
 def kit_folder():
     """The folder of the toolchain, in which the page stands that `rt doc` names."""
     page = subprocess.run(["rt", "doc"], capture_output=True, text=True, check=True).stdout.strip()
     return os.path.dirname(page)
+
+
+def rename_heap(made, target):
+    """Writes the archive with rattle_alloc and its like as pardz_alloc. It may be the same file."""
+    words = [f"--redefine-sym=rattle_{name}=pardz_{name}" for name in HEAP]
+    # It numbers symbols, whose order objcopy changes.
+    words.append("--remove-section=.llvm_addrsig")
+    try:
+        subprocess.run(["objcopy", *words, made, target], check=True)
+    except FileNotFoundError:
+        sys.exit("objcopy isn't here: it comes with the linker (binutils)")
 
 
 def main():
@@ -37,8 +50,7 @@ def main():
     status = crate.call(rtlib.RATTLE, "build", *words, *tools, "-o", f"out/lib{NAME}.a")
     if status:
         sys.exit(status)
-    if os.path.realpath(made) != os.path.realpath(target):
-        shutil.copyfile(made, target)
+    rename_heap(made, target)
     print(target)
 
 

@@ -2,9 +2,12 @@
  *
  * A thread fills a buffer and publishes it under a key; any thread with a lane reads it under a reference; a clear makes the key
  * unknown at once, and whoever lets go last empties the buffer, which keeps its memory and is filled again under a new key.
- * No call blocks or waits for another thread.
+ * No call locks anything or waits for another thread, unless the heap does: pardz_open, pardz_create where it opens a page,
+ * pardz_append, pardz_room and pardz_put take memory, and pardz_close, a pardz_open that is refused and whoever lets go last of a
+ * place that is used up give it back.
  *
- * Link with libpoolffi.a and heap.c, in C11, C++11 or later. docs/FOREIGN.md tells what may be relied on.
+ * Link with libpoolffi.a and heap.c, in C11, C++11 or later, for x86-64 of level 2 (x86-64-v2) and ELF. docs/FOREIGN.md tells what
+ * may be relied on.
  *
  * The caller's duties (nothing checks them):
  *
@@ -14,12 +17,25 @@
  * - A slot (pardz_lane) is PARDZ_EMPTY before pardz_open. It may be moved by a plain copy, if the old copy isn't used again;
  *   nothing else writes to it or makes one up. Slots of threads that run at once best stand 64 bytes apart.
  * - A pointer that a call is given points to so much memory as the call reads or writes, for the time of the call, and to no slot
- *   and nothing else that the call writes. It is never NULL, but for `bytes` where `len` is 0 and `lanes` where `count` is 0.
- * - No call is made from a signal handler, or in the forked child of a process with threads.
+ *   and nothing else that the call writes: the slots of a join are two. It is never NULL, but for `bytes` where `len` is 0 and
+ *   `lanes` where `count` is 0.
+ * - Bytes that were lent are read or written where, and as long as, the call that lent them says.
+ * - No call is made from a signal handler, or in the forked child of a process with threads; none is left by a jump, an exception
+ *   of the heap or an asynchronous cancellation.
  *
- * Each call answers a code. After any code but PARDZ_OK nothing has changed, and nothing was written through a pointer. Keys may
- * be any numbers: a wrong one is answered by a code. A key may be sent to any thread; one that came by a lock, a channel or such an
- * atomic is published for whoever hears it.
+ * Each call answers a code. At any code but PARDZ_OK nothing was written through a pointer, and all is as before the call, except:
+ *
+ * - PARDZ_MEMORY of an append or a room: an earlier room of the filling has ended. Its bytes are as before.
+ * - PARDZ_MEMORY of a put: a page may be open, and a place have used up its next key (if that was its last, it is retired).
+ * - PARDZ_SHARED of a close: the slot may be empty, and the pool then keeps its memory.
+ * - pardz_close_all: what it joined before it was refused is joined.
+ *
+ * A key names a place of a pool, how often the place was used, and the pool's tag; it is never 0. It may be sent to any thread; one
+ * that came by a lock, a channel or such an atomic is published for whoever hears it. Calls may be given any number: one that isn't
+ * published is answered by a code. A key of another pool is told by its tag alone. Pools with one tag give out the same keys, and
+ * each takes the other's for its own: let pools whose keys may be mixed up have different tags.
+ *
+ * A clear wipes nothing: bytes that were cleared stay in memory until they are written over, and what is freed isn't wiped either.
  */
 #ifndef PARDZ_H
 #define PARDZ_H
@@ -46,7 +62,7 @@ typedef struct pardz_shape {
     uint32_t first_page;      /* places of a lane's first page: 1, 2, 4, 8, 16, 32 or 64 */
     uint32_t pages;           /* pages of a lane: 1 to 6 */
     uint32_t last_generation; /* how often a place is used before it is retired: from 1; UINT32_MAX for most programs */
-    uint32_t tag;             /* 0 to 255: stands in each key, so that a pool knows the keys of one with another tag for wrong */
+    uint32_t tag;             /* 0 to 255: stands in each key, and tells it from those of pools with another tag */
 } pardz_shape;
 
 /* What the places of a pool were when it was closed. The six add up to lanes times places of a lane. */
@@ -64,11 +80,11 @@ enum {
     PARDZ_MEMORY = 1,       /* memory was refused */
     PARDZ_EMPTY_LANE = 2,   /* the slot has no lane: it was never opened, or was joined or closed */
     PARDZ_FULL_LANE = 3,    /* open: a slot already has a lane */
-    PARDZ_FULL = 4,         /* create: no place of the lane is free */
+    PARDZ_FULL = 4,         /* create, put: no place of the lane is free */
     PARDZ_FILLINGS = 5,     /* create: the lane already has 16 fillings */
     PARDZ_NO_FILLING = 6,   /* the lane has no filling under this key */
     PARDZ_NO_REFERENCE = 7, /* the lane has no reference to this key */
-    PARDZ_GONE = 8,         /* get, clear: the key isn't published, or it is cleared already, or it is no key of this pool */
+    PARDZ_GONE = 8,         /* get, clear: nothing is published under the key in this pool, or it is cleared already */
     PARDZ_REFERENCES = 9,   /* get, downgrade: the lane has 1,048,575 references, the most that it can have */
     PARDZ_OTHER_POOL = 10,  /* join: the lanes are of different pools */
     PARDZ_LANES = 11,       /* open: count isn't the shape's number of lanes; join, close: not the lane whose turn it is */
@@ -100,9 +116,9 @@ uint32_t pardz_create(pardz_lane *lane, uint64_t *key);
  * PARDZ_MEMORY, PARDZ_EMPTY_LANE, PARDZ_NO_FILLING. */
 uint32_t pardz_append(pardz_lane *lane, uint64_t key, const uint8_t *bytes, size_t len);
 
-/* Lends `count` bytes, zeros at first, behind those of the filling, which they continue. They may be written to until the next
- * call with this filling, and belong to it only as far as pardz_wrote says so. An earlier room ends, even where memory is refused.
- * *at isn't written where count is 0.
+/* Lends `count` bytes, zeros at first, behind those of the filling, which they continue, so they begin at any address. They may be
+ * written to until the next call with this filling, and belong to it only as far as pardz_wrote says so. An earlier room ends, even
+ * where memory is refused. *at isn't written where count is 0.
  * PARDZ_MEMORY, PARDZ_EMPTY_LANE, PARDZ_NO_FILLING. */
 uint32_t pardz_room(pardz_lane *lane, uint64_t key, size_t count, uint8_t **at);
 
@@ -118,8 +134,8 @@ uint32_t pardz_publish(pardz_lane *lane, uint64_t key);
  * PARDZ_EMPTY_LANE, PARDZ_NO_FILLING, PARDZ_REFERENCES. */
 uint32_t pardz_downgrade(pardz_lane *lane, uint64_t key);
 
-/* Publishes bytes in a place of their own, and answers the key: as a create, an append and a publish, and faster. It needs no filling
- * to be free. Where memory is refused for the bytes, a place that was had is free again, under a new key.
+/* Publishes bytes in a place of their own, and answers the key: as a create, an append and a publish, and faster. It needs no
+ * filling to be free. Where memory is refused for the bytes, a place that was had is free again, under its next key, or retired.
  * PARDZ_MEMORY, PARDZ_EMPTY_LANE, PARDZ_FULL. */
 uint32_t pardz_put(pardz_lane *lane, const uint8_t *bytes, size_t len, uint64_t *key);
 
@@ -128,8 +144,8 @@ uint32_t pardz_put(pardz_lane *lane, const uint8_t *bytes, size_t len, uint64_t 
 uint32_t pardz_leave(pardz_lane *lane, uint64_t key);
 
 /* References: a lane may have several, to one key too. The bytes of a key stand where they are, and don't change, until the lane
- * has released the key as often as it took a reference to it, or the pool is closed; any thread may read them meanwhile. A
- * reference stays with its lane: another lane gets its own by the key.
+ * has released the key as often as it took a reference to it, or the pool is closed; any thread may read them meanwhile. They begin
+ * where their block does, with heap.c at a multiple of 16. A reference stays with its lane: another lane gets its own by the key.
  *
  * Takes a reference, and tells the bytes. *at isn't written where *len is 0.
  * PARDZ_EMPTY_LANE, PARDZ_GONE, PARDZ_REFERENCES. */
@@ -149,7 +165,8 @@ uint32_t pardz_release(pardz_lane *lane, uint64_t key);
 uint32_t pardz_clear(pardz_lane *lane, uint64_t key);
 
 /* The end: each lane but lane 0 is joined into lane 0, the last one first, then the one before it. Its slot is then empty. What it
- * still fills is given up; what it still refers to stays until the close, and counts as present or marked.
+ * still fills is given up; what it still refers to stays until the close, and counts as present or marked. No lane is joined into
+ * itself.
  * PARDZ_EMPTY_LANE, PARDZ_OTHER_POOL, PARDZ_LANES. */
 uint32_t pardz_join(pardz_lane *into, pardz_lane *lane);
 
@@ -157,8 +174,11 @@ uint32_t pardz_join(pardz_lane *into, pardz_lane *lane);
  * closed keeps its memory. PARDZ_EMPTY_LANE, PARDZ_LANES; PARDZ_SHARED, where two pools have one number. */
 uint32_t pardz_close(pardz_lane *lane, pardz_census *census);
 
-/* Joins and closes all lanes of one open, which stand in its order. */
+/* Joins and closes all lanes of one open, which stand in its order. It ends at the first code that isn't PARDZ_OK.
+ * PARDZ_EMPTY_LANE, PARDZ_OTHER_POOL, PARDZ_LANES, PARDZ_SHARED. */
 static inline uint32_t pardz_close_all(pardz_lane *lanes, size_t count, pardz_census *census) {
+    if (count == 0)
+        return PARDZ_LANES;
     while (count > 1) {
         uint32_t code = pardz_join(&lanes[0], &lanes[--count]);
         if (code != PARDZ_OK)
@@ -166,6 +186,24 @@ static inline uint32_t pardz_close_all(pardz_lane *lanes, size_t count, pardz_ce
     }
     return pardz_close(&lanes[0], census);
 }
+
+/* What the library calls. heap.c has it over malloc, realloc and free; a program with a heap of its own has its own in the place of
+ * heap.c. These may be called by several threads at once, and call no pool.
+ *
+ * A block of memory, or a refusal. */
+typedef struct pardz_block {
+    unsigned char ok; /* 1; 0 where memory is refused */
+    void *at;         /* the block; where it is refused any address but NULL */
+} pardz_block;
+
+/* A block of so many bytes (it may be 0), aligned to `align`, which is 1, 2, 4, 8 or 16. */
+pardz_block pardz_alloc(size_t size, size_t align);
+
+/* A block made one of so many bytes, at the same address or another. Its first `kept` bytes stay; a refusal leaves it as it was. */
+pardz_block pardz_realloc(void *at, size_t kept, size_t size, size_t align);
+
+/* Frees a block. */
+void pardz_dealloc(void *at);
 
 #ifdef __cplusplus
 }

@@ -22,5 +22,5 @@ int main(void) {
     }
 
     pardz_census census;
-    return pardz_close_all(lanes, 2, &census) != PARDZ_OK || census.present != 0;
+    return pardz_close_all(lanes, 2, &census) != PARDZ_OK || census.present + census.marked != 0;
 }

@@ -50,6 +50,16 @@ static void expect(enum call call, uint32_t want, uint32_t got, int line) {
 
 static const pardz_shape SHAPE = { 2, 2, 2, UINT32_MAX, 7 };
 
+/* Where an address points that no call wrote. */
+static uint8_t nowhere[512];
+
+/* A census that no close wrote. */
+static const pardz_census NONE = { 99, 99, 99, 99, 99, 99 };
+
+static int is_none(const pardz_census *census) {
+    return memcmp(census, &NONE, sizeof NONE) == 0;
+}
+
 static uint64_t put(pardz_lane *lane, const char *text) {
     uint64_t key = 0;
     EXPECT(CREATE, OK, pardz_create(lane, &key));
@@ -90,11 +100,11 @@ static void opens(void) {
 
 /* A slot without a lane: each call says so. */
 static void empty_lanes(pardz_lane *empty, pardz_lane *full) {
-    uint64_t key = 0;
-    uint8_t *to;
-    const uint8_t *at;
-    size_t len;
-    pardz_census census;
+    uint64_t key = 99;
+    uint8_t *to = nowhere;
+    const uint8_t *at = nowhere;
+    size_t len = 99;
+    pardz_census census = NONE;
     EXPECT(CREATE, EMPTY_LANE, pardz_create(empty, &key));
     EXPECT(APPEND, EMPTY_LANE, pardz_append(empty, 1, NULL, 0));
     EXPECT(ROOM, EMPTY_LANE, pardz_room(empty, 1, 1, &to));
@@ -110,13 +120,14 @@ static void empty_lanes(pardz_lane *empty, pardz_lane *full) {
     EXPECT(JOIN, EMPTY_LANE, pardz_join(full, empty));
     EXPECT(JOIN, EMPTY_LANE, pardz_join(empty, full));
     EXPECT(CLOSE, EMPTY_LANE, pardz_close(empty, &census));
+    CHECK(key == 99 && to == nowhere && at == nowhere && len == 99 && is_none(&census));
     CHECK(empty->full == 0 && full->full == 1);
 }
 
 /* What isn't a filling, a reference or a published key of the lane. */
 static void wrong_keys(pardz_lane *lane, pardz_lane *other, uint64_t key) {
-    uint8_t *to = NULL;
-    const uint8_t *at = NULL;
+    uint8_t *to = nowhere;
+    const uint8_t *at = nowhere;
     size_t len = 99;
     EXPECT(APPEND, NO_FILLING, pardz_append(lane, key, (const uint8_t *)"x", 1));
     EXPECT(ROOM, NO_FILLING, pardz_room(lane, key, 1, &to));
@@ -126,18 +137,20 @@ static void wrong_keys(pardz_lane *lane, pardz_lane *other, uint64_t key) {
     EXPECT(LEAVE, NO_FILLING, pardz_leave(lane, key));
     EXPECT(READ, NO_REFERENCE, pardz_read(other, key, &at, &len));
     EXPECT(RELEASE, NO_REFERENCE, pardz_release(other, key));
-    CHECK(to == NULL && at == NULL && len == 99);
+    CHECK(to == nowhere && at == nowhere && len == 99);
 }
 
 /* The life of one buffer, on two lanes. */
 static void life(pardz_lane *a, pardz_lane *b) {
     uint64_t key = 0;
-    uint8_t *to = NULL;
-    const uint8_t *at = NULL, *again = NULL;
+    uint8_t *to = nowhere;
+    const uint8_t *at = nowhere, *again = nowhere;
     size_t len = 0;
     EXPECT(CREATE, OK, pardz_create(a, &key));
     wrong_keys(b, b, key);
+    len = 99;
     EXPECT(GET, GONE, pardz_get(a, key, &at, &len));
+    CHECK(at == nowhere && len == 99);
     EXPECT(CLEAR, GONE, pardz_clear(a, key));
     EXPECT(APPEND, OK, pardz_append(a, key, NULL, 0));
     EXPECT(APPEND, OK, pardz_append(a, key, (const uint8_t *)"abc", 3));
@@ -155,14 +168,16 @@ static void life(pardz_lane *a, pardz_lane *b) {
     memcpy(to, "zzzz", 4);
     EXPECT(DOWNGRADE, OK, pardz_downgrade(a, key));
     EXPECT(READ, OK, pardz_read(a, key, &at, &len));
-    CHECK(len == 6 && memcmp(at, "abcdei", 6) == 0);
+    CHECK(len == 6 && memcmp(at, "abcdei", 6) == 0 && (uintptr_t)at % 16 == 0);
     wrong_keys(a, b, key);
     EXPECT(GET, OK, pardz_get(b, key, &again, &len));
     CHECK(len == 6 && again == at);
     EXPECT(GET, OK, pardz_get(b, key, &again, &len));
     EXPECT(CLEAR, OK, pardz_clear(b, key));
     EXPECT(CLEAR, GONE, pardz_clear(a, key));
+    len = 99;
     EXPECT(GET, GONE, pardz_get(a, key, &again, &len));
+    CHECK(again == at && len == 99);
     EXPECT(RELEASE, OK, pardz_release(b, key));
     EXPECT(RELEASE, OK, pardz_release(b, key));
     EXPECT(RELEASE, NO_REFERENCE, pardz_release(b, key));
@@ -172,11 +187,11 @@ static void life(pardz_lane *a, pardz_lane *b) {
     EXPECT(READ, NO_REFERENCE, pardz_read(a, key, &again, &len));
     uint64_t empty = put(a, "");
     CHECK(empty != key);
-    at = NULL;
+    at = nowhere;
     EXPECT(GET, OK, pardz_get(b, empty, &at, &len));
-    CHECK(at == NULL && len == 0);
+    CHECK(at == nowhere && len == 0);
     EXPECT(READ, OK, pardz_read(b, empty, &at, &len));
-    CHECK(at == NULL && len == 0);
+    CHECK(at == nowhere && len == 0);
     EXPECT(RELEASE, OK, pardz_release(b, empty));
     EXPECT(CLEAR, OK, pardz_clear(b, empty));
     EXPECT(GET, GONE, pardz_get(b, UINT64_MAX, &at, &len));
@@ -186,7 +201,7 @@ static void life(pardz_lane *a, pardz_lane *b) {
 /* Bytes of a reference are appended to another filling. */
 static void from_a_reference(pardz_lane *lane) {
     uint64_t first = put(lane, "once"), second = 0;
-    const uint8_t *at = NULL;
+    const uint8_t *at = nowhere;
     size_t len = 0;
     EXPECT(GET, OK, pardz_get(lane, first, &at, &len));
     EXPECT(CREATE, OK, pardz_create(lane, &second));
@@ -204,7 +219,7 @@ static void from_a_reference(pardz_lane *lane) {
 /* What is put is read under its key, by any lane; bytes of a reference can be put too. */
 static void puts_bytes(pardz_lane *a, pardz_lane *b) {
     uint64_t keys[3] = { 0, 0, 0 };
-    const uint8_t *at = NULL;
+    const uint8_t *at = nowhere;
     size_t len = 99;
     EXPECT(PUT, OK, pardz_put(a, (const uint8_t *)"twice", 5, &keys[0]));
     EXPECT(GET, OK, pardz_get(b, keys[0], &at, &len));
@@ -229,8 +244,8 @@ static void limits(void) {
     const pardz_shape shape = { 2, 8, 2, UINT32_MAX, 0 };
     pardz_lane lanes[2] = { PARDZ_EMPTY, PARDZ_EMPTY };
     uint64_t keys[24], key = 99;
-    const uint8_t *at;
-    size_t len;
+    const uint8_t *at, *no_more = nowhere;
+    size_t len, no_len = 99;
     EXPECT(OPEN, OK, pardz_open(&shape, lanes, 2));
     for (int i = 0; i < 16; i++)
         EXPECT(CREATE, OK, pardz_create(&lanes[0], &keys[i]));
@@ -244,7 +259,8 @@ static void limits(void) {
     CHECK(key == 99);
     for (long i = 0; i < 1048575; i++)
         CHECK(pardz_get(&lanes[0], keys[i % 16], &at, &len) == PARDZ_OK);
-    EXPECT(GET, REFERENCES, pardz_get(&lanes[0], keys[0], &at, &len));
+    EXPECT(GET, REFERENCES, pardz_get(&lanes[0], keys[0], &no_more, &no_len));
+    CHECK(no_more == nowhere && no_len == 99);
     EXPECT(DOWNGRADE, REFERENCES, pardz_downgrade(&lanes[0], keys[16]));
     EXPECT(GET, OK, pardz_get(&lanes[1], keys[0], &at, &len));
     EXPECT(RELEASE, OK, pardz_release(&lanes[0], keys[0]));
@@ -258,26 +274,39 @@ static void limits(void) {
     CHECK(census.present == 16 && census.filling == 8 && census.marked == 1 && census.free == 7 && census.unopened == 16);
 }
 
-/* Memory is refused to a create, an append, a room and a put; each goes on afterwards. */
+/* Memory is refused to a create, an append, a room and a put; each goes on afterwards. A refused append or room leaves the bytes as
+ * they were, and ends the earlier room. */
 static void memory(void) {
     pardz_lane lanes[2] = { PARDZ_EMPTY, PARDZ_EMPTY };
-    uint64_t key = 99;
-    uint8_t bytes[100] = { 1 }, *to = NULL;
+    uint64_t key = 99, other = 99;
+    uint8_t bytes[100] = { 1 }, *to = nowhere, *no_room = nowhere;
+    const uint8_t *at = nowhere;
+    size_t len = 0;
     EXPECT(OPEN, OK, pardz_open(&SHAPE, lanes, 2));
     heap_begin(1, 1000);
     EXPECT(CREATE, MEMORY, pardz_create(&lanes[0], &key));
     CHECK(key == 99);
     heap_begin(0, 0);
     EXPECT(CREATE, OK, pardz_create(&lanes[0], &key));
-    heap_begin(1, 1000);
-    EXPECT(APPEND, MEMORY, pardz_append(&lanes[0], key, bytes, sizeof bytes));
-    EXPECT(ROOM, MEMORY, pardz_room(&lanes[0], key, sizeof bytes, &to));
-    CHECK(to == NULL);
-    heap_begin(0, 0);
+    EXPECT(APPEND, OK, pardz_append(&lanes[0], key, (const uint8_t *)"ab", 2));
+    for (int i = 0; i < 2; i++) {
+        EXPECT(ROOM, OK, pardz_room(&lanes[0], key, 3, &to));
+        memcpy(to, "xyz", 3);
+        heap_begin(1, 1000);
+        if (i == 0)
+            EXPECT(APPEND, MEMORY, pardz_append(&lanes[0], key, bytes, sizeof bytes));
+        else
+            EXPECT(ROOM, MEMORY, pardz_room(&lanes[0], key, sizeof bytes, &no_room));
+        CHECK(no_room == nowhere);
+        EXPECT(WROTE, ROOM, pardz_wrote(&lanes[0], key, 1));
+        heap_begin(0, 0);
+    }
     EXPECT(APPEND, OK, pardz_append(&lanes[0], key, bytes, sizeof bytes));
-    EXPECT(PUBLISH, OK, pardz_publish(&lanes[0], key));
+    EXPECT(DOWNGRADE, OK, pardz_downgrade(&lanes[0], key));
+    EXPECT(READ, OK, pardz_read(&lanes[0], key, &at, &len));
+    CHECK(len == 102 && memcmp(at, "ab", 2) == 0 && memcmp(at + 2, bytes, 100) == 0);
+    EXPECT(RELEASE, OK, pardz_release(&lanes[0], key));
     /* The page's other place is had, and given back; then a page is wanted. */
-    uint64_t other = 99;
     heap_begin(1, 1000);
     EXPECT(PUT, MEMORY, pardz_put(&lanes[0], bytes, sizeof bytes, &other));
     EXPECT(PUT, MEMORY, pardz_put(&lanes[1], bytes, 1, &other));
@@ -290,29 +319,124 @@ static void memory(void) {
     CHECK(census.present == 2 && census.filling == 0 && census.unopened == 10);
 }
 
+/* A buffer that is cleared keeps its memory: the next create, append, room and put of its place ask for none. The place's last use
+ * frees it, be it of a put that is refused memory. */
+static void used_again(void) {
+    const pardz_shape shape = { 1, 1, 1, 5, 0 };
+    pardz_lane lane = PARDZ_EMPTY;
+    uint8_t bytes[500] = { 1 }, *to = nowhere;
+    uint64_t key = 0;
+    EXPECT(OPEN, OK, pardz_open(&shape, &lane, 1));
+    EXPECT(PUT, OK, pardz_put(&lane, bytes, sizeof bytes, &key));
+    EXPECT(CLEAR, OK, pardz_clear(&lane, key));
+    long blocks = heap_blocks;
+    heap_begin(1, 1000);
+    for (int i = 0; i < 3; i++) {
+        if (i == 0) {
+            EXPECT(PUT, OK, pardz_put(&lane, bytes, sizeof bytes, &key));
+        } else {
+            EXPECT(CREATE, OK, pardz_create(&lane, &key));
+            EXPECT(APPEND, OK, pardz_append(&lane, key, bytes, 100));
+            EXPECT(ROOM, OK, pardz_room(&lane, key, 400, &to));
+            EXPECT(PUBLISH, OK, pardz_publish(&lane, key));
+        }
+        EXPECT(CLEAR, OK, pardz_clear(&lane, key));
+    }
+    CHECK(heap_requests == 0 && heap_blocks == blocks);
+    uint8_t more[2000] = { 2 };
+    EXPECT(PUT, MEMORY, pardz_put(&lane, more, sizeof more, &key));
+    CHECK(heap_blocks < blocks);
+    EXPECT(PUT, FULL, pardz_put(&lane, bytes, 1, &key));
+    heap_begin(0, 0);
+    pardz_census census = NONE;
+    CHECK(pardz_close_all(&lane, 0, &census) == PARDZ_LANES && lane.full == 1 && is_none(&census));
+    CHECK(pardz_close_all(&lane, 1, &census) == PARDZ_OK && census.retired == 1 && heap_blocks == 0);
+}
+
+/* Keys of another pool: with another tag they are wrong, with the same tag they are taken for the pool's own. */
+static void tags(void) {
+    const pardz_shape shapes[3] = { { 1, 2, 1, UINT32_MAX, 7 }, { 1, 2, 1, UINT32_MAX, 7 }, { 1, 2, 1, UINT32_MAX, 8 } };
+    pardz_lane lanes[3] = { PARDZ_EMPTY, PARDZ_EMPTY, PARDZ_EMPTY };
+    uint64_t keys[3] = { 0, 0, 0 };
+    const uint8_t *at = nowhere;
+    size_t len = 0;
+    pardz_census census;
+    for (int i = 0; i < 3; i++) {
+        EXPECT(OPEN, OK, pardz_open(&shapes[i], &lanes[i], 1));
+        EXPECT(PUT, OK, pardz_put(&lanes[i], (const uint8_t *)"012" + i, 1, &keys[i]));
+    }
+    CHECK(keys[0] == keys[1] && keys[0] >> 56 == 7 && keys[2] >> 56 == 8);
+    EXPECT(GET, OK, pardz_get(&lanes[1], keys[0], &at, &len));
+    CHECK(len == 1 && *at == '1');
+    EXPECT(GET, GONE, pardz_get(&lanes[2], keys[0], &at, &len));
+    EXPECT(CLEAR, GONE, pardz_clear(&lanes[0], keys[2]));
+    for (int i = 0; i < 3; i++)
+        CHECK(pardz_close_all(&lanes[i], 1, &census) == PARDZ_OK && census.present == 1);
+    CHECK(heap_blocks == 0);
+}
+
 /* The order of joins, and two pools of one shape and tag. */
 static void ends(void) {
     const pardz_shape three = { 3, 2, 2, UINT32_MAX, 7 };
     pardz_lane lanes[3] = { PARDZ_EMPTY, PARDZ_EMPTY, PARDZ_EMPTY }, others[3] = { PARDZ_EMPTY, PARDZ_EMPTY, PARDZ_EMPTY };
-    pardz_census census;
+    pardz_census census = NONE;
     EXPECT(OPEN, OK, pardz_open(&three, lanes, 3));
     EXPECT(OPEN, OK, pardz_open(&three, others, 3));
     EXPECT(CLOSE, LANES, pardz_close(&lanes[0], &census));
     EXPECT(CLOSE, LANES, pardz_close(&lanes[1], &census));
     EXPECT(JOIN, LANES, pardz_join(&lanes[0], &lanes[1]));
+    EXPECT(JOIN, LANES, pardz_join(&lanes[1], &lanes[2]));
     EXPECT(JOIN, OTHER_POOL, pardz_join(&lanes[0], &others[2]));
     EXPECT(JOIN, OTHER_POOL, pardz_join(&others[0], &lanes[2]));
+    uint64_t left = 0, kept = put(&lanes[2], "referred to");
+    const uint8_t *at = nowhere;
+    size_t len = 0;
+    EXPECT(CREATE, OK, pardz_create(&lanes[2], &left));
+    EXPECT(GET, OK, pardz_get(&lanes[2], kept, &at, &len));
     EXPECT(JOIN, OK, pardz_join(&lanes[0], &lanes[2]));
     CHECK(lanes[2].full == 0);
     EXPECT(CLOSE, LANES, pardz_close(&lanes[0], &census));
+    EXPECT(GET, GONE, pardz_get(&lanes[1], left, &at, &len));
+    EXPECT(CLEAR, OK, pardz_clear(&lanes[1], kept));
+    CHECK(memcmp(at, "referred to", len) == 0);
     uint64_t key = put(&lanes[0], "still open");
     EXPECT(CLEAR, OK, pardz_clear(&lanes[1], key));
     EXPECT(JOIN, OTHER_POOL, pardz_join(&lanes[0], &others[1]));
     EXPECT(JOIN, OK, pardz_join(&lanes[0], &lanes[1]));
+    CHECK(is_none(&census));
     EXPECT(CLOSE, OK, pardz_close(&lanes[0], &census));
+    CHECK(census.filling == 1 && census.marked == 1 && census.free == 2 && census.unopened == 14);
     EXPECT(CLOSE, EMPTY_LANE, pardz_close(&lanes[0], &census));
     CHECK(pardz_close_all(others, 3, &census) == PARDZ_OK && census.unopened == 18);
     CHECK(heap_blocks == 0);
+}
+
+static void swap(pardz_lane *a, pardz_lane *b) {
+    pardz_lane kept = *a;
+    *a = *b;
+    *b = kept;
+}
+
+/* A close of all lanes ends at the first join that is refused, and tells its code. */
+static void close_alls(void) {
+    const pardz_shape three = { 3, 2, 2, UINT32_MAX, 7 };
+    pardz_lane lanes[3] = { PARDZ_EMPTY, PARDZ_EMPTY, PARDZ_EMPTY }, others[3] = { PARDZ_EMPTY, PARDZ_EMPTY, PARDZ_EMPTY };
+    pardz_census census = NONE;
+    EXPECT(OPEN, OK, pardz_open(&three, lanes, 3));
+    EXPECT(OPEN, OK, pardz_open(&three, others, 3));
+    CHECK(pardz_close_all(NULL, 0, &census) == PARDZ_LANES);
+    CHECK(pardz_close_all(lanes, 1, &census) == PARDZ_LANES);
+    swap(&lanes[1], &lanes[2]);
+    CHECK(pardz_close_all(lanes, 3, &census) == PARDZ_LANES);
+    CHECK(lanes[0].full == 1 && lanes[1].full == 1 && lanes[2].full == 1);
+    swap(&lanes[1], &lanes[2]);
+    swap(&lanes[1], &others[1]);
+    CHECK(pardz_close_all(lanes, 3, &census) == PARDZ_OTHER_POOL);
+    CHECK(lanes[0].full == 1 && lanes[1].full == 1 && lanes[2].full == 0);
+    swap(&lanes[1], &others[1]);
+    CHECK(pardz_close_all(lanes, 3, &census) == PARDZ_EMPTY_LANE && lanes[1].full == 1 && is_none(&census));
+    CHECK(pardz_close_all(lanes, 2, &census) == PARDZ_OK && pardz_close_all(others, 3, &census) == PARDZ_OK);
+    CHECK(lanes[0].full == 0 && lanes[1].full == 0 && heap_blocks == 0);
 }
 
 /* Two pools under one number, whose lanes are joined crosswise: each lane still goes to its own pool. */
@@ -362,7 +486,10 @@ int main(void) {
     CHECK(census.present + census.marked + census.filling + census.retired == 0);
     limits();
     memory();
+    used_again();
+    tags();
     ends();
+    close_alls();
     one_number();
     moved();
     int pairs = 0;

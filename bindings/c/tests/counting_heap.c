@@ -1,21 +1,10 @@
 #include "counting_heap.h"
-#include "../pardz.h"
 
-#include <stddef.h>
 #include <stdlib.h>
 
-struct tried {
-    unsigned char ok;
-    void *at;
-};
-
-struct tried rattle_alloc(size_t size, size_t align);
-struct tried rattle_realloc(void *at, size_t kept, size_t size, size_t align);
-void rattle_dealloc(void *at);
-
 long heap_blocks, heap_requests, heap_refused;
+size_t heap_size;
 static long from, to;
-static char nothing;
 
 void heap_begin(long first, long last) {
     heap_requests = 0;
@@ -23,7 +12,8 @@ void heap_begin(long first, long last) {
     to = last;
 }
 
-static int refuses(void) {
+static int refuses(size_t size) {
+    heap_size = size;
     heap_requests++;
     if (from == 0 || heap_requests < from || heap_requests > to)
         return 0;
@@ -31,29 +21,22 @@ static int refuses(void) {
     return 1;
 }
 
-static struct tried tried(void *at) {
-    struct tried answer = { at != NULL, at != NULL ? at : &nothing };
-    return answer;
-}
-
-struct tried rattle_alloc(size_t size, size_t align) {
-    void *at = refuses() ? NULL : malloc(size != 0 ? size : align);
+static void *counting_malloc(size_t size) {
+    void *at = refuses(size) ? NULL : malloc(size);
     heap_blocks += at != NULL;
-    return tried(at);
+    return at;
 }
 
-struct tried rattle_realloc(void *at, size_t kept, size_t size, size_t align) {
-    (void)kept;
-    return tried(refuses() ? NULL : realloc(at, size != 0 ? size : align));
+static void *counting_realloc(void *at, size_t size) {
+    return refuses(size) ? NULL : realloc(at, size);
 }
 
-void rattle_dealloc(void *at) {
-    heap_blocks--;
+static void counting_free(void *at) {
+    heap_blocks -= at != NULL;
     free(at);
 }
 
-/* These tests open pools on one thread. */
-uint64_t pardz_next_number(void) {
-    static uint64_t next;
-    return next++;
-}
+#define malloc counting_malloc
+#define realloc counting_realloc
+#define free counting_free
+#include "../heap.c"

@@ -11,6 +11,11 @@
 #define MOST_BYTES 96
 #define OLD_KEYS 64
 
+/* What keys, lengths and addresses are before a call that may write them. */
+#define NO_KEY 99
+#define NO_LEN 999
+static uint8_t nowhere[MOST_BYTES];
+
 enum state { UNOPENED, FREE, FILLING, LEFT, PRESENT, MARKED, RETIRED };
 
 struct place {
@@ -138,11 +143,13 @@ static uint32_t count(int shard, enum state state) {
     return found;
 }
 
-/* The place of a key that a create or a put of this lane answered with a code. None where the lane had no place. */
+/* The place of a key that a create or a put of this lane answered with a code. None where the lane had no place: no key was then
+ * written. */
 static struct place *had(int lane, uint32_t code, uint64_t key) {
     int is_free = count(lane, FREE) != 0;
     if (!is_free && opened[lane] == shard_places) {
         told(code, PARDZ_FULL);
+        CHECK(key == NO_KEY);
         return NULL;
     }
     told(code, PARDZ_OK);
@@ -162,10 +169,11 @@ static struct place *had(int lane, uint32_t code, uint64_t key) {
 }
 
 static void create(int lane) {
-    uint64_t key = 0;
+    uint64_t key = NO_KEY;
     uint32_t code = pardz_create(&lanes[lane], &key);
     if (fillings[lane] == 16) {
         told(code, PARDZ_FILLINGS);
+        CHECK(key == NO_KEY);
         return;
     }
     struct place *place = had(lane, code, key);
@@ -176,7 +184,7 @@ static void create(int lane) {
 }
 
 static void put(int lane) {
-    uint64_t key = 0;
+    uint64_t key = NO_KEY;
     uint8_t bytes[24];
     size_t len = (size_t)draw(sizeof bytes + 1);
     for (size_t i = 0; i < len; i++)
@@ -209,11 +217,11 @@ static void append(int lane, uint64_t key) {
 static void room(int lane, uint64_t key) {
     struct place *place = filling(lane, key);
     size_t len = (size_t)draw(25);
-    uint8_t *at = NULL;
+    uint8_t *at = nowhere;
     if (place != NULL && place->len + len > MOST_BYTES)
         return;
     told(pardz_room(&lanes[lane], key, len, &at), place != NULL ? PARDZ_OK : PARDZ_NO_FILLING);
-    CHECK((at != NULL) == (place != NULL && len != 0));
+    CHECK((at != nowhere) == (place != NULL && len != 0));
     if (place == NULL)
         return;
     for (size_t i = 0; i < len; i++)
@@ -263,11 +271,11 @@ static void leave(int lane, uint64_t key) {
 
 static void get(int lane, uint64_t key) {
     struct place *place = find(key);
-    const uint8_t *at = NULL;
-    size_t len = 0;
+    const uint8_t *at = nowhere;
+    size_t len = NO_LEN;
     int found = place != NULL && is_present(place, lane);
     told(pardz_get(&lanes[lane], key, &at, &len), found ? PARDZ_OK : PARDZ_GONE);
-    CHECK((at != NULL) == (found && len != 0));
+    CHECK((at != nowhere) == (found && len != 0) && (found || len == NO_LEN));
     if (!found)
         return;
     same_bytes(place, at, len);
@@ -276,11 +284,11 @@ static void get(int lane, uint64_t key) {
 
 static void read(int lane, uint64_t key) {
     struct place *place = find(key);
-    const uint8_t *at = NULL;
-    size_t len = 0;
+    const uint8_t *at = nowhere;
+    size_t len = NO_LEN;
     int held = place != NULL && is_held(place, lane);
     told(pardz_read(&lanes[lane], key, &at, &len), held ? PARDZ_OK : PARDZ_NO_REFERENCE);
-    CHECK((at != NULL) == (held && len != 0));
+    CHECK((at != nowhere) == (held && len != 0) && (held || len == NO_LEN));
     if (held)
         same_bytes(place, at, len);
 }

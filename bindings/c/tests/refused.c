@@ -92,9 +92,9 @@ static int run(long first, long last) {
 int main(void) {
     long runs = 0;
     for (long first = 1; run(first, first); first++)
-        runs++;
+        CHECK(++runs < 1000);
     for (long first = 1; run(first, 1000000); first++)
-        runs++;
+        CHECK(++runs < 2000);
     CHECK(runs > 20);
     printf("refused: %ld runs, %ld requests refused, %ld answers of no memory\n", runs, heap_refused, codes);
     return 0;

@@ -2,12 +2,14 @@
 use Rattle.std.proofs.Common.{◌≡◌, ◌==◌, ℕ, ◌+◌, ◌-◌, ◌≤◌, Bool, true, false, cond, List, [], ◌∷◌, Some, sym, ap, ◌∙◌, subst, arith}
 use Rattle.std.specs.Fn.{FnOnceReturnsAtMut, Once}
 use Rattle.std.specs.Borrow.{MutBor}
+use Rattle.keybits.specs.declared.shape.Shape.{Shape}
 use Rattle.keybits.specs.Keys.{place_of}
 use Rattle.seqpool.specs.declared.act.Act.{Act}
 use Rattle.seqpool.specs.declared.act.Act.TheVariants as acts
 use Rattle.sharelaws.specs.Shares.{room_of}
+use Rattle.steplaws.specs.Calls.Call.{Publishing, Getting, Releasing}
 use Rattle.shardpool.specs.Tokens.{PoolOf, LaneOf, FillingOf, RefOf}
-use Rattle.shardpool.specs.Lanes.{Owns, Did, Gets, holds}
+use Rattle.shardpool.specs.Lanes.{Owns, Calls, Did, Gets, holds}
 use Rattle.shardpool.specs.Creates.{Gives}
 use Rattle.shardpool.specs.Seen.{PublishedSince}
 use Rattle.shardpool.proofs.frame.Standing.{seen-of, published-earlier}
@@ -26,12 +28,16 @@ given-back key of other before between now is more less =
     less ∙ (ap (λ (k : ℕ). cond (k == other) (between - 1) between) is ∙ back (key == other) before between more)
 
 -- a get that found the key, and a release of its reference
-pub uses : (key : ℕ) (old between new : LaneOf) (reference : RefOf) → Gets key old between (Some reference) → between.number ≡ old.number
+pub uses : (z : Shape) (key : ℕ) (old between new : LaneOf) (reference : RefOf) → old.shape ≡ z → Calls z (Getting key) old.book between.book → Gets key old between (Some reference)
+    → between.number ≡ old.number → Calls z (Releasing reference.key) between.book new.book
     → (rest : List Act) → Did (acts.Release between.number reference.key ∷ rest) between new → Uses key old new
-uses key old between new reference gets is rest did = record {
+uses z key old between new reference shape asked gets is gave rest did = record {
   between = between;
   reference = reference;
+  get_called = subst (λ (s : Shape). Calls s (Getting key) old.book between.book) (sym shape) asked;
   gets = gets;
+  release_called = subst (λ (k : ℕ). Calls old.shape (Releasing k) between.book new.book) gets.0
+      (subst (λ (s : Shape). Calls s (Releasing reference.key) between.book new.book) (sym shape) gave);
   rest = rest;
   releases = subst (λ (k : ℕ). Did (acts.Release old.number k ∷ rest) between new) gets.0
       (subst (λ (n : ℕ). Did (acts.Release n reference.key ∷ rest) between new) is did);
@@ -41,17 +47,20 @@ uses key old between new reference gets is rest did = record {
 
 module _ {T : Type 0} {content : T → List ℕ} {room : T → ℕ} {old between : LaneOf} {filling : FillingOf T} (gives : Gives content room old between filling) where
   -- with a call on its object and a publish it is a create with a closure
-  pub creates : {F : Type 0} (g : Once F (MutBor T × Unit {0}) (Unit {0} × (MutBor T × Unit {0}))) (f : F) (new : LaneOf) (object : T) (key : ℕ)
-      → FnOnceReturnsAtMut g f filling.object tt object → key ≡ filling.key → Did (acts.Publish between.number filling.key (content object) false ∷ []) between new
+  pub creates : {F : Type 0} (g : Once F (MutBor T × Unit {0}) (Unit {0} × (MutBor T × Unit {0}))) (f : F) (z : Shape) (new : LaneOf) (object : T) (key : ℕ)
+      → FnOnceReturnsAtMut g f filling.object tt object → key ≡ filling.key → old.shape ≡ z
+      → Calls z (Publishing filling.key (content object) false) between.book new.book → Did (acts.Publish between.number filling.key (content object) false ∷ []) between new
       → PublishedSince filling.key (content object) false between new
       → room_of new.book.seen new.book.rooms (place_of filling.key) ≡ room object → CreatesWith content room g f old new key
-  creates g f new object key ran is published since roomy = record {
+  creates g f z new object key ran is shape called published since roomy = record {
     between = between;
     filling = filling;
     gives = gives;
     object = object;
     ran = ran;
     key_is = is;
+    called = subst (λ (k : ℕ). Calls old.shape (Publishing k (content object) false) between.book new.book) (sym is)
+        (subst (λ (s : Shape). Calls s (Publishing filling.key (content object) false) between.book new.book) (sym shape) called);
     publishes = subst (λ (k : ℕ). Did (acts.Publish old.number k (content object) false ∷ []) between new) (sym is)
         (subst (λ (n : ℕ). Did (acts.Publish n filling.key (content object) false ∷ []) between new) gives.created.same.2 published);
     published = subst (λ (k : ℕ). PublishedSince k (content object) false old new) (sym is) (published-earlier gives.created.same.2 (seen-of gives.created.goes) since);

@@ -3,10 +3,11 @@ ghost use Rattle.std.specs.Prelude.{◌≡◌, ◌≢◌, ◌<◌, ◌⊎◌, �
 ghost use Rattle.std.specs.Fn.{FnOnceReturnsAt, FnOnceTakesAtMut};
 ghost use mathlib.Core.List.{IsPrefix};
 ghost use Rattle.keybits.specs.Keys.{is_key};
+ghost use Rattle.steplaws.specs.Calls.Call.{Getting};
 ghost use Rattle.steplaws.specs.Facts.{most_references};
 ghost use Rattle.seqpool.specs.Histories.{PublishedAt};
 ghost use Rattle.shardpool.specs.Tokens.{FillingOf};
-ghost use Rattle.shardpool.specs.Lanes.{Owns, Made, SameLane, Gets, holds, refs};
+ghost use Rattle.shardpool.specs.Lanes.{Owns, Made, SameLane, Calls, Gets, holds, refs};
 ghost use Rattle.shardpool.specs.Seen.{FoundSince, MissedSince};
 ghost use Rattle.shardpool.specs.Creates.{GivesNone};
 ghost use Rattle.shardpool.specs.declared.create.CreateFault.TheVariants.{Full, Memory};
@@ -36,6 +37,7 @@ pub fn create_with<T: Clear + Drop, F: FnOnce(&mut T)>(
     ensures memory { IsErrOf result Memory → lane.old.pages.opened < lane.old.shape.pages }
     ensures succeeds { ((lane.old.free.own ≢ []) ⊎ IsSome lane.old.free.chain) → IsOk result }
     ensures refs { refs lane.new ≡ refs lane.old }
+    ensures holds { (key : ℕ) → holds lane.new key ≡ holds lane.old key }
     ensures fillings { (filling : FillingOf T) → Made lane.old filling → Made lane.new filling }
 {
     let mut filling = pool.create(lane)?;
@@ -60,6 +62,7 @@ pub fn with<T: Clear + Drop, R, F: FnOnce(&T) -> R>(
     ensures found { IsSome result → FoundSince key lane.old lane.new }
     ensures missed { IsNone result → MissedSince key lane.old lane.new }
     ensures seen { IsPrefix lane.old.book.seen lane.new.book.seen }
+    ensures called { IsNone result → is_key pool.now.shape key ≡ true → Calls pool.now.shape (Getting key) lane.old.book lane.new.book }
     ensures gets { is_key pool.now.shape key ≡ true → MatchOption result (Gets key lane.old lane.new None) (λ _. Uses key lane.old lane.new) }
     ensures refs { refs lane.new ≡ refs lane.old }
     ensures holds { (other : ℕ) → holds lane.new other ≡ holds lane.old other }

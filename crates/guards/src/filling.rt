@@ -1,13 +1,15 @@
 //! Fillings that are published by themselves.
-ghost use Rattle.std.specs.Prelude.{◌≡◌, ◌≢◌, ◌+◌, ◌<◌, ◌⊎◌, true, false, Some, [], ◌∷◌, IsOk, IsErr, IsErrOf, IfOk, IsSome};
+ghost use Rattle.std.specs.Prelude.{◌≡◌, ◌≢◌, ◌==◌, ◌+◌, ◌<◌, ◌⊎◌, ℕ, true, false, Some, [], ◌∷◌, IsOk, IsErr, IsErrOf, IfOk, IsSome, if◌then◌else◌};
 ghost use Rattle.std.specs.Borrow.{sem, RestsIfErr};
 ghost use Rattle.shardpool.specs.contracts.lane.Lane.{the_row};
+ghost use mathlib.Core.List.{IsPrefix};
 ghost use Rattle.keybits.specs.Keys.{place_of};
 ghost use Rattle.seqpool.specs.declared.act.Act.TheVariants as acts;
 ghost use Rattle.sharelaws.specs.Shares.{room_of};
+ghost use Rattle.steplaws.specs.Calls.Call.{Publishing};
 ghost use Rattle.steplaws.specs.Facts.{most_references};
 ghost use Rattle.shardpool.specs.Tokens.{FillingOf};
-ghost use Rattle.shardpool.specs.Lanes.{Owns, Made, SameLane, Did, refs};
+ghost use Rattle.shardpool.specs.Lanes.{Owns, Made, SameLane, Calls, Did, holds, refs};
 ghost use Rattle.shardpool.specs.Seen.{PublishedSince};
 ghost use Rattle.shardpool.specs.Creates.{Gives};
 ghost use Rattle.shardpool.specs.declared.create.CreateFault.TheVariants.{Full, Memory};
@@ -57,6 +59,7 @@ impl<'a, T: Clear + Drop> FillGuard<'a, T> {
         ensures may { IfOk result (λ guard. MayPublish guard.pool.now guard.lane.now guard.filling) }
         ensures gives { IfOk result (λ guard. Gives T.content T.room lane.old guard.lane.now guard.filling) }
         ensures apart { IfOk result (λ guard. (other : FillingOf T) → Made lane.old other → other.key ≢ guard.filling.key) }
+        ensures seen { IfOk result (λ guard. IsPrefix lane.old.book.seen guard.lane.now.book.seen) }
         ensures same { IfOk result (λ guard. SameLane lane.old guard.lane.now) }
         ensures refs { IfOk result (λ guard. refs guard.lane.now ≡ refs lane.old) }
         ensures full { IsErrOf result Full → lane.old.pages.opened ≡ lane.old.shape.pages }
@@ -110,10 +113,13 @@ impl<'a, T: Clear + Drop> FillGuard<'a, T> {
         ensures pool { result.pool.now ≡ self.entry.pool.now }
         ensures key { result.reference.key ≡ self.entry.filling.key }
         ensures may { MayRelease result.pool.now result.lane.now result.reference }
+        ensures called { Calls self.entry.pool.now.shape (Publishing self.entry.filling.key (T.content self.entry.filling.object) true) self.entry.lane.now.book result.lane.now.book }
         ensures publishes { Did (acts.Publish self.entry.lane.now.number self.entry.filling.key (T.content self.entry.filling.object) true ∷ []) self.entry.lane.now result.lane.now }
         ensures published { PublishedSince self.entry.filling.key (T.content self.entry.filling.object) true self.entry.lane.now result.lane.now }
+        ensures seen { IsPrefix self.entry.lane.now.book.seen result.lane.now.book.seen }
         ensures same { SameLane self.entry.lane.now result.lane.now }
         ensures refs { refs result.lane.now ≡ refs self.entry.lane.now + 1 }
+        ensures holds { (other : ℕ) → holds result.lane.now other ≡ (if self.entry.filling.key == other then holds self.entry.lane.now other + 1 else holds self.entry.lane.now other) }
         ensures room { room_of result.lane.now.book.seen result.lane.now.book.rooms (place_of self.entry.filling.key) ≡ T.room self.entry.filling.object }
         ensures fillings { (other : FillingOf T) → other.key ≢ self.entry.filling.key → Made self.entry.lane.now other → Made result.lane.now other }
     {
@@ -131,10 +137,13 @@ impl<'a, T: Clear + Drop, F: Fills<T>> Drop for FillGuard<'a, T, F> {
     fn drop(self)
         requires may { MayPublish self.pool.now self.lane.now (F.filling self.filling) }
         ensures owns { Owns self.entry.pool.now self.exit.0.now }
+        ensures called { Calls self.entry.pool.now.shape (Publishing (F.filling self.entry.filling).key (T.content (F.filling self.entry.filling).object) false) self.entry.lane.now.book self.exit.0.now.book }
         ensures publishes { Did (acts.Publish self.entry.lane.now.number (F.filling self.entry.filling).key (T.content (F.filling self.entry.filling).object) false ∷ []) self.entry.lane.now self.exit.0.now }
         ensures published { PublishedSince (F.filling self.entry.filling).key (T.content (F.filling self.entry.filling).object) false self.entry.lane.now self.exit.0.now }
+        ensures seen { IsPrefix self.entry.lane.now.book.seen self.exit.0.now.book.seen }
         ensures same { SameLane self.entry.lane.now self.exit.0.now }
         ensures refs { refs self.exit.0.now ≡ refs self.entry.lane.now }
+        ensures holds { (key : ℕ) → holds self.exit.0.now key ≡ holds self.entry.lane.now key }
         ensures room { room_of self.exit.0.now.book.seen self.exit.0.now.book.rooms (place_of (F.filling self.entry.filling).key) ≡ T.room (F.filling self.entry.filling).object }
         ensures fillings { (other : FillingOf T) → other.key ≢ (F.filling self.entry.filling).key → Made self.entry.lane.now other → Made self.exit.0.now other }
     {

@@ -1,13 +1,14 @@
 //! References that are given back by themselves.
-ghost use Rattle.std.specs.Prelude.{◌≡◌, ◌+◌, ◌<◌, ℕ, true, Some, IsSome, IfSome, List, ◌∷◌};
+ghost use Rattle.std.specs.Prelude.{◌≡◌, ◌==◌, ◌+◌, ◌-◌, ◌<◌, ℕ, true, Some, IsSome, IfSome, List, ◌∷◌, if◌then◌else◌};
 ghost use mathlib.Core.List.{IsPrefix};
 ghost use Rattle.keybits.specs.Keys.{is_key};
 ghost use Rattle.seqpool.specs.declared.act.Act.{Act};
 ghost use Rattle.seqpool.specs.declared.act.Act.TheVariants as acts;
 ghost use Rattle.seqpool.specs.Histories.{PublishedAt};
+ghost use Rattle.steplaws.specs.Calls.Call.{Getting, Releasing};
 ghost use Rattle.steplaws.specs.Facts.{most_references};
 ghost use Rattle.shardpool.specs.Tokens.{FillingOf};
-ghost use Rattle.shardpool.specs.Lanes.{Owns, Made, SameLane, Did, Gets, refs};
+ghost use Rattle.shardpool.specs.Lanes.{Owns, Made, SameLane, Calls, Did, Gets, holds, refs};
 ghost use Rattle.shardpool.specs.Seen.{FoundSince};
 ghost use Rattle.std.specs.Borrow.{sem, RestsIfNone};
 ghost use Rattle.shardpool.specs.contracts.lane.Lane.{the_row};
@@ -33,10 +34,13 @@ impl<'a, T: Clear + Drop> ReadGuard<'a, T> {
         ensures pool { IfSome result (λ guard. guard.pool.now ≡ pool.now) }
         ensures may { IfSome result (λ guard. MayRelease guard.pool.now guard.lane.now guard.reference) }
         ensures inside { IsSome result → is_key pool.now.shape key ≡ true }
+        ensures called { IfSome result (λ guard. Calls pool.now.shape (Getting key) lane.old.book guard.lane.now.book) }
         ensures gets { IfSome result (λ guard. Gets key lane.old guard.lane.now (Some guard.reference)) }
         ensures found { IfSome result (λ guard. FoundSince key lane.old guard.lane.now) }
+        ensures seen { IfSome result (λ guard. IsPrefix lane.old.book.seen guard.lane.now.book.seen) }
         ensures same { IfSome result (λ guard. SameLane lane.old guard.lane.now) }
         ensures refs { IfSome result (λ guard. refs guard.lane.now ≡ refs lane.old + 1) }
+        ensures holds { IfSome result (λ guard. (other : ℕ) → holds guard.lane.now other ≡ (if key == other then holds lane.old other + 1 else holds lane.old other)) }
         ensures fillings { IfSome result (λ guard. (filling : FillingOf T) → Made lane.old filling → Made guard.lane.now filling) }
     {
         let reference = pool.get(lane, key)?;
@@ -79,10 +83,12 @@ impl<'a, T: Clear + Drop> Drop for ReadGuard<'a, T> {
     fn drop(self)
         requires may { MayRelease self.pool.now self.lane.now self.reference }
         ensures owns { Owns self.entry.pool.now self.exit.0.now }
+        ensures called { Calls self.entry.pool.now.shape (Releasing self.entry.reference.key) self.entry.lane.now.book self.exit.0.now.book }
         ensures releases { (rest : List Act) × Did (acts.Release self.entry.lane.now.number self.entry.reference.key ∷ rest) self.entry.lane.now self.exit.0.now }
         ensures seen { IsPrefix self.entry.lane.now.book.seen self.exit.0.now.book.seen }
         ensures same { SameLane self.entry.lane.now self.exit.0.now }
         ensures refs { refs self.exit.0.now + 1 ≡ refs self.entry.lane.now }
+        ensures holds { (other : ℕ) → holds self.exit.0.now other ≡ (if self.entry.reference.key == other then holds self.entry.lane.now other - 1 else holds self.entry.lane.now other) }
         ensures fillings { (filling : FillingOf T) → Made self.entry.lane.now filling → Made self.exit.0.now filling }
     {
         let ReadGuard {

@@ -42,6 +42,10 @@ abbrev pub Calls : {A : Type 0} → (Handle → Handle → Result A Refusal → 
 Calls {A} R old new code = (HasNoLane old × (code ≡ 2) × (new ≡ old))
     ⊎ ((before after : Handle) × (old ≡ before ∷ []) × (new ≡ after ∷ []) × (answer : Result A Refusal) × (code ≡ answer_code answer) × R before after answer)
 
+-- what stands behind a pointer is as before, but where the code is 0
+abbrev pub WritesAtOk : {X : Type 0} → ℕ → X → X → Type 0
+WritesAtOk code old new = code ≢ 0 → new ≡ old
+
 -- a create, whose key was written
 abbrev pub CreatesKey : ℕ → Handle → Handle → Result ℕ Refusal → Type 0
 CreatesKey key before after answer = Creates before after answer × IfOk answer (λ made. key ≡ made)

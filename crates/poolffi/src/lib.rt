@@ -5,7 +5,7 @@
 
 ghost use Rattle.std.specs.Prelude.{◌≡◌};
 ghost use Rattle.poolhandle.specs.Calls.{Appends, Rooms, Wrote, Publishes, Downgrades, Leaves, Releases, Clears};
-ghost use Rattle.poolffi.specs.Exports.{Calls, CreatesKey, PutsKey, Lends, Reads, JoinsSlots, ClosesSlot, AreCounts, Opens, shape_of};
+ghost use Rattle.poolffi.specs.Exports.{Calls, WritesAtOk, CreatesKey, PutsKey, Lends, Reads, JoinsSlots, ClosesSlot, AreCounts, Opens, shape_of};
 
 mod lanes;
 mod slots;
@@ -64,7 +64,8 @@ pub extern "C" fn pardz_open_numbered(
 /// A place to be filled, by the key under which it will be published.
 #[unsafe(no_mangle)]
 pub extern "C" fn pardz_create(slot: &mut Slot, key: &mut u64) -> u32
-    ensures { Calls (CreatesKey key.new) slot.old.items slot.new.items result }
+    ensures calls { Calls (CreatesKey key.new) slot.old.items slot.new.items result }
+    ensures writes { WritesAtOk result key.old key.new }
 {
     let Some(handle) = slot.lend() else {
         return EMPTY_LANE;
@@ -92,7 +93,9 @@ pub extern "C" fn pardz_append(slot: &mut Slot, key: u64, bytes: &[u8]) -> u32
 /// Gives room for so many bytes behind the content of a filling.
 #[unsafe(no_mangle)]
 pub extern "C" fn pardz_room(slot: &mut Slot, key: u64, count: usize, at: &mut *mut u8) -> u32
-    ensures { Calls (Rooms key count) slot.old.items slot.new.items result }
+    ensures calls { Calls (Rooms key count) slot.old.items slot.new.items result }
+    ensures writes { WritesAtOk result at.old at.new }
+    ensures none { count ≡ 0 → at.new ≡ at.old }
 {
     let Some(handle) = slot.lend() else {
         return EMPTY_LANE;
@@ -144,7 +147,8 @@ pub extern "C" fn pardz_downgrade(slot: &mut Slot, key: u64) -> u32
 /// Publishes these bytes in a place of their own, and tells the key: a create, an append and a publish in one.
 #[unsafe(no_mangle)]
 pub extern "C" fn pardz_put(slot: &mut Slot, bytes: &[u8], key: &mut u64) -> u32
-    ensures { Calls (PutsKey bytes.now key.new) slot.old.items slot.new.items result }
+    ensures calls { Calls (PutsKey bytes.now key.new) slot.old.items slot.new.items result }
+    ensures writes { WritesAtOk result key.old key.new }
 {
     let Some(handle) = slot.lend() else {
         return EMPTY_LANE;
@@ -161,7 +165,9 @@ pub extern "C" fn pardz_put(slot: &mut Slot, bytes: &[u8], key: &mut u64) -> u32
 /// A reference more to a key, and where its bytes are: they may be read until the lane has given back all its references to it.
 #[unsafe(no_mangle)]
 pub extern "C" fn pardz_get(slot: &mut Slot, key: u64, at: &mut *const u8, len: &mut usize) -> u32
-    ensures { Calls (Lends key len.new) slot.old.items slot.new.items result }
+    ensures calls { Calls (Lends key len.new) slot.old.items slot.new.items result }
+    ensures writes { WritesAtOk result at.old at.new × WritesAtOk result len.old len.new }
+    ensures none { len.new ≡ 0 → at.new ≡ at.old }
 {
     let Some(handle) = slot.lend() else {
         return EMPTY_LANE;
@@ -182,7 +188,9 @@ pub extern "C" fn pardz_get(slot: &mut Slot, key: u64, at: &mut *const u8, len: 
 /// Where the bytes of a key are to which the lane has a reference.
 #[unsafe(no_mangle)]
 pub extern "C" fn pardz_read(slot: &mut Slot, key: u64, at: &mut *const u8, len: &mut usize) -> u32
-    ensures { Calls (Reads key len.new) slot.old.items slot.new.items result }
+    ensures calls { Calls (Reads key len.new) slot.old.items slot.new.items result }
+    ensures writes { WritesAtOk result at.old at.new × WritesAtOk result len.old len.new }
+    ensures none { len.new ≡ 0 → at.new ≡ at.old }
 {
     let Some(handle) = slot.lend() else {
         return EMPTY_LANE;
@@ -255,7 +263,8 @@ pub extern "C" fn pardz_join(alloc: Global, into: &mut Slot, slot: &mut Slot) ->
 /// Closes a pool whose lane 0 was given all others.
 #[unsafe(no_mangle)]
 pub extern "C" fn pardz_close(alloc: Global, slot: &mut Slot, census: &mut PoolCensus) -> u32
-    ensures { ClosesSlot slot.old.items slot.new.items census.new result }
+    ensures closes { ClosesSlot slot.old.items slot.new.items census.new result }
+    ensures writes { WritesAtOk result census.old census.new }
 {
     let Some(handle) = lift(alloc, slot) else {
         return EMPTY_LANE;

@@ -1,4 +1,6 @@
+mod Carrying
 mod Counting
+mod Keeping
 mod Owned
 mod SlotFields
 mod Steps

@@ -1,21 +1,19 @@
 -- A filling that became another of its key.
-use Rattle.std.proofs.Common.{◌≡◌, Bool, true, false, IsTrue, IsFalse, ℕ, ◌-◌, ◌<◌, List, [], ◌∷◌, ◌++◌, length, slice_index_or, slice_set, Contains, refl, ap, sym, ◌∙◌, subst, arith}
-use Rattle.std.proofs.lemmas.List.{get_or_default, length-set, length-drop, take_all, drop_all}
+use Rattle.std.proofs.Common.{◌≡◌, Bool, true, false, IsTrue, IsFalse, ℕ, ◌-◌, ◌<◌, List, [], ◌∷◌, length, slice_index_or, slice_set, refl, ap, sym, ◌∙◌, subst, arith}
+use Rattle.std.proofs.lemmas.List.{length-drop, take_all, drop_all}
 use Rattle.std.specs.List.Sorted.{IsPermutation}
-use Rattle.std.proofs.lemmas.List.Elements.{All-get_or, All-set, All-tail, Contains-push}
+use Rattle.std.proofs.lemmas.List.Elements.{All-get_or, All-set, All-tail}
 use Rattle.std.proofs.lemmas.List.Sorted.{All-permutation}
-use Rattle.seqpool.specs.declared.act.Act.TheVariants as acts
-use Rattle.std.proofs.lemmas.Grind.{get_or-set_at}
 use Rattle.keybits.specs.Keys.{place_of}
 use Rattle.poolsteps.specs.Layout.{slot_start}
 use Rattle.poolsteps.specs.Views.{the_lane}
 use Rattle.poolsteps.specs.Told.{MayPublish}
 use Rattle.poolcalls.specs.Carried.{AreEmptied}
 use Rattle.shardpool.specs.Tokens.{LaneOf, FillingOf}
-use Rattle.shardpool.specs.Lanes.{Made, IsFilling, Did}
+use Rattle.shardpool.specs.Lanes.{Made, IsFilling}
 use Rattle.slotcell.specs.ByteBuf.{ByteBuf}
 use Rattle.poolhandle.specs.declared.kept.Kept.{Kept}
-use Rattle.poolhandle.specs.Filled.{content_of, room_of, SameToken, AreMade, Have, MustGrow, HaveTight}
+use Rattle.poolhandle.specs.Filled.{content_of, room_of, SameFilling, AreMade}
 
 -- without room all bytes are content
 pub all-content : (kept : Kept) → kept.room ≡ 0 → content_of kept ≡ kept.filling.object.bytes
@@ -27,28 +25,6 @@ no-room kept none = drop_all (length kept.filling.object.bytes - kept.room) kept
 pub room-length : (kept : Kept) → length (room_of kept) ≡ kept.room
 room-length kept = let fits = kept.fits in let long = length-drop (length kept.filling.object.bytes - kept.room) kept.filling.object.bytes in omega (arith, fits, long)
 
--- what stands at an index is had
-pub had : (key index : ℕ) (places : List Kept) (kept : Kept) → index < length places → (slice_index_or places index kept).filling.key ≡ key
-    → Have key (content_of (slice_index_or places index kept)) (room_of (slice_index_or places index kept)) places
-had key index places kept low is =
-    let at = slice_index_or places index kept in let there : Contains places at = (index, low, get_or_default places index at kept low) in (at, there, is, refl, refl)
-
--- and so is a buffer that must grow
-pub had-tight : (key index count : ℕ) (places : List Kept) (kept : Kept) → index < length places → (slice_index_or places index kept).filling.key ≡ key
-    → MustGrow (slice_index_or places index kept) count → HaveTight key count places
-had-tight key index count places kept low is tight =
-    let at = slice_index_or places index kept in let there : Contains places at = (index, low, get_or_default places index at kept low) in (at, there, is, tight)
-
--- what was put behind is had
-pub has-push : (key : ℕ) (places : List Kept) (kept : Kept) → kept.filling.key ≡ key → Have key (content_of kept) (room_of kept) (places ++ kept ∷ [])
-has-push key places kept is = (kept, Contains-push places kept, is, refl, refl)
-
--- and what was put in place of another of its key
-pub has-set : (key index : ℕ) (old new : List Kept) (kept : Kept) → index < length old → kept.filling.key ≡ key → new ≡ slice_set old index kept → Have key (content_of kept) (room_of kept) new
-has-set key index old new kept low is same =
-    let there : Contains (slice_set old index kept) kept = (index, subst (λ (n : ℕ). index < n) (sym (length-set old index kept)) low, get_or-set_at old index index kept kept refl low) in
-    (kept, subst (λ (places : List Kept). Contains places kept) (sym same) there, is, refl, refl)
-
 -- what a lane made doesn't depend on the object
 pub made-same : (lane : LaneOf) (old new : FillingOf ByteBuf) → new.table ≡ old.table → new.key ≡ old.key → new.start ≡ old.start → Made lane old → Made lane new
 made-same lane old new table key start made = record {
@@ -59,7 +35,7 @@ made-same lane old new table key start made = record {
   emptied = subst (λ (k : ℕ). AreEmptied lane.shape (the_lane lane.book) (place_of k)) (sym key) made.emptied;
 }
 
-pub made-set : (lane : LaneOf) (index : ℕ) (old new : List Kept) (kept : Kept) → index < length old → new ≡ slice_set old index kept → SameToken (slice_index_or old index kept) kept
+pub made-set : (lane : LaneOf) (index : ℕ) (old new : List Kept) (kept : Kept) → index < length old → new ≡ slice_set old index kept → SameFilling (slice_index_or old index kept) kept
     → AreMade lane old → AreMade lane new
 made-set lane index old new kept low same token made =
     let before = slice_index_or old index kept in
@@ -78,13 +54,6 @@ made-on given old new places same on made k d low = on (slice_index_or places k 
 pub by-answer : (P : Type 0) (answer : Bool) → (IsTrue answer → P) → (IsFalse answer → P) → P
 by-answer P true if_true if_false = if_true refl
 by-answer P false if_true if_false = if_false refl
-
--- a publish, as the handle tells it
-pub published-so : (lane other new : LaneOf) (key same_key : ℕ) (content same_content : List ℕ) (with_ref : Bool) → lane ≡ other → key ≡ same_key → content ≡ same_content
-    → Did (acts.Publish lane.number key content with_ref ∷ []) lane new → Did (acts.Publish other.number same_key same_content with_ref ∷ []) other new
-published-so lane other new key same_key content same_content with_ref one two three did =
-    subst (λ (c : List ℕ). Did (acts.Publish other.number same_key c with_ref ∷ []) other new) three
-    (subst (λ (k : ℕ). Did (acts.Publish other.number k content with_ref ∷ []) other new) two (subst (λ (l : LaneOf). Did (acts.Publish l.number key content with_ref ∷ []) l new) one did))
 
 -- a list with a place has an element
 pub any-of : (places : List Kept) (index : ℕ) → index < length places → Kept

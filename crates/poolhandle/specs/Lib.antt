@@ -1,5 +1,6 @@
 pub mod Calls
 pub mod Filled
+pub mod LaneCalls
 pub mod Opened
 pub mod Slot
 pub mod SlotLends

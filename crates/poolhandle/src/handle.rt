@@ -36,7 +36,7 @@ impl Handle {
     ghost use Rattle.poolsteps.specs.Layout.{slot_start};
     ghost use Rattle.shardpool.specs.Lanes.{holds};
     ghost use Rattle.poolhandle.specs.declared.refusal.Refusal.TheVariants.{NoReference};
-    ghost use Rattle.poolhandle.specs.Calls.{lane_of, filled, Creates, Appends, Rooms, Wrote, Publishes, Downgrades, Leaves, Puts, GivesUp, Got, NotGot, AreLent, Releases, Clears};
+    ghost use Rattle.poolhandle.specs.Calls.{lane_of, filled, Stays, Creates, Appends, Rooms, Wrote, Publishes, Downgrades, Leaves, Puts, GivesUp, Got, NotGot, AreLent, Releases, Clears};
     ghost use Rattle.shardpool.specs.Lanes.{Made};
     ghost use Rattle.poolhandle.specs.Filled.{HaveNot};
 
@@ -164,8 +164,8 @@ impl Handle {
     fn give_up(&mut self, filling: Filling<ByteBuf>)
         requires made { Made (lane_of self.old) filling }
         requires apart { HaveNot filling.key (filled self.old) }
-        ensures gives_up { GivesUp filling.key filling.object.bytes (lane_of self.old) (lane_of self.new) }
-        ensures others { filled self.new ≡ filled self.old }
+        ensures gives_up { GivesUp filling.key filling.object.bytes filling.object.room (lane_of self.old) (lane_of self.new) }
+        ensures stays { Stays self.old self.new }
     {
         let key = self.shared.pool.publish(&mut self.lane, filling);
         self.shared.pool.clear(&mut self.lane, key);

@@ -19,7 +19,7 @@ impl Drop for Kept {
 }
 
 impl Kept {
-    ghost use Rattle.poolhandle.specs.Filled.{content_of, room_of, SameToken, MustGrow};
+    ghost use Rattle.poolhandle.specs.Filled.{content_of, room_of, SameFilling, MustGrow};
 
     /// A filling without room.
     pub(crate) fn new(filling: Filling<ByteBuf>) -> Kept
@@ -40,6 +40,7 @@ impl Kept {
     pub(crate) fn into_content(self) -> Filling<ByteBuf>
         ensures token { (result.table ≡ self.filling.table) × (result.key ≡ self.filling.key) × (result.start ≡ self.filling.start) }
         ensures content { result.object.bytes ≡ content_of self }
+        ensures room { result.object.room ≡ self.filling.object.room }
     {
         let mut kept = self;
         let room = kept.room;
@@ -50,7 +51,7 @@ impl Kept {
     /// Drops the last so many bytes of the room, and the others are content.
     pub(crate) fn end_room(&mut self, unwritten: usize)
         requires { unwritten ≤ self.old.room }
-        ensures token { SameToken self.old self.new }
+        ensures same { SameFilling self.old self.new }
         ensures bytes { self.new.filling.object.bytes ≡ take (length self.old.filling.object.bytes - unwritten) self.old.filling.object.bytes }
         ensures capacity { self.new.filling.object.room ≡ self.old.filling.object.room }
         ensures none { self.new.room ≡ 0 }
@@ -63,7 +64,7 @@ impl Kept {
 
     /// Appends to the content: whether there was memory. Room that was given before ends.
     pub(crate) fn append(&mut self, bytes: &[u8]) -> bool
-        ensures token { SameToken self.old self.new }
+        ensures same { SameFilling self.old self.new }
         ensures bytes { self.new.filling.object.bytes ≡ (if result then content_of self.old ++ bytes.now else content_of self.old) }
         ensures none { self.new.room ≡ 0 }
         ensures grown { IsFalse result → MustGrow self.old (length bytes.now) }
@@ -74,7 +75,7 @@ impl Kept {
 
     /// Gives room for so many bytes behind the content, which are zeros: whether there was memory. Room that was given before ends.
     pub(crate) fn grow(&mut self, count: usize) -> bool
-        ensures token { SameToken self.old self.new }
+        ensures same { SameFilling self.old self.new }
         ensures content { content_of self.new ≡ content_of self.old }
         ensures zeros { room_of self.new ≡ replicate self.new.room 0 }
         ensures room { self.new.room ≡ (if result then count else 0) }
@@ -102,7 +103,7 @@ impl Kept {
 
     /// The first so many bytes of the room are content, and the others are gone: whether there are so many. If not, nothing changes.
     pub(crate) fn wrote(&mut self, count: usize) -> bool
-        ensures token { SameToken self.old self.new }
+        ensures same { SameFilling self.old self.new }
         ensures yes { IsTrue result → (count ≤ self.old.room) × (content_of self.new ≡ content_of self.old ++ take count (room_of self.old)) × (self.new.room ≡ 0) }
         ensures no { IsFalse result → (self.new ≡ self.old) × (self.old.room < count) }
     {

@@ -2,8 +2,8 @@
 use Rattle.std.proofs.Common.{Ok, Err, refl, inr}
 use Rattle.poolffi.proofs.pardz_get.Goals as goal
 
-pub returns-then-not-is_empty : goal.returns-then-not-is_empty
-returns-then-not-is_empty c = inr (
+pub returns-then-not-is_empty-clause-calls : goal.returns-then-not-is_empty-clause-calls
+returns-then-not-is_empty-clause-calls c = inr (
   c.in-Some.handle.now,
   c.get.new.self,
   c.in-Some.ensures.some,
@@ -13,8 +13,8 @@ returns-then-not-is_empty c = inr (
   (c.in-Ok.ensures.got.1, c.bytes_at-bytes.ensures, refl),
 )
 
-pub returns-else-not-is_empty : goal.returns-else-not-is_empty
-returns-else-not-is_empty c = inr (
+pub returns-else-not-is_empty-clause-calls : goal.returns-else-not-is_empty-clause-calls
+returns-else-not-is_empty-clause-calls c = inr (
   c.in-Some.handle.now,
   c.get.new.self,
   c.in-Some.ensures.some,
@@ -24,5 +24,5 @@ returns-else-not-is_empty c = inr (
   (c.in-Ok.ensures.got.1, c.bytes_at-bytes.ensures, refl),
 )
 
-pub returns-in-Err : goal.returns-in-Err
-returns-in-Err c = inr (c.in-Some.handle.now, c.get.new.self, c.in-Some.ensures.some, refl, Err c.in-Err.refusal, c.code_of.ensures, c.in-Err.ensures.not_got)
+pub returns-in-Err-clause-calls : goal.returns-in-Err-clause-calls
+returns-in-Err-clause-calls c = inr (c.in-Some.handle.now, c.get.new.self, c.in-Some.ensures.some, refl, Err c.in-Err.refusal, c.code_of.ensures, c.in-Err.ensures.not_got)

@@ -4,12 +4,12 @@ use Rattle.poolhandle.specs.declared.refusal.Refusal.{Refusal}
 use Rattle.poolhandle.specs.Calls.{Puts}
 use Rattle.poolffi.proofs.pardz_put.Goals as goal
 
-pub returns-in-Ok : goal.returns-in-Ok
-returns-in-Ok c =
+pub returns-in-Ok-clause-calls : goal.returns-in-Ok-clause-calls
+returns-in-Ok-clause-calls c =
     let Made = λ (answer : Result ℕ Refusal). Puts c.args.bytes.now c.in-Some.handle.now c.put.new.self answer in
     inr (c.in-Some.handle.now, c.put.new.self, c.in-Some.ensures.some, refl, Ok c.in-Ok.published, refl, (subst Made c.in-Ok.is c.put.ensures, refl))
 
-pub returns-in-Err : goal.returns-in-Err
-returns-in-Err c =
+pub returns-in-Err-clause-calls : goal.returns-in-Err-clause-calls
+returns-in-Err-clause-calls c =
     let Made = λ (answer : Result ℕ Refusal). Puts c.args.bytes.now c.in-Some.handle.now c.put.new.self answer in
     inr (c.in-Some.handle.now, c.put.new.self, c.in-Some.ensures.some, refl, Err c.in-Err.refusal, c.code_of.ensures, (subst Made c.in-Err.is c.put.ensures, tt))

@@ -2,14 +2,14 @@
 use Rattle.std.proofs.Common.{Ok, Err, refl, inr}
 use Rattle.poolffi.proofs.pardz_read.Goals as goal
 
-pub returns-then-not-is_empty : goal.returns-then-not-is_empty
-returns-then-not-is_empty c = inr (c.in-Some.handle.now, c.in-Some.handle.now, c.in-Some.ensures.some, refl, Ok c.in-Ok.bytes.now, refl, (refl, c.in-Ok.ensures, refl))
+pub returns-then-not-is_empty-clause-calls : goal.returns-then-not-is_empty-clause-calls
+returns-then-not-is_empty-clause-calls c = inr (c.in-Some.handle.now, c.in-Some.handle.now, c.in-Some.ensures.some, refl, Ok c.in-Ok.bytes.now, refl, (refl, c.in-Ok.ensures, refl))
 
-pub returns-else-not-is_empty : goal.returns-else-not-is_empty
-returns-else-not-is_empty c = inr (c.in-Some.handle.now, c.in-Some.handle.now, c.in-Some.ensures.some, refl, Ok c.in-Ok.bytes.now, refl, (refl, c.in-Ok.ensures, refl))
+pub returns-else-not-is_empty-clause-calls : goal.returns-else-not-is_empty-clause-calls
+returns-else-not-is_empty-clause-calls c = inr (c.in-Some.handle.now, c.in-Some.handle.now, c.in-Some.ensures.some, refl, Ok c.in-Ok.bytes.now, refl, (refl, c.in-Ok.ensures, refl))
 
-pub returns-in-Err : goal.returns-in-Err
-returns-in-Err c = inr (
+pub returns-in-Err-clause-calls : goal.returns-in-Err-clause-calls
+returns-in-Err-clause-calls c = inr (
   c.in-Some.handle.now,
   c.in-Some.handle.now,
   c.in-Some.ensures.some,

@@ -15,10 +15,14 @@ returns-clause-creates g c =
       met = c.f.ensures;
       leaves = refl;
     } in
-    creates c.in_ok-filling.ensures.gives g.F.FnOnce c.args.f c.publish.new.lane c.f.new.arg2 c.publish.result ran c.publish.ensures.key c.publish.ensures.publishes c.publish.ensures.published c.publish.ensures.room
+    creates c.in_ok-filling.ensures.gives g.F.FnOnce c.args.f c.args.pool.now.shape c.publish.new.lane c.f.new.arg2 c.publish.result ran c.publish.ensures.key c.requires.owns.1
+    c.publish.ensures.called c.publish.ensures.publishes c.publish.ensures.published c.publish.ensures.room
 
 pub returns-clause-refs : goal.returns-clause-refs
 returns-clause-refs g c = c.publish.ensures.refs ∙ c.in_ok-filling.ensures.refs
+
+pub returns-clause-holds : goal.returns-clause-holds
+returns-clause-holds g c key = c.publish.ensures.held key ∙ c.in_ok-filling.ensures.held key
 
 pub returns-clause-fillings : goal.returns-clause-fillings
 returns-clause-fillings g c filling made =
@@ -62,6 +66,9 @@ returns-in_err-filling-clause-succeeds g c = λ some. absurd (true≢false (sym 
 
 pub returns-in_err-filling-clause-refs : goal.returns-in_err-filling-clause-refs
 returns-in_err-filling-clause-refs g c = c.in_err-filling.ensures.refs
+
+pub returns-in_err-filling-clause-holds : goal.returns-in_err-filling-clause-holds
+returns-in_err-filling-clause-holds g c = c.in_err-filling.ensures.held
 
 pub returns-in_err-filling-clause-fillings : goal.returns-in_err-filling-clause-fillings
 returns-in_err-filling-clause-fillings g c = c.in_err-filling.ensures.fillings

@@ -74,6 +74,9 @@ returns-in_err-reference-clause-missed g c = λ none. c.in_err-reference.ensures
 pub returns-in_err-reference-clause-seen : goal.returns-in_err-reference-clause-seen
 returns-in_err-reference-clause-seen g c = c.in_err-reference.ensures.seen
 
+pub returns-in_err-reference-clause-called : goal.returns-in_err-reference-clause-called
+returns-in_err-reference-clause-called g c = λ none inside. c.in_err-reference.ensures.called inside
+
 pub returns-in_err-reference-clause-gets : goal.returns-in_err-reference-clause-gets
 returns-in_err-reference-clause-gets g c = λ inside. rw c.from_residual.ensures (c.in_err-reference.ensures.gets inside)
 
@@ -102,10 +105,14 @@ returns-clause-outside g c = λ out. absurd (true≢false (c.in_ok-reference.ens
 pub returns-clause-missed : goal.returns-clause-missed
 returns-clause-missed g c = λ none. absurd (true≢false none)
 
+pub returns-clause-called : goal.returns-clause-called
+returns-clause-called g c = λ none inside. absurd (true≢false none)
+
 pub returns-clause-gets : goal.returns-clause-gets
 returns-clause-gets g c = λ inside.
     let got = c.in_ok-reference.ensures in
-    uses c.args.key c.args.lane.now c.get.new.lane c.release.new.lane c.in_ok-reference.reference (got.gets inside) got.same.2 c.release.ensures.releases.0 c.release.ensures.releases.1
+    uses c.args.pool.now.shape c.args.key c.args.lane.now c.get.new.lane c.release.new.lane c.in_ok-reference.reference c.requires.owns.1 (got.called inside) (got.gets inside) got.same.2
+    c.release.ensures.called c.release.ensures.releases.0 c.release.ensures.releases.1
 
 pub returns-clause-refs : goal.returns-clause-refs
 returns-clause-refs g c = let more = c.in_ok-reference.ensures.refs in let less = c.release.ensures.refs in omega (arith, more, less)

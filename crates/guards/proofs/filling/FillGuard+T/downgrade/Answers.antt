@@ -1,10 +1,12 @@
 -- What the downgrade leaves the guard has.
 use Rattle.std.proofs.Common.{◌≡◌, ℕ, ◌≤◌, true, [], ◌∷◌, sym, ap, ◌∙◌, subst}
+use mathlib.Core.List.{IsPrefix}
 use Rattle.keybits.specs.Keys.{place_of}
 use Rattle.seqpool.specs.declared.act.Act.TheVariants as acts
 use Rattle.sharelaws.specs.Shares.{room_of}
+use Rattle.steplaws.specs.Calls.Call.{Publishing}
 use Rattle.shardpool.specs.Tokens.{LaneOf, RefOf}
-use Rattle.shardpool.specs.Lanes.{Made, Did, holds, refs}
+use Rattle.shardpool.specs.Lanes.{Made, Calls, Did, holds, refs}
 use Rattle.shardpool.specs.Seen.{PublishedSince}
 use Rattle.guards.proofs.Guarding.{guard-holds}
 use Rattle.guards.proofs.filling.FillGuard+T.downgrade.Goals as goal
@@ -34,6 +36,12 @@ returns-clause-may g c =
     let held = subst (λ (k : ℕ). 1 ≤ holds c.downgrade-reference.new.lane k) (sym key.0) key.1 in
     guard-holds of.0 of.1 of.2 c.downgrade-reference.ensures.owns held
 
+pub returns-clause-called : goal.returns-clause-called
+returns-clause-called g c =
+    let filling = c.args.self.filling in
+    subst (λ (lane : LaneOf). Calls c.args.self.pool.now.shape (Publishing filling.key (g.T.Clear.content filling.object) true) c.args.self.lane.now.book lane.book) (sym c.of.ensures.parts.0)
+    c.downgrade-reference.ensures.called
+
 pub returns-clause-publishes : goal.returns-clause-publishes
 returns-clause-publishes g c =
     let old = c.args.self.lane.now in
@@ -47,11 +55,18 @@ returns-clause-published g c =
     subst (λ (lane : LaneOf). PublishedSince filling.key (g.T.Clear.content filling.object) true c.args.self.lane.now lane) (sym c.of.ensures.parts.0)
     c.downgrade-reference.ensures.published
 
+pub returns-clause-seen : goal.returns-clause-seen
+returns-clause-seen g c =
+    subst (λ (lane : LaneOf). IsPrefix c.args.self.lane.now.book.seen lane.book.seen) (sym c.of.ensures.parts.0) c.downgrade-reference.ensures.seen
+
 pub returns-clause-same : goal.returns-clause-same
 returns-clause-same g c = (returns-clause-publishes g c).same
 
 pub returns-clause-refs : goal.returns-clause-refs
 returns-clause-refs g c = ap refs c.of.ensures.parts.0 ∙ c.downgrade-reference.ensures.refs
+
+pub returns-clause-holds : goal.returns-clause-holds
+returns-clause-holds g c other = ap (λ (lane : LaneOf). holds lane other) c.of.ensures.parts.0 ∙ c.downgrade-reference.ensures.one_more other
 
 pub returns-clause-room : goal.returns-clause-room
 returns-clause-room g c =

@@ -1,4 +1,5 @@
 use Rattle.std.proofs.Common.{true, refl, sym, ap, ◌∙◌, subst}
+use mathlib.Core.List.{IsPrefix}
 use mathlib.Core.Option.{some}
 use Rattle.shardpool.specs.Tokens.{LaneOf, FillingOf}
 use Rattle.shardpool.specs.Lanes.{Made, SameLane, refs}
@@ -18,6 +19,7 @@ returns g c =
         may = guard-may-publish of.0 of.1 got.owns filling c.of.result.filling of.2 got.gives;
         gives = guard-gives of.0 of.1 got.owns filling c.of.result.filling of.2 got.gives;
         apart = λ other made same. got.apart other made (same ∙ ap (λ (f : FillingOf _). f.key) of.2);
+        seen = subst (λ (lane : LaneOf). IsPrefix c.args.lane.now.book.seen lane.book.seen) (sym of.0) got.seen;
         same = subst (λ (lane : LaneOf). SameLane c.args.lane.now lane) (sym of.0) got.gives.created.same;
         refs = ap refs of.0 ∙ got.refs;
         full = λ e. absurd (cc e);

@@ -3,8 +3,9 @@ use Rattle.std.proofs.Common.{◌≡◌, false, [], ◌∷◌, sym, ap, ◌∙�
 use Rattle.keybits.specs.Keys.{place_of}
 use Rattle.seqpool.specs.declared.act.Act.TheVariants as acts
 use Rattle.sharelaws.specs.Shares.{room_of}
+use Rattle.steplaws.specs.Calls.Call.{Publishing}
 use Rattle.shardpool.specs.Tokens.{FillingOf}
-use Rattle.shardpool.specs.Lanes.{Made, Did}
+use Rattle.shardpool.specs.Lanes.{Made, Calls, Did}
 use Rattle.shardpool.specs.Seen.{PublishedSince}
 use Rattle.guards.proofs.filling.FillGuard.drop.Goals as goal
 
@@ -17,6 +18,12 @@ publish-requires-clause-made g c = subst (λ (f : FillingOf g.row.T.Denot). Made
 pub returns-clause-owns : goal.returns-clause-owns
 returns-clause-owns g c = c.publish.ensures.owns
 
+pub returns-clause-called : goal.returns-clause-called
+returns-clause-called g c =
+    let old = c.args.self.lane.now.book in
+    let new = c.publish.new.lane.book in
+    subst (λ (f : FillingOf g.row.T.Denot). Calls c.args.self.pool.now.shape (Publishing f.key (g.T.Clear.content f.object) false) old new) c.give.ensures c.publish.ensures.called
+
 pub returns-clause-publishes : goal.returns-clause-publishes
 returns-clause-publishes g c =
     let lane = c.args.self.lane.now in
@@ -25,6 +32,12 @@ returns-clause-publishes g c =
 pub returns-clause-published : goal.returns-clause-published
 returns-clause-published g c =
     subst (λ (f : FillingOf g.row.T.Denot). PublishedSince f.key (g.T.Clear.content f.object) false c.args.self.lane.now c.publish.new.lane) c.give.ensures c.publish.ensures.published
+
+pub returns-clause-seen : goal.returns-clause-seen
+returns-clause-seen g c = c.publish.ensures.seen
+
+pub returns-clause-holds : goal.returns-clause-holds
+returns-clause-holds g c = c.publish.ensures.held
 
 pub returns-clause-same : goal.returns-clause-same
 returns-clause-same g c = c.publish.ensures.publishes.same

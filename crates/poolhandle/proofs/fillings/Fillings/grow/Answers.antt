@@ -2,7 +2,7 @@
 use Rattle.std.proofs.Common.{rules, ◌≡◌, ◌<◌, ◌∙◌, refl, subst, length, slice_index_or}
 use Rattle.std.proofs.lemmas.List.{get_or_default}
 use Rattle.poolhandle.specs.declared.kept.Kept.{Kept}
-use Rattle.poolhandle.specs.Filled.{content_of, SameToken, MustGrow}
+use Rattle.poolhandle.specs.Filled.{content_of, SameFilling, MustGrow}
 use Rattle.poolhandle.proofs.fillings.Fillings.grow.Goals as goal
 
 pub returns-clause-changes : goal.returns-clause-changes
@@ -10,7 +10,7 @@ returns-clause-changes c = let items = c.args.self.now.list.items in let kept = 
     let at : c.index_mut.result.now ≡ slice_index_or items c.args.index kept = c.index_mut.ensures.value ∙ get_or_default items c.args.index c.index_mut.result.now kept low in (
       kept,
       refl,
-      subst (λ (old : Kept). SameToken old kept) at c.grow.ensures.token,
+      subst (λ (old : Kept). SameFilling old kept) at c.grow.ensures.same,
       (subst (λ (old : Kept). content_of kept ≡ content_of old) at c.grow.ensures.content, c.grow.ensures.zeros, c.grow.ensures.room),
     )
 

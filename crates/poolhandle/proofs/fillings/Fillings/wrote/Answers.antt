@@ -2,7 +2,7 @@
 use Rattle.std.proofs.Common.{rules, ◌≡◌, ◌<◌, ◌≤◌, ◌++◌, ◌∙◌, refl, subst, length, take, slice_index_or}
 use Rattle.std.proofs.lemmas.List.{get_or_default}
 use Rattle.poolhandle.specs.declared.kept.Kept.{Kept}
-use Rattle.poolhandle.specs.Filled.{content_of, room_of, SameToken}
+use Rattle.poolhandle.specs.Filled.{content_of, room_of, SameFilling}
 use Rattle.poolhandle.proofs.fillings.Fillings.wrote.Goals as goal
 
 pub returns-clause-yes : goal.returns-clause-yes
@@ -11,6 +11,6 @@ returns-clause-yes c = λ yes. let items = c.args.self.now.list.items in let kep
     let told = c.wrote.ensures.yes yes in (
       kept,
       refl,
-      subst (λ (old : Kept). SameToken old kept) at c.wrote.ensures.token,
+      subst (λ (old : Kept). SameFilling old kept) at c.wrote.ensures.same,
       (subst (λ (old : Kept). c.args.count ≤ old.room) at told.0, subst (λ (old : Kept). content_of kept ≡ content_of old ++ take c.args.count (room_of old)) at told.1, told.2),
     )

@@ -1,8 +1,9 @@
 -- The filling that was found became another of its key.
-use Rattle.std.proofs.Common.{rules, ◌≡◌, ◌++◌, ◌∙◌, Bool, true, false, refl, ap, length, slice_index_or, inr, if◌then◌else◌}
+use Rattle.std.proofs.Common.{rules, ◌≡◌, ◌++◌, ◌∙◌, Bool, true, false, refl, ap, slice_index_or, inr, if◌then◌else◌}
 use Rattle.poolhandle.specs.declared.kept.Kept.{Kept}
-use Rattle.poolhandle.specs.Filled.{content_of, room_of}
-use Rattle.poolhandle.proofs.Turning.{all-content, no-room, had, has-set, made-set, had-tight}
+use Rattle.poolhandle.specs.Filled.{content_of}
+use Rattle.poolhandle.proofs.Turning.{all-content, no-room, made-set}
+use Rattle.poolhandle.proofs.Keeping.{keeps-lane}
 use Rattle.poolhandle.proofs.handle.Handle.append.Goals as goal
 
 pub invariant_of-self : goal.invariant_of-self
@@ -14,33 +15,12 @@ pub returns-then-append : goal.returns-then-append
 returns-then-append c =
     let old = c.args.self.now.fillings.list.items in let to = c.append.ensures.changes in let kept : Kept = to.0 in let found = c.in-Some.ensures.some in
     let was : Kept = slice_index_or old c.in-Some.index kept in let bytes = c.args.bytes.now in let is : c.append.result ≡ true = search rules in
-    let longer : content_of kept ≡ content_of was ++ bytes = all-content kept to.3.1 ∙ (to.3.0 ∙ ap (λ (done : Bool). if done then content_of was ++ bytes else content_of was) is) in (
-      content_of was,
-      room_of was,
-      content_of kept,
-      room_of kept,
-      had c.args.key c.in-Some.index old kept found.0 (found.1 kept),
-      has-set c.args.key c.in-Some.index old c.append.new.self.list.items kept found.0 (to.2.1 ∙ found.1 kept) to.1,
-      (longer, no-room kept to.3.1),
-      refl,
-    )
+    let longer : content_of kept ≡ content_of was ++ bytes = all-content kept to.3.1 ∙ (to.3.0 ∙ ap (λ (done : Bool). if done then content_of was ++ bytes else content_of was) is) in
+    (refl, keeps-lane refl refl refl refl (c.in-Some.index, found.0, (kept, to.1, to.2, (found.1 kept, (longer, no-room kept to.3.1)))))
 
 pub returns-else-append : goal.returns-else-append
 returns-else-append c =
     let old = c.args.self.now.fillings.list.items in let to = c.append.ensures.changes in let kept : Kept = to.0 in let found = c.in-Some.ensures.some in
     let was : Kept = slice_index_or old c.in-Some.index kept in let bytes = c.args.bytes.now in let is : c.append.result ≡ false = search rules in
     let stays : content_of kept ≡ content_of was = all-content kept to.3.1 ∙ (to.3.0 ∙ ap (λ (done : Bool). if done then content_of was ++ bytes else content_of was) is) in
-    inr (
-      refl,
-      had-tight c.args.key c.in-Some.index (length bytes) old kept found.0 (found.1 kept) (c.append.ensures.grown is kept),
-      (
-        content_of was,
-        room_of was,
-        content_of kept,
-        room_of kept,
-        had c.args.key c.in-Some.index old kept found.0 (found.1 kept),
-        has-set c.args.key c.in-Some.index old c.append.new.self.list.items kept found.0 (to.2.1 ∙ found.1 kept) to.1,
-        (stays, no-room kept to.3.1),
-        refl,
-      ),
-    )
+    inr (refl, (refl, keeps-lane refl refl refl refl (c.in-Some.index, found.0, (kept, to.1, to.2, (found.1 kept, (c.append.ensures.grown is kept, (stays, no-room kept to.3.1)))))))

@@ -1,6 +1,6 @@
 -- The new filling stands behind the others.
-use Rattle.std.proofs.Common.{rules, ◌≡◌, ◌∙◌, List, sym, ap, subst, Contains, slice_index_or}
-use Rattle.std.proofs.lemmas.List.Elements.{All-push, Contains-push}
+use Rattle.std.proofs.Common.{rules, ◌≡◌, ◌∙◌, sym, ap, refl, subst, slice_index_or}
+use Rattle.std.proofs.lemmas.List.Elements.{All-push}
 use Rattle.slotcell.specs.ByteBuf.{ByteBuf}
 use Rattle.shardpool.specs.Tokens.{LaneOf, FillingOf}
 use Rattle.shardpool.specs.Lanes.{Made}
@@ -37,9 +37,16 @@ returns-in-Ok c =
     let gives : Gives (λ (b : ByteBuf). b.bytes) (λ (b : ByteBuf). b.room) before.lane.value lane filling
     = subst (λ (l : LaneOf). Gives (λ (b : ByteBuf). b.bytes) (λ (b : ByteBuf). b.room) l lane filling) c.deref_mut.ensures.value did.gives in
     let under : filling.key ≡ c.key-key.result = sym c.key-key.ensures in
-    let there : Contains c.keep.new.self.list.items kept = subst (λ (places : List Kept). Contains places kept) (sym c.keep.ensures) (Contains-push old kept) in (
+    let content = all-content kept c.new.ensures.1 ∙ (ap (λ (f : FillingOf ByteBuf). f.object.bytes) is ∙ gives.empty) in (
       filling,
       under,
       gives,
-      (kept, there, ap (λ (f : FillingOf ByteBuf). f.key) is ∙ under, all-content kept c.new.ensures.1 ∙ (ap (λ (f : FillingOf ByteBuf). f.object.bytes) is ∙ gives.empty), no-room kept c.new.ensures.1),
+      record {
+        fillings_so = (kept, is, content, no-room kept c.new.ensures.1, c.keep.ensures);
+        references_so = gives.created.held;
+        lane = gives.created.same;
+        share = refl;
+        joined = refl;
+        row = refl;
+      },
     )

@@ -1,8 +1,9 @@
 -- The filling is taken out.
-use Rattle.std.proofs.Common.{◌≡◌, ◌∙◌, ℕ, refl, sym, ap, subst, Contains}
+use Rattle.std.proofs.Common.{◌≡◌, ◌∙◌, ℕ, refl, ap, subst}
 use Rattle.poolhandle.specs.declared.kept.Kept.{Kept}
-use Rattle.poolhandle.specs.Filled.{content_of, room_of, HaveNot}
+use Rattle.poolhandle.specs.Filled.{HaveNot}
 use Rattle.poolhandle.proofs.Turning.{made-taken}
+use Rattle.poolhandle.proofs.Keeping.{keeps-lane}
 use Rattle.poolhandle.proofs.handle.Handle.leave.Goals as goal
 
 pub invariant_of-self : goal.invariant_of-self
@@ -12,7 +13,6 @@ invariant_of-self c =
 
 pub returns : goal.returns
 returns c =
-    let before = c.args.self.now in let old = before.fillings.list.items in let rest = c.take.new.self.list.items in let kept = c.take.result in let found = c.in-Some.ensures.some in
-    let under : kept.filling.key ≡ c.args.key = ap (λ (k : Kept). k.filling.key) c.take.ensures.is ∙ found.1 kept in
-    let there : Contains old kept = (c.in-Some.index, found.0, sym c.take.ensures.is) in
-    (refl, (content_of kept, room_of kept, (kept, there, under, refl, refl)), subst (λ (key : ℕ). HaveNot key rest) under c.take.ensures.apart)
+    let rest = c.take.new.self.list.items in let kept = c.take.result in
+    let under : kept.filling.key ≡ c.args.key = ap (λ (k : Kept). k.filling.key) c.take.ensures.is ∙ c.in-Some.ensures.some.1 kept in
+    (refl, (kept, keeps-lane refl refl refl refl (under, c.take.ensures.rest, subst (λ (key : ℕ). HaveNot key rest) under c.take.ensures.apart)))

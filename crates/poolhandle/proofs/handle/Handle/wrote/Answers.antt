@@ -1,9 +1,11 @@
 -- The filling that was found became another of its key, or nothing changed.
-use Rattle.std.proofs.Common.{rules, ◌∙◌, refl, sym, ap, subst, arith, slice_index_or, inr}
+use Rattle.std.proofs.Common.{rules, refl, sym, ap, subst, arith, Contains, slice_index_or, inr}
+use Rattle.std.proofs.lemmas.List.{get_or_default}
 use Rattle.poolhandle.specs.declared.kept.Kept.{Kept}
 use Rattle.poolhandle.specs.declared.fillings.Fillings.{Fillings}
-use Rattle.poolhandle.specs.Filled.{content_of, room_of, AreMade}
-use Rattle.poolhandle.proofs.Turning.{no-room, room-length, had, has-set, made-set, by-answer, any-of}
+use Rattle.poolhandle.specs.Filled.{AreMade}
+use Rattle.poolhandle.proofs.Turning.{no-room, room-length, made-set, by-answer, any-of}
+use Rattle.poolhandle.proofs.Keeping.{keeps-lane}
 use Rattle.poolhandle.proofs.handle.Handle.wrote.Goals as goal
 
 pub invariant_of-self : goal.invariant_of-self
@@ -20,19 +22,12 @@ invariant_of-self c =
 pub returns-then-wrote : goal.returns-then-wrote
 returns-then-wrote c =
     let old = c.args.self.now.fillings.list.items in let to = c.wrote.ensures.yes (search rules) in let kept : Kept = to.0 in let found = c.in-Some.ensures.some in
-    let was : Kept = slice_index_or old c.in-Some.index kept in let long = room-length was in let few = to.3.0 in (
-      content_of was,
-      room_of was,
-      content_of kept,
-      room_of kept,
-      had c.args.key c.in-Some.index old kept found.0 (found.1 kept),
-      has-set c.args.key c.in-Some.index old c.wrote.new.self.list.items kept found.0 (to.2.1 ∙ found.1 kept) to.1,
-      (omega (arith, few, long), to.3.1, no-room kept to.3.2),
-      refl,
-    )
+    let was : Kept = slice_index_or old c.in-Some.index kept in let long = room-length was in let few = to.3.0 in
+    (refl, keeps-lane refl refl refl refl (c.in-Some.index, found.0, (kept, to.1, to.2, (found.1 kept, (omega (arith, few, long), to.3.1, no-room kept to.3.2)))))
 
 pub returns-else-wrote : goal.returns-else-wrote
 returns-else-wrote c =
     let old = c.args.self.now.fillings.list.items in let found = c.in-Some.ensures.some in let told = c.wrote.ensures.no (search rules) in
     let any = any-of old c.in-Some.index found.0 in let was : Kept = slice_index_or old c.in-Some.index any in let long = room-length was in let few = told.1 any in
-    inr (refl, (content_of was, room_of was, had c.args.key c.in-Some.index old any found.0 (found.1 any), omega (arith, few, long)), ap (λ (f : Fillings). f.list.items) told.0, refl)
+    let there : Contains old was = (c.in-Some.index, found.0, get_or_default old c.in-Some.index was any found.0) in
+    inr (refl, (was, there, found.1 any, omega (arith, few, long)), (refl, keeps-lane refl refl refl refl (ap (λ (f : Fillings). f.list.items) told.0)))
