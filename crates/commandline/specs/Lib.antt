@@ -8,3 +8,5 @@ pub mod Tasks
 pub mod ViewLines
 pub mod ViewMistakes
 pub mod Statuses
+pub mod Arguments
+pub mod Asking

@@ -1,5 +1,5 @@
 -- What is said of a mistake in the words.
-use Rattle.std.specs.Prelude.{ℕ, List, ◌++◌, codes, string_bytes}
+use Rattle.std.specs.Prelude.{ℕ, Bool, true, false, List, ◌++◌, codes, string_bytes}
 use Rattle.commandline.specs.declared.mistakes.Mistake.{Mistake}
 use Rattle.commandline.specs.declared.mistakes.Reason.{Reason}
 use Rattle.commandline.specs.declared.mistakes.Reason.TheVariants.{NoTurns, SeedAlone, TurnsAlone, ScheduleAndMore, BadSchedule, BadSeed, BadTurns, BadStop, BadNumber, BadHexadecimal, BadFrom, BadCount, NoText, Missing}
@@ -41,3 +41,8 @@ after_of Missing = codes ": --help says which words there are"
 -- the line that explains a mistake
 abbrev pub mistake_text : Mistake → List ℕ
 mistake_text mistake = before_of mistake.reason ++ string_bytes mistake.found ++ after_of mistake.reason ++ codes "\n"
+
+-- what is said of a mistake: that the words are wrong, and where that is wanted the line that explains it
+abbrev pub words_text : Bool → Mistake → List ℕ
+words_text false mistake = codes "words\n"
+words_text true mistake = codes "words\n" ++ mistake_text mistake

@@ -1,8 +1,11 @@
--- How a program ends whose words are no task.
-use Rattle.std.specs.Prelude.{◌≡◌, ◌≢◌, ◌⊎◌, ⊤}
+-- How a program ends whose words ask for nothing.
+use Rattle.std.specs.Prelude.{◌≡◌, ◌≢◌, ◌⊎◌, ℕ, Bool, true, false, List, Option, codes}
 use Rattle.clap.specs.Values.{kind_of}
 use Rattle.clap.specs.declared.error.kind.ErrorKind.{ErrorKind}
 use Rattle.clap.specs.declared.error.kind.ErrorKind.TheVariants.{OutOfMemory, DisplayHelp, DisplayVersion}
+use Rattle.streams.specs.Saying.{Says}
+use Rattle.streams.specs.declared.writer.Watched.{Watched}
+use Rattle.commandline.specs.MistakeTexts.{words_text}
 use Rattle.commandline.specs.declared.fault.TaskFault.{TaskFault}
 use Rattle.commandline.specs.declared.fault.TaskFault.TheVariants as faults
 
@@ -18,20 +21,33 @@ IsHelp kind = (kind ≡ DisplayHelp) ⊎ (kind ≡ DisplayVersion)
 abbrev pub IsMistake : ErrorKind → Type 0
 IsMistake kind = (kind ≢ OutOfMemory) × (kind ≢ DisplayHelp) × (kind ≢ DisplayVersion)
 
--- memory was refused for the words
-abbrev pub WantsMemory : TaskFault → Type 0
-WantsMemory (faults.Clap error) = IsRefusal (kind_of error)
-WantsMemory (faults.Words mistake) = ⊥
-WantsMemory (faults.Memory refused) = ⊤
+-- the line of a want of memory
+abbrev pub memory_line : List ℕ
+memory_line = codes "fault 43 Memory\n"
 
--- the words ask for help or the version
-abbrev pub AskForHelp : TaskFault → Type 0
-AskForHelp (faults.Clap error) = IsHelp (kind_of error)
-AskForHelp (faults.Words mistake) = ⊥
-AskForHelp (faults.Memory refused) = ⊥
+-- the line of an output that can't be written
+abbrev pub output_line : List ℕ
+output_line = codes "fault 42 Output\n"
 
--- the words are wrong
-abbrev pub AreWrong : TaskFault → Type 0
-AreWrong (faults.Clap error) = IsMistake (kind_of error)
-AreWrong (faults.Words mistake) = ⊤
-AreWrong (faults.Memory refused) = ⊥
+-- memory was refused for the words: the status is 1, and the fault's line is said
+pub record EndsByMemory {E : Type 0} (contents : E → Option (List ℕ)) (before after : Watched E) (status : ℕ) : Type 0 where
+  pub status_is : status ≡ 1
+  pub says : Says contents before after memory_line
+
+-- help was written: the status is 0, and no error is said; or the output failed, and that is a fault
+pub record EndsByHelp {E : Type 0} (contents : E → Option (List ℕ)) (failed : Bool) (before after : Watched E) (status : ℕ) : Type 0 where
+  pub written : failed ≡ false → (status ≡ 0) × (after ≡ before)
+  pub refused : failed ≡ true → (status ≡ 1) × Says contents before after output_line
+
+-- how the program ends by what clap says: nothing is written on the output but help, and what clap says of a mistake is clap's
+pub record EndsByClap {O E : Type 0} (contents : E → Option (List ℕ)) (kind : ErrorKind) (old new : Watched O) (before after : Watched E) (status : ℕ) : Type 0 where
+  pub memory : IsRefusal kind → (new ≡ old) × EndsByMemory contents before after status
+  pub help : IsHelp kind → EndsByHelp contents new.failed before after status
+  pub mistake : IsMistake kind → (new ≡ old) × (status ≡ 2)
+
+-- how the program ends whose words ask for nothing, by its status, and by what is written on the output and as errors
+abbrev pub EndsByWords : {O E : Type 0} → (E → Option (List ℕ)) → TaskFault → Bool → Watched O → Watched O → Watched E → Watched E → ℕ → Type 0
+EndsByWords contents (faults.Clap error) explain old new before after status = EndsByClap contents (kind_of error) old new before after status
+EndsByWords contents (faults.Words mistake) explain old new before after status =
+    (status ≡ 2) × (new ≡ old) × Says contents before after (words_text explain mistake)
+EndsByWords contents (faults.Memory refused) explain old new before after status = (new ≡ old) × EndsByMemory contents before after status

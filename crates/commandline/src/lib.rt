@@ -1,4 +1,5 @@
-//! The words of the command lines of `poolrun` and `poolview`, what they ask for, and why they ask for nothing.
+//! The words of the command lines of `poolrun` and `poolview`, what they ask for, and how the programs end where they ask for
+//! nothing.
 #![tactic(auto)]
 
 mod fault;
@@ -16,7 +17,7 @@ mod words;
 
 pub use fault::TaskFault;
 pub use mistakes::{Mistake, Reason, write_mistake};
-pub use reports::{Untold, read_args, report_words};
-pub use requests::{Request, read_request, task};
+pub use reports::{end_by_words, read_args};
+pub use requests::{Request, read_request, request_of_args, task};
 pub use tasks::{Stop, Task, Turns};
 pub use views::{View, Viewing, read_viewing};

@@ -1,10 +1,10 @@
 //! Why words that `clap` took are still no task.
-ghost use Rattle.std.specs.Prelude.{◌≡◌, OnOk};
-ghost use Rattle.std.specs.Io.KnownBytes.{Appends};
+ghost use Rattle.std.specs.Prelude.{◌≡◌};
+ghost use Rattle.streams.specs.Saying.{Says};
 ghost use Rattle.commandline.specs.MistakeTexts.{before_of, after_of, mistake_text};
 
-use std::io;
 use std::io::Write;
+use streams::{Watched, write_text};
 
 /// Why the words are no task.
 #[derive(Clone, Copy, Debug)]
@@ -102,12 +102,12 @@ fn after(reason: Reason) -> &'static str
 }
 
 /// Writes the line that explains a mistake: the option, the text that was found and what is wanted.
-/// Nothing is allocated. After an error it isn't said how much went out.
-pub fn write_mistake<W: Write>(mistake: &Mistake, out: &mut W) -> io::Result<()>
-    ensures { OnOk result (Appends (W.contents out.old) (W.contents out.new) (mistake_text mistake.now)) }
+/// Nothing is allocated.
+pub fn write_mistake<W: Write>(mistake: &Mistake, out: &mut Watched<W>)
+    ensures { Says W.contents out.old out.new (mistake_text mistake.now) }
 {
-    let before = before(mistake.reason);
-    let found = mistake.found.as_str();
-    let after = after(mistake.reason);
-    writeln!(out, "{before}{found}{after}")
+    write_text(before(mistake.reason).as_bytes(), out);
+    write_text(mistake.found.as_bytes(), out);
+    write_text(after(mistake.reason).as_bytes(), out);
+    write_text(b"\n", out);
 }

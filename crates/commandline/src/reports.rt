@@ -1,84 +1,110 @@
-//! The words of the command line, and what is printed where they are no task.
-ghost use Rattle.std.specs.Prelude.{◌≡◌, ◌⊎◌, Ok, Err};
+//! The words of the command line, and how a program ends whose words ask for nothing.
+ghost use Rattle.std.specs.Prelude.{◌≡◌};
 ghost use Rattle.clap.specs.Values.{kind_of};
-ghost use Rattle.commandline.specs.Statuses.{IsRefusal, IsHelp, IsMistake, AreWrong, AskForHelp, WantsMemory};
+ghost use Rattle.streams.specs.Saying.{Says};
+ghost use Rattle.commandline.specs.MistakeTexts.{words_text};
+ghost use Rattle.commandline.specs.Statuses.{EndsByClap, EndsByHelp, EndsByWords, IsHelp};
+ghost use Rattle.commandline.specs.Arguments.{ReadsArgs};
 
 use crate::fault::TaskFault;
 use crate::mistakes::{Mistake, Reason, write_mistake};
 use clap::Error as ClapError;
 use clap::error::ErrorKind;
 use std::alloc::{AllocError, Global};
-use std::env::Env;
+use std::env::Args;
+use std::io;
 use std::io::Write;
-use std::{env, io};
+use streams::{Watched, write_text};
 
-/// Why what there is to say of the words wasn't said.
-#[derive(Clone, Copy)]
-pub enum Untold {
-    /// Memory was refused for the words.
-    Memory,
-    /// Help can't be printed.
-    Output,
+/// The line of a want of memory.
+const MEMORY: &[u8] = b"fault 43 Memory\n";
+
+/// The line of an output that can't be written.
+const OUTPUT: &[u8] = b"fault 42 Output\n";
+
+/// Writes the help or the version that is asked for.
+fn end_by_help<O: Write, E: Write>(
+    error: &ClapError,
+    out: &mut Watched<O>,
+    errors: &mut Watched<E>,
+) -> u8
+    ensures { EndsByHelp E.contents out.new.failed errors.old errors.new result }
+{
+    let _ = write!(out, "{error}");
+    if out.failed() {
+        write_text(OUTPUT, errors);
+        return 1;
+    }
+    0
 }
 
-/// Prints what `clap` says.
-fn print_clap<R: Print + Eprint>(rt: &R, error: &ClapError) -> Result<u8, Untold>
-    ensures memory { IsRefusal (kind_of error.now) → result ≡ Err Untold.Memory }
-    ensures help { IsHelp (kind_of error.now) → (result ≡ Ok 0) ⊎ (result ≡ Err Untold.Output) }
-    ensures mistake { IsMistake (kind_of error.now) → result ≡ Ok 2 }
+/// Writes what `clap` says.
+fn end_by_clap<O: Write, E: Write>(
+    error: &ClapError,
+    out: &mut Watched<O>,
+    errors: &mut Watched<E>,
+) -> u8
+    ensures { EndsByClap E.contents (kind_of error.now) out.old out.new errors.old errors.new result }
 {
     if error.kind() == ErrorKind::OutOfMemory {
-        return Err(Untold::Memory);
+        write_text(MEMORY, errors);
+        return 1;
     }
-    let printed = error.print(rt);
     if error.use_stderr() {
-        return Ok(2);
+        let _ = write!(errors, "{error}");
+        return 2;
     }
-    if printed.is_err() {
-        return Err(Untold::Output);
-    }
-    Ok(0)
+    end_by_help(error, out, errors)
 }
 
-/// Prints why the words are no task, and with `explain` where a mistake is and what is wanted there, on `errors`; or the
-/// help that they ask for. Answers the exit status: 2 for a mistake, and 0 for help or the version. The errors: `Memory`
-/// where memory was refused for the words, with nothing printed; `Output` where help can't be printed. A mistake that
-/// can't be printed is one all the same.
-pub fn report_words<R: Print + Eprint, W: Write>(
-    rt: &R,
-    errors: &mut W,
+/// Writes that the words are wrong, and with `explain` where the mistake is and what is wanted there.
+fn report_mistake<E: Write>(mistake: &Mistake, explain: bool, errors: &mut Watched<E>)
+    ensures { Says E.contents errors.old errors.new (words_text explain mistake.now) }
+{
+    write_text(b"words\n", errors);
+    if explain {
+        write_mistake(mistake, errors);
+    }
+}
+
+/// Writes why the words ask for nothing, and with `explain` where a mistake is and what is wanted there, on `errors`; or the
+/// help that they ask for on `out`. Answers the exit status: 2 for a mistake, whether or not it gets out; 0 for help or the
+/// version; and 1 where memory was refused for the words, or help can't be written, which is said on `errors`.
+pub fn end_by_words<O: Write, E: Write>(
     fault: &TaskFault,
     explain: bool,
-) -> Result<u8, Untold>
-    ensures memory { WantsMemory fault.now → result ≡ Err Untold.Memory }
-    ensures help { AskForHelp fault.now → (result ≡ Ok 0) ⊎ (result ≡ Err Untold.Output) }
-    ensures wrong { AreWrong fault.now → result ≡ Ok 2 }
+    out: &mut Watched<O>,
+    errors: &mut Watched<E>,
+) -> u8
+    ensures { EndsByWords E.contents fault.now explain out.old out.new errors.old errors.new result }
 {
     match fault {
-        TaskFault::Clap(error) => print_clap(rt, error),
+        TaskFault::Clap(error) => end_by_clap(error, out, errors),
         TaskFault::Words(mistake) => {
-            let _ = writeln!(errors, "words");
-            if explain {
-                let _ = write_mistake(mistake, errors);
-            }
-            Ok(2)
+            report_mistake(mistake, explain, errors);
+            2
         }
-        TaskFault::Memory(_) => Err(Untold::Memory),
+        TaskFault::Memory(_) => {
+            write_text(MEMORY, errors);
+            1
+        }
     }
 }
 
-/// The words that the program was called with. The faults: `Words` where one is no text; `Memory` where memory was
-/// refused.
-pub fn read_args<R: Env + Alloc<A = Global>>(rt: &R) -> Result<Vec<String>, TaskFault> {
-    match env::args(rt) {
-        Ok(args) => Ok(args.collect(rt.alloc())?),
+/// The words that the program was called with, by what `env::args` answers. The faults: `Words` where one is no text; `Memory`
+/// where memory was refused.
+pub fn read_args(alloc: Global, args: io::Result<Args>) -> Result<Vec<String>, TaskFault>
+    ensures { ReadsArgs args result }
+{
+    match args {
+        Ok(args) => Ok(args.collect(alloc)?),
         Err(error) => {
             if error.kind() == io::ErrorKind::OutOfMemory {
                 return Err(TaskFault::Memory(AllocError));
             }
             Err(TaskFault::Words(Mistake {
                 reason: Reason::NoText,
-                found: String::new(rt.alloc()),
+                found: String::new(alloc),
             }))
         }
     }

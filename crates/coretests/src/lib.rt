@@ -15,6 +15,8 @@ mod test_checker;
 #[cfg(test)]
 mod test_core;
 #[cfg(test)]
+mod test_endings;
+#[cfg(test)]
 mod test_free_places;
 #[cfg(test)]
 mod test_key_lines;

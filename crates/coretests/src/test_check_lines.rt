@@ -4,12 +4,13 @@ use crate::test_programs::{fault_of, says_output, wrote};
 use crate::test_texts::{same, same_at};
 use coresteps::CoreFault;
 use keybits::ShapeFault;
-use poolprogram::{RunFault, Watched, check_text};
+use poolprogram::{RunFault, check_text};
 use scripts::{ScriptFault, ScriptPlace, ScriptRefusal};
 use seqpool::{ActsFault, ActsRefusal};
 use std::alloc::AllocGlobal;
 use std::io::Write;
 use std::process::Abort;
+use streams::Watched;
 
 // Texts of acts, and behind each the line that its check gives.
 const CHECKS: &str = "shape 1 2 1 4294967295

@@ -1,10 +1,11 @@
 use crate::fake_writers::{Clogged, Deaf, Halting};
 use crate::test_programs::{says_output, wrote};
 use crate::test_texts::same_at;
-use poolprogram::{Watched, key_text};
+use poolprogram::key_text;
 use std::alloc::AllocGlobal;
 use std::io::Write;
 use std::process::Abort;
+use streams::Watched;
 
 // Numbers, and the lines of the keys that have them.
 const KEYS: &str = "16842752: shard 1 page 0 slot 0 generation 1

@@ -1,12 +1,13 @@
 //! What people type wrongly, in files and in words; what is printed of it, and the line that explains it.
 use crate::test_programs::{around, words_of, wrote};
-use crate::test_texts::{reads, same_at};
+use crate::test_texts::same_at;
 use commandline::{Request, Task, TaskFault, read_request, write_mistake};
-use poolprogram::{RunFault, Subject, Watched, do_task, explain, load, subject_of, write_report};
+use poolprogram::{RunFault, Subject, do_task, explain, subject_of, write_report};
 use std::alloc::AllocGlobal;
 use std::process::Abort;
 use std::sync::Wait;
 use std::thread::Threads;
+use streams::{Watched, load, write_text};
 
 const SCRIPT: &str =
     "{\"shape\": {\"lanes\": 3, \"first_page\": 1, \"pages\": 2, \"last_generation\": 4294967295}, \"scripts\": [[[\"create\", 0], [\"write\", 0, \"aa01\"], [\"publish\", 0], [\"get\", 1, \"@0\"], [\"read\", 1], [\"release\", 1], [\"clear\", \"@0\"]], [[\"get\", 0, 16777216], [\"read\", 0], [\"release\", 0], [\"clear\", 16777216]], [[\"get\", 0, 16777216], [\"clear\", 16777216], [\"read\", 0], [\"release\", 0]]]}";
@@ -305,12 +306,12 @@ fn explains<R: Abort + AllocGlobal>(
     done: &Result<bool, RunFault>,
     wanted: &str,
 ) {
-    let mut said = Vec::new(rt.alloc());
-    write_report(done, &mut said).expect(rt, "memory for a line");
+    let mut said = Watched::new(Vec::new(rt.alloc()));
+    write_report(done, &mut said);
     let why = explain(rt.alloc(), subject, file.as_bytes(), done).expect(rt, "memory for a line");
-    said.extend_from_slice(why.as_bytes())
-        .expect(rt, "memory for a line");
-    reads(rt, said.as_slice(), wanted);
+    assert!(rt; why.whole);
+    write_text(why.text.as_bytes(), &mut said);
+    wrote(rt, said, wanted, file);
 }
 
 /// These words on this file print this, and explain it so.
@@ -374,10 +375,10 @@ fn mistakes<R: Abort + AllocGlobal>(rt: &R, words: &str, why: &str) {
     let Err(TaskFault::Words(mistake)) = task else {
         panic!(rt; "no mistake")
     };
-    let mut said = Vec::new(rt.alloc());
-    write_mistake(&mistake, &mut said).expect(rt, "memory for a line");
+    let mut said = Watched::new(Vec::new(rt.alloc()));
+    write_mistake(&mistake, &mut said);
     let line = around(rt, why, "\n", 1, "");
-    reads(rt, said.as_slice(), line.as_str());
+    wrote(rt, said, line.as_str(), words);
 }
 
 #[test]
@@ -411,5 +412,5 @@ fn explains_a_missing_file(rt: HostRuntime) {
     let task = task_of(&rt, "run|nosuch.json");
     let subject = subject_of(rt.alloc(), &task).expect(&rt, "memory for a path");
     let said = "fault 41 File\n\"nosuch.json\" can't be opened, or not read to its end\n";
-    explains(&rt, &subject, "", &Err(fault), said);
+    explains(&rt, &subject, "", &Err(RunFault::from(fault)), said);
 }

@@ -1,9 +1,10 @@
 //! Calls of the programs as tests make them, and what these answer and write.
 use crate::test_texts::same_at;
 use crate::texts::is_text;
-use poolprogram::{RunFault, Watched, check_text, read_schedule, replay_text};
+use poolprogram::{RunFault, check_text, read_schedule, replay_text};
 use std::alloc::AllocGlobal;
 use std::process::Abort;
+use streams::Watched;
 
 /// The number and the name of a fault, where there is one.
 pub(crate) type Fault = Option<(u32, &'static str)>;

@@ -4,10 +4,11 @@ use crate::test_programs::{
 };
 use crate::test_texts::same;
 use commandline::Turns;
-use poolprogram::{Watched, load, plan_turns, replay_plan, replay_text};
+use poolprogram::{RunFault, plan_turns, replay_plan, replay_text};
 use std::alloc::AllocGlobal;
 use std::io::Write;
 use std::process::Abort;
+use streams::{Watched, load};
 
 pub(crate) const ROW: &str =
     "{\"shape\":{\"lanes\":1,\"first_page\":2,\"pages\":1,\"last_generation\":4294967295},\"scripts\":[[[\"create\",0],[\"write\",0,\"6869\"],[\"publish\",0],[\"get\",1,16777216],[\"read\",1]]]}";
@@ -108,6 +109,6 @@ fn fails_with_its_writer(rt: HostRuntime) {
 
 #[test]
 fn finds_no_file(rt: HostRuntime) {
-    let answer = load(&rt, "no such file");
+    let answer = load(&rt, "no such file").map_err(RunFault::from);
     is_fault(&rt, fault_of(&answer), 41, "File", "no such file");
 }

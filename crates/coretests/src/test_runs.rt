@@ -1,11 +1,12 @@
 use crate::fake_writers::{Clogged, Deaf, Halting};
 use crate::test_programs::{fault_of, is_fault, says_output, wrote};
-use poolprogram::{Watched, run_text};
+use poolprogram::run_text;
 use std::alloc::AllocGlobal;
 use std::io::Write;
 use std::process::Abort;
 use std::sync::Wait;
 use std::thread::Threads;
+use streams::Watched;
 
 const WHOLE_LIFE: &str =
     "{\"shape\":{\"lanes\":1,\"first_page\":2,\"pages\":1,\"last_generation\":4294967295},\"scripts\":[[[\"create\",0],[\"write\",0,\"6869\"],[\"publish\",0],[\"get\",1,16777216],[\"read\",1],[\"release\",1],[\"clear\",16777216]]]}";

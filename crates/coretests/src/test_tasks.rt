@@ -1,11 +1,12 @@
 use crate::test_programs::wrote;
-use crate::test_texts::{reads, same};
+use crate::test_texts::same;
 use commandline::{Stop, Task, Turns};
-use poolprogram::{Watched, do_task, status_of, write_report};
+use poolprogram::{do_task, status_of, write_report};
 use std::alloc::AllocGlobal;
 use std::process::Abort;
 use std::sync::Wait;
 use std::thread::Threads;
+use streams::Watched;
 
 const FILE: &str =
     "{\"shape\":{\"lanes\":1,\"first_page\":2,\"pages\":1,\"last_generation\":4294967295},\"scripts\":[[[\"create\",0],[\"write\",0,\"6869\"],[\"publish\",0],[\"get\",1,16777216],[\"read\",1]]]}";
@@ -22,9 +23,9 @@ fn ends<R: Abort + AllocGlobal + Threads + Wait + Sync>(
     let mut out = Watched::new(Vec::new(rt.alloc()));
     let done = do_task(rt, rt.alloc(), task, file.as_bytes(), &mut out);
     wrote(rt, out, said, file);
-    let mut report = Vec::new(rt.alloc());
-    write_report(&done, &mut report).expect(rt, "memory for a line");
-    reads(rt, report.as_slice(), reported);
+    let mut report = Watched::new(Vec::new(rt.alloc()));
+    write_report(&done, &mut report);
+    wrote(rt, report, reported, file);
     same(rt, &status_of(&done), &status);
 }
 

@@ -1,7 +1,8 @@
 //! The words of `poolview`, and what is printed where they ask for nothing.
-use crate::test_programs::words_of;
-use crate::test_texts::reads;
-use commandline::{View, read_viewing, report_words};
+use crate::test_programs::{words_of, wrote};
+use crate::test_texts::same;
+use commandline::{View, end_by_words, read_viewing};
+use streams::Watched;
 
 #[test]
 fn reads_what_is_viewed(rt: HostRuntime) {
@@ -27,11 +28,10 @@ fn explains_a_wrong_turn(rt: HostRuntime) {
     let fault = read_viewing(rt.alloc(), words.as_slice())
         .err()
         .expect(&rt, "a mistake");
-    let mut said = Vec::new(rt.alloc());
-    assert!(rt; matches!(report_words(&rt, &mut said, &fault, true), Ok(2)));
-    reads(
-        &rt,
-        said.as_slice(),
-        "words\n--from \"x\" is no turn: one to twenty decimal digits, at most 4294967295\n",
-    );
+    let mut out = Watched::new(Vec::new(rt.alloc()));
+    let mut said = Watched::new(Vec::new(rt.alloc()));
+    same(&rt, &end_by_words(&fault, true, &mut out, &mut said), &2);
+    wrote(&rt, out, "", "--from x");
+    let line = "words\n--from \"x\" is no turn: one to twenty decimal digits, at most 4294967295\n";
+    wrote(&rt, said, line, "--from x");
 }

@@ -1,4 +1,3 @@
 pub mod Verdicts
-pub mod Writing
 mod Running
 mod Replaying

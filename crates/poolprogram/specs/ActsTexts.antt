@@ -1,9 +1,11 @@
 -- Why a text of acts is refused, or an act is illegal, in words.
-use Rattle.std.specs.Prelude.{◌≡◌, ◌⊎◌, ℕ, ◌+◌, ◌-◌, ◌==◌, List, [], ◌++◌, if◌then◌else◌, decimal, codes}
+use Rattle.std.specs.Prelude.{◌≡◌, ◌≢◌, ◌⊎◌, ℕ, ◌+◌, ◌-◌, ◌==◌, List, [], ◌++◌, if◌then◌else◌, decimal, codes}
 use Rattle.keybits.specs.declared.shape.Shape.{Shape}
 use Rattle.scripts.specs.ScriptPlaces.{field_text, faulty_field}
+use Rattle.seqpool.specs.ActsPlaces.{RefusesText}
 use Rattle.seqpool.specs.ActsText.{StandsFor}
 use Rattle.seqpool.specs.Checker.{IsIllegalAt}
+use Rattle.seqpool.specs.Pool.{IsLegal}
 use Rattle.seqpool.specs.declared.act.Act.{Act}
 use Rattle.seqpool.specs.declared.acts_fault.ActsFault.{ActsFault}
 use Rattle.seqpool.specs.declared.acts_fault.ActsFault.TheVariants as faults
@@ -79,6 +81,23 @@ pub record ExplainsIllegal (bytes text : List ℕ) : Type 0 where
   pub illegal : IsIllegalAt shape history index fault
   pub is : text ≡ illegal_explanation bytes index fault
 
--- nothing is explained of the bytes, or their first act that is refused
+-- the bytes stand for no acts, by this refusal, which is no want of memory
+pub record IsNoHistory (bytes : List ℕ) : Type 0 where
+  pub refusal : ActsRefusal
+  pub refused : RefusesText bytes refusal
+  pub known : refusal.fault ≢ faults.Memory
+
+-- the bytes stand for a legal history
+pub record IsLegalText (bytes : List ℕ) : Type 0 where
+  pub shape : Shape
+  pub history : List Act
+  pub stands : StandsFor bytes shape history
+  pub legal : IsLegal shape history
+
+-- no act is refused of the bytes
+abbrev pub HasNoIllegal : List ℕ → Type 0
+HasNoIllegal bytes = IsNoHistory bytes ⊎ IsLegalText bytes
+
+-- the bytes' first act that is refused is explained; nothing is, where none is refused
 abbrev pub ExplainsCheck : List ℕ → List ℕ → Type 0
-ExplainsCheck bytes text = (text ≡ []) ⊎ ExplainsIllegal bytes text
+ExplainsCheck bytes text = ((text ≡ []) × HasNoIllegal bytes) ⊎ ExplainsIllegal bytes text

@@ -3,12 +3,11 @@ use Rattle.std.specs.Prelude.{◌≡◌, ℕ, Bool, true, false, List, [], ◌++
 use Rattle.commandline.specs.Tasks.{path_of}
 use Rattle.commandline.specs.declared.tasks.Task.{Task}
 use Rattle.commandline.specs.declared.tasks.Task.TheVariants.{Replay, Check, Run, Key, Word}
-use Rattle.scripts.specs.declared.script_place.ScriptPlace.{ScriptPlace}
 use Rattle.scripts.specs.declared.script_refusal.ScriptRefusal.{ScriptRefusal}
 use Rattle.poolprogram.specs.ActsTexts.{acts_explanation, ExplainsCheck}
 use Rattle.poolprogram.specs.ScriptTexts.{script_explanation}
 use Rattle.poolprogram.specs.Shown.{shown_bytes}
-use Rattle.poolprogram.specs.Values.{IsValueText}
+use Rattle.poolprogram.specs.Values.{IsValueAt}
 use Rattle.poolprogram.specs.declared.explanation.Subject.{Subject}
 use Rattle.poolprogram.specs.declared.explanation.Subject.TheVariants.{Path, Number}
 use Rattle.poolprogram.specs.declared.run_fault.RunFault.{RunFault}
@@ -36,30 +35,30 @@ abbrev pub file_text : Subject → List ℕ
 file_text (Path path) = shown_bytes (string_bytes path) ++ codes " can't be opened, or not read to its end\n"
 file_text (Number number) = []
 
--- the text is that of the value at a place of the file, where there is a text
-abbrev pub IsValueAt : List ℕ → ScriptPlace → Option (List ℕ) → Type 0
-IsValueAt file place None = Unit {0}
-IsValueAt file place (Some text) = IsValueText file place text
-
--- the text explains why a script file is refused, with the value at the place or with none
-pub record ExplainsPlan (file : List ℕ) (refusal : ScriptRefusal) (text : List ℕ) : Type 0 where
+-- the text explains why a script file is refused, with the value at the place, where there is one
+pub record ExplainsValue (file : List ℕ) (refusal : ScriptRefusal) (text : List ℕ) : Type 0 where
   pub value : Option (List ℕ)
   pub stands : IsValueAt file refusal.place value
   pub is : text ≡ script_explanation refusal value
 
--- the text explains a fault
-abbrev pub ExplainsFault : Subject → List ℕ → RunFault → List ℕ → Type 0
-ExplainsFault subject file (runs.Read refusal) text = ExplainsPlan file refusal text
-ExplainsFault subject file (runs.Acts refusal) text = text ≡ acts_explanation file refusal
-ExplainsFault subject file runs.File text = text ≡ file_text subject
-ExplainsFault subject file runs.Output text = text ≡ codes "standard output can't be written\n"
-ExplainsFault subject file (runs.Core fault) text = text ≡ codes "memory was refused\n"
-ExplainsFault subject file runs.Open text = text ≡ codes "memory was refused\n"
-ExplainsFault subject file runs.Memory text = text ≡ codes "memory was refused\n"
+-- the same; where it isn't whole, with no value, whatever stands there
+abbrev pub ExplainsPlan : List ℕ → ScriptRefusal → Bool → List ℕ → Type 0
+ExplainsPlan file refusal true text = ExplainsValue file refusal text
+ExplainsPlan file refusal false text = text ≡ script_explanation refusal None
+
+-- the text explains a fault; only of a script file it may not be whole
+abbrev pub ExplainsFault : Subject → List ℕ → RunFault → Bool → List ℕ → Type 0
+ExplainsFault subject file (runs.Read refusal) whole text = ExplainsPlan file refusal whole text
+ExplainsFault subject file (runs.Acts refusal) whole text = (whole ≡ true) × (text ≡ acts_explanation file refusal)
+ExplainsFault subject file (runs.Core fault) whole text = (whole ≡ true) × (text ≡ codes "memory was refused\n")
+ExplainsFault subject file runs.File whole text = (whole ≡ true) × (text ≡ file_text subject)
+ExplainsFault subject file runs.Output whole text = (whole ≡ true) × (text ≡ codes "standard output can't be written\n")
+ExplainsFault subject file runs.Open whole text = (whole ≡ true) × (text ≡ codes "memory was refused\n")
+ExplainsFault subject file runs.Memory whole text = (whole ≡ true) × (text ≡ codes "memory was refused\n")
 
 -- the text explains how a task ended that is about this
-abbrev pub Explains : Subject → List ℕ → Result Bool RunFault → List ℕ → Type 0
-Explains subject file (Err fault) text = ExplainsFault subject file fault text
-Explains subject file (Ok true) text = text ≡ []
-Explains (Path path) file (Ok false) text = ExplainsCheck file text
-Explains (Number number) file (Ok false) text = text ≡ no_key_text number
+abbrev pub Explains : Subject → List ℕ → Result Bool RunFault → Bool → List ℕ → Type 0
+Explains subject file (Err fault) whole text = ExplainsFault subject file fault whole text
+Explains subject file (Ok true) whole text = (whole ≡ true) × (text ≡ [])
+Explains (Path path) file (Ok false) whole text = (whole ≡ true) × ExplainsCheck file text
+Explains (Number number) file (Ok false) whole text = (whole ≡ true) × (text ≡ no_key_text number)

@@ -8,7 +8,7 @@ pub mod ScriptTexts
 pub mod ActsTexts
 pub mod Values
 pub mod Explanations
-pub mod Watching
 pub mod Runs
 pub mod Turns
 pub mod Tasks
+pub mod Program

@@ -3,8 +3,15 @@ use Rattle.std.specs.Prelude.{ℕ, List, codes}
 use Rattle.seqpool.specs.FaultNames.{acts_fault_name}
 use Rattle.seqpool.specs.Refusals.{acts_fault_number}
 use Rattle.scripts.specs.ScriptFaults.{script_fault_number, script_fault_name}
+use Rattle.streams.specs.declared.reading.Unread.{Unread}
+use Rattle.streams.specs.declared.reading.Unread.TheVariants as unread
 use Rattle.poolprogram.specs.declared.run_fault.RunFault.{RunFault}
 use Rattle.poolprogram.specs.declared.run_fault.RunFault.TheVariants as runs
+
+-- the fault of a file or an input that wasn't read
+abbrev pub unread_fault : Unread → RunFault
+unread_fault unread.Memory = runs.Memory
+unread_fault unread.File = runs.File
 
 -- the number of a fault; the core's only one is want of memory
 abbrev pub run_fault_number : RunFault → ℕ

@@ -1,9 +1,10 @@
 -- The value at a place of a script file.
-use Rattle.std.specs.Prelude.{◌≡◌, ℕ, List, Option, Some, None, false, codes, option_and_then}
+use Rattle.std.specs.Prelude.{◌≡◌, ◌⊎◌, ℕ, List, Option, Some, None, false, codes, option_and_then}
 use Rattle.serde_json.specs.Data.{Data}
 use Rattle.serde_json.specs.Find.{get, at}
 use Rattle.serde_json.specs.Read.{read}
 use Rattle.serde_json.specs.Written.{compact_text, has_float}
+use Rattle.scripts.specs.Readings.{IsNotJson}
 use Rattle.scripts.specs.ScriptPlaces.{field_text}
 use Rattle.scripts.specs.declared.script_place.FieldName.{FieldName}
 use Rattle.scripts.specs.declared.script_place.FieldName.TheVariants as names
@@ -45,10 +46,23 @@ value_of (Script lane) whole = script_at lane whole
 value_of (Line lane line) whole = command_at lane line whole
 value_of (Item lane line item) whole = item_at lane line item whole
 
--- the text is that of the value at a place of the file's JSON text; what is written of a value with a float is only shown by tests
-pub record IsValueText (file : List ℕ) (place : ScriptPlace) (text : List ℕ) : Type 0 where
+-- the text is that of the value at a place, where there is one; what is written of a value with a float is only shown by tests
+abbrev pub IsTextOf : Option Data → Option (List ℕ) → Type 0
+IsTextOf None None = Unit {0}
+IsTextOf None (Some text) = ⊥
+IsTextOf (Some found) None = ⊥
+IsTextOf (Some found) (Some text) = has_float found ≡ false → text ≡ compact_text found
+
+-- the same of a value's part
+abbrev pub IsTextAt : Data → ScriptPlace → Option (List ℕ) → Type 0
+IsTextAt whole place text = IsTextOf (value_of place whole) text
+
+-- the file has a value, and the text is that of the value at a place of it, where there is one
+pub record HasTextAt (file : List ℕ) (place : ScriptPlace) (text : Option (List ℕ)) : Type 0 where
   pub whole : Data
   pub reads : read file ≡ Some whole
-  pub found : Data
-  pub is_found : value_of place whole ≡ Some found
-  pub is : has_float found ≡ false → text ≡ compact_text found
+  pub is : IsTextAt whole place text
+
+-- the text is that of the value at a place of the file's JSON text; there is none where the file is no JSON text, or has no value there
+abbrev pub IsValueAt : List ℕ → ScriptPlace → Option (List ℕ) → Type 0
+IsValueAt file place text = ((text ≡ None) × IsNotJson file) ⊎ HasTextAt file place text

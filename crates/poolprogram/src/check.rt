@@ -2,13 +2,12 @@ ghost use Rattle.std.specs.Prelude.{◌≡◌, ◌≢◌, ◌↔◌, true, false
 ghost use Rattle.poolprogram.specs.Checks.{summary_text, illegal_text, IsVerdict, WritesVerdict, RefusesActs};
 ghost use Rattle.seqpool.specs.ActsText.{StandsFor};
 
-use crate::output::write_and_flush;
 use crate::run_fault::RunFault;
-use crate::writer::Watched;
 use keybits::Shape;
 use seqpool::{Act, ActsRefusal, ApplyFault, CheckFault, Summary, check, read_acts};
 use std::alloc::{AllocError, Global};
 use std::io::Write;
+use streams::{Watched, write_and_flush};
 
 /// What a check says of some acts.
 #[derive(Drop)]

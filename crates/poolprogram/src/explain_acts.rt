@@ -1,11 +1,13 @@
 //! Why a text of acts is refused, or an act is illegal, in words.
 ghost use Rattle.std.specs.Prelude.{◌≡◌, ◌++◌, IfOk, OnOk, string_bytes};
+ghost use Rattle.seqpool.specs.ActsText.{StandsFor};
 ghost use Rattle.poolprogram.specs.ActsTexts.{acts_place_text, faulty_line, line_wanted, acts_wanted, acts_explanation, illegal_wanted, illegal_explanation, ExplainsCheck};
 
 use crate::explain_script::shape_wanted;
 use crate::shown::{after_line, line_at, push_shown};
+use keybits::Shape;
 use scripts::FieldName;
-use seqpool::{ActsFault, ActsPlace, ActsRefusal, ApplyFault, CheckFault, check, read_acts};
+use seqpool::{Act, ActsFault, ActsPlace, ActsRefusal, ApplyFault, CheckFault, check, read_acts};
 use std::alloc::{AllocError, Global};
 
 /// Appends a place of a text of acts.
@@ -112,15 +114,32 @@ fn explain_illegal(
 }
 
 /// The line that explains why acts are no legal history: which act is the first that is refused, and why.
-/// Empty where they are one, or stand for no acts, or memory was refused for the check.
+/// Empty where they are one, or the text stands for no acts. The error is want of memory.
 pub(crate) fn explain_check(alloc: Global, bytes: &[u8]) -> Result<String, AllocError>
     ensures { IfOk result (λ text. ExplainsCheck bytes.now (string_bytes text)) }
 {
-    let Ok((shape, acts)) = read_acts(alloc, bytes) else {
-        return Ok(String::new(alloc));
-    };
-    match check(alloc, shape, acts.as_slice()) {
+    match read_acts(alloc, bytes) {
+        Ok((shape, acts)) => explain_history(alloc, bytes, shape, acts.as_slice()),
+        Err(refusal) => match refusal.fault {
+            ActsFault::Memory => Err(AllocError),
+            ActsFault::ActsLine | ActsFault::Shape(_) => Ok(String::new(alloc)),
+        },
+    }
+}
+
+/// The same of the acts that a text stands for.
+fn explain_history(
+    alloc: Global,
+    bytes: &[u8],
+    shape: Shape,
+    acts: &[Act],
+) -> Result<String, AllocError>
+    requires { StandsFor bytes.now shape acts.now }
+    ensures { IfOk result (λ text. ExplainsCheck bytes.now (string_bytes text)) }
+{
+    match check(alloc, shape, acts) {
+        Ok(_) => Ok(String::new(alloc)),
         Err(CheckFault::Illegal { index, fault }) => explain_illegal(alloc, bytes, index, fault),
-        _ => Ok(String::new(alloc)),
+        Err(CheckFault::Memory) => Err(AllocError),
     }
 }

@@ -1,5 +1,5 @@
 //! Why a task ended as it did, in words.
-ghost use Rattle.std.specs.Prelude.{◌≡◌, ◌++◌, IfOk, OnOk, string_bytes};
+ghost use Rattle.std.specs.Prelude.{◌≡◌, true, IfOk, string_bytes};
 ghost use Rattle.poolprogram.specs.Explanations.{IsSubjectOf, no_key_text, file_text, ExplainsPlan, ExplainsFault, Explains};
 
 use crate::explain_acts::{explain_acts, explain_check};
@@ -18,6 +18,15 @@ pub enum Subject {
     Number(u64),
 }
 
+/// Why a task ended as it did, in words.
+#[derive(Drop)]
+pub struct Explanation {
+    /// The line that says so; empty where all is well.
+    pub text: String,
+    /// Whether it shows all that there is to show: false where memory was refused for the value at a place, for which `it` stands.
+    pub whole: bool,
+}
+
 /// What a task is about. The error is want of memory for the path.
 pub fn subject_of(alloc: Global, task: &Task) -> Result<Subject, AllocError>
     ensures { IfOk result (IsSubjectOf task.now) }
@@ -30,6 +39,14 @@ pub fn subject_of(alloc: Global, task: &Task) -> Result<Subject, AllocError>
         Task::Key { number } => Ok(Subject::Number(*number)),
         Task::Word { word } => Ok(Subject::Number(*word)),
     }
+}
+
+/// The explanation that is this text.
+fn explained_by(alloc: Global, text: &str) -> Result<Explanation, AllocError>
+    ensures { IfOk result (λ why. (why.whole ≡ true) × (string_bytes why.text ≡ text.now)) }
+{
+    let text = String::from_str(alloc, text)?;
+    Ok(Explanation { text, whole: true })
 }
 
 /// The line that explains why a number is no key's.
@@ -51,12 +68,25 @@ fn explain_file(alloc: Global, subject: &Subject) -> Result<String, AllocError>
     Ok(text)
 }
 
-/// The line that explains why a script file is refused, with the value at the place.
-fn explain_plan(alloc: Global, file: &[u8], refusal: &ScriptRefusal) -> Result<String, AllocError>
-    ensures { IfOk result (λ text. ExplainsPlan file.now refusal.now (string_bytes text)) }
+/// The line that explains why a script file is refused, with the value at the place. Where memory was refused for the value, `it`
+/// stands in its place.
+fn explain_plan(
+    alloc: Global,
+    file: &[u8],
+    refusal: &ScriptRefusal,
+) -> Result<Explanation, AllocError>
+    ensures { IfOk result (λ why. ExplainsPlan file.now refusal.now why.whole (string_bytes why.text)) }
 {
-    let value = value_at(alloc, file, refusal.place);
-    explain_script(alloc, refusal, &value)
+    match value_at(alloc, file, refusal.place) {
+        Ok(value) => {
+            let text = explain_script(alloc, refusal, &value)?;
+            Ok(Explanation { text, whole: true })
+        }
+        Err(_) => {
+            let text = explain_script(alloc, refusal, &None)?;
+            Ok(Explanation { text, whole: false })
+        }
+    }
 }
 
 /// The line that explains a fault.
@@ -65,35 +95,47 @@ fn explain_fault(
     subject: &Subject,
     file: &[u8],
     fault: &RunFault,
-) -> Result<String, AllocError>
-    ensures { IfOk result (λ text. ExplainsFault subject.now file.now fault.now (string_bytes text)) }
+) -> Result<Explanation, AllocError>
+    ensures { IfOk result (λ why. ExplainsFault subject.now file.now fault.now why.whole (string_bytes why.text)) }
 {
     match fault {
         RunFault::Read(refusal) => explain_plan(alloc, file, refusal),
-        RunFault::Acts(refusal) => explain_acts(alloc, file, refusal),
-        RunFault::File => explain_file(alloc, subject),
-        RunFault::Output => String::from_str(alloc, "standard output can't be written\n"),
+        RunFault::Acts(refusal) => {
+            let text = explain_acts(alloc, file, refusal)?;
+            Ok(Explanation { text, whole: true })
+        }
+        RunFault::File => {
+            let text = explain_file(alloc, subject)?;
+            Ok(Explanation { text, whole: true })
+        }
+        RunFault::Output => explained_by(alloc, "standard output can't be written\n"),
         RunFault::Core(_) | RunFault::Open | RunFault::Memory => {
-            String::from_str(alloc, "memory was refused\n")
+            explained_by(alloc, "memory was refused\n")
         }
     }
 }
 
 /// The line that explains how a task ended that is about this, on the bytes of its file: the place of the
-/// fault or of the first act that is refused, what stands there, and what is wanted. Empty where all is well,
-/// and where memory was refused for reading acts once more. The error is want of memory.
+/// fault or of the first act that is refused, what stands there, and what is wanted. Empty where all is well. The error is want
+/// of memory.
 pub fn explain(
     alloc: Global,
     subject: &Subject,
     file: &[u8],
     done: &Result<bool, RunFault>,
-) -> Result<String, AllocError>
-    ensures { IfOk result (λ text. Explains subject.now file.now done.now (string_bytes text)) }
+) -> Result<Explanation, AllocError>
+    ensures { IfOk result (λ why. Explains subject.now file.now done.now why.whole (string_bytes why.text)) }
 {
     match (done, subject) {
         (Err(fault), _) => explain_fault(alloc, subject, file, fault),
-        (Ok(true), _) => Ok(String::new(alloc)),
-        (Ok(false), Subject::Path(_)) => explain_check(alloc, file),
-        (Ok(false), Subject::Number(number)) => explain_no_key(alloc, *number),
+        (Ok(true), _) => explained_by(alloc, ""),
+        (Ok(false), Subject::Path(_)) => {
+            let text = explain_check(alloc, file)?;
+            Ok(Explanation { text, whole: true })
+        }
+        (Ok(false), Subject::Number(number)) => {
+            let text = explain_no_key(alloc, *number)?;
+            Ok(Explanation { text, whole: true })
+        }
     }
 }

@@ -1,12 +1,11 @@
 ghost use Rattle.std.specs.Prelude.{◌≡◌, ◌≢◌, ◌↔◌, true, false, ◌++◌, IfOk, IfErr, OnOk, IsErrOf, string_bytes};
 ghost use Rattle.poolprogram.specs.KeyTexts.{tag_text, parts_text, is_some_key, key_line, WritesKey};
 
-use crate::output::write_and_flush;
 use crate::run_fault::RunFault;
-use crate::writer::Watched;
 use keybits::{Key, Place};
 use std::alloc::{AllocError, Global};
 use std::io::Write;
+use streams::{Watched, write_and_flush};
 
 /// What is said of a number as a key.
 #[derive(Drop)]

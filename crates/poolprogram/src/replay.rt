@@ -8,15 +8,14 @@ ghost use Rattle.traces.specs.TurnLaws.{all_acts};
 ghost use Rattle.scripts.specs.Readings.{StandsFor};
 ghost use Rattle.poolprogram.specs.Replays.{IsText, IsCoreFault, IsReplayOf, RefusesReplayOf, WritesReplayOf, RefusesReplay, WritesReplay};
 
-use crate::output::write_and_flush;
 use crate::run_fault::RunFault;
-use crate::writer::Watched;
 use coresteps::run;
 use keybits::Shape;
 use scripts::{Plan, parse};
 use seqpool::{Act, write_acts};
 use std::alloc::{AllocError, Global};
 use std::io::Write;
+use streams::{Watched, write_and_flush};
 use traces::{Trace, Turn, write_trace};
 
 /// The trace of a plan over a schedule.

@@ -4,16 +4,15 @@ ghost use Rattle.keybits.specs.Shapes.{IsShape};
 ghost use Rattle.poolprogram.specs.Runs.{IsRunOf, IsRun, WritesRun, IsRunFault, RefusesRun};
 
 use crate::opening::open_pool;
-use crate::output::write_and_flush;
 use crate::run_fault::RunFault;
 use crate::texts::{census_line, replies_text};
-use crate::writer::Watched;
 use scripts::{Plan, parse};
 use shardpool::close;
 use std::alloc::Global;
 use std::io::Write;
 use std::sync::Wait;
 use std::thread::Threads;
+use streams::{Watched, write_and_flush};
 use workers::{Gate, jobs_of, parts_of, run_workers};
 
 /// Lets every line pass.

@@ -1,11 +1,11 @@
 ghost use Rattle.std.specs.Prelude.{◌≡◌};
 ghost use Rattle.poolprogram.specs.declared.run_fault.RunFault.TheVariants as runs;
 
-use crate::write_failed::WriteFailed;
 use coresteps::CoreFault;
 use scripts::ScriptRefusal;
 use seqpool::ActsRefusal;
 use std::alloc::AllocError;
+use streams::{Unread, WriteFailed};
 use thiserror::Error;
 
 /// Why the program could not do what it was told.
@@ -67,6 +67,19 @@ impl RunFault {
             RunFault::File => "File",
             RunFault::Output => "Output",
             RunFault::Memory => "Memory",
+        }
+    }
+}
+
+impl From<Unread> for RunFault {
+    ghost use Rattle.poolprogram.specs.RunFaults.{unread_fault};
+
+    ghost from_gives = { λ unread fault. fault ≡ unread_fault unread };
+
+    fn from(unread: Unread) -> RunFault {
+        match unread {
+            Unread::Memory => RunFault::Memory,
+            Unread::File => RunFault::File,
         }
     }
 }

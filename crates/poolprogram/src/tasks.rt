@@ -1,6 +1,6 @@
 //! Tasks of the command line, and how the program ends after one.
-ghost use Rattle.std.specs.Prelude.{◌≡◌, ◌≢◌, ◌↔◌, true, false, IfOk, IfErr, OnOk, IsErrOf};
-ghost use Rattle.std.specs.Io.KnownBytes.{Appends};
+ghost use Rattle.std.specs.Prelude.{◌≡◌, ◌≢◌, ◌↔◌, true, false, IfOk, IfErr, IsErrOf};
+ghost use Rattle.streams.specs.Saying.{Says};
 ghost use Rattle.poolprogram.specs.Tasks.{WritesTask, RefusesTask, task_status, fault_line, report_text};
 
 use crate::check::check_text;
@@ -9,13 +9,13 @@ use crate::run::run_text;
 use crate::run_fault::RunFault;
 use crate::turns::replay_turns;
 use crate::word::word_text;
-use crate::writer::Watched;
 use commandline::Task;
+use itoa::Buffer;
 use std::alloc::Global;
-use std::io;
 use std::io::Write;
 use std::sync::Wait;
 use std::thread::Threads;
+use streams::{Watched, write_text};
 
 /// Does a task on the bytes of its file: a replay, a check, a run or what is said of a key or a word. The answer is
 /// false where acts are illegal or a number is no key's, and then this was said. The errors are those of
@@ -69,21 +69,22 @@ pub fn status_of(done: &Result<bool, RunFault>) -> u8
 }
 
 /// Writes the line of a fault: its number and its name.
-fn write_fault<W: Write>(fault: &RunFault, out: &mut W) -> io::Result<()>
-    ensures { OnOk result (Appends (W.contents out.old) (W.contents out.new) (fault_line fault.now)) }
+fn write_fault<W: Write>(fault: &RunFault, out: &mut Watched<W>)
+    ensures { Says W.contents out.old out.new (fault_line fault.now) }
 {
-    let number = fault.number();
-    let name = fault.name();
-    writeln!(out, "fault {number} {name}")
+    write_text(b"fault ", out);
+    write_text(Buffer::new().format(fault.number()).as_bytes(), out);
+    write_text(b" ", out);
+    write_text(fault.name().as_bytes(), out);
+    write_text(b"\n", out);
 }
 
-/// Writes what is reported of a task: the line of its fault, where it has one. Nothing is allocated. After
-/// an error it isn't said how much went out.
-pub fn write_report<W: Write>(done: &Result<bool, RunFault>, out: &mut W) -> io::Result<()>
-    ensures { OnOk result (Appends (W.contents out.old) (W.contents out.new) (report_text done.now)) }
+/// Writes what is reported of a task: the line of its fault, where it has one. Nothing is allocated.
+pub fn write_report<W: Write>(done: &Result<bool, RunFault>, out: &mut Watched<W>)
+    ensures { Says W.contents out.old out.new (report_text done.now) }
 {
     match done {
-        Ok(_) => Ok(()),
+        Ok(_) => {}
         Err(fault) => write_fault(fault, out),
     }
 }

@@ -5,12 +5,12 @@ ghost use Rattle.poolprogram.specs.Turns.{entries_for, IsUpTo, IsPlanned, Writes
 
 use crate::replay::replay_plan;
 use crate::run_fault::RunFault;
-use crate::writer::Watched;
 use commandline::{Stop, Turns};
 use schedules::{Memory, draw, stop_after};
 use scripts::{Plan, ScriptRefusal, parse};
 use std::alloc::Global;
 use std::io::Write;
+use streams::Watched;
 
 /// The entries of turns for so many lanes.
 fn list_entries(alloc: Global, lanes: u32, turns: Turns) -> Result<Vec<u32>, Memory>

@@ -1,11 +1,11 @@
 //! The value at a place of a script file.
-ghost use Rattle.std.specs.Prelude.{◌≡◌, IfSome, option_map, string_bytes};
+ghost use Rattle.std.specs.Prelude.{◌≡◌, IfOk, option_map, string_bytes};
 ghost use Rattle.serde_json.specs.View.{view};
-ghost use Rattle.poolprogram.specs.Values.{script_at, command_at, item_at, in_shape, field_at, value_of, IsValueText};
+ghost use Rattle.poolprogram.specs.Values.{script_at, command_at, item_at, in_shape, field_at, value_of, IsTextAt, IsValueAt};
 
 use scripts::{FieldName, ScriptPlace};
 use serde_json::Value;
-use std::alloc::Global;
+use std::alloc::{AllocError, Global};
 
 /// The script of a lane.
 fn script_at(value: &Value, lane: usize) -> Option<&Value>
@@ -64,17 +64,35 @@ fn find(value: &Value, place: ScriptPlace) -> Option<&Value>
     }
 }
 
-/// The JSON text of the value at a place of a script file. None where there is none, for the file as a whole,
-/// and where memory was refused.
-pub(crate) fn value_at(alloc: Global, file: &[u8], place: ScriptPlace) -> Option<String>
-    ensures { IfSome result (λ text. IsValueText file.now place (string_bytes text)) }
+/// The JSON text of the value at a place of a file; none where there is none, and for the file as a whole.
+fn text_at(alloc: Global, value: &Value, place: ScriptPlace) -> Result<Option<String>, AllocError>
+    ensures { IfOk result (λ text. IsTextAt (view value.now) place (option_map (λ t. string_bytes t) text)) }
 {
-    let Ok(value) = Value::from_slice(alloc, file) else {
-        return None;
-    };
-    let found = find(&value, place)?;
-    match found.to_string(alloc) {
-        Ok(text) => Some(text),
-        Err(_) => None,
+    match find(value, place) {
+        Some(found) => {
+            let text = found.to_string(alloc)?;
+            Ok(Some(text))
+        }
+        None => Ok(None),
+    }
+}
+
+/// The JSON text of the value at a place of a script file. None where there is none, for the file as a whole, and where the
+/// file is no JSON text. The error is want of memory.
+pub(crate) fn value_at(
+    alloc: Global,
+    file: &[u8],
+    place: ScriptPlace,
+) -> Result<Option<String>, AllocError>
+    ensures { IfOk result (λ text. IsValueAt file.now place (option_map (λ t. string_bytes t) text)) }
+{
+    match Value::from_slice(alloc, file) {
+        Ok(value) => text_at(alloc, &value, place),
+        Err(error) => {
+            if error.is_memory() {
+                return Err(AllocError);
+            }
+            Ok(None)
+        }
     }
 }

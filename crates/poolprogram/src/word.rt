@@ -4,12 +4,11 @@ ghost use Rattle.std.specs.Io.KnownBytes.{Appends};
 ghost use Rattle.keybits.specs.Words.{state_bits};
 ghost use Rattle.poolprogram.specs.WordTexts.{state_text, life_line, word_line};
 
-use crate::output::write_and_flush;
 use crate::run_fault::RunFault;
-use crate::writer::Watched;
 use keybits::{Life, State};
 use std::alloc::{AllocError, Global};
 use std::io::Write;
+use streams::{Watched, write_and_flush};
 
 /// The name of a state.
 fn state_name(state: State) -> &'static str

@@ -2,3 +2,4 @@ pub mod LineTexts
 pub mod LineRefusals
 pub mod TraceTexts
 pub mod CountLemmas
+pub mod PageLemmas

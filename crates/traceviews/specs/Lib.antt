@@ -3,3 +3,7 @@ pub mod ReadLines
 pub mod Decoded
 pub mod Counts
 pub mod Ends
+pub mod Pictures
+pub mod Summaries
+pub mod Pages
+pub mod Wants

@@ -26,9 +26,15 @@ pub enum Wanted {
     LineFeed,
 }
 
-impl fmt::Display for Wanted {
-    fn fmt<W: fmt::Write>(&self, f: &mut fmt::Formatter<W>) -> fmt::Result {
-        f.write_str(match self {
+impl Wanted {
+    ghost use Rattle.std.specs.Prelude.{◌≡◌};
+    ghost use Rattle.traceviews.specs.Wants.{wanted_text};
+
+    /// What is wanted, in words.
+    pub fn text(self) -> &'static str
+        ensures { result.now ≡ wanted_text self }
+    {
+        match self {
             Wanted::Lane => "a lane's number",
             Wanted::Entry => "the name of a step, or an equals sign before a reply,",
             Wanted::Place => "a place's number",
@@ -37,7 +43,13 @@ impl fmt::Display for Wanted {
             Wanted::After => "a step's word after",
             Wanted::Reply => "a reply",
             Wanted::LineFeed => "a line feed",
-        })
+        }
+    }
+}
+
+impl fmt::Display for Wanted {
+    fn fmt<W: fmt::Write>(&self, f: &mut fmt::Formatter<W>) -> fmt::Result {
+        f.write_str(self.text())
     }
 }
 

@@ -70,11 +70,11 @@ fn push_turns(extent: &Extent, out: &mut Page) {
     );
 }
 
-/// Appends what stands above the columns: the size, the title, the style, which turns are shown, and the legend.
+/// Appends what stands above the columns, behind the name of the first tag: the size, the title, the style, which turns are shown, and the legend.
 pub(crate) fn push_head(extent: &Extent, out: &mut Page) {
     let Extent { width, height, .. } = *extent;
     out.fill(
-        "<svg xmlns=\"http://www.w3.org/2000/svg\" role=\"img\" width=\"%\" height=\"%\" viewBox=\"0 0 % %\">\n<title>A trace of the pool: ",
+        " width=\"%\" height=\"%\" viewBox=\"0 0 % %\">\n<title>A trace of the pool: ",
         &[width, height, width, height],
     );
     push_turns(extent, out);

@@ -163,7 +163,9 @@ impl Page {
     }
 
     /// Appends another text.
-    pub(crate) fn page(&mut self, other: &Page) {
+    pub(crate) fn page(&mut self, other: &Page)
+        ensures { self.new.refused ≡ false → (self.old.refused ≡ false) × (self.new.bytes.items ≡ self.old.bytes.items ++ other.now.bytes.items) }
+    {
         if other.refused {
             self.refused = true;
         }

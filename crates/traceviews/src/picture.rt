@@ -1,5 +1,8 @@
 //! The picture of a trace.
 
+ghost use Rattle.std.specs.Prelude.{IfOk};
+ghost use Rattle.traceviews.specs.Pictures.{IsPicture};
+
 use crate::arrows::{Writer, Writers, push_arrow};
 use crate::boxes::{BOX, Columns, LINE, height_of, push_box};
 use crate::found::{lanes_of, places_of};
@@ -200,7 +203,6 @@ fn push_layers(canvas: &Canvas, out: &mut Page) {
     canvas.strips.end(canvas.y, out);
     out.page(&canvas.arrows);
     out.page(&canvas.boxes);
-    out.text("</svg>\n");
 }
 
 /// An empty canvas for some turns.
@@ -240,13 +242,8 @@ fn extent_of(canvas: &Canvas, first: usize, drawn: usize, count: usize) -> Exten
     }
 }
 
-/// The picture of some turns of a trace, as an SVG: each lane a column, each turn a row with its replies and its step, and beside
-/// them a strip for each place that these turns step on. A window past the end shows no turn.
-///
-/// # Errors
-///
-/// `AllocError` where memory is refused.
-pub fn picture_text(alloc: Global, lines: &[Line], window: &Window) -> Result<Vec<u8>, AllocError> {
+/// What stands in the picture of some turns of a trace, behind the name of its first tag and before its last one.
+fn drawing_of(alloc: Global, lines: &[Line], window: &Window) -> Result<Page, AllocError> {
     let rows = rows_of(alloc, lines)?;
     let rows = rows.as_slice();
     let mut canvas = canvas_for(alloc, lines, rows, window)?;
@@ -256,5 +253,22 @@ pub fn picture_text(alloc: Global, lines: &[Line], window: &Window) -> Result<Ve
     let mut out = Page::new(alloc);
     push_head(&extent, &mut out);
     push_layers(&canvas, &mut out);
+    Ok(out)
+}
+
+/// The picture of some turns of a trace, as an SVG: each lane a column, each turn a row with its replies and its step, and beside
+/// them a strip for each place that these turns step on. A window past the end shows no turn.
+///
+/// # Errors
+///
+/// `AllocError` where memory is refused.
+pub fn picture_text(alloc: Global, lines: &[Line], window: &Window) -> Result<Vec<u8>, AllocError>
+    ensures { IfOk result (λ text. IsPicture text.items) }
+{
+    let drawing = drawing_of(alloc, lines, window)?;
+    let mut out = Page::new(alloc);
+    out.text("<svg xmlns=\"http://www.w3.org/2000/svg\" role=\"img\"");
+    out.page(&drawing);
+    out.text("</svg>\n");
     out.finish()
 }

@@ -1,5 +1,9 @@
 //! The summary of a trace.
 
+ghost use Rattle.std.specs.Prelude.{◌≡◌, ◌++◌, IfOk, codes, flat_map};
+ghost use Rattle.traceviews.specs.Pages.{Grows};
+ghost use Rattle.traceviews.specs.Summaries.{step_names, steps_text, unfinished_text, lane_text, state_names, state_count_text, states_text, place_end_text, IsSummary};
+
 use crate::counts::{failed_steps, is_unfinished, longest_call, replies_of, steps_of};
 use crate::decoded::{state_name, step_name};
 use crate::ends::{last_word, places_in};
@@ -10,7 +14,7 @@ use crate::rows::turn_count;
 use keybits::State;
 use std::alloc::{AllocError, Global};
 
-/// The names of steps, in the order of the summary.
+/// The names of steps.
 static NAMES: [StepName; 9] = [
     StepName::Enter,
     StepName::Leave,
@@ -23,61 +27,123 @@ static NAMES: [StepName; 9] = [
     StepName::Follow,
 ];
 
+/// The names of steps, in the order of the summary.
+fn names() -> &'static [StepName]
+    ensures { result.now ≡ step_names }
+{
+    &NAMES
+}
+
+/// Appends how many steps of a name a lane makes.
+fn push_step_count(lines: &[Line], lane: u32, name: StepName, out: &mut Page)
+    ensures { Grows out.old out.new (steps_text lines.now lane name) }
+{
+    out.text(" ");
+    out.text(step_name(name));
+    out.named(" ", steps_of(lines, lane, name) as u64);
+}
+
 /// Appends how many steps of each name a lane makes, in a line.
-fn push_steps(lines: &[Line], lane: u32, out: &mut Page) {
-    for name in &NAMES {
-        out.text(" ");
-        out.text(step_name(*name));
-        out.named(" ", steps_of(lines, lane, *name) as u64);
-    }
+fn push_steps(lines: &[Line], lane: u32, out: &mut Page)
+    ensures { Grows out.old out.new (flat_map (steps_text lines.now lane) step_names ++ codes "\n") }
+{
+    push_step_counts(lines, lane, names(), out);
     out.text("\n");
 }
 
+/// Appends how many steps of each of these names a lane makes.
+fn push_step_counts(lines: &[Line], lane: u32, names: &[StepName], out: &mut Page)
+    ensures { Grows out.old out.new (flat_map (steps_text lines.now lane) names.now) }
+{
+    for name in names {
+        push_step_count(lines, lane, *name, out);
+    }
+}
+
+/// Whether a lane is in the midst of a call, in words.
+fn unfinished_words(unfinished: bool) -> &'static str
+    ensures { result.now ≡ unfinished_text unfinished }
+{
+    if unfinished { " unfinished" } else { "" }
+}
+
 /// Appends the line of a lane.
-fn push_lane(lines: &[Line], lane: u32, out: &mut Page) {
+fn push_lane(lines: &[Line], lane: u32, out: &mut Page)
+    ensures { Grows out.old out.new (lane_text lines.now lane) }
+{
     out.named("lane ", u64::from(lane));
     out.named(" replies ", replies_of(lines, lane) as u64);
     out.named(" failed ", failed_steps(lines, lane) as u64);
     out.named(" longest call ", longest_call(lines, lane) as u64);
-    out.text(if is_unfinished(lines, lane) {
-        " unfinished"
-    } else {
-        ""
-    });
+    out.text(unfinished_words(is_unfinished(lines, lane)));
     push_steps(lines, lane, out);
 }
 
 /// Appends a line for each lane.
-fn push_lanes(lines: &[Line], lanes: &[u32], out: &mut Page) {
+fn push_lanes(lines: &[Line], lanes: &[u32], out: &mut Page)
+    ensures { Grows out.old out.new (flat_map (lane_text lines.now) lanes.now) }
+{
     for lane in lanes {
         push_lane(lines, *lane, out);
     }
 }
 
-/// Appends a line for each place: what it is at the end.
-fn push_places(lines: &[Line], places: &[u32], out: &mut Page) {
-    for place in places {
-        if let Some(word) = last_word(lines, *place) {
-            out.text("place ");
-            out.place(*place);
-            out.text(" ");
-            out.life(word);
-            out.text("\n");
-        }
+/// Appends the line of a place: what it is at the end.
+fn push_place(lines: &[Line], place: u32, out: &mut Page)
+    ensures { Grows out.old out.new (place_end_text lines.now place) }
+{
+    if let Some(word) = last_word(lines, place) {
+        out.text("place ");
+        out.place(place);
+        out.text(" ");
+        out.life(word);
+        out.text("\n");
     }
 }
 
-/// The states of places, in the order of the summary.
+/// Appends a line for each place: what it is at the end.
+fn push_places(lines: &[Line], places: &[u32], out: &mut Page)
+    ensures { Grows out.old out.new (flat_map (place_end_text lines.now) places.now) }
+{
+    for place in places {
+        push_place(lines, *place, out);
+    }
+}
+
+/// The states of places.
 static STATES: [State; 4] = [State::Idle, State::Present, State::Marked, State::Retired];
 
-/// Appends how many places are in each state at the end.
-fn push_states(lines: &[Line], places: &[u32], out: &mut Page) {
-    out.text("places");
-    for state in &STATES {
-        out.text(" ");
-        out.text(state_name(*state));
-        out.named(" ", places_in(lines, places, *state) as u64);
+/// The states of places, in the order of the summary.
+fn states() -> &'static [State]
+    ensures { result.now ≡ state_names }
+{
+    &STATES
+}
+
+/// Appends how many places are in a state at the end.
+fn push_state_count(lines: &[Line], places: &[u32], state: State, out: &mut Page)
+    ensures { Grows out.old out.new (state_count_text lines.now places.now state) }
+{
+    out.text(" ");
+    out.text(state_name(state));
+    out.named(" ", places_in(lines, places, state) as u64);
+}
+
+/// Appends how many places are in each of these states at the end.
+fn push_state_counts(lines: &[Line], places: &[u32], states: &[State], out: &mut Page)
+    ensures { Grows out.old out.new (flat_map (state_count_text lines.now places.now) states.now) }
+{
+    for state in states {
+        push_state_count(lines, places, *state, out);
     }
+}
+
+/// Appends how many places are in each state at the end.
+fn push_states(lines: &[Line], places: &[u32], out: &mut Page)
+    ensures { Grows out.old out.new (states_text lines.now places.now) }
+{
+    out.text("places");
+    push_state_counts(lines, places, states(), out);
     out.text("\n");
 }
 
@@ -88,7 +154,9 @@ fn push_states(lines: &[Line], places: &[u32], out: &mut Page) {
 /// # Errors
 ///
 /// `AllocError` where memory is refused.
-pub fn summary_text(alloc: Global, lines: &[Line]) -> Result<Vec<u8>, AllocError> {
+pub fn summary_text(alloc: Global, lines: &[Line]) -> Result<Vec<u8>, AllocError>
+    ensures { IfOk result (λ text. IsSummary lines.now text.items) }
+{
     let turns = turn_count(alloc, lines)?;
     let lanes = lanes_of(alloc, lines)?;
     let places = places_of(alloc, lines)?;

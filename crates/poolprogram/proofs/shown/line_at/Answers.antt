@@ -1,5 +1,5 @@
-use Rattle.std.proofs.Common.{◌≡◌, ◌∙◌, ◌-◌, ◌<◌, ℕ, zero, suc, List, sym, ap, arith}
-use Rattle.poolprogram.specs.Shown.{after_line, after_lines, first_line}
+use Rattle.std.proofs.Common.{◌≡◌, ◌∙◌, ◌-◌, ◌<◌, ℕ, zero, suc, List, ap, arith}
+use Rattle.poolprogram.specs.Shown.{after_line, after_lines}
 use Rattle.poolprogram.proofs.shown.line_at.Goals as goal
 
 next : (count : ℕ) (text : List ℕ) → 0 < count → after_lines (count - 1) (after_line text) ≡ after_lines count text

@@ -1,4 +1,4 @@
-use Rattle.std.proofs.Common.{◌∙◌, ◌++◌, ◌∷◌, [], ℕ, List, get_or, take, sym, ap, string_bytes}
+use Rattle.std.proofs.Common.{◌∙◌, ◌++◌, ℕ, List, get_or, take, sym, ap, string_bytes}
 use Rattle.std.proofs.lemmas.List.{take_more, flat_map_more}
 use Rattle.poolprogram.specs.Shown.{byte_text, bytes_text}
 use Rattle.poolprogram.proofs.shown.push_bytes.Goals as goal

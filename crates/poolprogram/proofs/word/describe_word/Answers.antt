@@ -1,4 +1,4 @@
-use Rattle.std.proofs.Common.{◌≡◌, ◌∙◌, ℕ, List, ap, sym, subst, string_bytes, IfOk}
+use Rattle.std.proofs.Common.{◌≡◌, ◌∙◌, ℕ, ap}
 use Rattle.std.proofs.lemmas.Result.{IfOk-weaker}
 use Rattle.keybits.specs.Words.{state_bits, state_in, count_in}
 use Rattle.poolprogram.specs.WordTexts.{life_line, word_line}

@@ -1,0 +1,107 @@
+-- How the program ends: its status, and what is written on the output and as errors.
+use Rattle.std.specs.Prelude.{◌≡◌, ◌≢◌, ◌⊎◌, ◌↔◌, ℕ, Bool, true, false, List, [], ◌++◌, Option, Some, None, Result, Ok, Err, IfOk, IfErr, IfSome, IsErrOf, String, codes}
+use Rattle.std.specs.declared.alloc.AllocError.{AllocError}
+use Rattle.std.specs.declared.alloc.Global.{Global}
+use Rattle.std.specs.declared.io.Error.{Error}
+use Rattle.std.specs.declared.vec.IntoIter.{IntoIter}
+use Rattle.streams.specs.Saying.{Says}
+use Rattle.streams.specs.declared.writer.Watched.{Watched}
+use Rattle.commandline.specs.Asking.{IsAsked}
+use Rattle.commandline.specs.Statuses.{EndsByWords}
+use Rattle.commandline.specs.Tasks.{path_of}
+use Rattle.commandline.specs.declared.fault.TaskFault.{TaskFault}
+use Rattle.commandline.specs.declared.requests.Request.{Request}
+use Rattle.commandline.specs.declared.tasks.Task.{Task}
+use Rattle.poolprogram.specs.Explanations.{IsSubjectOf, Explains}
+use Rattle.poolprogram.specs.Tasks.{WritesTask, RefusesTask, task_status, report_text}
+use Rattle.poolprogram.specs.declared.explanation.Subject.{Subject}
+use Rattle.poolprogram.specs.declared.program.Ending.{Ending}
+use Rattle.poolprogram.specs.declared.run_fault.RunFault.{RunFault}
+use Rattle.poolprogram.specs.declared.run_fault.RunFault.TheVariants as runs
+
+-- a task that is about the file at this path, or about none, was given these bytes: what is left of an input where it is named by a dash; of a file nothing more is said
+abbrev pub IsFileOf : Option (List ℕ) → Option (List ℕ) → List ℕ → Type 0
+IsFileOf None left file = file ≡ []
+IsFileOf (Some path) left file = path ≡ codes "-" → IfSome left (λ known. file ≡ known)
+
+-- the file at this path wasn't read
+abbrev pub IsUnread : Option (List ℕ) → RunFault → Type 0
+IsUnread None fault = ⊥
+IsUnread (Some path) fault = (fault ≡ runs.Memory) ⊎ (fault ≡ runs.File)
+
+-- a task was done on these bytes, or refused: nothing was written, but where the output failed
+pub record Does {O : Type 0} (contents : O → Option (List ℕ)) (task : Task) (file : List ℕ) (done : Result Bool RunFault) (old new : Watched O) : Type 0 where
+  pub ok : IfOk done (λ good. WritesTask task file good (contents old.inner) (contents new.inner))
+  pub output : IsErrOf done runs.Output ↔ (new.failed ≡ true)
+  pub refused : IfErr done (λ fault. fault ≢ runs.Output → (new ≡ old) × RefusesTask task file fault)
+
+-- a task was done on the bytes of its file
+pub record DoesFile {O : Type 0} (contents : O → Option (List ℕ)) (left : Option (List ℕ)) (task : Task) (file : List ℕ) (done : Result Bool RunFault) (old new : Watched O) : Type 0 where
+  pub read : IsFileOf (path_of task) left file
+  pub does : Does contents task file done old new
+
+-- its file wasn't read, and nothing was written
+pub record LacksFile {O : Type 0} (task : Task) (file : List ℕ) (done : Result Bool RunFault) (old new : Watched O) : Type 0 where
+  pub fault : RunFault
+  pub unread : IsUnread (path_of task) fault
+  pub done_is : done ≡ Err fault
+  pub none : file ≡ []
+  pub kept : new ≡ old
+
+-- what came of a task
+abbrev pub DoesTask : {O : Type 0} → (O → Option (List ℕ)) → Option (List ℕ) → Task → List ℕ → Result Bool RunFault → Watched O → Watched O → Type 0
+DoesTask contents left task file done old new = DoesFile contents left task file done old new ⊎ LacksFile task file done old new
+
+-- the text explains how a task ended that is about this; or it is empty, as memory was refused, and not all is explained
+abbrev pub IsWhy : Result Subject AllocError → List ℕ → Result Bool RunFault → Bool → List ℕ → Type 0
+IsWhy (Ok subject) file done explained text = Explains subject file done explained text ⊎ ((explained ≡ false) × (text ≡ []))
+IsWhy (Err refused) file done explained text = (explained ≡ false) × (text ≡ [])
+
+-- such a text is said
+pub record SaysWhy {E : Type 0} (errors : E → Option (List ℕ)) (subject : Result Subject AllocError) (file : List ℕ) (done : Result Bool RunFault) (explained : Bool) (before after : Watched E) : Type 0 where
+  pub why : List ℕ
+  pub is : IsWhy subject file done explained why
+  pub says : Says errors before after why
+
+-- the line of a task's fault is said, where it has one, and such a text behind it
+pub record SaysEnd {E : Type 0} (errors : E → Option (List ℕ)) (subject : Result Subject AllocError) (file : List ℕ) (done : Result Bool RunFault) (ending : Ending) (before after : Watched E) : Type 0 where
+  pub status_is : ending.status ≡ task_status done
+  pub why : List ℕ
+  pub is : IsWhy subject file done ending.explained why
+  pub says : Says errors before after (report_text done ++ why)
+
+-- the text explains how the task ended, by what it is about
+pub record IsExplained (task : Task) (file : List ℕ) (done : Result Bool RunFault) (explained : Bool) (text : List ℕ) : Type 0 where
+  pub subject : Result Subject AllocError
+  pub about : IfOk subject (IsSubjectOf task)
+  pub is : IsWhy subject file done explained text
+
+-- the text explains how the task ended, where that is wanted, and is empty where it isn't
+abbrev pub ExplainsIf : Bool → Task → List ℕ → Result Bool RunFault → Bool → List ℕ → Type 0
+ExplainsIf true task file done explained text = IsExplained task file done explained text
+ExplainsIf false task file done explained text = (explained ≡ true) × (text ≡ [])
+
+-- how the program ends after a task: with its status; what it says is on the output, and the line of its fault, and behind it why, are said as errors
+pub record EndsTask {O E : Type 0} (contents : O → Option (List ℕ)) (errors : E → Option (List ℕ)) (left : Option (List ℕ)) (task : Task) (explain : Bool)
+    (old new : Watched O) (before after : Watched E) (ending : Ending) : Type 0 where
+  pub file : List ℕ
+  pub done : Result Bool RunFault
+  pub does : DoesTask contents left task file done old new
+  pub status_is : ending.status ≡ task_status done
+  pub why : List ℕ
+  pub explains : ExplainsIf explain task file done ending.explained why
+  pub says : Says errors before after (report_text done ++ why)
+
+-- how the program ends, by what is asked for
+abbrev pub EndsRequest : {O E : Type 0} → (O → Option (List ℕ)) → (E → Option (List ℕ)) → Option (List ℕ) → Result Task TaskFault → Bool
+    → Watched O → Watched O → Watched E → Watched E → Ending → Type 0
+EndsRequest contents errors left (Ok task) explain old new before after ending = EndsTask contents errors left task explain old new before after ending
+EndsRequest contents errors left (Err fault) explain old new before after ending =
+    (ending.explained ≡ true) × EndsByWords errors fault explain old new before after ending.status
+
+-- how the program ends, by what it was called with
+pub record EndsProgram {O E : Type 0} (contents : O → Option (List ℕ)) (errors : E → Option (List ℕ)) (left : Option (List ℕ)) (args : Result (IntoIter (String Global) Global) Error)
+    (old new : Watched O) (before after : Watched E) (ending : Ending) : Type 0 where
+  pub request : Request
+  pub asked : IsAsked args request
+  pub ends : EndsRequest contents errors left request.task request.explain old new before after ending

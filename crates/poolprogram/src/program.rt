@@ -1,0 +1,183 @@
+//! The whole program over any input and writers: what the words ask for is done, and said on the output and as errors.
+ghost use Rattle.std.specs.Prelude.{◌≡◌, true, false, Ok, IfOk, IfErr};
+ghost use Rattle.streams.specs.Saying.{Says};
+ghost use Rattle.commandline.specs.Tasks.{path_of};
+ghost use Rattle.poolprogram.specs.Tasks.{task_status, report_text};
+ghost use Rattle.poolprogram.specs.Program.{IsFileOf, IsUnread, SaysWhy, SaysEnd, EndsTask, EndsProgram};
+
+use crate::explanation::{Subject, explain, subject_of};
+use crate::run_fault::RunFault;
+use crate::tasks::{do_task, status_of, write_report};
+use commandline::{Request, Task, end_by_words, request_of_args};
+use std::alloc::{AllocError, Global};
+use std::env::Args;
+use std::fs::Files;
+use std::io;
+use std::io::{Read, Write};
+use std::sync::Wait;
+use std::thread::Threads;
+use streams::{Watched, read_path, write_text};
+
+/// How the program ends.
+#[derive(Clone, Copy, Debug)]
+pub struct Ending {
+    /// The exit status.
+    pub status: u8,
+    /// Whether all was explained that was to be explained: false where memory was refused for it.
+    pub explained: bool,
+}
+
+/// The bytes of the file that a task is about, or what is left of the input where it is named `-`; none where it is about no file.
+fn read_file<R: Files + AllocGlobal, I: Read>(
+    rt: &R,
+    task: &Task,
+    input: &mut I,
+) -> Result<Vec<u8>, RunFault>
+    ensures ok { IfOk result (λ file. IsFileOf (path_of task.now) (I.remaining input.old) file.items) }
+    ensures err { IfErr result (IsUnread (path_of task.now)) }
+{
+    let Some(path) = task.path() else {
+        return Ok(Vec::new(rt.alloc()));
+    };
+    let file = read_path(rt, input, path)?;
+    Ok(file)
+}
+
+/// Writes the line of a task's fault, where it has one. Answers the task's status.
+fn end_task<E: Write>(done: &Result<bool, RunFault>, errors: &mut Watched<E>) -> u8
+    ensures status { result ≡ task_status done.now }
+    ensures says { Says E.contents errors.old errors.new (report_text done.now) }
+{
+    write_report(done, errors);
+    status_of(done)
+}
+
+/// Ends a task of which nothing is explained.
+fn end_plainly<E: Write>(done: &Result<bool, RunFault>, errors: &mut Watched<E>) -> Ending
+    ensures status { result.status ≡ task_status done.now }
+    ensures explained { result.explained ≡ true }
+    ensures says { Says E.contents errors.old errors.new (report_text done.now) }
+{
+    let status = end_task(done, errors);
+    Ending {
+        status,
+        explained: true,
+    }
+}
+
+/// Writes why a task ended as it did that is about this. Answers whether all was explained.
+fn write_explanation<E: Write>(
+    alloc: Global,
+    subject: &Subject,
+    file: &[u8],
+    done: &Result<bool, RunFault>,
+    errors: &mut Watched<E>,
+) -> bool
+    ensures { SaysWhy E.contents (Ok subject.now) file.now done.now result errors.old errors.new }
+{
+    match explain(alloc, subject, file, done) {
+        Ok(why) => {
+            write_text(why.text.as_bytes(), errors);
+            why.whole
+        }
+        Err(_) => false,
+    }
+}
+
+/// Writes why a task ended as it did. Answers whether all was explained.
+fn write_why<E: Write>(
+    alloc: Global,
+    subject: &Result<Subject, AllocError>,
+    file: &[u8],
+    done: &Result<bool, RunFault>,
+    errors: &mut Watched<E>,
+) -> bool
+    ensures { SaysWhy E.contents subject.now file.now done.now result errors.old errors.new }
+{
+    match subject {
+        Ok(subject) => write_explanation(alloc, subject, file, done, errors),
+        Err(_) => false,
+    }
+}
+
+/// Writes the line of a task's fault, where it has one, and behind it why the task ended as it did.
+fn end_and_explain<E: Write>(
+    alloc: Global,
+    subject: &Result<Subject, AllocError>,
+    file: &[u8],
+    done: &Result<bool, RunFault>,
+    errors: &mut Watched<E>,
+) -> Ending
+    ensures { SaysEnd E.contents subject.now file.now done.now result errors.old errors.new }
+{
+    let status = end_task(done, errors);
+    let explained = write_why(alloc, subject, file, done, errors);
+    Ending { status, explained }
+}
+
+/// Does a task, and writes the line of its fault, where it has one, and behind it why.
+fn run_and_explain<R: Files + AllocGlobal + Threads + Wait + Sync, I: Read, O: Write, E: Write>(
+    rt: &R,
+    task: Task,
+    input: &mut I,
+    out: &mut Watched<O>,
+    errors: &mut Watched<E>,
+) -> Ending
+    requires { out.old.failed ≡ false }
+    ensures { EndsTask O.contents E.contents (I.remaining input.old) task true out.old out.new errors.old errors.new result }
+{
+    let subject = subject_of(rt.alloc(), &task);
+    match read_file(rt, &task, input) {
+        Ok(file) => {
+            let file = file.as_slice();
+            let done = do_task(rt, rt.alloc(), task, file, out);
+            end_and_explain(rt.alloc(), &subject, file, &done, errors)
+        }
+        Err(fault) => end_and_explain(rt.alloc(), &subject, &[], &Err(fault), errors),
+    }
+}
+
+/// Does a task, and writes the line of its fault, where it has one.
+fn run_task<R: Files + AllocGlobal + Threads + Wait + Sync, I: Read, O: Write, E: Write>(
+    rt: &R,
+    task: Task,
+    input: &mut I,
+    out: &mut Watched<O>,
+    errors: &mut Watched<E>,
+) -> Ending
+    requires { out.old.failed ≡ false }
+    ensures { EndsTask O.contents E.contents (I.remaining input.old) task false out.old out.new errors.old errors.new result }
+{
+    match read_file(rt, &task, input) {
+        Ok(file) => {
+            let done = do_task(rt, rt.alloc(), task, file.as_slice(), out);
+            end_plainly(&done, errors)
+        }
+        Err(fault) => end_plainly(&Err(fault), errors),
+    }
+}
+
+/// Does what the words ask for, which are those that `env::args` answers. A task's file is read, or `input` where it is named
+/// `-`; what it says is written on `out`. The line of its fault is written on `errors`, and behind it, where that is wanted, why; or
+/// else why the words ask for nothing. The exit status is 0 where it is done and after help, 1 after a fault, an illegal act and
+/// where there is no key, and 2 after a mistake in the words. Workers run on the threads of `rt`.
+pub fn run_program<R: Files + AllocGlobal + Threads + Wait + Sync, I: Read, O: Write, E: Write>(
+    rt: &R,
+    args: io::Result<Args>,
+    input: &mut I,
+    out: &mut Watched<O>,
+    errors: &mut Watched<E>,
+) -> Ending
+    requires { out.old.failed ≡ false }
+    ensures { EndsProgram O.contents E.contents (I.remaining input.old) args out.old out.new errors.old errors.new result }
+{
+    let Request { task, explain } = request_of_args(rt.alloc(), args);
+    match task {
+        Ok(task) if explain => run_and_explain(rt, task, input, out, errors),
+        Ok(task) => run_task(rt, task, input, out, errors),
+        Err(fault) => Ending {
+            status: end_by_words(&fault, explain, out, errors),
+            explained: true,
+        },
+    }
+}
