@@ -1,65 +1,138 @@
-//! Rounds of the pool's calls through this crate, so many on so many threads. It reads no clock: it is timed from outside.
+//! Rounds of the pool's calls, so many on so many threads. It reads no clock: it is timed from outside.
 //!
 //!     bench CASE THREADS ROUNDS
 //!
-//! The cases: `get-many`, a get of one of 16 own keys in turn, a read of the length, a drop; `cycle`, a put of 64 bytes and a
-//! clear; `calls`, the same with a create, an append and a publish in place of the put; `object-get-many` and `object-cycle`, a
-//! get and a cycle with objects that are vectors. Prints one number, so that the work is done.
-use pardz::{typed, Key, Pool, Shape};
+//! The cases are a pool and rounds, as `bytes-cycle`. The pools:
+//!
+//! - `bytes`: buffers, of 64 bytes;
+//! - `large`: buffers, of 16 KiB;
+//! - `objects`: objects of 192 bytes, without memory of their own;
+//! - `lists`: vectors, of 64 bytes.
+//!
+//! The rounds:
+//!
+//! - `get-many`: a get of one of 16 own keys in turn, a read of the length, a drop;
+//! - `get-shared`: the same of one key, which the first lane published;
+//! - `cycle`: an object is filled and published, and cleared;
+//! - `churn`: of 24 live objects the oldest is cleared, and a new one published.
+//!
+//! Prints one number, so that the work is done.
+use pardz::{Buffer, Clear, Key, Lane, Pool, Shape};
 use std::process::ExitCode;
 use std::{array, env, thread};
-
-const BYTES: [u8; 64] = [7; 64];
 
 /// How many keys are read in turn.
 const MANY: usize = 16;
 
-type Objects = typed::Pool<Vec<u8>>;
+/// How many objects are live in a churn.
+const LIVE: usize = 24;
 
-fn put(lane: &pardz::Lane) -> Key {
-    lane.put(&BYTES).expect("a free place")
+static LARGE: [u8; 16_384] = [7; 16_384];
+
+/// What is pooled: how it is filled, and what a reader sees of it.
+trait Pooled: Clear + Default + Send + Sync {
+    fn fill(&mut self);
+
+    fn size(&self) -> usize;
 }
 
-fn put_by_calls(lane: &pardz::Lane) -> Key {
-    let mut filling = lane.create().expect("a free place");
-    filling.append(&BYTES).expect("memory");
-    filling.publish()
+/// A buffer of so many bytes.
+#[derive(Default)]
+struct Bytes<const N: usize>(Buffer);
+
+impl<const N: usize> Clear for Bytes<N> {
+    #[inline]
+    fn clear(&mut self) {
+        self.0.clear();
+    }
 }
 
-fn put_object(lane: &typed::Lane<Vec<u8>>) -> Key {
-    let mut filling = lane.create().expect("a free place");
-    filling.extend_from_slice(&BYTES);
-    filling.publish()
+impl<const N: usize> Pooled for Bytes<N> {
+    #[inline]
+    fn fill(&mut self) {
+        self.0.append(&LARGE[..N]).expect("memory");
+    }
+
+    #[inline]
+    fn size(&self) -> usize {
+        self.0.len()
+    }
 }
 
-fn get_many(lane: &pardz::Lane, rounds: usize) -> usize {
-    let keys: [Key; MANY] = array::from_fn(|_| put(lane));
+impl Pooled for Vec<u8> {
+    #[inline]
+    fn fill(&mut self) {
+        self.extend_from_slice(&LARGE[..64]);
+    }
+
+    #[inline]
+    fn size(&self) -> usize {
+        self.len()
+    }
+}
+
+/// An object of 192 bytes.
+#[derive(Default)]
+struct Record {
+    numbers: [u64; 23],
+    count: usize,
+}
+
+impl Clear for Record {
+    #[inline]
+    fn clear(&mut self) {
+        self.count = 0;
+    }
+}
+
+impl Pooled for Record {
+    #[inline]
+    fn fill(&mut self) {
+        self.numbers[self.count] = 7;
+        self.count += 1;
+    }
+
+    #[inline]
+    fn size(&self) -> usize {
+        self.count * 8
+    }
+}
+
+#[inline]
+fn put<T: Pooled>(lane: &Lane<T>) -> Key {
+    lane.create_with(T::fill).expect("a free place")
+}
+
+fn get_many<T: Pooled>(lane: &Lane<T>, keys: &[Key; MANY], rounds: usize) -> usize {
     (0..rounds)
-        .map(|round| lane.get(keys[round % MANY]).map_or(0, |bytes| bytes.len()))
+        .map(|round| {
+            lane.get(keys[round % MANY])
+                .map_or(0, |object| object.size())
+        })
         .sum()
 }
 
-fn cycle(lane: &pardz::Lane, rounds: usize) -> usize {
+fn cycle<T: Pooled>(lane: &Lane<T>, rounds: usize) -> usize {
     (0..rounds).filter(|_| lane.clear(put(lane))).count()
 }
 
-fn calls(lane: &pardz::Lane, rounds: usize) -> usize {
-    (0..rounds).filter(|_| lane.clear(put_by_calls(lane))).count()
-}
-
-fn object_get_many(lane: &typed::Lane<Vec<u8>>, rounds: usize) -> usize {
-    let keys: [Key; MANY] = array::from_fn(|_| put_object(lane));
+fn churn<T: Pooled>(lane: &Lane<T>, rounds: usize) -> usize {
+    let mut keys: [Key; LIVE] = array::from_fn(|_| put(lane));
     (0..rounds)
-        .map(|round| lane.get(keys[round % MANY]).map_or(0, |bytes| bytes.len()))
-        .sum()
-}
-
-fn object_cycle(lane: &typed::Lane<Vec<u8>>, rounds: usize) -> usize {
-    (0..rounds).filter(|_| lane.clear(put_object(lane))).count()
+        .filter(|round| {
+            let oldest = &mut keys[round % LIVE];
+            let cleared = lane.clear(*oldest);
+            *oldest = put(lane);
+            cleared
+        })
+        .count()
 }
 
 /// The sum of what the lanes answer, each on a thread of its own. One needs no other thread.
-fn on_threads<L: Send>(mut lanes: Vec<L>, work: impl Fn(&L) -> usize + Sync) -> usize {
+fn on_threads<T: Pooled>(
+    mut lanes: Vec<Lane<'_, T>>,
+    work: impl Fn(&Lane<'_, T>) -> usize + Sync,
+) -> usize {
     if lanes.len() == 1 {
         return work(&lanes.remove(0));
     }
@@ -76,38 +149,52 @@ fn on_threads<L: Send>(mut lanes: Vec<L>, work: impl Fn(&L) -> usize + Sync) -> 
     })
 }
 
-/// `None` where the words aren't right.
-fn run() -> Option<usize> {
-    let words: Vec<String> = env::args().skip(1).collect();
-    let [case, threads, rounds] = &words[..] else {
-        return None;
-    };
-    let (threads, rounds) = (threads.parse().ok()?, rounds.parse().ok()?);
-    let shape = Shape {
+/// `None` where there are no such rounds.
+fn run<T: Pooled>(case: &str, threads: u32, rounds: usize) -> Option<usize> {
+    let pool = Pool::<T>::open(Shape {
         lanes: threads,
         first_page: 32,
         pages: 1,
         ..Shape::default()
+    })
+    .ok()?;
+    let lanes: Vec<_> = (0..threads).filter_map(|_| pool.lane()).collect();
+    match case {
+        "get-many" | "get-shared" => {
+            let shared = put(lanes.first()?);
+            Some(on_threads(lanes, |lane| {
+                let own = |_| match case {
+                    "get-shared" => shared,
+                    _ => put(lane),
+                };
+                get_many(lane, &array::from_fn(own), rounds)
+            }))
+        }
+        "cycle" => Some(on_threads(lanes, |lane| cycle(lane, rounds))),
+        "churn" => Some(on_threads(lanes, |lane| churn(lane, rounds))),
+        _ => None,
+    }
+}
+
+/// `None` where the words aren't right.
+fn run_words() -> Option<usize> {
+    let words: Vec<String> = env::args().skip(1).collect();
+    let [case, threads, rounds] = &words[..] else {
+        return None;
     };
-    let (pool, objects) = (Pool::open(shape).ok()?, Objects::open(shape).ok()?);
-    let lanes = || (0..threads).filter_map(|_| pool.lane()).collect();
-    let object_lanes = || (0..threads).filter_map(|_| objects.lane()).collect();
-    match case.as_str() {
-        "get-many" => Some(on_threads(lanes(), |lane| get_many(lane, rounds))),
-        "cycle" => Some(on_threads(lanes(), |lane| cycle(lane, rounds))),
-        "calls" => Some(on_threads(lanes(), |lane| calls(lane, rounds))),
-        "object-get-many" => Some(on_threads(object_lanes(), |lane| {
-            object_get_many(lane, rounds)
-        })),
-        "object-cycle" => Some(on_threads(object_lanes(), |lane| {
-            object_cycle(lane, rounds)
-        })),
+    let (pool, case) = case.split_once('-')?;
+    let (threads, rounds) = (threads.parse().ok()?, rounds.parse().ok()?);
+    match pool {
+        "bytes" => run::<Bytes<64>>(case, threads, rounds),
+        "large" => run::<Bytes<16_384>>(case, threads, rounds),
+        "objects" => run::<Record>(case, threads, rounds),
+        "lists" => run::<Vec<u8>>(case, threads, rounds),
         _ => None,
     }
 }
 
 fn main() -> ExitCode {
-    match run() {
+    match run_words() {
         Some(count) => {
             println!("{count}");
             ExitCode::SUCCESS

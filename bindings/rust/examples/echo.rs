@@ -4,7 +4,7 @@
 //!     cargo run --release --example echo -- 1000
 //!
 //! Four clients send so many messages each, and check what comes back. Ends by itself.
-use pardz::{Key, Lane, Pool, Shape};
+use pardz::{Buffer, Key, Lane, Pool, Shape};
 use std::io::{self, Read, Write};
 use std::net::{Shutdown, SocketAddr, TcpListener, TcpStream};
 use std::sync::mpsc::{sync_channel, Receiver, SyncSender};
@@ -22,9 +22,8 @@ const PATIENCE: Duration = Duration::from_secs(20);
 /// Reads a connection to its end. A lane has 24 places: more than wait, are read and are written at once, so one is free.
 fn read_from(lane: Lane, mut stream: TcpStream, to: SyncSender<Key>) -> io::Result<()> {
     loop {
-        let mut filling = lane.create().map_err(io::Error::other)?;
+        let mut filling = lane.create()?;
         if filling.read_from(&mut stream, 4096)? == 0 {
-            filling.discard();
             return Ok(());
         }
         to.send(filling.publish()).map_err(io::Error::other)?;
@@ -75,7 +74,7 @@ fn prepared(stream: TcpStream) -> io::Result<TcpStream> {
 
 fn main() -> Result<(), Box<dyn std::error::Error>> {
     let rounds = env::args().nth(1).map_or(Ok(500), |word| word.parse())?;
-    let pool = Pool::open(Shape {
+    let pool = Pool::<Buffer>::open(Shape {
         lanes: 2 * CONNECTIONS as u32,
         first_page: 8,
         pages: 2,

@@ -4,8 +4,7 @@
 //!     cargo run --release --example spans -- 2000
 //!
 //! Two threads take requests, and open a span for each; two others serve them, with a span below it. Ends by itself.
-use pardz::typed::{Clear, Lane, Pool};
-use pardz::{CreateError, Key, Shape};
+use pardz::{Clear, CreateError, Key, Lane, Pool, Shape};
 use std::cell::{Cell, RefCell};
 use std::sync::atomic::{AtomicUsize, Ordering::SeqCst};
 use std::sync::mpsc::{sync_channel, Receiver, SyncSender};

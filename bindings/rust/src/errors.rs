@@ -1,9 +1,11 @@
 //! What calls answer where they can't do what was asked.
+use crate::erased::shardpool::{CreateFault, OpenFault};
 use std::error::Error;
 use std::{fmt, io};
 
 /// Why a pool isn't opened.
 #[derive(Clone, Copy, Debug, PartialEq, Eq)]
+#[non_exhaustive]
 pub enum OpenError {
     /// The shape is outside its limits.
     Shape,
@@ -11,20 +13,23 @@ pub enum OpenError {
     Memory,
 }
 
-/// Why no filling is begun.
+/// Why no filling is begun, or nothing is put into a pool.
+///
+/// ```
+/// # use pardz::{CreateError, OpenError, Pool, Shape};
+/// # let pool = Pool::<String>::open(Shape { lanes: 1, first_page: 1, pages: 1, ..Shape::default() })?;
+/// # let lane = pool.lane().expect("a lane");
+/// lane.put("the one place").expect("free");
+/// match lane.put("more") {
+///     Ok(_) => unreachable!("no place is free"),
+///     Err(CreateError::Full) => println!("clear something first"),
+///     Err(error) => panic!("{error}"),
+/// }
+/// # Ok::<(), OpenError>(())
+/// ```
 #[derive(Clone, Copy, Debug, PartialEq, Eq)]
+#[non_exhaustive]
 pub enum CreateError {
-    /// No place of the lane is free.
-    Full,
-    /// The lane already has 16 fillings.
-    Fillings,
-    /// Memory was refused.
-    Memory,
-}
-
-/// Why bytes aren't put into a pool.
-#[derive(Clone, Copy, Debug, PartialEq, Eq)]
-pub enum PutError {
     /// No place of the lane is free.
     Full,
     /// Memory was refused.
@@ -34,6 +39,10 @@ pub enum PutError {
 /// Memory was refused. What was to grow is as it was.
 #[derive(Clone, Copy, Debug, PartialEq, Eq)]
 pub struct MemoryRefused;
+
+/// Why a text or a number is no [`Key`](crate::Key).
+#[derive(Clone, Copy, Debug, PartialEq, Eq)]
+pub struct KeyError;
 
 impl fmt::Display for OpenError {
     fn fmt(&self, f: &mut fmt::Formatter<'_>) -> fmt::Result {
@@ -48,17 +57,7 @@ impl fmt::Display for CreateError {
     fn fmt(&self, f: &mut fmt::Formatter<'_>) -> fmt::Result {
         f.write_str(match self {
             CreateError::Full => "no place of the lane is free",
-            CreateError::Fillings => "the lane already has 16 fillings",
             CreateError::Memory => "memory was refused",
-        })
-    }
-}
-
-impl fmt::Display for PutError {
-    fn fmt(&self, f: &mut fmt::Formatter<'_>) -> fmt::Result {
-        f.write_str(match self {
-            PutError::Full => "no place of the lane is free",
-            PutError::Memory => "memory was refused",
         })
     }
 }
@@ -69,13 +68,59 @@ impl fmt::Display for MemoryRefused {
     }
 }
 
+impl fmt::Display for KeyError {
+    fn fmt(&self, f: &mut fmt::Formatter<'_>) -> fmt::Result {
+        f.write_str("a key is a number from 1 to 18446744073709551615")
+    }
+}
+
 impl Error for OpenError {}
 impl Error for CreateError {}
-impl Error for PutError {}
 impl Error for MemoryRefused {}
+impl Error for KeyError {}
+
+impl From<OpenFault> for OpenError {
+    fn from(fault: OpenFault) -> OpenError {
+        match fault {
+            OpenFault::Shape(_) => OpenError::Shape,
+            OpenFault::Memory => OpenError::Memory,
+        }
+    }
+}
+
+impl From<CreateFault> for CreateError {
+    #[inline]
+    fn from(fault: CreateFault) -> CreateError {
+        match fault {
+            CreateFault::Full => CreateError::Full,
+            CreateFault::Memory => CreateError::Memory,
+        }
+    }
+}
+
+impl From<MemoryRefused> for CreateError {
+    fn from(_: MemoryRefused) -> CreateError {
+        CreateError::Memory
+    }
+}
+
+impl From<CreateError> for io::Error {
+    fn from(error: CreateError) -> io::Error {
+        match error {
+            CreateError::Full => io::Error::other(error),
+            CreateError::Memory => io::ErrorKind::OutOfMemory.into(),
+        }
+    }
+}
 
 impl From<MemoryRefused> for io::Error {
     fn from(_: MemoryRefused) -> io::Error {
         io::ErrorKind::OutOfMemory.into()
+    }
+}
+
+impl From<MemoryRefused> for fmt::Error {
+    fn from(_: MemoryRefused) -> fmt::Error {
+        fmt::Error
     }
 }

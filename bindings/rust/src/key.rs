@@ -1,55 +1,82 @@
 //! Keys.
+use crate::errors::KeyError;
+use std::fmt;
+use std::num::NonZeroU64;
+use std::str::FromStr;
 
-/// The name of a published buffer or object: a plain number, which may be sent to any thread and kept for as long as one likes.
-/// Once it is cleared it is never found again.
+/// The name of a published object: a plain number, which may be sent to any thread and kept for as long as one likes. Once it is
+/// cleared it is never found again.
 ///
-/// It is told as a `u64`, and made from one; a number that is no key finds nothing.
+/// It is told and read back as a number, and isn't 0: so an `Option<Key>` has 8 bytes. A number that is no key of a pool finds
+/// nothing there.
 ///
 /// ```
 /// use pardz::Key;
 ///
-/// let key = Key::from(16_777_216);
+/// let key = Key::try_from(16_777_216)?;
 /// assert_eq!(u64::from(key), 16_777_216);
+/// assert_eq!(key.to_string(), "16777216");
+/// assert_eq!("16777216".parse(), Ok(key));
+/// assert!(Key::try_from(0).is_err());
+/// assert_eq!(std::mem::size_of::<Option<Key>>(), 8);
+/// # Ok::<(), pardz::KeyError>(())
 /// ```
 #[derive(Clone, Copy, Debug, PartialEq, Eq, Hash, PartialOrd, Ord)]
 #[repr(transparent)]
-pub struct Key(u64);
-
-/// Where in the pool a key's place is.
-#[derive(Clone, Copy, Debug, PartialEq, Eq)]
-pub(crate) struct Place {
-    pub(crate) shard: usize,
-    pub(crate) page: usize,
-    pub(crate) slot: usize,
-}
+pub struct Key(NonZeroU64);
 
 impl Key {
-    /// The place of a key: 12 bits of slot, 4 of page, 8 of shard. Generation and tag stand above.
-    pub(crate) fn place(self) -> Place {
-        Place {
-            shard: (self.0 >> 16 & 0xff) as usize,
-            page: (self.0 >> 12 & 0xf) as usize,
-            slot: (self.0 & 0xfff) as usize,
-        }
-    }
-
+    /// A key that the pool gave. It has a generation from 1 on, in the bits 24 to 55, so that it isn't 0.
     #[inline]
-    pub(crate) fn number(self) -> u64 {
-        self.0
+    pub(crate) fn proved(number: u64) -> Key {
+        match NonZeroU64::new(number) {
+            Some(number) => Key(number),
+            None => unreachable!("a key has a generation"),
+        }
     }
 }
 
-impl From<u64> for Key {
+impl From<NonZeroU64> for Key {
     #[inline]
-    fn from(number: u64) -> Key {
+    fn from(number: NonZeroU64) -> Key {
         Key(number)
+    }
+}
+
+impl From<Key> for NonZeroU64 {
+    #[inline]
+    fn from(key: Key) -> NonZeroU64 {
+        key.0
     }
 }
 
 impl From<Key> for u64 {
     #[inline]
     fn from(key: Key) -> u64 {
-        key.0
+        key.0.get()
+    }
+}
+
+impl TryFrom<u64> for Key {
+    type Error = KeyError;
+
+    #[inline]
+    fn try_from(number: u64) -> Result<Key, KeyError> {
+        NonZeroU64::new(number).map(Key).ok_or(KeyError)
+    }
+}
+
+impl FromStr for Key {
+    type Err = KeyError;
+
+    fn from_str(text: &str) -> Result<Key, KeyError> {
+        text.parse().map(Key).map_err(|_| KeyError)
+    }
+}
+
+impl fmt::Display for Key {
+    fn fmt(&self, f: &mut fmt::Formatter<'_>) -> fmt::Result {
+        self.0.fmt(f)
     }
 }
 
@@ -58,47 +85,12 @@ mod tests {
     use super::*;
 
     #[test]
-    fn places_of_keys() {
-        let place = |number| Key::from(number).place();
-        assert_eq!(
-            place(16_777_216),
-            Place {
-                shard: 0,
-                page: 0,
-                slot: 0
-            }
-        );
-        assert_eq!(
-            place(16_842_752),
-            Place {
-                shard: 1,
-                page: 0,
-                slot: 0
-            }
-        );
-        assert_eq!(
-            place(16_781_312),
-            Place {
-                shard: 0,
-                page: 1,
-                slot: 0
-            }
-        );
-        assert_eq!(
-            place(17_782_783),
-            Place {
-                shard: 15,
-                page: 5,
-                slot: 2047
-            }
-        );
-        assert_eq!(
-            place(u64::MAX),
-            Place {
-                shard: 255,
-                page: 15,
-                slot: 4095
-            }
-        );
+    fn texts() {
+        for text in ["", "0", "-1", "x", "18446744073709551616", "1 "] {
+            assert_eq!(text.parse::<Key>(), Err(KeyError), "{text:?}");
+        }
+        let largest = Key::try_from(u64::MAX).unwrap();
+        assert_eq!("18446744073709551615".parse(), Ok(largest));
+        assert_eq!(format!("{largest:>22}"), "  18446744073709551615");
     }
 }

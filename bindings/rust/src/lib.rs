@@ -1,19 +1,16 @@
-//! A lock-free, sharded pool of buffers and objects that are cleared in place and used again.
+//! A lock-free, sharded pool of buffers and objects that are emptied in place and used again.
 //!
-//! One thread fills a buffer and publishes it under a [`Key`]; any thread with a [`Lane`] reads it under a reference; a clear makes
-//! the key unknown at once, and whoever lets go last empties the buffer, which keeps its memory and is filled again under a new
-//! key. No call blocks or waits for another thread.
-//!
-//! The pool is a verified library; this crate is a wrapper around its C interface, and isn't verified itself. It has no
-//! dependency, and links `libpoolffi.a` from the folder that the environment variable `PARDZ_LIB` names when it is built.
+//! One thread fills an object and publishes it under a [`Key`]; any thread with a [`Lane`] reads it under a reference; a clear makes
+//! the key unknown at once, and whoever lets go last empties the object, which keeps its memory and is filled again under a new
+//! key. No call by a lane in hand blocks or waits for another thread, and each makes a bounded number of steps.
 //!
 //! ```
-//! use pardz::{Pool, Shape};
+//! use pardz::{Buffer, Pool, Shape};
 //! use std::io::Write;
 //! use std::thread;
 //!
 //! # fn main() -> Result<(), Box<dyn std::error::Error>> {
-//! let pool = Pool::open(Shape { lanes: 2, first_page: 8, pages: 2, ..Shape::default() })?;
+//! let pool = Pool::<Buffer>::open(Shape { lanes: 2, first_page: 8, pages: 2, ..Shape::default() })?;
 //! let lane = pool.lane().ok_or("no lane is left")?;
 //!
 //! let mut filling = lane.create()?;
@@ -25,7 +22,7 @@
 //!         let lane = pool.lane().expect("one for each thread");
 //!         let bytes = lane.get(key).expect("it is published");
 //!         assert!(lane.clear(key)); // no get finds it any more,
-//!         assert_eq!(&bytes[..], b"hello 5"); // and the bytes stay until the reference is dropped
+//!         assert_eq!(*bytes, *b"hello 5"); // and the bytes stay until the reference is dropped
 //!     });
 //! });
 //! assert!(lane.get(key).is_none());
@@ -36,21 +33,152 @@
 //! # }
 //! ```
 //!
-//! Objects of any type are pooled by [`typed`].
-#![warn(missing_docs)]
+//! # What is pooled
+//!
+//! A [`Pool`] holds objects of a type that has an empty one ([`Default`]) and can be emptied in place ([`Clear`]): a [`Buffer`] of bytes, a
+//! `String`, a `Vec`, a map, a type of one's own.
+//!
+//! ```
+//! use pardz::{Clear, Pool, Shape};
+//!
+//! #[derive(Default)]
+//! struct Request {
+//!     path: String,
+//!     headers: Vec<(String, String)>,
+//! }
+//!
+//! impl Clear for Request {
+//!     fn clear(&mut self) {
+//!         self.path.clear();
+//!         self.headers.clear();
+//!     }
+//! }
+//!
+//! # fn main() -> Result<(), Box<dyn std::error::Error>> {
+//! let pool = Pool::<Request>::open(Shape::default())?;
+//! let lane = pool.lane().ok_or("no lane is left")?;
+//! let key = lane.create_with(|request| request.path.push_str("/index"))?;
+//! assert_eq!(lane.get(key).ok_or("it is published")?.path, "/index");
+//! # Ok(())
+//! # }
+//! ```
+//!
+//! `Default`, `Clear` and `Drop` of the type, and closures, run outside of the pool's own steps: they may call the pool again, by the
+//! same lane too. A panic in them loses their object at most. An object never moves while the pool is open.
+//!
+//! # Any thread, handles that travel, room that grows
+//!
+//! A program of threads that come and go needs no lane in hand: the pool has the same calls. A thread's first call finds it a lane,
+//! which it keeps until it ends; where all are taken it shares one. [`Pool::growing`] opens a pool that takes memory as it fills.
+//!
+//! ```
+//! use pardz::{Key, OwnedRef, Pool};
+//! use std::sync::Arc;
+//! use std::thread;
+//!
+//! let pool = Arc::new(Pool::<String>::growing()?);
+//! let key: Key = pool.put("from here")?;
+//! thread::scope(|scope| {
+//!     for _ in 0..40 {
+//!         scope.spawn(|| assert_eq!(*pool.get(key).expect("published"), "from here"));
+//!     }
+//! });
+//! let text: OwnedRef<String> = pool.get_owned(key).expect("published");
+//! assert!(pool.clear(key));
+//! thread::spawn(move || assert_eq!(*text, "from here")).join().expect("no panic");
+//! # Ok::<(), Box<dyn std::error::Error>>(())
+//! ```
+//!
+//! | | lanes in hand: `pool.lane()` | calls of the pool: `pool.get(key)` | owned handles: `pool.get_owned(key)` |
+//! |---|---|---|---|
+//! | who calls | a thread with a lane, of 16 at most | any thread, also while it ends | any thread, with an `Arc` of the pool |
+//! | what it gives | `Filling`, `Ref`: borrow the lane | `PoolFilling`, `PoolRef`: borrow the pool | `OwnedFilling`, `OwnedRef`: `Send`, `Sync`, `'static`; `OwnedRef` is `Clone` |
+//! | a get with its drop | 74 instructions | 102, where the thread has a lane of its own; 194 behind the first segment | 291 |
+//! | lock | none | none; where all lanes are taken, one of the lanes that threads share, for a bounded number of steps | that of a shared lane |
+//! | a create whose shard is full | a further segment, if the pool grows | a shared lane's shard, then a further segment | as of the pool |
+//! | to choose | a fixed row of threads, and what must be quickest or never wait | threads that come and go | what outlives a scope: a future over `.await`, a message, `bytes::Bytes::from_owner` |
+//!
+//! A growing pool has up to 256 segments, each a pool of the proved kind with a tag of its own, by which a key tells its segment. The
+//! first has 16 * 32 places and takes less than 256 KiB; from the eighth on each has 16 * 4,032. All ways of calling find keys of
+//! all segments.
+//!
+//! # A pool for the whole program
+//!
+//! A lane may be kept by its thread, with a share of the pool; it comes home when the thread ends.
+//!
+//! ```
+//! use pardz::{Key, Lane, Pool, Shape};
+//! use std::sync::{Arc, OnceLock};
+//! use std::thread;
+//!
+//! fn pool() -> &'static Arc<Pool<String>> {
+//!     static POOL: OnceLock<Arc<Pool<String>>> = OnceLock::new();
+//!     POOL.get_or_init(|| Arc::new(Pool::open(Shape { lanes: 16, ..Shape::default() }).expect("a right shape, and memory")))
+//! }
+//!
+//! thread_local! {
+//!     static LANE: Lane<'static, String> = pool().lane_owned().expect("at most 16 threads");
+//! }
+//!
+//! let key = thread::spawn(|| LANE.with(|lane| lane.put("from a thread"))).join().expect("no panic")?;
+//! LANE.with(|lane| {
+//!     assert_eq!(*lane.get(key).expect("published"), "from a thread");
+//!     assert!(lane.clear(key));
+//! });
+//! # Ok::<(), pardz::CreateError>(())
+//! ```
+//!
+//! # What stands behind it
+//!
+//! The pool is proved in Rattle, a Rust with contracts. **This crate is made from those proved sources; it isn't proved itself.** A
+//! translator drops what proofs alone need; what is left is Rust, in the private modules `erased`.
+//!
+//! Trusted are: the translator; the `shim`, which has what the sources use of Rattle's own libraries; this API, whose types and tests take
+//! over what the proved calls ask of their callers; rustc; and the code of your types.
+//!
+//! What ties it to the proofs, at each run of the repository's tests: the translator writes the committed files again, and they are
+//! compared; a second program, by another method, finds their tokens in the sources; and drawn runs of up to 16 lanes are compared with
+//! those of the proved program, step by step and answer by answer.
+//!
+//! Indices are looked at, so that an error of the translator would end in a panic rather than in a wild access. The feature `unchecked`
+//! leaves these looks out.
+//!
+//! Not there: more than 16 lanes, that is threads without a lock at once; a `Ref` that goes to another lane, which gets its own by the
+//! key.
+#![deny(missing_docs)]
+#![deny(unsafe_code)]
 #![deny(unsafe_op_in_unsafe_fn)]
 
-mod buffers;
+mod buffer;
+mod clear;
+#[allow(unsafe_code)]
+mod erased;
 mod errors;
-mod ffi;
-mod heap;
+mod filling;
+mod handles;
 mod key;
+#[allow(unsafe_code)]
+mod lane;
 #[cfg(doctest)]
 mod misuse;
+#[allow(unsafe_code)]
+mod object;
 mod pool;
-pub mod typed;
+#[cfg(doctest)]
+#[doc = include_str!("../README.md")]
+mod readme {}
+mod reference;
+mod room;
+#[cfg(target_pointer_width = "64")]
+pub mod sharded_slab;
+#[allow(unsafe_code)]
+mod shim;
+mod threads;
 
-pub use buffers::{Filling, Ref};
-pub use errors::{CreateError, MemoryRefused, OpenError, PutError};
+pub use buffer::Buffer;
+pub use clear::Clear;
+pub use errors::{CreateError, KeyError, MemoryRefused, OpenError};
+pub use handles::{OwnedFilling, OwnedRef, PoolFilling, PoolRef};
 pub use key::Key;
-pub use pool::{Census, Lane, Pool, Shape};
+pub use lane::{Filling, Lane, Ref};
+pub use pool::{Census, Pool, Shape};

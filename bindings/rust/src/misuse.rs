@@ -3,7 +3,7 @@
 //! A reference doesn't outlive its lane:
 //!
 //! ```compile_fail,E0505
-//! # let pool = pardz::Pool::open(pardz::Shape::default()).unwrap();
+//! # let pool = pardz::Pool::<pardz::Buffer>::open(pardz::Shape::default()).unwrap();
 //! let lane = pool.lane().unwrap();
 //! let bytes = lane.create().unwrap().downgrade();
 //! drop(lane);
@@ -11,7 +11,7 @@
 //! ```
 //!
 //! ```
-//! # let pool = pardz::Pool::open(pardz::Shape::default()).unwrap();
+//! # let pool = pardz::Pool::<pardz::Buffer>::open(pardz::Shape::default()).unwrap();
 //! let lane = pool.lane().unwrap();
 //! let bytes = lane.create().unwrap().downgrade();
 //! println!("{}", bytes.len());
@@ -22,7 +22,7 @@
 //! Its slice doesn't outlive the reference:
 //!
 //! ```compile_fail,E0505
-//! # let pool = pardz::Pool::open(pardz::Shape::default()).unwrap();
+//! # let pool = pardz::Pool::<pardz::Buffer>::open(pardz::Shape::default()).unwrap();
 //! # let lane = pool.lane().unwrap();
 //! let bytes = lane.create().unwrap().downgrade();
 //! let slice = &bytes[..];
@@ -33,25 +33,25 @@
 //! A lane isn't shared between threads by reference; it may move:
 //!
 //! ```compile_fail,E0277
-//! # let pool = pardz::Pool::open(pardz::Shape::default()).unwrap();
+//! # let pool = pardz::Pool::<pardz::Buffer>::open(pardz::Shape::default()).unwrap();
 //! let lane = pool.lane().unwrap();
 //! std::thread::scope(|scope| {
-//!     scope.spawn(|| lane.clear(pardz::Key::from(1)));
+//!     scope.spawn(|| lane.clear("1".parse().unwrap()));
 //! });
 //! ```
 //!
 //! ```
-//! # let pool = pardz::Pool::open(pardz::Shape::default()).unwrap();
+//! # let pool = pardz::Pool::<pardz::Buffer>::open(pardz::Shape::default()).unwrap();
 //! let lane = pool.lane().unwrap();
 //! std::thread::scope(|scope| {
-//!     scope.spawn(move || lane.clear(pardz::Key::from(1)));
+//!     scope.spawn(move || lane.clear("1".parse().unwrap()));
 //! });
 //! ```
 //!
 //! A reference doesn't go to another thread; its slice may:
 //!
 //! ```compile_fail,E0277
-//! # let pool = pardz::Pool::open(pardz::Shape::default()).unwrap();
+//! # let pool = pardz::Pool::<pardz::Buffer>::open(pardz::Shape::default()).unwrap();
 //! # let lane = pool.lane().unwrap();
 //! let bytes = lane.create().unwrap().downgrade();
 //! std::thread::scope(|scope| {
@@ -60,7 +60,7 @@
 //! ```
 //!
 //! ```
-//! # let pool = pardz::Pool::open(pardz::Shape::default()).unwrap();
+//! # let pool = pardz::Pool::<pardz::Buffer>::open(pardz::Shape::default()).unwrap();
 //! # let lane = pool.lane().unwrap();
 //! let bytes = lane.create().unwrap().downgrade();
 //! let slice = &bytes[..];
@@ -72,7 +72,7 @@
 //! A filling isn't used once it is published:
 //!
 //! ```compile_fail,E0382
-//! # let pool = pardz::Pool::open(pardz::Shape::default()).unwrap();
+//! # let pool = pardz::Pool::<pardz::Buffer>::open(pardz::Shape::default()).unwrap();
 //! # let lane = pool.lane().unwrap();
 //! let mut filling = lane.create().unwrap();
 //! let key = filling.publish();
@@ -82,7 +82,7 @@
 //! Neither is room that it lent:
 //!
 //! ```compile_fail,E0505
-//! # let pool = pardz::Pool::open(pardz::Shape::default()).unwrap();
+//! # let pool = pardz::Pool::<pardz::Buffer>::open(pardz::Shape::default()).unwrap();
 //! # let lane = pool.lane().unwrap();
 //! let mut filling = lane.create().unwrap();
 //! let room = filling.room(8).unwrap();
@@ -91,7 +91,7 @@
 //! ```
 //!
 //! ```
-//! # let pool = pardz::Pool::open(pardz::Shape::default()).unwrap();
+//! # let pool = pardz::Pool::<pardz::Buffer>::open(pardz::Shape::default()).unwrap();
 //! # let lane = pool.lane().unwrap();
 //! let mut filling = lane.create().unwrap();
 //! let room = filling.room(8).unwrap();
@@ -103,16 +103,16 @@
 //! A lane isn't used after the pool is closed:
 //!
 //! ```compile_fail,E0505
-//! let pool = pardz::Pool::open(pardz::Shape::default()).unwrap();
+//! let pool = pardz::Pool::<pardz::Buffer>::open(pardz::Shape::default()).unwrap();
 //! let lane = pool.lane().unwrap();
 //! pool.close();
-//! lane.clear(pardz::Key::from(1));
+//! lane.clear("1".parse().unwrap());
 //! ```
 //!
 //! ```
-//! let pool = pardz::Pool::open(pardz::Shape::default()).unwrap();
+//! let pool = pardz::Pool::<pardz::Buffer>::open(pardz::Shape::default()).unwrap();
 //! let lane = pool.lane().unwrap();
-//! lane.clear(pardz::Key::from(1));
+//! lane.clear("1".parse().unwrap());
 //! drop(lane);
 //! pool.close();
 //! ```
@@ -120,7 +120,7 @@
 //! An owned lane keeps the pool from being closed:
 //!
 //! ```compile_fail,E0507
-//! let pool = std::sync::Arc::new(pardz::Pool::open(pardz::Shape::default()).unwrap());
+//! let pool = std::sync::Arc::new(pardz::Pool::<pardz::Buffer>::open(pardz::Shape::default()).unwrap());
 //! let lane = pool.lane_owned().unwrap();
 //! pool.close();
 //! ```
@@ -128,28 +128,133 @@
 //! A lane of objects that can't be shared stays on its thread:
 //!
 //! ```compile_fail,E0277
-//! let pool = pardz::typed::Pool::<Option<std::cell::Cell<u8>>>::open(pardz::Shape::default()).unwrap();
+//! let pool = pardz::Pool::<Option<std::cell::Cell<u8>>>::open(pardz::Shape::default()).unwrap();
 //! let lane = pool.lane().unwrap();
 //! std::thread::scope(|scope| {
-//!     scope.spawn(move || lane.clear(pardz::Key::from(1)));
+//!     scope.spawn(move || lane.clear("1".parse().unwrap()));
 //! });
 //! ```
 //!
 //! ```
-//! let pool = pardz::typed::Pool::<Option<std::sync::atomic::AtomicU8>>::open(pardz::Shape::default()).unwrap();
+//! let pool = pardz::Pool::<Option<std::sync::atomic::AtomicU8>>::open(pardz::Shape::default()).unwrap();
 //! let lane = pool.lane().unwrap();
 //! std::thread::scope(|scope| {
-//!     scope.spawn(move || lane.clear(pardz::Key::from(1)));
+//!     scope.spawn(move || lane.clear("1".parse().unwrap()));
 //! });
 //! ```
 //!
 //! An object isn't reached by its filling once it is published:
 //!
 //! ```compile_fail,E0505
-//! let pool = pardz::typed::Pool::<String>::open(pardz::Shape::default()).unwrap();
+//! let pool = pardz::Pool::<String>::open(pardz::Shape::default()).unwrap();
 //! let lane = pool.lane().unwrap();
 //! let mut filling = lane.create().unwrap();
 //! let text: &mut String = &mut filling;
 //! let key = filling.publish();
+//! text.push('x');
+//! ```
+//!
+//! A filling is of one type: it isn't taken for one of a shorter lifetime, which could then be written into it.
+//!
+//! ```compile_fail
+//! fn shorter<'l, 'a>(filling: pardz::Filling<'l, Vec<&'static str>>) -> pardz::Filling<'l, Vec<&'a str>> {
+//!     filling
+//! }
+//! ```
+//!
+//! ```
+//! fn same<'l>(filling: pardz::Filling<'l, Vec<&'static str>>) -> pardz::Filling<'l, Vec<&'static str>> {
+//!     filling
+//! }
+//! ```
+//!
+//! Neither is a lane, nor a pool:
+//!
+//! ```compile_fail
+//! fn shorter<'l, 'a>(lane: pardz::Lane<'l, Vec<&'static str>>) -> pardz::Lane<'l, Vec<&'a str>> {
+//!     lane
+//! }
+//! ```
+//!
+//! ```compile_fail
+//! fn shorter<'l, 'a>(pool: &'l pardz::Pool<Vec<&'static str>>) -> &'l pardz::Pool<Vec<&'a str>> {
+//!     pool
+//! }
+//! ```
+//!
+//! What is written into a filling outlives the pool:
+//!
+//! ```compile_fail,E0597
+//! let pool = pardz::Pool::<Vec<&str>>::open(pardz::Shape::default()).unwrap();
+//! let lane = pool.lane().unwrap();
+//! let key = {
+//!     let text = String::from("short");
+//!     let mut filling = lane.create().unwrap();
+//!     filling.push(&text);
+//!     filling.publish()
+//! };
+//! println!("{}", lane.get(key).unwrap()[0]);
+//! ```
+//!
+//! ```
+//! let text = String::from("long");
+//! let pool = pardz::Pool::<Vec<&str>>::open(pardz::Shape::default()).unwrap();
+//! let lane = pool.lane().unwrap();
+//! let key = {
+//!     let mut filling = lane.create().unwrap();
+//!     filling.push(&text);
+//!     filling.publish()
+//! };
+//! println!("{}", lane.get(key).unwrap()[0]);
+//! ```
+//!
+//! A pool is shared where its objects are `Send` and `Sync`, and not where one of the two is missing:
+//!
+//! ```
+//! fn shared<T: Sync>() {}
+//! shared::<pardz::Pool<Vec<std::sync::atomic::AtomicU8>>>();
+//! ```
+//!
+//! ```compile_fail,E0277
+//! fn shared<T: Sync>() {}
+//! shared::<pardz::Pool<Vec<std::cell::Cell<u8>>>>(); // `Send` alone
+//! ```
+//!
+//! ```compile_fail,E0277
+//! fn shared<T: Sync>() {}
+//! shared::<pardz::Pool<Option<std::sync::MutexGuard<'static, u8>>>>(); // `Sync` alone
+//! ```
+//!
+//! It crosses threads likewise:
+//!
+//! ```
+//! fn crosses<T: Send>() {}
+//! crosses::<pardz::Pool<Vec<std::sync::atomic::AtomicU8>>>();
+//! crosses::<pardz::Lane<'static, Vec<std::sync::atomic::AtomicU8>>>();
+//! ```
+//!
+//! ```compile_fail,E0277
+//! fn crosses<T: Send>() {}
+//! crosses::<pardz::Pool<Option<std::sync::MutexGuard<'static, u8>>>>();
+//! ```
+//!
+//! A filling stays on its thread, and a reference isn't shared:
+//!
+//! ```compile_fail,E0277
+//! fn crosses<T: Send>() {}
+//! crosses::<pardz::Filling<'static, String>>();
+//! ```
+//!
+//! ```compile_fail,E0277
+//! fn shared<T: Sync>() {}
+//! shared::<pardz::Ref<'static, String>>();
+//! ```
+//!
+//! An object of a reference isn't written:
+//!
+//! ```compile_fail,E0596
+//! let pool = pardz::Pool::<String>::open(pardz::Shape::default()).unwrap();
+//! let lane = pool.lane().unwrap();
+//! let text = lane.create().unwrap().downgrade();
 //! text.push('x');
 //! ```

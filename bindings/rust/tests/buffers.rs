@@ -1,6 +1,7 @@
 //! Buffers: what calls answer, and what other threads can do meanwhile.
-use pardz::{CreateError, Key, Lane, OpenError, Pool, Shape};
+use pardz::{Buffer, CreateError, Key, Lane, OpenError, Pool, Shape};
 use std::io::{self, Read, Write};
+use std::sync::atomic::{AtomicBool, Ordering::SeqCst};
 use std::sync::{mpsc, Arc, Barrier};
 use std::thread;
 
@@ -71,7 +72,11 @@ fn wrong_shapes() {
         },
     ];
     for shape in wrong {
-        assert_eq!(Pool::open(shape).err(), Some(OpenError::Shape), "{shape:?}");
+        assert_eq!(
+            Pool::<Buffer>::open(shape).err(),
+            Some(OpenError::Shape),
+            "{shape:?}"
+        );
     }
     let largest = Shape {
         lanes: 16,
@@ -79,12 +84,15 @@ fn wrong_shapes() {
         pages: 6,
         ..Shape::default()
     };
-    assert_eq!(Pool::open(largest).unwrap().close().unopened, 64_512);
+    assert_eq!(
+        Pool::<Buffer>::open(largest).unwrap().close().unopened,
+        64_512
+    );
 }
 
 #[test]
 fn lanes_are_taken_and_come_home() {
-    let pool = Arc::new(Pool::open(shape(3)).unwrap());
+    let pool = Arc::new(Pool::<Buffer>::open(shape(3)).unwrap());
     let first = pool.lane().unwrap();
     let second = pool.lane_owned().unwrap();
     let third = pool.lane().unwrap();
@@ -98,7 +106,7 @@ fn lanes_are_taken_and_come_home() {
 
 #[test]
 fn a_lane_that_panicked_comes_home() {
-    let pool = Arc::new(Pool::open(shape(1)).unwrap());
+    let pool = Arc::new(Pool::<Buffer>::open(shape(1)).unwrap());
     let lane = pool.lane_owned().unwrap();
     let ended = thread::spawn(move || {
         let _filling = lane.create().unwrap();
@@ -106,12 +114,13 @@ fn a_lane_that_panicked_comes_home() {
     });
     assert!(ended.join().is_err());
     assert!(pool.lane().is_some());
-    assert_eq!(Arc::into_inner(pool).unwrap().close().filling, 1);
+    let census = Arc::into_inner(pool).unwrap().close();
+    assert_eq!((census.filling, census.free), (0, 4));
 }
 
 #[test]
 fn a_buffer_is_filled_in_all_ways() {
-    let pool = Pool::open(shape(1)).unwrap();
+    let pool = Pool::<Buffer>::open(shape(1)).unwrap();
     let lane = pool.lane().unwrap();
     let mut filling = lane.create().unwrap();
     assert!(filling.is_empty());
@@ -133,15 +142,60 @@ fn a_buffer_is_filled_in_all_ways() {
     assert!(filling.room(0).unwrap().is_empty());
     filling.wrote(0);
     filling.room(100).unwrap()[0] = b'x';
+    filling.extend(*b"0a");
+    filling.extend(b"b");
+    std::fmt::Write::write_char(&mut filling, 'é').unwrap();
+    filling.truncate(11);
+    filling.truncate(100);
+    filling.flush().unwrap();
     let bytes = filling.downgrade();
-    assert_eq!(&bytes[..], b"123456789");
-    assert_eq!(bytes.as_ref().len(), 9);
+    assert_eq!(&bytes[..], b"1234567890a");
+    let slice: &[u8] = bytes.as_ref();
+    assert_eq!(slice.len(), 11);
+    assert!(*bytes == *b"1234567890a" && *bytes != b"1"[..]);
+    assert_eq!(format!("{:?}", *bytes), r#""1234567890a""#);
+}
+
+/// Generic code writes to a filling itself.
+#[test]
+fn a_filling_is_a_writer() {
+    fn to_io(mut to: impl Write) {
+        to.write_all(b"ab").unwrap();
+        assert_eq!(to.write(b"c").unwrap(), 1);
+        let rows = [io::IoSlice::new(b"d"), io::IoSlice::new(b"e")];
+        assert!(to.write_vectored(&rows).unwrap() > 0);
+        to.flush().unwrap();
+    }
+    fn to_fmt(mut to: impl std::fmt::Write) {
+        write!(to, "{}", 1).unwrap();
+        to.write_char('x').unwrap();
+    }
+    fn extended(mut to: impl Extend<u8>) {
+        to.extend([7, 8]);
+    }
+    let pool = Pool::<Buffer>::open(shape(1)).unwrap();
+    let lane = pool.lane().unwrap();
+    let mut filling = lane.create().unwrap();
+    to_io(&mut filling);
+    to_fmt(&mut filling);
+    assert!(filling.starts_with(b"abcd") && filling.ends_with(b"1x"));
+    extended(lane.create().unwrap());
+    let texts = Pool::<String>::open(shape(1)).unwrap();
+    let lane = texts.lane().unwrap();
+    let mut text = lane.create().unwrap();
+    to_fmt(&mut text);
+    text.extend(["y", "z"]);
+    text.truncate(3);
+    assert_eq!(*text, "1xy");
+    let text = text.downgrade();
+    let part: &str = text.as_ref();
+    assert_eq!((part, text.to_string().as_str()), ("1xy", "1xy"));
 }
 
 #[test]
 #[should_panic(expected = "9 bytes of a room of 8")]
 fn more_than_the_room() {
-    let pool = Pool::open(shape(1)).unwrap();
+    let pool = Pool::<Buffer>::open(shape(1)).unwrap();
     let lane = pool.lane().unwrap();
     let mut filling = lane.create().unwrap();
     filling.room(8).unwrap();
@@ -151,7 +205,7 @@ fn more_than_the_room() {
 #[test]
 #[should_panic(expected = "1 bytes of a room of 0")]
 fn a_room_that_an_append_ended() {
-    let pool = Pool::open(shape(1)).unwrap();
+    let pool = Pool::<Buffer>::open(shape(1)).unwrap();
     let lane = pool.lane().unwrap();
     let mut filling = lane.create().unwrap();
     filling.room(8).unwrap();
@@ -179,7 +233,7 @@ fn readers_of_all_kinds() {
             Ok(to.len())
         }
     }
-    let pool = Pool::open(shape(1)).unwrap();
+    let pool = Pool::<Buffer>::open(shape(1)).unwrap();
     let lane = pool.lane().unwrap();
     let mut filling = lane.create().unwrap();
     assert_eq!(
@@ -201,7 +255,7 @@ fn readers_of_all_kinds() {
 
 #[test]
 fn a_filling_is_not_found() {
-    let pool = Pool::open(shape(2)).unwrap();
+    let pool = Pool::<Buffer>::open(shape(2)).unwrap();
     let (lane, other) = (pool.lane().unwrap(), pool.lane().unwrap());
     let mut filling = lane.create().unwrap();
     filling.append(b"not yet").unwrap();
@@ -212,22 +266,29 @@ fn a_filling_is_not_found() {
     }
     assert_eq!(filling.publish(), key);
     assert_eq!(&other.get(key).unwrap()[..], b"not yet");
-    let left = lane.create().unwrap();
-    let key = left.key();
-    drop(left);
-    assert!(other.get(key).is_none() && !other.clear(key));
+    for left in [false, true] {
+        let filling = lane.create().unwrap();
+        let key = filling.key();
+        if left {
+            filling.leave();
+        } else {
+            drop(filling);
+        }
+        assert!(other.get(key).is_none() && !other.clear(key));
+    }
 }
 
+/// As many fillings as the lane has places.
 #[test]
-fn sixteen_fillings() {
-    let pool = Pool::open(Shape {
+fn many_fillings_at_once() {
+    let pool = Pool::<Buffer>::open(Shape {
         first_page: 32,
         ..shape(1)
     })
     .unwrap();
     let lane = pool.lane().unwrap();
-    let mut fillings: Vec<_> = (0..16).map(|_| lane.create().unwrap()).collect();
-    assert_eq!(lane.create().err(), Some(CreateError::Fillings));
+    let mut fillings: Vec<_> = (0..96).map(|_| lane.create().unwrap()).collect();
+    assert_eq!(lane.create().err(), Some(CreateError::Full));
     for (number, filling) in fillings.iter_mut().enumerate() {
         filling.append(&[number as u8; 100]).unwrap();
     }
@@ -239,7 +300,7 @@ fn sixteen_fillings() {
 
 #[test]
 fn several_references_at_once() {
-    let pool = Pool::open(shape(2)).unwrap();
+    let pool = Pool::<Buffer>::open(shape(2)).unwrap();
     let (lane, other) = (pool.lane().unwrap(), pool.lane().unwrap());
     let keys: Vec<_> = (0..5).map(|number| put(&lane, &[number; 40])).collect();
     let references: Vec<_> = keys
@@ -263,7 +324,7 @@ fn several_references_at_once() {
         copied.append(bytes).unwrap();
     }
     assert_eq!(copied.len(), 400);
-    copied.discard();
+    drop(copied);
     drop(references);
     drop((lane, other));
     let census = pool.close();
@@ -276,7 +337,7 @@ fn several_references_at_once() {
 #[test]
 #[should_panic(expected = "1,048,575 references")]
 fn too_many_references() {
-    let pool = Pool::open(shape(1)).unwrap();
+    let pool = Pool::<Buffer>::open(shape(1)).unwrap();
     let lane = pool.lane().unwrap();
     let key = lane.create().unwrap().publish();
     let mut references = Vec::new();
@@ -287,7 +348,7 @@ fn too_many_references() {
 
 #[test]
 fn an_empty_buffer() {
-    let pool = Pool::open(shape(1)).unwrap();
+    let pool = Pool::<Buffer>::open(shape(1)).unwrap();
     let lane = pool.lane().unwrap();
     let first = lane.create().unwrap().downgrade();
     assert_eq!(&first[..], b"");
@@ -296,23 +357,24 @@ fn an_empty_buffer() {
 
 #[test]
 fn wrong_keys_find_nothing() {
-    let pool = Pool::open(Shape { tag: 5, ..shape(2) }).unwrap();
-    let other = Pool::open(Shape { tag: 6, ..shape(2) }).unwrap();
+    let pool = Pool::<Buffer>::open(Shape { tag: 5, ..shape(2) }).unwrap();
+    let other = Pool::<Buffer>::open(Shape { tag: 6, ..shape(2) }).unwrap();
     let (lane, stranger) = (pool.lane().unwrap(), other.lane().unwrap());
     let key = put(&lane, b"here");
     assert!(stranger.get(key).is_none() && !stranger.clear(key));
     let wrong = (0..64)
         .map(|bit| u64::from(key) ^ 1 << bit)
-        .chain([0, 1, u64::MAX]);
+        .chain([1, u64::MAX]);
     for number in wrong {
-        assert!(lane.get(Key::from(number)).is_none() && !lane.clear(Key::from(number)));
+        let key = Key::try_from(number).unwrap();
+        assert!(lane.get(key).is_none() && !lane.clear(key));
     }
     assert!(lane.clear(key));
 }
 
 #[test]
 fn reuse_keeps_the_memory() {
-    let pool = Pool::open(single(1)).unwrap();
+    let pool = Pool::<Buffer>::open(single(1)).unwrap();
     let lane = pool.lane().unwrap();
     let first = put(&lane, &[1; 1000]);
     let at = lane.get(first).unwrap().as_ptr();
@@ -330,8 +392,11 @@ fn reuse_keeps_the_memory() {
 #[test]
 fn a_get_beside_a_clear() {
     const ROUNDS: usize = 500;
-    let pool = Pool::open(shape(4)).unwrap();
-    let (gate, key) = (Barrier::new(4), std::sync::Mutex::new(Key::from(0)));
+    let pool = Pool::<Buffer>::open(shape(4)).unwrap();
+    let (gate, key) = (
+        Barrier::new(4),
+        std::sync::Mutex::new(Key::try_from(1).unwrap()),
+    );
     let found: usize = thread::scope(|scope| {
         let readers: Vec<_> = (0..3)
             .map(|_| {
@@ -372,7 +437,7 @@ fn a_get_beside_a_clear() {
 #[test]
 fn of_clears_at_once_one_says_yes() {
     const ROUNDS: usize = 500;
-    let pool = Pool::open(shape(4)).unwrap();
+    let pool = Pool::<Buffer>::open(shape(4)).unwrap();
     let lane = pool.lane().unwrap();
     let keys: Vec<_> = (0..12).map(|_| put(&lane, b"x")).collect();
     drop(lane);
@@ -418,7 +483,7 @@ fn of_clears_at_once_one_says_yes() {
 /// While another thread has a reference a cleared buffer stays, and its place isn't used again.
 #[test]
 fn a_clear_while_another_thread_holds() {
-    let pool = Pool::open(single(2)).unwrap();
+    let pool = Pool::<Buffer>::open(single(2)).unwrap();
     let lane = pool.lane().unwrap();
     let key = put(&lane, b"held");
     let (held, hold) = mpsc::channel();
@@ -447,9 +512,9 @@ fn a_clear_while_another_thread_holds() {
 #[test]
 fn a_downgrade_beside_a_clear() {
     const ROUNDS: usize = 500;
-    let pool = Pool::open(shape(2)).unwrap();
+    let pool = Pool::<Buffer>::open(shape(2)).unwrap();
     let gate = Barrier::new(2);
-    let key = std::sync::Mutex::new(Key::from(0));
+    let key = std::sync::Mutex::new(Key::try_from(1).unwrap());
     thread::scope(|scope| {
         scope.spawn(|| {
             let lane = pool.lane().unwrap();
@@ -481,7 +546,7 @@ fn a_downgrade_beside_a_clear() {
 /// A clear on another lane gives the place back to the shard that it is of, and to no other.
 #[test]
 fn a_clear_elsewhere_gives_the_place_back() {
-    let pool = Pool::open(single(3)).unwrap();
+    let pool = Pool::<Buffer>::open(single(3)).unwrap();
     let (lane, mut away, mut third) = (
         pool.lane().unwrap(),
         pool.lane().unwrap(),
@@ -515,14 +580,14 @@ fn a_clear_elsewhere_gives_the_place_back() {
 
 #[test]
 fn a_close_counts_what_is_left() {
-    let pool = Pool::open(Shape {
+    let pool = Pool::<Buffer>::open(Shape {
         last_generation: 2,
         ..shape(2)
     })
     .unwrap();
     let (lane, other) = (pool.lane().unwrap(), pool.lane().unwrap());
     for _ in 0..2 {
-        lane.create().unwrap().discard();
+        drop(lane.create().unwrap());
     }
     put(&lane, b"present");
     let held = put(&lane, b"present too, with a reference");
@@ -530,25 +595,62 @@ fn a_close_counts_what_is_left() {
     std::mem::forget(other.get(held).unwrap());
     std::mem::forget(other.get(marked).unwrap());
     assert!(lane.clear(marked));
-    drop(lane.create().unwrap());
+    lane.create().unwrap().leave();
     std::mem::forget(lane.create().unwrap());
     std::mem::forget(other);
     drop(lane);
+    let now = pool.census();
     let census = pool.close();
+    assert_eq!(now, census);
     assert_eq!((census.present, census.marked, census.filling), (2, 1, 2));
     assert_eq!(census.free + census.unopened + census.retired, 24 - 5);
 }
 
+/// On four threads at once the numbers add up at each look; at the end they are what the close counts.
+#[test]
+fn a_census_beside_calls() {
+    let pool = Pool::<Buffer>::open(shape(4)).unwrap();
+    let ended = std::sync::atomic::AtomicUsize::new(0);
+    let sum = |census: pardz::Census| {
+        let idle = census.free + census.unopened + census.filling;
+        idle + census.present + census.marked + census.retired
+    };
+    thread::scope(|scope| {
+        for number in 0..3 {
+            let (lane, ended) = (pool.lane().unwrap(), &ended);
+            scope.spawn(move || {
+                let mut keys = Vec::new();
+                for round in 0..2000 {
+                    match lane.put(&[number; 20]) {
+                        Ok(key) => keys.push(key),
+                        Err(_) => keys.drain(..6).for_each(|key| assert!(lane.clear(key))),
+                    }
+                    if round % 7 == 0 {
+                        drop(lane.create());
+                    }
+                }
+                ended.fetch_add(1, std::sync::atomic::Ordering::SeqCst);
+            });
+        }
+        while ended.load(std::sync::atomic::Ordering::SeqCst) < 3 {
+            assert_eq!(sum(pool.census()), 48);
+        }
+    });
+    let now = pool.census();
+    assert!(now.present > 0 && now.unopened == 12 && now.filling == 0);
+    assert_eq!(now, pool.close());
+}
+
 #[test]
 fn a_place_is_retired() {
-    let pool = Pool::open(Shape {
+    let pool = Pool::<Buffer>::open(Shape {
         last_generation: 3,
         ..single(1)
     })
     .unwrap();
     let lane = pool.lane().unwrap();
     for _ in 0..3 {
-        lane.create().unwrap().discard();
+        drop(lane.create().unwrap());
     }
     assert_eq!(lane.create().err(), Some(CreateError::Full));
     drop(lane);
@@ -558,7 +660,7 @@ fn a_place_is_retired() {
 #[test]
 fn a_pool_that_is_dropped_is_closed() {
     for _ in 0..100 {
-        let pool = Pool::open(shape(4)).unwrap();
+        let pool = Pool::<Buffer>::open(shape(4)).unwrap();
         let lane = pool.lane().unwrap();
         put(&lane, &[1; 500]);
         std::mem::forget(lane.create().unwrap());
@@ -569,7 +671,7 @@ fn a_pool_that_is_dropped_is_closed() {
 #[test]
 fn four_threads_pass_keys_round() {
     const ROUNDS: u64 = 10_000;
-    let pool = Pool::open(Shape {
+    let pool = Pool::<Buffer>::open(Shape {
         first_page: 32,
         ..shape(4)
     })
@@ -629,4 +731,24 @@ fn check(lane: &Lane, key: Key) -> u64 {
         vec![(number >> 24) as u8; (number >> 24) as usize % 90]
     );
     1
+}
+
+#[test]
+fn no_two_threads_have_one_lane() {
+    let pool = Pool::<Buffer>::open(shape(4)).unwrap();
+    let is_taken: [AtomicBool; 4] = std::array::from_fn(|_| AtomicBool::new(false));
+    let start = Barrier::new(6);
+    thread::scope(|scope| {
+        for _ in 0..6 {
+            scope.spawn(|| {
+                start.wait();
+                for _ in 0..50_000 {
+                    let Some(lane) = pool.lane() else { continue };
+                    let is_taken = &is_taken[lane.number() as usize];
+                    assert!(!is_taken.swap(true, SeqCst));
+                    is_taken.store(false, SeqCst);
+                }
+            });
+        }
+    });
 }

@@ -1,6 +1,5 @@
 //! Objects of types of one's own.
-use pardz::typed::{Clear, Pool};
-use pardz::{CreateError, Key, OpenError, Shape};
+use pardz::{Clear, CreateError, Key, OpenError, Pool, Shape};
 use std::sync::atomic::{AtomicUsize, Ordering::SeqCst};
 use std::sync::{mpsc, Arc, Barrier, Mutex};
 use std::thread;
@@ -105,39 +104,12 @@ fn each_object_is_dropped_once() {
     keys.into_iter().for_each(|key| assert!(lane.clear(key)));
     assert_eq!(ALIVE.load(SeqCst), 6);
     drop(lane.create().unwrap());
+    lane.create().unwrap().leave();
     std::mem::forget(lane.create().unwrap().downgrade());
     drop(lane);
     let census = pool.close();
     assert_eq!((census.filling, census.present), (1, 1));
     assert_eq!(ALIVE.load(SeqCst), 0);
-}
-
-#[test]
-fn a_panic_in_an_objects_code_loses_its_place_alone() {
-    #[derive(Default)]
-    struct Touchy(bool);
-    impl Clear for Touchy {
-        fn clear(&mut self) {
-            assert!(!self.0, "on purpose");
-        }
-    }
-    let pool = Pool::<Touchy>::open(Shape {
-        first_page: 2,
-        pages: 1,
-        ..shape(1)
-    })
-    .unwrap();
-    let lane = pool.lane().unwrap();
-    let mut first = lane.create().unwrap();
-    first.0 = true;
-    lane.clear(first.publish());
-    lane.create().unwrap().discard();
-    let panicked =
-        std::panic::catch_unwind(std::panic::AssertUnwindSafe(|| lane.create().map(drop)));
-    assert!(panicked.is_err());
-    lane.create().unwrap().discard();
-    drop(lane);
-    assert_eq!(pool.close().filling, 1);
 }
 
 /// Readers on three threads, one of which clears: all see the whole object.
@@ -146,7 +118,7 @@ fn readers_beside_a_clear() {
     const ROUNDS: u64 = 500;
     let pool = Pool::<Vec<u64>>::open(shape(4)).unwrap();
     let gate = Barrier::new(4);
-    let key = Mutex::new(Key::from(0));
+    let key = Mutex::new(Key::try_from(1).unwrap());
     let cleared = AtomicUsize::new(0);
     thread::scope(|scope| {
         for _ in 0..3 {
@@ -209,4 +181,101 @@ fn owned_lanes_pass_objects() {
     reading.join().unwrap();
     let census = Arc::into_inner(pool).unwrap().close();
     assert_eq!(census.free + census.unopened, 24);
+}
+
+thread_local! {
+    /// What was emptied on this thread.
+    static EMPTIED: std::cell::RefCell<Vec<u64>> = const { std::cell::RefCell::new(Vec::new()) };
+}
+
+#[derive(Default)]
+struct Told(u64);
+
+impl Clear for Told {
+    fn clear(&mut self) {
+        EMPTIED.with_borrow_mut(|emptied| emptied.push(self.0));
+        self.0 = 0;
+    }
+}
+
+/// An object is emptied when the last lets go, on its thread, before its call returns.
+#[test]
+fn the_last_one_empties() {
+    let pool = Pool::<Told>::open(shape(2)).unwrap();
+    let lane = pool.lane().unwrap();
+    let here = || EMPTIED.take();
+    let key = lane.create_with(|told| told.0 = 1).unwrap();
+    assert!(lane.clear(key));
+    assert_eq!(here(), [1]);
+    let told = lane.create_with(|told| told.0 = 2).unwrap();
+    let (first, second) = (lane.get(told).unwrap(), lane.get(told).unwrap());
+    assert!(lane.clear(told) && here().is_empty());
+    drop(first);
+    assert!(here().is_empty() && second.0 == 2);
+    drop(second);
+    assert_eq!(here(), [2]);
+    let mut filling = lane.create().unwrap();
+    filling.0 = 3;
+    drop(filling);
+    assert_eq!(here(), [3]);
+    let mut filling = lane.create().unwrap();
+    filling.0 = 4;
+    filling.leave();
+    assert_eq!(here(), [4]);
+    let told = lane.create_with(|told| told.0 = 5).unwrap();
+    let held = lane.get(told).unwrap();
+    thread::scope(|scope| {
+        let other = pool.lane().unwrap();
+        scope.spawn(move || {
+            let also = other.get(told).unwrap();
+            assert!(other.clear(told));
+            drop(also);
+            assert!(EMPTIED.take().is_empty());
+        });
+    });
+    assert!(here().is_empty());
+    drop(held);
+    assert_eq!(here(), [5]);
+}
+
+/// However many hold and clear at once, each object is emptied once.
+#[test]
+fn each_is_emptied_once() {
+    const ROUNDS: u64 = 3000;
+    let pool = Pool::<Told>::open(shape(4)).unwrap();
+    let keys: Vec<Mutex<Option<Key>>> = (0..4).map(|_| Mutex::default()).collect();
+    let mut emptied: Vec<u64> = thread::scope(|scope| {
+        let threads: Vec<_> = (0..4)
+            .map(|number| {
+                let (lane, keys) = (pool.lane().unwrap(), &keys);
+                scope.spawn(move || {
+                    for round in 0..ROUNDS {
+                        let mut told = lane.create().unwrap();
+                        told.0 = round * 4 + number + 1;
+                        let told = told.downgrade();
+                        let place = &keys[(round % 4) as usize];
+                        let other = place.lock().unwrap().replace(told.key());
+                        let Some(other) = other else { continue };
+                        let held = lane.get(other);
+                        assert!(held.is_some() && lane.clear(other));
+                        drop(told);
+                        drop(held);
+                    }
+                    EMPTIED.take()
+                })
+            })
+            .collect();
+        threads
+            .into_iter()
+            .flat_map(|thread| thread.join().unwrap())
+            .collect()
+    });
+    let lane = pool.lane().unwrap();
+    for key in keys {
+        assert!(lane.clear(key.into_inner().unwrap().unwrap()));
+    }
+    emptied.extend(EMPTIED.take());
+    emptied.sort_unstable();
+    let all: Vec<u64> = (1..=4 * ROUNDS).collect();
+    assert_eq!(emptied, all);
 }

@@ -1,6 +1,5 @@
 //! Drawn calls, beside a model.
-use pardz::typed::{Filling, Lane, Pool, Ref};
-use pardz::{CreateError, Key, Shape};
+use pardz::{Buffer, CreateError, Filling, Key, Lane, Pool, Ref, Shape};
 use std::collections::HashMap;
 use std::io::Write;
 
@@ -19,7 +18,7 @@ impl Draws {
 /// A filling is what a vector is that is filled in the same ways.
 #[test]
 fn fillings_beside_a_vector() {
-    let pool = pardz::Pool::open(Shape {
+    let pool = Pool::<Buffer>::open(Shape {
         lanes: 1,
         first_page: 2,
         pages: 1,
@@ -45,10 +44,7 @@ fn fillings_beside_a_vector() {
                 1 => {
                     filling.write_all(&bytes).unwrap();
                     model.extend_from_slice(&bytes);
-                    // A write of nothing makes no call.
-                    if !bytes.is_empty() {
-                        lent.clear();
-                    }
+                    lent.clear();
                 }
                 2 => {
                     let room = filling.room(bytes.len()).unwrap();
@@ -97,11 +93,11 @@ impl<'l> Run<'l> {
 
     fn key(&mut self) -> Key {
         match self.draws.below(8) {
-            0 => Key::from(self.draws.0),
+            0 => Key::try_from(self.draws.0).unwrap(),
             1 if !self.fillings.is_empty() => {
                 self.fillings[self.draws.below(self.fillings.len())].key()
             }
-            _ if self.old.is_empty() => Key::from(0),
+            _ if self.old.is_empty() => Key::try_from(1).unwrap(),
             _ => self.old[self.old.len() - 1 - self.draws.below(self.old.len().min(40))],
         }
     }
@@ -114,7 +110,7 @@ impl<'l> Run<'l> {
                 list.extend((0..self.draws.below(9) as u64).map(|item| number ^ item));
                 self.fillings.push(list);
             }
-            Err(error) => assert!(matches!(error, CreateError::Full | CreateError::Fillings)),
+            Err(error) => assert_eq!(error, CreateError::Full),
         }
     }
 
@@ -165,7 +161,7 @@ impl<'l> Run<'l> {
 
 #[test]
 fn objects_beside_a_map() {
-    let pool = Pool::open(Shape {
+    let pool = Pool::<Vec<u64>>::open(Shape {
         lanes: 2,
         first_page: 2,
         pages: 3,
@@ -197,7 +193,7 @@ fn objects_beside_a_map() {
         .iter()
         .all(|reference| **reference == run.held[&reference.key()]));
     let present = run.present.len();
-    run.fillings.drain(..).for_each(Filling::discard);
+    run.fillings.drain(..).for_each(drop::<Filling<Vec<u64>>>);
     drop(run);
     drop(lanes);
     let census = pool.close();

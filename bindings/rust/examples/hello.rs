@@ -1,4 +1,6 @@
-//! What README shows of Rust: one thread fills and publishes, and another reads and clears.
+//! One thread fills and publishes, and another reads and clears.
+//!
+//!     cargo run --example hello
 use pardz::{Key, Pool, Shape};
 use std::error::Error;
 use std::io::Write;
@@ -7,7 +9,7 @@ use std::thread;
 
 fn publish(pool: &Pool, to: Sender<Key>) -> Result<(), Box<dyn Error>> {
     let lane = pool.lane().ok_or("a lane for each thread")?;
-    let mut filling = lane.create()?; // an empty buffer, with the memory of its last use
+    let mut filling = lane.create()?; // an empty buffer, with memory of an earlier use
     write!(filling, "hello {}", 5)?;
     to.send(filling.publish())?;
     Ok(())
@@ -30,8 +32,10 @@ fn main() -> Result<(), Box<dyn Error>> {
     })?;
     let (to, from) = channel();
     thread::scope(|scope| {
-        scope.spawn(|| read(&pool, from));
-        publish(&pool, to)
+        let reader = scope.spawn(|| read(&pool, from));
+        publish(&pool, to)?;
+        reader.join().expect("no panic").ok_or("a lane and a key")?;
+        Ok::<_, Box<dyn Error>>(())
     })?;
     assert_eq!(pool.close().present, 0);
     Ok(())

@@ -1,0 +1,391 @@
+#!/usr/bin/env python3
+"""Looks at the erased pool by another method than the one that made it: goes along each file and its source, token by token.
+
+usage: tokens.py [CRATES [OUT]]
+
+Each token of the output must stand in the source, in the same order, but for the rewrites that are listed here; and what the
+source has between them must be of the kinds that are listed here. It prints both lists with how often each came.
+"""
+import collections
+import os
+import re
+import sys
+
+ROOT = os.path.dirname(os.path.dirname(os.path.dirname(os.path.abspath(__file__))))
+POOL = {"keybits", "slotcell", "placecell", "placerows", "freelists", "poolsteps", "poolcalls", "shardpool"}
+PROOF_CRATES = {"seqpool", "steplaws", "sharelaws"}
+PROOF_TRAITS = {"Model", "Play", "Split", "Join", "TableRule"}
+SHIM_NAMES = {"Box", "Vec", "impossible", "no_bytes", "Gapless"}
+SHIM_FROM = {"std::alloc", "std::snapshot", "core::slots", "core::mem", "atomic_table", "arrayvec"}
+OPEN, CLOSE = dict(zip("([{", ")]}")), set(")]}")
+TOKEN = re.compile(r"\"(?:[^\"\\]|\\.)*\"|'[a-z_]+\b(?!')|\w+|::|->|=>|\.\.|\S")
+
+
+def tokens_of(text):
+    return TOKEN.findall(re.sub(r"//[^\n]*", "", text))
+
+
+def imports_of(tokens, crate):
+    """The imports as {name or `name as alias`: path}, the paths as the sources have them; and the tokens without them."""
+    found, rest, i = {}, [], 0
+    while i < len(tokens):
+        start = i
+        if tokens[i] == "pub" and tokens[i + 1 : i + 2] == ["use"]:
+            i += 1
+        if tokens[i] != "use" or start and tokens[start - 1] not in (";", "}", "]"):
+            rest.append(tokens[start])
+            i = start + 1
+            continue
+        end = tokens.index(";", i)
+        text = " ".join(tokens[i + 1 : end])
+        parts = re.fullmatch(r"(?:(\w+(?: :: \w+)*) :: )?(?:{ (.*?),? }|(\w+(?: as \w+)?))", text)
+        if not parts:
+            raise SystemExit(f"FAIL {crate}: an import `{text}`")
+        for name in (parts.group(2) or parts.group(3)).split(","):
+            found[name.strip()] = source_path(parts.group(1) or "", crate)
+        i = end + 1
+    return found, rest
+
+
+def source_path(path, crate):
+    path = path.replace(" ", "")
+    if path.startswith("crate::erased::"):
+        path = path[len("crate::erased::") :]
+        own = path == crate or path.startswith(crate + "::")
+        return "crate" + path[len(crate) :] if own else path
+    return path
+
+
+class Walk:
+    """One file beside its source."""
+
+    def __init__(self, name, crate, source, output, gone):
+        self.name, self.crate = name, crate
+        self.told, self.s = imports_of(tokens_of(source), crate)
+        self.gone = {n: kind for (c, n), kind in gone.items() if c == crate}
+        for n, path in self.told.items():
+            home = path.split("::")[0]
+            kind = gone.get((home, n))
+            if home in PROOF_CRATES:
+                kind = "law" if n.endswith("_law") else "type of proofs"
+            if kind and home != "crate":
+                self.gone[n] = kind
+        self.made, self.o = imports_of(tokens_of(output), crate)
+        bounds = zip(self.s, self.s[1:], self.s[2:])
+        self.parameters = {name for name, colon, bound in bounds if colon == ":" and self.gone.get(bound) == "trait"}
+        self.left, self.rewritten = collections.Counter(), collections.Counter()
+        self.swaps = {}
+
+    def fail(self, i, j, why="stands there without a rule"):
+        near = " ".join(self.s[max(0, i - 6) : i + 12])
+        raise SystemExit(f"FAIL {self.name}: `{' '.join(self.o[j:j + 8])}` {why}; the source has `{near}`")
+
+    def close(self, i):
+        """Behind the bracket that closes the one at i."""
+        depth = 0
+        while True:
+            depth += (self.s[i] in OPEN) - (self.s[i] in CLOSE)
+            i += 1
+            if depth == 0:
+                return i
+
+    def angles(self, i):
+        depth = 0
+        while True:
+            depth += (self.s[i] == "<") - (self.s[i] == ">")
+            i += 1
+            if depth == 0:
+                return i
+
+    def starts(self, i, text):
+        words = text.split()
+        return self.s[i : i + len(words)] == words
+
+    def imports(self):
+        for name, path in self.made.items():
+            if path == "crate::shim":
+                if name not in SHIM_NAMES and self.told.get(name) not in SHIM_FROM:
+                    raise SystemExit(f"FAIL {self.name}: an import of {name} from the shim")
+            elif self.told.get(name) != path:
+                raise SystemExit(f"FAIL {self.name}: an import of {path}::{name}")
+        words = set(self.o) - {"Send", "Sync"}
+        for name in set(self.told) - set(self.made):
+            self.left["import"] += 1
+            if name.split(" as ")[-1] in words:
+                raise SystemExit(f"FAIL {self.name}: the import of {name} is left out")
+
+    def run(self):
+        self.imports()
+        i = j = 0
+        while i < len(self.s) or j < len(self.o):
+            step = self.left_out(i) if i < len(self.s) else None
+            if step:
+                i, kind = step
+                self.left[kind] += 1
+            elif i in self.swaps and self.o[j : j + 1] == [self.swaps[i]]:
+                i, j = i + 1, j + 1
+            elif i < len(self.s) and j < len(self.o) and self.s[i] == self.o[j]:
+                i, j = i + 1, j + 1
+            else:
+                i, j = self.rewrite(i, j)
+
+    # What may be left out
+
+    def left_out(self, i):
+        """(behind it, its kind) of something that may be left out, which begins at i."""
+        s, word = self.s, self.s[i]
+        k = i
+        while s[k : k + 1] == ["#"]:
+            k = self.close(k + 1 + (s[k + 1] == "!"))
+        if word == "#" and s[i + 1 + (s[i + 1] == "!") + 1] == "tactic":
+            return self.close(i + 1 + (s[i + 1] == "!")), "attribute of tactics"
+        if self.starts(i, "# [ derive ( Drop ) ]"):
+            return self.close(i + 1), "derive of Drop"
+        k += s[k : k + 1] == ["pub"]
+        if s[k - 1] == "pub" and s[k] == "(":
+            k = self.close(k)
+        if s[k] == "ghost":
+            return self.ghost(k)
+        if word in ("requires", "ensures"):
+            return self.close(s.index("{", i)), word
+        if self.starts(i, "where T : Drop ,"):
+            return i + 5, "bound Drop"
+        if word in (":", "+") and s[i + 1] == "Drop" and s[i + 2] != "for":
+            return i + 2, "bound Drop"
+        if s[k] in ("struct", "enum", "trait", "fn", "mod") and s[k + 1] in self.gone:
+            return self.item(k), self.gone[s[k + 1]]
+        if s[k] == "impl":
+            return self.impl(i, k)
+        if self.starts(i, "self . table . shared . load :: <") and s[i - 1] in (";", "{"):
+            end = self.angles(i + 8)
+            if self.starts(end, "( hand , look_word ( lane ) ) ;"):
+                return end + 9, "look whose answer nobody takes"
+        if self.starts(i, "write_all ( & mut row , words ) ;") and self.rewritten["vector that becomes a row"]:
+            return i + 9, "vector that becomes a row"
+        if self.starts(i + 1, "( ) ;") and self.gone.get(word) == "law":
+            return i + 4, "call of a law"
+        return self.types(i)
+
+    def ghost(self, k):
+        s = self.s
+        if s[k + 1] == "use":
+            return s.index(";", k) + 1, "ghost use"
+        end = self.close(s.index("{", k))
+        if s[end] == "by":
+            end = self.close(end + 1)
+        kind = "ghost member" if s[end] == ";" else "ghost field"
+        return end + (s[end] in (";", ",")), kind
+
+    def item(self, k):
+        while self.s[k] not in ("{", ";"):
+            k = self.angles(k) if self.s[k] == "<" else self.close(k) if self.s[k] == "(" else k + 1
+        if self.s[k] == ";":
+            return k + 1
+        end = self.close(k)
+        while self.s[end - 1 : end] == ["}"] and self.s[end : end + 1] and self.s[end] in ("ensures", "requires", "{"):
+            end = self.close(self.s.index("{", end))
+        return end
+
+    def impl(self, i, k):
+        k += 1
+        if self.s[k] == "<":
+            k = self.angles(k)
+        trait = self.s[k]
+        head = self.s[k : self.s.index("{", k)]
+        if "for" in head and (trait in PROOF_TRAITS or self.gone.get(trait) == "trait"):
+            body = self.close(self.s.index("{", k))
+            return body, "impl of a trait of proofs"
+        if trait == "Drop" and "for" in head:
+            end = self.close(self.s.index("{", k))
+            forgets = "let _leaked = unsafe { ManuallyDrop :: new_unchecked ( self ) } ; } }".split()
+            if self.s[end - len(forgets) - 1 : end] == ["{", *forgets]:
+                return end, "drop that forgets"
+        return None
+
+    def types(self, i):
+        """Parameters, arguments and bounds of types that proofs alone need."""
+        s = self.s
+        if self.starts(i, ":: <") and s[i - 2] in (".", "self", "::"):
+            end = self.angles(i + 1)
+            if s[end] == "(" and any(w == "Brand" or w in self.gone or w in self.parameters for w in s[i + 2 : end]):
+                return end, "type argument of a call"
+        if s[i] == "<" and s[i + 2] == ":" and self.gone.get(s[i + 3]) == "trait" and s[i + 4] == ">":
+            return i + 5, "parameter of proofs"
+        if s[i] == "," and s[i + 1] == "View":
+            end = i
+            while s[end] != ">":
+                end += 1
+            if set(s[i:end]) <= {",", "View", "Board", "PoolRule", "Global"}:
+                return end, "type argument of proofs"
+        return None
+
+    # What may be written otherwise
+
+    def rewrite(self, i, j):
+        for rule in (self.comma, self.path, self.words, self.derive, self.inline, self.alike, self.inserted):
+            step = rule(i, j)
+            if step:
+                kind, i, j = step
+                if kind:
+                    self.rewritten[kind] += 1
+                return i, j
+        self.fail(i, j)
+
+    def comma(self, i, j):
+        """A comma in front of a closing bracket, which rustfmt sets and takes."""
+        s, o = self.s[i : i + 2], self.o[j : j + 2]
+        if s[:1] == [","] and s[1:] and s[1] in (CLOSE | {">"}) and o[:1] == s[1:]:
+            return "", i + 1, j
+        if o[:1] == [","] and o[1:] and o[1] in CLOSE and (s[:1] == o[1:] or self.swaps.get(i) == o[1]):
+            return "", i, j + 1
+        return None
+
+    def path(self, i, j):
+        if self.o[j : j + 4] == ["crate", "::", "erased", "::"]:
+            if self.s[i : i + 2] == ["crate", "::"] and self.o[j + 4 : j + 6] == [self.crate, "::"]:
+                return "path", i + 2, j + 6
+            if self.s[i : i + 1] and self.s[i] in POOL and self.s[i] == self.o[j + 4]:
+                return "path", i, j + 4
+        return None
+
+    def words(self, i, j):
+        s, o = self.s, self.o
+        table = [
+            ("unreachable!", "unreachable !", "impossible !"),
+            ("writer of fmt", "fmt < W : fmt :: Write > (", "fmt ("),
+            ("writer of fmt", "< W : fmt :: Write > (", "("),
+            ("", "W > )", "'_ > )"),
+            ("clone that can't fail", "Ok ( * self )", "* self"),
+            ("words that become the table's", ". as_slice ( ) , slots", ", slots"),
+            ("vector that becomes a row", ". as_slice ( ) ) } ) .", ") } ) ."),
+        ]
+        for kind, old, new in table:
+            old, new = old.split(), new.split()
+            if s[i : i + len(old)] == old and o[j : j + len(new)] == new:
+                return kind, i + len(old), j + len(new)
+        if self.starts(i, "Result <") and "clone" in s[i - 6 : i]:
+            end = self.angles(i + 1)
+            kept = s[i + 2 : end - 3]
+            if s[end - 3 : end] == [",", "AllocError", ">"] and o[j : j + len(kept)] == kept:
+                return "", end, j + len(kept)
+        if self.starts(i, "vec ! [ in") and o[j : j + 4] == ["Vec", "::", "filled", "("]:
+            end = self.close(i + 2)
+            self.swaps[end - 1] = ")"
+            self.swaps.update({k: "," for k in range(i, end) if s[k] == ";"})
+            return "vec![in ..]", i + 4, j + 4
+        return None
+
+    def inline(self, i, j):
+        """A word on which calls are to be part of their callers."""
+        word = "# [ inline ( always ) ]".split()
+        if self.o[j : j + 7] == word:
+            return "inline", i, j + 7
+        if self.o[j : j + 4] == word[3:] and self.s[i - 1 : i + 1] == ["inline", "]"]:
+            return "inline", i + 1, j + 4
+        if self.o[j : j + 4] == "# [ inline ]".split():
+            return "inline", i, j + 4
+        return None
+
+    def derive(self, i, j):
+        """`, Drop` at the end of a derive."""
+        if self.starts(i, ", Drop ) ]") and self.o[j : j + 2] == [")", "]"]:
+            return "derive of Drop", i + 2, j
+        return None
+
+    def alike(self, i, j):
+        """A loop that pushes values that are alike."""
+        s, o = self.s, self.o
+        if not self.starts(i, "for _ in 0 .."):
+            return None
+        brace = s.index("{", i)
+        call = s.index("(", brace)
+        row, count, value = s[brace + 1 : call - 1], s[i + 5 : brace], s[call + 1 : self.close(call) - 1]
+        if s[call - 1] != "push_reserved" or s[self.close(call) :][:2] != [";", "}"]:
+            return None
+        want = row + ["push_alike", "("] + count + [",", "|", "|"] + value + [")", ";"]
+        got, end = [], j
+        while end < len(o) and len(got) < len(want):
+            if o[end] == "," and o[end + 1] in CLOSE and want[len(got)] != ",":
+                end += 1
+                continue
+            got.append(o[end])
+            end += 1
+        return ("row of values that are alike", self.close(brace), end) if got == want else None
+
+    def inserted(self, i, j):
+        """What the output alone has: what the compiler is asked for."""
+        o = self.o
+        text = " ".join(o[j : j + 80])
+        check = re.match(r"const _ : \( \) = assert ! \( ! std :: mem :: needs_drop :: < \w+ (?:< \( \) > )?> \( \) \) ;", text)
+        size = r"(?:1|(?:std :: mem :: size_of|no_bytes) :: < [^;+]*? > \( \))"
+        head = r"unsafe impl (?:< T > )?Gapless for \w+ (?:< T > )?{ const FIELDS : usize = "
+        gapless = re.match(head + rf"{size}(?: \+ {size})* ; }}", text)
+        for kind, found in (("asked: no drop", check), ("asked: no gap", gapless)):
+            if found:
+                return kind, i, j + len(found.group().split(" "))
+        return None
+
+
+def gone_names(sources, kept):
+    """The names that proofs alone are about, with their kinds: each is told from its own text."""
+    found = {}
+    for (crate, module), text in sources.items():
+        tokens = tokens_of(text)
+        if (crate, module) not in kept:
+            found[crate, module] = "module of proofs"
+        joined = " ".join(tokens)
+        for m in re.finditer(r"fn (\w+) \( \) (?:ensures \w* ?{[^{}]*} )+{ }", joined):
+            found[crate, m.group(1)] = "law"
+        for m in re.finditer(r"trait (\w+) { ((?:ghost [^{}]*(?:{[^{}]*})?[^{};]*; ?)+)}", joined):
+            found[crate, m.group(1)] = "trait"
+        for m in re.finditer(r"struct (\w+) (?:<[^{};]*?> )?(?:{ of : PhantomData < [^{}]* > , }|;)", joined):
+            if re.search(rf"impl (?:<[^{{}}]*?> )?(?:Play|Split|Join|TableRule) <[^{{}}]*?> for {m.group(1)}\b", joined):
+                found[crate, m.group(1)] = "type of proofs"
+        if any(f"use {name} ::" in joined for name in PROOF_CRATES) and (crate, module) not in kept:
+            for m in re.finditer(r"(?:struct|enum) (\w+)", joined):
+                found[crate, m.group(1)] = "type of proofs"
+    return found
+
+
+def main():
+    crates = sys.argv[1] if len(sys.argv) > 1 else os.path.join(ROOT, "crates")
+    out = sys.argv[2] if len(sys.argv) > 2 else os.path.join(ROOT, "bindings", "rust", "src", "erased")
+    sources, outputs = {}, {}
+    for crate in sorted(POOL):
+        for name in sorted(os.listdir(os.path.join(crates, crate, "src"))):
+            with open(os.path.join(crates, crate, "src", name), encoding="utf-8") as file:
+                sources[crate, name[:-3]] = file.read()
+        for name in sorted(os.listdir(os.path.join(out, crate))):
+            with open(os.path.join(out, crate, name), encoding="utf-8") as file:
+                outputs[crate, "lib" if name == "mod.rs" else name[:-3]] = file.read()
+    left, rewritten, total = collections.Counter(), collections.Counter(), 0
+    for key in sorted(set(outputs) - set(sources)):
+        raise SystemExit(f"FAIL {'/'.join(key)}: made from no source")
+    gone = gone_names(sources, outputs)
+    for (crate, module), text in sorted(outputs.items()):
+        walk = Walk(f"{crate}/{module}", crate, sources[crate, module], text, gone)
+        walk.run()
+        left += walk.left
+        rewritten += walk.rewritten
+        total += len(walk.o)
+    for key in sorted(set(sources) - set(outputs)):
+        only_proofs(key, sources[key], gone)
+        left["module of proofs"] += 1
+    print(f"left out: {told(left)}")
+    print(f"written otherwise: {told(rewritten)}")
+    print(f"{total} tokens in {len(outputs)} files stand in their sources, in order, but for what is left out and written otherwise")
+
+
+def only_proofs(key, text, gone):
+    """Whether a file of which nothing is left has names of proofs alone."""
+    for m in re.finditer(r"\b(?:struct|enum|trait|fn) (\w+)", " ".join(tokens_of(text))):
+        if (key[0], m.group(1)) not in gone:
+            raise SystemExit(f"FAIL {'/'.join(key)}: nothing is left of it, and {m.group(1)} isn't for proofs alone")
+
+
+def told(counts):
+    return ", ".join(f"{count} {name}" for name, count in counts.most_common())
+
+
+if __name__ == "__main__":
+    main()

@@ -1,0 +1,347 @@
+//! Buffers of bytes.
+use crate::clear::Clear;
+use crate::errors::{CreateError, MemoryRefused};
+use crate::key::Key;
+use crate::lane::Lane;
+use std::borrow::Borrow;
+use std::fmt;
+use std::io::{self, Read, Write};
+use std::ops::Deref;
+
+/// A buffer of bytes, which is appended to by [`append`](Buffer::append), as an [`io::Write`] or as a [`fmt::Write`], or written to
+/// in place by [`room`](Buffer::room); it is read as a slice. It answers a refusal of memory, where a `Vec<u8>` ends the process
+/// (but for [`Extend`], which does so too).
+///
+/// ```
+/// # use pardz::{Buffer, Pool, Shape};
+/// use std::io::Write;
+///
+/// let pool = Pool::<Buffer>::open(Shape::default())?;
+/// let lane = pool.lane().expect("a lane");
+/// let mut filling = lane.create()?;
+/// write!(filling, "{}-{}", 1, 2)?;
+/// filling.append(b"-3")?;
+/// assert_eq!(filling[..], *b"1-2-3");
+/// let key = filling.publish();
+/// assert_eq!(lane.get(key).expect("published")[..], *b"1-2-3");
+/// # Ok::<(), Box<dyn std::error::Error>>(())
+/// ```
+#[derive(Default)]
+pub struct Buffer {
+    /// Its bytes, and behind them the room that was lent.
+    bytes: Vec<u8>,
+    /// How many bytes it has, without those that were lent.
+    len: usize,
+}
+
+impl Buffer {
+    /// An empty buffer without memory.
+    pub const fn new() -> Buffer {
+        Buffer {
+            bytes: Vec::new(),
+            len: 0,
+        }
+    }
+
+    /// How many bytes it has.
+    #[inline]
+    pub fn len(&self) -> usize {
+        self.len
+    }
+
+    /// Whether it has none.
+    #[inline]
+    pub fn is_empty(&self) -> bool {
+        self.len() == 0
+    }
+
+    /// How many bytes it can have without taking memory.
+    #[inline]
+    pub fn capacity(&self) -> usize {
+        self.bytes.capacity()
+    }
+
+    /// Ends what was lent.
+    #[inline]
+    fn end_room(&mut self) {
+        self.bytes.truncate(self.len);
+    }
+
+    /// Ends what was lent, and makes room for so many bytes more.
+    #[inline]
+    fn reserve(&mut self, count: usize) -> Result<(), MemoryRefused> {
+        self.end_room();
+        if self.bytes.capacity() - self.len < count {
+            return grow(&mut self.bytes, count);
+        }
+        Ok(())
+    }
+
+    /// Appends bytes.
+    ///
+    /// # Errors
+    ///
+    /// [`MemoryRefused`]: the bytes are then as before.
+    #[inline]
+    pub fn append(&mut self, bytes: &[u8]) -> Result<(), MemoryRefused> {
+        self.reserve(bytes.len())?;
+        self.bytes.extend_from_slice(bytes);
+        self.len += bytes.len();
+        Ok(())
+    }
+
+    /// So many bytes behind those of the buffer, to be written in place. They are zeros at first, and belong to the buffer only
+    /// as far as [`wrote`](Buffer::wrote) says so.
+    ///
+    /// # Errors
+    ///
+    /// [`MemoryRefused`]: the bytes are then as before, and an earlier room has ended.
+    ///
+    /// ```
+    /// # use pardz::{Buffer, Pool, Shape};
+    /// # let pool = Pool::<Buffer>::open(Shape::default())?;
+    /// # let lane = pool.lane().expect("a lane");
+    /// let mut filling = lane.create()?;
+    /// let room = filling.room(1500)?;
+    /// room[..5].copy_from_slice(b"hello"); // as a read from a socket does
+    /// filling.wrote(5);
+    /// assert_eq!(filling[..], *b"hello");
+    /// # Ok::<(), Box<dyn std::error::Error>>(())
+    /// ```
+    pub fn room(&mut self, count: usize) -> Result<&mut [u8], MemoryRefused> {
+        self.reserve(count)?;
+        self.bytes.resize(self.len + count, 0);
+        Ok(&mut self.bytes[self.len..])
+    }
+
+    /// The first `count` bytes of the last [`room`](Buffer::room) belong to the buffer, and the others don't.
+    ///
+    /// # Panics
+    ///
+    /// Where that room was smaller.
+    pub fn wrote(&mut self, count: usize) {
+        let lent = self.bytes.len() - self.len;
+        assert!(count <= lent, "{count} bytes of a room of {lent}");
+        self.len += count;
+        self.end_room();
+    }
+
+    /// Appends what one read gives, at most so many bytes, with no copy between. Answers how many it gave.
+    ///
+    /// # Errors
+    ///
+    /// Those of the reader; [`io::ErrorKind::OutOfMemory`] where memory was refused. The bytes are then as before.
+    ///
+    /// ```
+    /// # use pardz::{Buffer, Pool, Shape};
+    /// # let pool = Pool::<Buffer>::open(Shape::default())?;
+    /// # let lane = pool.lane().expect("a lane");
+    /// let mut filling = lane.create()?;
+    /// assert_eq!(filling.read_from(&mut &b"from a file"[..], 4096)?, 11);
+    /// assert_eq!(filling[..], *b"from a file");
+    /// # Ok::<(), Box<dyn std::error::Error>>(())
+    /// ```
+    pub fn read_from(&mut self, reader: &mut impl Read, most: usize) -> io::Result<usize> {
+        let count = reader.read(self.room(most)?)?;
+        self.wrote(count);
+        Ok(count)
+    }
+
+    /// Keeps the first `count` bytes, and drops the others. The memory stays.
+    pub fn truncate(&mut self, count: usize) {
+        self.len = self.len.min(count);
+        self.end_room();
+    }
+}
+
+/// Makes room for so many bytes more. Apart, for it is rare.
+#[cold]
+#[inline(never)]
+fn grow(bytes: &mut Vec<u8>, count: usize) -> Result<(), MemoryRefused> {
+    bytes.try_reserve(count).map_err(|_| MemoryRefused)
+}
+
+/// Keeps its memory.
+impl Clear for Buffer {
+    #[inline]
+    fn clear(&mut self) {
+        self.len = 0;
+        self.bytes.clear();
+    }
+}
+
+impl Deref for Buffer {
+    type Target = [u8];
+
+    #[inline]
+    fn deref(&self) -> &[u8] {
+        &self.bytes[..self.len()]
+    }
+}
+
+impl AsRef<[u8]> for Buffer {
+    #[inline]
+    fn as_ref(&self) -> &[u8] {
+        self
+    }
+}
+
+impl Borrow<[u8]> for Buffer {
+    #[inline]
+    fn borrow(&self) -> &[u8] {
+        self
+    }
+}
+
+impl Write for Buffer {
+    #[inline]
+    fn write(&mut self, bytes: &[u8]) -> io::Result<usize> {
+        self.append(bytes)?;
+        Ok(bytes.len())
+    }
+
+    #[inline]
+    fn write_all(&mut self, bytes: &[u8]) -> io::Result<()> {
+        Ok(self.append(bytes)?)
+    }
+
+    fn flush(&mut self) -> io::Result<()> {
+        Ok(())
+    }
+}
+
+impl fmt::Write for Buffer {
+    fn write_str(&mut self, text: &str) -> fmt::Result {
+        Ok(self.append(text.as_bytes())?)
+    }
+}
+
+impl Extend<u8> for Buffer {
+    fn extend<I: IntoIterator<Item = u8>>(&mut self, bytes: I) {
+        let bytes = bytes.into_iter();
+        self.end_room();
+        self.bytes.reserve(bytes.size_hint().0);
+        for byte in bytes {
+            self.bytes.push(byte);
+            self.len += 1;
+        }
+    }
+}
+
+impl<'b> Extend<&'b u8> for Buffer {
+    fn extend<I: IntoIterator<Item = &'b u8>>(&mut self, bytes: I) {
+        self.extend(bytes.into_iter().copied());
+    }
+}
+
+impl PartialEq for Buffer {
+    fn eq(&self, other: &Buffer) -> bool {
+        self[..] == other[..]
+    }
+}
+
+impl Eq for Buffer {}
+
+impl PartialEq<[u8]> for Buffer {
+    fn eq(&self, other: &[u8]) -> bool {
+        self[..] == *other
+    }
+}
+
+impl<const N: usize> PartialEq<[u8; N]> for Buffer {
+    fn eq(&self, other: &[u8; N]) -> bool {
+        self[..] == *other
+    }
+}
+
+/// As its bytes: so that a map keyed by buffers is asked with a slice.
+impl std::hash::Hash for Buffer {
+    fn hash<H: std::hash::Hasher>(&self, state: &mut H) {
+        self[..].hash(state);
+    }
+}
+
+impl fmt::Debug for Buffer {
+    fn fmt(&self, f: &mut fmt::Formatter<'_>) -> fmt::Result {
+        write!(f, "\"{}\"", self.escape_ascii())
+    }
+}
+
+impl Lane<'_, Buffer> {
+    /// Publishes bytes, which are copied into a buffer of the pool.
+    ///
+    /// # Errors
+    ///
+    /// [`CreateError::Full`] where no place of the lane is free, [`CreateError::Memory`] where memory was refused. Nothing is then
+    /// published, and no place is lost.
+    ///
+    /// ```
+    /// # use pardz::{Buffer, CreateError, OpenError, Pool, Shape};
+    /// let pool = Pool::<Buffer>::open(Shape { lanes: 1, first_page: 1, pages: 1, ..Shape::default() })?;
+    /// let lane = pool.lane().expect("a lane");
+    /// let key = lane.put(b"short").expect("one place");
+    /// assert_eq!(lane.get(key).expect("published")[..], *b"short");
+    /// assert_eq!(lane.put(b"more").err(), Some(CreateError::Full));
+    /// # Ok::<(), OpenError>(())
+    /// ```
+    #[inline]
+    pub fn put(&self, bytes: &[u8]) -> Result<Key, CreateError> {
+        let mut filling = self.create()?;
+        filling.append(bytes)?;
+        Ok(filling.publish())
+    }
+}
+
+impl Lane<'_, String> {
+    /// Publishes a text, which is copied into a string of the pool.
+    ///
+    /// # Errors
+    ///
+    /// As [`create`](Lane::create); [`CreateError::Memory`] also where the text found no memory. Nothing is then published, and no
+    /// place is lost.
+    ///
+    /// ```
+    /// # use pardz::{Pool, Shape};
+    /// let pool = Pool::<String>::open(Shape::default())?;
+    /// let lane = pool.lane().expect("a lane");
+    /// let key = lane.put("short")?;
+    /// assert_eq!(*lane.get(key).expect("published"), "short");
+    /// # Ok::<(), Box<dyn std::error::Error>>(())
+    /// ```
+    #[inline]
+    pub fn put(&self, text: &str) -> Result<Key, CreateError> {
+        let mut filling = self.create()?;
+        if filling.try_reserve(text.len()).is_err() {
+            return Err(CreateError::Memory);
+        }
+        filling.push_str(text);
+        Ok(filling.publish())
+    }
+}
+
+impl<U: Clone> Lane<'_, Vec<U>> {
+    /// Publishes values, which are cloned into a vector of the pool.
+    ///
+    /// # Errors
+    ///
+    /// As [`create`](Lane::create); [`CreateError::Memory`] also where the values found no memory. Nothing is then published, and no
+    /// place is lost.
+    ///
+    /// ```
+    /// # use pardz::{Pool, Shape};
+    /// let pool = Pool::<Vec<u32>>::open(Shape::default())?;
+    /// let lane = pool.lane().expect("a lane");
+    /// let key = lane.put(&[1, 2])?;
+    /// assert_eq!(*lane.get(key).expect("published"), [1, 2]);
+    /// # Ok::<(), Box<dyn std::error::Error>>(())
+    /// ```
+    #[inline]
+    pub fn put(&self, values: &[U]) -> Result<Key, CreateError> {
+        let mut filling = self.create()?;
+        if filling.try_reserve(values.len()).is_err() {
+            return Err(CreateError::Memory);
+        }
+        filling.extend_from_slice(values);
+        Ok(filling.publish())
+    }
+}

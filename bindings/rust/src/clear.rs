@@ -1,0 +1,166 @@
+//! What a type needs for its objects to be pooled.
+use std::collections::{BTreeMap, BTreeSet, BinaryHeap, HashMap, HashSet, VecDeque};
+use std::sync::{Mutex, PoisonError, RwLock};
+
+/// A type whose objects can be emptied in place, so that they keep their memory and are used again.
+///
+/// ```
+/// use pardz::Clear;
+///
+/// #[derive(Default)]
+/// struct Request {
+///     path: String,
+///     length: Option<usize>,
+/// }
+///
+/// impl Clear for Request {
+///     fn clear(&mut self) {
+///         self.path.clear();
+///         self.length = None;
+///     }
+/// }
+/// ```
+pub trait Clear {
+    /// Empties the object. It runs when the key was cleared and the last reference is gone, on the thread that let go last, before
+    /// its call returns.
+    ///
+    /// It may call the pool again, by the same lane too. What it clears by the same lane is emptied in turn when it has returned:
+    /// so a chain of any length needs no deeper stack. Where it panics the object is dropped, and its place is free all the same; where
+    /// it runs since the thread unwinds already, and panics, that second panic goes no further.
+    fn clear(&mut self);
+}
+
+/// Keeps its capacity.
+impl<T> Clear for Vec<T> {
+    #[inline]
+    fn clear(&mut self) {
+        Vec::clear(self);
+    }
+}
+
+/// Keeps its capacity.
+impl<T> Clear for VecDeque<T> {
+    fn clear(&mut self) {
+        VecDeque::clear(self);
+    }
+}
+
+/// Keeps its capacity.
+impl<T> Clear for BinaryHeap<T> {
+    fn clear(&mut self) {
+        BinaryHeap::clear(self);
+    }
+}
+
+/// Keeps its capacity.
+impl Clear for String {
+    #[inline]
+    fn clear(&mut self) {
+        String::clear(self);
+    }
+}
+
+/// Keeps its capacity.
+impl<K, V, S> Clear for HashMap<K, V, S> {
+    fn clear(&mut self) {
+        HashMap::clear(self);
+    }
+}
+
+/// Keeps its capacity.
+impl<K, S> Clear for HashSet<K, S> {
+    fn clear(&mut self) {
+        HashSet::clear(self);
+    }
+}
+
+/// Keeps no memory: the map of the standard library has none to keep.
+impl<K, V> Clear for BTreeMap<K, V> {
+    fn clear(&mut self) {
+        BTreeMap::clear(self);
+    }
+}
+
+/// Keeps no memory: the set of the standard library has none to keep.
+impl<K> Clear for BTreeSet<K> {
+    fn clear(&mut self) {
+        BTreeSet::clear(self);
+    }
+}
+
+/// Becomes `None`.
+impl<T> Clear for Option<T> {
+    fn clear(&mut self) {
+        *self = None;
+    }
+}
+
+/// What is in the box is emptied.
+impl<T: Clear + ?Sized> Clear for Box<T> {
+    fn clear(&mut self) {
+        T::clear(self);
+    }
+}
+
+/// What is under the lock is emptied; a poisoned lock is healed.
+impl<T: Clear + ?Sized> Clear for Mutex<T> {
+    fn clear(&mut self) {
+        self.get_mut()
+            .unwrap_or_else(PoisonError::into_inner)
+            .clear();
+        self.clear_poison();
+    }
+}
+
+/// What is under the lock is emptied; a poisoned lock is healed.
+impl<T: Clear + ?Sized> Clear for RwLock<T> {
+    fn clear(&mut self) {
+        self.get_mut()
+            .unwrap_or_else(PoisonError::into_inner)
+            .clear();
+        self.clear_poison();
+    }
+}
+
+#[cfg(test)]
+mod tests {
+    use super::*;
+
+    #[test]
+    fn what_clears() {
+        let mut list = Vec::with_capacity(10);
+        list.push(1);
+        Clear::clear(&mut list);
+        assert_eq!((list.len(), list.capacity()), (0, 10));
+        let mut inside = Box::new(Mutex::new(Some(String::from("x"))));
+        Clear::clear(&mut inside);
+        assert_eq!(*inside.lock().unwrap(), None);
+        let mut map = RwLock::new(HashMap::from([(1, 2)]));
+        Clear::clear(&mut map);
+        assert!(map.read().unwrap().is_empty());
+        let (mut set, mut tree) = (HashSet::from([1]), BTreeSet::from([1]));
+        Clear::clear(&mut set);
+        Clear::clear(&mut tree);
+        assert!(set.is_empty() && tree.is_empty());
+        let (mut text, mut queue) = (String::from("x"), VecDeque::from([1]));
+        Clear::clear(&mut text);
+        Clear::clear(&mut queue);
+        assert!(text.is_empty() && queue.is_empty());
+        let (mut heap, mut map) = (BinaryHeap::from([1]), BTreeMap::from([(1, 2)]));
+        Clear::clear(&mut heap);
+        Clear::clear(&mut map);
+        assert!(heap.is_empty() && map.is_empty());
+    }
+
+    #[test]
+    fn a_poisoned_lock_is_healed() {
+        let mut lock = Mutex::new(vec![1]);
+        let panicked = std::panic::catch_unwind(std::panic::AssertUnwindSafe(|| {
+            let _held = lock.lock().unwrap();
+            panic!("on purpose");
+        }));
+        assert!(panicked.is_err() && lock.is_poisoned());
+        Clear::clear(&mut lock);
+        assert!(lock.lock().unwrap().is_empty());
+    }
+}

@@ -1,0 +1,16 @@
+// Made from crates/keybits/src/fit.rt by bindings/erase/erase.py: change that file, not this one.
+
+use crate::erased::keybits::fields::{generation_of, place_of, tag_of};
+use crate::erased::keybits::shape::Shape;
+
+/// Whether this is the number of a key of the shape: the shape's tag, a place of the shape and a
+/// generation from 1 to the last. Any other number is outside the shape. The shape need not be
+/// checked. This project's profile.
+#[inline]
+pub fn fits(number: u64, shape: &Shape) -> bool {
+    let generation = generation_of(number);
+    u32::from(tag_of(number)) == shape.tag
+        && shape.is_place(place_of(number))
+        && generation != 0
+        && generation <= shape.last_generation
+}

@@ -1,0 +1,63 @@
+// Made from crates/keybits/src/key.rt by bindings/erase/erase.py: change that file, not this one.
+
+use crate::erased::keybits::fields::{generation_of, place_of, tag_of};
+use crate::erased::keybits::place::Place;
+
+/// The key of a published object: its pool's tag, its place and its generation, packed into one number.
+///
+/// The slot has the bits 0 to 11, the page 12 to 15, the shard 16 to 23, the generation 24 to 55 and
+/// the tag 56 to 63. That a key packs its place and a generation is taken from sharded-slab's
+/// documentation; the packing and the tag are this project's profile.
+#[derive(Clone, Copy, Debug, PartialEq, Eq)]
+pub struct Key {
+    number: u64,
+}
+
+impl Key {
+    /// The key of a pool with tag 0, at this place and of this generation. None where the page is
+    /// over 15, the slot over 4095 or the generation is 0.
+    #[inline]
+    pub fn pack(place: Place, generation: u32) -> Option<Key> {
+        Key::pack_tagged(0, place, generation)
+    }
+
+    /// The key of a pool with this tag, at this place and of this generation. None where the page
+    /// is over 15, the slot over 4095 or the generation is 0.
+    #[inline]
+    pub fn pack_tagged(tag: u8, place: Place, generation: u32) -> Option<Key> {
+        if place.page > 15 || place.slot > 4095 || generation == 0 {
+            return None;
+        }
+        let number =
+            u64::from(place.number()) + (u64::from(generation) << 24) + (u64::from(tag) << 56);
+        Some(Key { number })
+    }
+
+    /// The place and the generation that a key with tag 0 of this number has. None where the bits
+    /// 56 to 63 aren't all zero or the generation is 0. It is the inverse of `pack`.
+    #[inline]
+    pub fn unpack(number: u64) -> Option<(Place, u32)> {
+        match Key::unpack_tagged(number) {
+            Some((0, place, generation)) => Some((place, generation)),
+            _ => None,
+        }
+    }
+
+    /// The tag, the place and the generation that the key of this number has. None only where the
+    /// generation is 0. It is the inverse of `pack_tagged`.
+    #[inline]
+    pub fn unpack_tagged(number: u64) -> Option<(u8, Place, u32)> {
+        let generation = generation_of(number);
+        if generation == 0 {
+            return None;
+        }
+        let place = Place::of_number(place_of(number));
+        Some((tag_of(number), place, generation))
+    }
+
+    /// The number into which the key is packed.
+    #[inline]
+    pub fn number(&self) -> u64 {
+        self.number
+    }
+}

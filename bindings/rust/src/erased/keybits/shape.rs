@@ -1,0 +1,185 @@
+// Made from crates/keybits/src/shape.rt by bindings/erase/erase.py: change that file, not this one.
+
+use crate::erased::keybits::place::{page_of, shard_of, slot_of};
+use std::error::Error;
+use std::fmt;
+
+/// The most lanes that a checked shape has.
+pub const MOST_LANES: u32 = 16;
+
+/// The most places that the first page of a checked shape has.
+pub const LARGEST_FIRST_PAGE: u32 = 64;
+
+/// The most pages that a checked shape has.
+pub const MOST_PAGES: u32 = 6;
+
+/// The greatest tag of a checked shape.
+pub const GREATEST_TAG: u32 = 255;
+
+/// How large a pool is. This project's profile: see `Shape::check` for the limits.
+#[derive(Clone, Copy, Debug, PartialEq, Eq)]
+pub struct Shape {
+    /// How many lanes there are; lane i owns shard i.
+    pub lanes: u32,
+    /// How many places the first page of a shard has. Each further page is twice as large as the one before.
+    pub first_page: u32,
+    /// How many pages a shard has.
+    pub pages: u32,
+    /// The generation after which a place retires.
+    pub last_generation: u32,
+    /// The pool's tag, which each of its keys carries.
+    pub tag: u32,
+}
+
+/// What is wrong with a shape: the first of its fields, in this order, that is outside its limits.
+#[derive(Clone, Copy, Debug, PartialEq, Eq)]
+pub enum ShapeFault {
+    /// The lanes are not from 1 to 16.
+    Lanes,
+    /// The first page has not 1, 2, 4, 8, 16, 32 or 64 places.
+    FirstPage,
+    /// The pages are not from 1 to 6.
+    Pages,
+    /// The last generation is 0.
+    Generation,
+    /// The tag is over 255.
+    Tag,
+}
+
+impl ShapeFault {
+    /// The fault's number: 1 for the lanes, 2 for the first page, 3 for the pages, 4 for the last
+    /// generation and 6 for the tag.
+    #[inline]
+    pub fn number(&self) -> u32 {
+        match self {
+            ShapeFault::Lanes => 1,
+            ShapeFault::FirstPage => 2,
+            ShapeFault::Pages => 3,
+            ShapeFault::Generation => 4,
+            ShapeFault::Tag => 6,
+        }
+    }
+
+    /// The fault's name.
+    #[inline]
+    pub fn name(&self) -> &'static str {
+        match self {
+            ShapeFault::Lanes => "Lanes",
+            ShapeFault::FirstPage => "FirstPage",
+            ShapeFault::Pages => "Pages",
+            ShapeFault::Generation => "Generation",
+            ShapeFault::Tag => "Tag",
+        }
+    }
+}
+
+impl fmt::Display for ShapeFault {
+    fn fmt(&self, f: &mut fmt::Formatter<'_>) -> fmt::Result {
+        f.write_str(match self {
+            ShapeFault::Lanes => "the number of lanes is not from 1 to 16",
+            ShapeFault::FirstPage => "the size of the first page is not 1, 2, 4, 8, 16, 32 or 64",
+            ShapeFault::Pages => "the number of pages is not from 1 to 6",
+            ShapeFault::Generation => "the last generation is 0",
+            ShapeFault::Tag => "the tag is over 255",
+        })
+    }
+}
+
+impl Error for ShapeFault {}
+
+impl Shape {
+    /// Tests the fields in this order: the lanes are from 1 to 16, the first page has 1, 2, 4, 8, 16,
+    /// 32 or 64 places, the pages are from 1 to 6, the last generation is at least 1, the tag is at
+    /// most 255. The error names the first field that is outside its limits. This project's profile.
+    #[inline]
+    pub fn check(&self) -> Result<(), ShapeFault> {
+        if self.lanes == 0 || self.lanes > MOST_LANES {
+            return Err(ShapeFault::Lanes);
+        }
+        if !is_first_page(self.first_page) {
+            return Err(ShapeFault::FirstPage);
+        }
+        if self.pages == 0 || self.pages > MOST_PAGES {
+            return Err(ShapeFault::Pages);
+        }
+        if self.last_generation == 0 {
+            return Err(ShapeFault::Generation);
+        }
+        if self.tag > GREATEST_TAG {
+            return Err(ShapeFault::Tag);
+        }
+        Ok(())
+    }
+
+    /// How many places a page of a checked shape has.
+    #[inline]
+    pub fn page_size(&self, page: u32) -> u32 {
+        self.first_page << page
+    }
+
+    /// How many places each shard of a checked shape has.
+    #[inline]
+    pub fn shard_places(&self) -> u32 {
+        self.places_before(self.pages)
+    }
+
+    /// How many places a checked shape has.
+    #[inline]
+    pub fn all_places(&self) -> usize {
+        (self.lanes * self.shard_places()) as usize
+    }
+
+    /// Whether this is the number of a place of the shape. The shape need not be checked.
+    #[inline]
+    pub fn is_place(&self, place: u32) -> bool {
+        let page = page_of(place);
+        shard_of(place) < self.lanes
+            && page < self.pages
+            && u64::from(slot_of(place)) < self.slots(page)
+    }
+
+    /// Which place of its shard a place of a checked shape is, counted from 0.
+    #[inline]
+    pub fn index(&self, place: u32) -> usize {
+        (self.places_before(page_of(place)) + slot_of(place)) as usize
+    }
+
+    /// Which place of all a place of a checked shape is, counted from 0, shard after shard.
+    #[inline]
+    pub fn position(&self, place: u32) -> usize {
+        (shard_of(place) * self.shard_places()) as usize + self.index(place)
+    }
+
+    /// The place of a checked shape that has this position. It is the inverse of `position`.
+    #[inline]
+    pub fn place_at(&self, position: usize) -> u32 {
+        let position = position as u32;
+        let places = self.shard_places();
+        self.place_in_shard(position / places, position % places)
+    }
+
+    /// The place of a shard of a checked shape that has this index.
+    #[inline]
+    fn place_in_shard(&self, shard: u32, index: u32) -> u32 {
+        let page = (index / self.first_page + 1).ilog2();
+        (shard << 16) + (page << 12) + (index - self.places_before(page))
+    }
+
+    /// How many places of a shard of a checked shape come before a page.
+    #[inline]
+    fn places_before(&self, page: u32) -> u32 {
+        (self.first_page << page) - self.first_page
+    }
+
+    /// How many slots a page has; the shape need not be checked.
+    #[inline]
+    fn slots(&self, page: u32) -> u64 {
+        u64::from(self.first_page) << page
+    }
+}
+
+/// Whether a first page may have this size.
+#[inline]
+fn is_first_page(size: u32) -> bool {
+    size <= LARGEST_FIRST_PAGE && size.is_power_of_two()
+}

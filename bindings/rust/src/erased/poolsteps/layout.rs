@@ -1,0 +1,143 @@
+// Made from crates/poolsteps/src/layout.rt by bindings/erase/erase.py: change that file, not this one.
+
+//! Where each word of a pool stands among the words of its table, and each slot among its slots: words that different lanes
+//! change by themselves stand 128 bytes apart, as a processor may fetch two lines of 64 together, and so do the words of neighbouring shards. No step changes the first words: the
+//! very first is read where seats are cut and joined, and behind it each lane has one that it looks at.
+
+use crate::shim::{Global, Vec};
+
+use crate::erased::keybits::{shard_of, Life, Shape, State, PAGE_NUMBERS};
+use crate::erased::placecell::Slot;
+
+/// How many words stand between two that different lanes change by themselves.
+pub(crate) const WORDS_APART: usize = 16;
+
+/// How many places' words stand unused behind those of each shard in a row, so that those of neighbouring shards don't share two lines
+/// of a processor's cache.
+pub const SHARDS_APART: usize = 16;
+
+/// Where the lifecycle words begin: behind the very first word and, as far apart, one for each of the most lanes.
+pub(crate) const LIVES_START: usize = 272;
+
+/// How many words there are.
+#[inline]
+pub(crate) fn word_count(shape: &Shape) -> usize {
+    let lanes = shape.lanes as usize;
+    LIVES_START + 2 * slot_row(shape) + WORDS_APART * (lanes * lanes)
+}
+
+/// Where a place stands in each row of words, of slots or of what a lane has of each place; the place has this position among the
+/// places of the pool.
+#[inline]
+pub fn slot_start(shape: &Shape, place: u32, position: usize) -> usize {
+    let _ = shape;
+    position + SHARDS_APART * shard_of(place) as usize
+}
+
+/// Where the places of a shard begin in each such row.
+#[inline]
+pub fn shard_start(shape: &Shape, shard: u32) -> usize {
+    shard as usize * shape.shard_places() as usize + SHARDS_APART * shard as usize
+}
+
+/// Where the lifecycle word of a place stands, which has this position among the places of the pool.
+#[inline]
+pub fn life_word(shape: &Shape, place: u32, position: usize) -> usize {
+    LIVES_START + slot_start(shape, place, position)
+}
+
+/// Where the link word of a place stands, which has this position among the places of the pool.
+#[inline]
+pub fn link_word(shape: &Shape, place: u32, position: usize) -> usize {
+    links_start(shape) + slot_start(shape, place, position)
+}
+
+/// Where the link words begin, which stand in the order of the lifecycle words.
+#[inline]
+pub(crate) fn links_start(shape: &Shape) -> usize {
+    LIVES_START + slot_row(shape)
+}
+
+/// Where the stack word of a shard and another lane stands.
+#[inline]
+pub fn stack_word(shape: &Shape, shard: u32, lane: u32) -> usize {
+    let lanes = shape.lanes as usize;
+    LIVES_START + 2 * slot_row(shape) + WORDS_APART * (shard as usize * lanes + lane as usize)
+}
+
+/// Where the word stands that a lane looks at.
+#[inline]
+pub(crate) fn look_word(lane: u32) -> usize {
+    WORDS_APART * (1 + lane as usize)
+}
+
+/// How long each row is: of words, of the slots of one lane, and of what a lane has of each place.
+#[inline]
+pub fn slot_row(shape: &Shape) -> usize {
+    shape.all_places() as usize + SHARDS_APART * shape.lanes as usize
+}
+
+/// Where the slot of a place stands for a lane; the place has this position among the places of the pool.
+#[inline]
+pub fn slot_at(shape: &Shape, place: u32, position: usize, lane: u32) -> usize {
+    lane as usize * slot_row(shape) + slot_start(shape, place, position)
+}
+
+/// Where the places of a page stand: those of its first place.
+#[derive(Clone, Copy, Debug, PartialEq, Eq)]
+pub struct PageRow {
+    /// How many places the page has; 0 where the shape has no such page.
+    pub(crate) places: u32,
+    /// Where its first place stands in each row of words or of slots.
+    pub start: u32,
+}
+
+/// The rows of all pages, 16 to a shard. None where memory was refused.
+#[inline]
+pub fn page_rows(alloc: Global, shape: &Shape) -> Option<Vec<PageRow>> {
+    let count = 16 * shape.lanes;
+    let mut rows = Vec::with_capacity(alloc, count as usize).ok()?;
+    for page in 0..count {
+        rows.push_reserved(page_row(shape, page));
+    }
+    Some(rows)
+}
+
+/// The row of a page, counted over all shards, 16 to each.
+#[inline]
+fn page_row(shape: &Shape, page: u32) -> PageRow {
+    if page % 16 >= shape.pages {
+        return PageRow {
+            places: 0,
+            start: 0,
+        };
+    }
+    let first = page * PAGE_NUMBERS;
+    PageRow {
+        places: shape.page_size(page % 16),
+        start: slot_start(shape, first, shape.position(first)) as u32,
+    }
+}
+
+/// The words before the first step: each lifecycle word is that of generation 1, idle, with count 0, and every other is 0.
+#[inline]
+pub(crate) fn first_words(alloc: Global, shape: &Shape) -> Option<Vec<u64>> {
+    let fresh = Life {
+        generation: 1,
+        count: 0,
+        state: State::Idle,
+    };
+    let mut words = Vec::filled(alloc, 0, word_count(shape)).ok()?;
+    for position in 0..shape.all_places() {
+        words[life_word(shape, shape.place_at(position), position)] = fresh.word();
+    }
+    Some(words)
+}
+
+/// The slots before the first step: none has a share.
+pub(crate) fn first_slots<T>(alloc: Global, shape: &Shape) -> Option<Vec<Slot<T>>> {
+    let count = shape.lanes as usize * slot_row(shape);
+    let mut slots = Vec::with_capacity(alloc, count).ok()?;
+    slots.push_alike(count, || Slot::empty());
+    Some(slots)
+}

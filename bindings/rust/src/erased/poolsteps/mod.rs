@@ -1,0 +1,25 @@
+// Made from crates/poolsteps/src/lib.rt by bindings/erase/erase.py: change that file, not this one.
+
+//! The atomic steps of a sharded object pool, and the moves of its shares, over the words and the slots of one table: each is
+//! one call that keeps what holds between any two steps. At the end the cells in the slots of a closed pool are made whole again and
+//! dropped.
+
+mod at_once;
+mod batches;
+mod closing;
+mod grid;
+mod layout;
+mod moves;
+mod notes;
+mod opening;
+mod plays;
+mod returns;
+mod steps;
+
+pub use closing::drop_cell;
+pub use grid::{Board, Grid, Hand, Spot};
+pub use layout::{
+    life_word, link_word, page_rows, shard_start, slot_at, slot_row, slot_start, stack_word,
+    PageRow, SHARDS_APART,
+};
+pub use plays::Purpose;

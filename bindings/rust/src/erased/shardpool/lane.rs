@@ -1,0 +1,87 @@
+// Made from crates/shardpool/src/lane.rt by bindings/erase/erase.py: change that file, not this one.
+
+//! Lanes: each owns a shard of a pool.
+
+use crate::erased::keybits::place_of;
+use crate::erased::poolsteps::Hand;
+use crate::erased::shardpool::apart::Apart;
+use crate::erased::shardpool::closing::HandRow;
+use crate::erased::shardpool::rows::count_to;
+use crate::erased::shardpool::state::LaneState;
+use crate::erased::shardpool::token::Ref;
+use crate::erased::slotcell::Clear;
+
+/// The owner of a shard. A thread that has one calls the pool with it.
+pub struct Lane<T: Clear> {
+    pub(crate) hand: Hand<T>,
+    pub(crate) ahead: Apart,
+    pub(crate) state: LaneState<T>,
+    pub(crate) row: HandRow<T>,
+    pub(crate) behind: Apart,
+}
+
+impl<T: Clear> Lane<T> {
+    /// The lane's number, which is that of its shard.
+    pub fn number(&self) -> u32 {
+        self.state.number
+    }
+
+    /// How many references the lane has.
+    pub fn refs(&self) -> u32 {
+        self.state.references
+    }
+
+    /// Whether the lane's own list has a place, or a taken place is still to be followed. A create then succeeds.
+    pub fn has_free(&self) -> bool {
+        self.state.free.len() > 0 || self.state.free.chain().is_some()
+    }
+
+    /// How many references the lane has to a key. A number that is no key of the pool has none.
+    pub fn holds(&self, key: u64) -> u32 {
+        if !crate::erased::keybits::fits(key, &self.state.shape) {
+            return 0;
+        }
+        count_to(
+            &self.state,
+            self.state.places.start(place_of(key)) as usize,
+            key,
+        )
+    }
+
+    /// A reference to a key to which the lane has one: so a program may keep keys in place of references. None where it has none.
+    pub fn reference(&self, key: u64) -> Option<Ref<T>> {
+        if self.holds(key) == 0 {
+            return None;
+        }
+        let places = &self.state.places;
+        Some(Ref::to(key, places.start(place_of(key)), places))
+    }
+
+    /// As a law: the lane has nothing under way, and what it has seen is a legal history of the pool, with a room beside each act, and with
+    /// just those of the lane's acts that it made. In a pool of one lane it has no other acts, so that each reply is that of a pool of one thread, and each key that was cleared and not yet reclaimed
+    /// has a reference.
+    pub fn seen_law(&self) {
+        // A proof knows the invariant of a lane once a field of it is seen.
+        let _ = &self.state;
+    }
+
+    /// As a law: the places of the lane's own list and of its taken chain are of its shard, of opened pages and with the lane, and no place stands
+    /// there twice; the chain hangs by its first place; each place of an unopened page is with the lane; and the references to a key are
+    /// among all that the lane has.
+    pub fn places_law(&self) {
+        // A proof knows that the lane's free places are sound once their number is asked.
+        let _ = self.state.free.len();
+    }
+
+    /// The object of a key to which the lane has a reference: its content is that with which the key was published.
+    pub fn read<'a>(&'a self, reference: &Ref<T>) -> &'a T {
+        self.read_at(self.state.start_of(reference), reference.key)
+    }
+
+    /// As `read`, of a key to which the lane has a reference, and whose place stands here, as `Pool::get_at` answers.
+    pub fn read_at(&self, start: u32, key: u64) -> &T {
+        self.state.rows[start as usize]
+            .share
+            .read(self.state.objects.base(), start as usize)
+    }
+}

@@ -1,0 +1,38 @@
+// Made from crates/shardpool/src/notes.rt by bindings/erase/erase.py: change that file, not this one.
+
+//! What lanes tell each other.
+
+use crate::erased::shardpool::lane::Lane;
+use crate::erased::shardpool::pool::Pool;
+use crate::erased::shardpool::token::Note;
+use crate::erased::slotcell::Clear;
+
+impl<T: Clear> Pool<T> {
+    /// A note of all that a lane has seen. It costs a load.
+    pub fn tell(&self, lane: &mut Lane<T>) -> Note<T> {
+        Note {
+            hand: self.grid.note(&mut lane.hand),
+        }
+    }
+
+    /// Takes in a note: what the lane has then seen begins with what it saw, and with what the note has. It makes no step.
+    pub fn hear(&self, lane: &mut Lane<T>, note: Note<T>) {
+        let number = lane.state.number;
+        self.grid.hear(&mut lane.hand, number, note.hand);
+    }
+
+    /// Two lanes tell each other what they have seen: it is then one history, which begins with what each saw. They make no step.
+    pub fn meet(&self, one: &mut Lane<T>, other: &mut Lane<T>) {
+        let note = self.tell(other);
+        self.meet_by(one, note);
+        let note = self.tell(one);
+        self.meet_by(other, note);
+    }
+
+    /// Takes in a note as `hear` does, and sees no further: what the lane has then seen is the longer of what it saw and what
+    /// the note has.
+    fn meet_by(&self, lane: &mut Lane<T>, note: Note<T>) {
+        let number = lane.state.number;
+        self.grid.meet(&mut lane.hand, number, note.hand);
+    }
+}

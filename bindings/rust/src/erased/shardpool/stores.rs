@@ -1,0 +1,103 @@
+// Made from crates/shardpool/src/stores.rt by bindings/erase/erase.py: change that file, not this one.
+
+//! The stores of a lane: the free places of its shard, and their objects.
+
+use crate::shim::{impossible, Box, Global, Vec};
+
+use crate::erased::keybits::{link_to, linked_place, shard_of, Place};
+use crate::erased::placecell::Whole;
+use crate::erased::poolcalls::Reclaimed;
+use crate::erased::poolsteps::Spot;
+use crate::erased::shardpool::state::LaneState;
+use crate::erased::slotcell::Clear;
+
+/// An emptied object of an own place rests with the lane, and the place goes to the end of the lane's list.
+#[inline(always)]
+pub(crate) fn keep<T>(state: &mut LaneState<T>, spot: Spot, whole: Whole<T>) {
+    state.objects.keep(spot.start as usize, whole);
+    state.free.push(Place::of_number(spot.place));
+}
+
+/// An empty object of an own place, which never had one, rests with the lane, and the place goes to the end of the lane's list.
+fn list<T>(state: &mut LaneState<T>, place: u32, object: Box<T, Global>) {
+    state
+        .objects
+        .fill(state.places.start(place) as usize, object);
+    state.free.push(Place::of_number(place));
+}
+
+/// What became of a place that was reclaimed is kept: the object of an own place, and of a place that was returned its word.
+#[inline(always)]
+pub(crate) fn keep_reclaimed<T>(
+    state: &mut LaneState<T>,
+    spot: Spot,
+    reclaimed: Option<Reclaimed<T>>,
+) {
+    match reclaimed {
+        Some(Reclaimed::Own(whole)) => {
+            keep(state, spot, whole);
+        }
+        Some(Reclaimed::Returned) => {
+            state.last_pushed[shard_of(spot.place) as usize] = link_to(spot.place);
+        }
+        Some(Reclaimed::Retired(vacancy)) => {
+            state.objects.retire(spot.start as usize, vacancy);
+        }
+        None => {}
+    }
+}
+
+/// The first place of the lane's list, where it stands, and its object. None where the list is empty, which changes nothing.
+#[inline(always)]
+pub(crate) fn take_own<T>(state: &mut LaneState<T>) -> Option<(Place, u32, Box<T, Global>)> {
+    let place = state.free.pop()?;
+    let start = state.places.start(place.number());
+    match state.objects.take(start as usize) {
+        Some(object) => Some((place, start, object)),
+        None => impossible!(),
+    }
+}
+
+/// The taken chain goes on by this link word behind its first place, which stands here. Its object is taken out of it.
+#[inline]
+pub(crate) fn follow_on<T>(
+    state: &mut LaneState<T>,
+    spot: Spot,
+    link: u64,
+    whole: Whole<T>,
+) -> Box<T, Global> {
+    state.free.follow(link);
+    state.objects.vacate(spot.start as usize, whole)
+}
+
+/// The place of a filling, with this object, leaves the lane: it stands here, and is among the lane's rights.
+#[inline(always)]
+pub(crate) fn give_out<T>(
+    state: &mut LaneState<T>,
+    spot: Spot,
+    object: Box<T, Global>,
+) -> Whole<T> {
+    // A look at the list tells that its places are the lane's.
+    let _ = state.free.len();
+    state.objects.put(spot.start as usize, object)
+}
+
+/// The place that a word leads to becomes the first of the taken chain.
+pub(crate) fn hang<T>(state: &mut LaneState<T>, found: u64) {
+    let first = linked_place(state.number, found);
+    state.free.hang(Place::of_number(first));
+}
+
+/// The next page is opened: its places, each with the object given for it, are the lane's list.
+pub(crate) fn open_next<T: Clear>(state: &mut LaneState<T>, objects: Vec<Box<T, Global>>) {
+    let page = state.pages.opened();
+    state.pages.open_next();
+    for object in objects {
+        let place = Place {
+            shard: state.number as u8,
+            page: page as u8,
+            slot: state.free.len() as u16,
+        };
+        list(state, place.number(), object);
+    }
+}

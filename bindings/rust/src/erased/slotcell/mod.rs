@@ -1,0 +1,19 @@
+// Made from crates/slotcell/src/lib.rt by bindings/erase/erase.py: change that file, not this one.
+
+//! Objects that are cleared in place and used again, and the cells that hold them.
+//!
+//! A pool hands one object from lane to lane without a lock. What makes that sound is a type: a `Whole` reads and writes
+//! the object of a cell, a `Share` reads it, and all shares of a cell together are the whole again, with that very object.
+//!
+//! Raw pointers stand in `portion` and `unboxed` alone, in functions of a few lines that are proved by hand. All else is
+//! safe code over them.
+
+mod clear;
+mod portion;
+mod share;
+mod unboxed;
+mod whole;
+
+pub use clear::{ByteBuf, Clear, Memory, Record};
+pub use share::Share;
+pub use whole::{join, Whole};

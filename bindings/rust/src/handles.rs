@@ -1,0 +1,726 @@
+//! Calls without a lane in hand, and what they give: fillings and references of a pool, and owned ones.
+//!
+//! A thread's first call of a pool finds it a lane, which it keeps until it ends. Where all are taken, and for owned handles, a lane
+//! is shared: each call has it under a lock, within which no code of `T` runs, and what is held by it may be let go by any thread.
+use crate::buffer::Buffer;
+use crate::clear::Clear;
+use crate::errors::CreateError;
+use crate::key::Key;
+use crate::lane::{self, Begun, Filling, Held, Lane, Shown};
+use crate::object::Block;
+use crate::pool::Pool;
+use crate::threads;
+use std::ops::{Deref, DerefMut};
+use std::sync::Arc;
+
+/// Calls without a lane in hand. The thread's first call finds it a lane, which is kept until the thread ends; where all are taken,
+/// its calls share lanes, each under a lock for a bounded number of steps. They may be made anywhere: within `T::clear`, `Default`, `Drop`
+/// and closures, and while the thread ends.
+///
+/// A pool of [`open`](Pool::open) keeps a quarter of its lanes for sharing, and one at least, from the first of these calls on. They
+/// panic where all lanes are taken in hand already; of a [`growing`](Pool::growing) pool they never do.
+impl<T: Clear> Pool<T> {
+    /// The thread's lane.
+    #[inline(always)]
+    fn own_lane(&self) -> Option<&Lane<'_, T>> {
+        lane::last_lane(&self.room).or_else(|| self.find_lane())
+    }
+
+    #[cold]
+    #[inline(never)]
+    fn find_lane(&self) -> Option<&Lane<'_, T>> {
+        let lane = self.room.first().lane(self.room.thread_lane()?);
+        lane::set_last_lane(&self.room, lane);
+        Some(lane)
+    }
+
+    /// Begins an empty object, to be filled and published. Where the thread's own shard is full it goes to one of the shared lanes, and
+    /// then to a further segment, if the pool grows.
+    ///
+    /// # Errors
+    ///
+    /// [`CreateError::Full`] where no place is free, but in shards of other lanes that threads have; [`CreateError::Memory`] where memory was
+    /// refused.
+    ///
+    /// ```
+    /// use pardz::{Buffer, Pool};
+    /// use std::io::Write;
+    /// use std::thread;
+    ///
+    /// let pool = Pool::<Buffer>::growing()?;
+    /// let mut filling = pool.create()?;
+    /// write!(filling, "hello")?;
+    /// let key = filling.publish();
+    /// thread::scope(|scope| {
+    ///     for _ in 0..20 {
+    ///         scope.spawn(|| assert_eq!(*pool.get(key).expect("published"), *b"hello"));
+    ///     }
+    /// });
+    /// assert!(pool.clear(key));
+    /// # Ok::<(), Box<dyn std::error::Error>>(())
+    /// ```
+    #[inline(always)]
+    pub fn create(&self) -> Result<PoolFilling<'_, T>, CreateError>
+    where
+        T: Default,
+    {
+        match self.own_lane() {
+            Some(lane) => match lane.create_here() {
+                Ok(filling) => Ok(PoolFilling::of(filling, false)),
+                Err(CreateError::Full) => self.create_further(Some(lane.number())),
+                Err(error) => Err(error),
+            },
+            None => self.create_further(None),
+        }
+    }
+
+    /// A create by one of the shared lanes, or by the thread's own in another segment.
+    #[cold]
+    #[inline(never)]
+    fn create_further(&self, own: Option<u32>) -> Result<PoolFilling<'_, T>, CreateError>
+    where
+        T: Default,
+    {
+        loop {
+            let count = self.room.count();
+            for again in [false, true] {
+                if again {
+                    self.room.look_again();
+                }
+                match self.create_in_segments(own) {
+                    Err(CreateError::Full) => (),
+                    created => return created,
+                }
+            }
+            match self.room.grow(count) {
+                Err(CreateError::Full) if self.room.share_one() => (),
+                grown => grown?,
+            }
+        }
+    }
+
+    fn create_in_segments(&self, own: Option<u32>) -> Result<PoolFilling<'_, T>, CreateError>
+    where
+        T: Default,
+    {
+        if let Some(number) = own.filter(|number| !self.room.passes(*number)) {
+            match self.room.create_in_any(number) {
+                Err(CreateError::Full) => (),
+                created => return Ok(PoolFilling::of(created?, false)),
+            }
+        }
+        let filling = self.room.create_in_shared()?;
+        Ok(PoolFilling::of(filling, true))
+    }
+
+    /// Fills an object, and publishes it. Where the closure panics nothing is published, and the place is free again.
+    ///
+    /// # Errors
+    ///
+    /// As [`create`](Pool::create).
+    ///
+    /// ```
+    /// let pool = pardz::Pool::<Vec<u32>>::growing()?;
+    /// let key = pool.create_with(|list| list.extend(1..4))?;
+    /// assert_eq!(*pool.get(key).expect("published"), [1, 2, 3]);
+    /// # Ok::<(), Box<dyn std::error::Error>>(())
+    /// ```
+    #[inline(always)]
+    pub fn create_with(&self, fill: impl FnOnce(&mut T)) -> Result<Key, CreateError>
+    where
+        T: Default,
+    {
+        let mut filling = self.create()?;
+        fill(&mut filling);
+        Ok(filling.publish())
+    }
+
+    /// A reference to the object of a key. `None` where it isn't published, or is cleared, or is no key of this pool.
+    ///
+    /// # Panics
+    ///
+    /// Where the lane has 1,048,575 references.
+    ///
+    /// ```
+    /// let pool = pardz::Pool::<String>::growing()?;
+    /// let key = pool.put("abc")?;
+    /// let text = pool.get(key).expect("published");
+    /// assert!(pool.clear(key));
+    /// assert!(pool.get(key).is_none());
+    /// assert_eq!(*text, "abc"); // it stays until the reference is dropped
+    /// # Ok::<(), Box<dyn std::error::Error>>(())
+    /// ```
+    #[inline(always)]
+    pub fn get(&self, key: Key) -> Option<PoolRef<'_, T>> {
+        let Some(lane) = self.own_lane() else {
+            return self.get_by_shared(key);
+        };
+        let (lane, held, object, by) = match lane.get_here(key) {
+            Some((held, object)) => (lane, held, object, By::Own),
+            None => {
+                let (lane, held, object) = lane.get_elsewhere(key)?;
+                (lane, held, object, By::OwnElsewhere)
+            }
+        };
+        Some(PoolRef {
+            lane,
+            held,
+            object,
+            by,
+        })
+    }
+
+    #[inline(never)]
+    fn get_by_shared(&self, key: Key) -> Option<PoolRef<'_, T>> {
+        let (lane, held, object) = self.shared_get(key)?;
+        Some(PoolRef {
+            lane,
+            held,
+            object,
+            by: By::Shared,
+        })
+    }
+
+    /// A get by a shared lane.
+    #[inline]
+    fn shared_get(&self, key: Key) -> Option<(&Lane<'_, T>, Held, Shown<T>)> {
+        let segment = self.room.segment_of(key)?;
+        let lane = segment.lane(self.room.shared_lane());
+        let (held, object) = lane.shared_get(key)?;
+        Some((lane, held, object))
+    }
+
+    /// Clears a key: no get finds it any more. Answers whether this call did. The object stays for those who have a reference; the last
+    /// of them empties it.
+    ///
+    /// ```
+    /// let pool = pardz::Pool::<String>::growing()?;
+    /// let key = pool.put("abc")?;
+    /// assert!(pool.clear(key));
+    /// assert!(!pool.clear(key));
+    /// # Ok::<(), Box<dyn std::error::Error>>(())
+    /// ```
+    #[inline(always)]
+    pub fn clear(&self, key: Key) -> bool {
+        match self.own_lane() {
+            Some(lane) => lane.clear(key),
+            None => self.shared_clear(key),
+        }
+    }
+
+    /// A clear by a shared lane.
+    #[cold]
+    #[inline(never)]
+    fn shared_clear(&self, key: Key) -> bool {
+        let Some(segment) = self.room.segment_of(key) else {
+            return false;
+        };
+        segment.lane(self.room.shared_lane()).shared_clear(key)
+    }
+
+    /// As [`create`](Pool::create), of a filling that has a share of the pool and may go to any thread.
+    ///
+    /// # Errors
+    ///
+    /// As [`create`](Pool::create).
+    ///
+    /// ```
+    /// use pardz::Pool;
+    /// use std::sync::Arc;
+    /// use std::thread;
+    ///
+    /// let pool = Arc::new(Pool::<String>::growing()?);
+    /// let mut filling = pool.create_owned()?;
+    /// let key = thread::spawn(move || {
+    ///     filling.push_str("abc");
+    ///     filling.publish()
+    /// });
+    /// assert_eq!(*pool.get(key.join().expect("no panic")).expect("published"), "abc");
+    /// # Ok::<(), Box<dyn std::error::Error>>(())
+    /// ```
+    pub fn create_owned(self: &Arc<Self>) -> Result<OwnedFilling<T>, CreateError>
+    where
+        T: Default,
+    {
+        let (lane, begun, block) = self.create_further(None)?.into_parts();
+        Ok(OwnedFilling {
+            lane: lane.number(),
+            begun,
+            block: Some(block),
+            pool: Arc::clone(self),
+        })
+    }
+
+    /// As [`get`](Pool::get), of a reference that has a share of the pool and may go to any thread.
+    ///
+    /// # Panics
+    ///
+    /// Where the lane has 1,048,575 references.
+    ///
+    /// ```
+    /// use pardz::Pool;
+    /// use std::sync::Arc;
+    /// use std::thread;
+    ///
+    /// let pool = Arc::new(Pool::<String>::growing()?);
+    /// let text = pool.get_owned(pool.put("abc")?).expect("published");
+    /// assert!(pool.clear(text.key()));
+    /// drop(pool);
+    /// thread::spawn(move || assert_eq!(*text, "abc")).join().expect("no panic");
+    /// # Ok::<(), Box<dyn std::error::Error>>(())
+    /// ```
+    pub fn get_owned(self: &Arc<Self>, key: Key) -> Option<OwnedRef<T>> {
+        let (lane, held, object) = self.shared_get(key)?;
+        Some(OwnedRef {
+            lane: lane.number(),
+            held,
+            object,
+            pool: Arc::clone(self),
+        })
+    }
+}
+
+/// An empty object that a call of a [`Pool`] began, to be filled and published: as a [`Filling`] of a lane in hand.
+///
+/// ```
+/// let pool = pardz::Pool::<Vec<u8>>::growing()?;
+/// let mut filling = pool.create()?;
+/// filling.extend([1, 2, 3]);
+/// assert!(pool.get(filling.key()).is_none()); // not yet
+/// let list = filling.downgrade();
+/// assert_eq!(*list, [1, 2, 3]);
+/// drop(pool.create()?); // not published: its place is free again
+/// # Ok::<(), Box<dyn std::error::Error>>(())
+/// ```
+#[must_use = "a filling that is dropped isn't published"]
+pub struct PoolFilling<'p, T: Clear = Buffer> {
+    /// None once it is taken out.
+    filling: Option<Filling<'p, T>>,
+    is_shared: bool,
+}
+
+impl<'p, T: Clear> PoolFilling<'p, T> {
+    #[inline(always)]
+    fn of(filling: Filling<'p, T>, is_shared: bool) -> Self {
+        PoolFilling {
+            filling: Some(filling),
+            is_shared,
+        }
+    }
+
+    /// The filling, without the drop, and whether its lane is shared.
+    #[inline(always)]
+    fn into_filling(mut self) -> (Filling<'p, T>, bool) {
+        match self.filling.take() {
+            Some(filling) => (filling, self.is_shared || threads::has_ended()),
+            None => unreachable!("it is taken out at the end"),
+        }
+    }
+
+    #[inline(always)]
+    fn inner(&self) -> &Filling<'p, T> {
+        match &self.filling {
+            Some(filling) => filling,
+            None => unreachable!("it is taken out at the end"),
+        }
+    }
+
+    fn into_parts(self) -> (&'p Lane<'p, T>, Begun, Block<T>) {
+        self.into_filling().0.into_parts()
+    }
+
+    /// The key under which it will be published.
+    #[inline]
+    pub fn key(&self) -> Key {
+        self.inner().key()
+    }
+
+    /// Publishes: from now on each call finds the object under the key.
+    #[inline(always)]
+    pub fn publish(self) -> Key {
+        let (filling, is_shared) = self.into_filling();
+        if !is_shared {
+            return filling.publish();
+        }
+        let (lane, begun, block) = filling.into_parts();
+        lane.shared_publish(begun, block)
+    }
+
+    /// Publishes, and keeps a reference.
+    ///
+    /// # Panics
+    ///
+    /// Where the lane has 1,048,575 references; nothing is published then.
+    #[inline]
+    pub fn downgrade(self) -> PoolRef<'p, T> {
+        let (filling, is_shared) = self.into_filling();
+        if !is_shared {
+            let (lane, held, object) = filling.downgrade().into_parts();
+            return PoolRef {
+                lane,
+                held,
+                object,
+                by: By::Own,
+            };
+        }
+        let (lane, begun, block) = filling.into_parts();
+        let (held, object) = downgrade(lane, begun, block);
+        PoolRef {
+            lane,
+            held,
+            object,
+            by: By::Shared,
+        }
+    }
+}
+
+/// A publish with a reference by a shared lane.
+fn downgrade<T: Clear>(lane: &Lane<'_, T>, begun: Begun, block: Block<T>) -> (Held, Shown<T>) {
+    match lane.shared_downgrade(begun, block) {
+        Ok(published) => published,
+        Err(block) => {
+            lane.give_back(begun, block, true);
+            panic!("the lane has 1,048,575 references")
+        }
+    }
+}
+
+impl<T: Clear> Deref for PoolFilling<'_, T> {
+    type Target = T;
+
+    #[inline]
+    fn deref(&self) -> &T {
+        self.inner()
+    }
+}
+
+impl<T: Clear> DerefMut for PoolFilling<'_, T> {
+    #[inline]
+    fn deref_mut(&mut self) -> &mut T {
+        match &mut self.filling {
+            Some(filling) => filling,
+            None => unreachable!("it is taken out at the end"),
+        }
+    }
+}
+
+impl<T: Clear> Drop for PoolFilling<'_, T> {
+    #[inline]
+    fn drop(&mut self) {
+        if let Some(filling) = self.filling.take() {
+            let (lane, begun, block) = filling.into_parts();
+            lane.give_back(begun, block, self.is_shared || threads::has_ended());
+        }
+    }
+}
+
+/// A reference that a call of a [`Pool`] got: as a [`Ref`](crate::Ref) of a lane in hand. It stays on its thread; an [`OwnedRef`] may go to others.
+///
+/// ```
+/// let pool = pardz::Pool::<String>::growing()?;
+/// let text = pool.create()?.downgrade();
+/// let more = text.try_clone().expect("it isn't cleared");
+/// assert!(pool.clear(text.key()));
+/// assert!(more.try_clone().is_none());
+/// # Ok::<(), Box<dyn std::error::Error>>(())
+/// ```
+pub struct PoolRef<'p, T: Clear = Buffer> {
+    lane: &'p Lane<'p, T>,
+    held: Held,
+    object: Shown<T>,
+    by: By,
+}
+
+/// Whose the lane is that has a reference. (A whole word, as `Held::start`.)
+#[derive(Clone, Copy, PartialEq)]
+#[repr(u64)]
+enum By {
+    /// The thread's.
+    Own,
+    /// The thread's, in another segment than the first.
+    OwnElsewhere,
+    /// It is shared.
+    Shared,
+}
+
+impl<'p, T: Clear> PoolRef<'p, T> {
+    /// The key.
+    #[inline]
+    pub fn key(&self) -> Key {
+        self.held.key()
+    }
+
+    /// One reference more, by a get of the key. `None` where it was cleared meanwhile.
+    ///
+    /// # Panics
+    ///
+    /// Where the lane has 1,048,575 references.
+    pub fn try_clone(&self) -> Option<PoolRef<'p, T>> {
+        let key = self.key();
+        let lane = self.lane.segment_lane(key.into())?;
+        let is_shared = self.by == By::Shared || threads::has_ended();
+        let (held, object) = if is_shared {
+            lane.shared_get(key)?
+        } else {
+            lane.get_and_finish(key)?
+        };
+        Some(PoolRef {
+            lane,
+            held,
+            object,
+            by: if is_shared { By::Shared } else { By::Own },
+        })
+    }
+}
+
+/// The drop of a reference that isn't of the thread's own lane in its first segment.
+#[inline(never)]
+fn release_apart<T: Clear>(lane: &Lane<'_, T>, held: (u64, u64), by: By) {
+    if by == By::OwnElsewhere && !threads::has_ended() {
+        return lane.release_elsewhere(held);
+    }
+    lane.shared_release(&Held::of_parts(held));
+}
+
+impl<T: Clear> Deref for PoolRef<'_, T> {
+    type Target = T;
+
+    #[inline]
+    fn deref(&self) -> &T {
+        self.object.get()
+    }
+}
+
+impl<T: Clear> Drop for PoolRef<'_, T> {
+    #[inline(always)]
+    fn drop(&mut self) {
+        // (By its parts: a reference whose address isn't told stays in registers.)
+        if self.by != By::Own || threads::has_ended() {
+            return release_apart(self.lane, self.held.parts(), self.by);
+        }
+        self.lane.release(&self.held);
+    }
+}
+
+/// An empty object, to be filled and published, with a share of the pool: it may go to any thread, and is published or dropped there.
+///
+/// ```
+/// use std::sync::Arc;
+///
+/// let pool = Arc::new(pardz::Pool::<String>::growing()?);
+/// let mut filling = pool.create_owned()?;
+/// filling.push_str("abc");
+/// let text = filling.downgrade();
+/// assert_eq!(*text, "abc");
+/// # Ok::<(), Box<dyn std::error::Error>>(())
+/// ```
+#[must_use = "a filling that is dropped isn't published"]
+pub struct OwnedFilling<T: Clear = Buffer> {
+    /// The number of a shared lane.
+    lane: u32,
+    begun: Begun,
+    /// None once it is taken out.
+    block: Option<Block<T>>,
+    pool: Arc<Pool<T>>,
+}
+
+/// The lane of this number in a key's segment.
+fn lane_of<T: Clear>(pool: &Pool<T>, key: Key, number: u32) -> &Lane<'_, T> {
+    match pool.room.segment_of(key) {
+        Some(segment) => segment.lane(number),
+        None => unreachable!("the key is of the pool"),
+    }
+}
+
+impl<T: Clear> OwnedFilling<T> {
+    fn lane(&self) -> &Lane<'_, T> {
+        lane_of(&self.pool, self.begun.key(), self.lane)
+    }
+
+    fn take(&mut self) -> Block<T> {
+        match self.block.take() {
+            Some(block) => block,
+            None => unreachable!("it is taken out at the end"),
+        }
+    }
+
+    /// The key under which it will be published.
+    pub fn key(&self) -> Key {
+        self.begun.key()
+    }
+
+    /// Publishes: from now on each call finds the object under the key.
+    pub fn publish(mut self) -> Key {
+        let block = self.take();
+        self.lane().shared_publish(self.begun, block)
+    }
+
+    /// Publishes, and keeps a reference.
+    ///
+    /// # Panics
+    ///
+    /// Where the lane has 1,048,575 references; nothing is published then.
+    pub fn downgrade(mut self) -> OwnedRef<T> {
+        let block = self.take();
+        let (held, object) = downgrade(self.lane(), self.begun, block);
+        OwnedRef {
+            lane: self.lane,
+            held,
+            object,
+            pool: Arc::clone(&self.pool),
+        }
+    }
+}
+
+impl<T: Clear> Deref for OwnedFilling<T> {
+    type Target = T;
+
+    #[inline]
+    fn deref(&self) -> &T {
+        match &self.block {
+            Some(block) => block,
+            None => unreachable!("it is taken out at the end"),
+        }
+    }
+}
+
+impl<T: Clear> DerefMut for OwnedFilling<T> {
+    #[inline]
+    fn deref_mut(&mut self) -> &mut T {
+        match &mut self.block {
+            Some(block) => block,
+            None => unreachable!("it is taken out at the end"),
+        }
+    }
+}
+
+impl<T: Clear> Drop for OwnedFilling<T> {
+    fn drop(&mut self) {
+        if let Some(block) = self.block.take() {
+            self.lane().give_back(self.begun, block, true);
+        }
+    }
+}
+
+/// A reference with a share of the pool: it may go to any thread, and is let go on whichever drops it.
+///
+/// A clone is one more reference to the same object, also where the key is cleared.
+///
+/// ```
+/// use std::sync::Arc;
+///
+/// let pool = Arc::new(pardz::Pool::<pardz::Buffer>::growing()?);
+/// let key = pool.put(b"abc")?;
+/// let bytes = pool.get_owned(key).expect("published");
+/// assert!(pool.clear(key));
+/// let more = bytes.clone();
+/// drop((bytes, pool));
+/// let slice: &[u8] = more.as_ref(); // so `bytes::Bytes::from_owner` takes it
+/// assert_eq!(slice, b"abc");
+/// # Ok::<(), Box<dyn std::error::Error>>(())
+/// ```
+pub struct OwnedRef<T: Clear = Buffer> {
+    /// The number of a shared lane.
+    lane: u32,
+    held: Held,
+    object: Shown<T>,
+    pool: Arc<Pool<T>>,
+}
+
+impl<T: Clear> OwnedRef<T> {
+    fn lane(&self) -> &Lane<'_, T> {
+        lane_of(&self.pool, self.held.key(), self.lane)
+    }
+
+    /// The key.
+    pub fn key(&self) -> Key {
+        self.held.key()
+    }
+
+    /// The pool.
+    pub fn pool(&self) -> &Arc<Pool<T>> {
+        &self.pool
+    }
+}
+
+impl<T: Clear> Clone for OwnedRef<T> {
+    fn clone(&self) -> Self {
+        self.lane().shared_clone(&self.held);
+        OwnedRef {
+            lane: self.lane,
+            held: self.held,
+            object: self.object,
+            pool: Arc::clone(&self.pool),
+        }
+    }
+}
+
+impl<T: Clear> Deref for OwnedRef<T> {
+    type Target = T;
+
+    #[inline]
+    fn deref(&self) -> &T {
+        self.object.get()
+    }
+}
+
+impl<T: Clear> Drop for OwnedRef<T> {
+    fn drop(&mut self) {
+        self.lane().shared_release(&self.held);
+    }
+}
+
+impl Pool<Buffer> {
+    /// Publishes bytes, which are copied into a buffer of the pool.
+    ///
+    /// # Errors
+    ///
+    /// As [`create`](Pool::create); [`CreateError::Memory`] also where the bytes found no memory.
+    ///
+    /// ```
+    /// let pool = pardz::Pool::<pardz::Buffer>::growing()?;
+    /// let key = pool.put(b"abc")?;
+    /// assert_eq!(*pool.get(key).expect("published"), *b"abc");
+    /// # Ok::<(), Box<dyn std::error::Error>>(())
+    /// ```
+    #[inline]
+    pub fn put(&self, bytes: &[u8]) -> Result<Key, CreateError> {
+        let mut filling = self.create()?;
+        filling.append(bytes)?;
+        Ok(filling.publish())
+    }
+}
+
+impl Pool<String> {
+    /// Publishes a text, which is copied into a string of the pool.
+    ///
+    /// # Errors
+    ///
+    /// As [`create`](Pool::create); [`CreateError::Memory`] also where the text found no memory.
+    #[inline]
+    pub fn put(&self, text: &str) -> Result<Key, CreateError> {
+        let mut filling = self.create()?;
+        if filling.try_reserve(text.len()).is_err() {
+            return Err(CreateError::Memory);
+        }
+        filling.push_str(text);
+        Ok(filling.publish())
+    }
+}
+
+impl<U: Clone> Pool<Vec<U>> {
+    /// Publishes values, which are cloned into a vector of the pool.
+    ///
+    /// # Errors
+    ///
+    /// As [`create`](Pool::create); [`CreateError::Memory`] also where the values found no memory.
+    #[inline]
+    pub fn put(&self, values: &[U]) -> Result<Key, CreateError> {
+        let mut filling = self.create()?;
+        if filling.try_reserve(values.len()).is_err() {
+            return Err(CreateError::Memory);
+        }
+        filling.extend_from_slice(values);
+        Ok(filling.publish())
+    }
+}

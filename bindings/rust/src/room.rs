@@ -1,0 +1,377 @@
+//! A pool's segments, and who has its lanes.
+//!
+//! A lane stands for the same number in each segment: who has it, has all of them. A lane is at home, where nobody has it; or in hand
+//! ([`Lane`]); or kept by a thread, until that ends; or shared for good, by any thread, each call under a lock.
+use crate::clear::Clear;
+use crate::errors::{CreateError, OpenError};
+use crate::key::Key;
+use crate::lane::{Filling, Shards};
+use crate::pool::{Census, Shape};
+use crate::threads::{self, Homes};
+use std::ops::Deref;
+use std::ptr::NonNull;
+use std::sync::atomic::{AtomicU32, AtomicU64, AtomicUsize, Ordering};
+use std::sync::{Arc, Mutex, OnceLock, PoisonError};
+
+/// The most segments: a key has room for so many tags.
+const MOST_SEGMENTS: usize = 256;
+
+/// The lanes of a growing pool, and those of them that are shared from the start.
+const LANES: u32 = 16;
+const SHARED: u32 = 4;
+
+/// How many creates pass by a lane that was found full in all segments.
+const PASSED: u32 = 32;
+
+/// A value that doesn't move, in memory that may be refused.
+pub(crate) struct Fixed<V>(Vec<V>);
+
+impl<V> Fixed<V> {
+    fn new(value: V) -> Result<Fixed<V>, OpenError> {
+        let mut row = Vec::new();
+        row.try_reserve_exact(1).map_err(|_| OpenError::Memory)?;
+        row.push(value);
+        Ok(Fixed(row))
+    }
+
+    pub(crate) fn into_inner(mut self) -> V {
+        match self.0.pop() {
+            Some(value) => value,
+            None => unreachable!("it has one value"),
+        }
+    }
+}
+
+impl<V> Deref for Fixed<V> {
+    type Target = V;
+
+    #[inline(always)]
+    fn deref(&self) -> &V {
+        &self.0[0]
+    }
+}
+
+/// Tells the threads that a pool is closed.
+#[derive(Default)]
+struct Told(OnceLock<Arc<Homes>>);
+
+impl Drop for Told {
+    fn drop(&mut self) {
+        if let Some(homes) = self.0.get() {
+            homes.closed.store(true, Ordering::Relaxed);
+        }
+    }
+}
+
+pub(crate) struct Room<T: Clear> {
+    /// Another for each pool of the process.
+    id: u64,
+    first: Shards<T>,
+    /// The further segments, by their tag from 1; none where the pool doesn't grow.
+    more: Vec<OnceLock<Fixed<Shards<T>>>>,
+    /// How many segments are open.
+    count: AtomicUsize,
+    tag: usize,
+    last_generation: u32,
+    /// A bit for each lane that is shared.
+    shared: AtomicU32,
+    /// Who takes lanes that were left, or opens a segment.
+    lock: Mutex<()>,
+    homes: Told,
+    /// By lane: the segment that had a place last, and how many creates still pass it by.
+    hints: [AtomicUsize; LANES as usize],
+    passed: [AtomicU32; LANES as usize],
+}
+
+/// The shape of the segment of this tag: each is larger than the one before, up to the largest.
+fn shape_of(tag: usize, last_generation: u32) -> Shape {
+    let (first_page, pages) = match tag {
+        0 => (32, 1),
+        1..=6 => (64, tag as u32),
+        _ => (64, 6),
+    };
+    Shape {
+        lanes: LANES,
+        first_page,
+        pages,
+        last_generation,
+        tag: tag as u32,
+    }
+}
+
+impl<T: Clear> Room<T> {
+    pub(crate) fn open(shape: Shape) -> Result<Fixed<Room<T>>, OpenError> {
+        Room::of(shape, 0, 0)
+    }
+
+    /// A pool that grows, and its first shape.
+    pub(crate) fn open_growing(last_generation: u32) -> Result<(Fixed<Room<T>>, Shape), OpenError> {
+        let shape = shape_of(0, last_generation);
+        let shared = ((1 << SHARED) - 1) << (LANES - SHARED);
+        let room = Room::of(shape, MOST_SEGMENTS - 1, shared)?;
+        Ok((room, shape))
+    }
+
+    fn of(shape: Shape, further: usize, shared: u32) -> Result<Fixed<Room<T>>, OpenError> {
+        static NEXT: AtomicU64 = AtomicU64::new(1);
+        let first = Shards::open(shape)?;
+        first.home().fetch_and(!shared, Ordering::SeqCst);
+        let mut more = Vec::new();
+        more.try_reserve_exact(further)
+            .map_err(|_| OpenError::Memory)?;
+        more.resize_with(further, OnceLock::new);
+        let room = Fixed::new(Room {
+            id: NEXT.fetch_add(1, Ordering::Relaxed),
+            first,
+            more,
+            count: AtomicUsize::new(1),
+            tag: shape.tag as usize,
+            last_generation: shape.last_generation,
+            shared: AtomicU32::new(shared),
+            lock: Mutex::new(()),
+            homes: Told::default(),
+            hints: Default::default(),
+            passed: Default::default(),
+        })?;
+        room.first.settle(NonNull::from(&*room));
+        Ok(room)
+    }
+
+    #[inline(always)]
+    pub(crate) fn id(&self) -> u64 {
+        self.id
+    }
+
+    #[inline(always)]
+    pub(crate) fn first(&self) -> &Shards<T> {
+        &self.first
+    }
+
+    pub(crate) fn grows(&self) -> bool {
+        !self.more.is_empty()
+    }
+
+    /// How many segments are open.
+    pub(crate) fn count(&self) -> usize {
+        self.count.load(Ordering::Acquire)
+    }
+
+    fn segment(&self, index: usize) -> Option<&Shards<T>> {
+        match index.checked_sub(1) {
+            None => Some(&self.first),
+            Some(further) => self.more.get(further)?.get().map(|shards| &**shards),
+        }
+    }
+
+    fn segments(&self) -> impl Iterator<Item = &Shards<T>> {
+        (0..self.count()).map_while(|index| self.segment(index))
+    }
+
+    /// The segment of which a key's tag tells.
+    #[inline]
+    pub(crate) fn segment_of(&self, key: Key) -> Option<&Shards<T>> {
+        let tag = (u64::from(key) >> 56) as usize;
+        self.segment(tag.checked_sub(self.tag)?)
+    }
+
+    fn locked<R>(&self, with: impl FnOnce() -> R) -> R {
+        let _lock = self.lock.lock().unwrap_or_else(PoisonError::into_inner);
+        with()
+    }
+
+    /// Opens a further segment, unless there are other than so many by now.
+    pub(crate) fn grow(&self, count: usize) -> Result<(), CreateError> {
+        self.locked(|| {
+            if self.count() != count {
+                return Ok(());
+            }
+            let place = self.more.get(count - 1).ok_or(CreateError::Full)?;
+            let shards = Shards::open(shape_of(count, self.last_generation))
+                .map_err(|_| CreateError::Memory)?;
+            let shards = Fixed::new(shards).map_err(|_| CreateError::Memory)?;
+            shards.settle(NonNull::from(self));
+            // (The place is empty, as we have the lock.)
+            let _ = place.set(shards);
+            self.count.store(count + 1, Ordering::Release);
+            self.look_again();
+            Ok(())
+        })
+    }
+
+    /// A create by a lane that the caller has, in any segment.
+    pub(crate) fn create_in_any(&self, number: u32) -> Result<Filling<'_, T>, CreateError>
+    where
+        T: Default,
+    {
+        self.create_by(number, |shards| shards.lane(number).create_here())
+    }
+
+    /// A create by any of the shared lanes, in any segment.
+    pub(crate) fn create_in_shared(&self) -> Result<Filling<'_, T>, CreateError>
+    where
+        T: Default,
+    {
+        for number in self.shared_lanes() {
+            if self.passes(number) {
+                continue;
+            }
+            match self.create_by(number, |shards| shards.lane(number).shared_create()) {
+                Err(CreateError::Full) => (),
+                created => return created,
+            }
+        }
+        Err(CreateError::Full)
+    }
+
+    /// A create by a lane, in the segment that had a place last, or another one.
+    fn create_by<'r>(
+        &'r self,
+        number: u32,
+        create: impl Fn(&'r Shards<T>) -> Result<Filling<'r, T>, CreateError>,
+    ) -> Result<Filling<'r, T>, CreateError> {
+        let hint = &self.hints[number as usize];
+        let (from, count) = (hint.load(Ordering::Relaxed), self.count());
+        for step in 0..count {
+            let index = (from + step) % count;
+            let Some(shards) = self.segment(index) else {
+                break;
+            };
+            match create(shards) {
+                Err(CreateError::Full) => (),
+                created => {
+                    hint.store(index, Ordering::Relaxed);
+                    return created;
+                }
+            }
+        }
+        self.passed[number as usize].store(PASSED, Ordering::Relaxed);
+        Err(CreateError::Full)
+    }
+
+    /// Whether a create passes a lane by, since it was found full a while ago.
+    pub(crate) fn passes(&self, number: u32) -> bool {
+        let passed = &self.passed[number as usize];
+        let left = passed.load(Ordering::Relaxed);
+        if left > 0 {
+            passed.store(left - 1, Ordering::Relaxed);
+        }
+        left > 0
+    }
+
+    /// No lane is passed by any more.
+    pub(crate) fn look_again(&self) {
+        for passed in &self.passed {
+            passed.store(0, Ordering::Relaxed);
+        }
+    }
+
+    fn homes(&self) -> &Arc<Homes> {
+        self.homes.0.get_or_init(Arc::default)
+    }
+
+    /// The lane that the thread has, or is to have from now on. None where it shares.
+    pub(crate) fn thread_lane(&self) -> Option<u32> {
+        if let Some(number) = threads::kept(self.id) {
+            return Some(number);
+        }
+        let homes = self.homes();
+        let none_left = homes.left.load(Ordering::Relaxed) == 0;
+        if none_left && self.first.home().load(Ordering::Relaxed) == 0 {
+            return None;
+        }
+        self.welcome_back();
+        self.share_some();
+        threads::keep(self.id, homes, || self.first.take_number())
+    }
+
+    /// The lanes of threads that have ended come home; or are shared, where references or fillings of them live.
+    pub(crate) fn welcome_back(&self) {
+        let Some(homes) = self.homes.0.get() else {
+            return;
+        };
+        if homes.left.load(Ordering::Relaxed) == 0 {
+            return;
+        }
+        self.locked(|| {
+            let left = homes.left.swap(0, Ordering::SeqCst);
+            for number in bits(left) {
+                let idle = self.segments().all(|shards| shards.is_idle(number));
+                let row = if idle {
+                    self.first.home()
+                } else {
+                    &self.shared
+                };
+                row.fetch_or(1 << number, Ordering::SeqCst);
+            }
+        });
+    }
+
+    /// A quarter of the lanes is shared, and one at least.
+    fn share_some(&self) {
+        let few = (self.first.lanes() / 4).max(1);
+        while self.shared.load(Ordering::SeqCst).count_ones() < few && self.share_one() {}
+    }
+
+    /// A lane that nobody has is shared from now on.
+    pub(crate) fn share_one(&self) -> bool {
+        self.locked(|| {
+            let number = self.first.take_number();
+            let bit = number.map_or(0, |number| 1 << number);
+            self.shared.fetch_or(bit, Ordering::SeqCst);
+            number.is_some()
+        })
+    }
+
+    /// The numbers of the shared lanes, from the thread's own choice on. At least one.
+    ///
+    /// # Panics
+    ///
+    /// Where all lanes are taken in hand.
+    pub(crate) fn shared_lanes(&self) -> impl Iterator<Item = u32> {
+        if self.shared.load(Ordering::SeqCst) == 0 {
+            self.welcome_back();
+            self.share_some();
+        }
+        let shared = self.shared.load(Ordering::SeqCst);
+        assert!(shared != 0, "all lanes of the pool are taken in hand");
+        let turn = (threads::turn() % shared.count_ones()) as usize;
+        bits(shared).skip(turn).chain(bits(shared).take(turn))
+    }
+
+    /// The shared lane of the thread's choice.
+    #[inline]
+    pub(crate) fn shared_lane(&self) -> u32 {
+        match threads::last_shared(self.id) {
+            Some(number) => number,
+            None => self.choose_shared(),
+        }
+    }
+
+    #[cold]
+    #[inline(never)]
+    fn choose_shared(&self) -> u32 {
+        let number = self.shared_lanes().next().unwrap_or_default();
+        threads::set_last_shared(self.id, number);
+        number
+    }
+
+    pub(crate) fn census(&self) -> Census {
+        let segments = self.segments().map(Shards::census);
+        segments.fold(Census::default(), Census::with)
+    }
+
+    pub(crate) fn close(self) -> Census {
+        let Room {
+            first, more, homes, ..
+        } = self;
+        drop(homes);
+        let further = more.into_iter().filter_map(OnceLock::into_inner);
+        let further = further.map(|shards| shards.into_inner().close());
+        further.fold(first.close(), Census::with)
+    }
+}
+
+/// The numbers of the bits of a word.
+fn bits(word: u32) -> impl Iterator<Item = u32> {
+    (0..u32::BITS).filter(move |number| word >> number & 1 == 1)
+}

@@ -1,0 +1,380 @@
+//! Rows of values.
+
+use super::check;
+use super::heap::{free, zeroed, AllocError, Global};
+use std::fmt;
+use std::marker::PhantomData;
+use std::mem::{self, ManuallyDrop, MaybeUninit};
+use std::ops::{Deref, DerefMut, Index, IndexMut};
+use std::{ptr, slice, vec};
+
+/// A vector that reports where memory was refused.
+pub(crate) struct Vec<T> {
+    items: vec::Vec<T>,
+    /// Whether the memory behind the items is zeroed.
+    clean: bool,
+}
+
+impl<T> Vec<T> {
+    #[inline]
+    pub(crate) fn new(_: Global) -> Vec<T> {
+        Vec::of(vec::Vec::new())
+    }
+
+    #[inline]
+    fn of(items: vec::Vec<T>) -> Vec<T> {
+        let clean = false;
+        Vec { items, clean }
+    }
+
+    /// An empty vector with room for so many, whose memory comes zeroed from the allocator.
+    pub(crate) fn with_capacity(_: Global, count: usize) -> Result<Vec<T>, AllocError> {
+        if count == 0 || mem::size_of::<T>() == 0 {
+            return Ok(Vec::of(vec::Vec::new()));
+        }
+        let at = zeroed::<T>(count).ok_or(AllocError)?;
+        // SAFETY: it is memory of the program's allocator, by the layout of an array of so many, and has no item yet.
+        let items = unsafe { vec::Vec::from_raw_parts(at.as_ptr(), 0, count) };
+        Ok(Vec { items, clean: true })
+    }
+
+    /// So many of a number.
+    pub(crate) fn filled(alloc: Global, value: T, count: usize) -> Result<Vec<T>, AllocError>
+    where
+        T: Gapless + Copy,
+    {
+        let mut row = Vec::with_capacity(alloc, count)?;
+        row.push_alike(count, || value);
+        Ok(row)
+    }
+
+    /// Appends so many values, for which there is room, and which `make` makes alike, byte by byte. Zeros aren't written, where zeros
+    /// are there.
+    #[inline]
+    pub(crate) fn push_alike(&mut self, count: usize, make: impl Fn() -> T)
+    where
+        T: Gapless,
+    {
+        const { assert!(mem::size_of::<T>() == T::FIELDS) };
+        let length = self.items.len() + count;
+        assert!(length <= self.items.capacity(), "out of range");
+        if mem::size_of::<T>() == 0 || self.clean && is_zero(make()) {
+            // SAFETY: the memory is there, and zeroed, or no value has bytes. So each item has the bytes of the value that was made.
+            unsafe { self.items.set_len(length) };
+            return;
+        }
+        self.items.resize_with(length, make);
+    }
+
+    /// Appends a value, for which there is room.
+    #[inline(always)]
+    pub(crate) fn push_reserved(&mut self, value: T) {
+        let length = self.items.len();
+        check!(length < self.items.capacity());
+        // SAFETY: there is room for it behind the last item: it was looked for, or is proved.
+        unsafe {
+            self.items.as_mut_ptr().add(length).write(value);
+            self.items.set_len(length + 1);
+        }
+    }
+
+    /// Makes room for so many more.
+    #[inline]
+    pub(crate) fn reserve(&mut self, count: usize) -> Result<(), AllocError> {
+        if self.items.capacity() - self.items.len() >= count {
+            return Ok(());
+        }
+        self.clean = false;
+        self.items.try_reserve(count).or(Err(AllocError))
+    }
+
+    /// The memory of as many values as there are items, and how many they are. Whoever takes it frees it. The items move where the vector
+    /// has room left.
+    pub(super) fn into_memory(self) -> Result<(*mut T, usize), AllocError> {
+        let mut items = ManuallyDrop::new(self.items);
+        let (at, count) = (items.as_mut_ptr(), items.len());
+        if count == items.capacity() {
+            return Ok((at, count));
+        }
+        let mut items = ManuallyDrop::into_inner(items);
+        let row = zeroed::<T>(count).ok_or(AllocError)?.as_ptr();
+        // SAFETY: the row has memory for all items, which move there, so that the vector has none.
+        unsafe {
+            ptr::copy_nonoverlapping(at, row, count);
+            items.set_len(0);
+        }
+        Ok((row, count))
+    }
+
+    #[inline]
+    pub(crate) fn resize(&mut self, count: usize, value: T) -> Result<(), AllocError>
+    where
+        T: Clone,
+    {
+        self.reserve(count.saturating_sub(self.items.len()))?;
+        self.clean = false;
+        self.items.resize(count, value);
+        Ok(())
+    }
+
+    #[inline]
+    pub(crate) fn pop(&mut self) -> Option<T> {
+        self.clean = false;
+        self.items.pop()
+    }
+
+    #[inline]
+    pub(crate) fn clear(&mut self) {
+        self.clean = false;
+        self.items.clear();
+    }
+
+    #[inline]
+    pub(crate) fn truncate(&mut self, count: usize) {
+        self.clean = false;
+        self.items.truncate(count);
+    }
+
+    #[inline]
+    pub(crate) fn capacity(&self) -> usize {
+        self.items.capacity()
+    }
+
+    #[inline]
+    pub(crate) fn as_slice(&self) -> &[T] {
+        &self.items
+    }
+}
+
+impl<T> Deref for Vec<T> {
+    type Target = [T];
+
+    #[inline(always)]
+    fn deref(&self) -> &[T] {
+        &self.items
+    }
+}
+
+impl<T> DerefMut for Vec<T> {
+    #[inline(always)]
+    fn deref_mut(&mut self) -> &mut [T] {
+        &mut self.items
+    }
+}
+
+impl<T> Index<usize> for Vec<T> {
+    type Output = T;
+
+    #[inline(always)]
+    fn index(&self, index: usize) -> &T {
+        check!(index < self.items.len());
+        // SAFETY: the index is in range: it was looked at, or is proved.
+        unsafe { self.items.get_unchecked(index) }
+    }
+}
+
+impl<T> IndexMut<usize> for Vec<T> {
+    #[inline(always)]
+    fn index_mut(&mut self, index: usize) -> &mut T {
+        check!(index < self.items.len());
+        // SAFETY: the index is in range: it was looked at, or is proved.
+        unsafe { self.items.get_unchecked_mut(index) }
+    }
+}
+
+impl<T> IntoIterator for Vec<T> {
+    type Item = T;
+    type IntoIter = vec::IntoIter<T>;
+
+    #[inline]
+    fn into_iter(self) -> vec::IntoIter<T> {
+        self.items.into_iter()
+    }
+}
+
+impl<T: fmt::Debug> fmt::Debug for Vec<T> {
+    fn fmt(&self, f: &mut fmt::Formatter<'_>) -> fmt::Result {
+        self.items.fmt(f)
+    }
+}
+
+/// A type of whose values each byte is written: its fields leave no gap.
+///
+/// # Safety
+///
+/// `FIELDS` is how many bytes the fields have in all, and each of them has no gap itself.
+pub(crate) unsafe trait Gapless {
+    /// The bytes of the fields, which the compiler compares with those of the type where a row is filled.
+    const FIELDS: usize;
+}
+
+macro_rules! gapless_numbers {
+    ($($number:ty)*) => {$(
+        // SAFETY: a number has no gap.
+        unsafe impl Gapless for $number {
+            const FIELDS: usize = mem::size_of::<$number>();
+        }
+    )*};
+}
+gapless_numbers!(u8 u16 u32 u64 usize);
+
+/// 0, how many bytes a type has; the compiler refuses one that has any.
+pub(crate) const fn no_bytes<T>() -> usize {
+    assert!(mem::size_of::<T>() == 0);
+    0
+}
+
+/// Whether each byte of a value is 0.
+#[inline]
+fn is_zero<T: Gapless>(value: T) -> bool {
+    let value = ManuallyDrop::new(value);
+    let at = (&value as *const ManuallyDrop<T>).cast::<u8>();
+    // SAFETY: the bytes are the value's own, and each is written, as its type has no gap.
+    let bytes = unsafe { slice::from_raw_parts(at, mem::size_of::<T>()) };
+    bytes.iter().all(|byte| *byte == 0)
+}
+
+/// At most N values, which lie in the row itself.
+pub(crate) struct ArrayVec<T, const N: usize> {
+    items: [MaybeUninit<T>; N],
+    count: usize,
+}
+
+impl<T, const N: usize> ArrayVec<T, N> {
+    pub(crate) fn new() -> ArrayVec<T, N> {
+        ArrayVec {
+            items: [const { MaybeUninit::uninit() }; N],
+            count: 0,
+        }
+    }
+
+    pub(crate) fn len(&self) -> usize {
+        self.count
+    }
+
+    pub(crate) fn is_full(&self) -> bool {
+        self.count == N
+    }
+
+    pub(crate) fn push(&mut self, value: T) {
+        self.items[self.count].write(value);
+        self.count += 1;
+    }
+
+    pub(crate) fn pop(&mut self) -> Option<T> {
+        self.count = self.count.checked_sub(1)?;
+        // SAFETY: the first `count` items are written, and the last of them is one no more.
+        Some(unsafe { self.items[self.count].assume_init_read() })
+    }
+
+    pub(crate) fn clear(&mut self) {
+        while self.pop().is_some() {}
+    }
+
+    pub(crate) fn as_slice(&self) -> &[T] {
+        // SAFETY: the first `count` items are written.
+        unsafe { slice::from_raw_parts(self.items.as_ptr().cast(), self.count) }
+    }
+}
+
+impl<T, const N: usize> Drop for ArrayVec<T, N> {
+    fn drop(&mut self) {
+        self.clear();
+    }
+}
+
+impl<T: fmt::Debug, const N: usize> fmt::Debug for ArrayVec<T, N> {
+    fn fmt(&self, f: &mut fmt::Formatter<'_>) -> fmt::Result {
+        self.as_slice().fmt(f)
+    }
+}
+
+/// A row of memory. Which of it is filled is known to proofs alone; no value in it is dropped with it, and it isn't freed by itself.
+pub(crate) struct Slots<T> {
+    at: *mut T,
+    count: usize,
+}
+
+/// The right to free a row.
+pub(crate) struct Lease<T, A>(PhantomData<(*mut T, A)>);
+
+/// The memory of a vector, as a row.
+///
+/// # Safety
+///
+/// None here: the sources call it as an unsafe function.
+#[allow(clippy::type_complexity)]
+pub(crate) unsafe fn reserve<T>(
+    _: &Global,
+    values: Vec<T>,
+) -> Result<(Slots<T>, Lease<T, Global>), AllocError> {
+    let (at, count) = values.into_memory()?;
+    Ok((Slots { at, count }, Lease(PhantomData)))
+}
+
+/// Frees a row.
+pub(crate) fn release<T>(_: &Global, slots: Slots<T>, _: Lease<T, Global>) {
+    slots.free();
+}
+
+impl<T> Slots<T> {
+    /// A row of this memory, of which so many values were asked for.
+    pub(super) fn of(at: *mut T, count: usize) -> Slots<T> {
+        Slots { at, count }
+    }
+
+    pub(super) fn count(&self) -> usize {
+        self.count
+    }
+
+    pub(super) fn free(self) {
+        // SAFETY: each row comes of memory for so many, and is freed by value, so once.
+        unsafe { free(self.at, self.count) };
+    }
+
+    #[inline]
+    fn spot(&self, index: usize) -> *mut T {
+        check!(index < self.count);
+        // SAFETY: the index is in range: it was looked at, or is proved.
+        unsafe { self.at.add(index) }
+    }
+
+    /// The value there, which stays.
+    #[inline]
+    pub(crate) fn get(&self, index: usize) -> &T {
+        // SAFETY: it is proved of each call that the row is filled there.
+        unsafe { &*self.spot(index) }
+    }
+
+    /// Takes the value out.
+    #[inline]
+    pub(crate) fn take(&mut self, index: usize) -> T {
+        // SAFETY: it is proved of each call that the row is filled there, and it isn't any more.
+        unsafe { self.spot(index).read() }
+    }
+
+    /// Puts a value in. One that is there isn't dropped.
+    #[inline]
+    pub(crate) fn put(&mut self, index: usize, value: T) {
+        // SAFETY: the row has memory there, and is borrowed alone.
+        unsafe { self.spot(index).write(value) };
+    }
+
+    /// The row as its address and its length.
+    ///
+    /// # Safety
+    ///
+    /// A row is made of them again, or the memory is never freed.
+    pub(crate) unsafe fn into_raw_parts(self) -> (*mut T, usize) {
+        (self.at, self.count)
+    }
+
+    /// The row that was taken apart.
+    ///
+    /// # Safety
+    ///
+    /// The parts are those of `into_raw_parts`, and no other row is made of them.
+    pub(crate) unsafe fn from_raw_parts(at: *mut T, count: usize) -> Slots<T> {
+        Slots::of(at, count)
+    }
+}

@@ -1,0 +1,241 @@
+//! The table of atomic words and slots that the threads share.
+
+use super::check;
+use super::heap::{free, zeroed, AllocError, Global};
+use super::rows::{Slots, Vec};
+use std::marker::PhantomData;
+use std::mem::{self, ManuallyDrop};
+use std::ptr;
+use std::sync::atomic::AtomicU64;
+use std::sync::atomic::Ordering::{Relaxed, SeqCst};
+
+/// A thread's right to step on a table. It has no bytes.
+pub(crate) struct Seat<S>(PhantomData<S>);
+
+impl<S> Seat<S> {
+    /// The slot that was taken first goes behind the others, which proofs alone tell apart.
+    #[inline(always)]
+    pub(crate) fn turn(&mut self) {}
+}
+
+/// The words and the slots, as threads share them.
+pub(crate) struct Shared<S> {
+    words: *mut u64,
+    word_count: usize,
+    slots: *mut S,
+    slot_count: usize,
+}
+
+// SAFETY: it owns its words and its slots.
+unsafe impl<S: Send> Send for Shared<S> {}
+
+// SAFETY: words are atomic, and it is proved that one thread at a time reaches a slot, whose value goes from thread to thread.
+unsafe impl<S: Send> Sync for Shared<S> {}
+
+/// Makes a step, and tells it where tests look on. (what, word, expected word, operand, the step, what it answers where it isn't made)
+macro_rules! step {
+    ($what:ident, $word:expr, $expected:expr, $operand:expr, $step:expr) => {{
+        #[cfg(pardz_trace)]
+        let found = super::trace::around(
+            super::trace::Asked {
+                what: super::trace::What::$what,
+                word: $word,
+                expected: $expected,
+                operand: $operand,
+            },
+            || $step,
+        );
+        #[cfg(not(pardz_trace))]
+        let found = $step;
+        found
+    }};
+}
+
+impl<S> Shared<S> {
+    #[inline(always)]
+    fn word(&self, index: usize) -> &AtomicU64 {
+        check!(index < self.word_count);
+        // SAFETY: the index is in range: it was looked at, or is proved. The words live as long as the table, and are atomic for all.
+        unsafe { AtomicU64::from_ptr(self.words.add(index)) }
+    }
+
+    #[inline(always)]
+    pub(crate) fn load(&self, _: &mut Seat<S>, index: usize) -> u64 {
+        step!(Load, index, 0, 0, self.word(index).load(SeqCst))
+    }
+
+    #[inline(always)]
+    pub(crate) fn store(&self, _: &mut Seat<S>, index: usize, value: u64) {
+        #[cfg(pardz_trace)]
+        step!(Store, index, 0, value, self.word(index).swap(value, SeqCst));
+        #[cfg(not(pardz_trace))]
+        self.word(index).store(value, SeqCst);
+    }
+
+    #[inline(always)]
+    pub(crate) fn swap(&self, _: &mut Seat<S>, index: usize, value: u64) -> u64 {
+        step!(Swap, index, 0, value, self.word(index).swap(value, SeqCst))
+    }
+
+    #[inline(always)]
+    pub(crate) fn fetch_add(&self, _: &mut Seat<S>, index: usize, value: u64) -> u64 {
+        step!(
+            Add,
+            index,
+            0,
+            value,
+            self.word(index).fetch_add(value, SeqCst)
+        )
+    }
+
+    #[inline(always)]
+    pub(crate) fn fetch_sub(&self, _: &mut Seat<S>, index: usize, value: u64) -> u64 {
+        step!(
+            Sub,
+            index,
+            0,
+            value,
+            self.word(index).fetch_sub(value, SeqCst)
+        )
+    }
+
+    #[inline(always)]
+    pub(crate) fn fetch_or(&self, _: &mut Seat<S>, index: usize, value: u64) -> u64 {
+        step!(
+            Or,
+            index,
+            0,
+            value,
+            self.word(index).fetch_or(value, SeqCst)
+        )
+    }
+
+    /// Answers the word that was found, which is replaced where it is the expected one.
+    #[inline(always)]
+    pub(crate) fn compare_exchange(
+        &self,
+        _: &mut Seat<S>,
+        index: usize,
+        old: u64,
+        new: u64,
+    ) -> u64 {
+        step!(
+            Exchange,
+            index,
+            old,
+            new,
+            match self.word(index).compare_exchange(old, new, SeqCst, SeqCst) {
+                Ok(_) => old,
+                Err(found) => found,
+            }
+        )
+    }
+
+    /// What a word is now. No step, so nothing is told by it of what stands behind it.
+    #[inline]
+    pub(crate) fn peek(&self, index: usize) -> u64 {
+        self.word(index).load(Relaxed)
+    }
+
+    /// Puts a value into a slot that the seat took, and answers the one before.
+    #[inline(always)]
+    pub(crate) fn exchange(&self, _: &mut Seat<S>, index: usize, value: S) -> S {
+        if mem::size_of::<S>() != 0 {
+            check!(index < self.slot_count);
+        }
+        // SAFETY: the index is in range: it was looked at, or is proved, or a slot has no bytes. That nobody else reaches the slot is
+        // proved.
+        unsafe { ptr::replace(self.slots.add(index), value) }
+    }
+
+    /// Cuts a seat off.
+    #[inline]
+    pub(crate) fn split_seat(&self, _: &mut Seat<S>) -> Seat<S> {
+        self.word(0).load(SeqCst);
+        Seat(PhantomData)
+    }
+
+    /// Takes a seat in.
+    #[inline]
+    pub(crate) fn join_seat(&self, _: &mut Seat<S>, _: Seat<S>) {
+        self.word(0).load(SeqCst);
+    }
+}
+
+/// The words and the slots, with their memory.
+pub(crate) struct Table<S> {
+    pub(crate) shared: Shared<S>,
+}
+
+/// A table that no thread shares any more.
+pub(crate) struct Closed<S, A = Global> {
+    pub(crate) words: Slots<u64>,
+    pub(crate) slots: Slots<S>,
+    of: PhantomData<A>,
+}
+
+impl<S> Table<S> {
+    /// A table of these words and slots, and the seat of all. What its rule is told of is for proofs alone.
+    pub(crate) fn new<K>(
+        _: Global,
+        words: Vec<u64>,
+        slots: Vec<S>,
+        _: &K,
+    ) -> Result<(Table<S>, Seat<S>), AllocError> {
+        let (words, word_count) = words.into_memory()?;
+        let Some(slot_row) = zeroed::<S>(slots.len()) else {
+            // SAFETY: the words are nobody else's, and nothing uses them.
+            unsafe { free(words, word_count) };
+            return Err(AllocError);
+        };
+        let shared = Shared {
+            words,
+            word_count,
+            slots: slot_row.as_ptr(),
+            slot_count: slots.len(),
+        };
+        for (index, slot) in slots.into_iter().enumerate() {
+            // SAFETY: the row has as many slots.
+            unsafe { shared.slots.add(index).write(slot) };
+        }
+        Ok((Table { shared }, Seat(PhantomData)))
+    }
+
+    /// Ends the sharing, by the seat of all.
+    pub(crate) fn close_with(self, _: Seat<S>) -> Closed<S, Global> {
+        let table = ManuallyDrop::new(self);
+        let shared = &table.shared;
+        Closed {
+            words: Slots::of(shared.words, shared.word_count),
+            slots: Slots::of(shared.slots, shared.slot_count),
+            of: PhantomData,
+        }
+    }
+}
+
+impl<S> Drop for Table<S> {
+    fn drop(&mut self) {
+        let slots = ptr::slice_from_raw_parts_mut(self.shared.slots, self.shared.slot_count);
+        // SAFETY: all slots are filled while no thread steps, and the memory is the table's own, which ends here.
+        unsafe {
+            ptr::drop_in_place(slots);
+            free(self.shared.slots, self.shared.slot_count);
+            free(self.shared.words, self.shared.word_count);
+        }
+    }
+}
+
+impl<S> Closed<S, Global> {
+    pub(crate) fn slot_count(&self) -> usize {
+        self.slots.count()
+    }
+
+    pub(crate) fn take(&mut self, index: usize) -> S {
+        self.slots.take(index)
+    }
+
+    pub(crate) fn free(self) {
+        self.words.free();
+        self.slots.free();
+    }
+}

@@ -1,0 +1,137 @@
+//! What the shim looks for, and what becomes of its values.
+use super::*;
+use std::cell::Cell;
+use std::rc::Rc;
+
+/// Counts its drops; as large as a pointer, or larger.
+struct Counted<const N: usize>(Rc<Cell<u32>>, [u8; N]);
+
+impl<const N: usize> Drop for Counted<N> {
+    fn drop(&mut self) {
+        self.0.set(self.0.get() + 1);
+    }
+}
+
+fn row(count: usize) -> Vec<u32> {
+    Vec::filled(Global, 7, count).expect("memory")
+}
+
+fn table(words: usize, slots: usize) -> (Table<u32>, Seat<u32>) {
+    let words = Vec::filled(Global, 5, words).expect("memory");
+    Table::new(Global, words, row(slots), &()).expect("memory")
+}
+
+fn boxed<const N: usize>() {
+    let drops = Rc::new(Cell::new(0));
+    let boxed = Box::new(Global, Counted(drops.clone(), [1; N]));
+    let Ok(mut boxed) = boxed else {
+        panic!("memory")
+    };
+    boxed.1 = [2; N];
+    assert_eq!((boxed.1, drops.get()), ([2; N], 0));
+    drop(Box::into_inner(boxed));
+    assert_eq!(drops.get(), 1);
+    drop(Box::new(Global, Counted(drops.clone(), [1; N])));
+    assert_eq!(drops.get(), 2);
+}
+
+#[test]
+fn a_box_drops_its_value_once() {
+    boxed::<0>();
+    boxed::<8>();
+}
+
+#[test]
+fn rows_have_their_values() {
+    for value in [0, 7] {
+        let mut row = Vec::with_capacity(Global, 5).expect("memory");
+        row.push_reserved(3u32);
+        row.push_alike(4, || value);
+        assert_eq!(row.as_slice(), [3, value, value, value, value]);
+        assert_eq!(row.pop(), Some(value));
+        row.push_alike(1, || 0);
+        assert_eq!(row.as_slice(), [3, value, value, value, 0]);
+        // SAFETY: none is asked.
+        let (mut slots, lease) = unsafe { reserve(&Global, row) }.expect("memory");
+        assert_eq!((slots.take(0), *slots.get(4)), (3, 0));
+        release(&Global, slots, lease);
+    }
+}
+
+#[test]
+fn a_vector_with_room_left_becomes_a_row_by_a_copy() {
+    let mut row = Vec::with_capacity(Global, 9).expect("memory");
+    row.push_alike(2, || 4u64);
+    // SAFETY: none is asked.
+    let (slots, lease) = unsafe { reserve(&Global, row) }.expect("memory");
+    assert_eq!((*slots.get(0), *slots.get(1)), (4, 4));
+    release(&Global, slots, lease);
+}
+
+#[test]
+fn a_table_has_its_words_and_slots() {
+    let (table, mut seat) = table(3, 2);
+    let shared = &table.shared;
+    assert_eq!(shared.compare_exchange(&mut seat, 1, 4, 9), 5);
+    assert_eq!(shared.compare_exchange(&mut seat, 1, 5, 9), 5);
+    assert_eq!(shared.fetch_add(&mut seat, 1, 1), 9);
+    assert_eq!(shared.exchange(&mut seat, 1, 8), 7);
+    let mut closed = table.close_with(seat);
+    assert_eq!(
+        (*closed.words.get(1), closed.take(0), closed.take(1)),
+        (10, 7, 8)
+    );
+    assert_eq!(closed.slot_count(), 2);
+    closed.free();
+}
+
+#[cfg(not(feature = "unchecked"))]
+mod out_of_range {
+    use super::*;
+
+    #[test]
+    #[should_panic(expected = "out of range")]
+    fn an_index_of_a_row() {
+        let _ = row(3)[3];
+    }
+
+    #[test]
+    #[should_panic(expected = "out of range")]
+    fn an_index_of_a_row_that_is_written() {
+        row(3)[4] = 1;
+    }
+
+    #[test]
+    #[should_panic(expected = "out of range")]
+    fn a_push_on_a_full_row() {
+        row(3).push_reserved(1);
+    }
+
+    #[test]
+    #[should_panic(expected = "out of range")]
+    fn a_word_of_a_table() {
+        let (table, mut seat) = table(3, 2);
+        table.shared.load(&mut seat, 3);
+    }
+
+    #[test]
+    #[should_panic(expected = "out of range")]
+    fn a_slot_of_a_table() {
+        let (table, mut seat) = table(3, 2);
+        table.shared.exchange(&mut seat, 2, 1);
+    }
+
+    #[test]
+    #[should_panic(expected = "out of range")]
+    fn a_value_of_memory() {
+        // SAFETY: none is asked.
+        let (slots, _) = unsafe { reserve(&Global, row(3)) }.expect("memory");
+        slots.get(3);
+    }
+
+    #[test]
+    #[should_panic(expected = "unreachable")]
+    fn a_line_that_is_ruled_out() {
+        impossible!()
+    }
+}

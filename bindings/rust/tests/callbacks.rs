@@ -1,0 +1,351 @@
+//! Objects whose code calls the pool again.
+use pardz::{Clear, CreateError, Key, Lane, Pool, Shape};
+use std::cell::{Cell, OnceCell, RefCell};
+use std::sync::{Arc, Mutex, Weak};
+use std::thread;
+
+fn shape(lanes: u32, first_page: u32, pages: u32) -> Shape {
+    Shape {
+        lanes,
+        first_page,
+        pages,
+        ..Shape::default()
+    }
+}
+
+thread_local! {
+    /// The lane of the thread, as a program keeps it whose objects call back.
+    static LANE: OnceCell<Lane<'static, Link>> = const { OnceCell::new() };
+    static EMPTIED: Cell<usize> = const { Cell::new(0) };
+}
+
+/// Lets go of the next one when it is emptied.
+#[derive(Default)]
+struct Link {
+    next: Option<Key>,
+}
+
+impl Clear for Link {
+    fn clear(&mut self) {
+        EMPTIED.set(EMPTIED.get() + 1);
+        if let Some(next) = self.next.take() {
+            LANE.with(|lane| assert!(lane.get().unwrap().clear(next)));
+        }
+    }
+}
+
+/// Publishes a row of links, each of which has the one before. Answers the last.
+fn row(lane: &Lane<'_, Link>, count: usize) -> Key {
+    let mut last = None;
+    for _ in 0..count {
+        let mut link = lane.create().unwrap();
+        link.next = last;
+        last = Some(link.publish());
+    }
+    last.unwrap()
+}
+
+/// A row of all 4,032 places of a lane is let go by one clear, on a small stack.
+#[test]
+fn a_long_row_lets_go() {
+    let pool = Arc::new(Pool::<Link>::open(shape(1, 64, 6)).unwrap());
+    let lane = pool.lane_owned().unwrap();
+    thread::Builder::new()
+        .stack_size(128 * 1024)
+        .spawn(move || {
+            LANE.with(|place| assert!(place.set(lane).is_ok()));
+            LANE.with(|lane| {
+                let lane = lane.get().unwrap();
+                for _ in 0..3 {
+                    EMPTIED.set(0);
+                    let last = row(lane, 4032);
+                    assert_eq!(lane.create().err(), Some(CreateError::Full));
+                    assert!(lane.clear(last));
+                    assert_eq!(EMPTIED.get(), 4032);
+                }
+            });
+        })
+        .unwrap()
+        .join()
+        .unwrap();
+    let census = Arc::into_inner(pool).unwrap().close();
+    assert_eq!((census.free, census.present), (4032, 0));
+}
+
+/// The same by the drop of the last reference.
+#[test]
+fn a_row_lets_go_by_a_reference() {
+    let pool = Arc::new(Pool::<Link>::open(shape(1, 8, 1)).unwrap());
+    let lane = pool.lane_owned().unwrap();
+    thread::spawn(move || {
+        LANE.with(|place| assert!(place.set(lane).is_ok()));
+        LANE.with(|lane| {
+            let lane = lane.get().unwrap();
+            let held = lane.get(row(lane, 8)).unwrap();
+            assert!(lane.clear(held.key()));
+            assert_eq!(EMPTIED.get(), 0);
+            drop(held);
+            assert_eq!(EMPTIED.get(), 8);
+            // A filling that is dropped lets go too.
+            let last = row(lane, 7);
+            lane.create().unwrap().next = Some(last);
+            assert_eq!(EMPTIED.get(), 16);
+        });
+    })
+    .join()
+    .unwrap();
+    assert_eq!(Arc::into_inner(pool).unwrap().close().free, 8);
+}
+
+thread_local! {
+    static BUSY: OnceCell<Lane<'static, Busy>> = const { OnceCell::new() };
+    static TEXTS: OnceCell<Lane<'static, String>> = const { OnceCell::new() };
+    static SEEN: RefCell<Vec<String>> = const { RefCell::new(Vec::new()) };
+}
+
+/// Makes all calls when it is emptied, to its own pool and to another.
+#[derive(Default)]
+struct Busy {
+    text: Option<Key>,
+    depth: usize,
+}
+
+impl Clear for Busy {
+    fn clear(&mut self) {
+        let Some(text) = self.text.take() else { return };
+        TEXTS.with(|lane| {
+            let lane = lane.get().unwrap();
+            let read = lane.get(text).unwrap();
+            assert!(lane.clear(text));
+            SEEN.with_borrow_mut(|seen| seen.push(read.clone()));
+            drop(read);
+            let key = lane.put("again").unwrap();
+            assert!(lane.clear(key));
+            lane.create().unwrap().push_str("not published");
+        });
+        BUSY.with(|lane| {
+            let lane = lane.get().unwrap();
+            let key = lane.create_with(|busy| busy.depth = self.depth).unwrap();
+            assert_eq!(lane.get(key).unwrap().depth, self.depth);
+            assert!(lane.clear(key));
+            assert!(lane.get(key).is_none());
+            drop(lane.create().unwrap());
+            if self.depth > 0 {
+                lane.clear(busy(self.depth - 1));
+            }
+        });
+    }
+}
+
+/// A busy object, with a text of its own.
+fn busy(depth: usize) -> Key {
+    let text = TEXTS.with(|lane| lane.get().unwrap().put(&format!("text {depth}")).unwrap());
+    BUSY.with(|lane| {
+        let mut busy = lane.get().unwrap().create().unwrap();
+        busy.text = Some(text);
+        busy.depth = depth;
+        busy.publish()
+    })
+}
+
+#[test]
+fn all_calls_within_a_clear() {
+    let pool = Arc::new(Pool::<Busy>::open(shape(1, 4, 1)).unwrap());
+    let texts = Arc::new(Pool::<String>::open(shape(1, 4, 1)).unwrap());
+    let (lane, text_lane) = (pool.lane_owned().unwrap(), texts.lane_owned().unwrap());
+    let seen = thread::spawn(move || {
+        BUSY.with(|place| assert!(place.set(lane).is_ok()));
+        TEXTS.with(|place| assert!(place.set(text_lane).is_ok()));
+        let first = busy(20);
+        BUSY.with(|lane| assert!(lane.get().unwrap().clear(first)));
+        SEEN.take()
+    })
+    .join()
+    .unwrap();
+    let expected: Vec<_> = (0..=20)
+        .rev()
+        .map(|depth| format!("text {depth}"))
+        .collect();
+    assert_eq!(seen, expected);
+    assert_eq!(Arc::into_inner(pool).unwrap().close().free, 4);
+    assert_eq!(Arc::into_inner(texts).unwrap().close().free, 4);
+}
+
+thread_local! {
+    static MAKER: OnceCell<Lane<'static, Maker>> = const { OnceCell::new() };
+    static MAKES: Cell<usize> = const { Cell::new(0) };
+}
+
+/// Makes another object when it is made, as long as `MAKES` says so.
+struct Maker;
+
+impl Default for Maker {
+    fn default() -> Maker {
+        if let Some(fewer) = MAKES.get().checked_sub(1) {
+            MAKES.set(fewer);
+            MAKER.with(|lane| assert!(lane.get().unwrap().create_with(|_| ()).is_ok()));
+        }
+        Maker
+    }
+}
+
+impl Clear for Maker {
+    fn clear(&mut self) {}
+}
+
+#[test]
+fn a_default_that_creates() {
+    let pool = Arc::new(Pool::<Maker>::open(shape(1, 16, 1)).unwrap());
+    let lane = pool.lane_owned().unwrap();
+    thread::spawn(move || {
+        MAKER.with(|place| assert!(place.set(lane).is_ok()));
+        MAKES.set(10);
+        MAKER.with(|lane| lane.get().unwrap().create().unwrap().publish());
+        MAKES.set(4);
+        MAKER.with(|lane| assert!(lane.get().unwrap().create().is_ok()));
+    })
+    .join()
+    .unwrap();
+    let census = Arc::into_inner(pool).unwrap().close();
+    assert_eq!((census.present, census.free, census.filling), (15, 1, 0));
+}
+
+#[test]
+fn closures_that_create() {
+    let pool = Pool::<Vec<u64>>::open(shape(1, 4, 1)).unwrap();
+    let lane = pool.lane().unwrap();
+    let mut inner = None;
+    let outer = lane
+        .create_with(|list| {
+            let key = lane.create_with(|other| other.push(1)).unwrap();
+            list.push(u64::from(key));
+            inner = Some(key);
+        })
+        .unwrap();
+    assert_eq!(*lane.get(outer).unwrap(), [u64::from(inner.unwrap())]);
+    assert_eq!(*lane.get(inner.unwrap()).unwrap(), [1]);
+}
+
+/// Calls its pool from its drop.
+#[derive(Default)]
+struct Last(Option<Arc<Mutex<Vec<usize>>>>, Option<Arc<Pool<String>>>);
+
+impl Clear for Last {
+    fn clear(&mut self) {
+        *self = Last::default();
+    }
+}
+
+impl Drop for Last {
+    fn drop(&mut self) {
+        if let (Some(seen), Some(pool)) = (&self.0, &self.1) {
+            let lane = pool.lane().unwrap();
+            let key = lane.put("last").unwrap();
+            seen.lock().unwrap().push(lane.get(key).unwrap().len());
+            assert!(lane.clear(key));
+        }
+    }
+}
+
+#[test]
+fn drops_at_the_close_call_another_pool() {
+    let texts = Arc::new(Pool::<String>::open(shape(1, 1, 1)).unwrap());
+    let seen = Arc::new(Mutex::new(Vec::new()));
+    let pool = Pool::<Last>::open(shape(2, 4, 1)).unwrap();
+    let (lane, other) = (pool.lane().unwrap(), pool.lane().unwrap());
+    for lane in [&lane, &lane, &other] {
+        let mut last = lane.create().unwrap();
+        last.0 = Some(Arc::clone(&seen));
+        last.1 = Some(Arc::clone(&texts));
+        last.publish();
+    }
+    drop((lane, other));
+    assert_eq!(pool.close().present, 3);
+    assert_eq!(*seen.lock().unwrap(), [4, 4, 4]);
+    assert_eq!(Arc::into_inner(texts).unwrap().close().free, 1);
+}
+
+/// Lets go of the next one by a lane that it takes for that.
+#[derive(Default)]
+struct Taker {
+    pool: Weak<Pool<Taker>>,
+    next: Option<Key>,
+}
+
+impl Clear for Taker {
+    fn clear(&mut self) {
+        let pool = std::mem::take(&mut self.pool).upgrade();
+        if let (Some(pool), Some(next)) = (pool, self.next.take()) {
+            let lane = pool.lane().unwrap();
+            assert!(lane.clear(next));
+            assert!(lane.get(next).is_none());
+        }
+    }
+}
+
+#[test]
+fn a_clear_takes_another_lane() {
+    let pool = Arc::new(Pool::<Taker>::open(shape(4, 4, 1)).unwrap());
+    let lane = pool.lane().unwrap();
+    for _ in 0..50 {
+        let mut last = None;
+        for _ in 0..3 {
+            let fill = |taker: &mut Taker| {
+                taker.pool = Arc::downgrade(&pool);
+                taker.next = last;
+            };
+            last = Some(lane.create_with(fill).unwrap());
+        }
+        assert!(lane.clear(last.unwrap()));
+        assert_eq!(pool.census().present, 0);
+    }
+    drop(lane);
+    assert_eq!(Arc::into_inner(pool).unwrap().close().free, 4);
+}
+
+/// Objects of four threads let go of each other's, by whichever lane empties them.
+#[test]
+fn threads_let_go_of_each_others() {
+    const ROUNDS: usize = 2000;
+    let pool = Arc::new(Pool::<Link>::open(shape(4, 8, 2)).unwrap());
+    let lent = Arc::new(Mutex::new(Vec::<Key>::new()));
+    let threads: Vec<_> = (0..4)
+        .map(|_| {
+            let lane = pool.lane_owned().unwrap();
+            let lent = Arc::clone(&lent);
+            thread::spawn(move || {
+                LANE.with(|place| assert!(place.set(lane).is_ok()));
+                LANE.with(|lane| {
+                    let lane = lane.get().unwrap();
+                    for _ in 0..ROUNDS {
+                        // Takes over one that another thread made, and is to let go of it.
+                        let next = lent.lock().unwrap().pop();
+                        let Ok(mut link) = lane.create() else {
+                            next.into_iter().for_each(|next| assert!(lane.clear(next)));
+                            continue;
+                        };
+                        link.next = next;
+                        let key = link.publish();
+                        lent.lock().unwrap().push(key);
+                    }
+                });
+            })
+        })
+        .collect();
+    for thread in threads {
+        thread.join().unwrap();
+    }
+    let lane = pool.lane_owned().unwrap();
+    thread::spawn(move || {
+        LANE.with(|place| assert!(place.set(lane).is_ok()));
+        LANE.with(|lane| {
+            for key in lent.lock().unwrap().drain(..) {
+                assert!(lane.get().unwrap().clear(key));
+            }
+        });
+    })
+    .join()
+    .unwrap();
+    let census = Arc::into_inner(pool).unwrap().close();
+    assert_eq!((census.present, census.marked, census.filling), (0, 0, 0));
+}

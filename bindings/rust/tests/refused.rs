@@ -1,0 +1,267 @@
+//! Each request for memory is refused in turn: the call answers it, what was there before is there still, and in the end no memory
+//! is lost.
+use pardz::{Buffer, Census, CreateError, Key, Lane, MemoryRefused, OpenError, Pool, Ref, Shape};
+use std::alloc::{GlobalAlloc, Layout, System};
+use std::cell::Cell;
+
+/// The system's memory, which refuses one request within `tried`.
+struct Refusing;
+
+#[global_allocator]
+static HEAP: Refusing = Refusing;
+
+thread_local! {
+    /// Whether a call is looked at.
+    static LOOKS: Cell<bool> = const { Cell::new(false) };
+    /// How many requests are granted before one is refused.
+    static GRANTED: Cell<u32> = const { Cell::new(u32::MAX) };
+    static REQUESTS: Cell<u32> = const { Cell::new(0) };
+    static REFUSED: Cell<u32> = const { Cell::new(0) };
+    /// The blocks of this thread that are not freed.
+    static BLOCKS: Cell<isize> = const { Cell::new(0) };
+}
+
+/// Whether this request is granted.
+fn grants() -> bool {
+    if !LOOKS.get() {
+        return true;
+    }
+    REQUESTS.set(REQUESTS.get() + 1);
+    match GRANTED.get() {
+        0 => {
+            GRANTED.set(u32::MAX);
+            REFUSED.set(REFUSED.get() + 1);
+            false
+        }
+        left => {
+            GRANTED.set(left.saturating_sub(u32::from(left != u32::MAX)));
+            true
+        }
+    }
+}
+
+/// A block that was granted counts.
+fn counted(block: *mut u8) -> *mut u8 {
+    BLOCKS.set(BLOCKS.get() + isize::from(!block.is_null()));
+    block
+}
+
+// SAFETY: each block is the system's, or null, as a refusal is told.
+unsafe impl GlobalAlloc for Refusing {
+    unsafe fn alloc(&self, layout: Layout) -> *mut u8 {
+        if grants() {
+            // SAFETY: the caller keeps what `System` asks.
+            counted(unsafe { System.alloc(layout) })
+        } else {
+            std::ptr::null_mut()
+        }
+    }
+
+    unsafe fn alloc_zeroed(&self, layout: Layout) -> *mut u8 {
+        if grants() {
+            // SAFETY: the caller keeps what `System` asks.
+            counted(unsafe { System.alloc_zeroed(layout) })
+        } else {
+            std::ptr::null_mut()
+        }
+    }
+
+    unsafe fn realloc(&self, block: *mut u8, layout: Layout, size: usize) -> *mut u8 {
+        if grants() {
+            // SAFETY: the caller keeps what `System` asks.
+            unsafe { System.realloc(block, layout, size) }
+        } else {
+            std::ptr::null_mut()
+        }
+    }
+
+    unsafe fn dealloc(&self, block: *mut u8, layout: Layout) {
+        BLOCKS.set(BLOCKS.get() - 1);
+        // SAFETY: the caller keeps what `System` asks.
+        unsafe { System.dealloc(block, layout) }
+    }
+}
+
+/// A call that is looked at.
+fn tried<R>(call: impl FnOnce() -> R) -> R {
+    LOOKS.set(true);
+    let answer = call();
+    LOOKS.set(false);
+    answer
+}
+
+/// A call that asks for no memory.
+fn takes_none<R>(call: impl FnOnce() -> R) -> R {
+    let before = REQUESTS.get();
+    let answer = tried(call);
+    assert_eq!(REQUESTS.get(), before, "the call asked for memory");
+    answer
+}
+
+/// A call that may be refused memory, and then answers this; made once more, it succeeds, as nothing was lost.
+fn again<R, E: PartialEq + std::fmt::Debug>(
+    refusal: E,
+    mut call: impl FnMut() -> Result<R, E>,
+) -> R {
+    let before = REFUSED.get();
+    match tried(&mut call) {
+        Ok(answer) => {
+            assert_eq!(REFUSED.get(), before, "a refusal was passed over");
+            answer
+        }
+        Err(fault) => {
+            assert_eq!(fault, refusal);
+            assert_eq!(REFUSED.get(), before + 1, "nothing was refused");
+            call().expect("the same call once more")
+        }
+    }
+}
+
+const SHAPE: Shape = Shape {
+    lanes: 3,
+    first_page: 2,
+    pages: 2,
+    last_generation: u32::MAX,
+    tag: 5,
+};
+
+/// How many requests a run makes, of which the one behind so many granted ones is refused. None where it has no more than those.
+fn run(granted: u32, scenario: fn()) -> Option<u32> {
+    GRANTED.set(granted);
+    REFUSED.set(0);
+    REQUESTS.set(0);
+    let blocks = BLOCKS.get();
+    scenario();
+    GRANTED.set(u32::MAX);
+    assert_eq!(
+        BLOCKS.get(),
+        blocks,
+        "behind {granted} granted requests: memory is lost"
+    );
+    (REFUSED.get() == 1).then(|| REQUESTS.get())
+}
+
+/// Refuses each request of a scenario in turn.
+fn refuse_each(scenario: fn(), least: u32) {
+    let mut granted = 0;
+    while run(granted, scenario).is_some() {
+        granted += 1;
+    }
+    assert!(granted >= least, "only {granted} requests were refused");
+}
+
+/// Contents that another lane reads, under their keys.
+fn reads<'l>(lane: &'l Lane<'_>, key: Key, content: &[u8]) -> Ref<'l> {
+    let reference = takes_none(|| lane.get(key)).expect("it is published");
+    assert_eq!(reference[..], *content);
+    reference
+}
+
+fn buffers() {
+    let pool = again(OpenError::Memory, || Pool::<Buffer>::open(SHAPE));
+    let one = takes_none(|| pool.lane()).expect("a lane");
+    let other = takes_none(|| pool.lane()).expect("a second");
+    // Each place once: both pages.
+    let mut keys = [None; 6];
+    for (number, key) in keys.iter_mut().enumerate() {
+        let content = [number as u8; 40];
+        let mut filling = again(CreateError::Memory, || one.create());
+        again(MemoryRefused, || filling.append(&content[..3]));
+        assert_eq!(filling[..], content[..3]);
+        again(MemoryRefused, || filling.append(&content[3..]));
+        assert_eq!(filling[..], content);
+        *key = Some(takes_none(|| filling.publish()));
+    }
+    again(CreateError::Memory, || match one.create() {
+        Err(CreateError::Full) => Ok(()),
+        other => other.map(|_| panic!("a seventh place")),
+    });
+    for (number, key) in keys.iter().flatten().enumerate() {
+        let reference = reads(&other, *key, &[number as u8; 40]);
+        assert!(takes_none(|| one.clear(*key)));
+        assert!(takes_none(|| one.get(*key)).is_none());
+        assert_eq!(reference[..], [number as u8; 40]);
+        takes_none(|| drop(reference));
+    }
+    // Once more, in the rooms of the first, by a copy of the content.
+    let key = again(CreateError::Memory, || one.put(&[9; 40]));
+    let left = again(CreateError::Memory, || one.create());
+    takes_none(|| left.leave());
+    drop(again(CreateError::Memory, || one.create()));
+    let mut held = again(CreateError::Memory, || one.create());
+    again(MemoryRefused, || held.append(&[8; 90]));
+    let held = takes_none(|| held.downgrade());
+    assert!(takes_none(|| other.clear(key)));
+    assert_eq!(held[..], [8; 90]);
+    takes_none(|| drop(held));
+    drop((one, other));
+    let census = takes_none(|| pool.close());
+    let Census {
+        free,
+        unopened,
+        filling,
+        present,
+        marked,
+        retired,
+    } = census;
+    assert_eq!(free + unopened + filling + present + marked + retired, 18);
+    assert_eq!(
+        (unopened, filling, present, marked, retired),
+        (12, 1, 1, 0, 0)
+    );
+}
+
+fn texts() {
+    let pool = again(OpenError::Memory, || Pool::<String>::open(SHAPE));
+    let lane = takes_none(|| pool.lane()).expect("a lane");
+    for text in ["short", "a text that is longer", "x", "y"] {
+        let key = again(CreateError::Memory, || lane.put(text));
+        assert_eq!(*takes_none(|| lane.get(key)).expect("published"), text);
+    }
+    drop(lane);
+    assert_eq!(takes_none(|| pool.close()).present, 4);
+}
+
+/// An object without memory of its own.
+#[derive(Default)]
+struct Point([u64; 24]);
+
+impl pardz::Clear for Point {
+    fn clear(&mut self) {
+        self.0 = [0; 24];
+    }
+}
+
+fn objects() {
+    let pool = again(OpenError::Memory, || Pool::<Point>::open(SHAPE));
+    let lane = takes_none(|| pool.lane()).expect("a lane");
+    for number in 1..7 {
+        let key = again(CreateError::Memory, || {
+            lane.create_with(|point| point.0[7] = number)
+        });
+        assert_eq!(
+            takes_none(|| lane.get(key)).expect("published").0[7],
+            number
+        );
+        if number > 3 {
+            assert!(takes_none(|| lane.clear(key)));
+        }
+    }
+    drop(lane);
+    assert_eq!(takes_none(|| pool.close()).present, 3);
+}
+
+#[test]
+fn each_request_of_buffers_is_refused() {
+    refuse_each(buffers, 30);
+}
+
+#[test]
+fn each_request_of_texts_is_refused() {
+    refuse_each(texts, 25);
+}
+
+#[test]
+fn each_request_of_objects_is_refused() {
+    refuse_each(objects, 25);
+}

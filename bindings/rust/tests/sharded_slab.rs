@@ -1,0 +1,637 @@
+//! What programs that were written for sharded-slab's pool lean on. All but `differs` holds of that crate as well.
+#![cfg(target_pointer_width = "64")]
+use pardz::sharded_slab;
+use sharded_slab::pool::{OwnedRef, OwnedRefMut, Ref, RefMut};
+use sharded_slab::{Clear, Config, DefaultConfig, Pool};
+use std::fmt::Debug;
+use std::panic::{catch_unwind, AssertUnwindSafe};
+use std::sync::atomic::{AtomicBool, AtomicUsize, Ordering::SeqCst};
+use std::sync::mpsc::channel;
+use std::sync::{Arc, OnceLock, Weak};
+use std::thread::{self, JoinHandle};
+
+/// How often the threads of a test meet anew.
+const ROUNDS: usize = 300;
+
+fn texts() -> Arc<Pool<String>> {
+    Arc::new(Pool::new())
+}
+
+fn put<C: Config>(pool: &Pool<String, C>, text: &str) -> usize {
+    pool.create_with(|item| item.push_str(text)).expect("room")
+}
+
+/// A thread that gets the key: it finds nothing, or the whole text.
+fn reader(pool: &Arc<Pool<String>>, key: usize, text: &'static str) -> JoinHandle<()> {
+    let pool = pool.clone();
+    thread::spawn(move || {
+        if let Some(found) = pool.get(key) {
+            assert_eq!(*found, text);
+        }
+    })
+}
+
+fn clearer(pool: &Arc<Pool<String>>, key: usize) -> JoinHandle<bool> {
+    let pool = pool.clone();
+    thread::spawn(move || pool.clear(key))
+}
+
+fn join<A>(threads: impl IntoIterator<Item = JoinHandle<A>>) -> Vec<A> {
+    let ended = threads.into_iter().map(JoinHandle::join);
+    ended.map(|end| end.expect("no panic")).collect()
+}
+
+/// What became of an item.
+#[derive(Debug, Default)]
+struct Fate {
+    cleared: AtomicUsize,
+    dropped: AtomicBool,
+}
+
+impl Fate {
+    fn cleared(&self) -> usize {
+        assert!(!self.dropped.load(SeqCst), "an item stays in the pool");
+        self.cleared.load(SeqCst)
+    }
+}
+
+/// An item that tells what becomes of it.
+#[derive(Debug, Default)]
+struct Item(Arc<Fate>);
+
+impl Clear for Item {
+    fn clear(&mut self) {
+        self.0.cleared.fetch_add(1, SeqCst);
+    }
+}
+
+impl Drop for Item {
+    fn drop(&mut self) {
+        self.0.dropped.store(true, SeqCst);
+    }
+}
+
+/// A pool with one item.
+fn one_item() -> (Arc<Pool<Item>>, usize, Arc<Fate>) {
+    let (pool, fate) = (Arc::new(Pool::new()), Arc::new(Fate::default()));
+    let item = Item(fate.clone());
+    let key = pool.create_with(|new| *new = item).expect("room");
+    (pool, key, fate)
+}
+
+#[test]
+fn a_clear_empties_in_place() {
+    let (pool, key, fate) = one_item();
+    assert_eq!(fate.cleared(), 0);
+    assert!(pool.clear(key));
+    assert_eq!(fate.cleared(), 1);
+    assert!(pool.get(key).is_none());
+    drop(pool);
+    assert!(fate.dropped.load(SeqCst));
+}
+
+#[test]
+fn the_last_reference_empties() {
+    let (pool, key, fate) = one_item();
+    let (has, knows) = channel();
+    let other = {
+        let pool = pool.clone();
+        thread::spawn(move || {
+            let found = pool.get(key).expect("published");
+            has.send(()).expect("the test waits");
+            assert_eq!(found.0.cleared(), 0);
+        })
+    };
+    let found = pool.get(key).expect("published");
+    knows.recv().expect("the other has it");
+    assert!(pool.clear(key));
+    assert!(pool.get(key).is_none());
+    assert_eq!(fate.cleared(), 0);
+    join([other]);
+    assert_eq!(fate.cleared(), 0);
+    drop(found);
+    assert_eq!(fate.cleared(), 1);
+}
+
+#[test]
+fn one_of_two_clears_does_it() {
+    for _ in 0..ROUNDS {
+        let (pool, key, fate) = one_item();
+        let other = {
+            let pool = pool.clone();
+            thread::spawn(move || pool.clear(key))
+        };
+        let mine = pool.clear(key);
+        assert_ne!(mine, join([other])[0]);
+        assert!(pool.get(key).is_none());
+        assert_eq!(fate.cleared(), 1);
+    }
+}
+
+#[test]
+fn memory_is_used_again() {
+    let pool = Pool::new_with_config::<Tiny>();
+    let keys = ["a longer text", "foo", "bar"].map(|text| put(&pool, text));
+    assert_eq!(
+        pool.get(keys[0]).expect("published"),
+        "a longer text".to_string()
+    );
+    assert_eq!(pool.get(keys[2]).expect("published"), "bar".to_string());
+    assert!(pool.clear(keys[0]));
+    let key = put(&pool, "h");
+    assert_ne!(key, keys[0]);
+    assert!(pool.get(keys[0]).is_none());
+    assert!(pool.get(key).expect("published").capacity() >= 13);
+}
+
+#[test]
+fn nobody_finds_what_is_being_filled() {
+    let pool = texts();
+    for _ in 0..ROUNDS {
+        let mut filling = pool.create().expect("room");
+        let key = filling.key();
+        let early = reader(&pool, key, "Hello world");
+        filling.push_str("Hello ");
+        assert!(pool.get(key).is_none());
+        filling.push_str("world");
+        let late = reader(&pool, key, "Hello world");
+        drop(filling);
+        join([early, late]);
+        assert_eq!(pool.get(key).expect("published"), "Hello world".to_string());
+        assert!(pool.clear(key));
+    }
+}
+
+#[test]
+fn a_filling_becomes_a_reference() {
+    let pool = texts();
+    for _ in 0..ROUNDS {
+        let mut filling: RefMut<'_, String> = pool.create().expect("room");
+        let key = filling.key();
+        let early = reader(&pool, key, "abc");
+        filling.push_str("abc");
+        let text: Ref<'_, String> = filling.downgrade();
+        let late = reader(&pool, key, "abc");
+        assert_eq!((text.key(), text.as_str()), (key, "abc"));
+        let clear = clearer(&pool, key);
+        join([early, late]);
+        assert!(join([clear])[0]);
+        assert!(pool.get(key).is_none());
+        assert_eq!(text, "abc".to_string());
+    }
+}
+
+#[test]
+fn a_reference_is_dropped_while_its_key_is_cleared() {
+    let (pool, other) = (texts(), texts());
+    for _ in 0..ROUNDS {
+        let mut filling = pool.create().expect("room");
+        filling.push_str("abc");
+        let text = filling.downgrade();
+        let key = text.key();
+        let mut owned = other.clone().create_owned().expect("room");
+        owned.push_str("def");
+        let owned = owned.downgrade();
+        let other_key = owned.key();
+        let readers = [reader(&pool, key, "abc"), reader(&other, other_key, "def")];
+        let clearers = [clearer(&pool, key), clearer(&other, other_key)];
+        drop(text);
+        assert_eq!(owned, "def".to_string());
+        drop(owned);
+        join(readers);
+        assert_eq!(join(clearers), [true, true]);
+        assert!(pool.get(key).is_none() && other.get(other_key).is_none());
+    }
+}
+
+#[test]
+fn owned_references_travel() {
+    for _ in 0..ROUNDS {
+        let pool = texts();
+        let keys = [put(&pool, "hello"), put(&pool, "goodbye")];
+        let [one, two] = keys.map(|key| pool.clone().get_owned(key).expect("published"));
+        assert!(pool.clear(keys[0]));
+        let first = thread::spawn(move || assert_eq!(one, "hello".to_string()));
+        let second = {
+            let pool = pool.clone();
+            thread::spawn(move || {
+                assert_eq!(two, "goodbye".to_string());
+                assert!(pool.clear(two.key()));
+                assert_eq!(two, "goodbye".to_string());
+            })
+        };
+        join([first, second]);
+        assert!(keys.iter().all(|&key| pool.get(key).is_none()));
+    }
+}
+
+#[test]
+fn owned_references_outlive_the_pool() {
+    for _ in 0..ROUNDS {
+        let pool = texts();
+        let keys = [put(&pool, "hello"), put(&pool, "goodbye")];
+        let get = |key| pool.clone().get_owned(key).expect("published");
+        let (one, two, kept) = (get(keys[0]), get(keys[1]), get(keys[0]));
+        drop(pool);
+        join([
+            thread::spawn(move || assert_eq!(one, "hello".to_string())),
+            thread::spawn(move || assert_eq!(two, "goodbye".to_string())),
+        ]);
+        assert_eq!(kept, "hello".to_string());
+    }
+}
+
+#[test]
+fn the_last_owned_reference_drops_the_pool() {
+    let (pool, key, fate) = one_item();
+    let item = pool.clone().get_owned(key).expect("published");
+    drop(pool);
+    assert_eq!(fate.cleared(), 0);
+    join([thread::spawn(move || drop(item))]);
+    assert!(fate.dropped.load(SeqCst));
+}
+
+#[test]
+fn owned_references_come_back() {
+    let pool = texts();
+    for _ in 0..ROUNDS {
+        let keys = [put(&pool, "hello"), put(&pool, "world")];
+        let one = pool.clone().get_owned(keys[0]).expect("published");
+        let (first, second) = (pool.clone(), pool.clone());
+        let threads = [
+            thread::spawn(move || {
+                first.clear(one.key());
+                one
+            }),
+            thread::spawn(move || {
+                let two = second.clone().get_owned(keys[1]).expect("published");
+                second.clear(keys[0]);
+                two
+            }),
+        ];
+        let back: Vec<OwnedRef<String>> = join(threads);
+        assert_eq!(back[0], "hello".to_string());
+        assert_eq!(back[1], "world".to_string());
+        assert!(pool.get(keys[0]).is_none());
+        assert!(pool.clear(keys[1]));
+    }
+}
+
+#[test]
+fn owned_references_end_on_other_threads() {
+    for _ in 0..ROUNDS {
+        let pool = texts();
+        let key = put(&pool, "hello");
+        let mine = pool.clone().get_owned(key).expect("published");
+        let other = {
+            let pool = pool.clone();
+            thread::spawn(move || {
+                let second_key = put(&pool, "goodbye");
+                let second = pool.clone().get_owned(second_key).expect("published");
+                let inner = {
+                    let pool = pool.clone();
+                    thread::spawn(move || {
+                        assert_eq!(second, "goodbye".to_string());
+                        assert!(pool.clear(key));
+                    })
+                };
+                assert_eq!(mine, "hello".to_string());
+                assert!(pool.clear(second_key));
+                (inner, second_key)
+            })
+        };
+        let (inner, second_key) = join([other]).remove(0);
+        join([
+            inner,
+            reader(&pool, key, "hello"),
+            reader(&pool, second_key, "goodbye"),
+        ]);
+        assert!(pool.get(key).is_none() && pool.get(second_key).is_none());
+    }
+}
+
+#[test]
+fn owned_fillings_travel() {
+    let pool = texts();
+    for _ in 0..ROUNDS {
+        let mut filling: OwnedRefMut<String> = pool.clone().create_owned().expect("room");
+        let key = filling.key();
+        let early = reader(&pool, key, "Hello world");
+        filling.push_str("Hello ");
+        let publisher = thread::spawn(move || filling.push_str("world"));
+        join([early, publisher]);
+        assert_eq!(pool.get(key).expect("published"), "Hello world".to_string());
+        assert!(pool.clear(key));
+    }
+}
+
+#[test]
+fn an_owned_filling_becomes_a_reference() {
+    let pool = texts();
+    for _ in 0..ROUNDS {
+        let mut filling = pool.clone().create_owned().expect("room");
+        filling.push_str("abc");
+        let key = filling.key();
+        let early = reader(&pool, key, "abc");
+        let text = filling.downgrade();
+        let late = {
+            let pool = pool.clone();
+            thread::spawn(move || assert_eq!(pool.get(key).expect("published"), "abc".to_string()))
+        };
+        join([early, late]);
+        assert!(join([clearer(&pool, key)])[0]);
+        assert_eq!(text, "abc".to_string());
+        drop(text);
+        assert!(pool.get(key).is_none());
+    }
+}
+
+#[test]
+fn a_clear_meets_a_publish() {
+    for _ in 0..ROUNDS {
+        let pool = texts();
+        let mut filling = pool.clone().create_owned().expect("room");
+        filling.push_str("abc");
+        let key = filling.key();
+        let publisher = thread::spawn(move || assert_eq!(filling.downgrade(), "abc".to_string()));
+        let clear = clearer(&pool, key);
+        join([publisher, reader(&pool, key, "abc")]);
+        let cleared = join([clear])[0];
+        assert_eq!(pool.get(key).is_none(), cleared);
+    }
+}
+
+#[test]
+fn an_owned_filling_outlives_the_pool() {
+    let pool = texts();
+    let mut filling = pool.clone().create_owned().expect("room");
+    drop(pool);
+    filling.push_str("abc");
+    assert_eq!(filling, "abc".to_string());
+    assert_eq!(filling.downgrade(), "abc".to_string());
+}
+
+/// A span with the key of its parent, which its clear lets go of: what tracing's registry does.
+#[derive(Default)]
+struct Span {
+    pool: Weak<Pool<Span>>,
+    parent: Option<usize>,
+}
+
+impl Clear for Span {
+    fn clear(&mut self) {
+        let parent = self.parent.take();
+        if let (Some(pool), Some(parent)) = (self.pool.upgrade(), parent) {
+            assert!(pool.get(parent).is_some());
+            assert!(pool.clear(parent));
+        }
+    }
+}
+
+#[test]
+fn a_clear_clears_others() {
+    let pool = Arc::new(Pool::<Span>::new());
+    let mut keys: Vec<usize> = Vec::new();
+    for _ in 0..100 {
+        let parent = keys.last().copied();
+        let span = Span {
+            pool: Arc::downgrade(&pool),
+            parent,
+        };
+        keys.push(pool.create_with(|new| *new = span).expect("room"));
+    }
+    let last = keys[99];
+    let reference = pool.get(last).expect("published");
+    assert!(pool.clear(last));
+    assert!(pool.get(keys[0]).is_some());
+    drop(reference);
+    assert!(keys.iter().all(|&key| pool.get(key).is_none()));
+}
+
+#[test]
+fn calls_within_calls() {
+    let pool = texts();
+    let outer = pool.create_with(|outer| {
+        let inner = put(&pool, "inner");
+        let text = pool.get(inner).expect("published");
+        outer.push_str(&text);
+        let mut filling = pool.create().expect("room");
+        filling.push_str(&text);
+        drop(text);
+        assert!(pool.clear(inner));
+        assert!(pool.clear(filling.downgrade().key()));
+    });
+    assert_eq!(
+        pool.get(outer.expect("room")).expect("published"),
+        "inner".to_string()
+    );
+}
+
+thread_local! {
+    /// Cleared when its thread ends, before or after what the pool keeps for the thread.
+    static LATE: OnceLock<Late> = const { OnceLock::new() };
+}
+
+struct Late(Arc<Pool<String>>, usize);
+
+impl Drop for Late {
+    fn drop(&mut self) {
+        assert_eq!(self.0.get(self.1).expect("published"), "kept".to_string());
+        assert!(self.0.clear(self.1));
+        assert!(self.0.get(self.1).is_none());
+    }
+}
+
+#[test]
+fn calls_while_a_thread_ends() {
+    let pool = texts();
+    for _ in 0..50 {
+        let (early, late) = (pool.clone(), pool.clone());
+        join([
+            thread::spawn(move || {
+                LATE.with(|cell| {
+                    cell.set(Late(early.clone(), put(&early, "kept")))
+                        .map_err(|_| ())
+                        .expect("unset")
+                });
+            }),
+            thread::spawn(move || {
+                LATE.with(|_| ());
+                let key = put(&late, "kept");
+                LATE.with(|cell| cell.set(Late(late, key)).map_err(|_| ()).expect("unset"));
+            }),
+        ]);
+    }
+}
+
+struct Tiny;
+
+impl Config for Tiny {
+    const INITIAL_PAGE_SIZE: usize = 4;
+}
+
+struct Packed;
+
+impl Config for Packed {
+    const INITIAL_PAGE_SIZE: usize = 8;
+    const MAX_THREADS: usize = 64;
+    const MAX_PAGES: usize = 20;
+    const RESERVED_BITS: usize = 10;
+}
+
+#[test]
+fn reserved_bits_are_left_alone() {
+    assert_eq!(Pool::<String, Packed>::USED_BITS, 54);
+    assert_eq!(Pool::<String>::USED_BITS, 64);
+    let pool = Arc::new(Pool::<String>::new_with_config::<Packed>());
+    let keys: Vec<usize> = (0..1000)
+        .map(|number| put(&pool, &number.to_string()))
+        .collect();
+    assert!(keys.iter().all(|key| key >> 54 == 0));
+    let flags = 5 << 54;
+    for (number, &key) in keys.iter().enumerate() {
+        assert_eq!(pool.get(key).expect("published"), number.to_string());
+        let owned = pool.clone().get_owned(key).expect("published");
+        assert_eq!(
+            (owned.key(), &*pool.get(key | flags).expect("published")),
+            (key, &*owned)
+        );
+    }
+    assert!(keys.iter().all(|&key| pool.clear(key)));
+    assert!(keys.iter().all(|&key| pool.get(key).is_none()));
+}
+
+#[test]
+fn a_hundred_thousand_at_once() {
+    let pool = Pool::<Vec<usize>>::new();
+    let keys: Vec<usize> = (0..100_000)
+        .map(|number| pool.create_with(|list| list.push(number)).expect("room"))
+        .collect();
+    let wrong = keys
+        .iter()
+        .enumerate()
+        .find(|(number, &key)| pool.get(key).is_none_or(|list| **list != [*number]));
+    assert_eq!(wrong, None);
+    assert!(keys.iter().all(|&key| pool.clear(key)));
+    assert!(keys.iter().all(|&key| pool.get(key).is_none()));
+}
+
+#[test]
+fn more_threads_than_lanes() {
+    let pool = texts();
+    let threads = (0..40).map(|number| {
+        let pool = pool.clone();
+        thread::spawn(move || {
+            let text = number.to_string();
+            let kept = put(&pool, &text);
+            for _ in 0..200 {
+                let key = put(&pool, &text);
+                assert_eq!(pool.get(key).expect("published"), text);
+                assert!(pool.clear(key));
+            }
+            kept
+        })
+    });
+    let threads: Vec<_> = threads.collect();
+    for (number, key) in join(threads).into_iter().enumerate() {
+        assert_eq!(pool.get(key).expect("published"), number.to_string());
+    }
+}
+
+#[test]
+fn traits() {
+    fn shared<A: Send + Sync + 'static>() {}
+    fn shown<A: Debug>() {}
+    shared::<Pool<String>>();
+    shared::<Pool<String, Packed>>();
+    shared::<OwnedRef<String>>();
+    shared::<OwnedRefMut<String, Packed>>();
+    shown::<Pool<String>>();
+    shown::<DefaultConfig>();
+    let pool = Arc::new(Pool::<String>::default());
+    let mut filling = pool.create().expect("room");
+    filling.push('x');
+    assert_eq!(format!("{filling:?}"), "\"x\"");
+    assert_eq!(filling, "x".to_string());
+    let text = filling.downgrade();
+    assert_eq!(format!("{text:?}"), "\"x\"");
+    let owned = pool.clone().get_owned(text.key()).expect("published");
+    assert_eq!(format!("{owned:?}"), "\"x\"");
+    assert_eq!(
+        format!("{:?}", pool.clone().create_owned().expect("room")),
+        "\"\""
+    );
+}
+
+/// What sharded-slab does otherwise.
+mod differs {
+    use super::*;
+
+    #[test]
+    fn a_clear_passes_by_what_is_being_filled() {
+        let pool = texts();
+        for _ in 0..3 {
+            let mut filling = pool.create().expect("room");
+            let key = filling.key();
+            filling.push_str("abc");
+            assert!(!pool.clear(key));
+            assert_eq!(filling, "abc".to_string());
+            drop(filling);
+            assert!(pool.clear(key));
+        }
+    }
+
+    #[test]
+    fn one_clear_alone_says_yes() {
+        let pool = texts();
+        let key = put(&pool, "abc");
+        let text = pool.get(key).expect("published");
+        assert!(pool.clear(key));
+        assert!(!pool.clear(key));
+        assert_eq!(text, "abc".to_string());
+    }
+
+    #[test]
+    fn what_panics_is_not_published() {
+        let pool = Pool::<Item>::new();
+        let (closure, filling) = (Arc::new(Fate::default()), Arc::new(Fate::default()));
+        let panicked = catch_unwind(AssertUnwindSafe(|| {
+            pool.create_with(|item| {
+                *item = Item(closure.clone());
+                let mut other = pool.create().expect("room");
+                *other = Item(filling.clone());
+                panic!("on purpose")
+            })
+        }));
+        assert!(panicked.is_err());
+        assert_eq!(closure.cleared(), 1);
+        // By its drop, as any other.
+        assert_eq!(filling.cleared(), 0);
+    }
+
+    #[test]
+    fn a_create_while_a_thread_ends() {
+        struct Last(Arc<Pool<String>>);
+        impl Drop for Last {
+            fn drop(&mut self) {
+                let key = put(&self.0, "last");
+                assert_eq!(self.0.get(key).expect("published"), "last".to_string());
+                assert!(self.0.clear(key));
+            }
+        }
+        thread_local! {
+            static LAST: OnceLock<Last> = const { OnceLock::new() };
+        }
+        let pool = texts();
+        for uses_it_first in [true, false] {
+            let pool = pool.clone();
+            join([thread::spawn(move || {
+                if uses_it_first {
+                    put(&pool, "first");
+                }
+                LAST.with(|last| last.set(Last(pool.clone())).map_err(|_| ()).expect("unset"));
+                put(&pool, "second");
+            })]);
+        }
+    }
+}

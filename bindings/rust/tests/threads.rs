@@ -1,0 +1,502 @@
+//! Calls without a lane in hand, owned handles, and room that grows.
+use pardz::{Clear, CreateError, Key, OwnedFilling, OwnedRef, Pool, PoolRef, Shape};
+use std::cell::{Cell, RefCell};
+use std::panic::{catch_unwind, AssertUnwindSafe};
+use std::sync::atomic::{AtomicUsize, Ordering::SeqCst};
+use std::sync::{mpsc, Arc, Mutex, OnceLock};
+use std::thread;
+
+fn shape(lanes: u32, first_page: u32, pages: u32) -> Shape {
+    Shape {
+        lanes,
+        first_page,
+        pages,
+        ..Shape::default()
+    }
+}
+
+/// A number is published, read and cleared. Each is right.
+fn use_once(pool: &Pool<Vec<u64>>, number: u64) {
+    let key = pool.create_with(|list| list.push(number)).unwrap();
+    let list = pool.get(key).expect("published");
+    assert_eq!(*list, [number]);
+    assert!(pool.clear(key));
+    assert_eq!(*list, [number]);
+    assert!(pool.get(key).is_none());
+    assert!(!pool.clear(key));
+}
+
+#[test]
+fn threads_that_come_and_go() {
+    let pool = Pool::<Vec<u64>>::growing().unwrap();
+    for round in 0..20 {
+        thread::scope(|scope| {
+            for thread in 0..64 {
+                let pool = &pool;
+                scope.spawn(move || {
+                    (0..50)
+                        .for_each(|number| use_once(pool, round * 10_000 + thread * 100 + number));
+                });
+            }
+        });
+    }
+    let census = pool.close();
+    assert_eq!((census.present, census.marked, census.filling), (0, 0, 0));
+}
+
+#[test]
+fn thousands_of_short_threads() {
+    let pool = Arc::new(Pool::<Vec<u64>>::open(shape(2, 1, 1)).unwrap());
+    for number in 0..2000 {
+        let shared = Arc::clone(&pool);
+        thread::spawn(move || use_once(&shared, number))
+            .join()
+            .unwrap();
+    }
+    assert_eq!(pool.census().present, 0);
+}
+
+/// More threads than lanes hand keys around: each reads and clears what others published.
+#[test]
+fn more_threads_than_lanes() {
+    const THREADS: u64 = 32;
+    const ROUNDS: u64 = 300;
+    for pool in [
+        Pool::<Vec<u64>>::growing().unwrap(),
+        Pool::open(shape(1, 64, 4)).unwrap(),
+        Pool::open(shape(4, 64, 4)).unwrap(),
+    ] {
+        let lent = Mutex::new(Vec::<(Key, u64)>::new());
+        let cleared = AtomicUsize::new(0);
+        thread::scope(|scope| {
+            for thread in 0..THREADS {
+                let (pool, lent, cleared) = (&pool, &lent, &cleared);
+                scope.spawn(move || {
+                    for round in 0..ROUNDS {
+                        let number = thread * ROUNDS + round;
+                        let key = pool.create_with(|list| list.push(number)).unwrap();
+                        let other = {
+                            let mut lent = lent.lock().unwrap();
+                            lent.push((key, number));
+                            let at = (number * 7919) as usize % lent.len();
+                            lent.swap_remove(at)
+                        };
+                        let list = pool.get(other.0).expect("it is ours alone to clear");
+                        assert_eq!(*list, [other.1]);
+                        assert!(pool.clear(other.0));
+                        assert_eq!(*list, [other.1]);
+                        cleared.fetch_add(1, SeqCst);
+                    }
+                });
+            }
+        });
+        assert_eq!(cleared.into_inner() as u64, THREADS * ROUNDS);
+        let census = pool.close();
+        assert_eq!((census.present, census.marked, census.filling), (0, 0, 0));
+    }
+}
+
+/// So many objects are open at once; all are read back by other threads, and cleared.
+fn open_at_once(count: u64) {
+    let pool = Pool::<Vec<u64>>::growing().unwrap();
+    let publish = |number| pool.create_with(|list| list.push(number)).unwrap();
+    let keys: Vec<Key> = (0..count).map(publish).collect();
+    let distinct: std::collections::HashSet<_> = keys.iter().collect();
+    assert_eq!(distinct.len() as u64, count);
+    assert_eq!(u64::from(pool.census().present), count);
+    let (pool, keys) = (&pool, &keys);
+    thread::scope(|scope| {
+        for part in 0..4 {
+            scope.spawn(move || {
+                for (number, key) in (0..).zip(keys).skip(part).step_by(4) {
+                    assert_eq!(*pool.get(*key).expect("open"), [number]);
+                    assert!(pool.clear(*key));
+                    assert!(pool.get(*key).is_none());
+                }
+            });
+        }
+    });
+    assert_eq!(pool.census().present, 0);
+    let places = pool.census().free;
+    (0..count).for_each(|number| assert!(u64::from(publish(number)) > 0));
+    assert_eq!(pool.census().present as u64, count);
+    assert!(pool.census().free <= places, "places are used again");
+}
+
+#[test]
+fn a_hundred_thousand_are_open() {
+    open_at_once(100_000);
+}
+
+#[test]
+#[ignore = "ten times as long"]
+fn a_million_are_open() {
+    open_at_once(1_000_000);
+}
+
+#[test]
+fn lanes_in_hand_grow_too() {
+    let pool = Pool::<Vec<u64>>::growing().unwrap();
+    let (lane, other) = (pool.lane().unwrap(), pool.lane().unwrap());
+    let keys: Vec<_> = (0..20_000)
+        .map(|number| lane.create_with(|list| list.push(number)).unwrap())
+        .collect();
+    let held: Vec<_> = keys.iter().map(|key| other.get(*key).unwrap()).collect();
+    for (number, key) in (0..).zip(&keys) {
+        assert_eq!(*other.get(*key).unwrap(), [number]);
+        assert_eq!(*pool.get(*key).unwrap(), [number]);
+        assert!(if number % 2 == 0 {
+            lane.clear(*key)
+        } else {
+            other.clear(*key)
+        });
+        assert!(!lane.clear(*key) && lane.get(*key).is_none());
+    }
+    assert!((0..).zip(&held).all(|(number, list)| **list == [number]));
+    assert!(held.iter().all(|list| list.try_clone().is_none()));
+    drop(held);
+    let mut filling = lane.create().unwrap();
+    filling.push(1);
+    let list = filling.downgrade();
+    assert_eq!(*list.try_clone().unwrap(), [1]);
+    drop(list);
+    drop((lane, other));
+    assert_eq!(pool.close().present, 1);
+}
+
+#[test]
+fn a_full_pool_that_does_not_grow() {
+    let pool = Pool::<String>::open(shape(3, 2, 1)).unwrap();
+    let keys: Vec<_> = (0..6).map(|_| pool.put("x").unwrap()).collect();
+    assert_eq!(pool.put("y").err(), Some(CreateError::Full));
+    for key in &keys {
+        assert!(pool.clear(*key));
+        assert!(pool.clear(pool.put("y").unwrap()));
+    }
+    assert_eq!(pool.census().free, 6);
+}
+
+#[test]
+fn all_lanes_in_hand() {
+    let pool = Pool::<String>::open(shape(1, 2, 1)).unwrap();
+    let lane = pool.lane().unwrap();
+    let key = lane.put("x").unwrap();
+    assert!(catch_unwind(AssertUnwindSafe(|| pool.clear(key))).is_err());
+    drop(lane);
+    assert!(pool.clear(key));
+    assert!(pool.lane().is_none(), "it is shared now");
+}
+
+#[test]
+fn lanes_come_home_from_threads() {
+    let pool = Arc::new(Pool::<Vec<u64>>::open(shape(4, 4, 1)).unwrap());
+    for number in 0..100 {
+        let shared = Arc::clone(&pool);
+        thread::spawn(move || use_once(&shared, number))
+            .join()
+            .unwrap();
+        // One is shared.
+        let lanes: Vec<_> = (0..3)
+            .map(|_| pool.lane().expect("three are home"))
+            .collect();
+        assert!(pool.lane().is_none());
+        drop(lanes);
+    }
+}
+
+// Owned handles.
+
+#[test]
+fn owned_handles_travel() {
+    let pool = Arc::new(Pool::<Vec<u64>>::growing().unwrap());
+    let (send, receive) = mpsc::channel::<OwnedRef<Vec<u64>>>();
+    let reader = thread::spawn(move || receive.into_iter().map(|list| list[0]).sum::<u64>());
+    for number in 0..1000 {
+        let mut filling = pool.create_owned().unwrap();
+        filling.push(number);
+        let filled = thread::scope(|scope| match number % 100 {
+            0 => scope.spawn(move || filling.publish()).join().unwrap(),
+            _ => filling.publish(),
+        });
+        let list = pool.get_owned(filled).unwrap();
+        assert!(pool.clear(filled));
+        assert!(pool.get_owned(filled).is_none());
+        send.send(list).unwrap();
+    }
+    drop(send);
+    assert_eq!(reader.join().unwrap(), 499_500);
+    assert_eq!(pool.census().marked, 0);
+    let filling = pool.create_owned().unwrap();
+    thread::spawn(move || drop(filling)).join().unwrap();
+    let census = Arc::into_inner(pool).unwrap().close();
+    assert_eq!((census.present, census.marked, census.filling), (0, 0, 0));
+}
+
+/// An object that tells when it was emptied.
+#[derive(Default)]
+struct Told {
+    emptied: Option<Arc<AtomicUsize>>,
+    dropped: Option<Arc<AtomicUsize>>,
+}
+
+impl Clear for Told {
+    fn clear(&mut self) {
+        if let Some(emptied) = self.emptied.take() {
+            emptied.fetch_add(1, SeqCst);
+        }
+    }
+}
+
+impl Drop for Told {
+    fn drop(&mut self) {
+        if let Some(dropped) = &self.dropped {
+            dropped.fetch_add(1, SeqCst);
+        }
+    }
+}
+
+#[test]
+fn clones_live_on_when_the_key_is_cleared() {
+    let pool = Arc::new(Pool::<Told>::growing().unwrap());
+    let emptied = Arc::new(AtomicUsize::new(0));
+    let key = pool
+        .create_with(|told| told.emptied = Some(Arc::clone(&emptied)))
+        .unwrap();
+    let first = pool.get_owned(key).unwrap();
+    let second = first.clone();
+    assert!(pool.clear(key));
+    let third = second.clone();
+    drop((first, second));
+    assert!(third.emptied.is_some());
+    thread::spawn(move || {
+        let fourth = third.clone();
+        drop(third);
+        assert_eq!(fourth.key(), key);
+        assert!(fourth.emptied.is_some());
+    })
+    .join()
+    .unwrap();
+    assert_eq!(emptied.load(SeqCst), 1);
+}
+
+#[test]
+fn the_last_handle_drops_the_pool() {
+    let pool = Arc::new(Pool::<Told>::growing().unwrap());
+    let (emptied, dropped) = (Arc::new(AtomicUsize::new(0)), Arc::new(AtomicUsize::new(0)));
+    let fill = |told: &mut Told| {
+        told.emptied = Some(Arc::clone(&emptied));
+        told.dropped = Some(Arc::clone(&dropped));
+    };
+    let key = pool.create_with(fill).unwrap();
+    let told = pool.get_owned(key).unwrap();
+    assert!(pool.clear(key));
+    let filling: OwnedFilling<Told> = pool.create_owned().unwrap();
+    drop(pool);
+    thread::spawn(move || {
+        drop(told);
+        drop(filling);
+    })
+    .join()
+    .unwrap();
+    assert_eq!(emptied.load(SeqCst), 1);
+    assert_eq!(dropped.load(SeqCst), 1);
+}
+
+#[test]
+fn handles_as_bytes_and_across_threads() {
+    fn travels<T: Send + Sync + 'static>(_: &T) {}
+    let pool = Arc::new(Pool::<pardz::Buffer>::growing().unwrap());
+    let filling = pool.create_owned().unwrap();
+    travels(&filling);
+    let bytes = filling.downgrade();
+    travels(&bytes);
+    let slice: &[u8] = bytes.as_ref();
+    assert!(slice.is_empty());
+}
+
+// Calls within the objects' own code.
+
+fn links() -> &'static Arc<Pool<Link>> {
+    static LINKS: OnceLock<Arc<Pool<Link>>> = OnceLock::new();
+    LINKS.get_or_init(|| Arc::new(Pool::growing().unwrap()))
+}
+
+thread_local! {
+    static EMPTIED: Cell<usize> = const { Cell::new(0) };
+}
+
+/// Lets go of others when it is emptied.
+#[derive(Default)]
+struct Link {
+    next: Option<Key>,
+    held: Option<OwnedRef<Link>>,
+}
+
+impl Clear for Link {
+    fn clear(&mut self) {
+        EMPTIED.set(EMPTIED.get() + 1);
+        if let Some(next) = self.next.take() {
+            assert!(links().get(next).is_some());
+            assert!(links().clear(next));
+            let key = links().create_with(|_| ()).unwrap();
+            let inner = EMPTIED.get();
+            assert!(links().clear(key));
+            drop(links().create().unwrap());
+            drop(links().create_owned().unwrap());
+            EMPTIED.set(inner);
+        }
+        self.held = None;
+    }
+}
+
+/// A long chain by its thread's lane, by shared lanes, and by owned references, on small stacks.
+#[test]
+fn chains_let_go() {
+    let chain = |by_reference: bool| {
+        let count = 5000;
+        let mut last = None;
+        for _ in 0..count {
+            let key = links()
+                .create_with(|link| {
+                    let before = last.take();
+                    if by_reference {
+                        link.held = before.map(|key| {
+                            let held = links().get_owned(key).unwrap();
+                            assert!(links().clear(key));
+                            held
+                        });
+                    } else {
+                        link.next = before;
+                    }
+                })
+                .unwrap();
+            last = Some(key);
+        }
+        EMPTIED.set(0);
+        let held = links().get(last.unwrap()).unwrap();
+        assert!(links().clear(held.key()));
+        assert_eq!(EMPTIED.get(), 0);
+        drop(held);
+        assert!(EMPTIED.get() >= count, "{} of {count}", EMPTIED.get());
+    };
+    thread::scope(|scope| {
+        for thread in 0..20 {
+            thread::Builder::new()
+                .stack_size(256 * 1024)
+                .spawn_scoped(scope, move || chain(thread % 2 == 0))
+                .unwrap();
+        }
+    });
+}
+
+thread_local! {
+    static LAST: RefCell<Option<PoolRef<'static, Link>>> = const { RefCell::new(None) };
+}
+
+/// References in thread-locals are dropped when the thread's lane is gone already.
+#[test]
+fn a_thread_ends_while_its_references_live() {
+    for _ in 0..100 {
+        let key = links().create_with(|_| ()).unwrap();
+        thread::spawn(move || {
+            LAST.with(|last| *last.borrow_mut() = links().get(key));
+            assert!(links().clear(key));
+        })
+        .join()
+        .unwrap();
+        assert!(links().get(key).is_none());
+    }
+}
+
+/// Calls from the destructor of a thread-local, by which the lane is gone already.
+struct Caller;
+
+impl Drop for Caller {
+    fn drop(&mut self) {
+        let key = links().create_with(|_| ()).unwrap();
+        assert!(links().get(key).is_some());
+        assert!(links().clear(key));
+        drop(links().create().unwrap());
+        CALLS.fetch_add(1, SeqCst);
+    }
+}
+
+static CALLS: AtomicUsize = AtomicUsize::new(0);
+
+thread_local! {
+    static CALLER: Caller = const { Caller };
+}
+
+#[test]
+fn calls_while_a_thread_ends() {
+    for _ in 0..50 {
+        thread::spawn(|| {
+            CALLER.with(|_| ());
+            let key = links().create_with(|_| ()).unwrap();
+            assert!(links().clear(key));
+        })
+        .join()
+        .unwrap();
+    }
+    assert_eq!(CALLS.load(SeqCst), 50);
+}
+
+#[test]
+fn pools_end_before_their_threads() {
+    for round in 0..50 {
+        let pools: Vec<_> = (0..4)
+            .map(|_| Pool::<Vec<u64>>::open(shape(2, 4, 1)).unwrap())
+            .collect();
+        // One after the other, and in turn.
+        (0..10).for_each(|number| use_once(&pools[number as usize % 4], round + number));
+        let moved = pools.into_iter().map(Box::new).collect::<Vec<_>>();
+        moved.iter().for_each(|pool| use_once(pool, round));
+        assert!(moved.into_iter().all(|pool| pool.close().present == 0));
+    }
+}
+
+/// Panics in its clear.
+#[derive(Default)]
+struct Touchy(bool);
+
+impl Clear for Touchy {
+    fn clear(&mut self) {
+        assert!(!self.0, "on purpose");
+    }
+}
+
+#[test]
+fn panics_lose_their_object_at_most() {
+    let pool = Arc::new(Pool::<Touchy>::growing().unwrap());
+    let panics = |run: &mut dyn FnMut()| catch_unwind(AssertUnwindSafe(run)).is_err();
+    for own in [true, false] {
+        let touchy = || pool.create_with(|touchy| touchy.0 = true).unwrap();
+        assert!(panics(&mut || assert!(pool.clear(touchy()))));
+        assert!(panics(&mut || {
+            let _open = pool.create().unwrap();
+            panic!("while a filling is open");
+        }));
+        assert!(panics(&mut || {
+            let mut open = pool.create_owned().unwrap();
+            open.0 = true;
+        }));
+        assert!(panics(&mut || {
+            pool.create_with(|_| panic!("in the closure")).unwrap();
+        }));
+        let key = touchy();
+        let held = pool.get_owned(key).unwrap();
+        assert!(pool.clear(key));
+        assert!(panics(&mut || {
+            // (Its second panic goes no further.)
+            let _held = held.clone();
+            panic!("while a reference is held");
+        }));
+        assert!(own || panics(&mut || drop(pool.get_owned(key))) || held.0);
+        assert!(panics(&mut {
+            let mut held = Some(held);
+            move || drop(held.take())
+        }));
+        let census = pool.census();
+        assert_eq!((census.present, census.marked, census.filling), (0, 0, 0));
+    }
+}
