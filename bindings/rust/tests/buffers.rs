@@ -610,18 +610,18 @@ fn a_close_counts_what_is_left() {
 #[test]
 fn a_census_beside_calls() {
     let pool = Pool::<Buffer>::open(shape(4)).unwrap();
-    let ended = std::sync::atomic::AtomicUsize::new(0);
     let sum = |census: pardz::Census| {
         let idle = census.free + census.unopened + census.filling;
         idle + census.present + census.marked + census.retired
     };
+    // (All lanes at once: one that came home would be given again, with what it published.)
+    let lanes = [(); 3].map(|()| pool.lane().unwrap());
     thread::scope(|scope| {
-        for number in 0..3 {
-            let (lane, ended) = (pool.lane().unwrap(), &ended);
+        let threads = lanes.map(|lane| {
             scope.spawn(move || {
                 let mut keys = Vec::new();
                 for round in 0..2000 {
-                    match lane.put(&[number; 20]) {
+                    match lane.put(&[1; 20]) {
                         Ok(key) => keys.push(key),
                         Err(_) => keys.drain(..6).for_each(|key| assert!(lane.clear(key))),
                     }
@@ -629,10 +629,9 @@ fn a_census_beside_calls() {
                         drop(lane.create());
                     }
                 }
-                ended.fetch_add(1, std::sync::atomic::Ordering::SeqCst);
-            });
-        }
-        while ended.load(std::sync::atomic::Ordering::SeqCst) < 3 {
+            })
+        });
+        while !threads.iter().all(thread::ScopedJoinHandle::is_finished) {
             assert_eq!(sum(pool.census()), 48);
         }
     });
