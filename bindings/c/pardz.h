@@ -165,8 +165,8 @@ uint32_t pardz_release(pardz_lane *lane, uint64_t key);
 uint32_t pardz_clear(pardz_lane *lane, uint64_t key);
 
 /* The end: each lane but lane 0 is joined into lane 0, the last one first, then the one before it. Its slot is then empty. What it
- * still fills is given up; what it still refers to stays until the close, and counts as present or marked. No lane is joined into
- * itself.
+ * still fills is given up; what it still refers to stays until the close, and counts as present or marked. Lane 0 is joined into
+ * none, and no lane into itself: PARDZ_LANES.
  * PARDZ_EMPTY_LANE, PARDZ_OTHER_POOL, PARDZ_LANES. */
 uint32_t pardz_join(pardz_lane *into, pardz_lane *lane);
 

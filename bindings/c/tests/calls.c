@@ -386,6 +386,8 @@ static void ends(void) {
     EXPECT(CLOSE, LANES, pardz_close(&lanes[1], &census));
     EXPECT(JOIN, LANES, pardz_join(&lanes[0], &lanes[1]));
     EXPECT(JOIN, LANES, pardz_join(&lanes[1], &lanes[2]));
+    for (int lane = 0; lane < 3; lane++)
+        EXPECT(JOIN, LANES, pardz_join(&lanes[lane], &lanes[lane]));
     EXPECT(JOIN, OTHER_POOL, pardz_join(&lanes[0], &others[2]));
     EXPECT(JOIN, OTHER_POOL, pardz_join(&others[0], &lanes[2]));
     uint64_t left = 0, kept = put(&lanes[2], "referred to");
@@ -408,6 +410,11 @@ static void ends(void) {
     CHECK(census.filling == 1 && census.marked == 1 && census.free == 2 && census.unopened == 14);
     EXPECT(CLOSE, EMPTY_LANE, pardz_close(&lanes[0], &census));
     CHECK(pardz_close_all(others, 3, &census) == PARDZ_OK && census.unopened == 18);
+    const pardz_shape one = { 1, 2, 2, UINT32_MAX, 7 };
+    pardz_lane lane = PARDZ_EMPTY;
+    EXPECT(OPEN, OK, pardz_open(&one, &lane, 1));
+    EXPECT(JOIN, LANES, pardz_join(&lane, &lane));
+    EXPECT(CLOSE, OK, pardz_close(&lane, &census));
     CHECK(heap_blocks == 0);
 }
 

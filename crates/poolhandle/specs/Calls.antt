@@ -160,6 +160,7 @@ Clears key before after (Err refusal) = (refusal ≡ Gone) × LaneClearsNone key
 -- the lane of another handle comes next at a join: of lane 0's handle, from the last lane on
 pub record IsNext (into other : Handle) : Type 0 where
   pub first : (lane_of into).number ≡ 0
+  pub later : 1 ≤ (lane_of other).number
   pub single : other.joined ≡ 0
   pub few : into.joined < 16
   pub next : (lane_of other).number + into.joined + 1 ≡ (pool_of into).shape.lanes
