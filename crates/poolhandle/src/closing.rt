@@ -24,7 +24,11 @@ pub fn join(into: &mut Handle, other: Box<Handle>) -> Result<(), (Refusal, Box<H
     ensures ok { OnOk result (Joins into.old other.value into.new) }
     ensures err { IfErr result (λ back. JoinsNot into.old other.value back.0 × (back.1 ≡ other) × (into.new ≡ into.old)) }
 {
-    if into.lane.number() != 0 || other.lane.number() == 0 || other.joined != 0 || into.joined >= 16 {
+    if into.lane.number() != 0
+        || other.lane.number() == 0
+        || other.joined != 0
+        || into.joined >= 16
+    {
         return Err((Refusal::Lanes, other));
     }
     let wanted = u64::from(other.lane.number()) + u64::from(into.joined) + 1;
