@@ -8,12 +8,14 @@ usage: python3 docs/check.py
 - figures: where a figure stands on two pages, or follows from the repository, it is the same
 - names: the edits of WRONG_BODIES are those of the crates; the files that pages name are there
 - sentences: none beyond 40 words, and 22 on average, on the pages that are read first; words of all pages
-- DEFINITIONS is what definitions.py writes
+- DEFINITIONS is what definitions.py writes, and the picture of the crates what crates_picture.py does
 """
 import pathlib
 import re
 import sys
 
+sys.dont_write_bytecode = True
+import crates_picture
 import definitions
 
 ROOT = pathlib.Path(__file__).resolve().parent.parent
@@ -199,11 +201,13 @@ def made():
     """Pages that aren't what their script writes."""
     if text_of(definitions.PAGE) != definitions.page():
         yield "docs/DEFINITIONS.md isn't what docs/definitions.py writes: run it"
+    if text_of(crates_picture.PICTURE) != crates_picture.picture():
+        yield "docs/crates.svg isn't what docs/crates_picture.py writes: run it"
 
 
 def main():
     bad = 0
-    tests = (("links", links), ("snippets", snippets), ("figures", figures), ("the edits' rows", wrong_bodies), ("names of files", paths), ("sentences and words", long_sentences), ("DEFINITIONS", made))
+    tests = (("links", links), ("snippets", snippets), ("figures", figures), ("the edits' rows", wrong_bodies), ("names of files", paths), ("sentences and words", long_sentences), ("pages that scripts write", made))
     for name, test in tests:
         faults = list(test())
         bad += bool(faults)
@@ -214,5 +218,4 @@ def main():
 
 
 if __name__ == "__main__":
-    sys.dont_write_bytecode = True
     main()
