@@ -15,16 +15,19 @@ ROOT = pathlib.Path(__file__).resolve().parent.parent
 PAGE = ROOT / "docs" / "DEFINITIONS.md"
 HEAD = """# Definitions
 
-What the contracts cite, file by file, in the crates' `specs/`. Made by `docs/definitions.py` from the comments there. Each definition has its sentence above it: `python3 docs/definitions.py WORD..` prints those that have the words, and the [glossary](GLOSSARY.md) tells the words.
+What the contracts of the pool cite, file by file, in the crates' `specs/`. Made by `docs/definitions.py` from the comments there. Each definition has its sentence above it: `python3 docs/definitions.py WORD..` prints those that have the words, such as a crate's name, also of the programs, whose files [ARCHITECTURE](ARCHITECTURE.md#where-to-change-what) names. The words themselves: [GLOSSARY](GLOSSARY.md).
 """
+# The band of crates.txt that the page leaves to the script.
+PROGRAMS = "# programs and tests"
 # (what a file says whose definitions the crate's own proofs alone use)
 INNER = "No public clause cites this module"
 DEFINES = re.compile(r"(?:abbrev |unfoldable )?pub (?:record |data |type )?([^\s(:]+)")
 
 
-def crates():
-    """The crates, in the order of crates.txt."""
+def crates(until=None):
+    """The crates, in the order of crates.txt, up to a line of it."""
     lines = (ROOT / "crates.txt").read_text(encoding="utf-8").splitlines()
+    lines = lines[: lines.index(until)] if until else lines
     return [line.split(":")[0].split()[0] for line in lines if line.strip() and not line.startswith("#")]
 
 
@@ -64,7 +67,7 @@ def definitions(path):
 def page():
     """The whole page."""
     parts = [HEAD]
-    for crate in crates():
+    for crate in crates(PROGRAMS):
         heads = [(path.stem, head(path).rstrip(".")) for path in files(crate)]
         rows = [f"- `{name}`: {says}" for name, says in heads if INNER not in says]
         if rows:
