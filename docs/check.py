@@ -5,7 +5,8 @@ usage: python3 docs/check.py
 
 - links: each relative link leads to a file, and each anchor to a heading
 - snippets: each fenced block of README, USING and FOREIGN stands in a source, but for lines of `...` (or `// ...`) between its parts
-- figures: where a figure stands on two pages, or follows from the repository, it is the same
+- figures: where a figure stands on two pages, or follows from the repository, it is the same; a number of edits, minutes of the gate,
+  instructions or ns stands on the page where it is at home, if it stands on another
 - names: the edits of WRONG_BODIES are those of the crates; the files that pages name are there
 - sentences: none beyond 40 words, and 22 on average, on the pages that are read first; words of all pages
 - DEFINITIONS is what definitions.py writes, and the picture of the crates what crates_picture.py does
@@ -51,6 +52,15 @@ FIGURES = [
     ("the sample's proof, minutes", None, [("docs/GATE.md", r"some (\d+) minutes; in `crates/poolrun`"), ("README.md", r"some (\d+) processor minutes")]),
     ("exports", str(len(re.findall(r"^uint32_t pardz_", (ROOT / "bindings/c/pardz.h").read_text(encoding="utf-8"), re.M))), [("docs/PROVED.md", r"all (\d+) exports"), ("docs/FOREIGN.md", r"its (\d+) calls")]),
 ]
+
+# Figures by their units: where they are at home. On another page such a number stands only if it stands there too.
+HOMES = {
+    r"edits\b": ("docs/GATE.md",),
+    r"processor minutes\b": ("docs/GATE.md",),
+    r"(?:instructions\b|ns\b|µs\b)": ("docs/BENCHMARK.md", "docs/SPEED.md", "docs/FOREIGN.md"),
+}
+# What DECISIONS alone tells: what a choice saved when it was made.
+PAST = {"421", "237"}
 
 
 def text_of(path):
@@ -133,6 +143,17 @@ def figures():
             yield f"{what}: " + ", ".join(f"{name} {it}" for name, it in sorted(told))
 
 
+def strays():
+    """Figures that stand on a page without standing where they are at home."""
+    for unit, homes in HOMES.items():
+        at_home = set(re.findall(r"[\d.,]*\d", " ".join(text_of(ROOT / name) for name in homes if (ROOT / name).is_file())))
+        for page in TOP + PAGES + OTHERS:
+            if named(page) not in homes:
+                for number in re.findall(r"(?<![\d.,])(\d[\d.,]*) " + unit, text_of(page)):
+                    if number not in at_home | PAST:
+                        yield f"{named(page)}: {number} {unit}"
+
+
 def wrong_bodies():
     """Edits that the page doesn't list, and rows without an edit."""
     listed, crate = set(), None
@@ -208,7 +229,7 @@ def made():
 
 def main():
     bad = 0
-    tests = (("links", links), ("snippets", snippets), ("figures", figures), ("the edits' rows", wrong_bodies), ("names of files", paths), ("sentences and words", long_sentences), ("pages that scripts write", made))
+    tests = (("links", links), ("snippets", snippets), ("figures", figures), ("figures at home", strays), ("the edits' rows", wrong_bodies), ("names of files", paths), ("sentences and words", long_sentences), ("pages that scripts write", made))
     for name, test in tests:
         faults = list(test())
         bad += bool(faults)
