@@ -15,7 +15,7 @@ ROOT = pathlib.Path(__file__).resolve().parent.parent
 PAGE = ROOT / "docs" / "DEFINITIONS.md"
 HEAD = """# Definitions
 
-What the contracts of the pool cite, file by file, in the crates' `specs/`. Made by `docs/definitions.py` from the comments there. Each definition has its sentence above it: `python3 docs/definitions.py WORD..` prints those that have the words, such as a crate's name, also of the programs, whose files [ARCHITECTURE](ARCHITECTURE.md#where-to-change-what) names. The words themselves: [GLOSSARY](GLOSSARY.md).
+What the contracts of the pool cite, file by file, in the crates' `specs/`. Made by `docs/definitions.py` from the comments there: of each file, the first sentence. Each definition has its sentence above it: `python3 docs/definitions.py WORD..` prints those that have the words, such as a crate's name, also of the programs, whose files [ARCHITECTURE](ARCHITECTURE.md#where-to-change-what) names. The words themselves: [GLOSSARY](GLOSSARY.md).
 """
 # The band of crates.txt that the page leaves to the script.
 PROGRAMS = "# programs and tests"
@@ -69,7 +69,7 @@ def page():
     parts = [HEAD]
     for crate in crates(PROGRAMS):
         heads = [(path.stem, head(path).rstrip(".")) for path in files(crate)]
-        rows = [f"- `{name}`: {says}" for name, says in heads if INNER not in says]
+        rows = [f"- `{name}`: {says.split('. ')[0]}" for name, says in heads if INNER not in says]
         if rows:
             parts.append(f"\n## {crate}\n\n" + "\n".join(rows) + "\n")
     return "".join(parts)
