@@ -9,13 +9,11 @@ int main(void) {
     if (pardz_open(&shape, lanes, 2) != PARDZ_OK)
         return 1;
 
-    uint64_t key;                                            /* on the first thread */
-    if (pardz_put(&lanes[0], (const uint8_t *)"hello", 5, &key) != PARDZ_OK)
-        return 1;                                            /* (pardz_create, pardz_append and pardz_publish fill it bit by bit) */
-
-    const uint8_t *at;                                       /* on the second one, which was told the key */
+    const uint8_t hello[] = { 'h', 'e', 'l', 'l', 'o' };
+    uint64_t key;                                            /* lane 0 is the first thread's, and lane 1 the second's, which was told the key */
+    const uint8_t *at;
     size_t len;
-    if (pardz_get(&lanes[1], key, &at, &len) == PARDZ_OK) {
+    if (pardz_put(&lanes[0], hello, 5, &key) == PARDZ_OK && pardz_get(&lanes[1], key, &at, &len) == PARDZ_OK) {
         pardz_clear(&lanes[0], key);                         /* found no more; the bytes stay until the release */
         printf("%.*s\n", (int)len, (const char *)at);
         pardz_release(&lanes[1], key);                       /* the last to let go: empty, and free again */

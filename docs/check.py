@@ -1,0 +1,243 @@
+#!/usr/bin/env python3
+"""Tests the pages: one line for each test, status 1 where one fails. Nothing but the Python standard library.
+
+usage: python3 docs/check.py
+
+- links: each relative link leads to a file, and each anchor to a heading
+- snippets: each fenced block of README, USING and FOREIGN stands in a source, but for lines of `...` (or `// ...`) between its parts
+- figures: where a figure stands on two pages, or follows from the repository, it is the same; a number of edits, minutes of the gate,
+  instructions or ns stands on the page where it is at home, if it stands on another
+- names: the edits of WRONG_BODIES are those of the crates; the files that pages name are there
+- sentences: none beyond 40 words, and 22 on average, on the pages that are read first; words of all pages
+- DEFINITIONS is what definitions.py writes, and the picture of the crates what crates_picture.py does
+"""
+import pathlib
+import re
+import sys
+
+sys.dont_write_bytecode = True
+import crates_picture
+import definitions
+
+ROOT = pathlib.Path(__file__).resolve().parent.parent
+PAGES = sorted((ROOT / "docs").glob("*.md"))
+TOP = [ROOT / name for name in ("README.md", "CHANGELOG.md", "CONTRIBUTING.md", "SECURITY.md") if (ROOT / name).is_file()]
+OTHERS = sorted((ROOT / "bindings").glob("**/README.md"))
+READ_FIRST = ("README.md", "docs/USING.md", "docs/FOREIGN.md", "docs/ARCHITECTURE.md")
+MOST_WORDS, MEAN_WORDS = 40, 22
+WORDS_OF_README, WORDS_OF_PAGES = 1000, 32000
+
+# A figure, and where it stands: in each page by a pattern, whose groups are all the same. The first place is the one to change first.
+EDITS = len(list(ROOT.glob("crates/*/must-fail/*.edit")))
+CRATES = len(definitions.crates())
+FIGURES = [
+    ("edits", str(EDITS), [("docs/GATE.md", r"(\d+) edits refused")]),
+    ("crates", str(CRATES), [("README.md", r"all (\d+) crates"), ("docs/ARCHITECTURE.md", r"^(\d+) crates in")]),
+    ("the kit", None, [("docs/PROVED.md", r"`(rattle-kit-\w+) logic"), ("README.md", r"(rattle-kit-\w+)"), ("docs/USING.md", r"(rattle-kit-\w+)")]),
+    ("the crate's version", None, [("bindings/rust/Cargo.toml", r'^version = "([\d.]+)"'), ("README.md", r"\*\*Version\*\* ([\d.]+)"), ("docs/release", r'^VERSION = "([\d.]+)"')]),
+    ("get, 16 lanes, ns", None, [("docs/BENCHMARK.md", r"^\| get-many \| \d+ \| (\d+ \| \d+ \| \d+ \| \d+) \|$"), ("README.md", r"^\| get, read, release \| (\d+ \| \d+ \| \d+ \| \d+) \|$")]),
+    ("get on four threads, ns", None, [("docs/BENCHMARK.md", r"^\| get-many, 4 threads \| \d+ \| (\d+ \| \d+ \| \d+) \|"), ("README.md", r"^\| the same, 4 threads \| (\d+ \| \d+ \| \d+) \| \|")]),
+    ("one key on four threads, ns", None, [("docs/BENCHMARK.md", r"^\| get-shared, 4 threads \| (\d+) \|"), ("README.md", r"^\| the same of one key, 4 threads \| (\d+) \|")]),
+    ("cycle, ns", None, [("docs/BENCHMARK.md", r"^\| cycle \| \d+ \| (\d+ \| \d+ \| \d+ \| \d+) \|"), ("README.md", r"^\| create, fill, publish, clear \| (\d+ \| \d+ \| \d+ \| \d+) \|")]),
+    ("cycle on four threads, ns", None, [("docs/BENCHMARK.md", r"^\| cycle, 4 threads \| \d+ \| ([\d,]+ \| [\d,]+ \| [\d,]+ \| [\d,]+) \|"), ("README.md", r"^\| the same, 4 threads \| (\d+ \| \d+ \| \d+ \| \d+) \|")]),
+    ("the crate's get, ns", None, [("docs/BENCHMARK.md", r"^\| get-many, 64 bytes \|.*\| (\d+) \| \d+ \|$"), ("README.md", r"plain crate took (\d+) and")]),
+    ("the crate's cycle, ns", None, [("docs/BENCHMARK.md", r"^\| cycle, 64 bytes \|.*\| (\d+) \| \d+ \|$"), ("README.md", r"plain crate took \d+ and (\d+)")]),
+    ("the crate's get, instructions", None, [("docs/BENCHMARK.md", r"^\| get-many, 64 bytes \| (\d+ \| \d+ \| \d+) \|"), ("docs/FOREIGN.md", r"^\| get-many \| \d+ \| (\d+ \| \d+ \| \d+) \|")]),
+    ("the crate's cycle, instructions", None, [("docs/BENCHMARK.md", r"^\| cycle, 64 bytes \| (\d+ \| \d+ \| \d+) \|"), ("docs/FOREIGN.md", r"^\| cycle: a put and a clear \| \d+ \| (\d+ \| \d+ \| \d+) \|")]),
+    ("the crate's cycle of objects, instructions", None, [("docs/BENCHMARK.md", r"^\| cycle, objects of 192 bytes \| (\d+ \| \d+ \| \d+) \|"), ("docs/FOREIGN.md", r"^\| cycle of objects of 192 bytes \| \| (\d+ \| \d+ \| \d+) \|")]),
+    ("a native get, instructions", None, [("docs/BENCHMARK.md", r"^\| get-many \| (\d+) \| \d+ \| \d+ \| \d+ \|$"), ("docs/FOREIGN.md", r"native get-many takes (\d+)")]),
+    ("the crate's get, instructions, on its own page", None, [("docs/BENCHMARK.md", r"^\| get-many, 64 bytes \| (\d+) \|"), ("bindings/rust/README.md", r"^\| a get with its drop \| (\d+) instructions")]),
+    ("a full pool, instructions", None, [("docs/BENCHMARK.md", r"^\| full16 \| (\d+) \|"), ("docs/BENCHMARK.md", r"after (\d+) instructions")]),
+    ("the gate, processor minutes", None, [("docs/GATE.md", r"some (\d+) processor minutes"), ("CONTRIBUTING.md", r"some (\d+) processor minutes")]),
+    ("the sample's proof, minutes", None, [("docs/GATE.md", r"some (\d+) minutes; in `crates/poolrun`"), ("README.md", r"some (\d+) processor minutes")]),
+    ("exports", str(len(re.findall(r"^uint32_t pardz_", (ROOT / "bindings/c/pardz.h").read_text(encoding="utf-8"), re.M))), [("docs/PROVED.md", r"all (\d+) exports"), ("docs/FOREIGN.md", r"its (\d+) calls")]),
+]
+
+# Figures by their units: where they are at home. On another page such a number stands only if it stands there too.
+HOMES = {
+    r"edits\b": ("docs/GATE.md",),
+    r"processor minutes\b": ("docs/GATE.md",),
+    r"(?:instructions\b|ns\b|µs\b)": ("docs/BENCHMARK.md", "docs/SPEED.md", "docs/FOREIGN.md"),
+}
+# What DECISIONS alone tells: what a choice saved when it was made.
+PAST = {"421", "237"}
+
+
+def text_of(path):
+    return path.read_text(encoding="utf-8")
+
+
+def named(path):
+    return str(path.relative_to(ROOT))
+
+
+def without_code(text):
+    """A page without its blocks of code."""
+    text = re.sub(r"^```.*?^```$", "", text, flags=re.M | re.S)
+    return "\n".join(line for line in text.splitlines() if not line.startswith("    "))
+
+
+def anchor(heading):
+    """The anchor of a heading, as the usual hosts make it."""
+    heading = re.sub(r"\[([^\]]*)\]\([^)]*\)", r"\1", heading).replace("`", "").strip().lower()
+    return re.sub(r"[^\w\- ]", "", heading).replace(" ", "-")
+
+
+def anchors(path):
+    return {anchor(found) for found in re.findall(r"^#+ (.*)$", re.sub(r"^```.*?^```$", "", text_of(path), flags=re.M | re.S), re.M)}
+
+
+def links():
+    """Links that lead nowhere."""
+    for page in TOP + PAGES + OTHERS:
+        for target in re.findall(r"\]\(([^)\s]+)\)", without_code(text_of(page))):
+            if "://" in target:
+                continue
+            name, _, part = target.partition("#")
+            goal = (page.parent / name).resolve() if name else page
+            if not goal.exists():
+                yield f"{named(page)}: {target}"
+            elif part and goal.suffix == ".md" and part not in anchors(goal):
+                yield f"{named(page)}: no heading for {target}"
+
+
+def sources():
+    """The lines of all files from which snippets are, without their indentation."""
+    found = []
+    for pattern in ("crates/*/src/**/*.rt", "crates/*/specs/*.antt", "crates/*/proofs/**/*.antt", "bindings/c/**/*.[ch]", "bindings/rust/examples/*.rs", "bindings/rust/src/*.rs", "bindings/rust/README.md", "docs/template/**/*"):
+        for path in ROOT.glob(pattern):
+            if path.is_file():
+                found.append("\n" + "\n".join(line.strip() for line in text_of(path).splitlines()) + "\n")
+    return found
+
+
+def snippets():
+    """Snippets that stand in no source."""
+    texts = sources()
+    for name in ("README.md", "docs/USING.md", "docs/FOREIGN.md"):
+        for block in re.findall(r"^```\w*\n(.*?)^```$", text_of(ROOT / name), re.M | re.S):
+            lines = [line.strip() for line in block.strip("\n").splitlines()]
+            parts, part = [], []
+            for line in lines:
+                if line in ("...", "// ..."):
+                    parts.append(part)
+                    part = []
+                else:
+                    part.append(line)
+            wanted = ["\n" + "\n".join(it) + "\n" for it in parts + [part] if it]
+            if not any(all(it in text for it in wanted) for text in texts):
+                yield f"{name}: {next(line for line in lines if line)}"
+
+
+def figures():
+    """Figures that differ, or that aren't found any more where they are looked for."""
+    for what, due, places in FIGURES:
+        told = {("the repository", due)} if due else set()
+        for name, pattern in places:
+            path = ROOT / name
+            found = [it.replace(",", "") for it in re.findall(pattern, text_of(path), re.M)] if path.is_file() else []
+            if not found:
+                yield f"{what}: not found in {name}"
+            told |= {(name, it) for it in found}
+        if len({it for _, it in told}) > 1:
+            yield f"{what}: " + ", ".join(f"{name} {it}" for name, it in sorted(told))
+
+
+def strays():
+    """Figures that stand on a page without standing where they are at home."""
+    for unit, homes in HOMES.items():
+        at_home = set(re.findall(r"[\d.,]*\d", " ".join(text_of(ROOT / name) for name in homes if (ROOT / name).is_file())))
+        for page in TOP + PAGES + OTHERS:
+            if named(page) not in homes:
+                for number in re.findall(r"(?<![\d.,])(\d[\d.,]*) " + unit, text_of(page)):
+                    if number not in at_home | PAST:
+                        yield f"{named(page)}: {number} {unit}"
+
+
+def wrong_bodies():
+    """Edits that the page doesn't list, and rows without an edit."""
+    listed, crate = set(), None
+    for line in text_of(ROOT / "docs/WRONG_BODIES.md").splitlines():
+        if line.startswith("## "):
+            crate = line[3:]
+        row = re.match(r"- `(\w+)`, ", line)
+        if row and crate and (ROOT / "crates" / crate).is_dir():
+            listed.add((crate, row.group(1)))
+    there = {(path.parent.parent.name, path.stem) for path in ROOT.glob("crates/*/must-fail/*.edit")}
+    yield from (f"no row for {crate}/{name}" for crate, name in sorted(there - listed))
+    yield from (f"no edit for {crate}/{name}" for crate, name in sorted(listed - there))
+
+
+def paths():
+    """Files of the repository that a page names and that aren't there."""
+    for page in TOP + PAGES:
+        for path in re.findall(r"`((?:crates|bindings|docs)/[\w./-]+)`", text_of(page)):
+            if "/out" not in path and not re.search(r"\b(CRATE|NAME)\b", path) and not (ROOT / path).exists():
+                yield f"{named(page)}: {path}"
+        for crate, path in re.findall(r"`(\w+)/((?:src|specs|proofs)/\w[\w./-]*)`", text_of(page)):
+            folder = ROOT / "crates" / crate / path
+            if (ROOT / "crates" / crate).is_dir() and not (folder.exists() or folder.with_suffix(".antt").exists()):
+                yield f"{named(page)}: {crate}/{path}"
+
+
+def sentences(path):
+    """The sentences of a page, each as its words: of its text, lists and nothing else."""
+    text = without_code(text_of(path))
+    blocks, block = [], []
+    for line in text.splitlines():
+        item = re.match(r"\s*(?:[-*]|\d+\.) +(.*)", line)
+        if not line.strip() or line.startswith(("|", "#", "!")) or item:
+            blocks.append(" ".join(block))
+            block = [item.group(1)] if item else []
+        else:
+            block.append(line)
+    blocks.append(" ".join(block))
+    for block in blocks:
+        block = re.sub(r"\[([^\]]*)\]\([^)]*\)", r"\1", block)
+        block = re.sub(r"`([^`]*)`", lambda it: it.group(1).replace(" ", "_").replace(". ", "_"), block)
+        for sentence in re.split(r"(?<=[.?!])[)*]* +(?=[A-Z*`(a-z0-9])", block.replace("**", "")):
+            words = sentence.split()
+            if words:
+                yield words
+
+
+def long_sentences():
+    """Sentences beyond the limit, and pages whose mean is."""
+    for name in READ_FIRST:
+        lengths = []
+        for words in sentences(ROOT / name):
+            lengths.append(len(words))
+            if len(words) > MOST_WORDS:
+                yield f"{name}: {len(words)} words: {' '.join(words[:9])} .."
+        if lengths and sum(lengths) / len(lengths) > MEAN_WORDS:
+            yield f"{name}: {sum(lengths) / len(lengths):.1f} words a sentence"
+    of_readme = len(text_of(ROOT / "README.md").split())
+    if of_readme > WORDS_OF_README:
+        yield f"README.md: {of_readme} words"
+    of_pages = sum(len(text_of(page).split()) for page in PAGES)
+    if of_pages > WORDS_OF_PAGES:
+        yield f"docs: {of_pages} words"
+
+
+def made():
+    """Pages that aren't what their script writes."""
+    if text_of(definitions.PAGE) != definitions.page():
+        yield "docs/DEFINITIONS.md isn't what docs/definitions.py writes: run it"
+    if text_of(crates_picture.PICTURE) != crates_picture.picture():
+        yield "docs/crates.svg isn't what docs/crates_picture.py writes: run it"
+
+
+def main():
+    bad = 0
+    tests = (("links", links), ("snippets", snippets), ("figures", figures), ("figures at home", strays), ("the edits' rows", wrong_bodies), ("names of files", paths), ("sentences and words", long_sentences), ("pages that scripts write", made))
+    for name, test in tests:
+        faults = list(test())
+        bad += bool(faults)
+        print(f"FAIL {name}" if faults else f"ok   {name}")
+        for fault in faults:
+            print(f"     {fault}")
+    sys.exit(1 if bad else 0)
+
+
+if __name__ == "__main__":
+    main()
