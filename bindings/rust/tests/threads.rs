@@ -1,4 +1,7 @@
 //! Calls without a lane in hand, owned handles, and room that grows.
+mod common;
+
+use common::limit;
 use pardz::{Clear, CreateError, Key, OwnedFilling, OwnedRef, Pool, PoolRef, Shape};
 use std::cell::{Cell, RefCell};
 use std::panic::{catch_unwind, AssertUnwindSafe};
@@ -28,6 +31,7 @@ fn use_once(pool: &Pool<Vec<u64>>, number: u64) {
 
 #[test]
 fn threads_that_come_and_go() {
+    let _limit = limit();
     let pool = Pool::<Vec<u64>>::growing().unwrap();
     for round in 0..20 {
         thread::scope(|scope| {
@@ -46,6 +50,7 @@ fn threads_that_come_and_go() {
 
 #[test]
 fn thousands_of_short_threads() {
+    let _limit = limit();
     let pool = Arc::new(Pool::<Vec<u64>>::open(shape(2, 1, 1)).unwrap());
     for number in 0..2000 {
         let shared = Arc::clone(&pool);
@@ -61,6 +66,7 @@ fn thousands_of_short_threads() {
 fn more_threads_than_lanes() {
     const THREADS: u64 = 32;
     const ROUNDS: u64 = 300;
+    let _limit = limit();
     for pool in [
         Pool::<Vec<u64>>::growing().unwrap(),
         Pool::open(shape(1, 64, 4)).unwrap(),
@@ -125,6 +131,7 @@ fn open_at_once(count: u64) {
 
 #[test]
 fn a_hundred_thousand_are_open() {
+    let _limit = limit();
     open_at_once(100_000);
 }
 
@@ -189,6 +196,7 @@ fn all_lanes_in_hand() {
 
 #[test]
 fn lanes_come_home_from_threads() {
+    let _limit = limit();
     let pool = Arc::new(Pool::<Vec<u64>>::open(shape(4, 4, 1)).unwrap());
     for number in 0..100 {
         let shared = Arc::clone(&pool);
@@ -208,6 +216,7 @@ fn lanes_come_home_from_threads() {
 
 #[test]
 fn owned_handles_travel() {
+    let _limit = limit();
     let pool = Arc::new(Pool::<Vec<u64>>::growing().unwrap());
     let (send, receive) = mpsc::channel::<OwnedRef<Vec<u64>>>();
     let reader = thread::spawn(move || receive.into_iter().map(|list| list[0]).sum::<u64>());
@@ -257,6 +266,7 @@ impl Drop for Told {
 
 #[test]
 fn clones_live_on_when_the_key_is_cleared() {
+    let _limit = limit();
     let pool = Arc::new(Pool::<Told>::growing().unwrap());
     let emptied = Arc::new(AtomicUsize::new(0));
     let key = pool
@@ -281,6 +291,7 @@ fn clones_live_on_when_the_key_is_cleared() {
 
 #[test]
 fn the_last_handle_drops_the_pool() {
+    let _limit = limit();
     let pool = Arc::new(Pool::<Told>::growing().unwrap());
     let (emptied, dropped) = (Arc::new(AtomicUsize::new(0)), Arc::new(AtomicUsize::new(0)));
     let fill = |told: &mut Told| {
@@ -352,6 +363,7 @@ impl Clear for Link {
 /// A long chain by its thread's lane, by shared lanes, and by owned references, on small stacks.
 #[test]
 fn chains_let_go() {
+    let _limit = limit();
     let chain = |by_reference: bool| {
         let count = 5000;
         let mut last = None;
@@ -396,6 +408,7 @@ thread_local! {
 /// References in thread-locals are dropped when the thread's lane is gone already.
 #[test]
 fn a_thread_ends_while_its_references_live() {
+    let _limit = limit();
     for _ in 0..100 {
         let key = links().create_with(|_| ()).unwrap();
         thread::spawn(move || {
@@ -429,6 +442,7 @@ thread_local! {
 
 #[test]
 fn calls_while_a_thread_ends() {
+    let _limit = limit();
     for _ in 0..50 {
         thread::spawn(|| {
             CALLER.with(|_| ());
