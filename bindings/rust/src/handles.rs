@@ -64,12 +64,15 @@ impl<T: Clear> Pool<T> {
         T: Default,
     {
         match self.own_lane() {
-            Some(lane) => match lane.create_here() {
+            Some(lane) => match lane.create_first() {
                 Ok(filling) => Ok(PoolFilling { filling }),
                 Err(CreateError::Full) => self.create_further(Some(lane.number())),
                 Err(error) => Err(error),
             },
-            None => self.create_further(None),
+            None => match self.room.create_by_last::<false>() {
+                Some(filling) => Ok(PoolFilling { filling }),
+                None => self.create_further(None),
+            },
         }
     }
 
@@ -154,36 +157,23 @@ impl<T: Clear> Pool<T> {
     /// ```
     #[inline(always)]
     pub fn get(&self, key: Key) -> Option<PoolRef<'_, T>> {
-        let Some(lane) = self.own_lane() else {
-            return self.get_by_shared(key);
+        let (lane, held, object) = match self.own_lane() {
+            Some(lane) => match lane.get_here(key) {
+                Some((held, object)) => (lane, held, object),
+                None => lane.get_elsewhere(key)?,
+            },
+            None => self.get_by_shared(key)?,
         };
-        let (lane, held, object, by) = match lane.get_here(key) {
-            Some((held, object)) => (lane, held, object, By::Own),
-            None => {
-                let (lane, held, object) = lane.get_elsewhere(key)?;
-                (lane, held, object, By::OwnElsewhere)
-            }
-        };
-        Some(PoolRef {
-            lane,
-            held,
-            object,
-            by,
-        })
+        Some(PoolRef { lane, held, object })
     }
 
     /// A get by a shared lane.
     #[inline(never)]
-    fn get_by_shared(&self, key: Key) -> Option<PoolRef<'_, T>> {
+    fn get_by_shared(&self, key: Key) -> Option<(&Lane<'_, T>, Held, Shown<T>)> {
         let segment = self.room.segment_of(key)?;
         let lane = segment.lane(self.room.shared_lane());
         let (held, object) = lane.shared_get(key)?;
-        Some(PoolRef {
-            lane,
-            held,
-            object,
-            by: By::Shared,
-        })
+        Some((lane, held.with(Held::SHARED), object))
     }
 
     /// Clears a key: no get finds it any more. Answers whether this call did. The object stays for those who have a reference; the last
@@ -237,7 +227,10 @@ impl<T: Clear> Pool<T> {
     where
         T: Default,
     {
-        let filling = self.create_growing(|| self.room.create_in_shared::<true>())?;
+        let filling = match self.room.create_by_last::<true>() {
+            Some(filling) => filling,
+            None => self.create_growing(|| self.room.create_in_shared::<true>())?,
+        };
         let (lane, begun, block) = filling.into_parts();
         Ok(OwnedFilling {
             lane: Far::of(lane),
@@ -315,12 +308,7 @@ impl<'p, T: Clear> PoolFilling<'p, T> {
     pub fn downgrade(self) -> PoolRef<'p, T> {
         if !self.filling.is_shared() {
             let (lane, held, object) = self.filling.downgrade().into_parts();
-            return PoolRef {
-                lane,
-                held,
-                object,
-                by: By::Own,
-            };
+            return PoolRef { lane, held, object };
         }
         let (lane, begun, block) = self.filling.into_parts();
         let (held, object) = match lane.shared_downgrade(begun, block) {
@@ -330,12 +318,8 @@ impl<'p, T: Clear> PoolFilling<'p, T> {
                 lane::too_many()
             }
         };
-        PoolRef {
-            lane,
-            held,
-            object,
-            by: By::Shared,
-        }
+        let held = held.with(Held::SHARED);
+        PoolRef { lane, held, object }
     }
 }
 
@@ -369,19 +353,6 @@ pub struct PoolRef<'p, T: Clear = Buffer> {
     lane: &'p Lane<'p, T>,
     held: Held,
     object: Shown<T>,
-    by: By,
-}
-
-/// Whose the lane is that has a reference. (A whole word, as `Held::start`.)
-#[derive(Clone, Copy, PartialEq)]
-#[repr(u64)]
-enum By {
-    /// The thread's.
-    Own,
-    /// The thread's, in another segment than the first.
-    OwnElsewhere,
-    /// It is shared.
-    Shared,
 }
 
 impl<'p, T: Clear> PoolRef<'p, T> {
@@ -399,37 +370,34 @@ impl<'p, T: Clear> PoolRef<'p, T> {
     pub fn try_clone(&self) -> Option<PoolRef<'p, T>> {
         let key = self.key();
         let lane = self.lane.segment_lane(key.into())?;
-        let is_shared = self.by == By::Shared || threads::has_ended();
-        let (held, object) = if is_shared {
-            lane.shared_get(key)?
+        let (held, object) = if self.held.is_shared() || threads::has_ended() {
+            let (held, object) = lane.shared_get(key)?;
+            (held.with(Held::SHARED), object)
         } else {
             lane.get_and_finish(key)?
         };
-        Some(PoolRef {
-            lane,
-            held,
-            object,
-            by: if is_shared { By::Shared } else { By::Own },
-        })
+        Some(PoolRef { lane, held, object })
     }
 }
 
 /// The drop of a reference. (Apart, so that a caller with several places where one is dropped has it in none.)
 #[inline(never)]
-fn release<T: Clear>(lane: &Lane<'_, T>, held: (u64, u64), by: By) {
-    if by != By::Own || threads::has_ended() {
-        return release_apart(lane, held, by);
+fn release<T: Clear>(lane: &Lane<'_, T>, held: (u64, u64)) {
+    let held = Held::of_parts(held);
+    if !held.is_here() || threads::has_ended() {
+        return release_apart(lane, held.parts());
     }
-    lane.release(&Held::of_parts(held));
+    lane.release(&held);
 }
 
 /// The drop of a reference that isn't of the thread's own lane in its first segment.
 #[inline(never)]
-fn release_apart<T: Clear>(lane: &Lane<'_, T>, held: (u64, u64), by: By) {
-    if by == By::OwnElsewhere && !threads::has_ended() {
-        return lane.release_elsewhere(held);
+fn release_apart<T: Clear>(lane: &Lane<'_, T>, held: (u64, u64)) {
+    let reference = Held::of_parts(held);
+    if reference.is_shared() || threads::has_ended() {
+        return lane.shared_release(&reference);
     }
-    lane.shared_release(&Held::of_parts(held));
+    lane.release_elsewhere(held);
 }
 
 impl<T: Clear> Deref for PoolRef<'_, T> {
@@ -445,7 +413,7 @@ impl<T: Clear> Drop for PoolRef<'_, T> {
     #[inline(always)]
     fn drop(&mut self) {
         // (By its parts: a reference whose address isn't told stays in registers.)
-        release(self.lane, self.held.parts(), self.by);
+        release(self.lane, self.held.parts());
     }
 }
 

@@ -570,21 +570,33 @@ impl<'p, T: Clear> Lane<'p, T> {
     where
         T: Default,
     {
-        self.create_in::<true>()
+        self.create_in(Self::create_apart_in_any)
     }
 
     /// A create of this segment.
-    #[inline(always)]
+    #[inline]
     pub(crate) fn create_here(&self) -> Result<Filling<'_, T>, CreateError>
     where
         T: Default,
     {
-        self.create_in::<false>()
+        self.create_in(Self::create_apart)
     }
 
-    /// A create of this segment, or of any.
+    /// A create of the first segment, which says that it is full where another one had a place last.
     #[inline(always)]
-    fn create_in<const ANY: bool>(&self) -> Result<Filling<'_, T>, CreateError>
+    pub(crate) fn create_first(&self) -> Result<Filling<'_, T>, CreateError>
+    where
+        T: Default,
+    {
+        self.create_in(Self::create_apart_or_pass)
+    }
+
+    /// A create of this segment; and `apart` where the lane's own list has no place.
+    #[inline(always)]
+    fn create_in<'s>(
+        &'s self,
+        apart: impl FnOnce(&'s Self, Block<T>) -> Result<Filling<'s, T>, CreateError>,
+    ) -> Result<Filling<'s, T>, CreateError>
     where
         T: Default,
     {
@@ -594,9 +606,18 @@ impl<'p, T: Clear> Lane<'p, T> {
         };
         match self.create_short(block) {
             Ok(created) => created,
-            Err(block) if ANY => self.create_apart_in_any(block),
-            Err(block) => self.create_apart(block),
+            Err(block) => apart(self, block),
         }
+    }
+
+    #[cold]
+    #[inline(never)]
+    fn create_apart_or_pass(&self, block: Block<T>) -> Result<Filling<'_, T>, CreateError> {
+        if self.room().is_elsewhere(self.seat().number) {
+            self.put_away(block);
+            return Err(CreateError::Full);
+        }
+        self.create_apart(block)
     }
 
     /// A create of a lane with a place on its own list. The block where it has none.
@@ -678,7 +699,7 @@ impl<'p, T: Clear> Lane<'p, T> {
         self.finish_rare();
         let lane = self.elsewhere(key)?;
         let (held, object) = lane.get_and_finish(key)?;
-        Some((lane, held, object))
+        Some((lane, held.with(Held::ELSEWHERE), object))
     }
 
     /// A get of this segment alone.
@@ -1585,7 +1606,8 @@ pub struct Ref<'l, T: Clear = Buffer> {
     lane: &'l Lane<'l, T>,
     held: Held,
     object: Shown<T>,
-    /// Whether this lane is that of another segment than the one whose get it was.
+    /// Whether this lane is that of another segment than the one whose get it was. (Known where it is dropped, if that is in sight of
+    /// the get.)
     is_elsewhere: bool,
 }
 
@@ -1617,23 +1639,47 @@ impl<T> Shown<T> {
 #[derive(Clone, Copy)]
 pub(crate) struct Held {
     key: u64,
-    /// (A whole word, so that a reference has no padding: a move of it then reads what was written.)
+    /// With `ELSEWHERE` or `SHARED`. (One word, so that a move reads what was written.)
     start: u64,
 }
 
 impl Held {
+    /// The lane is that of another segment than the one that was asked.
+    pub(crate) const ELSEWHERE: u64 = 1 << 32;
+    /// The lane is one that threads share.
+    pub(crate) const SHARED: u64 = 1 << 33;
+
     #[inline]
     pub(crate) fn key(&self) -> Key {
         Key::proved(self.key)
     }
 
-    /// The key, and where its place stands.
-    #[inline]
+    #[inline(always)]
+    pub(crate) fn with(self, flag: u64) -> Held {
+        Held {
+            key: self.key,
+            start: self.start | flag,
+        }
+    }
+
+    /// Whether it is of the lane that was asked, which isn't shared.
+    #[inline(always)]
+    pub(crate) fn is_here(&self) -> bool {
+        self.start >> 32 == 0
+    }
+
+    #[inline(always)]
+    pub(crate) fn is_shared(&self) -> bool {
+        self.start & Held::SHARED != 0
+    }
+
+    /// As words, for calls that have them in registers.
+    #[inline(always)]
     pub(crate) fn parts(&self) -> (u64, u64) {
         (self.key, self.start)
     }
 
-    #[inline]
+    #[inline(always)]
     pub(crate) fn of_parts((key, start): (u64, u64)) -> Held {
         Held { key, start }
     }

@@ -20,8 +20,10 @@ const MOST_SEGMENTS: usize = 256;
 const LANES: u32 = 16;
 const SHARED: u32 = 4;
 
-/// How many creates pass by a lane that was found full in all segments.
+/// How many creates pass by a lane that was found full in all segments: twice as many each time, since each look costs as many steps as
+/// there are segments.
 const PASSED: u32 = 32;
+const MOST_PASSED: u32 = 8192;
 
 /// Tells the threads that a pool is closed.
 struct Told(Counted<Homes>);
@@ -49,9 +51,10 @@ pub(crate) struct Room<T: Clear> {
     homes: Told,
     /// How many have the pool's memory: it, and lanes of owned handles that outlive it.
     shares: AtomicUsize,
-    /// By lane: the segment that had a place last, and how many creates still pass it by.
+    /// By lane: the segment that had a place last; how many creates still pass it by, and how many will when it is found full next.
     hints: [AtomicUsize; LANES as usize],
     passed: [AtomicU32; LANES as usize],
+    next_passed: [AtomicU32; LANES as usize],
 }
 
 /// The shape of the segment of this tag: each is larger than the one before, up to the largest.
@@ -112,6 +115,7 @@ impl<T: Clear> Room<T> {
             shares: AtomicUsize::new(1),
             hints: Default::default(),
             passed: Default::default(),
+            next_passed: [const { AtomicU32::new(PASSED) }; LANES as usize],
         })?;
         room.first.settle(NonNull::from(&*room));
         Ok(room)
@@ -190,6 +194,18 @@ impl<T: Clear> Room<T> {
         self.create_by(number, |shards| shards.lane(number).create_here())
     }
 
+    /// A create by the shared lane that the thread called last, where that had a place last. None where it has none now.
+    #[inline]
+    pub(crate) fn create_by_last<const OWNED: bool>(&self) -> Option<Filling<'_, T>>
+    where
+        T: Default,
+    {
+        let number = threads::last_shared(self.id)?;
+        let hint = self.hints[number as usize].load(Ordering::Relaxed);
+        let lane = self.segment(hint)?.lane(number);
+        lane.shared_create::<OWNED>().ok()
+    }
+
     /// A create by any of the shared lanes, in any segment.
     pub(crate) fn create_in_shared<const OWNED: bool>(&self) -> Result<Filling<'_, T>, CreateError>
     where
@@ -203,7 +219,10 @@ impl<T: Clear> Room<T> {
                 shards.lane(number).shared_create::<OWNED>()
             }) {
                 Err(CreateError::Full) => (),
-                created => return created,
+                created => {
+                    threads::set_last_shared(self.id, number);
+                    return created;
+                }
             }
         }
         Err(CreateError::Full)
@@ -216,6 +235,7 @@ impl<T: Clear> Room<T> {
         create: impl Fn(&'r Shards<T>) -> Result<Filling<'r, T>, CreateError>,
     ) -> Result<Filling<'r, T>, CreateError> {
         let hint = &self.hints[number as usize];
+        let next = &self.next_passed[number as usize];
         let (from, count) = (hint.load(Ordering::Relaxed), self.count());
         for step in 0..count {
             let index = (from + step) % count;
@@ -226,12 +246,20 @@ impl<T: Clear> Room<T> {
                 Err(CreateError::Full) => (),
                 created => {
                     hint.store(index, Ordering::Relaxed);
+                    next.store(PASSED, Ordering::Relaxed);
                     return created;
                 }
             }
         }
-        self.passed[number as usize].store(PASSED, Ordering::Relaxed);
+        let passed = next.load(Ordering::Relaxed);
+        self.passed[number as usize].store(passed, Ordering::Relaxed);
+        next.store((2 * passed).min(MOST_PASSED), Ordering::Relaxed);
         Err(CreateError::Full)
+    }
+
+    /// Whether a lane had its last place in another segment than the first.
+    pub(crate) fn is_elsewhere(&self, number: u32) -> bool {
+        self.hints[number as usize].load(Ordering::Relaxed) != 0
     }
 
     /// Whether a create passes a lane by, since it was found full a while ago.
