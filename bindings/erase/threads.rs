@@ -107,12 +107,15 @@ fn run<T: Pooled>(rounds: u64) -> u64 {
     };
     let pool = Pool::<T>::open(shape).expect("a pool");
     let board = Board::default();
+    // (All lanes at once: one that came home would be given again.)
+    let lanes: Vec<_> = (0..LANES).filter_map(|_| pool.lane()).collect();
+    assert_eq!(lanes.len(), LANES as usize, "a lane for each");
     let calls = thread::scope(|scope| {
-        let one = || {
-            let lane = pool.lane().expect("a lane for each");
-            work(&lane, &board, rounds)
-        };
-        let running: Vec<_> = (0..LANES).map(|_| scope.spawn(one)).collect();
+        let board = &board;
+        let running: Vec<_> = lanes
+            .into_iter()
+            .map(|lane| scope.spawn(move || work(&lane, board, rounds)))
+            .collect();
         running
             .into_iter()
             .map(|thread| thread.join().expect("no panic"))

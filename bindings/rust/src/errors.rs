@@ -27,13 +27,17 @@ pub enum OpenError {
 /// }
 /// # Ok::<(), OpenError>(())
 /// ```
+// (A whole word, so that a result is moved by words.)
 #[derive(Clone, Copy, Debug, PartialEq, Eq)]
 #[non_exhaustive]
+#[repr(usize)]
 pub enum CreateError {
     /// No place of the lane is free.
     Full,
     /// Memory was refused.
     Memory,
+    /// The call was made without a lane, and all 16 lanes of the pool are in hand.
+    NoLane,
 }
 
 /// Memory was refused. What was to grow is as it was.
@@ -58,6 +62,7 @@ impl fmt::Display for CreateError {
         f.write_str(match self {
             CreateError::Full => "no place of the lane is free",
             CreateError::Memory => "memory was refused",
+            CreateError::NoLane => "all lanes of the pool are in hand",
         })
     }
 }
@@ -88,6 +93,12 @@ impl From<OpenFault> for OpenError {
     }
 }
 
+impl From<MemoryRefused> for OpenError {
+    fn from(_: MemoryRefused) -> OpenError {
+        OpenError::Memory
+    }
+}
+
 impl From<CreateFault> for CreateError {
     #[inline]
     fn from(fault: CreateFault) -> CreateError {
@@ -107,7 +118,7 @@ impl From<MemoryRefused> for CreateError {
 impl From<CreateError> for io::Error {
     fn from(error: CreateError) -> io::Error {
         match error {
-            CreateError::Full => io::Error::other(error),
+            CreateError::Full | CreateError::NoLane => io::Error::other(error),
             CreateError::Memory => io::ErrorKind::OutOfMemory.into(),
         }
     }

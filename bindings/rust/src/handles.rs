@@ -6,12 +6,11 @@ use crate::buffer::Buffer;
 use crate::clear::Clear;
 use crate::errors::CreateError;
 use crate::key::Key;
-use crate::lane::{self, Begun, Filling, Held, Lane, Shown};
+use crate::lane::{self, Begun, Far, Filling, Held, Lane, Shown};
 use crate::object::Block;
 use crate::pool::Pool;
 use crate::threads;
 use std::ops::{Deref, DerefMut};
-use std::sync::Arc;
 
 /// Calls without a lane in hand. The thread's first call finds it a lane, which is kept until the thread ends; where all are taken,
 /// its calls share lanes, each under a lock for a bounded number of steps. They may be made anywhere: within `T::clear`, `Default`, `Drop`
@@ -65,12 +64,15 @@ impl<T: Clear> Pool<T> {
         T: Default,
     {
         match self.own_lane() {
-            Some(lane) => match lane.create_here() {
-                Ok(filling) => Ok(PoolFilling::of(filling, false)),
+            Some(lane) => match lane.create_first() {
+                Ok(filling) => Ok(PoolFilling { filling }),
                 Err(CreateError::Full) => self.create_further(Some(lane.number())),
                 Err(error) => Err(error),
             },
-            None => self.create_further(None),
+            None => match self.room.create_by_last::<false>() {
+                Some(filling) => Ok(PoolFilling { filling }),
+                None => self.create_further(None),
+            },
         }
     }
 
@@ -81,13 +83,30 @@ impl<T: Clear> Pool<T> {
     where
         T: Default,
     {
+        self.create_growing(|| {
+            if let Some(number) = own.filter(|number| !self.room.passes(*number)) {
+                match self.room.create_in_any(number) {
+                    Err(CreateError::Full) => (),
+                    created => return created,
+                }
+            }
+            self.room.create_in_shared::<false>()
+        })
+        .map(|filling| PoolFilling { filling })
+    }
+
+    /// A create that finds all full looks again, and has the pool grow.
+    fn create_growing<F>(
+        &self,
+        create: impl Fn() -> Result<F, CreateError>,
+    ) -> Result<F, CreateError> {
         loop {
             let count = self.room.count();
             for again in [false, true] {
                 if again {
                     self.room.look_again();
                 }
-                match self.create_in_segments(own) {
+                match create() {
                     Err(CreateError::Full) => (),
                     created => return created,
                 }
@@ -97,20 +116,6 @@ impl<T: Clear> Pool<T> {
                 grown => grown?,
             }
         }
-    }
-
-    fn create_in_segments(&self, own: Option<u32>) -> Result<PoolFilling<'_, T>, CreateError>
-    where
-        T: Default,
-    {
-        if let Some(number) = own.filter(|number| !self.room.passes(*number)) {
-            match self.room.create_in_any(number) {
-                Err(CreateError::Full) => (),
-                created => return Ok(PoolFilling::of(created?, false)),
-            }
-        }
-        let filling = self.room.create_in_shared()?;
-        Ok(PoolFilling::of(filling, true))
     }
 
     /// Fills an object, and publishes it. Where the closure panics nothing is published, and the place is free again.
@@ -152,42 +157,23 @@ impl<T: Clear> Pool<T> {
     /// ```
     #[inline(always)]
     pub fn get(&self, key: Key) -> Option<PoolRef<'_, T>> {
-        let Some(lane) = self.own_lane() else {
-            return self.get_by_shared(key);
+        let (lane, held, object) = match self.own_lane() {
+            Some(lane) => match lane.get_here(key) {
+                Some((held, object)) => (lane, held, object),
+                None => lane.get_elsewhere(key)?,
+            },
+            None => self.get_by_shared(key)?,
         };
-        let (lane, held, object, by) = match lane.get_here(key) {
-            Some((held, object)) => (lane, held, object, By::Own),
-            None => {
-                let (lane, held, object) = lane.get_elsewhere(key)?;
-                (lane, held, object, By::OwnElsewhere)
-            }
-        };
-        Some(PoolRef {
-            lane,
-            held,
-            object,
-            by,
-        })
-    }
-
-    #[inline(never)]
-    fn get_by_shared(&self, key: Key) -> Option<PoolRef<'_, T>> {
-        let (lane, held, object) = self.shared_get(key)?;
-        Some(PoolRef {
-            lane,
-            held,
-            object,
-            by: By::Shared,
-        })
+        Some(PoolRef { lane, held, object })
     }
 
     /// A get by a shared lane.
-    #[inline]
-    fn shared_get(&self, key: Key) -> Option<(&Lane<'_, T>, Held, Shown<T>)> {
+    #[inline(never)]
+    fn get_by_shared(&self, key: Key) -> Option<(&Lane<'_, T>, Held, Shown<T>)> {
         let segment = self.room.segment_of(key)?;
         let lane = segment.lane(self.room.shared_lane());
         let (held, object) = lane.shared_get(key)?;
-        Some((lane, held, object))
+        Some((lane, held.with(Held::SHARED), object))
     }
 
     /// Clears a key: no get finds it any more. Answers whether this call did. The object stays for those who have a reference; the last
@@ -226,10 +212,9 @@ impl<T: Clear> Pool<T> {
     ///
     /// ```
     /// use pardz::Pool;
-    /// use std::sync::Arc;
     /// use std::thread;
     ///
-    /// let pool = Arc::new(Pool::<String>::growing()?);
+    /// let pool = Pool::<String>::growing()?;
     /// let mut filling = pool.create_owned()?;
     /// let key = thread::spawn(move || {
     ///     filling.push_str("abc");
@@ -238,16 +223,19 @@ impl<T: Clear> Pool<T> {
     /// assert_eq!(*pool.get(key.join().expect("no panic")).expect("published"), "abc");
     /// # Ok::<(), Box<dyn std::error::Error>>(())
     /// ```
-    pub fn create_owned(self: &Arc<Self>) -> Result<OwnedFilling<T>, CreateError>
+    pub fn create_owned(&self) -> Result<OwnedFilling<T>, CreateError>
     where
         T: Default,
     {
-        let (lane, begun, block) = self.create_further(None)?.into_parts();
+        let filling = match self.room.create_by_last::<true>() {
+            Some(filling) => filling,
+            None => self.create_growing(|| self.room.create_in_shared::<true>())?,
+        };
+        let (lane, begun, block) = filling.into_parts();
         Ok(OwnedFilling {
-            lane: lane.number(),
+            lane: Far::of(lane),
             begun,
             block: Some(block),
-            pool: Arc::clone(self),
         })
     }
 
@@ -259,24 +247,21 @@ impl<T: Clear> Pool<T> {
     ///
     /// ```
     /// use pardz::Pool;
-    /// use std::sync::Arc;
     /// use std::thread;
     ///
-    /// let pool = Arc::new(Pool::<String>::growing()?);
+    /// let pool = Pool::<String>::growing()?;
     /// let text = pool.get_owned(pool.put("abc")?).expect("published");
     /// assert!(pool.clear(text.key()));
     /// drop(pool);
     /// thread::spawn(move || assert_eq!(*text, "abc")).join().expect("no panic");
     /// # Ok::<(), Box<dyn std::error::Error>>(())
     /// ```
-    pub fn get_owned(self: &Arc<Self>, key: Key) -> Option<OwnedRef<T>> {
-        let (lane, held, object) = self.shared_get(key)?;
-        Some(OwnedRef {
-            lane: lane.number(),
-            held,
-            object,
-            pool: Arc::clone(self),
-        })
+    #[inline]
+    pub fn get_owned(&self, key: Key) -> Option<OwnedRef<T>> {
+        let segment = self.room.segment_of(key)?;
+        let lane = segment.lane(self.room.shared_lane());
+        let (lane, held, object) = lane.owned_get(key)?;
+        Some(OwnedRef { lane, held, object })
     }
 }
 
@@ -294,56 +279,24 @@ impl<T: Clear> Pool<T> {
 /// ```
 #[must_use = "a filling that is dropped isn't published"]
 pub struct PoolFilling<'p, T: Clear = Buffer> {
-    /// None once it is taken out.
-    filling: Option<Filling<'p, T>>,
-    is_shared: bool,
+    filling: Filling<'p, T>,
 }
 
 impl<'p, T: Clear> PoolFilling<'p, T> {
-    #[inline(always)]
-    fn of(filling: Filling<'p, T>, is_shared: bool) -> Self {
-        PoolFilling {
-            filling: Some(filling),
-            is_shared,
-        }
-    }
-
-    /// The filling, without the drop, and whether its lane is shared.
-    #[inline(always)]
-    fn into_filling(mut self) -> (Filling<'p, T>, bool) {
-        match self.filling.take() {
-            Some(filling) => (filling, self.is_shared || threads::has_ended()),
-            None => unreachable!("it is taken out at the end"),
-        }
-    }
-
-    #[inline(always)]
-    fn inner(&self) -> &Filling<'p, T> {
-        match &self.filling {
-            Some(filling) => filling,
-            None => unreachable!("it is taken out at the end"),
-        }
-    }
-
-    fn into_parts(self) -> (&'p Lane<'p, T>, Begun, Block<T>) {
-        self.into_filling().0.into_parts()
-    }
-
     /// The key under which it will be published.
     #[inline]
     pub fn key(&self) -> Key {
-        self.inner().key()
+        self.filling.key()
     }
 
     /// Publishes: from now on each call finds the object under the key.
     #[inline(always)]
     pub fn publish(self) -> Key {
-        let (filling, is_shared) = self.into_filling();
-        if !is_shared {
-            return filling.publish();
+        let (lane, begun, block) = self.filling.into_parts();
+        if begun.is_shared() {
+            return lane.shared_publish(begun.parts(), block);
         }
-        let (lane, begun, block) = filling.into_parts();
-        lane.shared_publish(begun, block)
+        lane.publish(begun, block)
     }
 
     /// Publishes, and keeps a reference.
@@ -353,35 +306,20 @@ impl<'p, T: Clear> PoolFilling<'p, T> {
     /// Where the lane has 1,048,575 references; nothing is published then.
     #[inline]
     pub fn downgrade(self) -> PoolRef<'p, T> {
-        let (filling, is_shared) = self.into_filling();
-        if !is_shared {
-            let (lane, held, object) = filling.downgrade().into_parts();
-            return PoolRef {
-                lane,
-                held,
-                object,
-                by: By::Own,
-            };
+        if !self.filling.is_shared() {
+            let (lane, held, object) = self.filling.downgrade().into_parts();
+            return PoolRef { lane, held, object };
         }
-        let (lane, begun, block) = filling.into_parts();
-        let (held, object) = downgrade(lane, begun, block);
-        PoolRef {
-            lane,
-            held,
-            object,
-            by: By::Shared,
-        }
-    }
-}
-
-/// A publish with a reference by a shared lane.
-fn downgrade<T: Clear>(lane: &Lane<'_, T>, begun: Begun, block: Block<T>) -> (Held, Shown<T>) {
-    match lane.shared_downgrade(begun, block) {
-        Ok(published) => published,
-        Err(block) => {
-            lane.give_back(begun, block, true);
-            panic!("the lane has 1,048,575 references")
-        }
+        let (lane, begun, block) = self.filling.into_parts();
+        let (held, object) = match lane.shared_downgrade(begun, block) {
+            Ok(published) => published,
+            Err(block) => {
+                lane.give_back(begun, block);
+                lane::too_many()
+            }
+        };
+        let held = held.with(Held::SHARED);
+        PoolRef { lane, held, object }
     }
 }
 
@@ -390,27 +328,14 @@ impl<T: Clear> Deref for PoolFilling<'_, T> {
 
     #[inline]
     fn deref(&self) -> &T {
-        self.inner()
+        &self.filling
     }
 }
 
 impl<T: Clear> DerefMut for PoolFilling<'_, T> {
     #[inline]
     fn deref_mut(&mut self) -> &mut T {
-        match &mut self.filling {
-            Some(filling) => filling,
-            None => unreachable!("it is taken out at the end"),
-        }
-    }
-}
-
-impl<T: Clear> Drop for PoolFilling<'_, T> {
-    #[inline]
-    fn drop(&mut self) {
-        if let Some(filling) = self.filling.take() {
-            let (lane, begun, block) = filling.into_parts();
-            lane.give_back(begun, block, self.is_shared || threads::has_ended());
-        }
+        &mut self.filling
     }
 }
 
@@ -428,19 +353,6 @@ pub struct PoolRef<'p, T: Clear = Buffer> {
     lane: &'p Lane<'p, T>,
     held: Held,
     object: Shown<T>,
-    by: By,
-}
-
-/// Whose the lane is that has a reference. (A whole word, as `Held::start`.)
-#[derive(Clone, Copy, PartialEq)]
-#[repr(u64)]
-enum By {
-    /// The thread's.
-    Own,
-    /// The thread's, in another segment than the first.
-    OwnElsewhere,
-    /// It is shared.
-    Shared,
 }
 
 impl<'p, T: Clear> PoolRef<'p, T> {
@@ -458,28 +370,34 @@ impl<'p, T: Clear> PoolRef<'p, T> {
     pub fn try_clone(&self) -> Option<PoolRef<'p, T>> {
         let key = self.key();
         let lane = self.lane.segment_lane(key.into())?;
-        let is_shared = self.by == By::Shared || threads::has_ended();
-        let (held, object) = if is_shared {
-            lane.shared_get(key)?
+        let (held, object) = if self.held.is_shared() || threads::has_ended() {
+            let (held, object) = lane.shared_get(key)?;
+            (held.with(Held::SHARED), object)
         } else {
             lane.get_and_finish(key)?
         };
-        Some(PoolRef {
-            lane,
-            held,
-            object,
-            by: if is_shared { By::Shared } else { By::Own },
-        })
+        Some(PoolRef { lane, held, object })
     }
+}
+
+/// The drop of a reference. (Apart, so that a caller with several places where one is dropped has it in none.)
+#[inline(never)]
+fn release<T: Clear>(lane: &Lane<'_, T>, held: (u64, u64)) {
+    let held = Held::of_parts(held);
+    if !held.is_here() || threads::has_ended() {
+        return release_apart(lane, held.parts());
+    }
+    lane.release(&held);
 }
 
 /// The drop of a reference that isn't of the thread's own lane in its first segment.
 #[inline(never)]
-fn release_apart<T: Clear>(lane: &Lane<'_, T>, held: (u64, u64), by: By) {
-    if by == By::OwnElsewhere && !threads::has_ended() {
-        return lane.release_elsewhere(held);
+fn release_apart<T: Clear>(lane: &Lane<'_, T>, held: (u64, u64)) {
+    let reference = Held::of_parts(held);
+    if reference.is_shared() || threads::has_ended() {
+        return lane.shared_release(&reference);
     }
-    lane.shared_release(&Held::of_parts(held));
+    lane.release_elsewhere(held);
 }
 
 impl<T: Clear> Deref for PoolRef<'_, T> {
@@ -495,10 +413,7 @@ impl<T: Clear> Drop for PoolRef<'_, T> {
     #[inline(always)]
     fn drop(&mut self) {
         // (By its parts: a reference whose address isn't told stays in registers.)
-        if self.by != By::Own || threads::has_ended() {
-            return release_apart(self.lane, self.held.parts(), self.by);
-        }
-        self.lane.release(&self.held);
+        release(self.lane, self.held.parts());
     }
 }
 
@@ -516,30 +431,17 @@ impl<T: Clear> Drop for PoolRef<'_, T> {
 /// ```
 #[must_use = "a filling that is dropped isn't published"]
 pub struct OwnedFilling<T: Clear = Buffer> {
-    /// The number of a shared lane.
-    lane: u32,
+    lane: Far<T>,
     begun: Begun,
     /// None once it is taken out.
     block: Option<Block<T>>,
-    pool: Arc<Pool<T>>,
-}
-
-/// The lane of this number in a key's segment.
-fn lane_of<T: Clear>(pool: &Pool<T>, key: Key, number: u32) -> &Lane<'_, T> {
-    match pool.room.segment_of(key) {
-        Some(segment) => segment.lane(number),
-        None => unreachable!("the key is of the pool"),
-    }
 }
 
 impl<T: Clear> OwnedFilling<T> {
-    fn lane(&self) -> &Lane<'_, T> {
-        lane_of(&self.pool, self.begun.key(), self.lane)
-    }
-
-    fn take(&mut self) -> Block<T> {
+    /// Its parts, without its drop.
+    fn into_parts(mut self) -> (Far<T>, Begun, Block<T>) {
         match self.block.take() {
-            Some(block) => block,
+            Some(block) => (self.lane, self.begun, block),
             None => unreachable!("it is taken out at the end"),
         }
     }
@@ -550,9 +452,9 @@ impl<T: Clear> OwnedFilling<T> {
     }
 
     /// Publishes: from now on each call finds the object under the key.
-    pub fn publish(mut self) -> Key {
-        let block = self.take();
-        self.lane().shared_publish(self.begun, block)
+    pub fn publish(self) -> Key {
+        let (lane, begun, block) = self.into_parts();
+        lane.publish(begun, block)
     }
 
     /// Publishes, and keeps a reference.
@@ -560,14 +462,14 @@ impl<T: Clear> OwnedFilling<T> {
     /// # Panics
     ///
     /// Where the lane has 1,048,575 references; nothing is published then.
-    pub fn downgrade(mut self) -> OwnedRef<T> {
-        let block = self.take();
-        let (held, object) = downgrade(self.lane(), self.begun, block);
-        OwnedRef {
-            lane: self.lane,
-            held,
-            object,
-            pool: Arc::clone(&self.pool),
+    pub fn downgrade(self) -> OwnedRef<T> {
+        let (lane, begun, block) = self.into_parts();
+        match lane.downgrade(begun, block) {
+            Ok((held, object)) => OwnedRef { lane, held, object },
+            Err(block) => {
+                lane.give_back(begun, block);
+                lane::too_many()
+            }
         }
     }
 }
@@ -597,7 +499,7 @@ impl<T: Clear> DerefMut for OwnedFilling<T> {
 impl<T: Clear> Drop for OwnedFilling<T> {
     fn drop(&mut self) {
         if let Some(block) = self.block.take() {
-            self.lane().give_back(self.begun, block, true);
+            self.lane.give_back(self.begun, block);
         }
     }
 }
@@ -620,37 +522,25 @@ impl<T: Clear> Drop for OwnedFilling<T> {
 /// # Ok::<(), Box<dyn std::error::Error>>(())
 /// ```
 pub struct OwnedRef<T: Clear = Buffer> {
-    /// The number of a shared lane.
-    lane: u32,
+    lane: Far<T>,
     held: Held,
     object: Shown<T>,
-    pool: Arc<Pool<T>>,
 }
 
 impl<T: Clear> OwnedRef<T> {
-    fn lane(&self) -> &Lane<'_, T> {
-        lane_of(&self.pool, self.held.key(), self.lane)
-    }
-
     /// The key.
     pub fn key(&self) -> Key {
         self.held.key()
-    }
-
-    /// The pool.
-    pub fn pool(&self) -> &Arc<Pool<T>> {
-        &self.pool
     }
 }
 
 impl<T: Clear> Clone for OwnedRef<T> {
     fn clone(&self) -> Self {
-        self.lane().shared_clone(&self.held);
+        self.lane.add(&self.held);
         OwnedRef {
             lane: self.lane,
             held: self.held,
             object: self.object,
-            pool: Arc::clone(&self.pool),
         }
     }
 }
@@ -665,8 +555,9 @@ impl<T: Clear> Deref for OwnedRef<T> {
 }
 
 impl<T: Clear> Drop for OwnedRef<T> {
+    #[inline]
     fn drop(&mut self) {
-        self.lane().shared_release(&self.held);
+        self.lane.release(&self.held);
     }
 }
 

@@ -20,7 +20,8 @@ use crate::erased::poolsteps::life_word;
 use crate::erased::shardpool::{self, CreateFault};
 use crate::errors::{CreateError, OpenError};
 use crate::key::Key;
-use crate::object::{self, Block, Chain, Object, Returned};
+use crate::lock::Lock;
+use crate::object::{self, Block, Chain, Fixed, Object, Returned};
 use crate::pool::{Census, Pool, Shape};
 use crate::room::Room;
 use crate::shim::{self, Global};
@@ -35,7 +36,7 @@ use std::panic::{self, AssertUnwindSafe};
 use std::process;
 use std::ptr::{self, NonNull};
 use std::sync::atomic::{AtomicPtr, AtomicU32, Ordering};
-use std::sync::{Arc, Mutex, MutexGuard, OnceLock, PoisonError};
+use std::sync::Arc;
 use std::thread;
 
 type ProvedPool<T> = shardpool::Pool<Object<T>>;
@@ -52,6 +53,8 @@ pub(crate) struct Shards<T: Clear> {
     seats: ManuallyDrop<Vec<Seat<T>>>,
     /// A bit for each seat that nobody has.
     home: AtomicU32,
+    /// How many lanes are of the pool's shape: all, or all but the last, which threads share.
+    told: u32,
     /// Where the proved lanes go for the close, which takes no memory.
     row: ManuallyDrop<shim::Vec<ProvedLane<T>>>,
     /// The pool of which it is a segment, once it stands there.
@@ -70,21 +73,31 @@ struct Seat<T: Clear> {
     fillings: AtomicU32,
     opened: AtomicU32,
     /// Has the lane for one call, where threads share it.
-    lock: Mutex<Clones>,
-    /// The lane itself, for who has the seat.
-    post: OnceLock<Anywhere<Post<T>>>,
+    lock: Lock,
+    joint: UnsafeCell<Joint>,
+    /// The lane itself, for who has the seat. None before the pool stands where it stays.
+    post: UnsafeCell<Option<Post<T>>>,
 }
 
-/// How many more handles there are to a key than references of the lane: of those that were cloned when the key was cleared already.
-pub(crate) type Clones = BTreeMap<u64, u32>;
+/// What is known of a lane that threads share, under its lock.
+#[derive(Default)]
+pub(crate) struct Joint {
+    /// How many owned handles have it.
+    handles: usize,
+    /// Whether they alone keep the pool's memory.
+    is_left: bool,
+    /// How many more handles there are to a key than references of the lane: of those that were cloned when the key was cleared already.
+    clones: BTreeMap<u64, u32>,
+}
 
-/// What any thread may have, for it is used by the one alone that has the seat.
-struct Anywhere<V>(V);
-
-// SAFETY: as above.
-unsafe impl<V> Send for Anywhere<V> {}
-// SAFETY: as above.
-unsafe impl<V> Sync for Anywhere<V> {}
+impl Joint {
+    /// A handle less. Whether the lane lets go of the pool's memory.
+    #[inline(always)]
+    fn leave(&mut self) -> bool {
+        self.handles -= 1;
+        self.handles == 0 && self.is_left
+    }
+}
 
 /// The blocks of a lane that are in no place.
 struct Store<T> {
@@ -96,10 +109,12 @@ struct Store<T> {
     empties: bool,
 }
 
-// SAFETY: a seat that is shared is used by the one lane that took its bit out of `Shards::home`, but for `returned` and the numbers,
-// which are `Sync`.
+// SAFETY: a seat that is shared is used by the one lane that took its bit out of `Shards::home`, or by the one call that has its lock, but
+// for `returned`, the lock and the numbers, which are `Sync`, and the post, which is written before there is a lane.
 // Objects are made, read, emptied and dropped by whichever thread has a lane.
 unsafe impl<T: Clear + Send + Sync> Sync for Seat<T> {}
+// SAFETY: as above; its post points to where it stands, and goes with the pool.
+unsafe impl<T: Clear + Send> Send for Seat<T> {}
 
 /// A row with room for so many.
 fn row_for<V>(count: usize) -> Result<Vec<V>, OpenError> {
@@ -133,9 +148,13 @@ impl Drop for Call {
 }
 
 impl<T: Clear> Shards<T> {
-    pub(crate) fn open(shape: Shape) -> Result<Shards<T>, OpenError> {
-        let checked = shape.checked()?;
-        let count = shape.lanes as usize;
+    /// Its lanes, and one more where that is asked for, of which the home knows nothing.
+    pub(crate) fn open(shape: Shape, one_more: bool) -> Result<Shards<T>, OpenError> {
+        shape.checked()?;
+        let told = shape.lanes;
+        let lanes = told + u32::from(one_more);
+        let checked = Shape { lanes, ..shape }.checked()?;
+        let count = lanes as usize;
         let row = shim::Vec::with_capacity(Global, count).map_err(|_| OpenError::Memory)?;
         let mut seats = row_for(count)?;
         let mut all_returned = row_for(count)?;
@@ -160,39 +179,43 @@ impl<T: Clear> Shards<T> {
                 returned,
                 fillings: AtomicU32::new(0),
                 opened: AtomicU32::new(0),
-                lock: Mutex::new(Clones::new()),
-                post: OnceLock::new(),
+                lock: Lock::default(),
+                joint: UnsafeCell::new(Joint::default()),
+                post: UnsafeCell::new(None),
             });
         }
         Ok(Shards {
             proved: ManuallyDrop::new(proved),
             seats: ManuallyDrop::new(seats),
-            home: AtomicU32::new((1 << count) - 1),
+            home: AtomicU32::new((1 << told) - 1),
+            told,
             row: ManuallyDrop::new(row),
             room: AtomicPtr::new(ptr::null_mut()),
         })
     }
 
-    /// It stands where it stays, as a segment of this pool.
+    /// It stands where it stays, as a segment of this pool. No other thread has it yet.
     pub(crate) fn settle(&self, room: NonNull<Room<T>>) {
-        self.room.store(room.as_ptr(), Ordering::Release);
+        let before = self.room.swap(room.as_ptr(), Ordering::Relaxed);
+        assert!(before.is_null(), "it is settled once");
         for seat in self.seats.iter() {
             let post = Post {
                 shards: NonNull::from(self),
                 seat: NonNull::from(seat),
                 _share: None,
             };
-            // (It is set once.)
-            let _ = seat.post.set(Anywhere(post));
+            // SAFETY: nobody reads it yet: there is no lane before it is settled, and it is settled once.
+            unsafe { *seat.post.get() = Some(post) };
         }
     }
 
     /// The lane of this number, for who has the seat, or its lock.
     #[inline]
     pub(crate) fn lane(&self, number: u32) -> &Lane<'_, T> {
-        match self.seats[number as usize].post.get() {
+        // SAFETY: nobody writes it any more.
+        match unsafe { &*self.seats[number as usize].post.get() } {
             // SAFETY: a lane is its post, and is dropped by nobody, as it is lent. The pool is borrowed meanwhile.
-            Some(Anywhere(post)) => unsafe { &*ptr::from_ref(post).cast() },
+            Some(post) => unsafe { &*ptr::from_ref(post).cast() },
             None => unreachable!("it stands where it stays"),
         }
     }
@@ -204,6 +227,18 @@ impl<T: Clear> Shards<T> {
     /// The bits of the seats that nobody has.
     pub(crate) fn home(&self) -> &AtomicU32 {
         &self.home
+    }
+
+    /// The places of unopened pages of the lane that isn't told: they aren't counted.
+    fn untold(&self) -> u32 {
+        let shape = self.proved.shape();
+        let untold = self.seats.iter().skip(self.told as usize);
+        untold
+            .map(|seat| {
+                let opened = seat.opened.load(Ordering::Relaxed);
+                shape.shard_places() - ((shape.first_page << opened) - shape.first_page)
+            })
+            .sum()
     }
 
     /// Whether the lane of a seat that a thread has left has neither a reference nor a filling.
@@ -253,6 +288,7 @@ impl<T: Clear> Shards<T> {
             census.filling += filling;
             census.free += idle - filling;
         }
+        census.unopened -= self.untold().min(census.unopened);
         census
     }
 
@@ -263,6 +299,7 @@ impl<T: Clear> Shards<T> {
 
     /// What a close does, once.
     fn end(&mut self) -> Census {
+        let untold = self.untold();
         // SAFETY: taken once: by `close`, which forgets the pool, or by its drop.
         let (proved, mut seats, mut row) = unsafe {
             (
@@ -281,7 +318,9 @@ impl<T: Clear> Shards<T> {
         // SAFETY: the calls before took out what they took, so these are of this close.
         let objects = unsafe { object::all_taken::<T>() };
         drop((objects, seats));
-        census.into()
+        let mut census = Census::from(census);
+        census.unopened -= untold;
+        census
     }
 }
 
@@ -531,21 +570,33 @@ impl<'p, T: Clear> Lane<'p, T> {
     where
         T: Default,
     {
-        self.create_in::<true>()
+        self.create_in(Self::create_apart_in_any)
     }
 
     /// A create of this segment.
-    #[inline(always)]
+    #[inline]
     pub(crate) fn create_here(&self) -> Result<Filling<'_, T>, CreateError>
     where
         T: Default,
     {
-        self.create_in::<false>()
+        self.create_in(Self::create_apart)
     }
 
-    /// A create of this segment, or of any.
+    /// A create of the first segment, which says that it is full where another one had a place last.
     #[inline(always)]
-    fn create_in<const ANY: bool>(&self) -> Result<Filling<'_, T>, CreateError>
+    pub(crate) fn create_first(&self) -> Result<Filling<'_, T>, CreateError>
+    where
+        T: Default,
+    {
+        self.create_in(Self::create_apart_or_pass)
+    }
+
+    /// A create of this segment; and `apart` where the lane's own list has no place.
+    #[inline(always)]
+    fn create_in<'s>(
+        &'s self,
+        apart: impl FnOnce(&'s Self, Block<T>) -> Result<Filling<'s, T>, CreateError>,
+    ) -> Result<Filling<'s, T>, CreateError>
     where
         T: Default,
     {
@@ -553,18 +604,36 @@ impl<'p, T: Clear> Lane<'p, T> {
             Some(block) => block,
             None => self.make()?,
         };
+        match self.create_short(block) {
+            Ok(created) => created,
+            Err(block) => apart(self, block),
+        }
+    }
+
+    #[cold]
+    #[inline(never)]
+    fn create_apart_or_pass(&self, block: Block<T>) -> Result<Filling<'_, T>, CreateError> {
+        if self.room().is_elsewhere(self.seat().number) {
+            self.put_away(block);
+            return Err(CreateError::Full);
+        }
+        self.create_apart(block)
+    }
+
+    /// A create of a lane with a place on its own list. The block where it has none.
+    #[inline(always)]
+    fn create_short(
+        &self,
+        block: Block<T>,
+    ) -> Result<Result<Filling<'_, T>, CreateError>, Block<T>> {
         let (pool, lane, call) = self.proved();
-        if lane.state.free.len() > 0 {
-            let created = pool.create(lane);
+        if lane.state.free.len() == 0 {
             call.end();
-            return self.begin(created, block);
+            return Err(block);
         }
+        let created = pool.create(lane);
         call.end();
-        if ANY {
-            self.create_apart_in_any(block)
-        } else {
-            self.create_apart(block)
-        }
+        Ok(self.begin(created, block))
     }
 
     #[cold]
@@ -630,7 +699,7 @@ impl<'p, T: Clear> Lane<'p, T> {
         self.finish_rare();
         let lane = self.elsewhere(key)?;
         let (held, object) = lane.get_and_finish(key)?;
-        Some((lane, held, object))
+        Some((lane, held.with(Held::ELSEWHERE), object))
     }
 
     /// A get of this segment alone.
@@ -690,10 +759,23 @@ impl<'p, T: Clear> Lane<'p, T> {
         add(&self.seat().fillings, 1);
         Ok(Filling {
             lane: self,
-            begun: Begun { key, start },
+            begun: Begun {
+                key,
+                start: u64::from(start),
+            },
             block: ManuallyDrop::new(block),
             of: PhantomData,
         })
+    }
+
+    /// Publishes a filling that was taken apart.
+    #[inline(always)]
+    pub(crate) fn publish(&self, begun: Begun, block: Block<T>) -> Key {
+        self.end_filling();
+        let (pool, lane, call) = self.proved();
+        let key = pool.publish(lane, begun.with(block, lane));
+        call.end();
+        Key::proved(key)
     }
 
     /// A filling less.
@@ -825,10 +907,12 @@ impl<'p, T: Clear> Lane<'p, T> {
 /// Calls of a lane that threads share under its lock. None runs code of `T` meanwhile: what was taken out of a place comes back.
 impl<T: Clear> Lane<'_, T> {
     /// Has the lane for calls that run no code of `T`.
-    pub(crate) fn locked<R>(&self, with: impl FnOnce(&Self, &mut Clones) -> R) -> R {
-        let lock = self.seat().lock.lock();
-        let mut clones: MutexGuard<'_, Clones> = lock.unwrap_or_else(PoisonError::into_inner);
-        with(self, &mut clones)
+    #[inline(always)]
+    pub(crate) fn locked<R>(&self, with: impl FnOnce(&Self, &mut Joint) -> R) -> R {
+        let seat = self.seat();
+        let _had = seat.lock.had();
+        // SAFETY: who has the lock uses it alone, and none has it twice, since no call calls back.
+        with(self, unsafe { &mut *seat.joint.get() })
     }
 
     /// What the last call took out.
@@ -837,35 +921,54 @@ impl<T: Clear> Lane<'_, T> {
         unsafe { object::taken::<T>() }
     }
 
-    pub(crate) fn shared_create(&self) -> Result<Filling<'_, T>, CreateError>
+    /// A create of this segment, for an owned handle or not.
+    pub(crate) fn shared_create<const OWNED: bool>(&self) -> Result<Filling<'_, T>, CreateError>
     where
         T: Default,
     {
-        let block = match self.locked(|lane, _| lane.spare()) {
-            Some(block) => block,
-            None => self.make()?,
+        let with = |joint: &mut Joint, block| {
+            let created = match self.create_short(block) {
+                Ok(created) => created,
+                Err(block) => self.create_apart(block),
+            };
+            joint.handles += usize::from(OWNED && created.is_ok());
+            created.map(|mut filling| {
+                filling.begun.start |= Begun::SHARED;
+                filling
+            })
         };
-        self.locked(|_, _| self.create_apart(block))
+        let created = self.locked(|_, joint| Some(with(joint, self.spare()?)));
+        match created {
+            Some(created) => created,
+            None => {
+                let block = self.make()?;
+                self.locked(|_, joint| with(joint, block))
+            }
+        }
     }
 
+    #[inline(always)]
     pub(crate) fn shared_get(&self, key: Key) -> Option<(Held, Shown<T>)> {
-        let got = self.locked(|_, _| {
-            if self.references() >= MOST_REFERENCES {
-                return Err(());
-            }
-            let (pool, lane, call) = self.proved();
-            let proved = pool.get(lane, u64::from(key));
-            let object = proved
-                .as_ref()
-                .map(|proved| Shown(lane.read(proved).address()));
-            call.end();
-            Ok((proved, object, self.taken()))
+        self.get_locked::<false>(key)
+    }
+
+    /// A get of an owned handle.
+    #[inline(always)]
+    pub(crate) fn owned_get(&self, key: Key) -> Option<(Far<T>, Held, Shown<T>)> {
+        let (held, object) = self.get_locked::<true>(key)?;
+        Some((Far::of(self), held, object))
+    }
+
+    #[inline(always)]
+    fn get_locked<const OWNED: bool>(&self, key: Key) -> Option<(Held, Shown<T>)> {
+        let (got, taken) = self.locked(|lane, joint| {
+            let got = lane.get_here(key);
+            joint.handles += usize::from(OWNED && got.is_some());
+            let taken = if got.is_none() { lane.taken() } else { None };
+            (got, taken)
         });
-        let Ok((proved, object, taken)) = got else {
-            too_many()
-        };
         self.shared_finish(taken);
-        Some((Held::of(proved?), object?))
+        got
     }
 
     pub(crate) fn shared_clear(&self, key: Key) -> bool {
@@ -879,14 +982,9 @@ impl<T: Clear> Lane<'_, T> {
         cleared
     }
 
-    pub(crate) fn shared_publish(&self, begun: Begun, block: Block<T>) -> Key {
-        self.locked(|_, _| {
-            self.end_filling();
-            let (pool, lane, call) = self.proved();
-            let key = pool.publish(lane, begun.with(block, lane));
-            call.end();
-            Key::proved(key)
-        })
+    #[inline(never)]
+    pub(crate) fn shared_publish(&self, begun: (u64, u64), block: Block<T>) -> Key {
+        self.locked(|lane, _| lane.publish(Begun::of_parts(begun), block))
     }
 
     /// A publish with a reference. The block where the lane has as many as it may.
@@ -909,31 +1007,28 @@ impl<T: Clear> Lane<'_, T> {
         })
     }
 
+    /// Gives back a filling that was taken apart.
     #[inline(always)]
-    pub(crate) fn give_back(&self, begun: Begun, block: Block<T>, is_shared: bool) {
-        give_back(self, begun.key, begun.start, block, is_shared);
-    }
-
-    /// One handle more to a key to which the lane has a reference.
-    pub(crate) fn shared_clone(&self, held: &Held) {
-        self.locked(|_, clones| {
-            let count = clones.entry(held.key).or_default();
-            *count = count.checked_add(1).expect("fewer clones");
-        });
+    pub(crate) fn give_back(&self, begun: Begun, block: Block<T>) {
+        give_back(self, begun.parts(), block);
     }
 
     pub(crate) fn shared_release(&self, held: &Held) {
-        let taken = self.locked(|_, clones| {
-            if !clones.is_empty() && fewer_clones(clones, held.key) {
-                return None;
-            }
-            let (pool, lane, call) = self.proved();
-            let proved = ProvedRef::to(held.key, held.start as u32, &lane.state.places);
-            pool.release(lane, proved);
-            call.end();
-            self.taken()
-        });
+        let taken = self.locked(|_, joint| self.release_joint(joint, held));
         self.shared_finish(taken);
+    }
+
+    /// Gives a reference back, or one of the clones that stand for it.
+    #[inline(always)]
+    fn release_joint(&self, joint: &mut Joint, held: &Held) -> Option<Block<T>> {
+        if !joint.clones.is_empty() && fewer_clones(&mut joint.clones, held.key) {
+            return None;
+        }
+        let (pool, lane, call) = self.proved();
+        let proved = ProvedRef::to(held.key, held.start as u32, &lane.state.places);
+        pool.release(lane, proved);
+        call.end();
+        self.taken()
     }
 
     /// Empties what a call took out, without the lock.
@@ -945,14 +1040,206 @@ impl<T: Clear> Lane<'_, T> {
     }
 }
 
+/// A shared lane, as an owned handle has it. As long as there is one, the pool's memory is there.
+pub(crate) struct Far<T: Clear> {
+    post: NonNull<Post<T>>,
+    /// It may be used to write, so one of a subtype of `T` isn't one of `T`.
+    of: PhantomData<fn(T) -> T>,
+}
+
+// SAFETY: all that is done by it is done under the lock of its lane.
+unsafe impl<T: Clear + Send + Sync> Send for Far<T> {}
+// SAFETY: as above.
+unsafe impl<T: Clear + Send + Sync> Sync for Far<T> {}
+
+impl<T: Clear> Clone for Far<T> {
+    fn clone(&self) -> Self {
+        *self
+    }
+}
+
+impl<T: Clear> Copy for Far<T> {}
+
+impl<T: Clear> Far<T> {
+    /// Of a lane that counts the handle.
+    #[inline(always)]
+    pub(crate) fn of(lane: &Lane<'_, T>) -> Far<T> {
+        Far {
+            post: NonNull::from(lane).cast(),
+            of: PhantomData,
+        }
+    }
+
+    /// The lane, which isn't dropped. (Not where it stands in the pool's memory: that may be gone once the handle is.)
+    #[inline(always)]
+    fn lane(&self) -> ManuallyDrop<Lane<'_, T>> {
+        // SAFETY: the handle keeps it there.
+        let Post { shards, seat, .. } = unsafe { self.post.as_ref() };
+        ManuallyDrop::new(Lane {
+            post: Post {
+                shards: *shards,
+                seat: *seat,
+                _share: None,
+            },
+            of: PhantomData,
+        })
+    }
+
+    /// Publishes what its handle filled, which is spent.
+    pub(crate) fn publish(self, begun: Begun, block: Block<T>) -> Key {
+        let (key, is_last) = self.lane().locked(|lane, joint| {
+            let key = lane.publish(begun, block);
+            (key, joint.leave())
+        });
+        if is_last {
+            self.let_go();
+        }
+        key
+    }
+
+    /// Publishes what its handle filled, which has the reference then. The block where the lane has as many as it may.
+    pub(crate) fn downgrade(
+        self,
+        begun: Begun,
+        block: Block<T>,
+    ) -> Result<(Held, Shown<T>), Block<T>> {
+        self.lane().shared_downgrade(begun, block)
+    }
+
+    /// Gives back what its handle filled, which is spent.
+    pub(crate) fn give_back(self, begun: Begun, block: Block<T>) {
+        let _leaves = Leaves(self);
+        self.lane().give_back(begun, block);
+    }
+
+    /// One handle more to a key to which the lane has a reference.
+    pub(crate) fn add(self, held: &Held) {
+        self.lane().locked(|_, joint| {
+            let count = joint.clones.entry(held.key).or_default();
+            *count = count.checked_add(1).expect("fewer clones");
+            joint.handles += 1;
+        });
+    }
+
+    /// Gives the reference of its handle back, which is spent.
+    #[inline(always)]
+    pub(crate) fn release(self, held: &Held) {
+        let (taken, is_last) = self.lane().locked(|lane, joint| {
+            let taken = lane.release_joint(joint, held);
+            let is_last = taken.is_none() && joint.leave();
+            (taken, is_last)
+        });
+        if let Some(block) = taken {
+            self.empty(block);
+        } else if is_last {
+            self.let_go();
+        }
+    }
+
+    #[cold]
+    #[inline(never)]
+    fn empty(self, block: Block<T>) {
+        let _leaves = Leaves(self);
+        shared_empty(&self.lane(), block);
+    }
+
+    /// The last handle of this lane lets go of the pool's memory, which outlives the pool.
+    #[cold]
+    #[inline(never)]
+    fn let_go(self) {
+        let room = self.lane().shards().room.load(Ordering::Relaxed);
+        // SAFETY: the lane's share is there until now.
+        unsafe { let_go(room) };
+    }
+}
+
+/// A handle that is spent when this is dropped.
+struct Leaves<T: Clear>(Far<T>);
+
+impl<T: Clear> Drop for Leaves<T> {
+    fn drop(&mut self) {
+        if self.0.lane().locked(|_, joint| joint.leave()) {
+            self.0.let_go();
+        }
+    }
+}
+
+/// A pool's share of its memory. Each lane that owned handles have when the pool is dropped has one too, until the last of these is.
+pub(crate) struct Share<T: Clear>(ManuallyDrop<Fixed<Room<T>>>);
+
+impl<T: Clear> Share<T> {
+    pub(crate) fn new(room: Fixed<Room<T>>) -> Share<T> {
+        Share(ManuallyDrop::new(room))
+    }
+
+    /// Closes the pool; or counts its places, where owned handles keep its memory.
+    pub(crate) fn close(self) -> Census {
+        let mut share = ManuallyDrop::new(self);
+        share.leave_to_handles();
+        let census = (share.shares().load(Ordering::Acquire) > 1).then(|| share.census());
+        if share.shares().fetch_sub(1, Ordering::AcqRel) > 1 {
+            return census.unwrap_or_default();
+        }
+        // SAFETY: no other share is left, and it is taken once.
+        unsafe { ManuallyDrop::take(&mut share.0) }
+            .into_inner()
+            .close()
+    }
+
+    /// Each lane that owned handles have gets a share.
+    fn leave_to_handles(&self) {
+        for segment in self.segments() {
+            for number in 0..segment.lanes() {
+                segment.lane(number).locked(|_, joint| {
+                    joint.is_left = joint.handles > 0;
+                    let more = usize::from(joint.is_left);
+                    self.shares().fetch_add(more, Ordering::Relaxed);
+                });
+            }
+        }
+    }
+}
+
+impl<T: Clear> Deref for Share<T> {
+    type Target = Room<T>;
+
+    #[inline(always)]
+    fn deref(&self) -> &Room<T> {
+        &self.0
+    }
+}
+
+impl<T: Clear> Drop for Share<T> {
+    fn drop(&mut self) {
+        self.leave_to_handles();
+        let room: *const Room<T> = &**self.0;
+        // SAFETY: it is the pool's, which ends.
+        unsafe { let_go(room.cast_mut()) };
+    }
+}
+
+/// A share of the pool's memory less, which goes with the last.
+///
+/// # Safety
+///
+/// The share was there.
+unsafe fn let_go<T: Clear>(room: *mut Room<T>) {
+    // SAFETY: the caller's.
+    let shares = unsafe { (*room).shares() };
+    if shares.fetch_sub(1, Ordering::AcqRel) == 1 {
+        // SAFETY: a `Share` has it, which forgets it, and nobody else has it any more.
+        drop(unsafe { Fixed::from_raw(NonNull::new_unchecked(room)) });
+    }
+}
+
 #[cold]
 #[inline(never)]
-fn too_many() -> ! {
+pub(crate) fn too_many() -> ! {
     panic!("the lane has 1,048,575 references")
 }
 
 /// Whether there was a clone of this key, which then is one less.
-fn fewer_clones(clones: &mut Clones, key: u64) -> bool {
+fn fewer_clones(clones: &mut BTreeMap<u64, u32>, key: u64) -> bool {
     let Some(count) = clones.get_mut(&key) else {
         return false;
     };
@@ -1079,18 +1366,44 @@ pub struct Filling<'l, T: Clear = Buffer> {
 #[derive(Clone, Copy)]
 pub(crate) struct Begun {
     key: u64,
-    start: u32,
+    /// With `SHARED` where the lane is shared. (One word, so that a move reads what was written.)
+    start: u64,
 }
 
 impl Begun {
+    const SHARED: u64 = 1 << 32;
+
+    #[inline]
     pub(crate) fn key(&self) -> Key {
         Key::proved(self.key)
+    }
+
+    /// Whether the calls for it have the lock of the lane: that is shared, or the thread has left it.
+    #[inline(always)]
+    pub(crate) fn is_shared(&self) -> bool {
+        self.start & Begun::SHARED != 0 || threads::has_ended()
+    }
+
+    /// As words, for calls that have them in registers.
+    #[inline(always)]
+    pub(crate) fn parts(&self) -> (u64, u64) {
+        (self.key, self.start)
+    }
+
+    #[inline(always)]
+    fn of_parts((key, start): (u64, u64)) -> Begun {
+        Begun { key, start }
     }
 
     /// The proved filling, with this block.
     #[inline(always)]
     fn with<T: Clear>(&self, block: Block<T>, lane: &ProvedLane<T>) -> ProvedFilling<T> {
-        shardpool::Filling::of(&lane.hand, self.key, self.start, Object::boxed(block))
+        shardpool::Filling::of(
+            &lane.hand,
+            self.key,
+            self.start as u32,
+            Object::boxed(block),
+        )
     }
 }
 
@@ -1101,26 +1414,27 @@ impl<'l, T: Clear> Filling<'l, T> {
         Key::proved(self.begun.key)
     }
 
+    /// As of [`Begun`].
+    #[inline(always)]
+    pub(crate) fn is_shared(&self) -> bool {
+        self.begun.is_shared()
+    }
+
     /// Its parts, without its drop.
     #[inline(always)]
     pub(crate) fn into_parts(self) -> (&'l Lane<'l, T>, Begun, Block<T>) {
-        let Begun { key, start } = self.begun;
+        let begun = self.begun;
         let mut filling = ManuallyDrop::new(self);
         // SAFETY: taken once, since the drop doesn't run.
         let block = unsafe { ManuallyDrop::take(&mut filling.block) };
-        (filling.lane, Begun { key, start }, block)
+        (filling.lane, begun, block)
     }
 
     /// Publishes: from now on each lane finds the object under the key.
     #[inline(always)]
     pub fn publish(self) -> Key {
         let (lane, begun, block) = self.into_parts();
-        lane.end_filling();
-        let (pool, lane, call) = lane.proved();
-        let proved = begun.with(block, lane);
-        let key = pool.publish(lane, proved);
-        call.end();
-        Key::proved(key)
+        lane.publish(begun, block)
     }
 
     /// Publishes, and keeps a reference.
@@ -1201,21 +1515,20 @@ impl<T: Clear> Drop for Filling<'_, T> {
     fn drop(&mut self) {
         // SAFETY: taken once.
         let block = unsafe { ManuallyDrop::take(&mut self.block) };
-        give_back(self.lane, self.begun.key, self.begun.start, block, false);
+        give_back(self.lane, self.begun.parts(), block);
     }
 }
 
 /// Empties the object of a filling, and gives its place back: by a publish and a clear.
 #[cold]
 #[inline(never)]
-fn give_back<T: Clear>(lane: &Lane<'_, T>, key: u64, start: u32, block: Block<T>, is_shared: bool) {
+fn give_back<T: Clear>(lane: &Lane<'_, T>, begun: (u64, u64), block: Block<T>) {
     /// The place comes back even where `clear` panics, which loses the object.
     struct Back<'l, T: Clear> {
         lane: &'l Lane<'l, T>,
         begun: Begun,
         block: Option<Block<T>>,
         is_empty: bool,
-        is_shared: bool,
     }
     impl<T: Clear> Back<'_, T> {
         /// Answers the object where it isn't empty.
@@ -1241,7 +1554,7 @@ fn give_back<T: Clear>(lane: &Lane<'_, T>, key: u64, start: u32, block: Block<T>
                 return;
             };
             // (An object that isn't empty is dropped behind the lock.)
-            drop(if self.is_shared {
+            drop(if self.begun.is_shared() {
                 self.lane.locked(|_, _| self.publish_and_clear(block))
             } else {
                 self.publish_and_clear(block)
@@ -1250,10 +1563,9 @@ fn give_back<T: Clear>(lane: &Lane<'_, T>, key: u64, start: u32, block: Block<T>
     }
     let mut back = Back {
         lane,
-        begun: Begun { key, start },
+        begun: Begun::of_parts(begun),
         block: Some(block),
         is_empty: false,
-        is_shared,
     };
     if let Some(block) = &mut back.block {
         let mut clear = || block.clear();
@@ -1294,7 +1606,8 @@ pub struct Ref<'l, T: Clear = Buffer> {
     lane: &'l Lane<'l, T>,
     held: Held,
     object: Shown<T>,
-    /// Whether this lane is that of another segment than the one whose get it was.
+    /// Whether this lane is that of another segment than the one whose get it was. (Known where it is dropped, if that is in sight of
+    /// the get.)
     is_elsewhere: bool,
 }
 
@@ -1326,23 +1639,47 @@ impl<T> Shown<T> {
 #[derive(Clone, Copy)]
 pub(crate) struct Held {
     key: u64,
-    /// (A whole word, so that a reference has no padding: a move of it then reads what was written.)
+    /// With `ELSEWHERE` or `SHARED`. (One word, so that a move reads what was written.)
     start: u64,
 }
 
 impl Held {
+    /// The lane is that of another segment than the one that was asked.
+    pub(crate) const ELSEWHERE: u64 = 1 << 32;
+    /// The lane is one that threads share.
+    pub(crate) const SHARED: u64 = 1 << 33;
+
     #[inline]
     pub(crate) fn key(&self) -> Key {
         Key::proved(self.key)
     }
 
-    /// The key, and where its place stands.
-    #[inline]
+    #[inline(always)]
+    pub(crate) fn with(self, flag: u64) -> Held {
+        Held {
+            key: self.key,
+            start: self.start | flag,
+        }
+    }
+
+    /// Whether it is of the lane that was asked, which isn't shared.
+    #[inline(always)]
+    pub(crate) fn is_here(&self) -> bool {
+        self.start >> 32 == 0
+    }
+
+    #[inline(always)]
+    pub(crate) fn is_shared(&self) -> bool {
+        self.start & Held::SHARED != 0
+    }
+
+    /// As words, for calls that have them in registers.
+    #[inline(always)]
     pub(crate) fn parts(&self) -> (u64, u64) {
         (self.key, self.start)
     }
 
-    #[inline]
+    #[inline(always)]
     pub(crate) fn of_parts((key, start): (u64, u64)) -> Held {
         Held { key, start }
     }

@@ -159,6 +159,7 @@ mod handles;
 mod key;
 #[allow(unsafe_code)]
 mod lane;
+mod lock;
 #[cfg(doctest)]
 mod misuse;
 #[allow(unsafe_code)]

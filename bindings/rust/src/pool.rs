@@ -3,8 +3,8 @@ use crate::buffer::Buffer;
 use crate::clear::Clear;
 use crate::erased::{keybits, shardpool};
 use crate::errors::OpenError;
-use crate::lane::Lane;
-use crate::room::{Fixed, Room};
+use crate::lane::{Lane, Share};
+use crate::room::Room;
 use std::fmt;
 use std::sync::Arc;
 
@@ -116,7 +116,7 @@ impl From<shardpool::Census> for Census {
 /// and threads come and go. What borrows the pool has a twin that owns a share of it: [`Pool::lane`] and [`Pool::lane_owned`]. Since
 /// either keeps the pool from being closed, `close` can't fail.
 pub struct Pool<T: Clear = Buffer> {
-    pub(crate) room: Fixed<Room<T>>,
+    pub(crate) room: Share<T>,
     shape: Shape,
 }
 
@@ -137,7 +137,7 @@ impl<T: Clear> Pool<T> {
     /// ```
     pub fn open(shape: Shape) -> Result<Pool<T>, OpenError> {
         Ok(Pool {
-            room: Room::open(shape)?,
+            room: Share::new(Room::open(shape)?),
             shape,
         })
     }
@@ -168,6 +168,7 @@ impl<T: Clear> Pool<T> {
     /// As `growing`, with this last generation of each place.
     pub(crate) fn growing_until(last_generation: u32) -> Result<Pool<T>, OpenError> {
         let (room, shape) = Room::open_growing(last_generation)?;
+        let room = Share::new(room);
         Ok(Pool { room, shape })
     }
 
@@ -251,7 +252,7 @@ impl<T: Clear> Pool<T> {
     /// # Ok::<(), pardz::OpenError>(())
     /// ```
     pub fn close(self) -> Census {
-        self.room.into_inner().close()
+        self.room.close()
     }
 }
 

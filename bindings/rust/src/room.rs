@@ -6,12 +6,12 @@ use crate::clear::Clear;
 use crate::errors::{CreateError, OpenError};
 use crate::key::Key;
 use crate::lane::{Filling, Shards};
+use crate::object::{Counted, Fixed, Later};
 use crate::pool::{Census, Shape};
 use crate::threads::{self, Homes};
-use std::ops::Deref;
 use std::ptr::NonNull;
 use std::sync::atomic::{AtomicU32, AtomicU64, AtomicUsize, Ordering};
-use std::sync::{Arc, Mutex, OnceLock, PoisonError};
+use std::sync::{Mutex, PoisonError};
 
 /// The most segments: a key has room for so many tags.
 const MOST_SEGMENTS: usize = 256;
@@ -20,46 +20,17 @@ const MOST_SEGMENTS: usize = 256;
 const LANES: u32 = 16;
 const SHARED: u32 = 4;
 
-/// How many creates pass by a lane that was found full in all segments.
+/// How many creates pass by a lane that was found full in all segments: twice as many each time, since each look costs as many steps as
+/// there are segments.
 const PASSED: u32 = 32;
-
-/// A value that doesn't move, in memory that may be refused.
-pub(crate) struct Fixed<V>(Vec<V>);
-
-impl<V> Fixed<V> {
-    fn new(value: V) -> Result<Fixed<V>, OpenError> {
-        let mut row = Vec::new();
-        row.try_reserve_exact(1).map_err(|_| OpenError::Memory)?;
-        row.push(value);
-        Ok(Fixed(row))
-    }
-
-    pub(crate) fn into_inner(mut self) -> V {
-        match self.0.pop() {
-            Some(value) => value,
-            None => unreachable!("it has one value"),
-        }
-    }
-}
-
-impl<V> Deref for Fixed<V> {
-    type Target = V;
-
-    #[inline(always)]
-    fn deref(&self) -> &V {
-        &self.0[0]
-    }
-}
+const MOST_PASSED: u32 = 8192;
 
 /// Tells the threads that a pool is closed.
-#[derive(Default)]
-struct Told(OnceLock<Arc<Homes>>);
+struct Told(Counted<Homes>);
 
 impl Drop for Told {
     fn drop(&mut self) {
-        if let Some(homes) = self.0.get() {
-            homes.closed.store(true, Ordering::Relaxed);
-        }
+        self.0.closed.store(true, Ordering::Relaxed);
     }
 }
 
@@ -68,7 +39,7 @@ pub(crate) struct Room<T: Clear> {
     id: u64,
     first: Shards<T>,
     /// The further segments, by their tag from 1; none where the pool doesn't grow.
-    more: Vec<OnceLock<Fixed<Shards<T>>>>,
+    more: Vec<Later<Shards<T>>>,
     /// How many segments are open.
     count: AtomicUsize,
     tag: usize,
@@ -78,9 +49,12 @@ pub(crate) struct Room<T: Clear> {
     /// Who takes lanes that were left, or opens a segment.
     lock: Mutex<()>,
     homes: Told,
-    /// By lane: the segment that had a place last, and how many creates still pass it by.
+    /// How many have the pool's memory: it, and lanes of owned handles that outlive it.
+    shares: AtomicUsize,
+    /// By lane: the segment that had a place last; how many creates still pass it by, and how many will when it is found full next.
     hints: [AtomicUsize; LANES as usize],
     passed: [AtomicU32; LANES as usize],
+    next_passed: [AtomicU32; LANES as usize],
 }
 
 /// The shape of the segment of this tag: each is larger than the one before, up to the largest.
@@ -100,26 +74,34 @@ fn shape_of(tag: usize, last_generation: u32) -> Shape {
 }
 
 impl<T: Clear> Room<T> {
+    /// A pool that doesn't grow. It has a lane more than its shape, which is shared, where 16 aren't in its shape already.
     pub(crate) fn open(shape: Shape) -> Result<Fixed<Room<T>>, OpenError> {
-        Room::of(shape, 0, 0)
+        let one_more = shape.lanes < LANES;
+        let first = Shards::open(shape, one_more)?;
+        Room::of(shape, first, 0, u32::from(one_more) << shape.lanes)
     }
 
     /// A pool that grows, and its first shape.
     pub(crate) fn open_growing(last_generation: u32) -> Result<(Fixed<Room<T>>, Shape), OpenError> {
         let shape = shape_of(0, last_generation);
         let shared = ((1 << SHARED) - 1) << (LANES - SHARED);
-        let room = Room::of(shape, MOST_SEGMENTS - 1, shared)?;
+        let first = Shards::open(shape, false)?;
+        first.home().fetch_and(!shared, Ordering::SeqCst);
+        let room = Room::of(shape, first, MOST_SEGMENTS - 1, shared)?;
         Ok((room, shape))
     }
 
-    fn of(shape: Shape, further: usize, shared: u32) -> Result<Fixed<Room<T>>, OpenError> {
+    fn of(
+        shape: Shape,
+        first: Shards<T>,
+        further: usize,
+        shared: u32,
+    ) -> Result<Fixed<Room<T>>, OpenError> {
         static NEXT: AtomicU64 = AtomicU64::new(1);
-        let first = Shards::open(shape)?;
-        first.home().fetch_and(!shared, Ordering::SeqCst);
         let mut more = Vec::new();
         more.try_reserve_exact(further)
             .map_err(|_| OpenError::Memory)?;
-        more.resize_with(further, OnceLock::new);
+        more.resize_with(further, Later::new);
         let room = Fixed::new(Room {
             id: NEXT.fetch_add(1, Ordering::Relaxed),
             first,
@@ -129,9 +111,11 @@ impl<T: Clear> Room<T> {
             last_generation: shape.last_generation,
             shared: AtomicU32::new(shared),
             lock: Mutex::new(()),
-            homes: Told::default(),
+            homes: Told(Counted::new(Homes::default())?),
+            shares: AtomicUsize::new(1),
             hints: Default::default(),
             passed: Default::default(),
+            next_passed: [const { AtomicU32::new(PASSED) }; LANES as usize],
         })?;
         room.first.settle(NonNull::from(&*room));
         Ok(room)
@@ -159,11 +143,15 @@ impl<T: Clear> Room<T> {
     fn segment(&self, index: usize) -> Option<&Shards<T>> {
         match index.checked_sub(1) {
             None => Some(&self.first),
-            Some(further) => self.more.get(further)?.get().map(|shards| &**shards),
+            Some(further) => self.more.get(further)?.get(),
         }
     }
 
-    fn segments(&self) -> impl Iterator<Item = &Shards<T>> {
+    pub(crate) fn shares(&self) -> &AtomicUsize {
+        &self.shares
+    }
+
+    pub(crate) fn segments(&self) -> impl Iterator<Item = &Shards<T>> {
         (0..self.count()).map_while(|index| self.segment(index))
     }
 
@@ -186,9 +174,9 @@ impl<T: Clear> Room<T> {
                 return Ok(());
             }
             let place = self.more.get(count - 1).ok_or(CreateError::Full)?;
-            let shards = Shards::open(shape_of(count, self.last_generation))
+            let shards = Shards::open(shape_of(count, self.last_generation), false)
                 .map_err(|_| CreateError::Memory)?;
-            let shards = Fixed::new(shards).map_err(|_| CreateError::Memory)?;
+            let shards = Fixed::new(shards)?;
             shards.settle(NonNull::from(self));
             // (The place is empty, as we have the lock.)
             let _ = place.set(shards);
@@ -206,18 +194,35 @@ impl<T: Clear> Room<T> {
         self.create_by(number, |shards| shards.lane(number).create_here())
     }
 
-    /// A create by any of the shared lanes, in any segment.
-    pub(crate) fn create_in_shared(&self) -> Result<Filling<'_, T>, CreateError>
+    /// A create by the shared lane that the thread called last, where that had a place last. None where it has none now.
+    #[inline]
+    pub(crate) fn create_by_last<const OWNED: bool>(&self) -> Option<Filling<'_, T>>
     where
         T: Default,
     {
-        for number in self.shared_lanes() {
+        let number = threads::last_shared(self.id)?;
+        let hint = self.hints[number as usize].load(Ordering::Relaxed);
+        let lane = self.segment(hint)?.lane(number);
+        lane.shared_create::<OWNED>().ok()
+    }
+
+    /// A create by any of the shared lanes, in any segment.
+    pub(crate) fn create_in_shared<const OWNED: bool>(&self) -> Result<Filling<'_, T>, CreateError>
+    where
+        T: Default,
+    {
+        for number in self.shared_lanes().ok_or(CreateError::NoLane)? {
             if self.passes(number) {
                 continue;
             }
-            match self.create_by(number, |shards| shards.lane(number).shared_create()) {
+            match self.create_by(number, |shards| {
+                shards.lane(number).shared_create::<OWNED>()
+            }) {
                 Err(CreateError::Full) => (),
-                created => return created,
+                created => {
+                    threads::set_last_shared(self.id, number);
+                    return created;
+                }
             }
         }
         Err(CreateError::Full)
@@ -230,6 +235,7 @@ impl<T: Clear> Room<T> {
         create: impl Fn(&'r Shards<T>) -> Result<Filling<'r, T>, CreateError>,
     ) -> Result<Filling<'r, T>, CreateError> {
         let hint = &self.hints[number as usize];
+        let next = &self.next_passed[number as usize];
         let (from, count) = (hint.load(Ordering::Relaxed), self.count());
         for step in 0..count {
             let index = (from + step) % count;
@@ -240,12 +246,20 @@ impl<T: Clear> Room<T> {
                 Err(CreateError::Full) => (),
                 created => {
                     hint.store(index, Ordering::Relaxed);
+                    next.store(PASSED, Ordering::Relaxed);
                     return created;
                 }
             }
         }
-        self.passed[number as usize].store(PASSED, Ordering::Relaxed);
+        let passed = next.load(Ordering::Relaxed);
+        self.passed[number as usize].store(passed, Ordering::Relaxed);
+        next.store((2 * passed).min(MOST_PASSED), Ordering::Relaxed);
         Err(CreateError::Full)
+    }
+
+    /// Whether a lane had its last place in another segment than the first.
+    pub(crate) fn is_elsewhere(&self, number: u32) -> bool {
+        self.hints[number as usize].load(Ordering::Relaxed) != 0
     }
 
     /// Whether a create passes a lane by, since it was found full a while ago.
@@ -265,16 +279,12 @@ impl<T: Clear> Room<T> {
         }
     }
 
-    fn homes(&self) -> &Arc<Homes> {
-        self.homes.0.get_or_init(Arc::default)
-    }
-
     /// The lane that the thread has, or is to have from now on. None where it shares.
     pub(crate) fn thread_lane(&self) -> Option<u32> {
         if let Some(number) = threads::kept(self.id) {
             return Some(number);
         }
-        let homes = self.homes();
+        let homes = &self.homes.0;
         let none_left = homes.left.load(Ordering::Relaxed) == 0;
         if none_left && self.first.home().load(Ordering::Relaxed) == 0 {
             return None;
@@ -286,9 +296,7 @@ impl<T: Clear> Room<T> {
 
     /// The lanes of threads that have ended come home; or are shared, where references or fillings of them live.
     pub(crate) fn welcome_back(&self) {
-        let Some(homes) = self.homes.0.get() else {
-            return;
-        };
+        let homes = &self.homes.0;
         if homes.left.load(Ordering::Relaxed) == 0 {
             return;
         }
@@ -322,23 +330,22 @@ impl<T: Clear> Room<T> {
         })
     }
 
-    /// The numbers of the shared lanes, from the thread's own choice on. At least one.
-    ///
-    /// # Panics
-    ///
-    /// Where all lanes are taken in hand.
-    pub(crate) fn shared_lanes(&self) -> impl Iterator<Item = u32> {
+    /// The numbers of the shared lanes, from the thread's own choice on. None where there is none: all 16 lanes are in hand.
+    pub(crate) fn shared_lanes(&self) -> Option<impl Iterator<Item = u32>> {
         if self.shared.load(Ordering::SeqCst) == 0 {
             self.welcome_back();
             self.share_some();
         }
         let shared = self.shared.load(Ordering::SeqCst);
-        assert!(shared != 0, "all lanes of the pool are taken in hand");
-        let turn = (threads::turn() % shared.count_ones()) as usize;
-        bits(shared).skip(turn).chain(bits(shared).take(turn))
+        let turn = threads::turn().checked_rem(shared.count_ones())? as usize;
+        Some(bits(shared).skip(turn).chain(bits(shared).take(turn)))
     }
 
     /// The shared lane of the thread's choice.
+    ///
+    /// # Panics
+    ///
+    /// Where there is none.
     #[inline]
     pub(crate) fn shared_lane(&self) -> u32 {
         match threads::last_shared(self.id) {
@@ -350,7 +357,8 @@ impl<T: Clear> Room<T> {
     #[cold]
     #[inline(never)]
     fn choose_shared(&self) -> u32 {
-        let number = self.shared_lanes().next().unwrap_or_default();
+        let first = self.shared_lanes().and_then(|mut lanes| lanes.next());
+        let number = first.expect("all 16 lanes of the pool are in hand");
         threads::set_last_shared(self.id, number);
         number
     }
@@ -362,10 +370,13 @@ impl<T: Clear> Room<T> {
 
     pub(crate) fn close(self) -> Census {
         let Room {
-            first, more, homes, ..
+            first,
+            mut more,
+            homes,
+            ..
         } = self;
         drop(homes);
-        let further = more.into_iter().filter_map(OnceLock::into_inner);
+        let further = more.iter_mut().filter_map(Later::take);
         let further = further.map(|shards| shards.into_inner().close());
         further.fold(first.close(), Census::with)
     }

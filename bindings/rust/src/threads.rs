@@ -1,8 +1,8 @@
 //! What a thread knows of its lanes: those that it took at its first calls of pools, and keeps until it ends.
+use crate::object::Counted;
 use std::cell::{Cell, RefCell};
 use std::ptr;
 use std::sync::atomic::{AtomicBool, AtomicU32, Ordering};
-use std::sync::Arc;
 
 /// What outlives a pool, for threads that end after it.
 #[derive(Default)]
@@ -17,7 +17,7 @@ pub(crate) struct Homes {
 struct Entry {
     pool: u64,
     number: u32,
-    homes: Arc<Homes>,
+    homes: Counted<Homes>,
 }
 
 /// The lanes of a thread. They are left when it ends, and the pools find them there.
@@ -86,21 +86,21 @@ pub(crate) fn kept(pool: u64) -> Option<u32> {
     KEPT.try_with(find).ok().flatten()
 }
 
-/// Keeps a lane of a pool that `take` gives. None where it gives none, and where the thread ends.
+/// Keeps a lane of a pool that `take` gives. None where it gives none, where the thread ends, and where memory was refused.
 pub(crate) fn keep(
     pool: u64,
-    homes: &Arc<Homes>,
+    homes: &Counted<Homes>,
     take: impl FnOnce() -> Option<u32>,
 ) -> Option<u32> {
     let keep = |kept: &Kept| {
         let mut entries = kept.0.borrow_mut();
         entries.retain(|entry| !entry.homes.closed.load(Ordering::Relaxed));
-        entries.reserve(1);
+        entries.try_reserve(1).ok()?;
         let number = take()?;
         entries.push(Entry {
             pool,
             number,
-            homes: Arc::clone(homes),
+            homes: Counted::clone(homes),
         });
         Some(number)
     };

@@ -1,8 +1,11 @@
 //! Buffers: what calls answer, and what other threads can do meanwhile.
+mod common;
+
+use common::{limit, Gate};
 use pardz::{Buffer, CreateError, Key, Lane, OpenError, Pool, Shape};
 use std::io::{self, Read, Write};
 use std::sync::atomic::{AtomicBool, Ordering::SeqCst};
-use std::sync::{mpsc, Arc, Barrier};
+use std::sync::{mpsc, Arc, Mutex, RwLock};
 use std::thread;
 
 /// Lanes of 12 places each.
@@ -108,6 +111,7 @@ fn lanes_are_taken_and_come_home() {
 fn a_lane_that_panicked_comes_home() {
     let pool = Arc::new(Pool::<Buffer>::open(shape(1)).unwrap());
     let lane = pool.lane_owned().unwrap();
+    let _limit = limit();
     let ended = thread::spawn(move || {
         let _filling = lane.create().unwrap();
         panic!("on purpose");
@@ -393,43 +397,43 @@ fn reuse_keeps_the_memory() {
 fn a_get_beside_a_clear() {
     const ROUNDS: usize = 500;
     let pool = Pool::<Buffer>::open(shape(4)).unwrap();
-    let (gate, key) = (
-        Barrier::new(4),
-        std::sync::Mutex::new(Key::try_from(1).unwrap()),
-    );
-    let found: usize = thread::scope(|scope| {
-        let readers: Vec<_> = (0..3)
-            .map(|_| {
-                scope.spawn(|| {
-                    let lane = pool.lane().unwrap();
-                    let mut found = 0;
-                    for round in 0..ROUNDS {
-                        gate.wait();
-                        let key = *key.lock().unwrap();
-                        while let Some(bytes) = lane.get(key) {
-                            assert_eq!(&bytes[..], [round as u8; 64]);
-                            found += 1;
-                        }
-                        assert!(!lane.clear(key));
-                        gate.wait();
+    let (gate, key) = (Gate::new(4), Mutex::new(Key::try_from(1).unwrap()));
+    let lanes = [(); 3].map(|()| pool.lane().unwrap());
+    let lane = pool.lane().unwrap();
+    thread::scope(|scope| {
+        let (gate, key) = (&gate, &key);
+        for other in lanes {
+            scope.spawn(move || {
+                let member = gate.enter();
+                for round in 0..ROUNDS {
+                    member.wait();
+                    let key = *key.lock().unwrap();
+                    let first = other.get(key).expect("it isn't cleared yet");
+                    // In every second round it is the readers that let go last.
+                    let held = (round % 2 == 0).then_some(first);
+                    member.wait();
+                    while let Some(bytes) = other.get(key) {
+                        assert_eq!(&bytes[..], [round as u8; 64]);
+                        member.go_on();
                     }
-                    found
-                })
-            })
-            .collect();
-        let lane = pool.lane().unwrap();
+                    assert!(!other.clear(key));
+                    if let Some(bytes) = held {
+                        assert_eq!(&bytes[..], [round as u8; 64]);
+                    }
+                    member.wait();
+                }
+            });
+        }
+        let member = gate.enter();
         for round in 0..ROUNDS {
             *key.lock().unwrap() = put(&lane, &[round as u8; 64]);
-            gate.wait();
+            member.wait();
+            member.wait();
             assert!(lane.clear(*key.lock().unwrap()));
-            gate.wait();
+            member.wait();
         }
-        readers
-            .into_iter()
-            .map(|reader| reader.join().unwrap())
-            .sum()
     });
-    assert!(found > 0);
+    drop(lane);
     let census = pool.close();
     assert_eq!(census.free + census.unopened, 48);
 }
@@ -441,37 +445,31 @@ fn of_clears_at_once_one_says_yes() {
     let lane = pool.lane().unwrap();
     let keys: Vec<_> = (0..12).map(|_| put(&lane, b"x")).collect();
     drop(lane);
-    let keys = std::sync::RwLock::new(keys);
-    let gate = Barrier::new(4);
+    let (gate, keys) = (Gate::new(4), RwLock::new(keys));
+    let lanes = [(); 4].map(|()| pool.lane().unwrap());
     let cleared: usize = thread::scope(|scope| {
-        let threads: Vec<_> = (0..4)
-            .map(|number| {
-                let (gate, keys, pool) = (&gate, &keys, &pool);
-                scope.spawn(move || {
-                    let lane = pool.lane().unwrap();
-                    let mut cleared = 0;
-                    for _ in 0..ROUNDS {
-                        gate.wait();
-                        cleared += keys
-                            .read()
-                            .unwrap()
-                            .iter()
-                            .filter(|key| lane.clear(**key))
-                            .count();
-                        if gate.wait().is_leader() {
-                            keys.write()
-                                .unwrap()
-                                .iter_mut()
-                                .for_each(|key| match lane.create() {
-                                    Ok(filling) => *key = filling.publish(),
-                                    Err(error) => panic!("{error} on {number}"),
-                                });
+        let threads = lanes.map(|lane| {
+            let (gate, keys) = (&gate, &keys);
+            scope.spawn(move || {
+                let member = gate.enter();
+                let mut cleared = 0;
+                for _ in 0..ROUNDS {
+                    member.wait();
+                    cleared += keys
+                        .read()
+                        .unwrap()
+                        .iter()
+                        .filter(|key| lane.clear(**key))
+                        .count();
+                    if member.wait() {
+                        for key in keys.write().unwrap().iter_mut() {
+                            *key = put(&lane, b"x");
                         }
                     }
-                    cleared
-                })
+                }
+                cleared
             })
-            .collect();
+        });
         threads
             .into_iter()
             .map(|thread| thread.join().unwrap())
@@ -485,11 +483,13 @@ fn of_clears_at_once_one_says_yes() {
 fn a_clear_while_another_thread_holds() {
     let pool = Pool::<Buffer>::open(single(2)).unwrap();
     let lane = pool.lane().unwrap();
+    let _limit = limit();
     let key = put(&lane, b"held");
     let (held, hold) = mpsc::channel();
-    let (let_go, go) = mpsc::channel();
+    let other = pool.lane().unwrap();
     thread::scope(|scope| {
-        let other = pool.lane().unwrap();
+        // (Dropped here where this thread panics, so that the other one doesn't wait.)
+        let (let_go, go) = mpsc::channel();
         scope.spawn(move || {
             let bytes = other.get(key).unwrap();
             held.send(()).unwrap();
@@ -513,32 +513,35 @@ fn a_clear_while_another_thread_holds() {
 fn a_downgrade_beside_a_clear() {
     const ROUNDS: usize = 500;
     let pool = Pool::<Buffer>::open(shape(2)).unwrap();
-    let gate = Barrier::new(2);
-    let key = std::sync::Mutex::new(Key::try_from(1).unwrap());
+    let (gate, key) = (Gate::new(2), Mutex::new(Key::try_from(1).unwrap()));
+    let (lane, other) = (pool.lane().unwrap(), pool.lane().unwrap());
     thread::scope(|scope| {
-        scope.spawn(|| {
-            let lane = pool.lane().unwrap();
+        let (gate, key) = (&gate, &key);
+        scope.spawn(move || {
+            let member = gate.enter();
             for _ in 0..ROUNDS {
-                gate.wait();
+                member.wait();
                 let key = *key.lock().unwrap();
-                while !lane.clear(key) {
+                while !other.clear(key) {
+                    member.go_on();
                     thread::yield_now();
                 }
-                gate.wait();
+                member.wait();
             }
         });
-        let lane = pool.lane().unwrap();
+        let member = gate.enter();
         for round in 0..ROUNDS {
             let mut filling = lane.create().unwrap();
             filling.append(&[round as u8; 30]).unwrap();
             *key.lock().unwrap() = filling.key();
-            gate.wait();
+            member.wait();
             let bytes = filling.downgrade();
-            gate.wait();
+            member.wait();
             assert_eq!(&bytes[..], [round as u8; 30]);
             assert!(lane.get(bytes.key()).is_none());
         }
     });
+    drop(lane);
     let census = pool.close();
     assert_eq!((census.present, census.marked, census.filling), (0, 0, 0));
 }
@@ -552,6 +555,7 @@ fn a_clear_elsewhere_gives_the_place_back() {
         pool.lane().unwrap(),
         pool.lane().unwrap(),
     );
+    let _limit = limit();
     let mut keys = vec![put(&lane, b"first")];
     for round in 1..100 {
         assert_eq!(lane.create().err(), Some(CreateError::Full));
@@ -614,6 +618,7 @@ fn a_census_beside_calls() {
         let idle = census.free + census.unopened + census.filling;
         idle + census.present + census.marked + census.retired
     };
+    let _limit = limit();
     // (All lanes at once: one that came home would be given again, with what it published.)
     let lanes = [(); 3].map(|()| pool.lane().unwrap());
     thread::scope(|scope| {
@@ -677,12 +682,14 @@ fn four_threads_pass_keys_round() {
     .unwrap();
     let (mut to, from): (Vec<_>, Vec<_>) = (0..4).map(|_| mpsc::sync_channel::<Key>(16)).unzip();
     to.rotate_left(1);
+    let _limit = limit();
+    let lanes = [(); 4].map(|()| pool.lane().unwrap());
     let read: u64 = thread::scope(|scope| {
         let threads: Vec<_> = to
             .into_iter()
             .zip(from)
-            .map(|(to, from)| {
-                let lane = pool.lane().unwrap();
+            .zip(lanes)
+            .map(|((to, from), lane)| {
                 scope.spawn(move || {
                     let mut read = 0;
                     for _ in 0..ROUNDS {
@@ -736,11 +743,11 @@ fn check(lane: &Lane, key: Key) -> u64 {
 fn no_two_threads_have_one_lane() {
     let pool = Pool::<Buffer>::open(shape(4)).unwrap();
     let is_taken: [AtomicBool; 4] = std::array::from_fn(|_| AtomicBool::new(false));
-    let start = Barrier::new(6);
+    let start = Gate::new(6);
     thread::scope(|scope| {
         for _ in 0..6 {
             scope.spawn(|| {
-                start.wait();
+                start.enter().wait();
                 for _ in 0..50_000 {
                     let Some(lane) = pool.lane() else { continue };
                     let is_taken = &is_taken[lane.number() as usize];

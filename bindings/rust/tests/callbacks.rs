@@ -1,4 +1,7 @@
 //! Objects whose code calls the pool again.
+mod common;
+
+use common::limit;
 use pardz::{Clear, CreateError, Key, Lane, Pool, Shape};
 use std::cell::{Cell, OnceCell, RefCell};
 use std::sync::{Arc, Mutex, Weak};
@@ -48,6 +51,7 @@ fn row(lane: &Lane<'_, Link>, count: usize) -> Key {
 /// A row of all 4,032 places of a lane is let go by one clear, on a small stack.
 #[test]
 fn a_long_row_lets_go() {
+    let _limit = limit();
     let pool = Arc::new(Pool::<Link>::open(shape(1, 64, 6)).unwrap());
     let lane = pool.lane_owned().unwrap();
     thread::Builder::new()
@@ -75,6 +79,7 @@ fn a_long_row_lets_go() {
 /// The same by the drop of the last reference.
 #[test]
 fn a_row_lets_go_by_a_reference() {
+    let _limit = limit();
     let pool = Arc::new(Pool::<Link>::open(shape(1, 8, 1)).unwrap());
     let lane = pool.lane_owned().unwrap();
     thread::spawn(move || {
@@ -150,6 +155,7 @@ fn busy(depth: usize) -> Key {
 
 #[test]
 fn all_calls_within_a_clear() {
+    let _limit = limit();
     let pool = Arc::new(Pool::<Busy>::open(shape(1, 4, 1)).unwrap());
     let texts = Arc::new(Pool::<String>::open(shape(1, 4, 1)).unwrap());
     let (lane, text_lane) = (pool.lane_owned().unwrap(), texts.lane_owned().unwrap());
@@ -195,6 +201,7 @@ impl Clear for Maker {
 
 #[test]
 fn a_default_that_creates() {
+    let _limit = limit();
     let pool = Arc::new(Pool::<Maker>::open(shape(1, 16, 1)).unwrap());
     let lane = pool.lane_owned().unwrap();
     thread::spawn(move || {
@@ -309,29 +316,29 @@ fn threads_let_go_of_each_others() {
     const ROUNDS: usize = 2000;
     let pool = Arc::new(Pool::<Link>::open(shape(4, 8, 2)).unwrap());
     let lent = Arc::new(Mutex::new(Vec::<Key>::new()));
-    let threads: Vec<_> = (0..4)
-        .map(|_| {
-            let lane = pool.lane_owned().unwrap();
-            let lent = Arc::clone(&lent);
-            thread::spawn(move || {
-                LANE.with(|place| assert!(place.set(lane).is_ok()));
-                LANE.with(|lane| {
-                    let lane = lane.get().unwrap();
-                    for _ in 0..ROUNDS {
-                        // Takes over one that another thread made, and is to let go of it.
-                        let next = lent.lock().unwrap().pop();
-                        let Ok(mut link) = lane.create() else {
-                            next.into_iter().for_each(|next| assert!(lane.clear(next)));
-                            continue;
-                        };
-                        link.next = next;
-                        let key = link.publish();
-                        lent.lock().unwrap().push(key);
-                    }
-                });
-            })
+    let _limit = limit();
+    // (All lanes at once: one that came home would be given again.)
+    let lanes = [(); 4].map(|()| pool.lane_owned().unwrap());
+    let threads = lanes.map(|lane| {
+        let lent = Arc::clone(&lent);
+        thread::spawn(move || {
+            LANE.with(|place| assert!(place.set(lane).is_ok()));
+            LANE.with(|lane| {
+                let lane = lane.get().unwrap();
+                for _ in 0..ROUNDS {
+                    // Takes over one that another thread made, and is to let go of it.
+                    let next = lent.lock().unwrap().pop();
+                    let Ok(mut link) = lane.create() else {
+                        next.into_iter().for_each(|next| assert!(lane.clear(next)));
+                        continue;
+                    };
+                    link.next = next;
+                    let key = link.publish();
+                    lent.lock().unwrap().push(key);
+                }
+            });
         })
-        .collect();
+    });
     for thread in threads {
         thread.join().unwrap();
     }

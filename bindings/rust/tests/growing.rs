@@ -17,7 +17,7 @@ fn a_growing_pool_opens_on_a_quarter_of_a_mebibyte() {
     let pools: Vec<_> = (0..8)
         .map(|_| Pool::<Buffer>::growing().expect("memory"))
         .collect();
-    let opened = (written() - before) / 8;
+    let opened = written().saturating_sub(before) / 8;
     assert!(opened <= 256, "{opened} KiB were written to");
     assert!(pools.iter().all(|pool| pool.census().unopened == 16 * 32));
 }

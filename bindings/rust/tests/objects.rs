@@ -1,7 +1,10 @@
 //! Objects of types of one's own.
+mod common;
+
+use common::{limit, Gate};
 use pardz::{Clear, CreateError, Key, OpenError, Pool, Shape};
 use std::sync::atomic::{AtomicUsize, Ordering::SeqCst};
-use std::sync::{mpsc, Arc, Barrier, Mutex};
+use std::sync::{mpsc, Arc, Mutex};
 use std::thread;
 
 fn shape(lanes: u32) -> Shape {
@@ -117,34 +120,37 @@ fn each_object_is_dropped_once() {
 fn readers_beside_a_clear() {
     const ROUNDS: u64 = 500;
     let pool = Pool::<Vec<u64>>::open(shape(4)).unwrap();
-    let gate = Barrier::new(4);
-    let key = Mutex::new(Key::try_from(1).unwrap());
+    let (gate, key) = (Gate::new(4), Mutex::new(Key::try_from(1).unwrap()));
     let cleared = AtomicUsize::new(0);
+    let lanes = [(); 3].map(|()| pool.lane().unwrap());
+    let lane = pool.lane().unwrap();
     thread::scope(|scope| {
-        for _ in 0..3 {
-            scope.spawn(|| {
-                let lane = pool.lane().unwrap();
+        let (gate, key, cleared) = (&gate, &key, &cleared);
+        for other in lanes {
+            scope.spawn(move || {
+                let member = gate.enter();
                 for round in 0..ROUNDS {
-                    gate.wait();
+                    member.wait();
                     let key = *key.lock().unwrap();
-                    while let Some(list) = lane.get(key) {
+                    while let Some(list) = other.get(key) {
                         assert_eq!(*list, vec![round; (round % 50) as usize]);
-                        cleared.fetch_add(usize::from(lane.clear(key)), SeqCst);
+                        cleared.fetch_add(usize::from(other.clear(key)), SeqCst);
                     }
-                    gate.wait();
+                    member.wait();
                 }
             });
         }
-        let lane = pool.lane().unwrap();
+        let member = gate.enter();
         for round in 0..ROUNDS {
             let mut list = lane.create().unwrap();
             assert!(list.is_empty());
             list.extend((0..round % 50).map(|_| round));
             *key.lock().unwrap() = list.publish();
-            gate.wait();
-            gate.wait();
+            member.wait();
+            member.wait();
         }
     });
+    drop(lane);
     assert_eq!(cleared.load(SeqCst), ROUNDS as usize);
     let census = pool.close();
     assert_eq!(census.free + census.unopened, 48);
@@ -154,6 +160,7 @@ fn readers_beside_a_clear() {
 #[test]
 fn owned_lanes_pass_objects() {
     let pool = Arc::new(Pool::<String>::open(shape(2)).unwrap());
+    let _limit = limit();
     let (to, from) = mpsc::sync_channel(4);
     let (writer, reader) = (pool.lane_owned().unwrap(), pool.lane_owned().unwrap());
     assert!(pool.lane().is_none());
@@ -224,8 +231,9 @@ fn the_last_one_empties() {
     assert_eq!(here(), [4]);
     let told = lane.create_with(|told| told.0 = 5).unwrap();
     let held = lane.get(told).unwrap();
+    let _limit = limit();
+    let other = pool.lane().unwrap();
     thread::scope(|scope| {
-        let other = pool.lane().unwrap();
         scope.spawn(move || {
             let also = other.get(told).unwrap();
             assert!(other.clear(told));
@@ -244,27 +252,27 @@ fn each_is_emptied_once() {
     const ROUNDS: u64 = 3000;
     let pool = Pool::<Told>::open(shape(4)).unwrap();
     let keys: Vec<Mutex<Option<Key>>> = (0..4).map(|_| Mutex::default()).collect();
+    let _limit = limit();
+    let lanes = [(); 4].map(|()| pool.lane().unwrap());
     let mut emptied: Vec<u64> = thread::scope(|scope| {
-        let threads: Vec<_> = (0..4)
-            .map(|number| {
-                let (lane, keys) = (pool.lane().unwrap(), &keys);
-                scope.spawn(move || {
-                    for round in 0..ROUNDS {
-                        let mut told = lane.create().unwrap();
-                        told.0 = round * 4 + number + 1;
-                        let told = told.downgrade();
-                        let place = &keys[(round % 4) as usize];
-                        let other = place.lock().unwrap().replace(told.key());
-                        let Some(other) = other else { continue };
-                        let held = lane.get(other);
-                        assert!(held.is_some() && lane.clear(other));
-                        drop(told);
-                        drop(held);
-                    }
-                    EMPTIED.take()
-                })
+        let threads = lanes.map(|lane| {
+            let keys = &keys;
+            scope.spawn(move || {
+                for round in 0..ROUNDS {
+                    let mut told = lane.create().unwrap();
+                    told.0 = round * 4 + u64::from(lane.number()) + 1;
+                    let told = told.downgrade();
+                    let place = &keys[(round % 4) as usize];
+                    let other = place.lock().unwrap().replace(told.key());
+                    let Some(other) = other else { continue };
+                    let held = lane.get(other);
+                    assert!(held.is_some() && lane.clear(other));
+                    drop(told);
+                    drop(held);
+                }
+                EMPTIED.take()
             })
-            .collect();
+        });
         threads
             .into_iter()
             .flat_map(|thread| thread.join().unwrap())

@@ -21,7 +21,7 @@ fn the_largest_pool_opens_on_two_mebibytes() {
     };
     let before = written();
     let pool = Pool::<Buffer>::open(shape).expect("a pool");
-    let opened = written() - before;
+    let opened = written().saturating_sub(before);
     assert!(opened <= 2048, "{opened} KiB were written to");
     assert_eq!(pool.close().unopened, 64_512);
 }

@@ -1,4 +1,7 @@
 //! Panics in an object's code lose that object at most.
+mod common;
+
+use common::limit;
 use pardz::{Clear, CreateError, Key, Pool, Shape};
 use std::panic::{catch_unwind, AssertUnwindSafe};
 use std::sync::atomic::{AtomicUsize, Ordering::SeqCst};
@@ -245,6 +248,7 @@ fn in_a_clear_within_a_clear() {
             assert!(!matches!(self.number, 1 | 12), "on purpose");
         }
     }
+    let _limit = limit();
     let pool = Arc::new(Pool::<Node>::open(shape(8)).unwrap());
     let lane = pool.lane_owned().unwrap();
     let emptied = thread::spawn(move || {
@@ -279,6 +283,7 @@ fn in_a_clear_within_a_clear() {
 /// A thread that ends in a panic gives back what it had.
 #[test]
 fn of_a_thread() {
+    let _limit = limit();
     let pool = Arc::new(Pool::<String>::open(shape(4)).unwrap());
     for _ in 0..10 {
         let lane = pool.lane_owned().unwrap();

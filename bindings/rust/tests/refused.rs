@@ -125,17 +125,17 @@ const SHAPE: Shape = Shape {
     tag: 5,
 };
 
-/// How many requests a run makes, of which the one behind so many granted ones is refused. None where it has no more than those.
-fn run(granted: u32, scenario: fn()) -> Option<u32> {
+/// How many requests a run makes, of which the one behind so many granted ones is refused. None where it has no more than those. At most
+/// so many blocks are left then.
+fn run(granted: u32, scenario: fn(), left: isize) -> Option<u32> {
     GRANTED.set(granted);
     REFUSED.set(0);
     REQUESTS.set(0);
     let blocks = BLOCKS.get();
     scenario();
     GRANTED.set(u32::MAX);
-    assert_eq!(
-        BLOCKS.get(),
-        blocks,
+    assert!(
+        BLOCKS.get() <= blocks + left,
         "behind {granted} granted requests: memory is lost"
     );
     (REFUSED.get() == 1).then(|| REQUESTS.get())
@@ -144,7 +144,7 @@ fn run(granted: u32, scenario: fn()) -> Option<u32> {
 /// Refuses each request of a scenario in turn.
 fn refuse_each(scenario: fn(), least: u32) {
     let mut granted = 0;
-    while run(granted, scenario).is_some() {
+    while run(granted, scenario, 0).is_some() {
         granted += 1;
     }
     assert!(granted >= least, "only {granted} requests were refused");
@@ -249,6 +249,46 @@ fn objects() {
     }
     drop(lane);
     assert_eq!(takes_none(|| pool.close()).present, 3);
+}
+
+/// Calls without a lane in hand, as the first of their thread.
+fn without_lanes() {
+    for grows in [true, false] {
+        let pool = again(OpenError::Memory, || match grows {
+            true => Pool::<Point>::growing(),
+            false => Pool::open(SHAPE),
+        });
+        let unknown = Key::try_from(1).expect("a key");
+        if grows {
+            assert!(tried(|| pool.get(unknown)).is_none());
+        }
+        let keys = [1, 2, 3, 4].map(|number| {
+            again(CreateError::Memory, || {
+                pool.create_with(|point| point.0[7] = number)
+            })
+        });
+        let mut filling = again(CreateError::Memory, || pool.create_owned());
+        filling.0[7] = 5;
+        let key = takes_none(|| filling.publish());
+        for (number, key) in (1..).zip(keys.into_iter().chain([key])) {
+            let (point, owned) = (pool.get(key), takes_none(|| pool.get_owned(key)));
+            assert!(takes_none(|| pool.clear(key)));
+            assert_eq!(point.expect("published").0[7], number);
+            assert_eq!(owned.expect("published").0[7], number);
+        }
+        assert_eq!(takes_none(|| pool.close()).present, 0);
+    }
+}
+
+/// The thread keeps two blocks until it ends: the list of its lanes, and a word of the pool that it called last.
+#[test]
+fn each_request_of_calls_without_a_lane_is_refused() {
+    let tried = (0..).take_while(|granted| {
+        let granted = *granted;
+        let run = std::thread::spawn(move || run(granted, without_lanes, 2));
+        run.join().expect("no panic").is_some()
+    });
+    assert!(tried.count() >= 25);
 }
 
 #[test]

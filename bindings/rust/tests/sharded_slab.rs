@@ -1,5 +1,8 @@
 //! What programs that were written for sharded-slab's pool lean on. All but `differs` holds of that crate as well.
 #![cfg(target_pointer_width = "64")]
+mod common;
+
+use common::limit;
 use pardz::sharded_slab;
 use sharded_slab::pool::{OwnedRef, OwnedRefMut, Ref, RefMut};
 use sharded_slab::{Clear, Config, DefaultConfig, Pool};
@@ -92,6 +95,7 @@ fn a_clear_empties_in_place() {
 
 #[test]
 fn the_last_reference_empties() {
+    let _limit = limit();
     let (pool, key, fate) = one_item();
     let (has, knows) = channel();
     let other = {
@@ -115,6 +119,7 @@ fn the_last_reference_empties() {
 
 #[test]
 fn one_of_two_clears_does_it() {
+    let _limit = limit();
     for _ in 0..ROUNDS {
         let (pool, key, fate) = one_item();
         let other = {
@@ -146,6 +151,7 @@ fn memory_is_used_again() {
 
 #[test]
 fn nobody_finds_what_is_being_filled() {
+    let _limit = limit();
     let pool = texts();
     for _ in 0..ROUNDS {
         let mut filling = pool.create().expect("room");
@@ -164,6 +170,7 @@ fn nobody_finds_what_is_being_filled() {
 
 #[test]
 fn a_filling_becomes_a_reference() {
+    let _limit = limit();
     let pool = texts();
     for _ in 0..ROUNDS {
         let mut filling: RefMut<'_, String> = pool.create().expect("room");
@@ -183,6 +190,7 @@ fn a_filling_becomes_a_reference() {
 
 #[test]
 fn a_reference_is_dropped_while_its_key_is_cleared() {
+    let _limit = limit();
     let (pool, other) = (texts(), texts());
     for _ in 0..ROUNDS {
         let mut filling = pool.create().expect("room");
@@ -206,6 +214,7 @@ fn a_reference_is_dropped_while_its_key_is_cleared() {
 
 #[test]
 fn owned_references_travel() {
+    let _limit = limit();
     for _ in 0..ROUNDS {
         let pool = texts();
         let keys = [put(&pool, "hello"), put(&pool, "goodbye")];
@@ -227,6 +236,7 @@ fn owned_references_travel() {
 
 #[test]
 fn owned_references_outlive_the_pool() {
+    let _limit = limit();
     for _ in 0..ROUNDS {
         let pool = texts();
         let keys = [put(&pool, "hello"), put(&pool, "goodbye")];
@@ -243,6 +253,7 @@ fn owned_references_outlive_the_pool() {
 
 #[test]
 fn the_last_owned_reference_drops_the_pool() {
+    let _limit = limit();
     let (pool, key, fate) = one_item();
     let item = pool.clone().get_owned(key).expect("published");
     drop(pool);
@@ -253,6 +264,7 @@ fn the_last_owned_reference_drops_the_pool() {
 
 #[test]
 fn owned_references_come_back() {
+    let _limit = limit();
     let pool = texts();
     for _ in 0..ROUNDS {
         let keys = [put(&pool, "hello"), put(&pool, "world")];
@@ -279,6 +291,7 @@ fn owned_references_come_back() {
 
 #[test]
 fn owned_references_end_on_other_threads() {
+    let _limit = limit();
     for _ in 0..ROUNDS {
         let pool = texts();
         let key = put(&pool, "hello");
@@ -312,6 +325,7 @@ fn owned_references_end_on_other_threads() {
 
 #[test]
 fn owned_fillings_travel() {
+    let _limit = limit();
     let pool = texts();
     for _ in 0..ROUNDS {
         let mut filling: OwnedRefMut<String> = pool.clone().create_owned().expect("room");
@@ -327,6 +341,7 @@ fn owned_fillings_travel() {
 
 #[test]
 fn an_owned_filling_becomes_a_reference() {
+    let _limit = limit();
     let pool = texts();
     for _ in 0..ROUNDS {
         let mut filling = pool.clone().create_owned().expect("room");
@@ -348,6 +363,7 @@ fn an_owned_filling_becomes_a_reference() {
 
 #[test]
 fn a_clear_meets_a_publish() {
+    let _limit = limit();
     for _ in 0..ROUNDS {
         let pool = texts();
         let mut filling = pool.clone().create_owned().expect("room");
@@ -444,6 +460,7 @@ impl Drop for Late {
 
 #[test]
 fn calls_while_a_thread_ends() {
+    let _limit = limit();
     let pool = texts();
     for _ in 0..50 {
         let (early, late) = (pool.clone(), pool.clone());
@@ -518,6 +535,7 @@ fn a_hundred_thousand_at_once() {
 
 #[test]
 fn more_threads_than_lanes() {
+    let _limit = limit();
     let pool = texts();
     let threads = (0..40).map(|number| {
         let pool = pool.clone();
@@ -611,6 +629,7 @@ mod differs {
 
     #[test]
     fn a_create_while_a_thread_ends() {
+        let _limit = limit();
         struct Last(Arc<Pool<String>>);
         impl Drop for Last {
             fn drop(&mut self) {

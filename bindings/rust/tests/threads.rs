@@ -1,4 +1,7 @@
 //! Calls without a lane in hand, owned handles, and room that grows.
+mod common;
+
+use common::limit;
 use pardz::{Clear, CreateError, Key, OwnedFilling, OwnedRef, Pool, PoolRef, Shape};
 use std::cell::{Cell, RefCell};
 use std::panic::{catch_unwind, AssertUnwindSafe};
@@ -28,6 +31,7 @@ fn use_once(pool: &Pool<Vec<u64>>, number: u64) {
 
 #[test]
 fn threads_that_come_and_go() {
+    let _limit = limit();
     let pool = Pool::<Vec<u64>>::growing().unwrap();
     for round in 0..20 {
         thread::scope(|scope| {
@@ -46,6 +50,7 @@ fn threads_that_come_and_go() {
 
 #[test]
 fn thousands_of_short_threads() {
+    let _limit = limit();
     let pool = Arc::new(Pool::<Vec<u64>>::open(shape(2, 1, 1)).unwrap());
     for number in 0..2000 {
         let shared = Arc::clone(&pool);
@@ -61,6 +66,7 @@ fn thousands_of_short_threads() {
 fn more_threads_than_lanes() {
     const THREADS: u64 = 32;
     const ROUNDS: u64 = 300;
+    let _limit = limit();
     for pool in [
         Pool::<Vec<u64>>::growing().unwrap(),
         Pool::open(shape(1, 64, 4)).unwrap(),
@@ -125,6 +131,7 @@ fn open_at_once(count: u64) {
 
 #[test]
 fn a_hundred_thousand_are_open() {
+    let _limit = limit();
     open_at_once(100_000);
 }
 
@@ -164,40 +171,103 @@ fn lanes_in_hand_grow_too() {
     assert_eq!(pool.close().present, 1);
 }
 
+/// Its own three lanes and the one that is shared have two places each.
 #[test]
 fn a_full_pool_that_does_not_grow() {
     let pool = Pool::<String>::open(shape(3, 2, 1)).unwrap();
-    let keys: Vec<_> = (0..6).map(|_| pool.put("x").unwrap()).collect();
+    assert_eq!(pool.census().unopened, 6);
+    let keys: Vec<_> = (0..8).map(|_| pool.put("x").unwrap()).collect();
     assert_eq!(pool.put("y").err(), Some(CreateError::Full));
+    assert_eq!(pool.create_owned().err(), Some(CreateError::Full));
     for key in &keys {
         assert!(pool.clear(*key));
         assert!(pool.clear(pool.put("y").unwrap()));
     }
-    assert_eq!(pool.census().free, 6);
+    assert_eq!(pool.census().free, 8);
+    assert_eq!(pool.close().free, 8);
+}
+
+/// All calls without a lane, where all lanes are in hand. The lanes see what these did.
+fn calls_beside(pool: &Pool<Vec<u64>>, lanes: &[pardz::Lane<'_, Vec<u64>>]) {
+    assert!(pool.lane().is_none());
+    for (number, lane) in (0..).zip(lanes) {
+        use_once(pool, number);
+        let key = lane.create_with(|list| list.push(number)).unwrap();
+        let list = pool.get(key).unwrap();
+        let owned = pool.get_owned(key).unwrap();
+        assert!(pool.clear(key) && lane.get(key).is_none());
+        assert_eq!((&*list, &*owned), (&vec![number], &vec![number]));
+        let mut filling = pool.create_owned().unwrap();
+        filling.push(number);
+        let key = filling.publish();
+        assert_eq!(*lane.get(key).unwrap(), [number]);
+        assert!(lane.clear(key));
+        let mut filling = pool.create().unwrap();
+        filling.push(number);
+        let list = filling.downgrade();
+        assert!(lane.clear(list.key()));
+        drop(pool.create().unwrap());
+    }
 }
 
 #[test]
 fn all_lanes_in_hand() {
-    let pool = Pool::<String>::open(shape(1, 2, 1)).unwrap();
-    let lane = pool.lane().unwrap();
-    let key = lane.put("x").unwrap();
-    assert!(catch_unwind(AssertUnwindSafe(|| pool.clear(key))).is_err());
-    drop(lane);
+    for count in [1, 2, 7, 15] {
+        let pool = Pool::<Vec<u64>>::open(shape(count, 2, 1)).unwrap();
+        let lanes: Vec<_> = (0..count).map(|_| pool.lane().unwrap()).collect();
+        thread::scope(|scope| {
+            let (pool, _limit) = (&pool, limit());
+            for number in 0..20 {
+                scope.spawn(move || use_once(pool, number));
+            }
+        });
+        calls_beside(&pool, &lanes);
+        drop(lanes);
+        // Those that are home again may be taken again.
+        let lanes: Vec<_> = (0..count).map_while(|_| pool.lane()).collect();
+        assert_eq!(lanes.len(), count as usize);
+        drop(lanes);
+        let now = pool.census();
+        let census = pool.close();
+        assert_eq!(now, census);
+        assert_eq!((census.present, census.marked, census.filling), (0, 0, 0));
+        assert_eq!(census.free + census.unopened, 2 * (count + 1));
+    }
+    let growing = Pool::<Vec<u64>>::growing().unwrap();
+    let lanes: Vec<_> = (0..).map_while(|_| growing.lane()).collect();
+    assert_eq!(lanes.len(), 12);
+    calls_beside(&growing, &lanes);
+}
+
+/// A pool of 16 lanes has none more to share: where all are in hand, a create tells it, and other calls panic.
+#[test]
+fn all_sixteen_lanes_in_hand() {
+    let pool = Pool::<String>::open(shape(16, 2, 1)).unwrap();
+    let mut lanes: Vec<_> = (0..16).map(|_| pool.lane().unwrap()).collect();
+    let key = lanes[0].put("x").unwrap();
+    assert_eq!(pool.put("y").err(), Some(CreateError::NoLane));
+    assert_eq!(pool.create_owned().err(), Some(CreateError::NoLane));
+    let panics = |run: &dyn Fn() -> bool| catch_unwind(AssertUnwindSafe(run)).is_err();
+    assert!(panics(&|| pool.clear(key)));
+    assert!(panics(&|| pool.get(key).is_some()));
+    assert!(panics(&|| pool.get_owned(key).is_some()));
+    lanes.pop();
     assert!(pool.clear(key));
+    assert!(pool.clear(pool.put("y").unwrap()));
     assert!(pool.lane().is_none(), "it is shared now");
 }
 
 #[test]
 fn lanes_come_home_from_threads() {
+    let _limit = limit();
     let pool = Arc::new(Pool::<Vec<u64>>::open(shape(4, 4, 1)).unwrap());
     for number in 0..100 {
         let shared = Arc::clone(&pool);
         thread::spawn(move || use_once(&shared, number))
             .join()
             .unwrap();
-        // One is shared.
-        let lanes: Vec<_> = (0..3)
-            .map(|_| pool.lane().expect("three are home"))
+        let lanes: Vec<_> = (0..4)
+            .map(|_| pool.lane().expect("four are home"))
             .collect();
         assert!(pool.lane().is_none());
         drop(lanes);
@@ -208,6 +278,7 @@ fn lanes_come_home_from_threads() {
 
 #[test]
 fn owned_handles_travel() {
+    let _limit = limit();
     let pool = Arc::new(Pool::<Vec<u64>>::growing().unwrap());
     let (send, receive) = mpsc::channel::<OwnedRef<Vec<u64>>>();
     let reader = thread::spawn(move || receive.into_iter().map(|list| list[0]).sum::<u64>());
@@ -257,6 +328,7 @@ impl Drop for Told {
 
 #[test]
 fn clones_live_on_when_the_key_is_cleared() {
+    let _limit = limit();
     let pool = Arc::new(Pool::<Told>::growing().unwrap());
     let emptied = Arc::new(AtomicUsize::new(0));
     let key = pool
@@ -281,6 +353,7 @@ fn clones_live_on_when_the_key_is_cleared() {
 
 #[test]
 fn the_last_handle_drops_the_pool() {
+    let _limit = limit();
     let pool = Arc::new(Pool::<Told>::growing().unwrap());
     let (emptied, dropped) = (Arc::new(AtomicUsize::new(0)), Arc::new(AtomicUsize::new(0)));
     let fill = |told: &mut Told| {
@@ -300,6 +373,72 @@ fn the_last_handle_drops_the_pool() {
     .unwrap();
     assert_eq!(emptied.load(SeqCst), 1);
     assert_eq!(dropped.load(SeqCst), 1);
+}
+
+/// Handles of several lanes and segments outlive the pool, on several threads; memory goes with the last of them.
+#[test]
+fn handles_outlive_the_pool() {
+    let _limit = limit();
+    for close in [false, true] {
+        let pool = Pool::<Told>::growing().unwrap();
+        let dropped = Arc::new(AtomicUsize::new(0));
+        let keys: Vec<_> = (0..3000)
+            .map(|_| {
+                let fill = |told: &mut Told| told.dropped = Some(Arc::clone(&dropped));
+                pool.create_with(fill).unwrap()
+            })
+            .collect();
+        let handles: Vec<Vec<_>> = thread::scope(|scope| {
+            let (pool, keys) = (&pool, &keys);
+            let threads = [0, 1, 2, 3, 4].map(|part| {
+                scope.spawn(move || {
+                    let keys = keys.iter().skip(part).step_by(5);
+                    keys.map(|key| pool.get_owned(*key).unwrap()).collect()
+                })
+            });
+            threads.map(|thread| thread.join().unwrap()).into()
+        });
+        let filling = pool.create_owned().unwrap();
+        assert!(keys[..10].iter().all(|key| pool.clear(*key)));
+        if close {
+            let census = pool.close();
+            assert_eq!((census.present, census.marked), (2990, 10));
+            assert_eq!(census.filling, 1);
+        } else {
+            drop(pool);
+        }
+        assert_eq!(dropped.load(SeqCst), 0);
+        let more = handles[0][1].clone();
+        let threads = handles.into_iter().map(|part| thread::spawn(|| drop(part)));
+        for thread in threads.collect::<Vec<_>>() {
+            thread.join().unwrap();
+        }
+        assert_eq!(dropped.load(SeqCst), 0);
+        drop(filling.downgrade());
+        drop(more);
+        assert_eq!(dropped.load(SeqCst), 3000);
+    }
+}
+
+/// The pool and its handles go at once, on several threads.
+#[test]
+fn handles_and_the_pool_end_at_once() {
+    let _limit = limit();
+    let dropped = Arc::new(AtomicUsize::new(0));
+    for round in 0..300 {
+        let pool = Pool::<Told>::open(shape(1 + round % 8, 8, 1)).unwrap();
+        let fill = |told: &mut Told| told.dropped = Some(Arc::clone(&dropped));
+        let key = pool.create_with(fill).unwrap();
+        let handles: Vec<_> = (0..3).map(|_| pool.get_owned(key).unwrap()).collect();
+        assert!(round % 2 == 0 || pool.clear(key));
+        thread::scope(|scope| {
+            scope.spawn(move || drop(pool));
+            for handle in handles {
+                scope.spawn(move || drop(handle.clone()));
+            }
+        });
+    }
+    assert_eq!(dropped.load(SeqCst), 300);
 }
 
 #[test]
@@ -352,6 +491,7 @@ impl Clear for Link {
 /// A long chain by its thread's lane, by shared lanes, and by owned references, on small stacks.
 #[test]
 fn chains_let_go() {
+    let _limit = limit();
     let chain = |by_reference: bool| {
         let count = 5000;
         let mut last = None;
@@ -396,6 +536,7 @@ thread_local! {
 /// References in thread-locals are dropped when the thread's lane is gone already.
 #[test]
 fn a_thread_ends_while_its_references_live() {
+    let _limit = limit();
     for _ in 0..100 {
         let key = links().create_with(|_| ()).unwrap();
         thread::spawn(move || {
@@ -429,6 +570,7 @@ thread_local! {
 
 #[test]
 fn calls_while_a_thread_ends() {
+    let _limit = limit();
     for _ in 0..50 {
         thread::spawn(|| {
             CALLER.with(|_| ());

@@ -1,4 +1,7 @@
 //! Types of all kinds, and what is leaked.
+mod common;
+
+use common::limit;
 use pardz::{Clear, CreateError, Key, Pool, Ref, Shape};
 use std::borrow::Borrow;
 use std::hash::{DefaultHasher, Hash, Hasher};
@@ -107,6 +110,7 @@ fn aligned_and_large() {
 /// Objects that borrow, from what outlives the pool.
 #[test]
 fn borrowed_contents() {
+    let _limit = limit();
     let text = String::from("one two three");
     let pool = Pool::<Vec<&str>>::open(shape(2, 4)).unwrap();
     let lane = pool.lane().unwrap();

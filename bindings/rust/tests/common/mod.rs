@@ -1,0 +1,104 @@
+//! What tests with several threads share: they end by an assertion, and never wait for ever.
+#![allow(dead_code)] // (Each test program takes what it needs.)
+use std::io::{self, Write};
+use std::panic::Location;
+use std::sync::mpsc::{channel, RecvTimeoutError, Sender};
+use std::sync::{Condvar, Mutex, MutexGuard, PoisonError};
+use std::time::Duration;
+use std::{process, thread};
+
+/// No test takes as long, also where others load the machine.
+const LONGEST: Duration = Duration::from_secs(60);
+
+/// Ends the process by a message, where the test is still under way after `LONGEST`.
+#[must_use = "the test ends with it"]
+pub struct Limit {
+    _ends: Sender<()>,
+}
+
+#[track_caller]
+pub fn limit() -> Limit {
+    let test = Location::caller();
+    let (ends, ended) = channel();
+    thread::spawn(move || {
+        if ended.recv_timeout(LONGEST) == Err(RecvTimeoutError::Timeout) {
+            // (Past what captures the output of tests, which would be lost.)
+            let _ = writeln!(io::stderr(), "{test}: a thread waits for ever");
+            process::abort();
+        }
+    });
+    Limit { _ends: ends }
+}
+
+/// Where threads wait for each other, as at a `Barrier`; where one of them panics, the others panic too.
+pub struct Gate {
+    threads: usize,
+    state: Mutex<State>,
+    opens: Condvar,
+    _limit: Limit,
+}
+
+#[derive(Default)]
+struct State {
+    here: usize,
+    round: usize,
+    is_broken: bool,
+}
+
+impl Gate {
+    #[track_caller]
+    pub fn new(threads: usize) -> Gate {
+        Gate {
+            threads,
+            state: Mutex::default(),
+            opens: Condvar::new(),
+            _limit: limit(),
+        }
+    }
+
+    /// For one of the threads, as long as it may make others wait.
+    pub fn enter(&self) -> Member<'_> {
+        Member(self)
+    }
+
+    fn state(&self) -> MutexGuard<'_, State> {
+        self.state.lock().unwrap_or_else(PoisonError::into_inner)
+    }
+}
+
+/// A thread that others wait for.
+pub struct Member<'g>(&'g Gate);
+
+impl Member<'_> {
+    /// Waits for all. Answers whether this one came last.
+    pub fn wait(&self) -> bool {
+        let mut state = self.0.state();
+        state.here += 1;
+        let is_last = state.here == self.0.threads;
+        if is_last {
+            state.here = 0;
+            state.round += 1;
+            self.0.opens.notify_all();
+        }
+        let round = state.round;
+        let waits = |state: &mut State| !is_last && !state.is_broken && state.round == round;
+        drop(self.0.opens.wait_while(state, waits));
+        self.go_on();
+        is_last
+    }
+
+    /// Panics where another thread did: for loops that wait for something else.
+    pub fn go_on(&self) {
+        let is_broken = self.0.state().is_broken;
+        assert!(!is_broken, "another thread panicked");
+    }
+}
+
+impl Drop for Member<'_> {
+    fn drop(&mut self) {
+        if thread::panicking() {
+            self.0.state().is_broken = true;
+            self.0.opens.notify_all();
+        }
+    }
+}
