@@ -3,26 +3,36 @@ use Rattle.std.specs.Prelude.{◌≡◌, ℕ, List, [], ◌∷◌, Option, Some,
 use Rattle.clap.specs.Simple.{new_shape}
 use Rattle.clap.specs.Words.{App, Row, first_of, subcommand_of, with_subcommand}
 use Rattle.schedules.specs.Numbers.{number_of}
-use Rattle.commandline.specs.CommandLines.{positional, option_named, line_of}
+use Rattle.commandline.specs.CommandLines.{positional, option_named, flag_named, line_of}
+use Rattle.commandline.specs.Readings.{flag_of}
 use Rattle.commandline.specs.declared.views.View.{View}
 use Rattle.commandline.specs.declared.views.View.TheVariants as views
 use Rattle.commandline.specs.declared.views.Viewing.{Viewing}
 
 -- the subcommand `picture`
 abbrev pub picture_line : App
-picture_line = line_of (codes "picture") (positional (codes "file") ∷ option_named (codes "from") ∷ option_named (codes "turns") ∷ [])
+picture_line = line_of (codes "picture")
+    (positional (codes "file") ∷ option_named (codes "from") ∷ option_named (codes "turns") ∷ flag_named (codes "fit") ∷ flag_named (codes "explain") ∷ [])
+
+-- the subcommand `words`
+abbrev pub words_line : App
+words_line = line_of (codes "words") (positional (codes "file") ∷ flag_named (codes "keys") ∷ flag_named (codes "numbers") ∷ flag_named (codes "explain") ∷ [])
 
 -- the subcommand of this name, about a file alone
 abbrev pub plain_line : List ℕ → App
-plain_line name = line_of name (positional (codes "file") ∷ [])
+plain_line name = line_of name (positional (codes "file") ∷ flag_named (codes "explain") ∷ [])
 
--- the program, before its subcommands
+-- the program, before its subcommands; it has a version
 abbrev pub view_program : App
-view_program = record { top = record (new_shape (codes "poolview")) { subcommand_required = true }; subs = [] }
+view_program = record { top = record (new_shape (codes "poolview")) { subcommand_required = true; has_version = true }; subs = [] }
+
+-- the program with its subcommands of words
+abbrev pub worded_program : App
+worded_program = with_subcommand (with_subcommand (with_subcommand view_program picture_line.top) words_line.top) (plain_line (codes "summary")).top
 
 -- the program's command line
 abbrev pub view_line : App
-view_line = with_subcommand (with_subcommand (with_subcommand view_program picture_line.top) (plain_line (codes "words")).top) (plain_line (codes "summary")).top
+view_line = with_subcommand (with_subcommand (with_subcommand worded_program (plain_line (codes "json")).top) (plain_line (codes "events")).top) (plain_line (codes "page")).top
 
 -- a number of turns, or of a turn: of one to twenty digits, at most 4294967295
 abbrev pub turn_number : List ℕ → Option ℕ
@@ -35,11 +45,15 @@ IsNumber default (Some text) number = turn_number text ≡ Some number
 
 -- what the subcommand of this name asks for, by its matches: a picture from the first turn on and of all turns, unless others are given
 abbrev pub IsView : List ℕ → List Row → View → Type 0
-IsView name rows (views.Picture first count) =
+IsView name rows (views.Picture first count fit) =
     (name ≡ codes "picture") × IsNumber 0 (first_of (codes "from") rows) first
-    × IsNumber 18446744073709551615 (first_of (codes "turns") rows) count
-IsView name rows views.Words = name ≡ codes "words"
+    × IsNumber 18446744073709551615 (first_of (codes "turns") rows) count × (fit ≡ flag_of (first_of (codes "fit") rows))
+IsView name rows (views.Words keys numbers) =
+    (name ≡ codes "words") × (keys ≡ flag_of (first_of (codes "keys") rows)) × (numbers ≡ flag_of (first_of (codes "numbers") rows))
 IsView name rows views.Summary = name ≡ codes "summary"
+IsView name rows views.Json = name ≡ codes "json"
+IsView name rows views.Events = name ≡ codes "events"
+IsView name rows views.Page = name ≡ codes "page"
 
 -- what clap matched, a subcommand's name and its matches, asks for this
 pub record IsViewing (matched : Option (List ℕ × List Row)) (viewing : Viewing) : Type 0 where

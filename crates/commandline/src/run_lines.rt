@@ -8,8 +8,8 @@ use crate::lines::{Argument, Help, Kind, Line, command_named, with_subcommands};
 use clap::Command;
 use std::alloc::{AllocError, Global};
 
-/// The version of the program.
-const VERSION: &str = "0.1.0";
+/// The version of the programs.
+pub(crate) const VERSION: &str = "0.1.0";
 
 /// What help says of the program.
 static PROGRAM_HELP: Help<'static> = Help {

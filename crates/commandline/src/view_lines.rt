@@ -5,6 +5,7 @@ ghost use Rattle.commandline.specs.ViewLines.{view_program, view_line};
 ghost use Rattle.commandline.specs.Lines.{with_lines};
 
 use crate::lines::{Argument, Help, Kind, Line, command_named, with_subcommands};
+use crate::run_lines::VERSION;
 use clap::Command;
 use std::alloc::{AllocError, Global};
 
@@ -12,7 +13,13 @@ use std::alloc::{AllocError, Global};
 static PROGRAM_HELP: Help<'static> = Help {
     about: "Shows a trace that `poolrun replay` printed",
     usage: None,
-    more: "Example: poolrun replay first.json --schedule 0,0 | poolview picture -",
+    more: "\
+A file named - is standard input; ./- is the file of that name.
+
+Exit status: 0 where it is done, and after help; 1 after a fault, which is a line on standard error;
+2 after a mistake in these words.
+
+Example: poolrun replay first.json --schedule 0,0 | poolview picture -",
 };
 
 /// The file of each subcommand.
@@ -22,8 +29,15 @@ const FILE: Argument<'static> = Argument {
     help: "The file of the trace, or - for standard input",
 };
 
+/// The option by which mistakes are explained.
+const EXPLAIN: Argument<'static> = Argument {
+    kind: Kind::Flag,
+    name: "explain",
+    help: "Says on standard error where a mistake is, and what is wanted there",
+};
+
 /// The subcommands of the program.
-static LINES: [Line<'static>; 3] = [
+static LINES: [Line<'static>; 6] = [
     Line {
         name: "picture",
         help: Help {
@@ -36,13 +50,19 @@ static LINES: [Line<'static>; 3] = [
             Argument {
                 kind: Kind::Valued("N"),
                 name: "from",
-                help: "The first turn, counted from 0",
+                help: "The first turn, counted from 0, as `words --numbers` has them",
             },
             Argument {
                 kind: Kind::Valued("M"),
                 name: "turns",
                 help: "How many turns at most",
             },
+            Argument {
+                kind: Kind::Flag,
+                name: "fit",
+                help: "Ends before 32767 pixels, says where, names the command of each reply, and draws arrows in front",
+            },
+            EXPLAIN,
         ],
     },
     Line {
@@ -52,7 +72,20 @@ static LINES: [Line<'static>; 3] = [
             usage: None,
             more: "Example: poolview words trace",
         },
-        arguments: &[FILE],
+        arguments: &[
+            FILE,
+            Argument {
+                kind: Kind::Flag,
+                name: "keys",
+                help: "Decodes the keys of replies too",
+            },
+            Argument {
+                kind: Kind::Flag,
+                name: "numbers",
+                help: "Prints each line behind the number of its turn, counted from 0",
+            },
+            EXPLAIN,
+        ],
     },
     Line {
         name: "summary",
@@ -61,7 +94,34 @@ static LINES: [Line<'static>; 3] = [
             usage: None,
             more: "Example: poolview summary trace",
         },
-        arguments: &[FILE],
+        arguments: &[FILE, EXPLAIN],
+    },
+    Line {
+        name: "json",
+        help: Help {
+            about: "Prints a trace as JSON, an object for each turn",
+            usage: None,
+            more: "Example: poolview json trace",
+        },
+        arguments: &[FILE, EXPLAIN],
+    },
+    Line {
+        name: "events",
+        help: Help {
+            about: "Prints a trace in the trace-event form, which Perfetto opens",
+            usage: None,
+            more: "Example: poolview events trace > trace.json",
+        },
+        arguments: &[FILE, EXPLAIN],
+    },
+    Line {
+        name: "page",
+        help: Help {
+            about: "Prints an HTML page that shows a trace turn by turn",
+            usage: None,
+            more: "Example: poolview page trace > trace.html",
+        },
+        arguments: &[FILE, EXPLAIN],
     },
 ];
 
@@ -76,6 +136,8 @@ fn subcommands<'a>() -> &'a [Line<'a>]
 pub(crate) fn view_command<'a>(alloc: Global) -> Result<Command<'a>, AllocError>
     ensures { IfOk result (λ c. app_of c ≡ view_line) }
 {
-    let program = command_named(alloc, "poolview", PROGRAM_HELP).subcommand_required(true);
+    let program = command_named(alloc, "poolview", PROGRAM_HELP)
+        .version(VERSION)
+        .subcommand_required(true);
     with_subcommands(alloc, program, subcommands())
 }

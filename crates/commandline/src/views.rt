@@ -1,14 +1,14 @@
 ghost use Rattle.std.specs.Prelude.{◌≡◌, map, codes, IfOk, IfErr, string_bytes};
 ghost use Rattle.clap.specs.Words.{found_of, rows_of, subcommand_of, subcommand_rows_of};
 ghost use Rattle.commandline.specs.Readings.{text_of};
-ghost use Rattle.commandline.specs.Mistakes.{Tells};
+ghost use Rattle.commandline.specs.Mistakes.{Tells, wants_explanation};
 ghost use Rattle.commandline.specs.ViewLines.{view_line, IsNumber, IsView, AreViewWordsOf, IsViewing};
-ghost use Rattle.commandline.specs.ViewMistakes.{wrong_if_given, wrong_picture, RefusesView, RefusesViewing, RefusesViewWords};
+ghost use Rattle.commandline.specs.ViewMistakes.{wrong_if_given, wrong_picture, RefusesView, RefusesViewing, RefusesViewWords, IsViewExplained};
 
 use crate::fault::{TaskFault, mistaken, mistaken_without};
 use crate::mistakes::Reason;
 use crate::view_lines::view_command;
-use crate::words::given;
+use crate::words::{given, is_used};
 use clap::{ArgMatches, Error as ClapError};
 use schedules::read_number;
 use std::alloc::Global;
@@ -16,12 +16,27 @@ use std::alloc::Global;
 /// What is to be shown of a trace.
 #[derive(Clone, Copy)]
 pub enum View {
-    /// The picture of its turns from the first of these on, and of so many at most.
-    Picture { first: usize, count: usize },
-    /// Its lines with their words decoded.
-    Words,
+    /// The picture of its turns from the first of these on, and of so many at most; where `fit` holds, one that fits into 32767
+    /// pixels, and says more.
+    Picture {
+        first: usize,
+        count: usize,
+        fit: bool,
+    },
+    /// Its lines with their words decoded: keys too where `keys` holds, and each behind the number of its turn where `numbers`
+    /// does.
+    Words {
+        keys: bool,
+        numbers: bool,
+    },
     /// Its summary.
     Summary,
+    /// Its turns as JSON.
+    Json,
+    /// Its turns in the trace-event form.
+    Events,
+    /// A page that shows it turn by turn.
+    Page,
 }
 
 /// What `poolview` is told to do.
@@ -30,6 +45,15 @@ pub struct Viewing<'a> {
     /// The path of the file of the trace; `-` stands for standard input.
     pub file: &'a str,
     pub view: View,
+}
+
+/// What the words of `poolview` ask for.
+#[derive(Drop)]
+pub struct ViewRequest<'a> {
+    /// What is to be shown, or why nothing is.
+    pub viewing: Result<Viewing<'a>, TaskFault>,
+    /// Whether mistakes are to be explained.
+    pub explain: bool,
 }
 
 /// The number of a text, or this one where none is given.
@@ -58,7 +82,18 @@ fn picture_of(alloc: Global, matches: &ArgMatches) -> Result<View, TaskFault>
 {
     let first = number_or(alloc, Reason::BadFrom, given(matches, "from"), 0)?;
     let count = number_or(alloc, Reason::BadCount, given(matches, "turns"), usize::MAX)?;
-    Ok(View::Picture { first, count })
+    let fit = is_used(matches, "fit");
+    Ok(View::Picture { first, count, fit })
+}
+
+/// The words of a trace.
+fn words_of(matches: &ArgMatches) -> View
+    ensures { IsView (codes "words") (rows_of (found_of matches.now)) result }
+{
+    View::Words {
+        keys: is_used(matches, "keys"),
+        numbers: is_used(matches, "numbers"),
+    }
 }
 
 /// What a subcommand of this name asks for.
@@ -68,8 +103,11 @@ fn view_of(alloc: Global, name: &str, matches: &ArgMatches) -> Result<View, Task
 {
     match name {
         "picture" => picture_of(alloc, matches),
-        "words" => Ok(View::Words),
+        "words" => Ok(words_of(matches)),
         "summary" => Ok(View::Summary),
+        "json" => Ok(View::Json),
+        "events" => Ok(View::Events),
+        "page" => Ok(View::Page),
         _ => Err(mistaken_without(alloc, Reason::Missing)),
     }
 }
@@ -89,6 +127,16 @@ fn viewed<'a>(alloc: Global, matches: &ArgMatches<'a>) -> Result<Viewing<'a>, Ta
     Ok(Viewing { file, view })
 }
 
+/// Whether some matches ask for mistakes to be explained.
+fn is_explained(matches: &ArgMatches) -> bool
+    ensures { result ≡ wants_explanation (subcommand_rows_of matches.now) }
+{
+    match matches.subcommand() {
+        Some((_, matches)) => is_used(matches, "explain"),
+        None => false,
+    }
+}
+
 /// What `clap` reads in the words.
 fn read_view_words<'a>(alloc: Global, words: &'a [String]) -> Result<ArgMatches<'a>, ClapError>
     ensures { IfOk result (λ m.
@@ -98,13 +146,22 @@ fn read_view_words<'a>(alloc: Global, words: &'a [String]) -> Result<ArgMatches<
     command.try_get_matches_from(words)
 }
 
-/// Reads the command line of `poolview`, the program's name first: what is to be shown, of which file.
-/// The faults: `Clap` where `clap` refuses the words, or help was asked for; `Words` with the mistake where
-/// it takes them and a number of turns is none; `Memory` where memory was refused.
-pub fn read_viewing<'a>(alloc: Global, words: &'a [String]) -> Result<Viewing<'a>, TaskFault>
-    ensures ok { IfOk result (AreViewWordsOf (map string_bytes words.now)) }
-    ensures err { IfErr result (RefusesViewWords (map string_bytes words.now)) }
+/// Reads the command line of `poolview`, the program's name first: what is to be shown, of which file, and whether mistakes are
+/// to be explained. The faults: `Clap` where `clap` refuses the words, or help or the version was asked for; `Words` with the
+/// mistake where it takes them and a number of turns is none; `Memory` where memory was refused.
+pub fn read_viewing<'a>(alloc: Global, words: &'a [String]) -> ViewRequest<'a>
+    ensures ok { IfOk result.viewing (AreViewWordsOf (map string_bytes words.now)) }
+    ensures err { IfErr result.viewing (RefusesViewWords (map string_bytes words.now)) }
+    ensures explain { IsViewExplained (map string_bytes words.now) result.explain result.viewing }
 {
-    let matches = read_view_words(alloc, words)?;
-    viewed(alloc, &matches)
+    match read_view_words(alloc, words) {
+        Ok(matches) => ViewRequest {
+            viewing: viewed(alloc, &matches),
+            explain: is_explained(&matches),
+        },
+        Err(error) => ViewRequest {
+            viewing: Err(TaskFault::Clap(error)),
+            explain: false,
+        },
+    }
 }

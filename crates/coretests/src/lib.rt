@@ -45,6 +45,8 @@ mod test_tasks;
 #[cfg(test)]
 mod test_texts;
 #[cfg(test)]
+mod test_tool_views;
+#[cfg(test)]
 mod test_trace_texts;
 #[cfg(test)]
 mod test_viewings;

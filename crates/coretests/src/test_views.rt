@@ -1,7 +1,7 @@
 use crate::test_texts::{reads, same_at, shows};
 use std::alloc::AllocGlobal;
 use std::process::Abort;
-use traceviews::{Line, Window, picture_text, read_trace, summary_text, words_text};
+use traceviews::{Line, Window, WordStyle, picture_text, read_trace, summary_text, words_text};
 
 // A trace in which the places of one lane are cleared by another, with a claim and a push that fail.
 const TRACE: &str = "0 = filling 16777216
@@ -75,8 +75,39 @@ fn lines_of<R: Abort + AllocGlobal>(rt: &R, text: &str) -> Vec<Line> {
 #[test]
 fn decodes_words(rt: HostRuntime) {
     let lines = lines_of(&rt, TRACE);
-    let out = words_text(rt.alloc(), lines.as_slice()).expect(&rt, "memory");
+    let plain = WordStyle {
+        keys: false,
+        numbers: false,
+    };
+    let out = words_text(rt.alloc(), plain, lines.as_slice()).expect(&rt, "memory");
     reads(&rt, out.as_slice(), WORDS);
+}
+
+// Lines with keys, decoded, each behind the number of its turn.
+const NUMBERED: &str = "0: 0 = filling 0/0/1 generation 1 tag 9
+0: 0 MARK 0/0/0 PRESENT count 1 generation 1 -> MARKED count 1 generation 1
+0: 0 = true
+1: 0 MARK 0/0/0 PRESENT count 1 generation 1 -> MARKED count 1 generation 1
+2: 1 = key 15/5/2047 generation 1
+2: 1 = some 6869
+";
+
+#[test]
+fn decodes_keys_and_counts_turns(rt: HostRuntime) {
+    let text = "0 = filling 648518346358128641
+0 MARK 0 4294967301 4294967303
+0 = true
+0 MARK 0 4294967301 4294967303
+1 = key 17782783
+1 = some 6869
+";
+    let lines = lines_of(&rt, text);
+    let style = WordStyle {
+        keys: true,
+        numbers: true,
+    };
+    let out = words_text(rt.alloc(), style, lines.as_slice()).expect(&rt, "memory");
+    reads(&rt, out.as_slice(), NUMBERED);
 }
 
 #[test]
@@ -150,9 +181,14 @@ fn reads_no_lines(rt: HostRuntime) {
 }
 
 /// The picture of these turns.
-fn picture_of<R: Abort + AllocGlobal>(rt: &R, first: usize, count: usize) -> String {
+fn picture_of<R: Abort + AllocGlobal>(
+    rt: &R,
+    first: usize,
+    count: usize,
+    fit: bool,
+) -> String {
     let lines = lines_of(rt, TRACE);
-    let window = Window { first, count };
+    let window = Window { first, count, fit };
     let out = picture_text(rt.alloc(), lines.as_slice(), &window).expect(rt, "memory");
     String::from_utf8(out).ok().expect(rt, "a text")
 }
@@ -167,7 +203,7 @@ fn has_lines<R: Abort>(rt: &R, text: &str, there: &str, missing: &str) {
 
 /// The picture of these turns has the texts of these lines, and not that one.
 fn draws<R: Abort + AllocGlobal>(rt: &R, first: usize, count: usize, there: &str, missing: &str) {
-    let text = picture_of(rt, first, count);
+    let text = picture_of(rt, first, count, false);
     has_lines(rt, text.as_str(), there, missing);
 }
 
@@ -189,4 +225,18 @@ fn draws_turns(rt: HostRuntime) {
         ">PUBLISH",
     );
     draws(&rt, 14, 2, "no turns of 14", ">ENTER");
+}
+
+// What the picture of two turns has that is to fit.
+const FITTING: &str = "<desc>Lanes are columns, turns are rows.
+>turns 0 to 1 of 14, lanes 3; the next: --from 2</text>
+>create = filling 0/0/0 g1</text>
+>write = ok</text>
+>downgrade = key 0/0/0 g1</text>
+>get = some 6869</text>";
+
+#[test]
+fn fits_a_picture(rt: HostRuntime) {
+    let text = picture_of(&rt, 0, 2, true);
+    has_lines(&rt, text.as_str(), FITTING, ">publish");
 }

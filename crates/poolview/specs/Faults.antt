@@ -1,8 +1,9 @@
--- The lines of faults.
-use Rattle.std.specs.Prelude.{ℕ, List, ◌++◌, codes, decimal}
+-- The lines of faults, and those that explain them.
+use Rattle.std.specs.Prelude.{ℕ, ◌-◌, Bool, true, false, List, [], ◌++◌, codes, decimal}
 use Rattle.streams.specs.declared.reading.Unread.{Unread}
 use Rattle.streams.specs.declared.reading.Unread.TheVariants as unread
 use Rattle.traceviews.specs.Wants.{wanted_text}
+use Rattle.poolview.specs.Shown.{shown_bytes, line_at}
 use Rattle.poolview.specs.declared.fault.Fault.{Fault}
 use Rattle.poolview.specs.declared.fault.Fault.TheVariants as faults
 
@@ -17,3 +18,25 @@ fault_text faults.File = codes "fault 41 File\n"
 fault_text faults.Output = codes "fault 42 Output\n"
 fault_text faults.Memory = codes "fault 43 Memory\n"
 fault_text (faults.Line number wanted) = codes "line " ++ decimal number ++ codes ": " ++ wanted_text wanted ++ codes " is wanted\n"
+
+-- what stands in the line of this number, and that it is none
+abbrev pub wrong_line_text : ℕ → List ℕ → List ℕ
+wrong_line_text number bytes =
+    codes "line " ++ decimal number ++ codes ": " ++ shown_bytes (line_at (number - 1) bytes)
+    ++ codes " is no line of a trace: LANE = REPLY, LANE KIND PLACE BEFORE AFTER, or LANE PUSH (or TAKE) SHARD.LANE BEFORE AFTER\n"
+
+-- why the file at this path isn't read
+abbrev pub wrong_file_text : List ℕ → List ℕ
+wrong_file_text path = shown_bytes path ++ codes " can't be opened, or not read to its end\n"
+
+-- the explanation of a fault, by the path of the file and its bytes: where it is, and what stands there
+abbrev pub explanation_text : List ℕ → List ℕ → Fault → List ℕ
+explanation_text path bytes faults.File = wrong_file_text path
+explanation_text path bytes faults.Output = []
+explanation_text path bytes faults.Memory = []
+explanation_text path bytes (faults.Line number wanted) = wrong_line_text number bytes
+
+-- what is said of a fault, with its explanation where that is wanted
+abbrev pub refusal_text : Bool → List ℕ → List ℕ → Fault → List ℕ
+refusal_text true path bytes fault = fault_text fault ++ explanation_text path bytes fault
+refusal_text false path bytes fault = fault_text fault

@@ -1,3 +1,4 @@
+pub mod Shown
 pub mod Faults
 pub mod Shows
 pub mod Endings

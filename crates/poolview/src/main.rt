@@ -1,7 +1,9 @@
-//! The program: it shows a trace that `poolrun replay` printed, as a picture, by its lines with their words decoded, or in sum.
+//! The program: it shows a trace that `poolrun replay` printed, as a picture, by its lines with their words
+//! decoded, in sum, as JSON, as trace events, or as a page.
 //! What it shows, writes and ends with is `view_trace`'s, over any input and writers: here are the streams.
 #![tactic(auto)]
 
+mod explanation;
 mod fault;
 mod showing;
 mod viewing;

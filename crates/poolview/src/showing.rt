@@ -6,16 +6,26 @@ ghost use Rattle.poolview.specs.Shows.{IsShown, ShowsText, RefusesText};
 use crate::fault::Fault;
 use commandline::View;
 use std::alloc::{AllocError, Global};
-use traceviews::{Line, ReadFault, Window, picture_text, read_trace, summary_text, words_text};
+use traceviews::{
+    Line, ReadFault, Window, WordStyle, events_text, html_text, picture_text, read_trace,
+    summary_text, turns_json, words_text,
+};
 
 /// What is shown of the lines of a trace.
 fn shown(alloc: Global, view: View, lines: &[Line]) -> Result<Vec<u8>, AllocError>
     ensures { IfOk result (λ text. IsShown view lines.now text.items) }
 {
     match view {
-        View::Picture { first, count } => picture_text(alloc, lines, &Window { first, count }),
-        View::Words => words_text(alloc, lines),
+        View::Picture { first, count, fit } => picture_text(
+            alloc,
+            lines,
+            &Window { first, count, fit },
+        ),
+        View::Words { keys, numbers } => words_text(alloc, WordStyle { keys, numbers }, lines),
         View::Summary => summary_text(alloc, lines),
+        View::Json => turns_json(alloc, lines),
+        View::Events => events_text(alloc, lines),
+        View::Page => html_text(alloc, lines),
     }
 }
 

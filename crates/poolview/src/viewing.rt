@@ -1,52 +1,76 @@
 //! The program over any input and writers.
-ghost use Rattle.std.specs.Prelude.{◌≡◌, ◌≢◌, ◌↔◌, true, false, OnOk, IfErr, IsErrOf};
-ghost use Rattle.poolview.specs.Shows.{Shows, RefusesShow};
-ghost use Rattle.poolview.specs.Endings.{EndsView, EndsProgram};
+ghost use Rattle.std.specs.Prelude.{◌≡◌, ◌≢◌, ◌↔◌, ℕ, List, true, false, OnOk, IfErr, IsErrOf};
+ghost use Rattle.std.specs.Io.KnownBytes.{Appends};
+ghost use Rattle.poolview.specs.Shows.{ShowsText, RefusesText};
+ghost use Rattle.poolview.specs.Endings.{EndsBytes, EndsView, EndsProgram};
 
-use crate::fault::{Fault, write_fault};
+use crate::explanation::write_refusal;
+use crate::fault::Fault;
 use crate::showing::text_shown;
-use commandline::{Viewing, end_by_words, read_args, read_viewing};
+use commandline::{View, ViewRequest, Viewing, end_by_words, read_args, read_viewing};
+use std::alloc::Global;
 use std::env::{Args, Env};
 use std::fs::Files;
 use std::io;
 use std::io::{Read, Write};
 use streams::{Watched, read_path, write_and_flush};
 
-/// Shows what is asked for of the trace in a file, or what is left of the input where the file is named `-`. The errors:
-/// `Memory`, `File` and `Line` come before the first byte; `Output` comes exactly where `out` failed.
-fn show<R: Files + AllocGlobal, I: Read, O: Write>(
-    rt: &R,
-    viewing: &Viewing,
-    input: &mut I,
+/// Shows what is asked for of a trace, by its bytes. The errors: `Memory` and `Line` come before the first byte; `Output` comes
+/// exactly where `out` failed.
+fn show<O: Write>(
+    alloc: Global,
+    view: View,
+    bytes: &[u8],
     out: &mut Watched<O>,
 ) -> Result<(), Fault>
     requires { out.old.failed ≡ false }
-    ensures ok { OnOk result (Shows (I.remaining input.old) viewing.now (O.contents out.old.inner) (O.contents out.new.inner)) }
+    ensures ok { OnOk result ((text : List ℕ) × ShowsText view bytes.now text × Appends (O.contents out.old.inner) (O.contents out.new.inner) text) }
     ensures output { IsErrOf result Fault.Output ↔ (out.new.failed ≡ true) }
-    ensures refused { IfErr result (λ fault. fault ≢ Fault.Output
-        → (out.new ≡ out.old) × RefusesShow (I.remaining input.old) viewing.now fault) }
+    ensures refused { IfErr result (λ fault. fault ≢ Fault.Output → (out.new ≡ out.old) × RefusesText bytes.now fault) }
 {
-    let bytes = read_path(rt, input, viewing.file)?;
-    let text = text_shown(rt.alloc(), viewing.view, bytes.as_slice())?;
+    let text = text_shown(alloc, view, bytes)?;
     write_and_flush(text.as_slice(), out)?;
     Ok(())
 }
 
-/// Shows what is asked for, and writes the line of the fault on `errors`, where there is one. Answers the exit status.
+/// Shows what is asked for of a trace, by its bytes, or writes why it can't on `errors`. Answers the exit status.
+fn end_by_bytes<O: Write, E: Write>(
+    alloc: Global,
+    viewing: &Viewing,
+    explain: bool,
+    bytes: &[u8],
+    out: &mut Watched<O>,
+    errors: &mut Watched<E>,
+) -> u8
+    requires { out.old.failed ≡ false }
+    ensures { EndsBytes O.contents E.contents explain viewing.now bytes.now out.old out.new errors.old errors.new result }
+{
+    match show(alloc, viewing.view, bytes, out) {
+        Ok(()) => 0,
+        Err(fault) => {
+            write_refusal(fault, explain, viewing.file, bytes, errors);
+            1
+        }
+    }
+}
+
+/// Shows what is asked for of the trace in a file, or what is left of the input where the file is named `-`; or writes why it
+/// can't on `errors`. Answers the exit status.
 fn end_by_view<R: Files + AllocGlobal, I: Read, O: Write, E: Write>(
     rt: &R,
     viewing: &Viewing,
+    explain: bool,
     input: &mut I,
     out: &mut Watched<O>,
     errors: &mut Watched<E>,
 ) -> u8
     requires { out.old.failed ≡ false }
-    ensures { EndsView O.contents E.contents (I.remaining input.old) viewing.now out.old out.new errors.old errors.new result }
+    ensures { EndsView O.contents E.contents explain (I.remaining input.old) viewing.now out.old out.new errors.old errors.new result }
 {
-    match show(rt, viewing, input, out) {
-        Ok(()) => 0,
-        Err(fault) => {
-            write_fault(fault, errors);
+    match read_path(rt, input, viewing.file) {
+        Ok(bytes) => end_by_bytes(rt.alloc(), viewing, explain, bytes.as_slice(), out, errors),
+        Err(unread) => {
+            write_refusal(Fault::from(unread), explain, viewing.file, &[], errors);
             1
         }
     }
@@ -69,8 +93,9 @@ pub(crate) fn view_trace<R: Files + AllocGlobal, I: Read, O: Write, E: Write>(
         Ok(words) => words,
         Err(fault) => return end_by_words(&fault, false, out, errors),
     };
-    match read_viewing(rt.alloc(), words.as_slice()) {
-        Ok(viewing) => end_by_view(rt, &viewing, input, out, errors),
-        Err(fault) => end_by_words(&fault, false, out, errors),
+    let ViewRequest { viewing, explain } = read_viewing(rt.alloc(), words.as_slice());
+    match viewing {
+        Ok(viewing) => end_by_view(rt, &viewing, explain, input, out, errors),
+        Err(fault) => end_by_words(&fault, explain, out, errors),
     }
 }

@@ -6,11 +6,8 @@ use Rattle.keybits.specs.declared.life.State.{State}
 use Rattle.keybits.specs.declared.life.State.TheVariants as states
 use Rattle.keybits.specs.declared.step.Word.{Word}
 use Rattle.keybits.specs.declared.step.Word.TheVariants as words
-use Rattle.traces.specs.Text.{kind_text, reply_line}
+use Rattle.traces.specs.Text.{kind_text}
 use Rattle.traceviews.specs.Lines.{kind_of}
-use Rattle.traceviews.specs.declared.line.Entry.{Entry}
-use Rattle.traceviews.specs.declared.line.Entry.TheVariants as entries
-use Rattle.traceviews.specs.declared.line.Line.{Line}
 use Rattle.traceviews.specs.declared.line.NamedStep.{NamedStep}
 use Rattle.traceviews.specs.declared.line.StepName.{StepName}
 use Rattle.traceviews.specs.declared.line.StepName.TheVariants as names
@@ -84,12 +81,3 @@ abbrev pub step_words : ℕ → NamedStep → List ℕ
 step_words lane s =
     decimal lane ++ codes " " ++ kind_text (kind_of s.name) ++ codes " " ++ aim_text s.word ++ codes " "
     ++ (value_text s.word s.before ++ codes " -> " ++ value_text s.word s.after ++ failed_text s)
-
--- an entry of this lane; a reply as the trace has it
-abbrev pub entry_words : ℕ → Entry → List ℕ
-entry_words lane (entries.Step s) = step_words lane s
-entry_words lane (entries.Reply r) = reply_line lane r
-
--- a line
-abbrev pub line_words : Line → List ℕ
-line_words line = entry_words line.lane line.entry

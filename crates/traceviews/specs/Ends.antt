@@ -1,5 +1,9 @@
 -- What places are at the end of a trace.
-use Rattle.std.specs.Prelude.{ℕ, ◌==◌, Bool, false, List, [], ◌∷◌, Option, Some, None, if◌then◌else◌}
+use Rattle.std.specs.Prelude.{◌≡◌, ℕ, ◌==◌, Bool, List, [], ◌∷◌, Option, Some, None, if◌then◌else◌}
+use Rattle.std.specs.BTreeMap.{is_at}
+use Rattle.std.specs.List.Sorted.{IsStrictlySortedBy}
+use Rattle.std.specs.Map.{keys_of, lookup}
+use Rattle.std.specs.Ordering.{nat_cmp}
 use Rattle.keybits.specs.Words.{state_bits, state_in}
 use Rattle.keybits.specs.declared.life.State.{State}
 use Rattle.keybits.specs.declared.step.Word.{Word}
@@ -41,11 +45,11 @@ last_word place lines = word_from None place lines
 abbrev pub is_in : State → ℕ → Bool
 is_in state word = state_in word == state_bits state
 
--- the word is there and in this state
-abbrev pub is_there_in : State → Option ℕ → Bool
-is_there_in state None = false
-is_there_in state (Some word) = is_in state word
+-- the place is in this state at the end, by its last word
+abbrev pub is_end_in : State → ℕ × ℕ → Bool
+is_end_in state end = is_in state end.1
 
--- the place is in this state at the end
-abbrev pub ends_in : List Line → State → ℕ → Bool
-ends_in lines state place = is_there_in state (last_word place lines)
+-- the places on whose lifecycle words steps are made, in rising order, each with the word that the last such step left
+pub record AreEnds (lines : List Line) (ends : List (ℕ × ℕ)) : Type 0 where
+  pub rising : IsStrictlySortedBy nat_cmp (keys_of ends)
+  pub last : (place : ℕ) → lookup (is_at (nat_cmp place)) ends ≡ last_word place lines

@@ -1,8 +1,14 @@
 pub mod Lines
 pub mod ReadLines
 pub mod Decoded
+pub mod Styles
 pub mod Counts
 pub mod Ends
+pub mod Turns
+pub mod Numbered
+pub mod Json
+pub mod Events
+pub mod HtmlPages
 pub mod Pictures
 pub mod Summaries
 pub mod Pages

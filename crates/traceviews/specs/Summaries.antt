@@ -1,12 +1,17 @@
 -- The summary of a trace.
-use Rattle.std.specs.Prelude.{◌≡◌, ℕ, Bool, true, false, List, [], ◌∷◌, ◌++◌, Option, Some, None, length, count_by, flat_map, codes, decimal}
+use Rattle.std.specs.Prelude.{◌≡◌, ℕ, ◌==◌, ◌||◌, Bool, true, false, List, [], ◌∷◌, ◌++◌, length, count_by, flat_map, codes, decimal}
+use Rattle.std.specs.BTreeMap.{is_at}
+use Rattle.std.specs.List.{list_any}
+use Rattle.std.specs.List.Sorted.{IsStrictlySortedBy}
+use Rattle.std.specs.Ordering.{nat_cmp}
 use Rattle.keybits.specs.declared.life.State.{State}
 use Rattle.keybits.specs.declared.life.State.TheVariants as states
 use Rattle.traces.specs.Text.{kind_text}
 use Rattle.traceviews.specs.Lines.{kind_of}
 use Rattle.traceviews.specs.Counts.{is_step_of, is_failed_of, is_reply_of, is_unfinished, longest_call}
 use Rattle.traceviews.specs.Decoded.{state_text, place_text, life_text}
-use Rattle.traceviews.specs.Ends.{last_word, ends_in}
+use Rattle.traceviews.specs.Ends.{is_end_in, AreEnds}
+use Rattle.traceviews.specs.Turns.{turns_of}
 use Rattle.traceviews.specs.declared.line.Line.{Line}
 use Rattle.traceviews.specs.declared.line.StepName.{StepName}
 use Rattle.traceviews.specs.declared.line.StepName.TheVariants as names
@@ -40,31 +45,39 @@ abbrev pub state_names : List State
 state_names = states.Idle ∷ states.Present ∷ states.Marked ∷ states.Retired ∷ []
 
 -- how many of the places are in this state at the end
-abbrev pub state_count_text : List Line → List ℕ → State → List ℕ
-state_count_text lines places state = codes " " ++ state_text state ++ named_text (codes " ") (count_by (ends_in lines state) places)
+abbrev pub state_count_text : List (ℕ × ℕ) → State → List ℕ
+state_count_text ends state = codes " " ++ state_text state ++ named_text (codes " ") (count_by (is_end_in state) ends)
 
 -- how many of the places are in which state at the end
-abbrev pub states_text : List Line → List ℕ → List ℕ
-states_text lines places = codes "places" ++ flat_map (state_count_text lines places) state_names ++ codes "\n"
+abbrev pub states_text : List (ℕ × ℕ) → List ℕ
+states_text ends = codes "places" ++ flat_map (state_count_text ends) state_names ++ codes "\n"
 
--- what a place is whose word is this; nothing where it has none
-abbrev pub word_text_of : ℕ → Option ℕ → List ℕ
-word_text_of place None = []
-word_text_of place (Some word) = codes "place " ++ place_text place ++ codes " " ++ life_text word ++ codes "\n"
+-- what a place is at the end, with its last word
+abbrev pub place_end_text : ℕ × ℕ → List ℕ
+place_end_text end = codes "place " ++ place_text end.0 ++ codes " " ++ life_text end.1 ++ codes "\n"
 
--- what a place is at the end
-abbrev pub place_end_text : List Line → ℕ → List ℕ
-place_end_text lines place = word_text_of place (last_word place lines)
+-- how many turns and lines there are
+abbrev pub counts_line : List Line → List ℕ
+counts_line lines = named_text (codes "turns ") (length (turns_of lines)) ++ named_text (codes " lines ") (length lines) ++ codes "\n"
 
--- the summary of so many turns, with these lanes and places
-abbrev pub summary_of : ℕ → List ℕ → List ℕ → List Line → List ℕ
-summary_of turns lanes places lines =
-    named_text (codes "turns ") turns ++ named_text (codes " lines ") (length lines) ++ codes "\n"
-    ++ flat_map (lane_text lines) lanes ++ states_text lines places ++ flat_map (place_end_text lines) places
+-- the summary of some lines, with these lanes, and these places with their last words
+abbrev pub summary_of : List ℕ → List (ℕ × ℕ) → List Line → List ℕ
+summary_of lanes ends lines = counts_line lines ++ flat_map (lane_text lines) lanes ++ states_text ends ++ flat_map place_end_text ends
 
--- the summary of a trace; which lanes and places it tells of, and how many turns, is only shown by tests
+-- some line is of this lane
+abbrev pub has_lane : ℕ → List Line → Bool
+has_lane lane [] = false
+has_lane lane (line ∷ more) = (line.lane == lane) || has_lane lane more
+
+-- the lanes that lines are of, in rising order
+pub record AreLanes (lines : List Line) (lanes : List ℕ) : Type 0 where
+  pub rising : IsStrictlySortedBy nat_cmp lanes
+  pub are : (lane : ℕ) → list_any (is_at (nat_cmp lane)) lanes ≡ has_lane lane lines
+
+-- the summary of a trace: of its turns, its lanes, and its places with their last words
 pub record IsSummary (lines : List Line) (text : List ℕ) : Type 0 where
-  pub turns : ℕ
   pub lanes : List ℕ
-  pub places : List ℕ
-  pub is : text ≡ summary_of turns lanes places lines
+  pub are_lanes : AreLanes lines lanes
+  pub ends : List (ℕ × ℕ)
+  pub are_ends : AreEnds lines ends
+  pub is : text ≡ summary_of lanes ends lines

@@ -160,28 +160,69 @@ fn push_step(step: &NamedStep, x: u64, y: u64, out: &mut Page) {
     out.text(END);
 }
 
-/// Appends a line of a turn. The answer is how high it is.
-fn push_entry(entry: &Entry, x: u64, y: u64, out: &mut Page) -> u64 {
-    match entry {
-        Entry::Step(step) => {
-            push_step(step, x, y, out);
-            LINE + LINE
-        }
-        Entry::Reply(reply) => {
-            begin_text("reply", x, y, out);
-            push_reply(reply, out);
-            out.text(END);
-            LINE
-        }
+/// The command that replied so, with the step before the reply where that is one of its own: a command that makes steps replies
+/// behind its last one.
+fn command_of(reply: &Reply, own: Option<&NamedStep>) -> &'static str {
+    match reply {
+        Reply::Filling(_) | Reply::Full => "create ",
+        Reply::Key(_) => if is_downgrade(own) {
+            "downgrade "
+        } else {
+            "publish "
+        },
+        Reply::Found(_) | Reply::Missing => "get ",
+        Reply::Content(_) => "read ",
+        Reply::Cleared(_) => "clear ",
+        Reply::Done => if own.is_some() { "release " } else { "write " },
+        Reply::Memory | Reply::Skip => "",
     }
 }
 
+/// Whether a step publishes and leaves a reference.
+fn is_downgrade(own: Option<&NamedStep>) -> bool {
+    match own {
+        Some(step) => Life::of_word(step.after).count > Life::of_word(step.before).count,
+        None => false,
+    }
+}
+
+/// Appends a reply, with the name of its command where that is wanted.
+fn push_reply_line(reply: &Reply, own: Option<&NamedStep>, named: bool, out: &mut Page) {
+    if named {
+        out.text(command_of(reply, own));
+    }
+    push_reply(reply, out);
+    out.text(END);
+}
+
+/// The lines of a turn, and how they are shown.
+#[derive(Clone, Copy)]
+pub(crate) struct Content<'a> {
+    pub(crate) lane: u32,
+    pub(crate) lines: &'a [Line],
+    pub(crate) step: Option<&'a NamedStep>,
+    /// Whether replies have the names of their commands.
+    pub(crate) named: bool,
+}
+
 /// Appends the lines of a turn, one below the other.
-fn push_entries(lines: &[Line], x: u64, y: u64, out: &mut Page) {
+fn push_entries(content: &Content, x: u64, y: u64, out: &mut Page) {
     let mut y = y;
-    for line in lines {
-        let high = push_entry(&line.entry, x, y, out);
-        y = y.saturating_add(high);
+    let mut own = None;
+    for line in content.lines {
+        match &line.entry {
+            Entry::Step(step) => {
+                push_step(step, x, y, out);
+                y = y.saturating_add(LINE + LINE);
+                own = Some(step);
+            }
+            Entry::Reply(reply) => {
+                begin_text("reply", x, y, out);
+                push_reply_line(reply, own, content.named, out);
+                y = y.saturating_add(LINE);
+                own = None;
+            }
+        }
     }
 }
 
@@ -196,16 +237,9 @@ fn push_frame(step: Option<&NamedStep>, area: &Area, out: &mut Page) {
 }
 
 /// Appends a turn of a lane: its frame, its number, the lane at the height of its step, and its lines.
-pub(crate) fn push_box(
-    turn: &Writer,
-    lane: u32,
-    lines: &[Line],
-    step: Option<&NamedStep>,
-    area: &Area,
-    out: &mut Page,
-) {
+pub(crate) fn push_box(turn: &Writer, content: &Content, area: &Area, out: &mut Page) {
     let y = area.y.saturating_add(LINE);
-    push_frame(step, area, out);
+    push_frame(content.step, area, out);
     out.fill(
         "<text class=\"number\" x=\"%\" y=\"%\">%</text>\n<text class=\"number\" x=\"%\" y=\"%\">lane %</text>\n",
         &[
@@ -214,8 +248,8 @@ pub(crate) fn push_box(
             turn.turn as u64,
             area.x.saturating_add(BOX - 8),
             turn.step.saturating_add(4),
-            u64::from(lane),
+            u64::from(content.lane),
         ],
     );
-    push_entries(lines, area.x.saturating_add(14), y, out);
+    push_entries(content, area.x.saturating_add(14), y, out);
 }

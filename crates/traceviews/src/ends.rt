@@ -1,31 +1,44 @@
 //! What places are at the end of a trace.
 
-ghost use Rattle.std.specs.Prelude.{◌≡◌, count_by};
-ghost use Rattle.traceviews.specs.Ends.{word_after, last_word, is_in, ends_in};
+ghost use Rattle.std.specs.Prelude.{◌≡◌, ℕ, IfOk, OnOk, count_by};
+ghost use Rattle.std.specs.Ordering.{nat_cmp};
+ghost use Rattle.std.specs.BTreeMap.{get, IsOrdered};
+ghost use Rattle.traceviews.specs.Ends.{word_after, is_in, is_end_in, AreEnds};
 
 use crate::found::life_of;
 use crate::line::Line;
 use keybits::{Life, State};
+use std::alloc::{AllocError, Global};
+use std::collections::BTreeMap;
 
-/// The word of a place behind a line, where it was this before: a step on it leaves another.
-fn word_behind(before: Option<u64>, line: &Line, place: u32) -> Option<u64>
-    ensures { result ≡ word_after before place line.now }
+/// Notes the word that a line's step leaves to its place.
+fn note_word(words: &mut BTreeMap<u32, u64>, line: &Line) -> Result<(), AllocError>
+    ensures { OnOk result ((place : ℕ) → get nat_cmp words.new place ≡ word_after (get nat_cmp words.old place) place line.now) }
 {
-    match life_of(line) {
-        Some((found, word)) => { if found == place { Some(word) } else { before } }
-        None => before,
+    if let Some((place, word)) = life_of(line) {
+        words.insert(place, word)?;
     }
+    Ok(())
 }
 
-/// The lifecycle word that the last step on a place left; none where there is no such step.
-pub fn last_word(lines: &[Line], place: u32) -> Option<u64>
-    ensures { result ≡ last_word place lines.now }
+/// The entries of a map, in the rising order of their keys.
+fn entries_of(alloc: Global, words: BTreeMap<u32, u64>) -> Result<Vec<(u32, u64)>, AllocError>
+    ensures entries { IfOk result (λ ends. ends.items ≡ words.entries) }
+    ensures rising { IsOrdered nat_cmp words }
 {
-    let mut last = None;
+    words.into_iter().collect(alloc)
+}
+
+/// The places on whose lifecycle words some lines' steps are made, in rising order, each with the word that the last such step
+/// left.
+pub(crate) fn ends_of(alloc: Global, lines: &[Line]) -> Result<Vec<(u32, u64)>, AllocError>
+    ensures { IfOk result (λ ends. AreEnds lines.now ends.items) }
+{
+    let mut words = BTreeMap::new(alloc);
     for line in lines {
-        last = word_behind(last, line, place);
+        note_word(&mut words, line)?;
     }
-    last
+    entries_of(alloc, words)
 }
 
 /// Whether a lifecycle word is in this state.
@@ -35,23 +48,13 @@ fn is_in(word: u64, state: State) -> bool
     Life::of_word(word).state == state
 }
 
-/// Whether a place is in this state at the end.
-fn ends_in(lines: &[Line], place: u32, state: State) -> bool
-    ensures { result ≡ ends_in lines.now state place }
-{
-    match last_word(lines, place) {
-        Some(word) => is_in(word, state),
-        None => false,
-    }
-}
-
-/// How many of some places are in this state at the end: by the word that the last step on each left.
-pub fn places_in(lines: &[Line], places: &[u32], state: State) -> usize
-    ensures { result ≡ count_by (ends_in lines.now state) places.now }
+/// How many places end in this state, by their last words.
+pub(crate) fn ends_in(ends: &[(u32, u64)], state: State) -> usize
+    ensures { result ≡ count_by (is_end_in state) ends.now }
 {
     let mut count = 0;
-    for place in places {
-        if ends_in(lines, *place, state) {
+    for (_, word) in ends {
+        if is_in(*word, state) {
             count += 1;
         }
     }

@@ -1,20 +1,33 @@
 //! Which lanes and places there are in some lines.
 
-ghost use Rattle.std.specs.Prelude.{◌≡◌};
+ghost use Rattle.std.specs.Prelude.{◌≡◌, IfOk};
+ghost use Rattle.std.specs.Ordering.{nat_cmp};
+ghost use Rattle.std.specs.BTreeSet.{IsOrdered};
 ghost use Rattle.traceviews.specs.Ends.{life_of};
+ghost use Rattle.traceviews.specs.Summaries.{AreLanes};
 
 use crate::line::{Entry, Line};
-use crate::numbers::insert_number;
 use keybits::Word;
 use std::alloc::{AllocError, Global};
+use std::collections::BTreeSet;
 
-/// The lanes of some lines, sorted.
-pub(crate) fn lanes_of(alloc: Global, lines: &[Line]) -> Result<Vec<u32>, AllocError> {
-    let mut lanes = Vec::new(alloc);
+/// The numbers of a set, in rising order.
+fn numbers_of(alloc: Global, numbers: BTreeSet<u32>) -> Result<Vec<u32>, AllocError>
+    ensures numbers { IfOk result (λ row. row.items ≡ numbers.keys) }
+    ensures rising { IsOrdered nat_cmp numbers }
+{
+    numbers.into_iter().collect(alloc)
+}
+
+/// The lanes of some lines, in rising order.
+pub(crate) fn lanes_of(alloc: Global, lines: &[Line]) -> Result<Vec<u32>, AllocError>
+    ensures { IfOk result (λ lanes. AreLanes lines.now lanes.items) }
+{
+    let mut lanes = BTreeSet::new(alloc);
     for line in lines {
-        insert_number(&mut lanes, line.lane)?;
+        lanes.insert(line.lane)?;
     }
-    Ok(lanes)
+    numbers_of(alloc, lanes)
 }
 
 /// The place whose lifecycle word a line is of, with the word that it leaves.
@@ -30,13 +43,13 @@ pub(crate) fn life_of(line: &Line) -> Option<(u32, u64)>
     }
 }
 
-/// The places whose lifecycle words some lines are of, sorted.
+/// The places whose lifecycle words some lines are of, in rising order.
 pub(crate) fn places_of(alloc: Global, lines: &[Line]) -> Result<Vec<u32>, AllocError> {
-    let mut places = Vec::new(alloc);
+    let mut places = BTreeSet::new(alloc);
     for line in lines {
         if let Some((place, _)) = life_of(line) {
-            insert_number(&mut places, place)?;
+            places.insert(place)?;
         }
     }
-    Ok(places)
+    numbers_of(alloc, places)
 }

@@ -12,15 +12,20 @@ pub(crate) struct Extent {
     pub(crate) count: usize,
     pub(crate) width: u64,
     pub(crate) height: u64,
+    pub(crate) fit: bool,
 }
 
 /// The height of the title, the legend and the names of the columns.
 pub(crate) const TOP: u64 = 144;
 
-/// The end of the title, the style and the head of an arrow. The colours are those of Okabe and Ito, which people with any form of
+/// What a picture is, for those who don't see it.
+const DESCRIPTION: &str =
+    "<desc>Lanes are columns, turns are rows. A turn has the replies of its lane's commands and the step that it made: what the step found and what it left. Beside them each place has a strip with its state and count. An arrow leads from a turn to that of another lane which finds what it left.</desc>
+";
+
+/// The style and the head of an arrow. The colours are those of Okabe and Ito, which people with any form of
 /// colour blindness tell apart.
-const STYLE: &str = "</title>
-<style>
+const STYLE: &str = "<style>
 text { font: 12px ui-monospace, SFMono-Regular, Menlo, Consolas, 'DejaVu Sans Mono', monospace; fill: #1f2328 }
 .title { font-size: 15px; font-weight: bold } .head { font-weight: bold }
 .faint { fill: #57606a } .reply { fill: #0072B2 } .fail { fill: #b34700; font-weight: bold }
@@ -78,6 +83,10 @@ pub(crate) fn push_head(extent: &Extent, out: &mut Page) {
         &[width, height, width, height],
     );
     push_turns(extent, out);
+    out.text("</title>\n");
+    if extent.fit {
+        out.text(DESCRIPTION);
+    }
     out.text(STYLE);
     out.fill(
         "<rect class=\"page\" x=\"0\" y=\"0\" width=\"%\" height=\"%\"/>\n<text class=\"title\" x=\"16\" y=\"24\">",
@@ -85,6 +94,22 @@ pub(crate) fn push_head(extent: &Extent, out: &mut Page) {
     );
     push_turns(extent, out);
     out.text(LEGEND);
+}
+
+/// Appends below the turns of a picture that is to fit which they are, and where the next ones are.
+pub(crate) fn push_foot(extent: &Extent, y: u64, out: &mut Page) {
+    if !extent.fit {
+        return;
+    }
+    out.fill(
+        "<text class=\"title\" x=\"16\" y=\"%\">",
+        &[y.saturating_add(22)],
+    );
+    push_turns(extent, out);
+    if extent.end < extent.count {
+        out.fill("; the next: --from %", &[extent.end as u64]);
+    }
+    out.text(END);
 }
 
 /// Appends the name over a lane's column, and a line down the column.

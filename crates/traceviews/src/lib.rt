@@ -3,9 +3,12 @@
 //! - The text: `reader`, line by line, each a step (`steps`) or a reply (`replies`) of a lane, as `line` has it; its `fields`; why
 //!   it is none, `fault`.
 //! - The lines with their words decoded: `words`; a state and a step's name as text: `decoded`.
-//! - The summary: `counts`, `ends` and `summary`; which lanes and places there are: `found`, over the sorted `numbers`.
-//! - The picture: `rows` puts lines together to turns, `picture` draws them; `strips` draws places, `arrows` who finds what another
+//! - The turns: `turns` puts lines together to turns.
+//! - The summary: `counts`, `ends` and `summary`; which lanes and places there are: `found`.
+//! - The picture: `rows` has its turns, `picture` draws them; `numbers` finds a lane or place among sorted ones; `strips` draws places, `arrows` who finds what another
 //!   left, `boxes` a turn, `head` the title and the legend, `shapes` the elements of SVG.
+//! - For other tools: `json`, the turns as JSON, and `events`, in the trace-event form. The HTML page: `html`, with what is the same
+//!   for each in `template`.
 //! - What they write to: `page`, a text that remembers a refusal of memory; it has words and places as text.
 #![tactic(auto)]
 
@@ -14,10 +17,13 @@ mod boxes;
 mod counts;
 mod decoded;
 mod ends;
+mod events;
 mod fault;
 mod fields;
 mod found;
 mod head;
+mod html;
+mod json;
 mod line;
 mod numbers;
 mod page;
@@ -29,14 +35,18 @@ mod shapes;
 mod steps;
 mod strips;
 mod summary;
+mod template;
+mod turns;
 mod words;
 
 pub use counts::{failed_steps, is_unfinished, longest_call, replies_of, steps_of};
-pub use ends::{last_word, places_in};
+pub use events::events_text;
 pub use fault::{ReadFault, Wanted};
+pub use html::html_text;
+pub use json::turns_json;
 pub use line::{Entry, Line, NamedStep, StepName};
 pub use picture::{Window, picture_text};
 pub use reader::read_trace;
-pub use rows::turn_count;
 pub use summary::summary_text;
-pub use words::words_text;
+pub use turns::turn_count;
+pub use words::{WordStyle, words_text};

@@ -1,13 +1,14 @@
 //! A text that grows, of which a refusal of memory is told at the end.
 
 ghost use Rattle.std.specs.Prelude.{◌≡◌, ◌++◌, ◌||◌, [], false, IfOk, codes, decimal, is_err};
+ghost use Rattle.seqpool.specs.ActsText.{hex};
 ghost use Rattle.traces.specs.Text.{reply_line};
 ghost use Rattle.traceviews.specs.Decoded.{aim_text, counts_text, life_text, link_text, place_text, value_text};
 
 use crate::decoded::{state_name, state_of};
 use itoa::Buffer;
 use keybits::{Life, Word};
-use seqpool::cut;
+use seqpool::{cut, hex_pair};
 use std::alloc::{AllocError, Global};
 use traces::{Reply, write_reply_line};
 
@@ -160,6 +161,15 @@ impl Page {
     {
         let done = write_reply_line(lane, reply, &mut self.bytes);
         self.note(done);
+    }
+
+    /// Appends bytes as pairs of hexadecimal digits.
+    pub(crate) fn hex(&mut self, bytes: &[u8])
+        ensures { self.new.refused ≡ false → (self.old.refused ≡ false) × (self.new.bytes.items ≡ self.old.bytes.items ++ hex bytes.now) }
+    {
+        for byte in bytes {
+            self.bytes(&hex_pair(*byte));
+        }
     }
 
     /// Appends another text.

@@ -4,17 +4,18 @@ ghost use Rattle.std.specs.Prelude.{IfOk};
 ghost use Rattle.traceviews.specs.Pictures.{IsPicture};
 
 use crate::arrows::{Writer, Writers, push_arrow};
-use crate::boxes::{BOX, Columns, LINE, height_of, push_box};
+use crate::boxes::{BOX, Columns, Content, LINE, height_of, push_box};
 use crate::found::{lanes_of, places_of};
-use crate::head::{Extent, TOP, push_head, push_lane, push_strip_name};
+use crate::head::{Extent, TOP, push_foot, push_head, push_lane, push_strip_name};
 use crate::line::{Entry, Line, NamedStep};
 use crate::numbers::position_of;
 use crate::page::Page;
 use crate::rows::{Row, rows_of};
 use crate::shapes::Area;
-use crate::strips::Strips;
+use crate::strips::{STRIP, Strips};
 use keybits::Word;
 use std::alloc::{AllocError, Global};
+use std::collections::BTreeSet;
 
 /// Which turns a picture shows, counted from 0.
 #[derive(Clone, Copy)]
@@ -23,6 +24,8 @@ pub struct Window {
     pub first: usize,
     /// How many turns at most.
     pub count: usize,
+    /// Whether the picture ends before 32767 pixels and says where, names the command of each reply, and has arrows in front.
+    pub fit: bool,
 }
 
 /// How far turns are from each other.
@@ -30,6 +33,12 @@ const GAP: u64 = 12;
 
 /// How wide a picture is at least: its legend has room.
 const LEAST_WIDTH: u64 = 460;
+
+/// How wide and high a picture may be that is to fit.
+const GREATEST: u64 = 32_767;
+
+/// How much room is left below the last turn of a picture that is to fit.
+const FOOT: u64 = 64;
 
 /// The step among the lines of a turn.
 fn step_of(lines: &[Line]) -> Option<&NamedStep> {
@@ -41,8 +50,8 @@ fn step_of(lines: &[Line]) -> Option<&NamedStep> {
     None
 }
 
-/// The rows that a window shows.
-fn shown<'a>(rows: &'a [Row], window: &Window) -> &'a [Row] {
+/// The rows that a window asks for.
+fn asked<'a>(rows: &'a [Row], window: &Window) -> &'a [Row] {
     let first = window.first.min(rows.len());
     let count = window.count.min(rows.len() - first);
     &rows[first..first + count]
@@ -70,6 +79,59 @@ fn lines_of_all<'a>(lines: &'a [Line], rows: &[Row]) -> &'a [Line] {
     lines_between(lines, rows[0].first, rows[rows.len() - 1].end)
 }
 
+/// The first rows that have room in a picture, beside and below each other. The lanes have columns up to `left`.
+fn fitting<'a>(
+    alloc: Global,
+    lines: &[Line],
+    rows: &'a [Row],
+    left: u64,
+) -> Result<&'a [Row], AllocError> {
+    let mut places = BTreeSet::new(alloc);
+    let mut width = left.saturating_add(FOOT);
+    let mut height = TOP + FOOT;
+    for (at, row) in rows.iter().enumerate() {
+        height = height.saturating_add(height_with_gap(row));
+        if is_new_place(lines_of(lines, row), &mut places)? {
+            width = width.saturating_add(STRIP);
+        }
+        if height > GREATEST || width > GREATEST {
+            return Ok(&rows[..at]);
+        }
+    }
+    Ok(rows)
+}
+
+/// How high a turn is, with the room below it.
+fn height_with_gap(row: &Row) -> u64 {
+    height_of(row.end.saturating_sub(row.first), row.has_step).saturating_add(GAP)
+}
+
+/// Whether the step of a turn is on the lifecycle word of a place that isn't among these; it is then put among them.
+fn is_new_place(lines: &[Line], places: &mut BTreeSet<u32>) -> Result<bool, AllocError> {
+    let Some(step) = step_of(lines) else {
+        return Ok(false);
+    };
+    match step.word {
+        Word::Life { place } => Ok(places.insert(place)?),
+        Word::Link { .. } | Word::Stack { .. } => Ok(false),
+    }
+}
+
+/// The rows that are drawn.
+fn shown<'a>(
+    alloc: Global,
+    lines: &[Line],
+    rows: &'a [Row],
+    window: &Window,
+) -> Result<&'a [Row], AllocError> {
+    let rows_asked = asked(rows, window);
+    if !window.fit {
+        return Ok(rows_asked);
+    }
+    let lanes = lanes_of(alloc, lines)?;
+    fitting(alloc, lines, rows_asked, Columns::new(lanes.len()).end())
+}
+
 /// What is drawn, in three layers, and where the next turn is drawn.
 #[derive(Drop)]
 struct Canvas {
@@ -81,6 +143,7 @@ struct Canvas {
     arrows: Page,
     boxes: Page,
     y: u64,
+    fit: bool,
 }
 
 /// Notes who left what words have when the first turn is drawn. Where memory is refused for it, the arrows aren't whole.
@@ -166,15 +229,20 @@ fn draw_row(number: usize, lines: &[Line], row: &Row, canvas: &mut Canvas) {
     if let Some(step) = step {
         draw_step(step, turn, canvas);
     }
-    push_box(&turn, row.lane, lines, step, &area, &mut canvas.boxes);
+    let content = Content {
+        lane: row.lane,
+        lines,
+        step,
+        named: canvas.fit,
+    };
+    push_box(&turn, &content, &area, &mut canvas.boxes);
     canvas.y = turn.bottom.saturating_add(GAP);
 }
 
-/// Draws the turns that a window shows.
-fn draw(lines: &[Line], rows: &[Row], window: &Window, canvas: &mut Canvas) {
-    let first = window.first.min(rows.len());
-    let shown_rows = shown(rows, window);
-    note_earlier(lines, &rows[..first], canvas);
+/// Draws some turns, before which there are others.
+fn draw(lines: &[Line], earlier: &[Row], shown_rows: &[Row], canvas: &mut Canvas) {
+    let first = earlier.len();
+    note_earlier(lines, earlier, canvas);
     begin_strips(lines, shown_rows, &mut canvas.strips);
     for (index, row) in shown_rows.iter().enumerate() {
         draw_row(first.saturating_add(index), lines, row, canvas);
@@ -201,8 +269,13 @@ fn push_layers(canvas: &Canvas, out: &mut Page) {
     push_strip_names(&canvas.strips, out);
     out.page(&canvas.below);
     canvas.strips.end(canvas.y, out);
-    out.page(&canvas.arrows);
-    out.page(&canvas.boxes);
+    if canvas.fit {
+        out.page(&canvas.boxes);
+        out.page(&canvas.arrows);
+    } else {
+        out.page(&canvas.arrows);
+        out.page(&canvas.boxes);
+    }
 }
 
 /// An empty canvas for some turns.
@@ -210,10 +283,10 @@ fn canvas_for(
     alloc: Global,
     lines: &[Line],
     rows: &[Row],
-    window: &Window,
+    fit: bool,
 ) -> Result<Canvas, AllocError> {
     let lanes = lanes_of(alloc, lines)?;
-    let places = places_of(alloc, lines_of_all(lines, shown(rows, window)))?;
+    let places = places_of(alloc, lines_of_all(lines, rows))?;
     let columns = Columns::new(lanes.len());
     let strips = Strips::new(alloc, places, columns.end(), TOP)?;
     Ok(Canvas {
@@ -225,6 +298,7 @@ fn canvas_for(
         arrows: Page::new(alloc),
         boxes: Page::new(alloc),
         y: TOP,
+        fit,
     })
 }
 
@@ -238,7 +312,8 @@ fn extent_of(canvas: &Canvas, first: usize, drawn: usize, count: usize) -> Exten
         end: first.saturating_add(drawn),
         count,
         width: width.max(LEAST_WIDTH),
-        height: canvas.y.saturating_add(16),
+        height: canvas.y.saturating_add(if canvas.fit { 40 } else { 16 }),
+        fit: canvas.fit,
     }
 }
 
@@ -246,18 +321,21 @@ fn extent_of(canvas: &Canvas, first: usize, drawn: usize, count: usize) -> Exten
 fn drawing_of(alloc: Global, lines: &[Line], window: &Window) -> Result<Page, AllocError> {
     let rows = rows_of(alloc, lines)?;
     let rows = rows.as_slice();
-    let mut canvas = canvas_for(alloc, lines, rows, window)?;
-    draw(lines, rows, window, &mut canvas);
+    let drawn = shown(alloc, lines, rows, window)?;
     let first = window.first.min(rows.len());
-    let extent = extent_of(&canvas, first, shown(rows, window).len(), rows.len());
+    let mut canvas = canvas_for(alloc, lines, drawn, window.fit)?;
+    draw(lines, &rows[..first], drawn, &mut canvas);
+    let extent = extent_of(&canvas, first, drawn.len(), rows.len());
     let mut out = Page::new(alloc);
     push_head(&extent, &mut out);
     push_layers(&canvas, &mut out);
+    push_foot(&extent, canvas.y, &mut out);
     Ok(out)
 }
 
 /// The picture of some turns of a trace, as an SVG: each lane a column, each turn a row with its replies and its step, and beside
-/// them a strip for each place that these turns step on. A window past the end shows no turn.
+/// them a strip for each place that these turns step on. A window past the end shows no turn; one that is to fit shows no more
+/// than have room.
 ///
 /// # Errors
 ///

@@ -1,6 +1,7 @@
-//! The turns of a trace, by its lines.
+//! The turns of a picture, each by the indexes of its lines.
 
-use crate::line::{Entry, Line};
+use crate::line::Line;
+use crate::turns::{is_step, split_turn};
 use std::alloc::{AllocError, Global};
 
 /// A turn of a lane: its lines, from the first up to `end`, with its step among them.
@@ -12,63 +13,26 @@ pub(crate) struct Row {
     pub(crate) has_step: bool,
 }
 
-/// Whether a line is a step's.
-fn is_step(line: &Line) -> bool {
-    match &line.entry {
-        Entry::Step(_) => true,
-        Entry::Reply(_) => false,
-    }
-}
-
-/// The turn that begins with the line at this index.
-fn begun(line: &Line, at: usize) -> Row {
+/// The turn with these lines, the first of which has this index.
+fn row_of(turn: &[Line], first: usize) -> Row {
     Row {
-        lane: line.lane,
-        first: at,
-        end: at.saturating_add(1),
-        has_step: is_step(line),
+        lane: turn.first().map_or(0, |line| line.lane),
+        first,
+        end: first.saturating_add(turn.len()),
+        has_step: turn.iter().any(is_step),
     }
-}
-
-/// The turn with the line at this index more; none where the line is of another turn: another lane's, or a second step.
-fn joined(row: Row, line: &Line, at: usize) -> Option<Row> {
-    let step = is_step(line);
-    if row.lane != line.lane || step && row.has_step {
-        return None;
-    }
-    Some(Row {
-        lane: row.lane,
-        first: row.first,
-        end: at.saturating_add(1),
-        has_step: step || row.has_step,
-    })
-}
-
-/// Puts the line at this index to the last turn, or appends one that it begins.
-fn add_line(rows: &mut Vec<Row>, line: &Line, at: usize) -> Result<(), AllocError> {
-    let count = rows.len();
-    if count > 0 {
-        if let Some(longer) = joined(rows[count - 1], line, at) {
-            rows[count - 1] = longer;
-            return Ok(());
-        }
-    }
-    rows.push(begun(line, at))?;
-    Ok(())
 }
 
 /// The turns of some lines.
 pub(crate) fn rows_of(alloc: Global, lines: &[Line]) -> Result<Vec<Row>, AllocError> {
     let mut rows = Vec::new(alloc);
-    for (at, line) in lines.iter().enumerate() {
-        add_line(&mut rows, line, at)?;
+    let mut first = 0;
+    let mut rest = lines;
+    while let Some((turn, behind)) = split_turn(rest) {
+        let row = row_of(turn, first);
+        first = row.end;
+        rows.push(row)?;
+        rest = behind;
     }
     Ok(rows)
-}
-
-/// How many turns the lines of a trace have: a step with the replies of its lane before and behind it is one, and so are the
-/// replies of a lane that makes no step.
-pub fn turn_count(alloc: Global, lines: &[Line]) -> Result<usize, AllocError> {
-    let rows = rows_of(alloc, lines)?;
-    Ok(rows.len())
 }

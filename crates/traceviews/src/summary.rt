@@ -2,15 +2,15 @@
 
 ghost use Rattle.std.specs.Prelude.{◌≡◌, ◌++◌, IfOk, codes, flat_map};
 ghost use Rattle.traceviews.specs.Pages.{Grows};
-ghost use Rattle.traceviews.specs.Summaries.{step_names, steps_text, unfinished_text, lane_text, state_names, state_count_text, states_text, place_end_text, IsSummary};
+ghost use Rattle.traceviews.specs.Summaries.{step_names, steps_text, unfinished_text, lane_text, counts_line, state_names, state_count_text, states_text, place_end_text, IsSummary};
 
 use crate::counts::{failed_steps, is_unfinished, longest_call, replies_of, steps_of};
 use crate::decoded::{state_name, step_name};
-use crate::ends::{last_word, places_in};
-use crate::found::{lanes_of, places_of};
+use crate::ends::{ends_in, ends_of};
+use crate::found::lanes_of;
 use crate::line::{Line, StepName};
 use crate::page::Page;
-use crate::rows::turn_count;
+use crate::turns::turn_count;
 use keybits::State;
 use std::alloc::{AllocError, Global};
 
@@ -89,24 +89,22 @@ fn push_lanes(lines: &[Line], lanes: &[u32], out: &mut Page)
 }
 
 /// Appends the line of a place: what it is at the end.
-fn push_place(lines: &[Line], place: u32, out: &mut Page)
-    ensures { Grows out.old out.new (place_end_text lines.now place) }
+fn push_place(place: u32, word: u64, out: &mut Page)
+    ensures { Grows out.old out.new (place_end_text (place, word)) }
 {
-    if let Some(word) = last_word(lines, place) {
-        out.text("place ");
-        out.place(place);
-        out.text(" ");
-        out.life(word);
-        out.text("\n");
-    }
+    out.text("place ");
+    out.place(place);
+    out.text(" ");
+    out.life(word);
+    out.text("\n");
 }
 
 /// Appends a line for each place: what it is at the end.
-fn push_places(lines: &[Line], places: &[u32], out: &mut Page)
-    ensures { Grows out.old out.new (flat_map (place_end_text lines.now) places.now) }
+fn push_places(ends: &[(u32, u64)], out: &mut Page)
+    ensures { Grows out.old out.new (flat_map place_end_text ends.now) }
 {
-    for place in places {
-        push_place(lines, *place, out);
+    for (place, word) in ends {
+        push_place(*place, *word, out);
     }
 }
 
@@ -121,29 +119,38 @@ fn states() -> &'static [State]
 }
 
 /// Appends how many places are in a state at the end.
-fn push_state_count(lines: &[Line], places: &[u32], state: State, out: &mut Page)
-    ensures { Grows out.old out.new (state_count_text lines.now places.now state) }
+fn push_state_count(ends: &[(u32, u64)], state: State, out: &mut Page)
+    ensures { Grows out.old out.new (state_count_text ends.now state) }
 {
     out.text(" ");
     out.text(state_name(state));
-    out.named(" ", places_in(lines, places, state) as u64);
+    out.named(" ", ends_in(ends, state) as u64);
 }
 
 /// Appends how many places are in each of these states at the end.
-fn push_state_counts(lines: &[Line], places: &[u32], states: &[State], out: &mut Page)
-    ensures { Grows out.old out.new (flat_map (state_count_text lines.now places.now) states.now) }
+fn push_state_counts(ends: &[(u32, u64)], states: &[State], out: &mut Page)
+    ensures { Grows out.old out.new (flat_map (state_count_text ends.now) states.now) }
 {
     for state in states {
-        push_state_count(lines, places, *state, out);
+        push_state_count(ends, *state, out);
     }
 }
 
 /// Appends how many places are in each state at the end.
-fn push_states(lines: &[Line], places: &[u32], out: &mut Page)
-    ensures { Grows out.old out.new (states_text lines.now places.now) }
+fn push_states(ends: &[(u32, u64)], out: &mut Page)
+    ensures { Grows out.old out.new (states_text ends.now) }
 {
     out.text("places");
-    push_state_counts(lines, places, states(), out);
+    push_state_counts(ends, states(), out);
+    out.text("\n");
+}
+
+/// Appends how many turns and lines there are, in a line.
+fn push_counts(lines: &[Line], out: &mut Page)
+    ensures { Grows out.old out.new (counts_line lines.now) }
+{
+    out.named("turns ", turn_count(lines) as u64);
+    out.named(" lines ", lines.len() as u64);
     out.text("\n");
 }
 
@@ -157,15 +164,12 @@ fn push_states(lines: &[Line], places: &[u32], out: &mut Page)
 pub fn summary_text(alloc: Global, lines: &[Line]) -> Result<Vec<u8>, AllocError>
     ensures { IfOk result (λ text. IsSummary lines.now text.items) }
 {
-    let turns = turn_count(alloc, lines)?;
     let lanes = lanes_of(alloc, lines)?;
-    let places = places_of(alloc, lines)?;
+    let ends = ends_of(alloc, lines)?;
     let mut out = Page::new(alloc);
-    out.named("turns ", turns as u64);
-    out.named(" lines ", lines.len() as u64);
-    out.text("\n");
+    push_counts(lines, &mut out);
     push_lanes(lines, lanes.as_slice(), &mut out);
-    push_states(lines, places.as_slice(), &mut out);
-    push_places(lines, places.as_slice(), &mut out);
+    push_states(ends.as_slice(), &mut out);
+    push_places(ends.as_slice(), &mut out);
     out.finish()
 }

@@ -5,4 +5,4 @@ use Rattle.traceviews.specs.Summaries.{place_end_text}
 use Rattle.traceviews.proofs.summary.push_places.Given as goal
 
 abbrev pub invariant-loop-place : goal.invariant-loop-place
-invariant-loop-place l = Grows l.fn.out l.out (flat_map (place_end_text l.lines) (take l.place-index l.places))
+invariant-loop-place l = Grows l.fn.out l.out (flat_map place_end_text (take l.place-index l.ends))

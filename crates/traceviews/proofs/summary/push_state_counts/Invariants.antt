@@ -5,4 +5,4 @@ use Rattle.traceviews.specs.Summaries.{state_count_text}
 use Rattle.traceviews.proofs.summary.push_state_counts.Given as goal
 
 abbrev pub invariant-loop-state : goal.invariant-loop-state
-invariant-loop-state l = Grows l.fn.out l.out (flat_map (state_count_text l.lines l.places) (take l.state-index l.states))
+invariant-loop-state l = Grows l.fn.out l.out (flat_map (state_count_text l.ends) (take l.state-index l.states))

@@ -1,0 +1,8 @@
+use Rattle.std.proofs.Common.{take}
+use Rattle.std.specs.List.{flat_map}
+use Rattle.traceviews.specs.Pages.{Grows}
+use Rattle.traceviews.specs.Styles.{numbered_words}
+use Rattle.traceviews.proofs.words.push_numbered_turn.Given as goal
+
+abbrev pub invariant-loop-line : goal.invariant-loop-line
+invariant-loop-line l = Grows l.fn.out l.out (flat_map (numbered_words l.style.keys l.number) (take l.line-index l.turn))

@@ -1,0 +1,17 @@
+use Rattle.std.proofs.Common.{◌+◌, ◌≤◌, length}
+use Rattle.traceviews.specs.Numbered.{numbered}
+use Rattle.traceviews.specs.Pages.{Grows}
+use Rattle.traceviews.specs.Turns.{turns_of}
+use Rattle.traceviews.specs.declared.page.Page.{Page}
+use Rattle.traceviews.specs.Styles.{turn_words}
+use Rattle.traceviews.proofs.words.push_numbered_turns.Given as goal
+
+-- whatever comes of the rest comes behind what is there
+abbrev pub invariant-loop-turn : goal.invariant-loop-turn
+invariant-loop-turn l = record {
+  few : l.number + length l.rest ≤ length l.fn.lines;
+  grows : (new : Page) → Grows l.out new (numbered (turn_words l.style.keys) l.number (turns_of l.rest)) → Grows l.fn.out new (numbered (turn_words l.style.keys) 0 (turns_of l.fn.lines));
+}
+
+abbrev pub decreases-loop-turn : goal.decreases-loop-turn
+decreases-loop-turn l = length l.rest
