@@ -1,3 +1,4 @@
 pub mod LineLemmas
 pub mod HexLemmas
 pub mod WrongLemmas
+mod MistakeLemmas

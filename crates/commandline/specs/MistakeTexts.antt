@@ -1,5 +1,7 @@
 -- What is said of a mistake in the words.
-use Rattle.std.specs.Prelude.{ℕ, Bool, true, false, List, ◌++◌, codes, string_bytes}
+use Rattle.std.specs.Prelude.{ℕ, ◌+◌, Bool, true, false, List, [], ◌++◌, Option, Some, None, decimal, codes, string_bytes}
+use Rattle.schedules.specs.Schedules.{bad_entry}
+use Rattle.streams.specs.Shown.{bytes_text, cut}
 use Rattle.commandline.specs.declared.mistakes.Mistake.{Mistake}
 use Rattle.commandline.specs.declared.mistakes.Reason.{Reason}
 use Rattle.commandline.specs.declared.mistakes.Reason.TheVariants.{NoTurns, SeedAlone, TurnsAlone, ScheduleAndMore, BadSchedule, BadSeed, BadTurns, BadStop, BadNumber, BadHexadecimal, BadFrom, BadCount, NoText, Missing}
@@ -38,9 +40,23 @@ after_of BadCount = codes "\" is no number of turns: one to twenty decimal digit
 after_of NoText = codes ": words are texts in UTF-8"
 after_of Missing = codes ": --help says which words there are"
 
+-- which entry of a schedule is none, counted from 1
+abbrev pub entry_told : Option (ℕ × List ℕ) → List ℕ
+entry_told None = []
+entry_told (Some (before, entry)) = codes "; entry " ++ decimal (before + 1) ++ codes " is \"" ++ cut entry ++ codes "\""
+
+-- where in the text that the reason is about the mistake stands: of a schedule the entry
+abbrev pub where_of : Reason → List ℕ → List ℕ
+where_of BadSchedule found = entry_told (bad_entry found)
+where_of reason found = []
+
+-- what is told of a mistake; the text that was found is cut where it is long
+abbrev pub mistake_told : Mistake → List ℕ
+mistake_told mistake = before_of mistake.reason ++ cut (string_bytes mistake.found) ++ after_of mistake.reason ++ where_of mistake.reason (string_bytes mistake.found)
+
 -- the line that explains a mistake
 abbrev pub mistake_text : Mistake → List ℕ
-mistake_text mistake = before_of mistake.reason ++ string_bytes mistake.found ++ after_of mistake.reason ++ codes "\n"
+mistake_text mistake = bytes_text (mistake_told mistake) ++ codes "\n"
 
 -- what is said of a mistake: that the words are wrong, and where that is wanted the line that explains it
 abbrev pub words_text : Bool → Mistake → List ℕ

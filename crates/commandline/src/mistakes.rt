@@ -1,10 +1,14 @@
 //! Why words that `clap` took are still no task.
-ghost use Rattle.std.specs.Prelude.{◌≡◌};
+ghost use Rattle.std.specs.Prelude.{◌≡◌, string_bytes};
+ghost use Rattle.schedules.specs.Schedules.{bad_entry};
 ghost use Rattle.streams.specs.Saying.{Says};
-ghost use Rattle.commandline.specs.MistakeTexts.{before_of, after_of, mistake_text};
+ghost use Rattle.streams.specs.Shown.{IsSafeLine, bytes_text};
+ghost use Rattle.commandline.specs.MistakeTexts.{before_of, after_of, entry_told, where_of, mistake_text};
 
+use itoa::Buffer;
+use schedules::bad_entry;
 use std::io::Write;
-use streams::{Watched, write_text};
+use streams::{Watched, write_bytes, write_cut, write_text};
 
 /// Why the words are no task.
 #[derive(Clone, Copy, Debug)]
@@ -101,13 +105,41 @@ fn after(reason: Reason) -> &'static str
     }
 }
 
-/// Writes the line that explains a mistake: the option, the text that was found and what is wanted.
-/// Nothing is allocated.
-pub fn write_mistake<W: Write>(mistake: &Mistake, out: &mut Watched<W>)
-    ensures { Says W.contents out.old out.new (mistake_text mistake.now) }
+/// Writes which entry of a schedule is none, where one is.
+fn write_entry<W: Write>(schedule: &[u8], out: &mut Watched<W>)
+    ensures { Says W.contents out.old out.new (bytes_text (entry_told (bad_entry schedule.now))) }
 {
-    write_text(before(mistake.reason).as_bytes(), out);
-    write_text(mistake.found.as_bytes(), out);
-    write_text(after(mistake.reason).as_bytes(), out);
+    let Some((before, entry)) = bad_entry(schedule) else {
+        return;
+    };
+    let number = before as u128 + 1;
+    write_bytes(b"; entry ", out);
+    write_bytes(Buffer::new().format(number).as_bytes(), out);
+    write_bytes(b" is \"", out);
+    write_cut(entry, out);
+    write_bytes(b"\"", out);
+}
+
+/// Writes where in the text that a reason is about the mistake stands: of a schedule the entry.
+fn write_where<W: Write>(mistake: &Mistake, out: &mut Watched<W>)
+    ensures { Says W.contents out.old out.new (bytes_text (where_of mistake.now.reason (string_bytes mistake.now.found))) }
+{
+    match mistake.reason {
+        Reason::BadSchedule => write_entry(mistake.found.as_bytes(), out),
+        _ => {}
+    }
+}
+
+/// Writes the line that explains a mistake: the option, the text that was found and what is wanted, and of a schedule which entry
+/// is none. Bytes of the text that are no printable characters of ASCII are shown by their numbers, and of more than 80 the first
+/// 60. Nothing is allocated.
+pub fn write_mistake<W: Write>(mistake: &Mistake, out: &mut Watched<W>)
+    ensures says { Says W.contents out.old out.new (mistake_text mistake.now) }
+    ensures safe { IsSafeLine (mistake_text mistake.now) }
+{
+    write_bytes(before(mistake.reason).as_bytes(), out);
+    write_cut(mistake.found.as_bytes(), out);
+    write_bytes(after(mistake.reason).as_bytes(), out);
+    write_where(mistake, out);
     write_text(b"\n", out);
 }

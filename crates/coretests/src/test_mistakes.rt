@@ -263,13 +263,17 @@ replay|a.json|--schedule|0,0,1|--seed|3|--turns|4 => --schedule 0,0,1 stands bes
 replay|a.json|--schedule|0|--turns|4 => --schedule 0 stands beside --seed or --turns: give --schedule alone, or --seed and --turns
 replay|a.json|--seed|3 => --seed 3 needs --turns
 replay|a.json|--turns|3 => --turns 3 needs --seed
-replay|a.json|--schedule|0, 1, 2 => --schedule \"0, 1, 2\" is no schedule: numbers of one to three digits, at most 255, with single commas between them
-replay|a.json|--schedule|0,256 => --schedule \"0,256\" is no schedule: numbers of one to three digits, at most 255, with single commas between them
-replay|a.json|--schedule| => --schedule \"\" is no schedule: numbers of one to three digits, at most 255, with single commas between them
+replay|a.json|--schedule|0, 1, 2 => --schedule \"0, 1, 2\" is no schedule: numbers of one to three digits, at most 255, with single commas between them; entry 2 is \" 1\"
+replay|a.json|--schedule|0,256 => --schedule \"0,256\" is no schedule: numbers of one to three digits, at most 255, with single commas between them; entry 2 is \"256\"
+replay|a.json|--schedule| => --schedule \"\" is no schedule: numbers of one to three digits, at most 255, with single commas between them; entry 1 is \"\"
 replay|a.json|--seed|x|--turns|2000000 => --seed \"x\" is no seed: one to twenty decimal digits, at most 18446744073709551615
 replay|a.json|--seed|1|--turns|2000000 => --turns \"2000000\" is no number of turns: one to twenty decimal digits, at most 1000000
 replay|a.json|--schedule|0,0,1|--stop|1-2 => --stop \"1-2\" is no stop: a lane, a colon and a number of turns, each of one to twenty decimal digits and at most 4294967295
-replay|a.json|--schedule|0,,1|--stop|1-2 => --schedule \"0,,1\" is no schedule: numbers of one to three digits, at most 255, with single commas between them
+replay|a.json|--schedule|0,,1|--stop|1-2 => --schedule \"0,,1\" is no schedule: numbers of one to three digits, at most 255, with single commas between them; entry 2 is \"\"
+replay|a.json|--schedule|0,1,\u{1b}[31m => --schedule \"0,1,<27>[31m\" is no schedule: numbers of one to three digits, at most 255, with single commas between them; entry 3 is \"<27>[31m\"
+replay|a.json|--seed|\u{202e}7\u{85}|--turns|1 => --seed \"<226><128><174>7<194><133>\" is no seed: one to twenty decimal digits, at most 18446744073709551615
+replay|a.json|--seed|12345678901234567890123456789012345678901234567890123456789012345678901234567890 => --seed 12345678901234567890123456789012345678901234567890123456789012345678901234567890 needs --turns
+replay|a.json|--seed|123456789012345678901234567890123456789012345678901234567890123456789012345678901 => --seed 123456789012345678901234567890123456789012345678901234567890.. needs --turns
 key|0x1000000 => N \"0x1000000\" is no number: one to twenty decimal digits, at most 18446744073709551615; with --hex hexadecimal digits
 key|--hex|0x => N \"0x\" is no hexadecimal number: one to sixteen hexadecimal digits, with or without 0x before them
 key|--word|--hex|12345678901234567 => N \"12345678901234567\" is no hexadecimal number: one to sixteen hexadecimal digits, with or without 0x before them";
@@ -387,6 +391,20 @@ fn explains_words(rt: HostRuntime) {
         let (words, why) = row.split_once(" => ").expect(&rt, "a row");
         mistakes(&rt, words, why);
     }
+}
+
+// Of a schedule of 50000 entries the one is named that is none.
+#[test]
+fn names_an_entry_of_a_long_schedule(rt: HostRuntime) {
+    let words = around(&rt, "replay|a.json|--schedule|", "0,", 49_999, "256");
+    let why = around(
+        &rt,
+        "--schedule \"",
+        "0,",
+        30,
+        "..\" is no schedule: numbers of one to three digits, at most 255, with single commas between them; entry 50000 is \"256\"",
+    );
+    mistakes(&rt, words.as_str(), why.as_str());
 }
 
 /// `clap` refuses these words.

@@ -10,6 +10,6 @@ mod stop;
 
 pub use fault::Memory;
 pub use number::{read_digit, read_number};
-pub use schedule::{read_schedule, read_stop};
+pub use schedule::{bad_entry, read_schedule, read_stop};
 pub use seeds::draw;
 pub use stop::stop_after;

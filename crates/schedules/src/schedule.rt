@@ -1,5 +1,5 @@
 ghost use Rattle.std.specs.Prelude.{◌≡◌, IfOk, option_map};
-ghost use Rattle.schedules.specs.Schedules.{entry_of, schedule_of, stop_of};
+ghost use Rattle.schedules.specs.Schedules.{entry_of, bad_entry, schedule_of, stop_of};
 
 use crate::cut::cut;
 use crate::number::read_number;
@@ -33,6 +33,26 @@ pub fn read_schedule(alloc: Global, text: &[u8]) -> Result<Option<Vec<u32>>, All
     };
     entries.push(entry)?;
     Ok(Some(entries))
+}
+
+/// The first part of a text, between commas, that is no entry of a schedule, and how many parts stand before it; none where all
+/// are entries.
+pub fn bad_entry(text: &[u8]) -> Option<(usize, &[u8])>
+    ensures { option_map (λ bad. (bad.0, bad.1.now)) result ≡ bad_entry text.now }
+{
+    let mut before = 0;
+    let mut rest = text;
+    while let Some((front, after)) = cut(rest, b',') {
+        if read_entry(front).is_none() {
+            return Some((before, front));
+        }
+        before += 1;
+        rest = after;
+    }
+    if read_entry(rest).is_none() {
+        return Some((before, rest));
+    }
+    None
 }
 
 /// The stop that a text stands for: the number of a lane, a colon, and how many of the lane's entries

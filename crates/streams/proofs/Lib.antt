@@ -1,2 +1,3 @@
 mod Pieces
 pub mod Sayings
+pub mod SafeLines

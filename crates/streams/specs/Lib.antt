@@ -1,2 +1,3 @@
 pub mod Watching
 pub mod Saying
+pub mod Shown

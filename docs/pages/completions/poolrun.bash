@@ -1,0 +1,39 @@
+# Made from crates/commandline/src/run_lines.rt by docs/pages/make.py: change that file, not this one.
+_poolrun() {
+    local word=${COMP_WORDS[COMP_CWORD]} before=${COMP_WORDS[COMP_CWORD-1]}
+    COMPREPLY=()
+    if [ "$COMP_CWORD" -eq 1 ]; then
+        mapfile -t COMPREPLY < <(compgen -W 'replay check run key --help --version' -- "$word")
+        return
+    fi
+    case ${COMP_WORDS[1]} in
+    replay)
+        case $before in --schedule | --seed | --turns | --stop) return ;; esac
+        if [[ $word == -* ]]; then
+            mapfile -t COMPREPLY < <(compgen -W '--schedule --seed --turns --stop --acts --explain --help' -- "$word")
+        else
+            mapfile -t COMPREPLY < <(compgen -f -- "$word")
+        fi
+        ;;
+    check)
+        if [[ $word == -* ]]; then
+            mapfile -t COMPREPLY < <(compgen -W '--explain --help' -- "$word")
+        else
+            mapfile -t COMPREPLY < <(compgen -f -- "$word")
+        fi
+        ;;
+    run)
+        if [[ $word == -* ]]; then
+            mapfile -t COMPREPLY < <(compgen -W '--explain --help' -- "$word")
+        else
+            mapfile -t COMPREPLY < <(compgen -f -- "$word")
+        fi
+        ;;
+    key)
+        if [[ $word == -* ]]; then
+            mapfile -t COMPREPLY < <(compgen -W '--hex --word --explain --help' -- "$word")
+        fi
+        ;;
+    esac
+}
+complete -o filenames -F _poolrun poolrun
