@@ -41,8 +41,8 @@ pub struct Census {
     pub retired: u32,
 }
 
-/// What a place is when its pool is closed.
-pub(crate) enum Part {
+/// What a place is when its pool is closed: under which of a census's numbers it is counted.
+pub enum Part {
     Free,
     Unopened,
     Filling,

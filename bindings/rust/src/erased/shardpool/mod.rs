@@ -22,7 +22,7 @@ mod state;
 mod stores;
 mod token;
 
-pub use census::Census;
+pub use census::{Census, Part};
 pub use closing::close;
 pub use create::CreateFault;
 pub use fault::OpenFault;

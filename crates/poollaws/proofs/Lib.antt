@@ -1,0 +1,3 @@
+mod Ends
+mod Counts
+mod Kept

@@ -1,0 +1,11 @@
+use Rattle.poollaws.proofs.Kept.{first-room, kept-room, reused-room}
+use Rattle.poollaws.proofs.laws.room_kept_law.Goals as goal
+
+pub returns-clause-first : goal.returns-clause-first
+returns-clause-first g c = first-room
+
+pub returns-clause-kept : goal.returns-clause-kept
+returns-clause-kept g c = kept-room
+
+pub returns-clause-reused : goal.returns-clause-reused
+returns-clause-reused g c = reused-room g.T.Clear.content g.T.Clear.room c.room_law.ensures

@@ -1,0 +1,96 @@
+-- Laws of histories, of closed pools and of rooms, each as a client cites it.
+use Rattle.std.specs.Prelude.{◌≡◌, ◌⊎◌, ℕ, ◌+◌, ◌<◌, ◌≤◌, List, Option, None, length, Contains}
+use mathlib.Core.List.{IsPrefix}
+use Rattle.keybits.specs.declared.shape.Shape.{Shape}
+use Rattle.keybits.specs.Places.{shard_of}
+use Rattle.keybits.specs.Keys.{place_of, generation_of}
+use Rattle.seqpool.specs.declared.act.Act.{Act}
+use Rattle.seqpool.specs.declared.act.Act.TheVariants.{Get}
+use Rattle.seqpool.specs.Pool.{lane_of, IsLegal}
+use Rattle.seqpool.specs.Histories.{At, PublishedAt}
+use Rattle.poolsteps.specs.Views.{the_lane}
+use Rattle.sharelaws.specs.Shares.{room_of}
+use Rattle.shardpool.specs.declared.census.Census.{Census}
+use Rattle.shardpool.specs.Tokens.{PoolOf, LaneOf, FillingOf}
+use Rattle.shardpool.specs.Lanes.{Made, SeesOn}
+use Rattle.shardpool.specs.Seen.{FoundSince, MissedSince}
+use Rattle.shardpool.specs.Creates.{Gives}
+use Rattle.shardpool.specs.Closings.{AreLanes, Closes}
+use Rattle.poollaws.specs.Words.{IsPublished, IsCleared, IsGone, IsPresent, HasAll}
+use Rattle.poollaws.specs.Rooms.{KnowsRoom}
+use Rattle.poollaws.specs.Counted.{CountsPresent}
+
+-- ---- histories that go on
+
+-- an act of a history stands where it stood in each that goes on from it
+abbrev pub StandsLaw : Type 0
+StandsLaw = (beginning history : List Act) → IsPrefix beginning history → (i : ℕ) (act : Act) → At beginning i act → (i < length beginning) × At history i act
+
+-- what was published still is
+abbrev pub StaysPublishedLaw : Type 0
+StaysPublishedLaw = (beginning history : List Act) → IsPrefix beginning history → (key : ℕ) (content : List ℕ) → IsPublished beginning key content → IsPublished history key content
+
+-- what was cleared still is
+abbrev pub StaysClearedLaw : Type 0
+StaysClearedLaw = (beginning history : List Act) → IsPrefix beginning history → (key : ℕ) → IsCleared beginning key → IsCleared history key
+
+-- of the acts that a lane has seen since, its own are those that it made
+abbrev pub OwnActsLaw : Type 0
+OwnActsLaw = (made : List Act) (old new : LaneOf) → SeesOn made old new
+    → (i : ℕ) (act : Act) → length old.book.seen ≤ i → At new.book.seen i act → lane_of act ≡ (the_lane old.book).lane → Contains made act
+
+-- ---- keys that are gone
+
+-- no get behind a clear of its key finds it
+abbrev pub GoneLaw : Type 0
+GoneLaw = (z : Shape) (beginning history : List Act) (key : ℕ) → IsPrefix beginning history → IsLegal z history → IsCleared beginning key
+    → (i lane : ℕ) (reply : Option (List ℕ)) → At history i (Get lane key reply) → length beginning ≤ i → reply ≡ None
+
+-- a lane that has seen a clear of a key doesn't find it
+abbrev pub UnfoundLaw : Type 0
+UnfoundLaw = (key : ℕ) (old new : LaneOf) → IsPrefix old.book.seen new.book.seen → IsCleared old.book.seen key → FoundSince key old new → ⊥
+
+-- a call of a lane that finds nothing comes behind a clear of the key, if the lane saw it published
+abbrev pub MissedLaw : Type 0
+MissedLaw = (key : ℕ) (old new : LaneOf) → IsPrefix old.book.seen new.book.seen → MissedSince key old new → IsGone old.book.seen new.book.seen key
+
+-- ---- the end of a history, and the close
+
+-- a published key is cleared, or present at the end, and not both
+abbrev pub EndLaw : Type 0
+EndLaw = (z : Shape) (history : List Act) (key : ℕ) (content : List ℕ) → IsLegal z history → IsPublished history key content
+    → (IsCleared history key ⊎ IsPresent z history key content) × (IsCleared history key → IsPresent z history key content → ⊥)
+
+-- the history of a closed pool has all that its lanes have seen
+abbrev pub LastLaw : Type 0
+LastLaw = (pool : PoolOf) (lanes : List LaneOf) (census : Census) (closes : Closes pool lanes census) → HasAll lanes closes.history
+
+-- a key that was published is cleared when its pool is closed, or its place is counted as present
+abbrev pub CountedLaw : Type 0
+CountedLaw = (pool : PoolOf) (lanes : List LaneOf) (census : Census) → AreLanes pool lanes → (closes : Closes pool lanes census)
+    → (key : ℕ) (content : List ℕ) → IsPublished closes.history key content → IsCleared closes.history key ⊎ CountsPresent closes.census_is key
+
+-- where none is counted as present, each key that was published is cleared
+abbrev pub NoneLeftLaw : Type 0
+NoneLeftLaw = (pool : PoolOf) (lanes : List LaneOf) (census : Census) → AreLanes pool lanes → (closes : Closes pool lanes census) → census.present ≡ 0
+    → (key : ℕ) (content : List ℕ) → IsPublished closes.history key content → IsCleared closes.history key
+
+-- ---- rooms
+
+-- a lane that has just published a key knows the room of its place
+abbrev pub FirstRoomLaw : Type 0
+FirstRoomLaw = (lane : LaneOf) (key size : ℕ) (content : List ℕ) → IsPublished lane.book.seen key content → length lane.book.rooms ≡ length lane.book.seen
+    → size ≤ room_of lane.book.seen lane.book.rooms (place_of key) → KnowsRoom lane key size
+
+-- what it knows it goes on to know
+abbrev pub KeptRoomLaw : Type 0
+KeptRoomLaw = (made : List Act) (old new : LaneOf) (key size : ℕ) → SeesOn made old new → KnowsRoom old key size → KnowsRoom new key size
+
+-- the object of a filling has the room that its place had under the key before: a key's next has its place and the next generation
+abbrev pub ReusedRoomLaw : {T : Type 0} → (T → List ℕ) → (T → ℕ) → Type 0
+ReusedRoomLaw {T} content room = (old new : LaneOf) (filling : FillingOf T) (key size : ℕ) → Gives content room old new filling → KnowsRoom old key size
+    → place_of filling.key ≡ place_of key → generation_of filling.key ≡ generation_of key + 1 → size ≤ room filling.object
+
+-- a lane fills places of its own shard
+abbrev pub OwnerLaw : Type 0 → Type 0
+OwnerLaw T = (lane : LaneOf) (filling : FillingOf T) → Made lane filling → shard_of (place_of filling.key) ≡ lane.number

@@ -1,0 +1,4 @@
+pub mod Words
+pub mod Rooms
+pub mod Counted
+pub mod Laws

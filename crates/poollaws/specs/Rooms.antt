@@ -1,0 +1,21 @@
+-- What a lane knows of the rooms of places that it published.
+use Rattle.std.specs.Prelude.{◌≡◌, ℕ, ◌≤◌, List, ◌++◌, length}
+use Rattle.keybits.specs.Keys.{place_of}
+use Rattle.seqpool.specs.declared.act.Act.{Act}
+use Rattle.sharelaws.specs.Shares.{room_of}
+use Rattle.shardpool.specs.Tokens.{LaneOf}
+use Rattle.poollaws.specs.Words.{IsPublished}
+
+-- the lane has seen the key published, and by then its place had at least this room
+pub record KnowsRoom (lane : LaneOf) (key size : ℕ) : Type 0 where
+  pub front : List Act
+  pub more : List Act
+  pub seen : lane.book.seen ≡ front ++ more
+  pub rooms : List ℕ
+  pub kept : List ℕ
+  pub rooms_are : lane.book.rooms ≡ rooms ++ kept
+  pub beside : length rooms ≡ length front
+  pub paired : length kept ≡ length more
+  pub content : List ℕ
+  pub published : IsPublished front key content
+  pub roomy : size ≤ room_of front rooms (place_of key)

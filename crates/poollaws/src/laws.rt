@@ -1,0 +1,53 @@
+//! The laws, as calls that do nothing: whoever calls one may use its law in a proof.
+ghost use Rattle.poollaws.specs.Laws.{StandsLaw, StaysPublishedLaw, StaysClearedLaw, OwnActsLaw, GoneLaw, UnfoundLaw, MissedLaw, EndLaw, LastLaw, CountedLaw, NoneLeftLaw, FirstRoomLaw, KeptRoomLaw, ReusedRoomLaw, OwnerLaw};
+
+use shardpool::room_law;
+use slotcell::Clear;
+
+/// What stands in a history stands in each that goes on from it: its acts, and so what was published, and what was cleared.
+pub fn going_law()
+    ensures acts { StandsLaw }
+    ensures published { StaysPublishedLaw }
+    ensures cleared { StaysClearedLaw }
+{}
+
+/// Of the acts that a lane has seen since, its own are those that it made.
+pub fn own_acts_law()
+    ensures { OwnActsLaw }
+{}
+
+/// No get behind a clear of its key finds it: neither in a longer history, nor by a lane that has seen the clear. And a call of a lane that finds
+/// nothing comes behind a clear of the key, if the lane saw it published.
+pub fn gone_law()
+    ensures gone { GoneLaw }
+    ensures unfound { UnfoundLaw }
+    ensures missed { MissedLaw }
+{}
+
+/// A published key is cleared, or present at the end of its history, and not both.
+pub fn end_law()
+    ensures { EndLaw }
+{}
+
+/// When a pool is closed one history has all that its lanes have seen, and each published key is cleared in it, or counted as present. Where none is
+/// counted as present, each is cleared.
+pub fn close_law()
+    ensures last { LastLaw }
+    ensures counted { CountedLaw }
+    ensures none_left { NoneLeftLaw }
+{}
+
+/// A lane that published a key knows the room of its place, and goes on to know it; and the object of a filling has at least the room that its place had
+/// under the key before.
+pub fn room_kept_law<T: Clear>()
+    ensures first { FirstRoomLaw }
+    ensures kept { KeptRoomLaw }
+    ensures reused { ReusedRoomLaw T.content T.room }
+{
+    room_law();
+}
+
+/// A lane fills places of its own shard.
+pub fn owner_law<T>()
+    ensures { OwnerLaw T }
+{}

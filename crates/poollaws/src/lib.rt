@@ -1,0 +1,8 @@
+//! Laws for the proofs of a client: of histories that go on, of keys that are gone, of closed pools and of rooms.
+#![tactic(auto)]
+
+mod laws;
+mod roomy;
+
+pub use laws::{close_law, end_law, going_law, gone_law, own_acts_law, owner_law, room_kept_law};
+pub use roomy::Roomy;
