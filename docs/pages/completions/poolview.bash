@@ -3,28 +3,49 @@ _poolview() {
     local word=${COMP_WORDS[COMP_CWORD]} before=${COMP_WORDS[COMP_CWORD-1]}
     COMPREPLY=()
     if [ "$COMP_CWORD" -eq 1 ]; then
-        mapfile -t COMPREPLY < <(compgen -W 'picture words summary --help' -- "$word")
+        mapfile -t COMPREPLY < <(compgen -W 'picture words summary json events page --help' -- "$word")
         return
     fi
     case ${COMP_WORDS[1]} in
     picture)
         case $before in --from | --turns) return ;; esac
         if [[ $word == -* ]]; then
-            mapfile -t COMPREPLY < <(compgen -W '--from --turns --help' -- "$word")
+            mapfile -t COMPREPLY < <(compgen -W '--from --turns --fit --explain --help' -- "$word")
         else
             mapfile -t COMPREPLY < <(compgen -f -- "$word")
         fi
         ;;
     words)
         if [[ $word == -* ]]; then
-            mapfile -t COMPREPLY < <(compgen -W '--help' -- "$word")
+            mapfile -t COMPREPLY < <(compgen -W '--keys --numbers --explain --help' -- "$word")
         else
             mapfile -t COMPREPLY < <(compgen -f -- "$word")
         fi
         ;;
     summary)
         if [[ $word == -* ]]; then
-            mapfile -t COMPREPLY < <(compgen -W '--help' -- "$word")
+            mapfile -t COMPREPLY < <(compgen -W '--explain --help' -- "$word")
+        else
+            mapfile -t COMPREPLY < <(compgen -f -- "$word")
+        fi
+        ;;
+    json)
+        if [[ $word == -* ]]; then
+            mapfile -t COMPREPLY < <(compgen -W '--explain --help' -- "$word")
+        else
+            mapfile -t COMPREPLY < <(compgen -f -- "$word")
+        fi
+        ;;
+    events)
+        if [[ $word == -* ]]; then
+            mapfile -t COMPREPLY < <(compgen -W '--explain --help' -- "$word")
+        else
+            mapfile -t COMPREPLY < <(compgen -f -- "$word")
+        fi
+        ;;
+    page)
+        if [[ $word == -* ]]; then
+            mapfile -t COMPREPLY < <(compgen -W '--explain --help' -- "$word")
         else
             mapfile -t COMPREPLY < <(compgen -f -- "$word")
         fi
