@@ -1,9 +1,12 @@
 //! What tests with several threads share: they end by an assertion, and never wait for ever.
+//!
+//! A thread sanitizer sees what these order. What threads do within std, as they wait for a `Mutex` or at the end of a scope, it doesn't
+//! see, since std isn't built for it.
 #![allow(dead_code)] // (Each test program takes what it needs.)
 use std::io::{self, Write};
 use std::panic::Location;
 use std::sync::mpsc::{channel, RecvTimeoutError, Sender};
-use std::sync::{Condvar, Mutex, MutexGuard, PoisonError};
+use std::sync::{Mutex, MutexGuard, TryLockError};
 use std::time::Duration;
 use std::{process, thread};
 
@@ -30,11 +33,30 @@ pub fn limit() -> Limit {
     Limit { _ends: ends }
 }
 
+/// Locks by tries. Panics where another thread panicked with it.
+pub fn lock<V>(mutex: &Mutex<V>) -> MutexGuard<'_, V> {
+    loop {
+        match mutex.try_lock() {
+            Ok(value) => return value,
+            Err(TryLockError::WouldBlock) => thread::yield_now(),
+            Err(TryLockError::Poisoned(_)) => panic!("another thread panicked"),
+        }
+    }
+}
+
+/// Has all do their work at once, each on a thread of its own, and joins them.
+pub fn at_once<R: Send>(works: impl IntoIterator<Item = impl FnOnce() -> R + Send>) -> Vec<R> {
+    thread::scope(|scope| {
+        let threads: Vec<_> = works.into_iter().map(|work| scope.spawn(work)).collect();
+        let ends = threads.into_iter().map(|thread| thread.join());
+        ends.map(|end| end.expect("no panic")).collect()
+    })
+}
+
 /// Where threads wait for each other, as at a `Barrier`; where one of them panics, the others panic too.
 pub struct Gate {
     threads: usize,
     state: Mutex<State>,
-    opens: Condvar,
     _limit: Limit,
 }
 
@@ -51,7 +73,6 @@ impl Gate {
         Gate {
             threads,
             state: Mutex::default(),
-            opens: Condvar::new(),
             _limit: limit(),
         }
     }
@@ -59,10 +80,6 @@ impl Gate {
     /// For one of the threads, as long as it may make others wait.
     pub fn enter(&self) -> Member<'_> {
         Member(self)
-    }
-
-    fn state(&self) -> MutexGuard<'_, State> {
-        self.state.lock().unwrap_or_else(PoisonError::into_inner)
     }
 }
 
@@ -72,24 +89,25 @@ pub struct Member<'g>(&'g Gate);
 impl Member<'_> {
     /// Waits for all. Answers whether this one came last.
     pub fn wait(&self) -> bool {
-        let mut state = self.0.state();
+        let mut state = lock(&self.0.state);
+        let round = state.round;
         state.here += 1;
         let is_last = state.here == self.0.threads;
         if is_last {
             state.here = 0;
             state.round += 1;
-            self.0.opens.notify_all();
         }
-        let round = state.round;
-        let waits = |state: &mut State| !is_last && !state.is_broken && state.round == round;
-        drop(self.0.opens.wait_while(state, waits));
-        self.go_on();
+        drop(state);
+        while lock(&self.0.state).round == round {
+            self.go_on();
+            thread::yield_now();
+        }
         is_last
     }
 
     /// Panics where another thread did: for loops that wait for something else.
     pub fn go_on(&self) {
-        let is_broken = self.0.state().is_broken;
+        let is_broken = lock(&self.0.state).is_broken;
         assert!(!is_broken, "another thread panicked");
     }
 }
@@ -97,8 +115,7 @@ impl Member<'_> {
 impl Drop for Member<'_> {
     fn drop(&mut self) {
         if thread::panicking() {
-            self.0.state().is_broken = true;
-            self.0.opens.notify_all();
+            lock(&self.0.state).is_broken = true;
         }
     }
 }
