@@ -1,12 +1,12 @@
 //! What tests with several threads share: they end by an assertion, and never wait for ever.
 //!
-//! A thread sanitizer sees what these order. What threads do within std, as they wait for a `Mutex` or at the end of a scope, it doesn't
-//! see, since std isn't built for it.
+//! A thread sanitizer sees what `lock` and `at_once` order. What threads do within std, as they wait for a `Mutex` or at the end of a
+//! scope, it doesn't see, since std isn't built for it.
 #![allow(dead_code)] // (Each test program takes what it needs.)
 use std::io::{self, Write};
 use std::panic::Location;
 use std::sync::mpsc::{channel, RecvTimeoutError, Sender};
-use std::sync::{Mutex, MutexGuard, TryLockError};
+use std::sync::{Condvar, Mutex, MutexGuard, PoisonError, TryLockError};
 use std::time::Duration;
 use std::{process, thread};
 
@@ -35,12 +35,22 @@ pub fn limit() -> Limit {
 
 /// Locks by tries. Panics where another thread panicked with it.
 pub fn lock<V>(mutex: &Mutex<V>) -> MutexGuard<'_, V> {
-    loop {
+    for look in 0.. {
         match mutex.try_lock() {
             Ok(value) => return value,
-            Err(TryLockError::WouldBlock) => thread::yield_now(),
+            Err(TryLockError::WouldBlock) => rest(look),
             Err(TryLockError::Poisoned(_)) => panic!("another thread panicked"),
         }
+    }
+    unreachable!("it looks for ever")
+}
+
+/// Lets others run between two looks: longer, where it has looked for a while.
+fn rest(look: u32) {
+    if look < 20 {
+        thread::yield_now();
+    } else {
+        thread::sleep(Duration::from_micros(50));
     }
 }
 
@@ -57,6 +67,7 @@ pub fn at_once<R: Send>(works: impl IntoIterator<Item = impl FnOnce() -> R + Sen
 pub struct Gate {
     threads: usize,
     state: Mutex<State>,
+    opens: Condvar,
     _limit: Limit,
 }
 
@@ -73,6 +84,7 @@ impl Gate {
         Gate {
             threads,
             state: Mutex::default(),
+            opens: Condvar::new(),
             _limit: limit(),
         }
     }
@@ -80,6 +92,10 @@ impl Gate {
     /// For one of the threads, as long as it may make others wait.
     pub fn enter(&self) -> Member<'_> {
         Member(self)
+    }
+
+    fn state(&self) -> MutexGuard<'_, State> {
+        self.state.lock().unwrap_or_else(PoisonError::into_inner)
     }
 }
 
@@ -89,25 +105,24 @@ pub struct Member<'g>(&'g Gate);
 impl Member<'_> {
     /// Waits for all. Answers whether this one came last.
     pub fn wait(&self) -> bool {
-        let mut state = lock(&self.0.state);
-        let round = state.round;
+        let mut state = self.0.state();
         state.here += 1;
         let is_last = state.here == self.0.threads;
         if is_last {
             state.here = 0;
             state.round += 1;
+            self.0.opens.notify_all();
         }
-        drop(state);
-        while lock(&self.0.state).round == round {
-            self.go_on();
-            thread::yield_now();
-        }
+        let round = state.round;
+        let waits = |state: &mut State| !is_last && !state.is_broken && state.round == round;
+        drop(self.0.opens.wait_while(state, waits));
+        self.go_on();
         is_last
     }
 
     /// Panics where another thread did: for loops that wait for something else.
     pub fn go_on(&self) {
-        let is_broken = lock(&self.0.state).is_broken;
+        let is_broken = self.0.state().is_broken;
         assert!(!is_broken, "another thread panicked");
     }
 }
@@ -115,7 +130,8 @@ impl Member<'_> {
 impl Drop for Member<'_> {
     fn drop(&mut self) {
         if thread::panicking() {
-            lock(&self.0.state).is_broken = true;
+            self.0.state().is_broken = true;
+            self.0.opens.notify_all();
         }
     }
 }
