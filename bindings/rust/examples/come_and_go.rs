@@ -11,8 +11,8 @@
 //! nothing or something else, or a clear isn't the one that counts.
 use pardz::{CreateError, Key, Lane, OwnedRef, Pool};
 use std::sync::atomic::{AtomicU64, Ordering::Relaxed};
-use std::sync::{Mutex, PoisonError};
-use std::{env, process, thread};
+use std::sync::Mutex;
+use std::{env, mem, process, thread};
 
 /// How many requests a thread makes.
 const OF_A_THREAD: u64 = 100;
@@ -33,8 +33,13 @@ impl Board {
     /// Leaves what was published, and takes what lay there.
     fn swap(&self, sent: Option<Sent>, place: u64) -> Option<Sent> {
         let place = &self.places[place as usize % self.places.len()];
-        let mut place = place.lock().unwrap_or_else(PoisonError::into_inner);
-        std::mem::replace(&mut place, sent)
+        // (By tries: a thread sanitizer sees what they order, and not what waits within std do.)
+        loop {
+            if let Ok(mut place) = place.try_lock() {
+                return mem::replace(&mut place, sent);
+            }
+            thread::yield_now();
+        }
     }
 
     /// Whether all was as it should be.

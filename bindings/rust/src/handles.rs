@@ -16,8 +16,11 @@ use std::ops::{Deref, DerefMut};
 /// its calls share lanes, each under a lock for a bounded number of steps. They may be made anywhere: within `T::clear`, `Default`, `Drop`
 /// and closures, and while the thread ends.
 ///
-/// A pool of [`open`](Pool::open) keeps a quarter of its lanes for sharing, and one at least, from the first of these calls on. They
-/// panic where all lanes are taken in hand already; of a [`growing`](Pool::growing) pool they never do.
+/// A pool of [`open`](Pool::open) has a lane more than its shape, which is shared: so no call is refused where all lanes are in hand. Its
+/// places are counted as its pages are opened. From 8 lanes on, more are shared as these calls need them: a quarter of all.
+///
+/// A pool of 16 lanes has none more. Where all 16 are in hand, a create answers [`CreateError::NoLane`], and a get or a clear panics; where
+/// one is at home, it is shared from then on.
 impl<T: Clear> Pool<T> {
     /// The thread's lane.
     #[inline(always)]
@@ -39,7 +42,7 @@ impl<T: Clear> Pool<T> {
     /// # Errors
     ///
     /// [`CreateError::Full`] where no place is free, but in shards of other lanes that threads have; [`CreateError::Memory`] where memory was
-    /// refused.
+    /// refused; [`CreateError::NoLane`] where all lanes of a pool of 16 are in hand.
     ///
     /// ```
     /// use pardz::{Buffer, Pool};
@@ -144,7 +147,7 @@ impl<T: Clear> Pool<T> {
     ///
     /// # Panics
     ///
-    /// Where the lane has 1,048,575 references.
+    /// Where the lane has 1,048,575 references, or all lanes of a pool of 16 are in hand.
     ///
     /// ```
     /// let pool = pardz::Pool::<String>::growing()?;
@@ -204,7 +207,7 @@ impl<T: Clear> Pool<T> {
         segment.lane(self.room.shared_lane()).shared_clear(key)
     }
 
-    /// As [`create`](Pool::create), of a filling that has a share of the pool and may go to any thread.
+    /// As [`create`](Pool::create), of a filling that has a share of the pool's memory and may go to any thread.
     ///
     /// # Errors
     ///
@@ -239,7 +242,7 @@ impl<T: Clear> Pool<T> {
         })
     }
 
-    /// As [`get`](Pool::get), of a reference that has a share of the pool and may go to any thread.
+    /// As [`get`](Pool::get), of a reference that has a share of the pool's memory and may go to any thread.
     ///
     /// # Panics
     ///
@@ -417,12 +420,11 @@ impl<T: Clear> Drop for PoolRef<'_, T> {
     }
 }
 
-/// An empty object, to be filled and published, with a share of the pool: it may go to any thread, and is published or dropped there.
+/// An empty object, to be filled and published, with a share of the pool's memory: it may go to any thread, and is published or dropped
+/// there.
 ///
 /// ```
-/// use std::sync::Arc;
-///
-/// let pool = Arc::new(pardz::Pool::<String>::growing()?);
+/// let pool = pardz::Pool::<String>::growing()?;
 /// let mut filling = pool.create_owned()?;
 /// filling.push_str("abc");
 /// let text = filling.downgrade();
@@ -504,14 +506,13 @@ impl<T: Clear> Drop for OwnedFilling<T> {
     }
 }
 
-/// A reference with a share of the pool: it may go to any thread, and is let go on whichever drops it.
+/// A reference with a share of the pool's memory: it may go to any thread, and is let go on whichever drops it. Where the pool is dropped
+/// before, its memory and its objects go with the last owned handle.
 ///
 /// A clone is one more reference to the same object, also where the key is cleared.
 ///
 /// ```
-/// use std::sync::Arc;
-///
-/// let pool = Arc::new(pardz::Pool::<pardz::Buffer>::growing()?);
+/// let pool = pardz::Pool::<pardz::Buffer>::growing()?;
 /// let key = pool.put(b"abc")?;
 /// let bytes = pool.get_owned(key).expect("published");
 /// assert!(pool.clear(key));

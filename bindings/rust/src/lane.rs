@@ -9,7 +9,7 @@
 //! | `get`, `downgrade` | fewer references than the most | [`Lane::test_references`] |
 //! | `publish`, `downgrade` | that the lane made the filling, and hasn't published it (`Made`) | a [`Filling`] borrows its lane, and is spent by the call |
 //! | `release`, `read` | that the lane has a reference to the key | a [`Ref`] borrows its lane, and is spent by the release |
-//! | `close` | all lanes of the pool, each once | `Shards::end` takes the seats as `open` gave them; that the pool is ours alone then is told by `&mut`, for a `Lane` borrows it, or has a share of it |
+//! | `close` | all lanes of the pool, each once | `Shards::end` takes the seats as `open` gave them; that the pool is ours alone then is told by `&mut`, for a `Lane` borrows it, or has a share of it, and by `Room::shares`, for a lane of owned handles has a share of its memory |
 //! | the trait of objects | a clear that empties, keeps the room, takes no memory and ends | `Object`, of which a clear moves one word |
 //!
 //! This is one of the two files of the API with `unsafe`; the other is `object.rs`.

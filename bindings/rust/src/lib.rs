@@ -73,10 +73,9 @@
 //!
 //! ```
 //! use pardz::{Key, OwnedRef, Pool};
-//! use std::sync::Arc;
 //! use std::thread;
 //!
-//! let pool = Arc::new(Pool::<String>::growing()?);
+//! let pool = Pool::<String>::growing()?;
 //! let key: Key = pool.put("from here")?;
 //! thread::scope(|scope| {
 //!     for _ in 0..40 {
@@ -91,12 +90,16 @@
 //!
 //! | | lanes in hand: `pool.lane()` | calls of the pool: `pool.get(key)` | owned handles: `pool.get_owned(key)` |
 //! |---|---|---|---|
-//! | who calls | a thread with a lane, of 16 at most | any thread, also while it ends | any thread, with an `Arc` of the pool |
-//! | what it gives | `Filling`, `Ref`: borrow the lane | `PoolFilling`, `PoolRef`: borrow the pool | `OwnedFilling`, `OwnedRef`: `Send`, `Sync`, `'static`; `OwnedRef` is `Clone` |
-//! | a get with its drop | 74 instructions | 102, where the thread has a lane of its own; 194 behind the first segment | 291 |
+//! | who calls | a thread with a lane, of 16 at most | any thread, also while it ends | any thread, also while it ends |
+//! | what it gives | `Filling`, `Ref`: borrow the lane | `PoolFilling`, `PoolRef`: borrow the pool | `OwnedFilling`, `OwnedRef`: `Send`, `Sync`, `'static`, and outlive the pool; `OwnedRef` is `Clone` |
+//! | a get with its drop | 74 instructions | 108, where the thread has a lane of its own; 201 behind the first segment | 132 |
 //! | lock | none | none; where all lanes are taken, one of the lanes that threads share, for a bounded number of steps | that of a shared lane |
-//! | a create whose shard is full | a further segment, if the pool grows | a shared lane's shard, then a further segment | as of the pool |
+//! | a create whose shard is full | a further segment, if the pool grows | a shared lane's shard, then a further segment | another shared lane's shard, then a further segment |
 //! | to choose | a fixed row of threads, and what must be quickest or never wait | threads that come and go | what outlives a scope: a future over `.await`, a message, `bytes::Bytes::from_owner` |
+//!
+//! No call is refused for want of a lane: a growing pool shares four of its 16 lanes, and a pool of [`Pool::open`] has a lane more than
+//! its shape for that. One of 16 lanes has none more: where all are in hand, a create answers [`CreateError::NoLane`], and a get or a
+//! clear of the pool panics.
 //!
 //! A growing pool has up to 256 segments, each a pool of the proved kind with a tag of its own, by which a key tells its segment. The
 //! first has 16 * 32 places and takes less than 256 KiB; from the eighth on each has 16 * 4,032. All ways of calling find keys of

@@ -63,7 +63,7 @@ impl Default for Shape {
     }
 }
 
-/// What the places of a pool are. The six add up to all places of the pool.
+/// What the places of a pool are. The six add up to all places of the pool, and those that calls without a lane opened beside them.
 #[derive(Clone, Copy, Debug, Default, PartialEq, Eq)]
 pub struct Census {
     /// Free.
@@ -240,7 +240,7 @@ impl<T: Clear> Pool<T> {
     }
 
     /// Closes the pool, drops its objects, and counts its places. A filling or a reference that was leaked ([`std::mem::forget`]) is
-    /// in the count.
+    /// in the count. Where owned handles live, what they have is in the count too, and the objects are dropped with the last of them.
     ///
     /// ```
     /// use pardz::{Pool, Shape};

@@ -1,7 +1,7 @@
 //! Objects whose code calls the pool again.
 mod common;
 
-use common::limit;
+use common::{limit, lock};
 use pardz::{Clear, CreateError, Key, Lane, Pool, Shape};
 use std::cell::{Cell, OnceCell, RefCell};
 use std::sync::{Arc, Mutex, Weak};
@@ -327,14 +327,14 @@ fn threads_let_go_of_each_others() {
                 let lane = lane.get().unwrap();
                 for _ in 0..ROUNDS {
                     // Takes over one that another thread made, and is to let go of it.
-                    let next = lent.lock().unwrap().pop();
+                    let next = lock(&lent).pop();
                     let Ok(mut link) = lane.create() else {
                         next.into_iter().for_each(|next| assert!(lane.clear(next)));
                         continue;
                     };
                     link.next = next;
                     let key = link.publish();
-                    lent.lock().unwrap().push(key);
+                    lock(&lent).push(key);
                 }
             });
         })
@@ -346,7 +346,7 @@ fn threads_let_go_of_each_others() {
     thread::spawn(move || {
         LANE.with(|place| assert!(place.set(lane).is_ok()));
         LANE.with(|lane| {
-            for key in lent.lock().unwrap().drain(..) {
+            for key in lock(&lent).drain(..) {
                 assert!(lane.get().unwrap().clear(key));
             }
         });

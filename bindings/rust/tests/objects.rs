@@ -1,7 +1,7 @@
 //! Objects of types of one's own.
 mod common;
 
-use common::{limit, Gate};
+use common::{limit, lock, Gate};
 use pardz::{Clear, CreateError, Key, OpenError, Pool, Shape};
 use std::sync::atomic::{AtomicUsize, Ordering::SeqCst};
 use std::sync::{mpsc, Arc, Mutex};
@@ -131,7 +131,7 @@ fn readers_beside_a_clear() {
                 let member = gate.enter();
                 for round in 0..ROUNDS {
                     member.wait();
-                    let key = *key.lock().unwrap();
+                    let key = *lock(key);
                     while let Some(list) = other.get(key) {
                         assert_eq!(*list, vec![round; (round % 50) as usize]);
                         cleared.fetch_add(usize::from(other.clear(key)), SeqCst);
@@ -145,7 +145,7 @@ fn readers_beside_a_clear() {
             let mut list = lane.create().unwrap();
             assert!(list.is_empty());
             list.extend((0..round % 50).map(|_| round));
-            *key.lock().unwrap() = list.publish();
+            *lock(key) = list.publish();
             member.wait();
             member.wait();
         }
@@ -263,7 +263,7 @@ fn each_is_emptied_once() {
                     told.0 = round * 4 + u64::from(lane.number()) + 1;
                     let told = told.downgrade();
                     let place = &keys[(round % 4) as usize];
-                    let other = place.lock().unwrap().replace(told.key());
+                    let other = lock(place).replace(told.key());
                     let Some(other) = other else { continue };
                     let held = lane.get(other);
                     assert!(held.is_some() && lane.clear(other));

@@ -1,7 +1,7 @@
 //! Calls without a lane in hand, owned handles, and room that grows.
 mod common;
 
-use common::limit;
+use common::{at_once, limit, lock};
 use pardz::{Clear, CreateError, Key, OwnedFilling, OwnedRef, Pool, PoolRef, Shape};
 use std::cell::{Cell, RefCell};
 use std::panic::{catch_unwind, AssertUnwindSafe};
@@ -34,15 +34,12 @@ fn threads_that_come_and_go() {
     let _limit = limit();
     let pool = Pool::<Vec<u64>>::growing().unwrap();
     for round in 0..20 {
-        thread::scope(|scope| {
-            for thread in 0..64 {
-                let pool = &pool;
-                scope.spawn(move || {
-                    (0..50)
-                        .for_each(|number| use_once(pool, round * 10_000 + thread * 100 + number));
-                });
+        let pool = &pool;
+        at_once((0..64).map(|thread| {
+            move || {
+                (0..50).for_each(|number| use_once(pool, round * 10_000 + thread * 100 + number));
             }
-        });
+        }));
     }
     let census = pool.close();
     assert_eq!((census.present, census.marked, census.filling), (0, 0, 0));
@@ -74,28 +71,26 @@ fn more_threads_than_lanes() {
     ] {
         let lent = Mutex::new(Vec::<(Key, u64)>::new());
         let cleared = AtomicUsize::new(0);
-        thread::scope(|scope| {
-            for thread in 0..THREADS {
-                let (pool, lent, cleared) = (&pool, &lent, &cleared);
-                scope.spawn(move || {
-                    for round in 0..ROUNDS {
-                        let number = thread * ROUNDS + round;
-                        let key = pool.create_with(|list| list.push(number)).unwrap();
-                        let other = {
-                            let mut lent = lent.lock().unwrap();
-                            lent.push((key, number));
-                            let at = (number * 7919) as usize % lent.len();
-                            lent.swap_remove(at)
-                        };
-                        let list = pool.get(other.0).expect("it is ours alone to clear");
-                        assert_eq!(*list, [other.1]);
-                        assert!(pool.clear(other.0));
-                        assert_eq!(*list, [other.1]);
-                        cleared.fetch_add(1, SeqCst);
-                    }
-                });
+        at_once((0..THREADS).map(|thread| {
+            let (pool, lent, cleared) = (&pool, &lent, &cleared);
+            move || {
+                for round in 0..ROUNDS {
+                    let number = thread * ROUNDS + round;
+                    let key = pool.create_with(|list| list.push(number)).unwrap();
+                    let other = {
+                        let mut lent = lock(lent);
+                        lent.push((key, number));
+                        let at = (number * 7919) as usize % lent.len();
+                        lent.swap_remove(at)
+                    };
+                    let list = pool.get(other.0).expect("it is ours alone to clear");
+                    assert_eq!(*list, [other.1]);
+                    assert!(pool.clear(other.0));
+                    assert_eq!(*list, [other.1]);
+                    cleared.fetch_add(1, SeqCst);
+                }
             }
-        });
+        }));
         assert_eq!(cleared.into_inner() as u64, THREADS * ROUNDS);
         let census = pool.close();
         assert_eq!((census.present, census.marked, census.filling), (0, 0, 0));
@@ -111,17 +106,15 @@ fn open_at_once(count: u64) {
     assert_eq!(distinct.len() as u64, count);
     assert_eq!(u64::from(pool.census().present), count);
     let (pool, keys) = (&pool, &keys);
-    thread::scope(|scope| {
-        for part in 0..4 {
-            scope.spawn(move || {
-                for (number, key) in (0..).zip(keys).skip(part).step_by(4) {
-                    assert_eq!(*pool.get(*key).expect("open"), [number]);
-                    assert!(pool.clear(*key));
-                    assert!(pool.get(*key).is_none());
-                }
-            });
+    at_once((0..4).map(|part| {
+        move || {
+            for (number, key) in (0..).zip(keys).skip(part).step_by(4) {
+                assert_eq!(*pool.get(*key).expect("open"), [number]);
+                assert!(pool.clear(*key));
+                assert!(pool.get(*key).is_none());
+            }
         }
-    });
+    }));
     assert_eq!(pool.census().present, 0);
     let places = pool.census().free;
     (0..count).for_each(|number| assert!(u64::from(publish(number)) > 0));
@@ -213,14 +206,10 @@ fn calls_beside(pool: &Pool<Vec<u64>>, lanes: &[pardz::Lane<'_, Vec<u64>>]) {
 #[test]
 fn all_lanes_in_hand() {
     for count in [1, 2, 7, 15] {
-        let pool = Pool::<Vec<u64>>::open(shape(count, 2, 1)).unwrap();
+        let pool = Pool::<Vec<u64>>::open(shape(count, 32, 1)).unwrap();
         let lanes: Vec<_> = (0..count).map(|_| pool.lane().unwrap()).collect();
-        thread::scope(|scope| {
-            let (pool, _limit) = (&pool, limit());
-            for number in 0..20 {
-                scope.spawn(move || use_once(pool, number));
-            }
-        });
+        let (shared, _limit) = (&pool, limit());
+        at_once((0..20).map(|number| move || use_once(shared, number)));
         calls_beside(&pool, &lanes);
         drop(lanes);
         // Those that are home again may be taken again.
@@ -231,7 +220,7 @@ fn all_lanes_in_hand() {
         let census = pool.close();
         assert_eq!(now, census);
         assert_eq!((census.present, census.marked, census.filling), (0, 0, 0));
-        assert_eq!(census.free + census.unopened, 2 * (count + 1));
+        assert_eq!(census.free + census.unopened, 32 * (count + 1));
     }
     let growing = Pool::<Vec<u64>>::growing().unwrap();
     let lanes: Vec<_> = (0..).map_while(|_| growing.lane()).collect();
@@ -431,12 +420,14 @@ fn handles_and_the_pool_end_at_once() {
         let key = pool.create_with(fill).unwrap();
         let handles: Vec<_> = (0..3).map(|_| pool.get_owned(key).unwrap()).collect();
         assert!(round % 2 == 0 || pool.clear(key));
-        thread::scope(|scope| {
-            scope.spawn(move || drop(pool));
-            for handle in handles {
-                scope.spawn(move || drop(handle.clone()));
+        let ends = handles.into_iter().map(|handle| (Some(handle), None));
+        at_once(ends.chain([(None, Some(pool))]).map(|end| {
+            move || {
+                let (handle, pool) = end;
+                drop((handle.clone(), handle));
+                drop(pool);
             }
-        });
+        }));
     }
     assert_eq!(dropped.load(SeqCst), 300);
 }
@@ -519,14 +510,14 @@ fn chains_let_go() {
         drop(held);
         assert!(EMPTIED.get() >= count, "{} of {count}", EMPTIED.get());
     };
-    thread::scope(|scope| {
-        for thread in 0..20 {
-            thread::Builder::new()
-                .stack_size(256 * 1024)
-                .spawn_scoped(scope, move || chain(thread % 2 == 0))
-                .unwrap();
-        }
-    });
+    let threads = [(); 20].map(|()| thread::Builder::new().stack_size(256 * 1024));
+    let threads = (0..).zip(threads);
+    let threads: Vec<_> = threads
+        .map(|(number, thread)| thread.spawn(move || chain(number % 2 == 0)).unwrap())
+        .collect();
+    threads
+        .into_iter()
+        .for_each(|thread| thread.join().unwrap());
 }
 
 thread_local! {

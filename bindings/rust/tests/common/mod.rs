@@ -1,9 +1,12 @@
 //! What tests with several threads share: they end by an assertion, and never wait for ever.
+//!
+//! A thread sanitizer sees what `lock` and `at_once` order. What threads do within std, as they wait for a `Mutex` or at the end of a
+//! scope, it doesn't see, since std isn't built for it.
 #![allow(dead_code)] // (Each test program takes what it needs.)
 use std::io::{self, Write};
 use std::panic::Location;
 use std::sync::mpsc::{channel, RecvTimeoutError, Sender};
-use std::sync::{Condvar, Mutex, MutexGuard, PoisonError};
+use std::sync::{Condvar, Mutex, MutexGuard, PoisonError, TryLockError};
 use std::time::Duration;
 use std::{process, thread};
 
@@ -28,6 +31,36 @@ pub fn limit() -> Limit {
         }
     });
     Limit { _ends: ends }
+}
+
+/// Locks by tries. Panics where another thread panicked with it.
+pub fn lock<V>(mutex: &Mutex<V>) -> MutexGuard<'_, V> {
+    for look in 0.. {
+        match mutex.try_lock() {
+            Ok(value) => return value,
+            Err(TryLockError::WouldBlock) => rest(look),
+            Err(TryLockError::Poisoned(_)) => panic!("another thread panicked"),
+        }
+    }
+    unreachable!("it looks for ever")
+}
+
+/// Lets others run between two looks: longer, where it has looked for a while.
+fn rest(look: u32) {
+    if look < 20 {
+        thread::yield_now();
+    } else {
+        thread::sleep(Duration::from_micros(50));
+    }
+}
+
+/// Has all do their work at once, each on a thread of its own, and joins them.
+pub fn at_once<R: Send>(works: impl IntoIterator<Item = impl FnOnce() -> R + Send>) -> Vec<R> {
+    thread::scope(|scope| {
+        let threads: Vec<_> = works.into_iter().map(|work| scope.spawn(work)).collect();
+        let ends = threads.into_iter().map(|thread| thread.join());
+        ends.map(|end| end.expect("no panic")).collect()
+    })
 }
 
 /// Where threads wait for each other, as at a `Barrier`; where one of them panics, the others panic too.
