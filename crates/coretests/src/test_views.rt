@@ -181,12 +181,7 @@ fn reads_no_lines(rt: HostRuntime) {
 }
 
 /// The picture of these turns.
-fn picture_of<R: Abort + AllocGlobal>(
-    rt: &R,
-    first: usize,
-    count: usize,
-    fit: bool,
-) -> String {
+fn picture_of<R: Abort + AllocGlobal>(rt: &R, first: usize, count: usize, fit: bool) -> String {
     let lines = lines_of(rt, TRACE);
     let window = Window { first, count, fit };
     let out = picture_text(rt.alloc(), lines.as_slice(), &window).expect(rt, "memory");

@@ -5,13 +5,17 @@ use Rattle.std.specs.Prelude.{ℕ, ◌+◌, ◌==◌, ◌&&◌, List, [], ◌∷
 abbrev pub byte_text : ℕ → List ℕ
 byte_text byte = if nat_le 32 byte && nat_le byte 126 then byte ∷ [] else codes "<" ++ decimal byte ++ codes ">"
 
+-- how many of so many bytes are shown
+abbrev pub shown_count : ℕ → ℕ
+shown_count count = if nat_le count 80 then count else 80
+
 -- what stands behind bytes that are so many: dots where some aren't shown
 abbrev pub end_text : ℕ → List ℕ
 end_text count = if nat_le count 80 then codes "\"" else codes "\".."
 
 -- the first 80 of some bytes, in quotes
 abbrev pub shown_bytes : List ℕ → List ℕ
-shown_bytes bytes = codes "\"" ++ flat_map byte_text (take 80 bytes) ++ end_text (length bytes)
+shown_bytes bytes = codes "\"" ++ flat_map byte_text (take (shown_count (length bytes)) bytes) ++ end_text (length bytes)
 
 -- what stands before the first end of a line, by the place of that
 abbrev pub before_end : List ℕ → Option ℕ → List ℕ

@@ -1,16 +1,13 @@
 //! Where a fault is, and what stands there, in words.
-ghost use Rattle.std.specs.Prelude.{◌≡◌, ◌==◌, ◌++◌, codes, decimal, flat_map, position, take};
+ghost use Rattle.std.specs.Prelude.{◌≡◌, ◌==◌, ◌≤◌, ◌++◌, codes, decimal, flat_map, length, position, take};
 ghost use Rattle.streams.specs.Saying.{Says};
-ghost use Rattle.poolview.specs.Shown.{byte_text, end_text, shown_bytes, first_line, after_line, line_at};
+ghost use Rattle.poolview.specs.Shown.{byte_text, shown_count, end_text, shown_bytes, first_line, after_line, line_at};
 ghost use Rattle.poolview.specs.Faults.{wrong_line_text, wrong_file_text, explanation_text, refusal_text};
 
 use crate::fault::{Fault, write_fault};
 use itoa::Buffer;
 use std::io::Write;
 use streams::{Watched, write_text};
-
-/// How many bytes of a line or of a path are shown.
-const SHOWN: usize = 80;
 
 /// Writes the number of a byte.
 fn write_number<E: Write>(byte: u8, errors: &mut Watched<E>)
@@ -41,11 +38,26 @@ fn write_bytes<E: Write>(bytes: &[u8], errors: &mut Watched<E>)
     }
 }
 
+/// How many of so many bytes are shown.
+fn shown_count(count: usize) -> usize
+    ensures within { result ≤ count }
+    ensures is { result ≡ shown_count count }
+{
+    if count <= 80 { count } else { 80 }
+}
+
 /// What stands behind bytes that are so many: dots where some aren't shown.
 fn end_of(count: usize) -> &'static [u8]
     ensures { result.now ≡ end_text count }
 {
-    if count <= SHOWN { b"\"" } else { b"\".." }
+    if count <= 80 { b"\"" } else { b"\".." }
+}
+
+/// Those of some bytes that are shown.
+fn first_of(bytes: &[u8]) -> &[u8]
+    ensures { result.now ≡ take (shown_count (length bytes.now)) bytes.now }
+{
+    &bytes[..shown_count(bytes.len())]
 }
 
 /// Writes the first 80 of some bytes, in quotes.
@@ -55,17 +67,6 @@ fn write_shown<E: Write>(bytes: &[u8], errors: &mut Watched<E>)
     write_text(b"\"", errors);
     write_bytes(first_of(bytes), errors);
     write_text(end_of(bytes.len()), errors);
-}
-
-/// The first 80 of some bytes.
-fn first_of(bytes: &[u8]) -> &[u8]
-    ensures { result.now ≡ take 80 bytes.now }
-{
-    if bytes.len() <= SHOWN {
-        bytes
-    } else {
-        &bytes[..SHOWN]
-    }
 }
 
 /// Where the first end of a line is.
