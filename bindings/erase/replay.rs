@@ -25,6 +25,8 @@ mod handles;
 mod key;
 #[path = "../rust/src/lane.rs"]
 mod lane;
+#[path = "../rust/src/lock.rs"]
+mod lock;
 #[path = "../rust/src/object.rs"]
 mod object;
 #[path = "../rust/src/pool.rs"]
@@ -708,7 +710,7 @@ fn replay_crate(shape: Shape, order: &[(u32, u8)], scripts: &[Vec<String>]) {
         last_generation,
         tag,
     };
-    let pool = Pool::<Buffer>::open(asked).unwrap();
+    let pool = Pool::<Buffer>::open_with(asked, false).unwrap();
     let turns = Arc::new(Turns::new(shape, order));
     let mut lanes: Vec<Lane<Buffer>> = (0..lanes).map(|_| pool.lane().unwrap()).collect();
     thread::scope(|scope| {

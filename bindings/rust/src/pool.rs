@@ -4,7 +4,7 @@ use crate::clear::Clear;
 use crate::erased::{keybits, shardpool};
 use crate::errors::OpenError;
 use crate::lane::{Lane, Share};
-use crate::room::Room;
+use crate::room::{Room, LANES};
 use std::fmt;
 use std::sync::Arc;
 
@@ -136,8 +136,13 @@ impl<T: Clear> Pool<T> {
     /// # Ok::<(), OpenError>(())
     /// ```
     pub fn open(shape: Shape) -> Result<Pool<T>, OpenError> {
+        Pool::open_with(shape, shape.lanes < LANES)
+    }
+
+    /// The same; with `one_more` it has a lane more than its shape, for calls without a lane.
+    pub(crate) fn open_with(shape: Shape, one_more: bool) -> Result<Pool<T>, OpenError> {
         Ok(Pool {
-            room: Share::new(Room::open(shape)?),
+            room: Share::new(Room::open(shape, one_more)?),
             shape,
         })
     }

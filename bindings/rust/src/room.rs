@@ -17,7 +17,7 @@ use std::sync::{Mutex, PoisonError};
 const MOST_SEGMENTS: usize = 256;
 
 /// The lanes of a growing pool, and those of them that are shared from the start.
-const LANES: u32 = 16;
+pub(crate) const LANES: u32 = 16;
 const SHARED: u32 = 4;
 
 /// How many creates pass by a lane that was found full in all segments: twice as many each time, since each look costs as many steps as
@@ -74,9 +74,8 @@ fn shape_of(tag: usize, last_generation: u32) -> Shape {
 }
 
 impl<T: Clear> Room<T> {
-    /// A pool that doesn't grow. It has a lane more than its shape, which is shared, where 16 aren't in its shape already.
-    pub(crate) fn open(shape: Shape) -> Result<Fixed<Room<T>>, OpenError> {
-        let one_more = shape.lanes < LANES;
+    /// A pool that doesn't grow. With `one_more` it has a lane more than its shape, which is shared.
+    pub(crate) fn open(shape: Shape, one_more: bool) -> Result<Fixed<Room<T>>, OpenError> {
         let first = Shards::open(shape, one_more)?;
         Room::of(shape, first, 0, u32::from(one_more) << shape.lanes)
     }
