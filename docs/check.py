@@ -47,7 +47,7 @@ FIGURES = [
     ("the crate's cycle of objects, instructions", None, [("docs/BENCHMARK.md", r"^\| cycle, objects of 192 bytes \| (\d+ \| \d+ \| \d+) \|"), ("docs/FOREIGN.md", r"^\| cycle of objects of 192 bytes \| \| (\d+ \| \d+ \| \d+) \|")]),
     ("a native get, instructions", None, [("docs/BENCHMARK.md", r"^\| get-many \| (\d+) \| \d+ \| \d+ \| \d+ \|$"), ("docs/FOREIGN.md", r"native get-many takes (\d+)")]),
     ("the crate's get, instructions, on its own page", None, [("docs/BENCHMARK.md", r"^\| get-many, 64 bytes \| (\d+) \|"), ("bindings/rust/README.md", r"^\| a get with its drop \| (\d+) instructions")]),
-    ("the crate's get without a lane, instructions", None, [("bindings/rust/README.md", r"instructions \| (\d+), where the thread has a lane"), ("docs/FOREIGN.md", r"a get with its drop takes (\d+),")]),
+    ("the crate's get without a lane, instructions", None, [("bindings/rust/README.md", r"instructions \| (\d+), where the thread has a lane"), ("docs/FOREIGN.md", r"live on then, the lane is shared \| (\d+), and")]),
     ("a full pool, instructions", None, [("docs/BENCHMARK.md", r"^\| full16 \| (\d+) \|"), ("docs/BENCHMARK.md", r"after (\d+) instructions")]),
     ("the gate, processor minutes", None, [("docs/GATE.md", r"some (\d+) processor minutes"), ("CONTRIBUTING.md", r"some (\d+) processor minutes")]),
     ("the sample's proof, minutes", None, [("docs/GATE.md", r"some (\d+) minutes; in `crates/poolrun`"), ("README.md", r"some (\d+) processor minutes")]),
