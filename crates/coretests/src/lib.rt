@@ -17,8 +17,6 @@ mod test_core;
 #[cfg(test)]
 mod test_endings;
 #[cfg(test)]
-mod test_free_places;
-#[cfg(test)]
 mod test_key_lines;
 #[cfg(test)]
 mod test_keys;
@@ -40,8 +38,6 @@ mod test_rows;
 mod test_runs;
 #[cfg(test)]
 mod test_schedules;
-#[cfg(test)]
-mod test_tasks;
 #[cfg(test)]
 mod test_texts;
 #[cfg(test)]

@@ -57,44 +57,34 @@ fn close_filling<T: Clear + Drop, R: Abort>(rt: &R, alloc: Global) -> Census {
     close_one(rt, alloc, pool, lane)
 }
 
-#[test]
-fn counts_a_retired_place(rt: HostRuntime) {
-    let census = Census {
+/// What is counted of a pool of these objects where its place is retired, marked, returned or under a filling.
+fn counts_each<T: Clear + Drop, R: Abort>(rt: &R, alloc: Global) {
+    let retired = Census {
         retired: 1,
         ..NO_PLACE
     };
-    same(&rt, &close_used_up::<ByteBuf, _>(&rt, rt.alloc()), &census);
-    same(&rt, &close_used_up::<Record, _>(&rt, rt.alloc()), &census);
-}
-
-#[test]
-fn counts_a_marked_place(rt: HostRuntime) {
-    let census = Census {
+    same(rt, &close_used_up::<T, _>(rt, alloc), &retired);
+    let marked = Census {
         unopened: 1,
         marked: 1,
         ..NO_PLACE
     };
-    same(&rt, &close_marked::<ByteBuf, _>(&rt, rt.alloc()), &census);
-    same(&rt, &close_marked::<Record, _>(&rt, rt.alloc()), &census);
-}
-
-#[test]
-fn counts_a_returned_place(rt: HostRuntime) {
-    let census = Census {
+    same(rt, &close_marked::<T, _>(rt, alloc), &marked);
+    let returned = Census {
         free: 1,
         unopened: 1,
         ..NO_PLACE
     };
-    same(&rt, &close_returned::<ByteBuf, _>(&rt, rt.alloc()), &census);
-    same(&rt, &close_returned::<Record, _>(&rt, rt.alloc()), &census);
-}
-
-#[test]
-fn counts_a_filling(rt: HostRuntime) {
-    let census = Census {
+    same(rt, &close_returned::<T, _>(rt, alloc), &returned);
+    let filling = Census {
         filling: 1,
         ..NO_PLACE
     };
-    same(&rt, &close_filling::<ByteBuf, _>(&rt, rt.alloc()), &census);
-    same(&rt, &close_filling::<Record, _>(&rt, rt.alloc()), &census);
+    same(rt, &close_filling::<T, _>(rt, alloc), &filling);
+}
+
+#[test]
+fn counts_places(rt: HostRuntime) {
+    counts_each::<ByteBuf, _>(&rt, rt.alloc());
+    counts_each::<Record, _>(&rt, rt.alloc());
 }
