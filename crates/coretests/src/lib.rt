@@ -1,4 +1,4 @@
-//! Tests of keys, cells, free places, the pool of one thread with its checker, the core, and the programs' libraries: they stand
+//! Tests of keys, cells, the pool of one thread with its checker, the core, and the programs' libraries: they stand
 //! in a crate of their own, which proves no function of these libraries again.
 #![tactic(auto)]
 
