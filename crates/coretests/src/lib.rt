@@ -29,8 +29,6 @@ mod test_plans;
 #[cfg(test)]
 mod test_programs;
 #[cfg(test)]
-mod test_random;
-#[cfg(test)]
 mod test_replays;
 #[cfg(test)]
 mod test_rows;
