@@ -2,7 +2,8 @@
 ghost use Rattle.shardpool.specs.Lanes.{Owns};
 
 use crate::test_calls::{
-    NO_PLACE, clear, close_one, close_two, create, finds_full, open_last, open_pair, same, shape_of,
+    NO_PLACE, clear, close_one, close_two, create, finds_full, hold, open_last, open_pair, put,
+    same, shape_of,
 };
 use keybits::Shape;
 use shardpool::{Census, Lane, Pool};
@@ -15,8 +16,7 @@ fn use_up<T: Clear + Drop, R: Abort>(rt: &R, pool: &Pool<T>, lane: &mut Lane<T>)
     requires { Owns pool.now lane.old }
     ensures { Owns pool.now lane.new }
 {
-    let filling = create(rt, pool, lane);
-    let key = pool.publish(lane, filling);
+    let key = put(rt, pool, lane);
     clear(rt, pool, lane, key, true);
     finds_full(rt, pool, lane);
 }
@@ -34,8 +34,7 @@ fn close_used_up<T: Clear + Drop, R: Abort>(rt: &R, alloc: Global) -> Census {
 /// A place is published with a reference, which is left, and cleared.
 fn close_marked<T: Clear + Drop, R: Abort>(rt: &R, alloc: Global) -> Census {
     let (pool, mut first, second) = open_pair::<T, _>(rt, alloc, shape_of(2, 1, 1));
-    let filling = create(rt, &pool, &mut first);
-    let reference = pool.downgrade(&mut first, filling);
+    let reference = hold(rt, &pool, &mut first);
     clear(rt, &pool, &mut first, reference.key(), true);
     reference.leave();
     close_two(rt, alloc, pool, first, second)
@@ -44,8 +43,7 @@ fn close_marked<T: Clear + Drop, R: Abort>(rt: &R, alloc: Global) -> Census {
 /// The first lane publishes, and the second clears, which returns the place.
 fn close_returned<T: Clear + Drop, R: Abort>(rt: &R, alloc: Global) -> Census {
     let (pool, mut first, mut second) = open_pair::<T, _>(rt, alloc, shape_of(2, 1, 1));
-    let filling = create(rt, &pool, &mut first);
-    let key = pool.publish(&mut first, filling);
+    let key = put(rt, &pool, &mut first);
     clear(rt, &pool, &mut second, key, true);
     close_two(rt, alloc, pool, first, second)
 }

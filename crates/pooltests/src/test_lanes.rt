@@ -3,7 +3,7 @@ ghost use Rattle.std.specs.Prelude.{◌≡◌};
 ghost use Rattle.shardpool.specs.Lanes.{Owns, refs};
 ghost use Rattle.guards.specs.Here.{HoldNothing};
 
-use crate::test_calls::{NO_PLACE, clear, create, get, same, shape_of};
+use crate::test_calls::{NO_PLACE, clear, get, put, release, same, shape_of};
 use guards::{Opened, open_lanes};
 use shardpool::{Census, Lane, Pool};
 use slotcell::ByteBuf;
@@ -28,10 +28,9 @@ fn serve<R: Abort>(rt: &R, pool: &Pool<ByteBuf>, mut lane: Lane<ByteBuf>) -> Lan
     requires none { refs lane ≡ 0 }
     ensures { Owns pool.now result }
 {
-    let filling = create(rt, pool, &mut lane);
-    let key = pool.publish(&mut lane, filling);
+    let key = put(rt, pool, &mut lane);
     let reference = get(rt, pool, &mut lane, key);
-    pool.release(&mut lane, reference);
+    release(pool, &mut lane, reference);
     clear(rt, pool, &mut lane, key, true);
     lane
 }

@@ -1,13 +1,13 @@
 //! What calls of one thread answer, one after another.
-ghost use Rattle.std.specs.Prelude.{◌≡◌, ◌+◌, ◌<◌, ◌≤◌};
+ghost use Rattle.std.specs.Prelude.{◌<◌, ◌≤◌};
 ghost use Rattle.shardpool.specs.Lanes.{Owns, holds, refs};
 
 use crate::test_calls::{
-    clear, create, fill, finds_full, get, misses, open_last, open_pair, publish, reads, same,
-    shape_of, tell, write,
+    clear, create, fill, finds_full, get, misses, open_last, open_pair, publish, reads, release,
+    same, shape_of, tell, write,
 };
 use shardpool::{Lane, Pool, Ref};
-use slotcell::{ByteBuf, Clear, Record};
+use slotcell::{ByteBuf, Clear};
 use std::alloc::Global;
 use std::process::Abort;
 
@@ -34,10 +34,10 @@ fn read_on<R: Abort>(
     clear(rt, pool, first, FIRST, true);
     misses(rt, pool, first, FIRST);
     reads(rt, first, &one, b"a");
-    pool.release(first, one);
+    release(pool, first, one);
     clear(rt, pool, second, FIRST, false);
     reads(rt, second, &other, b"a");
-    pool.release(second, other);
+    release(pool, second, other);
     let filling = fill(rt, pool, first, AGAIN, b"");
     filling.leave();
 }
@@ -71,7 +71,7 @@ fn return_and_publish<R: Abort>(
     publish(rt, pool, first, FIRST, b"");
     let reference = get(rt, pool, second, FIRST);
     clear(rt, pool, first, FIRST, true);
-    pool.release(second, reference);
+    release(pool, second, reference);
     publish(rt, pool, first, AGAIN, b"");
 }
 
@@ -120,7 +120,7 @@ fn hear_and_create<R: Abort>(
     publish(rt, pool, first, FIRST, b"");
     let reference = get(rt, pool, second, FIRST);
     clear(rt, pool, first, FIRST, true);
-    pool.release(second, reference);
+    release(pool, second, reference);
     tell(pool, second, first);
     let filling = fill(rt, pool, first, AGAIN, b"");
     filling.leave();
@@ -236,59 +236,43 @@ fn fills_all_places_of_a_lane(rt: HostRuntime) {
     fill_last(&rt, rt.alloc(), 16, &keys_of(983040));
 }
 
-/// A published key is found, its reference stays with the lane, and its object is read where the get tells.
-fn get_by_key<T: Clear + Drop, R: Abort>(
+/// A published key is found, its reference stays with the lane, and its bytes are read where the get tells.
+fn get_by_key<R: Abort>(
     rt: &R,
-    pool: &Pool<T>,
-    lane: &mut Lane<T>,
+    pool: &Pool<ByteBuf>,
+    lane: &mut Lane<ByteBuf>,
     key: u64,
-    room: usize,
+    bytes: &[u8],
 )
     requires { Owns pool.now lane.old × (refs lane.old < 1000) }
-    ensures owns { Owns pool.now lane.new }
-    ensures refs { refs lane.new ≡ refs lane.old + 1 }
+    ensures { Owns pool.now lane.new }
 {
     let Some(start) = pool.get_at(lane, key) else {
         panic!(rt; "{key} isn't found")
     };
-    same(rt, &lane.read_at(start, key).room(), &room);
-}
-
-/// A reference is given back by its key.
-fn release_by_key<T: Clear + Drop, R: Abort>(rt: &R, pool: &Pool<T>, lane: &mut Lane<T>, key: u64)
-    requires { Owns pool.now lane.old }
-    ensures owns { Owns pool.now lane.new }
-    ensures refs { refs lane.new + 1 ≡ refs lane.old }
-{
-    if !pool.release_key(lane, key) {
-        panic!(rt; "no reference to {key}")
-    }
+    same(rt, &lane.read_at(start, key).as_slice(), &bytes);
+    same(rt, &lane.holds(key), &1);
 }
 
 /// A key is got, read, cleared by the other lane and given back, by its number alone.
-fn call_by_key<T: Clear + Drop, R: Abort>(
+fn call_by_key<R: Abort>(
     rt: &R,
-    pool: &Pool<T>,
-    first: &mut Lane<T>,
-    second: &mut Lane<T>,
+    pool: &Pool<ByteBuf>,
+    first: &mut Lane<ByteBuf>,
+    second: &mut Lane<ByteBuf>,
 )
     requires first { Owns pool.now first.old × (refs first.old < 1000) }
     requires second { Owns pool.now second.old }
 {
-    let filling = create(rt, pool, first);
-    let room = filling.value().room();
-    let key = pool.publish(first, filling);
-    get_by_key(rt, pool, first, key, room);
-    same(rt, &first.holds(key), &1);
-    clear(rt, pool, second, key, true);
-    release_by_key(rt, pool, first, key);
+    publish(rt, pool, first, FIRST, b"k");
+    get_by_key(rt, pool, first, FIRST, b"k");
+    clear(rt, pool, second, FIRST, true);
+    same(rt, &pool.release_key(first, FIRST), &true);
     pool.meet(first, second);
 }
 
 #[test]
-fn calls_pools_of_buffers_and_of_records(rt: HostRuntime) {
-    let (pool, mut first, mut second) = open_pair::<ByteBuf, _>(&rt, rt.alloc(), shape_of(2, 1, 1));
-    call_by_key(&rt, &pool, &mut first, &mut second);
-    let (pool, mut first, mut second) = open_pair::<Record, _>(&rt, rt.alloc(), shape_of(2, 1, 1));
+fn calls_by_key(rt: HostRuntime) {
+    let (pool, mut first, mut second) = open_pair(&rt, rt.alloc(), shape_of(2, 1, 1));
     call_by_key(&rt, &pool, &mut first, &mut second);
 }
