@@ -1,4 +1,4 @@
-//! Tests of keys, cells, free places, the pool of one thread with its checker, the core, and the programs' libraries: they stand
+//! Tests of keys, cells, the pool of one thread with its checker, the core, and the programs' libraries: they stand
 //! in a crate of their own, which proves no function of these libraries again.
 #![tactic(auto)]
 
@@ -17,8 +17,6 @@ mod test_core;
 #[cfg(test)]
 mod test_endings;
 #[cfg(test)]
-mod test_free_places;
-#[cfg(test)]
 mod test_key_lines;
 #[cfg(test)]
 mod test_keys;
@@ -31,8 +29,6 @@ mod test_plans;
 #[cfg(test)]
 mod test_programs;
 #[cfg(test)]
-mod test_random;
-#[cfg(test)]
 mod test_replays;
 #[cfg(test)]
 mod test_rows;
@@ -40,8 +36,6 @@ mod test_rows;
 mod test_runs;
 #[cfg(test)]
 mod test_schedules;
-#[cfg(test)]
-mod test_tasks;
 #[cfg(test)]
 mod test_texts;
 #[cfg(test)]

@@ -147,58 +147,6 @@ fn a_record_takes_eight_numbers(rt: HostRuntime) {
     has_numbers(&rt, &record, &[9]);
 }
 
-fn each_shows(rt: &impl Abort, shares: &[Option<Share<Record>>], numbers: &[u64]) {
-    for share in shares {
-        let share = share.as_ref().expect(rt, "a share");
-        has_numbers(rt, share.read(), numbers);
-    }
-}
-
-// Splits the cell, reads each share, and joins them.
-fn read_apart(
-    rt: &impl Abort,
-    alloc: Global,
-    whole: Whole<Record>,
-    n: usize,
-    numbers: &[u64],
-) -> Whole<Record>
-    requires { (0 < n) × (n ≤ 16) }
-    ensures { result ≡ whole }
-{
-    let shares = whole.split(n);
-    same(rt, &shares.len(), &n);
-    each_shows(rt, shares.as_slice(), numbers);
-    join(alloc, shares)
-}
-
-/// The record takes this number, and then each of n shares has these.
-fn with_number<R: Abort>(
-    rt: &R,
-    alloc: Global,
-    whole: Whole<Record>,
-    n: usize,
-    number: u64,
-    numbers: &[u64],
-) -> Whole<Record>
-    requires { (0 < n) × (n ≤ 16) }
-{
-    let mut whole = whole;
-    assert!(rt; whole.get_mut().push(number));
-    let whole = read_apart(rt, alloc, whole, n, numbers);
-    has_numbers(rt, whole.get(), numbers);
-    whole
-}
-
-#[test]
-fn each_share_of_a_record_shows_its_numbers(rt: HostRuntime) {
-    for n in 1..=16 {
-        let whole = cell_of(&rt, rt.alloc(), Record::fresh(rt.alloc()));
-        let whole = with_number(&rt, rt.alloc(), whole, n, 7, &[7]);
-        let whole = with_number(&rt, rt.alloc(), whole, n, 8, &[7, 8]);
-        has_numbers(&rt, &whole.into_inner(), &[7, 8]);
-    }
-}
-
 // Who reads a share hands on the very share.
 #[derive(Drop)]
 struct SameShare(Snapshot<Share<ByteBuf>>);

@@ -1,12 +1,8 @@
 use crate::fake_writers::{Clogged, Deaf, Halting};
 use crate::test_plans::is_told;
-use crate::test_programs::{fault_of, says_output, wrote};
+use crate::test_programs::{fault_of, wrote};
 use crate::test_texts::{same, same_at};
-use coresteps::CoreFault;
-use keybits::ShapeFault;
-use poolprogram::{RunFault, check_text};
-use scripts::{ScriptFault, ScriptPlace, ScriptRefusal};
-use seqpool::{ActsFault, ActsRefusal};
+use poolprogram::check_text;
 use std::alloc::AllocGlobal;
 use std::io::Write;
 use std::process::Abort;
@@ -103,28 +99,6 @@ const NO_ACTS: &str = "19 ActsLine|~
 6 Tag|shape 1 1 1 4294967295 256
 ";
 
-// Faults of script files, with their numbers and names.
-const READ_FAULTS: [(ScriptFault, u32, &str); 11] = [
-    (ScriptFault::NotJson, 31, "NotJson"),
-    (ScriptFault::Field, 32, "Field"),
-    (ScriptFault::Act, 33, "Act"),
-    (ScriptFault::Register, 34, "Register"),
-    (ScriptFault::Number, 35, "Number"),
-    (ScriptFault::Shape(ShapeFault::Lanes), 1, "Lanes"),
-    (ScriptFault::Shape(ShapeFault::FirstPage), 2, "FirstPage"),
-    (ScriptFault::Shape(ShapeFault::Pages), 3, "Pages"),
-    (ScriptFault::Shape(ShapeFault::Generation), 4, "Generation"),
-    (ScriptFault::Shape(ShapeFault::Tag), 6, "Tag"),
-    (ScriptFault::Memory, 36, "Memory"),
-];
-
-// Faults of texts of acts, with their numbers and names.
-const ACTS_FAULTS: [(ActsFault, u32, &str); 3] = [
-    (ActsFault::ActsLine, 19, "ActsLine"),
-    (ActsFault::Shape(ShapeFault::Tag), 6, "Tag"),
-    (ActsFault::Memory, 18, "Memory"),
-];
-
 /// What is said of a text of acts, which are legal exactly where the line says so.
 fn says<R: Abort + AllocGlobal>(rt: &R, acts: &str, line: &str) {
     let mut out = Watched::new(Vec::new(rt.alloc()));
@@ -141,22 +115,10 @@ fn refuses<R: Abort + AllocGlobal>(rt: &R, acts: &str, wanted: &str) {
     wrote(rt, out, "", acts);
 }
 
-/// What is said of a text of acts doesn't get out.
-fn fails<W: Write + Drop, R: Abort + AllocGlobal>(rt: &R, acts: &str, writer: W) {
-    let mut out = Watched::new(writer);
-    let answer = check_text(rt.alloc(), acts.as_bytes(), &mut out);
-    says_output(rt, &answer, &out);
-}
-
 /// Whether a write succeeds, and whether one failed so far.
 fn write_to<W: Write>(out: &mut Watched<W>, bytes: &[u8]) -> (bool, bool) {
     let succeeds = out.write(bytes).is_ok();
     (succeeds, out.failed())
-}
-
-/// A fault has this number and name.
-fn is_named<R: Abort>(rt: &R, fault: &RunFault, number: u32, name: &'static str) {
-    same(rt, &(fault.number(), fault.name()), &(number, name));
 }
 
 #[test]
@@ -164,7 +126,6 @@ fn checks(rt: HostRuntime) {
     for row in CHECKS.split(';') {
         let (acts, line) = row.trim_start().split_once('=').expect(&rt, "a row");
         says(&rt, acts, line);
-        fails(&rt, acts, Halting { room: 10 });
     }
 }
 
@@ -174,12 +135,6 @@ fn refuses_acts(rt: HostRuntime) {
         let (wanted, acts) = row.trim_start().split_once('|').expect(&rt, "a row");
         refuses(&rt, acts, wanted);
     }
-}
-
-#[test]
-fn check_fails_with_its_writer(rt: HostRuntime) {
-    fails(&rt, "shape 1 1 1 1\n", Deaf);
-    fails(&rt, "shape 1 1 1 1\n", Clogged);
 }
 
 #[test]
@@ -198,21 +153,4 @@ fn watches(rt: HostRuntime) {
     let mut out = Watched::new(Clogged);
     same(&rt, &write_to(&mut out, b"a"), &(true, false));
     assert!(rt; out.flush().is_err() && out.failed());
-}
-
-#[test]
-fn names_faults(rt: HostRuntime) {
-    for (fault, number, name) in &READ_FAULTS {
-        let refusal = ScriptRefusal::new(*fault, ScriptPlace::File);
-        is_named(&rt, &RunFault::Read(refusal), *number, name);
-    }
-    for (fault, number, name) in &ACTS_FAULTS {
-        let refusal = ActsRefusal::at_line(*fault, 1);
-        is_named(&rt, &RunFault::Acts(refusal), *number, name);
-    }
-    is_named(&rt, &RunFault::Core(CoreFault::Memory), 25, "Memory");
-    is_named(&rt, &RunFault::Open, 5, "Memory");
-    is_named(&rt, &RunFault::File, 41, "File");
-    is_named(&rt, &RunFault::Output, 42, "Output");
-    is_named(&rt, &RunFault::Memory, 43, "Memory");
 }

@@ -1,7 +1,7 @@
 use crate::test_acts_texts::are_answered;
-use crate::test_texts::{reads, same, shows};
+use crate::test_texts::shows;
 use keybits::{Shape, ShapeFault};
-use seqpool::{Act, ActsFault, ApplyFault, Bytes, CheckFault, Memory, Places, write_acts};
+use seqpool::{Act, ActsFault, ApplyFault, Bytes, CheckFault, Memory, Places};
 use std::alloc::Global;
 use std::process::Abort;
 
@@ -12,11 +12,6 @@ const LARGEST: Shape = Shape {
     last_generation: 4294967295,
     tag: 255,
 };
-
-fn content_of<R: Abort>(rt: &R, alloc: Global, bytes: &[u8]) -> Bytes {
-    let bytes = Vec::from_slice(alloc, bytes).expect(rt, "memory for the bytes");
-    Bytes::from_vec(bytes)
-}
 
 fn places_of<R: Abort>(rt: &R, alloc: Global, places: &[u32]) -> Places {
     let places = Vec::from_slice(alloc, places).expect(rt, "memory for the places");
@@ -73,40 +68,6 @@ fn long_histories_are_checked(rt: HostRuntime) {
     collect(&rt, rt.alloc(), &mut acts, &[1004519]);
     let want = "Illegal(4001, 17)";
     are_answered(&rt, rt.alloc(), LARGEST, acts.as_slice(), want);
-}
-
-/// A content gives back its bytes.
-fn gives_bytes<R: Abort>(rt: &R, alloc: Global, bytes: &[u8]) {
-    let content = content_of(rt, alloc, bytes);
-    same(rt, &content.into_vec().as_slice(), &bytes);
-}
-
-/// Places give back their numbers.
-fn gives_numbers<R: Abort>(rt: &R, alloc: Global, numbers: &[u32]) {
-    let places = places_of(rt, alloc, numbers);
-    same(rt, &places.into_vec().as_slice(), &numbers);
-}
-
-#[test]
-fn contents_and_places_give_their_vectors_back(rt: HostRuntime) {
-    gives_bytes(&rt, rt.alloc(), b"");
-    gives_bytes(&rt, rt.alloc(), b"\x00\xffhi");
-    gives_numbers(&rt, rt.alloc(), &[]);
-    gives_numbers(&rt, rt.alloc(), &[7, 0, 16777215]);
-}
-
-/// Places are written by rising number, after what was there before.
-#[test]
-fn places_are_written_in_order(rt: HostRuntime) {
-    let mut acts = Vec::new(rt.alloc());
-    collect(&rt, rt.alloc(), &mut acts, &[12, 3, 7]);
-    let mut out = Vec::from_slice(rt.alloc(), b"kept:").expect(&rt, "memory for the text");
-    write_acts(rt.alloc(), &LARGEST, acts.as_slice(), &mut out).expect(&rt, "memory for the text");
-    reads(
-        &rt,
-        out.as_slice(),
-        "kept:shape 16 64 6 4294967295 255\n15 collect 3,7,12\n",
-    );
 }
 
 #[test]

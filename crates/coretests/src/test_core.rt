@@ -3,34 +3,13 @@ ghost use Rattle.keybits.specs.Shapes.{IsShape};
 
 use crate::test_programs::around;
 use crate::test_replays::{ROW, TRACE};
-use crate::test_texts::{reads, same, same_at};
-use coresteps::{Core, Reply, Script, Trace, Turn, run, write_trace};
+use crate::test_texts::{reads, same};
+use coresteps::{Core, Script, Trace, Turn, run, write_trace};
 use keybits::Shape;
 use scripts::{Plan, parse};
-use seqpool::{Act, write_acts};
+use seqpool::Act;
 use std::alloc::{AllocGlobal, Global};
 use std::process::Abort;
-
-/// The shape of the first row.
-const TWO_PLACES: Shape = Shape {
-    lanes: 1,
-    first_page: 2,
-    pages: 1,
-    last_generation: 4294967295,
-    tag: 0,
-};
-
-/// The text of the acts of the first row.
-const ROW_ACTS: &str =
-    "shape 1 2 1 4294967295\n0 publish 16777216 6869 0\n0 get 16777216 some 6869\n";
-
-/// A script without a line.
-const NO_LINE: &str =
-    "{\"shape\":{\"lanes\":1,\"first_page\":2,\"pages\":1,\"last_generation\":4294967295},\"scripts\":[[]]}";
-
-/// A life without a reference.
-const LIFE: &str =
-    "{\"shape\":{\"lanes\":1,\"first_page\":1,\"pages\":1,\"last_generation\":4294967295},\"scripts\":[[[\"create\",0],[\"publish\",0],[\"clear\",16777216]]]}";
 
 // A TAKE between a LINK and its PUSH.
 const RETURNS: &str =
@@ -81,15 +60,6 @@ fn take_turns<R: Abort>(rt: &R, core: &mut Core, lane: u32, count: u32) {
     }
 }
 
-/// Whether it is a turn of this lane in which nothing was done.
-fn is_empty_turn(turn: &Turn, lane: u32) -> bool {
-    turn.lane == lane
-        && turn.before.as_slice().is_empty()
-        && turn.step.is_none()
-        && turn.act.is_none()
-        && turn.after.as_slice().is_empty()
-}
-
 /// The next turn of lane 0 has these lines, and the lane is finished by it or not.
 fn steps<R: Abort>(rt: &R, alloc: Global, core: &mut Core, lines: &str, finished: bool) {
     let mut trace = Trace::empty(alloc);
@@ -108,70 +78,6 @@ fn steps_a_core(rt: HostRuntime) {
     steps(&rt, rt.alloc(), &mut core, lines, false);
     let lines = "0 ENTER 0 4294967297 4294967301\n0 = some 6869\n0 = 6869\n";
     steps(&rt, rt.alloc(), &mut core, lines, true);
-}
-
-/// The acts of so many turns of lane 0, each of which has one.
-fn next_acts<R: Abort>(rt: &R, alloc: Global, core: &mut Core, count: u32) -> Vec<Act> {
-    let mut acts = Vec::new(alloc);
-    for _ in 0..count {
-        let turn = turn_of(rt, core, 0);
-        acts.push(turn.act.expect(rt, "an act"))
-            .expect(rt, "memory for an act");
-    }
-    acts
-}
-
-/// The text of acts of the first row's shape is this.
-fn are_acts<R: Abort>(rt: &R, alloc: Global, acts: &[Act], text: &str) {
-    let mut out = Vec::new(alloc);
-    write_acts(alloc, &TWO_PLACES, acts, &mut out).expect(rt, "memory for the text");
-    reads(rt, out.as_slice(), text);
-}
-
-#[test]
-fn tells_acts(rt: HostRuntime) {
-    let mut core = core_of(&rt, ROW);
-    assert!(rt; core.acts().is_empty());
-    let acts = next_acts(&rt, rt.alloc(), &mut core, 2);
-    are_acts(&rt, rt.alloc(), acts.as_slice(), ROW_ACTS);
-    are_acts(&rt, rt.alloc(), core.acts(), ROW_ACTS);
-}
-
-/// The next turn of a lane is added to the trace. Nothing is done in it exactly where the lane is finished.
-fn add_turn<R: Abort>(rt: &R, core: &mut Core, lane: u32, trace: &mut Trace) {
-    let finished = core.finished(lane);
-    let turn = turn_of(rt, core, lane);
-    same_at(rt, &is_empty_turn(&turn, lane), &finished, lane);
-    trace.push(turn).expect(rt, "memory for a turn");
-}
-
-/// The text of the next turns of these lanes is this.
-fn turns_have<R: Abort>(rt: &R, alloc: Global, core: &mut Core, lanes: &[u32], text: &str) {
-    let mut trace = Trace::empty(alloc);
-    for lane in lanes {
-        add_turn(rt, core, *lane, &mut trace);
-    }
-    is_text(rt, alloc, &trace, text);
-}
-
-#[test]
-fn turns_of_no_lane_do_nothing(rt: HostRuntime) {
-    let mut core = core_of(&rt, ROW);
-    let lanes = [1, 255, 0, 2, 0, 4294967295, 0];
-    turns_have(&rt, rt.alloc(), &mut core, &lanes, TRACE);
-    same(&rt, &core.acts().len(), &2);
-}
-
-#[test]
-fn finished_lanes_do_nothing(rt: HostRuntime) {
-    let mut core = core_of(&rt, NO_LINE);
-    let finished = [
-        core.finished(0),
-        core.finished(1),
-        core.finished(4294967295),
-    ];
-    same(&rt, &finished, &[true, true, true]);
-    turns_have(&rt, rt.alloc(), &mut core, &[0, 1, 4294967295], "");
 }
 
 /// The text of the trace of the first row by a schedule is this.
@@ -193,38 +99,6 @@ fn runs_a_thousand_entries(rt: HostRuntime) {
     runs(&rt, &mixed, TRACE);
 }
 
-/// The first reply after the step of this turn is this key.
-fn replies_key<R: Abort>(rt: &R, turns: &[Turn], index: usize, wanted: u64) {
-    let turn = turns.get(index).expect(rt, "a turn");
-    let reply = turn.after.as_slice().first().expect(rt, "a reply");
-    assert!(rt;
-        matches!(reply, Reply::Key(key) if *key == wanted),
-        "turn {index}"
-    );
-}
-
-#[test]
-fn runs_hundreds_of_steps(rt: HostRuntime) {
-    let file = around(
-        &rt,
-        "{\"shape\":{\"lanes\":1,\"first_page\":64,\"pages\":6,\"last_generation\":4294967295},\"scripts\":[[[\"create\",0],[\"write\",0,\"61\"],[\"publish\",0]",
-        ",[\"create\",0],[\"write\",0,\"61\"],[\"publish\",0]",
-        192,
-        "]]}",
-    );
-    let trace = trace_of(&rt, file.as_str(), &[0; 1000]);
-    same(&rt, &trace.as_slice().len(), &193);
-    for (index, wanted) in [
-        (0, 16777216),
-        (63, 16777279),
-        (64, 16781312),
-        (191, 16781439),
-        (192, 16785408),
-    ] {
-        replies_key(&rt, trace.as_slice(), index, wanted);
-    }
-}
-
 /// The turns of a schedule.
 fn take_all<R: Abort>(rt: &R, core: &mut Core, schedule: &[u32]) {
     for lane in schedule {
@@ -244,15 +118,6 @@ fn tells_the_most_steps(rt: HostRuntime) {
         core.most(4294967295),
     ];
     same(&rt, &most, &[(2, 3), (0, 6), (0, 0), (0, 0)]);
-}
-
-#[test]
-fn counts_a_call_under_way(rt: HostRuntime) {
-    let mut core = core_of(&rt, LIFE);
-    for most in [1, 1, 2, 3, 4] {
-        take_turns(&rt, &mut core, 0, 1);
-        same(&rt, &core.most(0), &(0, most));
-    }
 }
 
 /// Lane 15 publishes at the first of its places and at each other, and creates once more. Lane 0 clears the first.

@@ -1,6 +1,7 @@
 //! The whole program `poolrun`: what it writes on both writers, and how it ends.
 use crate::fake_writers::Halting;
 use crate::test_programs::{words_of, wrote};
+use crate::test_replays::ROW;
 use crate::test_texts::same_at;
 use poolprogram::run_program;
 use std::alloc::AllocGlobal;
@@ -19,7 +20,15 @@ struct Row {
     status: u8,
 }
 
-const ROWS: [Row; 7] = [
+const ROWS: [Row; 8] = [
+    // One of five drawn turns counts, and its acts are wanted.
+    Row {
+        words: "poolrun|replay|-|--seed|1|--turns|5|--stop|0:1|--acts",
+        input: ROW,
+        said: "shape 1 2 1 4294967295\n0 publish 16777216 6869 0\n",
+        told: "",
+        status: 0,
+    },
     Row {
         words: "poolrun|key|16777216",
         input: "",

@@ -1,9 +1,7 @@
-use crate::fake_writers::{Clogged, Deaf, Halting};
-use crate::test_programs::{says_output, wrote};
+use crate::test_programs::wrote;
 use crate::test_texts::same_at;
 use poolprogram::key_text;
 use std::alloc::AllocGlobal;
-use std::io::Write;
 use std::process::Abort;
 use streams::Watched;
 
@@ -39,13 +37,6 @@ fn names<R: Abort + AllocGlobal>(rt: &R, number: u64, known: bool, line: &str) {
     wrote(rt, out, line, line);
 }
 
-/// What is said of a number doesn't get out.
-fn fails<W: Write + Drop, R: Abort + AllocGlobal>(rt: &R, number: u64, writer: W) {
-    let mut out = Watched::new(writer);
-    let answer = key_text(rt.alloc(), number, &mut out);
-    says_output(rt, &answer, &out);
-}
-
 #[test]
 fn names_keys(rt: HostRuntime) {
     for row in KEYS.split_inclusive('\n') {
@@ -60,12 +51,4 @@ fn names_no_keys(rt: HostRuntime) {
     for number in &NO_KEYS {
         names(&rt, *number, false, "no key\n");
     }
-}
-
-#[test]
-fn key_fails_with_its_writer(rt: HostRuntime) {
-    fails(&rt, 0, Halting { room: 3 });
-    fails(&rt, 16_842_752, Halting { room: 3 });
-    fails(&rt, 0, Deaf);
-    fails(&rt, 0, Clogged);
 }

@@ -1,8 +1,5 @@
 use crate::test_texts::{same, same_at, shows};
-use keybits::{
-    Key, Life, Place, Shape, ShapeFault, State, claimed, entered, fits, left, link_to,
-    linked_place, marked, published,
-};
+use keybits::{Key, Place, Shape, ShapeFault};
 use std::process::Abort;
 
 const LARGEST: Shape = Shape {
@@ -39,132 +36,6 @@ fn keys_are_packed_and_unpacked(rt: HostRuntime) {
         (15, 5, 2047, 1, 17782783),
     ] {
         packs(&rt, Place { shard, page, slot }, generation, number);
-    }
-}
-
-#[test]
-fn keys_have_tags(rt: HostRuntime) {
-    let place = Place {
-        shard: 255,
-        page: 15,
-        slot: 4095,
-    };
-    let key = Key::pack_tagged(255, place, 4294967295).expect(&rt, "a key");
-    same(&rt, &key.number(), &18446744073709551615);
-    // The largest number, and one of generation 0.
-    let tagged = [
-        Key::unpack_tagged(18446744073709551615),
-        Key::unpack_tagged(16777215),
-    ];
-    same(&rt, &tagged, &[Some((255, place, 4294967295)), None]);
-    let keys = [Key::unpack(18446744073709551615), Key::unpack(0)];
-    same(&rt, &keys, &[None, None]);
-}
-
-/// The place, or the generation, is one that no key has.
-fn has_no_key<R: Abort>(rt: &R, place: Place, generation: u32) {
-    same(rt, &Key::pack(place, generation), &None);
-    same(rt, &Key::pack_tagged(9, place, generation), &None);
-}
-
-#[test]
-fn places_outside_have_no_keys(rt: HostRuntime) {
-    for (page, slot, generation) in [(16, 0, 1), (0, 4096, 1), (0, 0, 0)] {
-        let place = Place {
-            shard: 0,
-            page,
-            slot,
-        };
-        has_no_key(&rt, place, generation);
-    }
-}
-
-const TAG: u64 = 7 * 72057594037927936;
-
-/// Numbers, and whether they fit the small shape.
-const NUMBERS: [(u64, bool); 9] = [
-    (TAG + 16777216, true),
-    (TAG + 3 * 16777216 + 65536 + 4096 + 3, true),
-    (16777216, false),
-    (TAG + 0, false),
-    (TAG + 4 * 16777216, false),
-    (TAG + 16777216 + 2 * 65536, false),
-    (TAG + 16777216 + 2 * 4096, false),
-    (TAG + 16777216 + 2, false),
-    (TAG + 16777216 + 4096 + 4, false),
-];
-
-#[test]
-fn numbers_fit_a_shape(rt: HostRuntime) {
-    for (number, inside) in NUMBERS {
-        same_at(&rt, &fits(number, &SMALL), &inside, number);
-    }
-}
-
-#[test]
-fn words_after_steps(rt: HostRuntime) {
-    let words = [
-        published(4294967296, false),
-        entered(4294967297),
-        left(4294967301),
-        entered(4294967297),
-        marked(4294967301),
-        left(4294967303),
-        claimed(4294967299, 4294967295),
-        claimed(4294967299, 1),
-        published(4294967296, true),
-        marked(4294967303),
-    ];
-    let wanted = [
-        4294967297, 4294967301, 4294967297, 4294967301, 4294967303, 4294967299, 8589934592,
-        4294967298, 4294967301, 4294967303,
-    ];
-    same(&rt, &words, &wanted);
-}
-
-#[test]
-fn words_say_lives(rt: HostRuntime) {
-    for (word, generation, count, state) in [
-        (4294967296, 1, 0, State::Idle),
-        (4294967301, 1, 1, State::Present),
-        (4294967298, 1, 0, State::Retired),
-        (4294967303, 1, 1, State::Marked),
-        (18446744073709551615, 4294967295, 1073741823, State::Marked),
-    ] {
-        let life = Life {
-            generation,
-            count,
-            state,
-        };
-        same_at(&rt, &Life::of_word(word), &life, word);
-        assert!(rt; count <= 1073741823);
-        same(&rt, &life.word(), &word);
-    }
-}
-
-#[test]
-fn shapes_are_checked(rt: HostRuntime) {
-    for (lanes, first_page, pages, last_generation, tag, want) in [
-        (16, 64, 6, 4294967295, 255, Ok(())),
-        (1, 1, 1, 1, 0, Ok(())),
-        (0, 64, 6, 1, 0, Err(ShapeFault::Lanes)),
-        (17, 3, 7, 0, 256, Err(ShapeFault::Lanes)),
-        (16, 0, 6, 1, 0, Err(ShapeFault::FirstPage)),
-        (16, 3, 7, 0, 256, Err(ShapeFault::FirstPage)),
-        (16, 128, 6, 1, 0, Err(ShapeFault::FirstPage)),
-        (16, 64, 0, 1, 0, Err(ShapeFault::Pages)),
-        (16, 64, 7, 0, 256, Err(ShapeFault::Pages)),
-        (16, 64, 6, 0, 256, Err(ShapeFault::Generation)),
-        (16, 64, 6, 1, 256, Err(ShapeFault::Tag)),
-    ] {
-        let shape = Shape {
-            lanes,
-            first_page,
-            pages,
-            last_generation,
-            tag,
-        };
-        same_at(&rt, &shape.check(), &want, shape);
     }
 }
 
@@ -257,19 +128,4 @@ fn places_have_positions(rt: HostRuntime) {
     for number in OUTSIDE {
         same_at(&rt, &SMALL.is_place(number), &false, number);
     }
-}
-
-const LAST_PLACE: u32 = 15 * 65536 + 22527;
-
-#[test]
-fn links_stand_for_places(rt: HostRuntime) {
-    let places = [0, 65539, LAST_PLACE];
-    let words = [link_to(0), link_to(65539), link_to(LAST_PLACE)];
-    same(&rt, &words, &[1, 4, 22528]);
-    let linked = [
-        linked_place(0, 1),
-        linked_place(1, 4),
-        linked_place(15, 22528),
-    ];
-    same(&rt, &linked, &places);
 }

@@ -1,10 +1,9 @@
-use crate::test_programs::{Fault, is_fault, replay_fault_of};
+use crate::test_programs::{Fault, replay_fault_of};
 use crate::test_texts::{same, same_at};
 use keybits::Shape;
 use scripts::{Plan, parse};
 use std::alloc::AllocGlobal;
 use std::process::Abort;
-use traces::{Command, Operand};
 
 const FIRST_ROW: &str =
     "{\"shape\":{\"lanes\":1,\"first_page\":2,\"pages\":1,\"last_generation\":4294967295},\n \"scripts\":[[[\"create\",0],[\"write\",0,\"6869\"],[\"publish\",0],\n [\"get\",1,16777216],[\"read\",1],[\"release\",1],[\"clear\",16777216]]]}";
@@ -133,11 +132,6 @@ fn is_no_json<R: Abort + AllocGlobal>(rt: &R, file: &[u8]) {
     same_at(rt, &replay_fault_of(rt, file), &Some((31, "NotJson")), file);
 }
 
-/// The fields of a file are no plan's.
-fn lacks_fields<R: Abort + AllocGlobal>(rt: &R, file: &str) {
-    is_fault(rt, reading_fault_of(rt, file.as_bytes()), 32, "Field", file);
-}
-
 /// The plan of a file, which has this shape.
 fn plan_of<R: Abort + AllocGlobal>(rt: &R, file: &str, shape: Shape) -> Plan {
     let plan = parse(rt.alloc(), file.as_bytes()).expect(rt, "a plan");
@@ -184,17 +178,6 @@ fn refuses_what_is_no_json(rt: HostRuntime) {
 }
 
 #[test]
-fn refuses_other_fields(rt: HostRuntime) {
-    lacks_fields(&rt, "[]");
-    lacks_fields(&rt, "0");
-    lacks_fields(&rt, "{}");
-    let more = format!(in rt.alloc(); "{{\"shape\":{SHAPE},\"scripts\":{SCRIPTS},\"more\":0}}");
-    lacks_fields(&rt, more.expect(&rt, "memory for a file").as_str());
-    let other = format!(in rt.alloc(); "{{\"shape\":{SHAPE},\"script\":{SCRIPTS}}}");
-    lacks_fields(&rt, other.expect(&rt, "memory for a file").as_str());
-}
-
-#[test]
 fn reads_the_last_of_repeated_fields(rt: HostRuntime) {
     let file = format!(in rt.alloc(); "{{\"shape\":0,\"shape\":{SHAPE},\"scripts\":[[]]}}");
     let file = file.expect(&rt, "memory for a file");
@@ -206,44 +189,4 @@ fn reads_the_last_of_repeated_fields(rt: HostRuntime) {
 fn reads_the_first_row(rt: HostRuntime) {
     let plan = plan_of(&rt, FIRST_ROW, TWO_PLACES);
     have_lengths(&rt, &plan, &[7]);
-}
-
-/// Whether a command of the second lane is the one at this place.
-fn is_command_at(at: usize, command: &Command) -> bool {
-    match (at, command) {
-        (0, Command::Create(register)) => register.number == 15,
-        (1, Command::Downgrade(register)) => register.number == 15,
-        (2, Command::Release(register)) => register.number == 9,
-        (3, Command::Clear(Operand::LastOf(register))) => register.number == 15,
-        (4, Command::Get(_, Operand::Number(18_446_744_073_709_551_615))) => true,
-        _ => false,
-    }
-}
-
-/// The commands of a plan's scripts are those of the second lane.
-fn have_commands<R: Abort>(rt: &R, plan: &Plan) {
-    for script in plan.scripts.as_slice() {
-        for (at, command) in script.as_slice().iter().enumerate() {
-            assert!(rt; is_command_at(at, command));
-        }
-    }
-}
-
-#[test]
-fn reads_two_lanes_and_a_tag(rt: HostRuntime) {
-    let file = file_of(
-        &rt,
-        "{\"tag\":255,\"last_generation\":1,\"pages\":6,\"first_page\":64,\"lanes\":2}",
-        "[[],[[\"create\",15],[\"downgrade\",15],[\"release\",9],[\"clear\",\"@15\"],[\"get\",3,18446744073709551615]]]",
-    );
-    let shape = Shape {
-        lanes: 2,
-        first_page: 64,
-        pages: 6,
-        last_generation: 1,
-        tag: 255,
-    };
-    let plan = plan_of(&rt, file.as_str(), shape);
-    have_lengths(&rt, &plan, &[0, 5]);
-    have_commands(&rt, &plan);
 }

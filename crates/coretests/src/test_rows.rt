@@ -1,7 +1,6 @@
 use crate::test_programs::{
     check_of, is_fault, reads_at, replay_fault_of, replay_of, replays_as, schedule_of,
 };
-use crate::test_texts::same;
 use poolprogram::stop_after;
 use std::alloc::AllocGlobal;
 use std::process::Abort;
@@ -441,17 +440,6 @@ fn replays_rows(rt: HostRuntime) {
     for row in ENDS.split(';') {
         ends(&rt, row);
     }
-}
-
-#[test]
-fn stops_a_lane_after_a_turn(rt: HostRuntime) {
-    let whole = [0, 0, 1, 0, 0, 0, 0, 0, 0, 1, 1, 1, 1, 1, 1];
-    let rest = stopped(&rt, &whole, 1, 1);
-    same(
-        &rt,
-        &rest.as_slice(),
-        &[0, 0, 1, 0, 0, 0, 0, 0, 0].as_slice(),
-    );
 }
 
 // Titles, and below each a script file, a schedule and what is said of its acts.

@@ -3,7 +3,7 @@ ghost use Rattle.std.specs.Prelude.{◌≤◌};
 use crate::test_programs::schedule_of;
 use crate::test_texts::same;
 use poolprogram::read_schedule;
-use scripts::{Memory, draw, stop_after};
+use scripts::{draw, stop_after};
 use std::alloc::AllocGlobal;
 use std::process::Abort;
 
@@ -88,9 +88,4 @@ fn stops(rt: HostRuntime) {
     leaves(&rt, &schedule, 1, 4_294_967_295, &schedule);
     leaves(&rt, &schedule, 2, 0, &schedule);
     leaves(&rt, &[], 0, 0, &[]);
-}
-
-#[test]
-fn names_the_want_of_memory(rt: HostRuntime) {
-    same(&rt, &(Memory.number(), Memory.name()), &(36, "Memory"));
 }

@@ -1,18 +1,8 @@
-use crate::test_programs::{around, schedule_of, words_of};
-use crate::test_texts::{same, same_at};
+use crate::test_programs::words_of;
+use crate::test_texts::same_at;
 use commandline::{Task, TaskFault, task};
 use std::alloc::AllocGlobal;
 use std::process::Abort;
-
-#[test]
-fn reads_a_thousand_entries(rt: HostRuntime) {
-    let text = around(&rt, "0", ",0", 999, "");
-    let schedule = schedule_of(&rt, text.as_str());
-    same(&rt, &schedule.len(), &1000);
-    for lane in schedule.as_slice() {
-        same(&rt, &(*lane), &0);
-    }
-}
 
 /// The task of some words, with a bar between each two.
 fn task_of<R: Abort + AllocGlobal>(rt: &R, words: &str) -> Result<Task, TaskFault> {

@@ -4,9 +4,9 @@
 
 pub mod contents;
 #[cfg(test)]
-mod test_calls;
+mod grids;
 #[cfg(test)]
-mod test_cells;
+mod test_calls;
 #[cfg(test)]
 mod test_close;
 #[cfg(test)]

@@ -244,6 +244,42 @@ pub(crate) fn publish<R: Abort>(
     same(rt, &pool.publish(lane, filling), &key);
 }
 
+/// An object that is left empty is published. Answers its key.
+pub(crate) fn put<T: Clear + Drop, R: Abort>(rt: &R, pool: &Pool<T>, lane: &mut Lane<T>) -> u64
+    requires { Owns pool.now lane.old }
+    ensures owns { Owns pool.now lane.new }
+    ensures refs { refs lane.new ≡ refs lane.old }
+{
+    let filling = create(rt, pool, lane);
+    pool.publish(lane, filling)
+}
+
+/// An object that is left empty is published with a reference.
+pub(crate) fn hold<T: Clear + Drop, R: Abort>(
+    rt: &R,
+    pool: &Pool<T>,
+    lane: &mut Lane<T>,
+) -> Ref<T>
+    requires owns { Owns pool.now lane.old }
+    requires room { refs lane.old < 1000 }
+    ensures owns { Owns pool.now lane.new }
+    ensures refs { refs lane.new ≡ refs lane.old + 1 }
+    ensures held { 1 ≤ holds lane.new result.key }
+{
+    let filling = create(rt, pool, lane);
+    pool.downgrade(lane, filling)
+}
+
+/// A reference is given back.
+pub(crate) fn release<T: Clear + Drop>(pool: &Pool<T>, lane: &mut Lane<T>, reference: Ref<T>)
+    requires owns { Owns pool.now lane.old }
+    requires held { 1 ≤ holds lane.old reference.key }
+    ensures owns { Owns pool.now lane.new }
+    ensures refs { refs lane.new + 1 ≡ refs lane.old }
+{
+    pool.release(lane, reference);
+}
+
 /// A get that finds the key.
 pub(crate) fn get<T: Clear + Drop, R: Abort>(
     rt: &R,
@@ -299,7 +335,7 @@ pub(crate) fn clear<T: Clear + Drop, R: Abort>(
     ensures held { (key : ℕ) → holds lane.new key ≡ holds lane.old key }
     ensures fillings { (filling : FillingOf T) → Made lane.old filling → Made lane.new filling }
 {
-    assert_eq!(rt; pool.clear(lane, key), marks, "clear of {key}");
+    same(rt, &pool.clear(lane, key), &marks);
 }
 
 /// A reference shows these bytes.

@@ -2,7 +2,8 @@
 ghost use Rattle.shardpool.specs.Lanes.{Owns};
 
 use crate::test_calls::{
-    NO_PLACE, clear, close_one, close_two, create, finds_full, open_last, open_pair, same, shape_of,
+    NO_PLACE, clear, close_one, close_two, create, finds_full, hold, open_last, open_pair, put,
+    same, shape_of,
 };
 use keybits::Shape;
 use shardpool::{Census, Lane, Pool};
@@ -15,8 +16,7 @@ fn use_up<T: Clear + Drop, R: Abort>(rt: &R, pool: &Pool<T>, lane: &mut Lane<T>)
     requires { Owns pool.now lane.old }
     ensures { Owns pool.now lane.new }
 {
-    let filling = create(rt, pool, lane);
-    let key = pool.publish(lane, filling);
+    let key = put(rt, pool, lane);
     clear(rt, pool, lane, key, true);
     finds_full(rt, pool, lane);
 }
@@ -34,8 +34,7 @@ fn close_used_up<T: Clear + Drop, R: Abort>(rt: &R, alloc: Global) -> Census {
 /// A place is published with a reference, which is left, and cleared.
 fn close_marked<T: Clear + Drop, R: Abort>(rt: &R, alloc: Global) -> Census {
     let (pool, mut first, second) = open_pair::<T, _>(rt, alloc, shape_of(2, 1, 1));
-    let filling = create(rt, &pool, &mut first);
-    let reference = pool.downgrade(&mut first, filling);
+    let reference = hold(rt, &pool, &mut first);
     clear(rt, &pool, &mut first, reference.key(), true);
     reference.leave();
     close_two(rt, alloc, pool, first, second)
@@ -44,8 +43,7 @@ fn close_marked<T: Clear + Drop, R: Abort>(rt: &R, alloc: Global) -> Census {
 /// The first lane publishes, and the second clears, which returns the place.
 fn close_returned<T: Clear + Drop, R: Abort>(rt: &R, alloc: Global) -> Census {
     let (pool, mut first, mut second) = open_pair::<T, _>(rt, alloc, shape_of(2, 1, 1));
-    let filling = create(rt, &pool, &mut first);
-    let key = pool.publish(&mut first, filling);
+    let key = put(rt, &pool, &mut first);
     clear(rt, &pool, &mut second, key, true);
     close_two(rt, alloc, pool, first, second)
 }
@@ -57,44 +55,34 @@ fn close_filling<T: Clear + Drop, R: Abort>(rt: &R, alloc: Global) -> Census {
     close_one(rt, alloc, pool, lane)
 }
 
-#[test]
-fn counts_a_retired_place(rt: HostRuntime) {
-    let census = Census {
+/// What is counted of a pool of these objects where its place is retired, marked, returned or under a filling.
+fn counts_each<T: Clear + Drop, R: Abort>(rt: &R, alloc: Global) {
+    let retired = Census {
         retired: 1,
         ..NO_PLACE
     };
-    same(&rt, &close_used_up::<ByteBuf, _>(&rt, rt.alloc()), &census);
-    same(&rt, &close_used_up::<Record, _>(&rt, rt.alloc()), &census);
-}
-
-#[test]
-fn counts_a_marked_place(rt: HostRuntime) {
-    let census = Census {
+    same(rt, &close_used_up::<T, _>(rt, alloc), &retired);
+    let marked = Census {
         unopened: 1,
         marked: 1,
         ..NO_PLACE
     };
-    same(&rt, &close_marked::<ByteBuf, _>(&rt, rt.alloc()), &census);
-    same(&rt, &close_marked::<Record, _>(&rt, rt.alloc()), &census);
-}
-
-#[test]
-fn counts_a_returned_place(rt: HostRuntime) {
-    let census = Census {
+    same(rt, &close_marked::<T, _>(rt, alloc), &marked);
+    let returned = Census {
         free: 1,
         unopened: 1,
         ..NO_PLACE
     };
-    same(&rt, &close_returned::<ByteBuf, _>(&rt, rt.alloc()), &census);
-    same(&rt, &close_returned::<Record, _>(&rt, rt.alloc()), &census);
-}
-
-#[test]
-fn counts_a_filling(rt: HostRuntime) {
-    let census = Census {
+    same(rt, &close_returned::<T, _>(rt, alloc), &returned);
+    let filling = Census {
         filling: 1,
         ..NO_PLACE
     };
-    same(&rt, &close_filling::<ByteBuf, _>(&rt, rt.alloc()), &census);
-    same(&rt, &close_filling::<Record, _>(&rt, rt.alloc()), &census);
+    same(rt, &close_filling::<T, _>(rt, alloc), &filling);
+}
+
+#[test]
+fn counts_places(rt: HostRuntime) {
+    counts_each::<ByteBuf, _>(&rt, rt.alloc());
+    counts_each::<Record, _>(&rt, rt.alloc());
 }

@@ -23,13 +23,11 @@ struct Counts {
     marked: AtomicU64,
 }
 
-/// The next number of a xorshift.
+/// The next number of a linear congruential generator.
 fn next(random: u64) -> u64 {
-    let mut word = random;
-    word ^= word << 13;
-    word ^= word >> 7;
-    word ^= word << 17;
-    word
+    random
+        .wrapping_mul(6364136223846793005)
+        .wrapping_add(1442695040888963407)
 }
 
 /// A key is cleared that anybody may clear, and may have cleared.

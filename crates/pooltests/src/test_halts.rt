@@ -1,20 +1,10 @@
 ghost use Rattle.std.specs.Prelude.{◌≡◌, ◌≤◌};
 ghost use Rattle.shardpool.specs.Lanes.{Owns, holds, refs};
 
-use crate::test_calls::{clear, create, get, open_pair, same, shape_of};
-use shardpool::{CreateFault, Lane, LastCall, Pool, Ref};
+use crate::test_calls::{clear, get, hold, open_pair, release, same, shape_of};
+use shardpool::{CreateFault, Lane, LastCall, Pool};
 use slotcell::ByteBuf;
 use std::process::Abort;
-
-/// A reference of a lane to a key that it just published.
-fn publish_one<R: Abort>(rt: &R, pool: &Pool<ByteBuf>, lane: &mut Lane<ByteBuf>) -> Ref<ByteBuf>
-    requires { Owns pool.now lane.old × (refs lane.old ≡ 0) }
-    ensures owns { Owns pool.now lane.new }
-    ensures held { 1 ≤ holds lane.new result.key }
-{
-    let filling = create(rt, pool, lane);
-    pool.downgrade(lane, filling)
-}
 
 /// The key of the place that a create gives, which is never published; 0 where no place is free.
 fn created_key<R: Abort>(rt: &R, pool: &Pool<ByteBuf>, lane: &mut Lane<ByteBuf>) -> u64
@@ -43,7 +33,7 @@ fn finds<R: Abort>(rt: &R, pool: &Pool<ByteBuf>, lane: &mut Lane<ByteBuf>, key: 
     match pool.get(lane, key) {
         Some(reference) => {
             same(rt, &reference.key(), &key);
-            pool.release(lane, reference);
+            release(pool, lane, reference);
             true
         }
         None => false,
@@ -75,11 +65,11 @@ fn create_after_get<R: Abort>(
     requires first { Owns pool.now first.old × (refs first.old ≡ 0) }
     requires second { Owns pool.now second × (refs second ≡ 0) }
 {
-    let reference = publish_one(rt, pool, first);
+    let reference = hold(rt, pool, first);
     same(rt, &reference.key(), &16777216);
     clear(rt, pool, first, 16777216, true);
     pool.halt(second, LastCall::Get(16777216), limit).leave();
-    pool.release(first, reference);
+    release(pool, first, reference);
     create_after_miss(rt, pool, first, 16777216)
 }
 
@@ -94,12 +84,12 @@ fn finds_after_clear<R: Abort>(
     requires first { Owns pool.now first.old × (refs first.old ≡ 0) }
     requires second { Owns pool.now second × (refs second ≡ 0) }
 {
-    let reference = publish_one(rt, pool, first);
+    let reference = hold(rt, pool, first);
     pool.halt(second, LastCall::Clear(reference.key()), limit)
         .leave();
     let found = finds(rt, pool, first, reference.key());
     assert_eq!(rt; first.holds(reference.key()), 1);
-    pool.release(first, reference);
+    release(pool, first, reference);
     found
 }
 
@@ -114,9 +104,9 @@ fn create_after_release<R: Abort>(
     requires first { Owns pool.now first.old × (refs first.old ≡ 0) }
     requires second { Owns pool.now second × (refs second ≡ 0) }
 {
-    let reference = publish_one(rt, pool, first);
+    let reference = hold(rt, pool, first);
     let other = get(rt, pool, &mut second, reference.key());
-    pool.release(first, reference);
+    release(pool, first, reference);
     clear(rt, pool, first, other.key(), true);
     pool.halt(second, LastCall::Release(other), limit).leave();
     created_key(rt, pool, first)
@@ -133,10 +123,10 @@ fn stop_in_create<R: Abort>(
     requires first { Owns pool.now first.old × (refs first.old ≡ 0) }
     requires second { Owns pool.now second × (refs second ≡ 0) }
 {
-    let reference = publish_one(rt, pool, &mut second);
+    let reference = hold(rt, pool, &mut second);
     let key = reference.key();
     same(rt, &key, &16842752);
-    pool.release(&mut second, reference);
+    release(pool, &mut second, reference);
     clear(rt, pool, first, key, true);
     let halted = pool.halt(second, LastCall::Create, limit);
     assert!(rt; !finds(rt, pool, first, key));

@@ -3,7 +3,7 @@ ghost use Rattle.std.specs.Prelude.{◌≡◌};
 ghost use Rattle.shardpool.specs.Lanes.{Owns, refs};
 ghost use Rattle.guards.specs.Here.{HoldNothing};
 
-use crate::test_calls::{NO_PLACE, clear, create, get, same, shape_of};
+use crate::test_calls::{NO_PLACE, clear, get, put, release, same, shape_of};
 use guards::{Opened, open_lanes};
 use shardpool::{Census, Lane, Pool};
 use slotcell::ByteBuf;
@@ -28,10 +28,9 @@ fn serve<R: Abort>(rt: &R, pool: &Pool<ByteBuf>, mut lane: Lane<ByteBuf>) -> Lan
     requires none { refs lane ≡ 0 }
     ensures { Owns pool.now result }
 {
-    let filling = create(rt, pool, &mut lane);
-    let key = pool.publish(&mut lane, filling);
+    let key = put(rt, pool, &mut lane);
     let reference = get(rt, pool, &mut lane, key);
-    pool.release(&mut lane, reference);
+    release(pool, &mut lane, reference);
     clear(rt, pool, &mut lane, key, true);
     lane
 }
@@ -63,13 +62,6 @@ fn take<R: Abort>(rt: &R, opened: &mut Opened<ByteBuf>, number: u32) -> Lane<Byt
         panic!(rt; "lane {number} is missing")
     };
     lane
-}
-
-/// No lane of this number is here.
-fn lacks<R: Abort>(rt: &R, opened: &mut Opened<ByteBuf>, number: u32)
-    ensures { opened.new.pool ≡ opened.old.pool }
-{
-    assert!(rt; opened.lanes.take(number).is_none());
 }
 
 /// A lane is given back, which was missing.
@@ -104,46 +96,4 @@ fn two_lanes_come_back_from_threads(rt: HostRuntime) {
     give(&rt, &mut opened, second);
     give(&rt, &mut opened, first);
     counts(&rt, opened, 2, 4);
-}
-
-/// A close names this lane as missing, and gives all back.
-fn names<R: Abort>(rt: &R, opened: Opened<ByteBuf>, number: u32) -> Opened<ByteBuf>
-    ensures { result.pool ≡ opened.pool }
-{
-    let Err(missing) = opened.close() else {
-        panic!(rt; "no lane is missing")
-    };
-    same(rt, &missing.number, &number);
-    missing.opened
-}
-
-#[test]
-fn a_close_names_the_lane_that_is_missing(rt: HostRuntime) {
-    let mut opened = open_of(&rt, rt.alloc(), 3);
-    let lane = take(&rt, &mut opened, 1);
-    lacks(&rt, &mut opened, 1);
-    lacks(&rt, &mut opened, 3);
-    let mut opened = names(&rt, opened, 1);
-    give(&rt, &mut opened, lane);
-    counts(&rt, opened, 0, 9);
-}
-
-/// Each lane is taken, serves, and is given back.
-fn serve_each<R: Abort>(rt: &R, opened: &mut Opened<ByteBuf>, lanes: u32) {
-    for number in 0..lanes {
-        let Some(lane) = opened.lanes.take(number) else {
-            panic!(rt; "lane {number} is missing")
-        };
-        same(rt, &lane.number(), &number);
-        assert_eq!(rt; lane.refs(), 0);
-        let lane = serve(rt, &opened.pool, lane);
-        opened.lanes.give(lane);
-    }
-}
-
-#[test]
-fn sixteen_lanes_serve_in_turn(rt: HostRuntime) {
-    let mut opened = open_of(&rt, rt.alloc(), 16);
-    serve_each(&rt, &mut opened, 16);
-    counts(&rt, opened, 16, 32);
 }

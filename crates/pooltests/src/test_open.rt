@@ -1,8 +1,6 @@
-ghost use Rattle.shardpool.specs.Lanes.{Owns};
-
-use crate::test_calls::{open_all, open_pair, same, shape_of};
+use crate::test_calls::{open_all, same, shape_of};
 use keybits::{Shape, ShapeFault};
-use shardpool::{CreateFault, Lane, OpenFault, Pool, open};
+use shardpool::{CreateFault, Lane, OpenFault, open};
 use slotcell::{ByteBuf, Clear, Record};
 use std::alloc::Global;
 use std::process::Abort;
@@ -14,22 +12,6 @@ const LARGEST: Shape = Shape {
     last_generation: 4294967295,
     tag: 255,
 };
-
-/// Clears of a number outside the shape, and of a key that was never published.
-fn clear_of_nothing<T: Clear + Drop, R: Abort>(rt: &R, pool: &Pool<T>, lane: &mut Lane<T>)
-    requires { Owns pool.now lane.old }
-    ensures { Owns pool.now lane.new }
-{
-    assert!(rt; !pool.clear(lane, 0));
-    assert!(rt; !pool.clear(lane, 18446744073709551615));
-    assert!(rt; !pool.clear(lane, 16777216));
-    same(rt, &lane.refs(), &0);
-    same(rt, &lane.holds(16777216), &0);
-    if let Some(reference) = lane.reference(16777216) {
-        reference.leave();
-        panic!(rt; "a reference that no get gave");
-    }
-}
 
 /// The lanes of a pool stand by their numbers, and none has a free place yet.
 fn are_first<T: Clear + Drop, R: Abort>(rt: &R, lanes: &[Lane<T>]) {
@@ -67,14 +49,4 @@ fn refuses_shapes(rt: HostRuntime) {
     same(&rt, &OpenFault::Memory.number(), &5);
     same(&rt, &CreateFault::Full.number(), &21);
     same(&rt, &CreateFault::Memory.number(), &22);
-}
-
-#[test]
-fn clears_what_is_not_published(rt: HostRuntime) {
-    let (pool, mut first, mut second) = open_pair::<ByteBuf, _>(&rt, rt.alloc(), shape_of(2, 1, 1));
-    clear_of_nothing(&rt, &pool, &mut first);
-    clear_of_nothing(&rt, &pool, &mut second);
-    let note = pool.tell(&mut first);
-    pool.hear(&mut second, note);
-    pool.meet(&mut first, &mut second);
 }

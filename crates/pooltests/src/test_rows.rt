@@ -1,14 +1,13 @@
 //! What calls of one thread answer, one after another.
-ghost use Rattle.std.specs.Prelude.{◌≡◌, ◌+◌, ◌<◌, ◌≤◌};
-ghost use Rattle.shardpool.specs.Tokens.{LaneOf};
-ghost use Rattle.shardpool.specs.Lanes.{Owns, Made, holds, refs};
+ghost use Rattle.std.specs.Prelude.{◌<◌, ◌≤◌};
+ghost use Rattle.shardpool.specs.Lanes.{Owns, holds, refs};
 
 use crate::test_calls::{
-    clear, create, fill, finds_full, get, misses, open_last, open_pair, publish, reads, same,
-    shape_of, tell, write,
+    clear, create, fill, finds_full, get, misses, open_last, open_pair, publish, reads, release,
+    same, shape_of, tell, write,
 };
-use shardpool::{Filling, Lane, Pool, Ref};
-use slotcell::{ByteBuf, Clear, Record};
+use shardpool::{Lane, Pool, Ref};
+use slotcell::{ByteBuf, Clear};
 use std::alloc::Global;
 use std::process::Abort;
 
@@ -35,10 +34,10 @@ fn read_on<R: Abort>(
     clear(rt, pool, first, FIRST, true);
     misses(rt, pool, first, FIRST);
     reads(rt, first, &one, b"a");
-    pool.release(first, one);
+    release(pool, first, one);
     clear(rt, pool, second, FIRST, false);
     reads(rt, second, &other, b"a");
-    pool.release(second, other);
+    release(pool, second, other);
     let filling = fill(rt, pool, first, AGAIN, b"");
     filling.leave();
 }
@@ -72,7 +71,7 @@ fn return_and_publish<R: Abort>(
     publish(rt, pool, first, FIRST, b"");
     let reference = get(rt, pool, second, FIRST);
     clear(rt, pool, first, FIRST, true);
-    pool.release(second, reference);
+    release(pool, second, reference);
     publish(rt, pool, first, AGAIN, b"");
 }
 
@@ -121,7 +120,7 @@ fn hear_and_create<R: Abort>(
     publish(rt, pool, first, FIRST, b"");
     let reference = get(rt, pool, second, FIRST);
     clear(rt, pool, first, FIRST, true);
-    pool.release(second, reference);
+    release(pool, second, reference);
     tell(pool, second, first);
     let filling = fill(rt, pool, first, AGAIN, b"");
     filling.leave();
@@ -237,150 +236,43 @@ fn fills_all_places_of_a_lane(rt: HostRuntime) {
     fill_last(&rt, rt.alloc(), 16, &keys_of(983040));
 }
 
-/// The object of a filling is emptied.
-fn empty<T: Clear>(filling: &mut Filling<T>)
-    ensures key { filling.new.key ≡ filling.old.key }
-    ensures made { (lane : LaneOf) → Made lane filling.old → Made lane filling.new }
-{
-    filling.value_mut().clear();
-}
-
-/// The first place of a pool that was just opened is filled and published. Answers the room of its object.
-fn publish_first<T: Clear + Drop, R: Abort>(rt: &R, pool: &Pool<T>, lane: &mut Lane<T>) -> usize
-    requires { Owns pool.now lane.old }
-    ensures { Owns pool.now lane.new × (refs lane.new ≡ refs lane.old) }
-{
-    let mut filling = create(rt, pool, lane);
-    same(rt, &filling.key(), &FIRST);
-    empty(&mut filling);
-    let room = filling.value().room();
-    same(rt, &pool.publish(lane, filling), &FIRST);
-    room
-}
-
-/// A published key is found, its reference stays with the lane, and its object is read where the get tells.
-fn get_by_key<T: Clear + Drop, R: Abort>(
+/// A published key is found, its reference stays with the lane, and its bytes are read where the get tells.
+fn get_by_key<R: Abort>(
     rt: &R,
-    pool: &Pool<T>,
-    lane: &mut Lane<T>,
+    pool: &Pool<ByteBuf>,
+    lane: &mut Lane<ByteBuf>,
     key: u64,
-    room: usize,
+    bytes: &[u8],
 )
     requires { Owns pool.now lane.old × (refs lane.old < 1000) }
-    ensures owns { Owns pool.now lane.new }
-    ensures refs { refs lane.new ≡ refs lane.old + 1 }
+    ensures { Owns pool.now lane.new }
 {
     let Some(start) = pool.get_at(lane, key) else {
         panic!(rt; "{key} isn't found")
     };
-    same(rt, &lane.read_at(start, key).room(), &room);
+    same(rt, &lane.read_at(start, key).as_slice(), &bytes);
+    same(rt, &lane.holds(key), &1);
 }
 
-/// A reference is given back by its key.
-fn release_by_key<T: Clear + Drop, R: Abort>(rt: &R, pool: &Pool<T>, lane: &mut Lane<T>, key: u64)
-    requires { Owns pool.now lane.old }
-    ensures owns { Owns pool.now lane.new }
-    ensures refs { refs lane.new + 1 ≡ refs lane.old }
-{
-    if !pool.release_key(lane, key) {
-        panic!(rt; "no reference to {key}")
-    }
-}
-
-/// The key is cleared, and both lanes give their references to it back, the first by the key.
-fn clear_and_release<T: Clear + Drop, R: Abort>(
+/// A key is got, read, cleared by the other lane and given back, by its number alone.
+fn call_by_key<R: Abort>(
     rt: &R,
-    pool: &Pool<T>,
-    first: &mut Lane<T>,
-    second: &mut Lane<T>,
-    other: Ref<T>,
-    room: usize,
-)
-    requires first { Owns pool.now first.old × (refs first.old < 2000) }
-    requires second { Owns pool.now second.old × (1 ≤ holds second.old other.key) }
-    ensures first { Owns pool.now first.new × (refs first.new + 1 ≡ refs first.old) }
-    ensures second { Owns pool.now second.new × (refs second.new + 1 ≡ refs second.old) }
-{
-    clear(rt, pool, second, FIRST, true);
-    misses(rt, pool, first, FIRST);
-    same(rt, &second.read(&other).room(), &room);
-    release_by_key(rt, pool, first, FIRST);
-    pool.release(second, other);
-}
-
-/// Two lanes of a pool that was just opened have one place.
-fn share_one_place<T: Clear + Drop, R: Abort>(
-    rt: &R,
-    pool: &Pool<T>,
-    first: &mut Lane<T>,
-    second: &mut Lane<T>,
-)
-    requires first { Owns pool.now first.old × (refs first.old < 1000) }
-    requires second { Owns pool.now second.old × (refs second.old < 1000) }
-    ensures first { Owns pool.now first.new × (refs first.new ≡ refs first.old) }
-    ensures second { Owns pool.now second.new × (refs second.new ≡ refs second.old) }
-{
-    let room = publish_first(rt, pool, first);
-    get_by_key(rt, pool, first, FIRST, room);
-    let other = get(rt, pool, second, FIRST);
-    same(rt, &first.holds(FIRST), &1);
-    same(rt, &second.refs(), &1);
-    clear_and_release(rt, pool, first, second, other, room);
-}
-
-/// The place is filled again, and left.
-fn leave_each<T: Clear + Drop, R: Abort>(
-    rt: &R,
-    pool: &Pool<T>,
-    first: &mut Lane<T>,
-    second: &mut Lane<T>,
+    pool: &Pool<ByteBuf>,
+    first: &mut Lane<ByteBuf>,
+    second: &mut Lane<ByteBuf>,
 )
     requires first { Owns pool.now first.old × (refs first.old < 1000) }
     requires second { Owns pool.now second.old }
-    ensures first { Owns pool.now first.new }
-    ensures second { Owns pool.now second.new }
 {
-    tell(pool, second, first);
-    let filling = create(rt, pool, first);
-    let reference = pool.downgrade(first, filling);
-    same(rt, &reference.key(), &AGAIN);
-    same(rt, &first.holds(AGAIN), &1);
-    reference.leave();
-    let filling = create(rt, pool, second);
-    same(rt, &filling.key(), &16842752);
-    filling.leave();
-    finds_full(rt, pool, first);
+    publish(rt, pool, first, FIRST, b"k");
+    get_by_key(rt, pool, first, FIRST, b"k");
+    clear(rt, pool, second, FIRST, true);
+    same(rt, &pool.release_key(first, FIRST), &true);
     pool.meet(first, second);
 }
 
-/// Each call is made of a pool of two lanes with a place each.
-fn call_each<T: Clear + Drop, R: Abort>(
-    rt: &R,
-    pool: &Pool<T>,
-    first: &mut Lane<T>,
-    second: &mut Lane<T>,
-)
-    requires first { Owns pool.now first.old × (refs first.old < 1000) }
-    requires second { Owns pool.now second.old × (refs second.old < 1000) }
-{
-    same(rt, &pool.shape(), &shape_of(2, 1, 1));
-    same(rt, &first.number(), &0);
-    same(rt, &second.number(), &1);
-    assert!(rt; !first.has_free());
-    share_one_place(rt, pool, first, second);
-    same(rt, &first.refs(), &0);
-    same(rt, &second.holds(FIRST), &0);
-    leave_each(rt, pool, first, second);
-}
-
-/// Each call is made of a pool of its own, whose objects are of this type.
-fn call_each_of_a_pool<T: Clear + Drop, R: Abort>(rt: &R, alloc: Global) {
-    let (pool, mut first, mut second) = open_pair::<T, _>(rt, alloc, shape_of(2, 1, 1));
-    call_each(rt, &pool, &mut first, &mut second);
-}
-
 #[test]
-fn calls_pools_of_buffers_and_of_records(rt: HostRuntime) {
-    call_each_of_a_pool::<ByteBuf, _>(&rt, rt.alloc());
-    call_each_of_a_pool::<Record, _>(&rt, rt.alloc());
+fn calls_by_key(rt: HostRuntime) {
+    let (pool, mut first, mut second) = open_pair(&rt, rt.alloc(), shape_of(2, 1, 1));
+    call_by_key(&rt, &pool, &mut first, &mut second);
 }

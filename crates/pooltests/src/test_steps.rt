@@ -11,193 +11,17 @@ ghost use Rattle.poolsteps.specs.Told.{IsIdle, HasPlace, LeftAlone, references_s
 ghost use Rattle.poolsteps.specs.Moved.{stored_of};
 ghost use Rattle.poolsteps.specs.Returned.{IsToReturn, AimsAt};
 
+use crate::grids::{KEY, TWO_LANES, directory_of_one, grid_of_two, grid_with_object};
 use crate::test_calls::{is_word, same};
-use crate::test_cells::{directory_of, object_at};
 use atomic_table::Closed;
-use keybits::{Shape, owes_claim};
-use placecell::{Base, Rest, Share, Slot, Whole};
-use poolsteps::{Grid, Hand, Purpose, Spot, references_law, shares_law};
+use keybits::owes_claim;
+use placecell::{Rest, Slot, Whole};
+use poolsteps::{Grid, Hand, Purpose, Spot, shares_law};
 use slotcell::{ByteBuf, Clear};
 use std::alloc::Global;
 use std::process::Abort;
 use std::thread;
 use std::thread::Threads;
-
-pub(crate) const TWO_LANES: Shape = Shape {
-    lanes: 2,
-    first_page: 1,
-    pages: 1,
-    last_generation: 2,
-    tag: 0,
-};
-
-const SMALLEST: Shape = Shape {
-    lanes: 1,
-    first_page: 1,
-    pages: 1,
-    last_generation: 4294967295,
-    tag: 255,
-};
-
-const LARGEST: Shape = Shape {
-    lanes: 16,
-    first_page: 64,
-    pages: 6,
-    ..SMALLEST
-};
-
-// The key of place 0 at generation 1.
-pub(crate) const KEY: u64 = 16777216;
-
-/// The hands, of which there are two.
-fn pair_of<T>(mut hands: Vec<Hand<T>>) -> (Hand<T>, Hand<T>)
-    requires { length hands.items ≡ 2 }
-    ensures { hands.items ≡ result.0 ∷ result.1 ∷ [] }
-{
-    let second = hands.pop().unwrap();
-    let first = hands.pop().unwrap();
-    (first, second)
-}
-
-/// The grid of two lanes with a place each, and their hands.
-pub(crate) fn grid_of_two<T: Clear, R: Abort>(
-    rt: &R,
-    alloc: Global,
-    objects: Base<Box<T, Global>>,
-) -> (Grid<T>, Hand<T>, Hand<T>)
-    ensures shape { (result.0.shape ≡ TWO_LANES) × (result.0.objects ≡ objects) }
-    ensures hands { IsFirstHand result.0 0 result.1 × IsFirstHand result.0 1 result.2 }
-{
-    assert!(rt; TWO_LANES.check().is_ok());
-    let Some((grid, hands)) = Grid::new(alloc, &TWO_LANES, objects) else {
-        panic!(rt; "no memory for a grid")
-    };
-    let (first, second) = pair_of(hands);
-    (grid, first, second)
-}
-
-/// Lane 0 puts the share of lane 1 in its slot, and publishes with a reference. Answers its own share.
-fn publish<T: Clear + Drop>(
-    rt: &impl Abort,
-    grid: &Grid<T>,
-    hand: &mut Hand<T>,
-    spot: Spot,
-    whole: Whole<T>,
-) -> Share<T>
-    requires shape { grid.now.shape ≡ TWO_LANES }
-    requires spot { IsSpot grid.now.shape spot 0 }
-    requires hand { IsFirstHand grid.now 0 hand.old }
-    requires at { whole.spot ≡ spots_at grid.now.objects.ptr grid.now.shape 0 }
-    ensures hand { IsOf grid.now hand.new × IsOne hand.new.me.0 }
-    ensures lane { (the_lane hand.new.me.0).lane ≡ 0 }
-    ensures idle { IsIdle hand.new.me.0 }
-    ensures reference { references_seen grid.now.shape hand.new.me.0 KEY ≡ 1 }
-    ensures share { (result.number ≡ 0) × (result.of ≡ 2) × (result.spot ≡ spots_at grid.now.objects.ptr grid.now.shape 0) }
-    ensures cell { known_of (the_lane hand.new.me.0) 0 ≡ stored_of T.content T.room result }
-    ensures slot { status_of (the_lane hand.new.me.0) 0 0 ≡ Emptied }
-{
-    references_law();
-    shares_law();
-    let mut rest = whole.lend(2);
-    let own = rest.cut();
-    grid.back(hand, spot, 0, 1, rest.into_share());
-    let found = grid.publish_held(hand, spot, KEY, &own);
-    is_word(rt, found, 4294967296);
-    own
-}
-
-/// Lane 1 gets the key, and takes its share out.
-fn get<T: Clear>(rt: &impl Abort, grid: &Grid<T>, hand: &mut Hand<T>, spot: Spot) -> Share<T>
-    requires shape { grid.now.shape ≡ TWO_LANES }
-    requires spot { IsSpot grid.now.shape spot 0 }
-    requires hand { IsFirstHand grid.now 1 hand.old }
-    ensures hand { IsOf grid.now hand.new × IsOne hand.new.me.0 }
-    ensures lane { (the_lane hand.new.me.0).lane ≡ 1 }
-    ensures idle { IsIdle hand.new.me.0 }
-    ensures reference { references_seen grid.now.shape hand.new.me.0 KEY ≡ 1 }
-    ensures share { (result.number ≡ 1) × (result.of ≡ 2) × (result.spot ≡ spots_at grid.now.objects.ptr grid.now.shape 0) }
-    ensures cell { known_of (the_lane hand.new.me.0) 0 ≡ stored_of T.content T.room result }
-    ensures slot { status_of (the_lane hand.new.me.0) 0 1 ≡ Emptied }
-{
-    references_law();
-    shares_law();
-    let entered = grid.enter(hand, spot, KEY, Purpose::ToGet);
-    is_word(rt, entered, 4294967301);
-    grid.out(hand, spot, 1, 1)
-}
-
-/// A lane gives back its share and its only reference to the key. Answers the word that the LEAVE found.
-fn give_back<T: Clear>(
-    grid: &Grid<T>,
-    hand: &mut Hand<T>,
-    spot: Spot,
-    lane: u32,
-    share: Share<T>,
-) -> u64
-    requires shape { grid.now.shape ≡ TWO_LANES }
-    requires spot { IsSpot grid.now.shape spot 0 }
-    requires hand { IsOf grid.now hand.old × IsOne hand.old.me.0 }
-    requires lane { (lane ≡ (the_lane hand.old.me.0).lane) × (lane ≤ 1) }
-    requires idle { IsIdle hand.old.me.0 }
-    requires reference { references_seen grid.now.shape hand.old.me.0 KEY ≡ 1 }
-    requires share { (share.number ≡ lane) × (share.of ≡ 2) × (share.spot ≡ spots_at grid.now.objects.ptr grid.now.shape 0) }
-    requires cell { known_of (the_lane hand.old.me.0) 0 ≡ stored_of T.content T.room share }
-    requires slot { status_of (the_lane hand.old.me.0) 0 lane ≡ Emptied }
-    ensures hand { IsOf grid.now hand.new × IsOne hand.new.me.0 }
-    ensures lane { (the_lane hand.new.me.0).lane ≡ lane }
-    ensures under { (the_lane hand.new.me.0).under ≡ owed_after 0 result }
-    ensures reference { references_seen grid.now.shape hand.new.me.0 KEY ≡ 0 }
-{
-    references_law();
-    shares_law();
-    grid.back(hand, spot, lane, lane, share);
-    grid.leave(hand, spot, KEY)
-}
-
-/// Lane 1 gives back its share and its reference, while lane 0 has one.
-fn release_one<T: Clear>(
-    rt: &impl Abort,
-    grid: &Grid<T>,
-    hand: &mut Hand<T>,
-    spot: Spot,
-    share: Share<T>,
-)
-    requires shape { grid.now.shape ≡ TWO_LANES }
-    requires spot { IsSpot grid.now.shape spot 0 }
-    requires hand { IsOf grid.now hand.old × IsOne hand.old.me.0 }
-    requires lane { (the_lane hand.old.me.0).lane ≡ 1 }
-    requires idle { IsIdle hand.old.me.0 }
-    requires reference { references_seen grid.now.shape hand.old.me.0 KEY ≡ 1 }
-    requires share { (share.number ≡ 1) × (share.of ≡ 2) × (share.spot ≡ spots_at grid.now.objects.ptr grid.now.shape 0) }
-    requires cell { known_of (the_lane hand.old.me.0) 0 ≡ stored_of T.content T.room share }
-    requires slot { status_of (the_lane hand.old.me.0) 0 1 ≡ Emptied }
-    ensures hand { IsOf grid.now hand.new × IsOne hand.new.me.0 }
-    ensures idle { IsIdle hand.new.me.0 }
-    ensures reference { references_seen grid.now.shape hand.new.me.0 KEY ≡ 0 }
-{
-    let left = give_back(grid, hand, spot, 1, share);
-    is_word(rt, left, 4294967305);
-}
-
-/// A clear of lane 1 hits and marks, and its LEAVE leaves a reference.
-fn clear<T: Clear>(rt: &impl Abort, grid: &Grid<T>, hand: &mut Hand<T>, spot: Spot)
-    requires shape { grid.now.shape ≡ TWO_LANES }
-    requires spot { IsSpot grid.now.shape spot 0 }
-    requires hand { IsOf grid.now hand.old × IsOne hand.old.me.0 }
-    requires idle { IsIdle hand.old.me.0 }
-    requires reference { references_seen grid.now.shape hand.old.me.0 KEY ≡ 0 }
-    ensures hand { IsOf grid.now hand.new × IsOne hand.new.me.0 }
-    ensures idle { IsIdle hand.new.me.0 }
-    ensures reference { references_seen grid.now.shape hand.new.me.0 KEY ≡ 0 }
-{
-    references_law();
-    let entered = grid.enter(hand, spot, KEY, Purpose::ToClear);
-    is_word(rt, entered, 4294967301);
-    let marked = grid.mark(hand, spot, KEY);
-    is_word(rt, marked, 4294967305);
-    let left = grid.leave(hand, spot, KEY);
-    is_word(rt, left, 4294967307);
-}
 
 /// A lane that has place 0, and left its slots alone, takes its shares out: they are the whole cell.
 fn take_shares<T: Clear + Drop>(
@@ -227,33 +51,6 @@ fn take_shares<T: Clear + Drop>(
     let mut rest = Rest::of_last(last);
     rest.merge(first);
     rest.into_whole()
-}
-
-/// Lane 0 gives back its share and the last reference to the key, which is marked, claims its place, and takes its shares
-/// out.
-fn release<T: Clear + Drop, R: Abort>(
-    rt: &R,
-    grid: &Grid<T>,
-    hand: &mut Hand<T>,
-    spot: Spot,
-    share: Share<T>,
-) -> Whole<T>
-    requires shape { grid.now.shape ≡ TWO_LANES }
-    requires spot { IsSpot grid.now.shape spot 0 }
-    requires hand { IsOf grid.now hand.old × IsOne hand.old.me.0 }
-    requires lane { (the_lane hand.old.me.0).lane ≡ 0 }
-    requires idle { IsIdle hand.old.me.0 }
-    requires reference { references_seen grid.now.shape hand.old.me.0 KEY ≡ 1 }
-    requires share { (share.number ≡ 0) × (share.of ≡ 2) × (share.spot ≡ spots_at grid.now.objects.ptr grid.now.shape 0) }
-    requires cell { known_of (the_lane hand.old.me.0) 0 ≡ stored_of T.content T.room share }
-    requires slot { status_of (the_lane hand.old.me.0) 0 0 ≡ Emptied }
-    ensures at { result.spot ≡ spots_at grid.now.objects.ptr grid.now.shape 0 }
-{
-    let left = give_back(grid, hand, spot, 0, share);
-    is_word(rt, left, 4294967303);
-    let claimed = grid.claim(hand, spot, 1);
-    is_word(rt, claimed, 4294967299);
-    take_shares(grid, hand, spot, 0)
 }
 
 /// Lane 0 puts both shares in their slots, and publishes without a reference.
@@ -358,41 +155,6 @@ fn free<T>(mut closed: Closed<Slot<T>, Global>)
     closed.free();
 }
 
-/// The buffer has one byte, a 7.
-fn is_seven<R: Abort>(rt: &R, buffer: &ByteBuf) {
-    same(rt, &buffer.as_slice(), &[7].as_slice());
-}
-
-/// Lane 1 gets the key, reads, gives its reference back, and clears the key, to which lane 0 has a reference.
-fn read_and_clear(rt: &impl Abort, grid: &Grid<ByteBuf>, hand: &mut Hand<ByteBuf>, spot: Spot)
-    requires shape { grid.now.shape ≡ TWO_LANES }
-    requires spot { IsSpot grid.now.shape spot 0 }
-    requires hand { IsFirstHand grid.now 1 hand.old }
-    ensures hand { IsOf grid.now hand.new × IsOne hand.new.me.0 }
-    ensures idle { IsIdle hand.new.me.0 }
-    ensures reference { references_seen grid.now.shape hand.new.me.0 KEY ≡ 0 }
-{
-    let share = get(rt, grid, hand, spot);
-    is_seven(rt, share.read(grid.objects, spot.start as usize));
-    release_one(rt, grid, hand, spot, share);
-    clear(rt, grid, hand, spot);
-}
-
-#[test]
-fn makes_each_step(rt: HostRuntime) {
-    let mut directory = directory_of(&rt, rt.alloc(), 1);
-    let (grid, mut first, mut second) = grid_of_two(&rt, rt.alloc(), directory.base());
-    let spot = grid.spot(0);
-    let whole = object_at(&rt, rt.alloc(), &mut directory, spot.start as usize, 7);
-    let share = publish(&rt, &grid, &mut first, spot, whole);
-    is_seven(&rt, share.read(grid.objects, spot.start as usize));
-    read_and_clear(&rt, &grid, &mut second, spot);
-    let whole = release(&rt, &grid, &mut first, spot, share);
-    is_seven(&rt, whole.get(grid.objects, spot.start as usize));
-    let found = grid.enter(&mut second, spot, KEY, Purpose::ToGet);
-    is_word(&rt, found, 8589934592);
-}
-
 /// Each hand takes in what the other has seen, in one way or the other, and the grid ends.
 fn end<R: Abort>(
     rt: &R,
@@ -419,10 +181,8 @@ fn end<R: Abort>(
 
 #[test]
 fn returns_and_takes_a_place(rt: HostRuntime) {
-    let mut directory = directory_of(&rt, rt.alloc(), 1);
-    let (grid, mut first, mut second) = grid_of_two(&rt, rt.alloc(), directory.base());
+    let (grid, mut first, mut second, whole) = grid_with_object(&rt, rt.alloc());
     let spot = grid.spot(0);
-    let whole = object_at(&rt, rt.alloc(), &mut directory, spot.start as usize, 7);
     publish_alone(&rt, &grid, &mut first, spot, whole);
     clear_and_claim(&rt, &grid, &mut second, spot);
     return_place(&rt, &grid, &mut second, spot);
@@ -477,7 +237,7 @@ fn on_two_threads<R: Threads + Sync, T: Clear + Send + Sync>(
 
 #[test]
 fn enters_and_leaves_on_two_threads(rt: HostRuntime) {
-    let mut directory = directory_of(&rt, rt.alloc(), 1);
+    let mut directory = directory_of_one(&rt, rt.alloc());
     let (grid, first, second) = grid_of_two(&rt, rt.alloc(), directory.base());
     let spot = grid.spot(0);
     let (first, second) = on_two_threads(&rt, &grid, first, second, spot);
@@ -487,43 +247,4 @@ fn enters_and_leaves_on_two_threads(rt: HostRuntime) {
     };
     let found = grid.enter(&mut first, spot, KEY, Purpose::ToClear);
     is_word(&rt, found, 4294967296);
-}
-
-/// Whether a number leads to a place of the grid is this.
-fn finds<R: Abort>(rt: &R, grid: &Grid<ByteBuf>, number: u64, found: bool) {
-    same(rt, &grid.find_key(number).is_some(), &found);
-}
-
-#[test]
-fn finds_keys(rt: HostRuntime) {
-    let mut directory = directory_of(&rt, rt.alloc(), 1);
-    let (grid, _first, _second) = grid_of_two(&rt, rt.alloc(), directory.base());
-    // Generations 0 to 3 of the first place, of which 1 and 2 are the shape's.
-    finds(&rt, &grid, 0, false);
-    finds(&rt, &grid, 16777216, true);
-    finds(&rt, &grid, 33554432, true);
-    finds(&rt, &grid, 50331648, false);
-    // The second lane's place, one behind it, and the first place under another tag.
-    finds(&rt, &grid, 16842752, true);
-    finds(&rt, &grid, 16842753, false);
-    finds(&rt, &grid, 72057594054705152, false);
-}
-
-/// A grid of this shape is made and ended.
-fn makes_and_ends<R: Abort>(rt: &R, alloc: Global, shape: Shape) {
-    assert!(rt; shape.check().is_ok());
-    let mut directory = directory_of(rt, alloc, 1);
-    let Some((grid, hands)) = Grid::new(alloc, &shape, directory.base()) else {
-        panic!(rt; "no memory")
-    };
-    same(rt, &hands.len(), &(shape.lanes as usize));
-    assert!(rt; grid.find(shape.lanes << 16).is_none());
-    assert!(rt; 0 < hands.len());
-    free(grid.end(hands));
-}
-
-#[test]
-fn makes_and_ends_grids_of_each_size(rt: HostRuntime) {
-    makes_and_ends(&rt, rt.alloc(), SMALLEST);
-    makes_and_ends(&rt, rt.alloc(), LARGEST);
 }

@@ -1,5 +1,5 @@
 use Rattle.std.proofs.Common.{sym, ◌∙◌}
-use Rattle.pooltests.specs.declared.test_steps.TheConstants.{KEY}
+use Rattle.pooltests.specs.declared.grids.TheConstants.{KEY}
 use Rattle.poolsteps.proofs.HandSteps.{clear-undone}
 use Rattle.pooltests.proofs.test_steps.enter_and_leave.Goals as goal
 

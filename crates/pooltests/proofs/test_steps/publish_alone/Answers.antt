@@ -3,7 +3,7 @@ use Rattle.atomic_table.specs.Table.{Me}
 use Rattle.keybits.specs.declared.shape.Shape.{Shape}
 use Rattle.placecell.specs.Share.{Share}
 use Rattle.poolsteps.specs.declared.view.View.{View}
-use Rattle.pooltests.specs.declared.test_steps.TheConstants.{KEY}
+use Rattle.pooltests.specs.declared.grids.TheConstants.{KEY}
 use Rattle.poolsteps.specs.Told.{HasPlace, MayPublish}
 use Rattle.poolsteps.proofs.OwnShares.{may-touch}
 use Rattle.poolsteps.proofs.HandReturns.{has-still}
