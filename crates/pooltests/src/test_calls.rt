@@ -1,5 +1,5 @@
 //! Calls of a pool as tests make them: with what they ask of a lane, and what they leave of it.
-ghost use Rattle.std.specs.Prelude.{◌≡◌, ◌==◌, ◌+◌, ◌<◌, ◌≤◌, ℕ, All};
+ghost use Rattle.std.specs.Prelude.{◌≡◌, ◌+◌, ◌<◌, ◌≤◌, ℕ, All};
 ghost use Rattle.steplaws.specs.Facts.{most_references};
 ghost use Rattle.shardpool.specs.Tokens.{LaneOf, FillingOf};
 ghost use Rattle.shardpool.specs.Lanes.{Owns, Made, holds, refs};
