@@ -1,5 +1,5 @@
 //! What a reference shows, as tests compare it with bytes.
-ghost use Rattle.std.specs.Prelude.{◌≡◌, ◌≤◌, ℕ, IsTrue};
+ghost use Rattle.std.specs.Prelude.{◌≤◌, ℕ, IsTrue};
 ghost use Rattle.seqpool.specs.Histories.{PublishedAt};
 ghost use Rattle.shardpool.specs.Lanes.{holds};
 

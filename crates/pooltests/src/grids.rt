@@ -81,12 +81,7 @@ fn object_at<R: Abort>(
 pub(crate) fn grid_with_object<R: Abort>(
     rt: &R,
     alloc: Global,
-) -> (
-    Grid<ByteBuf>,
-    Hand<ByteBuf>,
-    Hand<ByteBuf>,
-    Whole<ByteBuf>,
-)
+) -> (Grid<ByteBuf>, Hand<ByteBuf>, Hand<ByteBuf>, Whole<ByteBuf>)
     ensures shape { result.0.shape ≡ TWO_LANES }
     ensures hands { IsFirstHand result.0 0 result.1 × IsFirstHand result.0 1 result.2 }
     ensures at { result.3.spot ≡ spots_at result.0.objects.ptr result.0.shape 0 }

@@ -1,5 +1,5 @@
 //! Calls of a pool as tests make them: with what they ask of a lane, and what they leave of it.
-ghost use Rattle.std.specs.Prelude.{◌≡◌, ◌==◌, ◌+◌, ◌<◌, ◌≤◌, ℕ, All};
+ghost use Rattle.std.specs.Prelude.{◌≡◌, ◌+◌, ◌<◌, ◌≤◌, ℕ, All};
 ghost use Rattle.steplaws.specs.Facts.{most_references};
 ghost use Rattle.shardpool.specs.Tokens.{LaneOf, FillingOf};
 ghost use Rattle.shardpool.specs.Lanes.{Owns, Made, holds, refs};
@@ -255,11 +255,7 @@ pub(crate) fn put<T: Clear + Drop, R: Abort>(rt: &R, pool: &Pool<T>, lane: &mut 
 }
 
 /// An object that is left empty is published with a reference.
-pub(crate) fn hold<T: Clear + Drop, R: Abort>(
-    rt: &R,
-    pool: &Pool<T>,
-    lane: &mut Lane<T>,
-) -> Ref<T>
+pub(crate) fn hold<T: Clear + Drop, R: Abort>(rt: &R, pool: &Pool<T>, lane: &mut Lane<T>) -> Ref<T>
     requires owns { Owns pool.now lane.old }
     requires room { refs lane.old < 1000 }
     ensures owns { Owns pool.now lane.new }

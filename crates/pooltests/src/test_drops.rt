@@ -1,5 +1,5 @@
 //! A close drops each object of its pool, wherever it is, and drops it once.
-ghost use Rattle.std.specs.Prelude.{◌≡◌, ◌+◌, [], IfSome, ℕ};
+ghost use Rattle.std.specs.Prelude.{◌≡◌, []};
 ghost use Rattle.shardpool.specs.Tokens.{LaneOf};
 ghost use Rattle.shardpool.specs.Lanes.{Owns, Made, refs};
 

@@ -1,14 +1,12 @@
-ghost use Rattle.std.specs.Prelude.{◌≡◌, ◌≤◌, true, [], ◌∷◌, None, length, IfSome};
+ghost use Rattle.std.specs.Prelude.{◌≡◌, ◌≤◌, true, [], None, IfSome};
 ghost use Rattle.std.specs.Mem.Slots.{IsFull};
 ghost use Rattle.keybits.specs.Keys.{place_of, is_key};
 ghost use Rattle.sharelaws.specs.declared.stored.Status.TheVariants.{Emptied};
 ghost use Rattle.sharelaws.specs.Shares.{room_of};
-ghost use Rattle.steplaws.specs.StepLaws.{owed_after};
 ghost use Rattle.poolsteps.specs.Layout.{spots_at};
 ghost use Rattle.poolsteps.specs.Views.{the_lane, status_of, known_of, IsOne};
 ghost use Rattle.poolsteps.specs.Grids.{IsSpot, IsOf, IsFirstHand};
-ghost use Rattle.poolsteps.specs.Told.{IsIdle, HasPlace, LeftAlone, references_seen};
-ghost use Rattle.poolsteps.specs.Moved.{stored_of};
+ghost use Rattle.poolsteps.specs.Told.{IsIdle, HasPlace, LeftAlone};
 ghost use Rattle.poolsteps.specs.Returned.{IsToReturn, AimsAt};
 
 use crate::grids::{KEY, TWO_LANES, directory_of_one, grid_of_two, grid_with_object};

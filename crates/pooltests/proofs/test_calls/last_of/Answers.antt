@@ -1,5 +1,5 @@
 -- The last of the lanes is one of them.
-use Rattle.std.proofs.Common.{◌≡◌, List, Some, ◌∷◌, [], ◌++◌, subst}
+use Rattle.std.proofs.Common.{◌≡◌, List, Some, [], subst}
 use Rattle.std.proofs.lemmas.List.Elements.{All-pop}
 use Rattle.std.specs.List.{All}
 use Rattle.shardpool.specs.Tokens.{LaneOf}

@@ -3,7 +3,7 @@ use Rattle.keybits.specs.declared.shape.Shape.{Shape}
 use Rattle.sharelaws.specs.declared.stored.Status.TheVariants.{Emptied}
 use Rattle.sharelaws.specs.Shares.{room_of}
 use Rattle.poolsteps.specs.declared.view.View.{View}
-use Rattle.poolsteps.specs.Views.{the_lane, status_of, known_of}
+use Rattle.poolsteps.specs.Views.{the_lane, status_of}
 use Rattle.poolsteps.specs.Told.{HasPlace}
 use Rattle.poolsteps.proofs.HandReturns.{is-at-rest, at-two}
 use Rattle.pooltests.proofs.test_steps.return_place.Goals as goal
