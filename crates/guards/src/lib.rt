@@ -1,12 +1,22 @@
-//! Closures and guards over the calls of a pool: what they take they give back by themselves.
+//! Closures and guards over the calls of a pool: what they take they give back by themselves; lanes as one value, and jobs on them in threads.
 #![tactic(auto)]
 
 mod closures;
+mod contents;
 mod filling;
 mod lanes;
+mod named;
 mod reading;
+mod runs;
+mod seats;
+mod told;
 
 pub use closures::{create_with, with};
+pub use contents::Contents;
 pub use filling::FillGuard;
 pub use lanes::{Lanes, Missing, Opened, open_lanes};
+pub use named::PoolName;
 pub use reading::ReadGuard;
+pub use runs::{Job, Unrun, run_lanes};
+pub use seats::Seat;
+pub use told::Told;
