@@ -1,13 +1,11 @@
 -- References that a lane takes and gives back.
-use Rattle.std.proofs.Common.{◌≡◌, ◌==◌, ◌≢◌, ◌⊎◌, ℕ, zero, suc, ◌+◌, ◌-◌, ◌≤◌, Bool, true, false, cond, List, [], ◌∷◌, ◌++◌, length, Some, slice_get, refl, sym, ap, ◌∙◌, subst, inl, inr, arith, eqb-true, eq-eqb, length-append, append-nil}
-use Rattle.std.proofs.lemmas.Bool.{cases_Bool}
+use Rattle.std.proofs.Common.{◌≡◌, ◌==◌, ℕ, zero, suc, ◌+◌, ◌-◌, ◌≤◌, Bool, true, false, cond, List, [], ◌∷◌, ◌++◌, Some, slice_get, refl, sym, ap, ◌∙◌, subst, arith, eqb-true, eq-eqb, length-append, append-nil}
 use mathlib.Core.List.{IsPrefix}
-use Rattle.keybits.specs.declared.shape.Shape.{Shape}
 use Rattle.seqpool.specs.declared.act.Act.{Act}
 use Rattle.poolsteps.proofs.ViewLemmas.{prefix-trans}
-use Rattle.shardpool.specs.Tokens.{PoolOf, LaneOf, FillingOf, RefOf}
+use Rattle.shardpool.specs.Tokens.{PoolOf, LaneOf, FillingOf}
 use Rattle.shardpool.specs.Lanes.{Owns, Made, SameLane, holds, refs}
-use Rattle.poollaws.specs.Words.{IsPublished, IsCleared, IsGone}
+use Rattle.poollaws.specs.Words.{IsPublished, IsGone}
 use Rattle.poollaws.proofs.Ends.{stays-published, stays-cleared}
 use Rattle.guards.specs.Several.{more_of, Lends, Returns}
 

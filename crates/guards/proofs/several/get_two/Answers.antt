@@ -1,9 +1,9 @@
 -- What the gets gave, or gave back.
-use Rattle.std.proofs.Common.{ℕ, ◌≤◌, true, false, ◌∷◌, [], refl, sym, ap, subst, arith}
+use Rattle.std.proofs.Common.{ℕ, ◌≤◌, [], refl, sym, subst, arith}
 use Rattle.shardpool.specs.Lanes.{holds}
 use Rattle.shardpool.proofs.references.Holdings.{got-inside}
 use Rattle.poollaws.proofs.Ends.{missed-law}
-use Rattle.guards.proofs.Lending.{lends-none, lends-more, lends-back, lends-one, lends-missed, returns-of, has-all, first-held, gone-around}
+use Rattle.guards.proofs.Lending.{lends-more, lends-back, lends-one, lends-missed, returns-of, has-all, first-held, gone-around}
 use Rattle.guards.proofs.several.get_two.Goals as goal
 
 pub returns-in_err-one-clause-gone : goal.returns-in_err-one-clause-gone

@@ -1,8 +1,8 @@
 -- What was lent is given back, and was published.
-use Rattle.std.proofs.Common.{◌≡◌, ℕ, ◌∷◌, [], true, refl, subst}
+use Rattle.std.proofs.Common.{ℕ, ◌∷◌, [], refl, subst}
 use Rattle.std.proofs.lemmas.List.Elements.{Contains-append_right}
 use Rattle.poolsteps.proofs.ViewLemmas.{prefix-trans}
-use Rattle.guards.specs.Several.{Gave, Lends}
+use Rattle.guards.specs.Several.{Gave}
 use Rattle.guards.proofs.Lending.{lends-more, has-one, has-two, back-two, read-later, gone-around}
 use Rattle.guards.proofs.several.with_four.Goals as goal
 

@@ -1,6 +1,5 @@
 -- What was lent is given back, and was published.
-use Rattle.std.proofs.Common.{◌≡◌, ℕ, ◌∷◌, [], refl, subst, arith}
-use Rattle.std.proofs.lemmas.List.Elements.{Contains-append_right}
+use Rattle.std.proofs.Common.{ℕ, refl, subst, arith}
 use Rattle.poolsteps.proofs.ViewLemmas.{prefix-trans}
 use Rattle.shardpool.proofs.references.Holdings.{got-inside}
 use Rattle.poollaws.proofs.Ends.{missed-law}
