@@ -1,2 +1,5 @@
 mod Guarding
 mod Slots
+mod Rows
+mod Seating
+mod Lending

@@ -175,6 +175,17 @@ impl<T: Clear + Drop> Lanes<T> {
         None
     }
 
+    /// How many lanes are here before the first that isn't.
+    pub fn count_here(&self) -> u32
+        ensures here { AreHereBelow self.now result }
+        ensures first { lane_at self.now result ≡ None }
+    {
+        match self.first_missing() {
+            Some(number) => number,
+            None => self.count,
+        }
+    }
+
     /// All lanes, by their numbers.
     fn into_row(self) -> Vec<Lane<T>>
         requires { AreHereBelow self self.pool.shape.lanes }

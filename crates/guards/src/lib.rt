@@ -1,12 +1,27 @@
-//! Closures and guards over the calls of a pool: what they take they give back by themselves.
+//! Closures and guards over the calls of a pool: what they take they give back by themselves; lanes as one value, and jobs on them in threads.
 #![tactic(auto)]
 
 mod closures;
+mod contents;
 mod filling;
+mod jobs;
 mod lanes;
+mod named;
+mod posts;
 mod reading;
+mod runs;
+mod seats;
+mod several;
+mod told;
 
 pub use closures::{create_with, with};
+pub use contents::Contents;
 pub use filling::FillGuard;
+pub use jobs::Job;
 pub use lanes::{Lanes, Missing, Opened, open_lanes};
+pub use named::PoolName;
 pub use reading::ReadGuard;
+pub use runs::{Unrun, run_lanes};
+pub use seats::Seat;
+pub use several::{with_four, with_three, with_two};
+pub use told::Told;

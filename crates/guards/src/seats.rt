@@ -1,0 +1,193 @@
+//! A lane together with its pool, for a thread that does its work with that lane alone.
+ghost use Rattle.std.specs.Prelude.{◌≡◌, ◌≢◌, ◌<◌, ◌≤◌, ℕ, List, [], ◌∷◌, true, false, None, MatchOption, IfOk, IsErr, IsErrOf, IfSome, IsNone, IsTrue};
+ghost use Rattle.std.specs.Fn.{FnOnceReturnsAt};
+ghost use Rattle.keybits.specs.Keys.{is_key};
+ghost use Rattle.seqpool.specs.declared.act.Act.{Act};
+ghost use Rattle.seqpool.specs.declared.act.Act.TheVariants as acts;
+ghost use Rattle.seqpool.specs.Pool.{IsLegal};
+ghost use Rattle.shardpool.specs.Tokens.{FillingOf};
+ghost use Rattle.shardpool.specs.Lanes.{Owns, Made, Did, Gets, refs};
+ghost use Rattle.shardpool.specs.Seen.{ClearedSince};
+ghost use Rattle.shardpool.specs.Creates.{Gives, GivesNone};
+ghost use Rattle.shardpool.specs.declared.create.CreateFault.TheVariants.{Full, Memory};
+ghost use Rattle.poollaws.specs.Words.{IsPublished, IsCleared, IsGone};
+ghost use Rattle.poollaws.specs.Rooms.{KnowsRoom};
+ghost use Rattle.guards.specs.Guarded.{Uses};
+ghost use Rattle.guards.specs.Seated.{GoesOn, IsNextOf, Puts, CreatesAtMost};
+
+use crate::closures::with;
+use crate::contents::Contents;
+use crate::named::PoolName;
+use crate::told::Told;
+use poollaws::room_kept_law;
+use seqpool::once_law;
+use shardpool::{CreateFault, Filling, Lane, Pool};
+use slotcell::Clear;
+use std::marker::PhantomData;
+
+/// A lane of the pool that `N` names, with that pool. Between its calls it has no reference.
+#[derive(Drop)]
+pub struct Seat<'p, N: PoolName, T: Clear> {
+    pool: &'p Pool<T>,
+    lane: Lane<T>,
+    of: PhantomData<N>,
+    ghost pool_is: { pool.now ≡ N.pool },
+    ghost table: { lane.table ≡ N.pool.table },
+    ghost directory: { lane.directory ≡ N.pool.directory },
+    ghost shape: { lane.shape ≡ N.pool.shape },
+    ghost unburdened: { refs lane ≡ 0 },
+}
+
+impl<'p, N: PoolName, T: Clear + Drop> Seat<'p, N, T> {
+    /// The seat of a lane.
+    pub fn new(pool: &'p Pool<T>, lane: Lane<T>) -> Seat<'p, N, T>
+        requires pool { pool.now ≡ N.pool }
+        requires owns { Owns N.pool lane }
+        requires none { refs lane ≡ 0 }
+        ensures { result.lane ≡ lane }
+    {
+        Seat {
+            pool,
+            lane,
+            of: PhantomData,
+        }
+    }
+
+    /// The lane.
+    pub fn into_lane(self) -> Lane<T>
+        ensures lane { result ≡ self.entry.lane }
+        ensures owns { Owns N.pool result }
+        ensures none { refs result ≡ 0 }
+    {
+        self.lane
+    }
+
+    /// The lane's number.
+    pub fn number(&self) -> u32
+        ensures { result ≡ self.now.lane.number }
+    {
+        self.lane.number()
+    }
+
+    /// As a law: what the lane has seen is a legal history of the pool.
+    pub fn seen_law(&self)
+        ensures { IsLegal N.pool.shape self.now.lane.book.seen }
+    {
+        self.lane.seen_law();
+    }
+
+    /// A place to be filled, as `Pool::create` gives it. Its object is empty, and has the room that it had under the key before.
+    ///
+    /// # Errors
+    ///
+    /// As `Pool::create`.
+    pub fn create(&mut self) -> Result<Filling<T>, CreateFault>
+        ensures gives { IfOk result (Gives T.content T.room self.old.lane self.new.lane) }
+        ensures made { IfOk result (λ filling. Made self.new.lane filling) }
+        ensures empty { IfOk result (λ filling. T.content filling.object ≡ []) }
+        ensures room { IfOk result (λ filling. (last size : ℕ) → KnowsRoom self.old.lane last size → IsNextOf filling last → size ≤ T.room filling.object) }
+        ensures none { IsErr result → GivesNone self.old.lane self.new.lane }
+        ensures full { IsErrOf result Full → self.old.lane.pages.opened ≡ N.pool.shape.pages }
+        ensures memory { IsErrOf result Memory → self.old.lane.pages.opened < N.pool.shape.pages }
+        ensures number { self.new.lane.number ≡ self.old.lane.number }
+        ensures goes { GoesOn self.old.lane self.new.lane }
+    {
+        room_kept_law::<T>();
+        self.pool.create(&mut self.lane)
+    }
+
+    /// Publishes a filling. Answers its key.
+    pub fn publish(&mut self, filling: Filling<T>) -> u64
+        requires made { Made self.old.lane filling }
+        ensures key { result ≡ filling.key }
+        ensures publishes { Did (acts.Publish self.old.lane.number filling.key (T.content filling.object) false ∷ []) self.old.lane self.new.lane }
+        ensures published { IsPublished self.new.lane.book.seen filling.key (T.content filling.object) }
+        ensures room { KnowsRoom self.new.lane filling.key (T.room filling.object) }
+        ensures fillings { (other : FillingOf T) → other.key ≢ filling.key → Made self.old.lane other → Made self.new.lane other }
+        ensures number { self.new.lane.number ≡ self.old.lane.number }
+        ensures goes { GoesOn self.old.lane self.new.lane }
+    {
+        let key = self.pool.publish(&mut self.lane, filling);
+        self.lane.seen_law();
+        key
+    }
+
+    /// Publishes an object with this content. Answers its key.
+    ///
+    /// # Errors
+    ///
+    /// As `Pool::create`; `Memory`, too, where it was refused for the content. Nothing is then published; and where it was refused for the content,
+    /// the place is lost until the pool is closed.
+    pub fn put<C: Contents<T>>(&mut self, contents: &C) -> Result<u64, CreateFault>
+        ensures puts { IfOk result (Puts T.content T.room (C.content contents.now) self.old.lane self.new.lane) }
+        ensures published { IfOk result (λ key. IsPublished self.new.lane.book.seen key (C.content contents.now)) }
+        ensures none { IsErr result → CreatesAtMost T.content T.room self.old.lane self.new.lane }
+        ensures full { IsErrOf result Full → self.old.lane.pages.opened ≡ N.pool.shape.pages }
+        ensures number { self.new.lane.number ≡ self.old.lane.number }
+        ensures goes { GoesOn self.old.lane self.new.lane }
+    {
+        let mut filling = self.create()?;
+        if contents.write(filling.value_mut()).is_err() {
+            filling.leave();
+            return Err(CreateFault::Memory);
+        }
+        Ok(self.publish(filling))
+    }
+
+    /// Looks at the object of a key. None, without a look, where the key isn't published, or is cleared.
+    pub fn with<A, F: FnOnce(&T) -> A>(&mut self, key: u64, look: F) -> Option<A>
+        requires may { F.IsAlwaysCallable look }
+        ensures some { IfSome result (λ answer. (object : T) × FnOnceReturnsAt F.FnOnce look object answer
+            × IsPublished self.new.lane.book.seen key (T.content object)
+            × ((content : List ℕ) → IsPublished self.old.lane.book.seen key content → T.content object ≡ content)) }
+        ensures gets { is_key N.pool.shape key ≡ true → MatchOption result (Gets key self.old.lane self.new.lane None) (λ _. Uses key self.old.lane self.new.lane) }
+        ensures outside { is_key N.pool.shape key ≡ false → IsNone result × (self.new.lane ≡ self.old.lane) }
+        ensures missed { IsNone result → IsGone self.old.lane.book.seen self.new.lane.book.seen key }
+        ensures cleared { IsCleared self.old.lane.book.seen key → IsNone result }
+        ensures number { self.new.lane.number ≡ self.old.lane.number }
+        ensures goes { GoesOn self.old.lane self.new.lane }
+    {
+        let answer = with(self.pool, &mut self.lane, key, look);
+        self.lane.seen_law();
+        once_law();
+        answer
+    }
+
+    /// Clears a key: true where it is this call that marked it. After it the key is cleared, if it was published before.
+    pub fn clear(&mut self, key: u64) -> bool
+        ensures clears { is_key N.pool.shape key ≡ true → (rest : List Act) × Did (acts.Clear self.old.lane.number key result ∷ rest) self.old.lane self.new.lane }
+        ensures outside { is_key N.pool.shape key ≡ false → (result ≡ false) × (self.new.lane ≡ self.old.lane) }
+        ensures cleared { IsTrue result → ClearedSince key self.old.lane self.new.lane }
+        ensures gone { IsGone self.old.lane.book.seen self.new.lane.book.seen key }
+        ensures number { self.new.lane.number ≡ self.old.lane.number }
+        ensures goes { GoesOn self.old.lane self.new.lane }
+    {
+        self.pool.clear(&mut self.lane, key)
+    }
+
+    /// Tells of a key that the lane has seen published.
+    pub fn tell(&mut self, key: u64) -> Told<N, T>
+        requires published { (content : List ℕ) × IsPublished self.old.lane.book.seen key content }
+        ensures key { result.key ≡ key }
+        ensures content { (content : List ℕ) → IsPublished self.old.lane.book.seen key content → result.content ≡ content }
+        ensures lane { self.new.lane ≡ self.old.lane }
+    {
+        self.lane.seen_law();
+        once_law();
+        let note = self.pool.tell(&mut self.lane);
+        Told::of(key, note)
+    }
+
+    /// Hears of a key. Answers it.
+    pub fn hear(&mut self, told: Told<N, T>) -> u64
+        ensures key { result ≡ told.key }
+        ensures hears { Did [] self.old.lane self.new.lane }
+        ensures published { IsPublished self.new.lane.book.seen told.key told.content }
+        ensures number { self.new.lane.number ≡ self.old.lane.number }
+        ensures goes { GoesOn self.old.lane self.new.lane }
+    {
+        let (key, note) = told.into_parts();
+        self.pool.hear(&mut self.lane, note);
+        key
+    }
+}
