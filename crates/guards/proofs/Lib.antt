@@ -1,2 +1,4 @@
 mod Guarding
 mod Slots
+mod Rows
+mod Seating

@@ -15,6 +15,8 @@ use crate::closures::with;
 use crate::contents::Contents;
 use crate::named::PoolName;
 use crate::told::Told;
+use poollaws::room_kept_law;
+use seqpool::once_law;
 use shardpool::{CreateFault, Filling, Lane, Pool};
 use slotcell::Clear;
 use std::marker::PhantomData;
@@ -85,6 +87,7 @@ impl<'p, N: PoolName, T: Clear + Drop> Seat<'p, N, T> {
         ensures number { self.new.lane.number ≡ self.old.lane.number }
         ensures goes { GoesOn self.old.lane self.new.lane }
     {
+        room_kept_law::<T>();
         self.pool.create(&mut self.lane)
     }
 
@@ -98,7 +101,9 @@ impl<'p, N: PoolName, T: Clear + Drop> Seat<'p, N, T> {
         ensures number { self.new.lane.number ≡ self.old.lane.number }
         ensures goes { GoesOn self.old.lane self.new.lane }
     {
-        self.pool.publish(&mut self.lane, filling)
+        let key = self.pool.publish(&mut self.lane, filling);
+        self.lane.seen_law();
+        key
     }
 
     /// Publishes an object with this content. Answers its key.
@@ -131,7 +136,10 @@ impl<'p, N: PoolName, T: Clear + Drop> Seat<'p, N, T> {
         ensures number { self.new.lane.number ≡ self.old.lane.number }
         ensures goes { GoesOn self.old.lane self.new.lane }
     {
-        with(self.pool, &mut self.lane, key, look)
+        let answer = with(self.pool, &mut self.lane, key, look);
+        self.lane.seen_law();
+        once_law();
+        answer
     }
 
     /// Clears a key: true where it is this call that marked it. After it the key is cleared, if it was published before.
@@ -151,6 +159,8 @@ impl<'p, N: PoolName, T: Clear + Drop> Seat<'p, N, T> {
         ensures content { (content : List ℕ) → IsPublished self.old.lane.book.seen key content → result.content ≡ content }
         ensures lane { self.new.lane ≡ self.old.lane }
     {
+        self.lane.seen_law();
+        once_law();
         let note = self.pool.tell(&mut self.lane);
         Told::of(key, note)
     }

@@ -1,25 +1,24 @@
 //! A registry of spans: three lanes of a pool, each in a thread of its own, pass them on through channels. What a caller can conclude is in the
-//! contracts of `Tracer` and of `close_spans`.
+//! contracts of `guards::Seat` and of `close_spans`.
 #![tactic(auto)]
 
 ghost use Rattle.std.specs.Prelude.{◌≡◌, List, map, Some, IfOk};
 ghost use Rattle.seqpool.specs.declared.act.Act.{Act};
 ghost use Rattle.seqpool.specs.Pool.{IsLegal};
 ghost use Rattle.shardpool.specs.Tokens.{LaneOf};
-ghost use Rattle.spansample.specs.Histories.{HasAll};
+ghost use Rattle.poollaws.specs.Words.{HasAll};
 
 mod details;
-mod messages;
 mod spans;
 mod threads;
-mod tracers;
 
-use crate::details::{Counted, Details, Name};
+use crate::details::{Counted, Name};
 use crate::spans::{Fields, Span};
 use crate::threads::{Findings, pass_on};
 use anyhow::anyhow;
-use guards::{Missing, Opened, open_lanes};
+use guards::{Contents, Missing, Opened, open_lanes};
 use keybits::Shape;
+use poollaws::close_law;
 use shardpool::Census;
 use slotcell::{ByteBuf, Clear};
 use std::alloc::Global;
@@ -45,6 +44,7 @@ const SHAPE: Shape = Shape {
 pub fn close_spans<T: Clear + Drop>(opened: Opened<T>) -> Result<Census, Missing<T>>
     ensures all { IfOk result (λ _. (lanes : List LaneOf) × (opened.lanes.slots ≡ map Some lanes) × (history : List Act) × IsLegal opened.pool.shape history × HasAll lanes history) }
 {
+    close_law();
     opened.close()
 }
 
@@ -71,7 +71,7 @@ impl fmt::Display for Report {
 }
 
 /// Opens a pool, passes spans of these details on, and closes it.
-fn trace<T: Counted + Drop + Send + Sync, D: Details<T> + Sync, R: Threads + Wait + Sync>(
+fn trace<T: Counted + Drop + Send + Sync, D: Contents<T> + Sync, R: Threads + Wait + Sync>(
     rt: &R,
     alloc: Global,
     details: &D,

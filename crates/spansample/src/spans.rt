@@ -2,7 +2,8 @@
 ghost use Rattle.std.specs.Prelude.{◌≡◌, ◌<◌, [], OnOk, OnErr};
 ghost use Rattle.spansample.specs.Spans.{content_of, span_numbers};
 
-use crate::details::{Counted, Details};
+use crate::details::Counted;
+use guards::Contents;
 use slotcell::{Clear, Memory};
 use std::alloc::Global;
 use std::marker::Model;
@@ -90,7 +91,7 @@ pub struct Fields<'a> {
     pub ghost begun: { 0 < id },
 }
 
-impl Details<Span> for Fields<'_> {
+impl Contents<Span> for Fields<'_> {
     ghost content = { λ fields. span_numbers fields.id fields.parent fields.events.now };
 
     fn write(&self, object: &mut Span) -> Result<(), Memory> {

@@ -2,5 +2,6 @@ use Rattle.std.proofs.Common.{rules}
 use Rattle.std.proofs.lemmas.Option.{IfSome_then}
 use Rattle.spansample.proofs.threads.count.Goals as goal
 
-pub returns : goal.returns
-returns g c = IfSome_then c.with_span.result c.with_span.ensures.shown (λ count found. let same = found.3 g.S.Subject.content c.requires in let ran = found.1 in search rules)
+pub returns-clause-count : goal.returns-clause-count
+returns-clause-count g c =
+    IfSome_then c.with.result c.with.ensures.some (λ count found content published. let same = found.3 content published in let ran = found.1 in search rules)

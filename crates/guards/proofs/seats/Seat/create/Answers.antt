@@ -1,0 +1,35 @@
+-- A create keeps the lane the seat's, and gives the room that is known.
+use Rattle.std.proofs.Common.{◌∙◌, sym, subst}
+use Rattle.std.proofs.lemmas.Result.{IfOk-weaker}
+use Rattle.shardpool.specs.Lanes.{Owns}
+use Rattle.guards.specs.Seated.{GoesOn}
+use Rattle.guards.proofs.Seating.{goes-on, created-goes}
+use Rattle.guards.proofs.seats.Seat.create.Goals as goal
+
+pub create-requires : goal.create-requires
+create-requires g c =
+    let mine = c.args.self.now in
+    record { owns = subst (λ pool. Owns pool mine.lane) (sym mine.pool_is) (mine.table, mine.shape, mine.directory) }
+
+pub invariant_of-self : goal.invariant_of-self
+invariant_of-self g c =
+    let mine = c.args.self.now in
+    let owns = subst (λ pool. Owns pool c.create.new.lane) mine.pool_is c.create.ensures.owns in
+    record { pool_is = mine.pool_is; table = owns.0; directory = owns.2; shape = owns.1; unburdened = c.create.ensures.refs ∙ mine.unburdened }
+
+pub returns-clause-made : goal.returns-clause-made
+returns-clause-made g c = IfOk-weaker c.create.result _ _ (λ filling gives. gives.made) c.create.ensures.gives
+
+pub returns-clause-empty : goal.returns-clause-empty
+returns-clause-empty g c = IfOk-weaker c.create.result _ _ (λ filling gives. gives.empty) c.create.ensures.gives
+
+pub returns-clause-room : goal.returns-clause-room
+returns-clause-room g c =
+    IfOk-weaker c.create.result _ _
+    (λ filling gives last size knows next. c.room_kept_law.ensures.reused c.args.self.now.lane c.create.new.lane filling last size gives knows next.0 next.1) c.create.ensures.gives
+
+pub returns-clause-number : goal.returns-clause-number
+returns-clause-number g c = (created-goes c.create.result c.create.ensures.gives c.create.ensures.none).0
+
+pub returns-clause-goes : goal.returns-clause-goes
+returns-clause-goes g c = (created-goes c.create.result c.create.ensures.gives c.create.ensures.none).1
