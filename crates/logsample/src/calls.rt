@@ -11,7 +11,7 @@ ghost use Rattle.logsample.specs.Histories.{NobodyFinds, IsNext};
 
 use crate::entries::{Entry, Line, Request};
 use guards::{PoolName, Seat, Told};
-use poollaws::gone_law;
+use poollaws::{going_law, gone_law};
 use shardpool::{CreateFault, Filling};
 
 /// Why a request wasn't logged.
@@ -91,6 +91,7 @@ pub fn collect<N: PoolName>(seat: &mut Seat<'_, N, Entry>, told: Told<N, Entry>)
     let key = seat.hear(told);
     let line = read(seat, key);
     seat.clear(key);
+    going_law();
     gone_law();
     line
 }
