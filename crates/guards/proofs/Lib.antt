@@ -2,3 +2,4 @@ mod Guarding
 mod Slots
 mod Rows
 mod Seating
+mod Lending

@@ -1,6 +1,6 @@
 -- What the calls of a seat leave of its lane, and what a message tells.
 use Rattle.std.proofs.Common.{◌≡◌, ℕ, zero, suc, ◌==◌, Bool, true, false, cond, List, [], ◌∷◌, Option, Some, None, refl, sym, ap, ◌∙◌, subst, inl, inr, eqb-true, eq-eqb, append-nil}
-use Rattle.std.specs.Prelude.{MatchOption, IsNone, IsSome, IsTrue, IsFalse, IsErr, IfOk, Result, Ok, Err}
+use Rattle.std.specs.Prelude.{MatchOption, IsNone, IsSome, IsTrue, IsFalse, IsErr, IfOk, OnOk, is_err, Result, Ok, Err}
 use Rattle.std.proofs.lemmas.Bool.{cases_Bool}
 use mathlib.Core.List.{IsPrefix}
 use Rattle.keybits.specs.declared.shape.Shape.{Shape}
@@ -17,9 +17,10 @@ use Rattle.shardpool.specs.Seen.{MissedSince, ClearedSince}
 use Rattle.shardpool.specs.Creates.{Gives, GivesNone}
 use Rattle.shardpool.proofs.frame.Standing.{missed-cleared}
 use Rattle.poollaws.specs.Words.{IsPublished, IsGone}
+use Rattle.poollaws.specs.Rooms.{KnowsRoom}
 use Rattle.poollaws.proofs.Kept.{kept-room}
 use Rattle.guards.specs.Guarded.{Uses}
-use Rattle.guards.specs.Seated.{GoesOn, content_in}
+use Rattle.guards.specs.Seated.{GoesOn, Puts, content_in}
 
 -- ---- what the lane has seen goes on
 
@@ -39,7 +40,7 @@ goes-further {old} {between} {new} first then = record {
 module _ {R : Type 0} (key : ℕ) (old new : LaneOf) where
   looked : (answer : Option R) → MatchOption answer (Gets key old new None) (λ _. Uses key old new) → GoesOn old new
   looked None did = goes-on did.1.goes
-  looked (Some r) did = goes-further {between = did.between} (goes-on did.gets.2.1.goes) (goes-on did.releases.goes)
+  looked (Some r) did = goes-further {between = did.between} (goes-on did.gets.3.goes) (goes-on did.releases.goes)
 
   pub look-goes : (z : Shape) (answer : Option R) → (is_key z key ≡ false → IsNone answer × (new ≡ old))
       → (is_key z key ≡ true → MatchOption answer (Gets key old new None) (λ _. Uses key old new)) → GoesOn old new
@@ -94,10 +95,10 @@ same-content law z history legal key content is =
 -- ---- what a call tells
 
 -- a create, with or without a place
-pub created-goes : {T : Type 0} {content : T → List ℕ} {room : T → ℕ} {old new : LaneOf} (answer : Result (FillingOf T) CreateFault)
+pub created-goes : {T : Type 0} (content : T → List ℕ) (room : T → ℕ) (old new : LaneOf) (answer : Result (FillingOf T) CreateFault)
     → IfOk answer (Gives content room old new) → (IsErr answer → GivesNone old new) → (new.number ≡ old.number) × GoesOn old new
-created-goes (Ok filling) gives none = (gives.created.same.2, goes-on gives.created.goes)
-created-goes (Err fault) gives none = let is = none refl in (is.created.same.2, goes-on is.created.goes)
+created-goes content room old new (Ok filling) gives none = (gives.created.same.2, goes-on gives.created.goes)
+created-goes content room old new (Err fault) gives none = let is = none refl in (is.created.same.2, goes-on is.created.goes)
 
 -- where it can't be some it is none
 pub none-or : {A : Type 0} (answer : Option A) → (IsSome answer → ⊥) → IsNone answer
@@ -109,3 +110,24 @@ pub cleared-then : {key : ℕ} {old new : LaneOf} (reply : Bool) → IsPrefix ol
     → IsGone old.book.seen new.book.seen key
 cleared-then true seen cleared missed content published = let is = cleared refl in (is.clear.position, is.cleared)
 cleared-then false seen cleared missed content published = missed-cleared seen (missed refl) published.0 content published.1
+
+pub on-ok : {A E : Type 0} (answer : Result A E) (P : Type 0) → false ≡ is_err answer → OnOk answer P → P
+on-ok (Ok x) P is holds = holds
+on-ok (Err e) P is holds = absurd (cc is)
+
+-- a create, what was written, and a publish
+module _ {T : Type 0} (content : T → List ℕ) (room : T → ℕ) (old between new : LaneOf) (filling : FillingOf T) (object : T) (key : ℕ) (written : List ℕ) where
+  pub puts : Gives content room old between filling → between.number ≡ old.number → key ≡ filling.key → content object ≡ written
+      → Did (Publish between.number filling.key (content object) false ∷ []) between new → KnowsRoom new filling.key (room object) → Puts content room written old new key
+  puts gives same is holds did knows = record {
+    between = between;
+    filling = filling;
+    gives = gives;
+    key_is = is;
+    object = object;
+    holds = holds;
+    publishes = subst (λ (n : ℕ). Did (Publish n key written false ∷ []) between new) same
+        (subst (λ (k : ℕ). Did (Publish between.number k written false ∷ []) between new) (sym is)
+        (subst (λ (c : List ℕ). Did (Publish between.number filling.key c false ∷ []) between new) holds did));
+    knows = subst (λ (k : ℕ). KnowsRoom new k (room object)) (sym is) knows;
+  }

@@ -4,3 +4,4 @@ pub mod Here
 pub mod Named
 pub mod Seated
 pub mod Runs
+pub mod Several

@@ -1,10 +1,12 @@
 -- What the calls of a seat do with its lane.
-use Rattle.std.specs.Prelude.{◌≡◌, ◌==◌, ◌+◌, ◌≤◌, ℕ, List, [], ◌∷◌, if◌then◌else◌}
+use Rattle.std.specs.Prelude.{◌≡◌, ◌==◌, ◌+◌, ◌≤◌, ◌⊎◌, ℕ, false, List, [], ◌∷◌, if◌then◌else◌}
 use mathlib.Core.List.{IsPrefix}
 use Rattle.keybits.specs.Keys.{place_of, generation_of}
 use Rattle.seqpool.specs.declared.act.Act.{Act}
 use Rattle.seqpool.specs.declared.act.Act.TheVariants.{Publish, Get, Release, Clear, Reclaim, Home, Collect}
 use Rattle.shardpool.specs.Tokens.{LaneOf, FillingOf}
+use Rattle.shardpool.specs.Lanes.{Did}
+use Rattle.shardpool.specs.Creates.{Gives, GivesNone}
 use Rattle.poollaws.specs.Rooms.{KnowsRoom}
 
 -- what the lane has seen goes on, and what it knows of rooms it goes on to know
@@ -15,6 +17,21 @@ pub record GoesOn (old new : LaneOf) : Type 0 where
 -- the filling is of the place of a key, under the next generation
 abbrev pub IsNextOf : {T : Type 0} → FillingOf T → ℕ → Type 0
 IsNextOf filling key = (place_of filling.key ≡ place_of key) × (generation_of filling.key ≡ generation_of key + 1)
+
+-- a create, a write of this content, and a publish under this key: the lane made these calls, and nothing more
+pub record Puts {T : Type 0} (content : T → List ℕ) (room : T → ℕ) (written : List ℕ) (old new : LaneOf) (key : ℕ) : Type 0 where
+  pub between : LaneOf
+  pub filling : FillingOf T
+  pub gives : Gives content room old between filling
+  pub key_is : key ≡ filling.key
+  pub object : T
+  pub holds : content object ≡ written
+  pub publishes : Did (Publish old.number key written false ∷ []) between new
+  pub knows : KnowsRoom new key (room object)
+
+-- the lane made a create, and nothing more
+abbrev pub CreatesAtMost : {T : Type 0} → (T → List ℕ) → (T → ℕ) → LaneOf → LaneOf → Type 0
+CreatesAtMost {T} content room old new = GivesNone old new ⊎ ((filling : FillingOf T) × Gives content room old new filling)
 
 -- the content with which a key is published in a history; the empty one where it isn't
 abbrev pub content_in : List Act → ℕ → List ℕ

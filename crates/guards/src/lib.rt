@@ -11,6 +11,7 @@ mod posts;
 mod reading;
 mod runs;
 mod seats;
+mod several;
 mod told;
 
 pub use closures::{create_with, with};
@@ -22,4 +23,5 @@ pub use named::PoolName;
 pub use reading::ReadGuard;
 pub use runs::{Unrun, run_lanes};
 pub use seats::Seat;
+pub use several::{with_four, with_three, with_two};
 pub use told::Told;

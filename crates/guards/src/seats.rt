@@ -1,15 +1,19 @@
 //! A lane together with its pool, for a thread that does its work with that lane alone.
-ghost use Rattle.std.specs.Prelude.{◌≡◌, ◌≢◌, ◌<◌, ◌≤◌, ℕ, List, [], IfOk, IsOk, IsErr, IsErrOf, IfSome, IsNone, IsTrue};
+ghost use Rattle.std.specs.Prelude.{◌≡◌, ◌≢◌, ◌<◌, ◌≤◌, ℕ, List, [], ◌∷◌, true, false, None, MatchOption, IfOk, IsErr, IsErrOf, IfSome, IsNone, IsTrue};
 ghost use Rattle.std.specs.Fn.{FnOnceReturnsAt};
+ghost use Rattle.keybits.specs.Keys.{is_key};
+ghost use Rattle.seqpool.specs.declared.act.Act.{Act};
+ghost use Rattle.seqpool.specs.declared.act.Act.TheVariants as acts;
 ghost use Rattle.seqpool.specs.Pool.{IsLegal};
 ghost use Rattle.shardpool.specs.Tokens.{FillingOf};
-ghost use Rattle.shardpool.specs.Lanes.{Owns, Made, refs};
+ghost use Rattle.shardpool.specs.Lanes.{Owns, Made, Did, Gets, refs};
 ghost use Rattle.shardpool.specs.Seen.{ClearedSince};
-ghost use Rattle.shardpool.specs.Creates.{GivesNone};
+ghost use Rattle.shardpool.specs.Creates.{Gives, GivesNone};
 ghost use Rattle.shardpool.specs.declared.create.CreateFault.TheVariants.{Full, Memory};
 ghost use Rattle.poollaws.specs.Words.{IsPublished, IsCleared, IsGone};
 ghost use Rattle.poollaws.specs.Rooms.{KnowsRoom};
-ghost use Rattle.guards.specs.Seated.{GoesOn, IsNextOf};
+ghost use Rattle.guards.specs.Guarded.{Uses};
+ghost use Rattle.guards.specs.Seated.{GoesOn, IsNextOf, Puts, CreatesAtMost};
 
 use crate::closures::with;
 use crate::contents::Contents;
@@ -78,6 +82,7 @@ impl<'p, N: PoolName, T: Clear + Drop> Seat<'p, N, T> {
     ///
     /// As `Pool::create`.
     pub fn create(&mut self) -> Result<Filling<T>, CreateFault>
+        ensures gives { IfOk result (Gives T.content T.room self.old.lane self.new.lane) }
         ensures made { IfOk result (λ filling. Made self.new.lane filling) }
         ensures empty { IfOk result (λ filling. T.content filling.object ≡ []) }
         ensures room { IfOk result (λ filling. (last size : ℕ) → KnowsRoom self.old.lane last size → IsNextOf filling last → size ≤ T.room filling.object) }
@@ -95,6 +100,7 @@ impl<'p, N: PoolName, T: Clear + Drop> Seat<'p, N, T> {
     pub fn publish(&mut self, filling: Filling<T>) -> u64
         requires made { Made self.old.lane filling }
         ensures key { result ≡ filling.key }
+        ensures publishes { Did (acts.Publish self.old.lane.number filling.key (T.content filling.object) false ∷ []) self.old.lane self.new.lane }
         ensures published { IsPublished self.new.lane.book.seen filling.key (T.content filling.object) }
         ensures room { KnowsRoom self.new.lane filling.key (T.room filling.object) }
         ensures fillings { (other : FillingOf T) → other.key ≢ filling.key → Made self.old.lane other → Made self.new.lane other }
@@ -113,7 +119,10 @@ impl<'p, N: PoolName, T: Clear + Drop> Seat<'p, N, T> {
     /// As `Pool::create`; `Memory`, too, where it was refused for the content. Nothing is then published; and where it was refused for the content,
     /// the place is lost until the pool is closed.
     pub fn put<C: Contents<T>>(&mut self, contents: &C) -> Result<u64, CreateFault>
+        ensures puts { IfOk result (Puts T.content T.room (C.content contents.now) self.old.lane self.new.lane) }
         ensures published { IfOk result (λ key. IsPublished self.new.lane.book.seen key (C.content contents.now)) }
+        ensures none { IsErr result → CreatesAtMost T.content T.room self.old.lane self.new.lane }
+        ensures full { IsErrOf result Full → self.old.lane.pages.opened ≡ N.pool.shape.pages }
         ensures number { self.new.lane.number ≡ self.old.lane.number }
         ensures goes { GoesOn self.old.lane self.new.lane }
     {
@@ -131,6 +140,8 @@ impl<'p, N: PoolName, T: Clear + Drop> Seat<'p, N, T> {
         ensures some { IfSome result (λ answer. (object : T) × FnOnceReturnsAt F.FnOnce look object answer
             × IsPublished self.new.lane.book.seen key (T.content object)
             × ((content : List ℕ) → IsPublished self.old.lane.book.seen key content → T.content object ≡ content)) }
+        ensures gets { is_key N.pool.shape key ≡ true → MatchOption result (Gets key self.old.lane self.new.lane None) (λ _. Uses key self.old.lane self.new.lane) }
+        ensures outside { is_key N.pool.shape key ≡ false → IsNone result × (self.new.lane ≡ self.old.lane) }
         ensures missed { IsNone result → IsGone self.old.lane.book.seen self.new.lane.book.seen key }
         ensures cleared { IsCleared self.old.lane.book.seen key → IsNone result }
         ensures number { self.new.lane.number ≡ self.old.lane.number }
@@ -144,6 +155,8 @@ impl<'p, N: PoolName, T: Clear + Drop> Seat<'p, N, T> {
 
     /// Clears a key: true where it is this call that marked it. After it the key is cleared, if it was published before.
     pub fn clear(&mut self, key: u64) -> bool
+        ensures clears { is_key N.pool.shape key ≡ true → (rest : List Act) × Did (acts.Clear self.old.lane.number key result ∷ rest) self.old.lane self.new.lane }
+        ensures outside { is_key N.pool.shape key ≡ false → (result ≡ false) × (self.new.lane ≡ self.old.lane) }
         ensures cleared { IsTrue result → ClearedSince key self.old.lane self.new.lane }
         ensures gone { IsGone self.old.lane.book.seen self.new.lane.book.seen key }
         ensures number { self.new.lane.number ≡ self.old.lane.number }
@@ -168,6 +181,7 @@ impl<'p, N: PoolName, T: Clear + Drop> Seat<'p, N, T> {
     /// Hears of a key. Answers it.
     pub fn hear(&mut self, told: Told<N, T>) -> u64
         ensures key { result ≡ told.key }
+        ensures hears { Did [] self.old.lane self.new.lane }
         ensures published { IsPublished self.new.lane.book.seen told.key told.content }
         ensures number { self.new.lane.number ≡ self.old.lane.number }
         ensures goes { GoesOn self.old.lane self.new.lane }

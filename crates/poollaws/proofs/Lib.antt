@@ -1,3 +1,3 @@
-mod Ends
+pub mod Ends
 mod Counts
-mod Kept
+pub mod Kept

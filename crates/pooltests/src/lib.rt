@@ -26,6 +26,8 @@ mod test_open;
 #[cfg(test)]
 mod test_rows;
 #[cfg(test)]
+mod test_seats;
+#[cfg(test)]
 mod test_steps;
 #[cfg(test)]
 mod test_threads;

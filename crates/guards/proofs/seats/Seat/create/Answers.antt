@@ -2,8 +2,7 @@
 use Rattle.std.proofs.Common.{◌∙◌, sym, subst}
 use Rattle.std.proofs.lemmas.Result.{IfOk-weaker}
 use Rattle.shardpool.specs.Lanes.{Owns}
-use Rattle.guards.specs.Seated.{GoesOn}
-use Rattle.guards.proofs.Seating.{goes-on, created-goes}
+use Rattle.guards.proofs.Seating.{created-goes}
 use Rattle.guards.proofs.seats.Seat.create.Goals as goal
 
 pub create-requires : goal.create-requires
@@ -29,7 +28,7 @@ returns-clause-room g c =
     (λ filling gives last size knows next. c.room_kept_law.ensures.reused c.args.self.now.lane c.create.new.lane filling last size gives knows next.0 next.1) c.create.ensures.gives
 
 pub returns-clause-number : goal.returns-clause-number
-returns-clause-number g c = (created-goes c.create.result c.create.ensures.gives c.create.ensures.none).0
+returns-clause-number g c = (created-goes g.T.Clear.content g.T.Clear.room c.args.self.now.lane c.create.new.lane c.create.result c.create.ensures.gives c.create.ensures.none).0
 
 pub returns-clause-goes : goal.returns-clause-goes
-returns-clause-goes g c = (created-goes c.create.result c.create.ensures.gives c.create.ensures.none).1
+returns-clause-goes g c = (created-goes g.T.Clear.content g.T.Clear.room c.args.self.now.lane c.create.new.lane c.create.result c.create.ensures.gives c.create.ensures.none).1

@@ -5,7 +5,7 @@ use Rattle.guards.proofs.seats.Seat.hear.Goals as goal
 
 pub returns-clause-published : goal.returns-clause-published
 returns-clause-published g c =
-    let published = c.into_parts.ensures.published in (published.0, published-later _ _ published.0 _ _ c.hear.ensures.heard.0 published.1)
+    let published = c.into_parts-key.ensures.published in (published.0, published-later _ _ published.0 _ _ c.hear.ensures.heard.0 published.1)
 
 pub returns-clause-goes : goal.returns-clause-goes
 returns-clause-goes g c = goes-on c.hear.ensures.goes.goes

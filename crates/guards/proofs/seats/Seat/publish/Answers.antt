@@ -1,33 +1,33 @@
 -- A publish keeps the lane the seat's, and the lane knows the room of what it published.
-use Rattle.std.proofs.Common.{◌∙◌, sym, subst, arith, refl}
+use Rattle.std.proofs.Common.{◌∙◌, sym, subst, arith}
 use Rattle.shardpool.specs.Lanes.{Owns}
 use Rattle.poollaws.proofs.Kept.{first-room}
 use Rattle.guards.proofs.Seating.{goes-on}
 use Rattle.guards.proofs.seats.Seat.publish.Goals as goal
 
-pub publish-requires-clause-owns : goal.publish-requires-clause-owns
-publish-requires-clause-owns g c =
+pub publish-key-requires-clause-owns : goal.publish-key-requires-clause-owns
+publish-key-requires-clause-owns g c =
     let mine = c.args.self.now in subst (λ pool. Owns pool mine.lane) (sym mine.pool_is) (mine.table, mine.shape, mine.directory)
 
-pub publish-requires-clause-made : goal.publish-requires-clause-made
-publish-requires-clause-made g c = c.requires
+pub publish-key-requires-clause-made : goal.publish-key-requires-clause-made
+publish-key-requires-clause-made g c = c.requires.made
 
 pub invariant_of-self : goal.invariant_of-self
 invariant_of-self g c =
     let mine = c.args.self.now in
-    let owns = subst (λ pool. Owns pool c.publish.new.lane) mine.pool_is c.publish.ensures.owns in
-    record { pool_is = mine.pool_is; table = owns.0; directory = owns.2; shape = owns.1; unburdened = c.publish.ensures.refs ∙ mine.unburdened }
+    let owns = subst (λ pool. Owns pool c.publish-key.new.lane) mine.pool_is c.publish-key.ensures.owns in
+    record { pool_is = mine.pool_is; table = owns.0; directory = owns.2; shape = owns.1; unburdened = c.publish-key.ensures.refs ∙ mine.unburdened }
 
 pub returns-clause-published : goal.returns-clause-published
-returns-clause-published g c = (c.publish.ensures.published.publish.position, c.publish.ensures.published.published)
+returns-clause-published g c = (c.publish-key.ensures.published.publish.position, c.publish-key.ensures.published.published)
 
 pub returns-clause-room : goal.returns-clause-room
 returns-clause-room g c =
-    let room = c.publish.ensures.room in
-    first-room c.publish.new.lane c.args.filling.key (g.T.Clear.room c.args.filling.object) (g.T.Clear.content c.args.filling.object) (returns-clause-published g c) c.seen_law.ensures.rooms (omega (arith, room))
+    let room = c.publish-key.ensures.room in
+    first-room c.publish-key.new.lane c.args.filling.key (g.T.Clear.room c.args.filling.object) (g.T.Clear.content c.args.filling.object) (returns-clause-published g c) c.seen_law.ensures.rooms (omega (arith, room))
 
 pub returns-clause-goes : goal.returns-clause-goes
-returns-clause-goes g c = goes-on c.publish.ensures.publishes.goes
+returns-clause-goes g c = goes-on c.publish-key.ensures.publishes.goes
 
 pub returns-clause-number : goal.returns-clause-number
-returns-clause-number g c = c.publish.ensures.publishes.same.2
+returns-clause-number g c = c.publish-key.ensures.publishes.same.2

@@ -1,15 +1,15 @@
 -- What was written into the created object is published.
-use Rattle.std.proofs.Common.{◌∙◌, ap, sym, subst}
+use Rattle.std.proofs.Common.{◌∙◌, ap, inl, inr, refl}
 use Rattle.std.proofs.lemmas.Result.{IfOk-from_err}
-use Rattle.guards.proofs.Seating.{goes-further}
+use Rattle.guards.proofs.Seating.{goes-further, on-ok, puts}
 use Rattle.guards.proofs.seats.Seat.put.Goals as goal
 
 pub write-requires : goal.write-requires
 write-requires g c = ap g.T.Clear.content c.value_mut.ensures.object ∙ c.in_ok-filling.ensures.empty
 
-pub publish-requires-clause-made : goal.publish-requires-clause-made
-publish-requires-clause-made g c =
-    let made = c.in_ok-filling.ensures.made in record { table = made.table; start = made.start; place = made.place; may = made.may; emptied = made.emptied }
+pub publish-requires : goal.publish-requires
+publish-requires g c =
+    let made = c.in_ok-filling.ensures.made in record { made = record { table = made.table; start = made.start; place = made.place; may = made.may; emptied = made.emptied } }
 
 pub returns-clause-number : goal.returns-clause-number
 returns-clause-number g c = c.publish.ensures.number ∙ c.create.ensures.number
@@ -19,3 +19,17 @@ returns-clause-goes g c = goes-further {between = c.create.new.self.lane} c.crea
 
 pub returns-in_err-filling-clause-published : goal.returns-in_err-filling-clause-published
 returns-in_err-filling-clause-published g c = IfOk-from_err c.from_residual.result _ c.from_residual.ensures.0
+
+pub returns-clause-puts : goal.returns-clause-puts
+returns-clause-puts g c =
+    puts g.T.Clear.content g.T.Clear.room c.args.self.now.lane c.create.new.self.lane c.publish.new.self.lane c.in_ok-filling.filling c.write.new.object c.publish.result
+    (g.C.Contents.content c.args.contents.now) c.in_ok-filling.ensures.gives c.create.ensures.number c.publish.ensures.key
+    (on-ok c.write.result _ (c.if-is_err.ensures.value) c.write.ensures) c.publish.ensures.publishes c.publish.ensures.room
+
+-- ---- nothing is published
+
+pub returns-in_err-filling-clause-none : goal.returns-in_err-filling-clause-none
+returns-in_err-filling-clause-none g c = λ err. inl (c.in_err-filling.ensures.none refl)
+
+pub returns-then-is_err-clause-none : goal.returns-then-is_err-clause-none
+returns-then-is_err-clause-none g c = λ err. inr (c.in_ok-filling.filling, c.in_ok-filling.ensures.gives)

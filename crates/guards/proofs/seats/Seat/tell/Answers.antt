@@ -7,7 +7,7 @@ use Rattle.guards.proofs.seats.Seat.tell.Goals as goal
 
 pub of-requires-clause-published : goal.of-requires-clause-published
 of-requires-clause-published g c =
-    let published = c.requires in
+    let published = c.requires.published in
     subst (λ seen. IsPublished seen c.args.key (content_in seen c.args.key)) (sym c.tell-note.ensures.note.1) (told-content c.args.self.now.lane.book.seen c.args.key published.0 published.1)
 
 pub returns-clause-content : goal.returns-clause-content

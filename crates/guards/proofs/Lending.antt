@@ -1,0 +1,139 @@
+-- References that a lane takes and gives back.
+use Rattle.std.proofs.Common.{◌≡◌, ◌==◌, ◌≢◌, ◌⊎◌, ℕ, ◌+◌, ◌-◌, ◌≤◌, Bool, true, false, cond, List, [], ◌∷◌, ◌++◌, length, Option, Some, None, is_some, refl, sym, ap, ◌∙◌, subst, inl, inr, arith, eqb-true, eq-eqb, length-append, append-nil}
+use Rattle.std.proofs.lemmas.Bool.{cases_Bool}
+use mathlib.Core.List.{IsPrefix}
+use Rattle.keybits.specs.declared.shape.Shape.{Shape}
+use Rattle.poolsteps.proofs.ViewLemmas.{prefix-trans}
+use Rattle.shardpool.specs.Tokens.{PoolOf, LaneOf, FillingOf, RefOf}
+use Rattle.shardpool.specs.Lanes.{Owns, Made, SameLane, holds, refs}
+use Rattle.poollaws.specs.Words.{IsPublished, IsCleared, IsGone}
+use Rattle.poollaws.proofs.Ends.{stays-published, stays-cleared}
+use Rattle.guards.specs.Several.{more_of, Lends, Returns}
+
+-- ---- counts
+
+more-append : (ms ks : List ℕ) (key n : ℕ) → more_of (ms ++ ks) key n ≡ more_of ms key (more_of ks key n)
+more-append [] ks key n = refl
+more-append (m ∷ ms) ks key n = ap (λ (c : ℕ). cond (m == key) (c + 1) c) (more-append ms ks key n)
+
+one-higher : (b : Bool) (m n : ℕ) → cond b (m + 1) m ≡ cond b (n + 1) n → m ≡ n
+one-higher true m n is = omega (arith, is)
+one-higher false m n is = is
+
+-- what was as many before as many more is so
+more-same : (ks : List ℕ) (key m n : ℕ) → more_of ks key m ≡ more_of ks key n → m ≡ n
+more-same [] key m n is = is
+more-same (k ∷ ks) key m n is = more-same ks key m n (one-higher (k == key) (more_of ks key m) (more_of ks key n) is)
+
+one-no-less : (b : Bool) (m n : ℕ) → m ≤ n → cond b (m + 1) m ≤ cond b (n + 1) n
+one-no-less true m n low = omega (arith, low)
+one-no-less false m n low = low
+
+more-no-less : (ks : List ℕ) (key m n : ℕ) → m ≤ n → more_of ks key m ≤ more_of ks key n
+more-no-less [] key m n low = low
+more-no-less (k ∷ ks) key m n low = one-no-less (k == key) (more_of ks key m) (more_of ks key n) (more-no-less ks key m n low)
+
+one-of-first : (b : Bool) (n : ℕ) → b ≡ true → 1 ≤ cond b (n + 1) n
+one-of-first true n is = omega arith
+one-of-first false n is = absurd (cc is)
+
+module _ {T : Type 0} {pool : PoolOf} where
+  -- ---- what a lane has
+
+  pub lends-none : {lane : LaneOf} → Owns pool lane → Lends T pool [] lane lane
+  lends-none {lane} owns = record {
+    owns = owns;
+    same = (refl, refl, refl, refl);
+    seen = ([], append-nil lane.book.seen);
+    refs_are = omega arith;
+    held = λ key. refl;
+    fillings = λ filling made. made;
+  }
+
+  pub lends-more : {ks ms : List ℕ} {old between new : LaneOf} → Lends T pool ks old between → Lends T pool ms between new → Lends T pool (ms ++ ks) old new
+  lends-more {ks} {ms} {old} {between} {new} first then = record {
+    owns = then.owns;
+    same = (then.same.0 ∙ first.same.0, then.same.1 ∙ first.same.1, then.same.2 ∙ first.same.2, then.same.3 ∙ first.same.3);
+    seen = prefix-trans old.book.seen between.book.seen new.book.seen first.seen then.seen;
+    refs_are = let one = first.refs_are in let other = then.refs_are in let long = length-append ms ks in omega (arith, one, other, long);
+    held = λ key. then.held key ∙ (ap (more_of ms key) (first.held key) ∙ sym (more-append ms ks key (holds old key)));
+    fillings = λ filling made. then.fillings filling (first.fillings filling made);
+  }
+
+  -- what was taken and given back
+  pub lends-back : {ks : List ℕ} {old between new : LaneOf} → Lends T pool ks old between → Returns T pool ks between new → Lends T pool [] old new
+  lends-back {ks} {old} {between} {new} first then = record {
+    owns = then.owns;
+    same = (then.same.0 ∙ first.same.0, then.same.1 ∙ first.same.1, then.same.2 ∙ first.same.2, then.same.3 ∙ first.same.3);
+    seen = prefix-trans old.book.seen between.book.seen new.book.seen first.seen then.seen;
+    refs_are = let one = first.refs_are in let other = then.refs_were in omega (arith, one, other);
+    held = λ key. more-same ks key (holds new key) (holds old key) (sym (then.held key) ∙ first.held key);
+    fillings = λ filling made. then.fillings filling (first.fillings filling made);
+  }
+
+  -- the lane has the references that it took
+  pub has-all : {ks : List ℕ} {old new : LaneOf} → Lends T pool ks old new → (key : ℕ) → more_of ks key 0 ≤ holds new key
+  has-all {ks} {old} {new} lends key =
+      let low = more-no-less ks key 0 (holds old key) (omega arith) in let is = lends.held key in omega (arith, low, is)
+
+  pub returns-more : {ks ms : List ℕ} {old between new : LaneOf} → Returns T pool ms old between → Returns T pool ks between new → Returns T pool (ms ++ ks) old new
+  returns-more {ks} {ms} {old} {between} {new} first then = record {
+    owns = then.owns;
+    same = (then.same.0 ∙ first.same.0, then.same.1 ∙ first.same.1, then.same.2 ∙ first.same.2, then.same.3 ∙ first.same.3);
+    seen = prefix-trans old.book.seen between.book.seen new.book.seen first.seen then.seen;
+    refs_were = let one = first.refs_were in let other = then.refs_were in let long = length-append ms ks in omega (arith, one, other, long);
+    held = λ key. first.held key ∙ (ap (more_of ms key) (then.held key) ∙ sym (more-append ms ks key (holds new key)));
+    fillings = λ filling made. then.fillings filling (first.fillings filling made);
+  }
+
+  -- ---- one call
+
+  -- a get that gave a reference
+  pub lends-one : {old new : LaneOf} (key : ℕ) → Owns pool new → SameLane old new → IsPrefix old.book.seen new.book.seen → refs new ≡ refs old + 1
+      → ((k : ℕ) → holds new k ≡ cond (key == k) (holds old k + 1) (holds old k)) → ((filling : FillingOf T) → Made old filling → Made new filling) → Lends T pool (key ∷ []) old new
+  lends-one key owns same seen more held fillings = record { owns = owns; same = same; seen = seen; refs_are = more; held = held; fillings = fillings }
+
+  -- one that gave none
+  pub lends-missed : {old new : LaneOf} → Owns pool new → SameLane old new → IsPrefix old.book.seen new.book.seen → refs new ≡ refs old + 0
+      → ((k : ℕ) → holds new k ≡ holds old k) → ((filling : FillingOf T) → Made old filling → Made new filling) → Lends T pool [] old new
+  lends-missed owns same seen more held fillings = record { owns = owns; same = same; seen = seen; refs_are = more; held = held; fillings = fillings }
+
+  less-one : (b : Bool) (m n : ℕ) → (b ≡ true → 1 ≤ m) → n ≡ cond b (m - 1) m → m ≡ cond b (n + 1) n
+  less-one true m n some is = let low = some refl in omega (arith, low, is)
+  less-one false m n some is = sym is
+
+  -- a release
+  pub returns-one : {old new : LaneOf} (key : ℕ) → 1 ≤ holds old key → Owns pool new → SameLane old new → IsPrefix old.book.seen new.book.seen → refs new + 1 ≡ refs old
+      → ((k : ℕ) → holds new k ≡ cond (key == k) (holds old k - 1) (holds old k)) → ((filling : FillingOf T) → Made old filling → Made new filling) → Returns T pool (key ∷ []) old new
+  returns-one {old} {new} key some owns same seen less held fillings = record {
+    owns = owns;
+    same = same;
+    seen = seen;
+    refs_were = sym less;
+    held = λ k. less-one (key == k) (holds old k) (holds new k) (λ is. subst (λ (n : ℕ). 1 ≤ holds old n) (eqb-true key k is) some) (held k);
+    fillings = fillings;
+  }
+
+-- ---- references that are held
+
+-- one of the keys, of which each is held
+pub first-held : (ks : List ℕ) (key n : ℕ) → more_of (key ∷ ks) key 0 ≤ n → 1 ≤ n
+first-held ks key n low = let one = one-of-first (key == key) (more_of ks key 0) (eq-eqb key key refl) in omega (arith, low, one)
+
+second : (b c : Bool) (before now : ℕ) → c ≡ true → cond b (cond c (0 + 1) 0 + 1) (cond c (0 + 1) 0) ≤ before → before ≡ cond b (now + 1) now → 1 ≤ now
+second true true before now same low is = omega (arith, low, is)
+second false true before now same low is = omega (arith, low, is)
+second true false before now same low is = absurd (cc same)
+second false false before now same low is = absurd (cc same)
+
+-- behind the first of two the second is still held
+pub second-held : (one other before now : ℕ) → more_of (other ∷ one ∷ []) one 0 ≤ before → before ≡ more_of (other ∷ []) one now → 1 ≤ now
+second-held one other before now low is = second (other == one) (one == one) before now (eq-eqb one one refl) low is
+
+-- ---- keys that are gone
+
+-- a key that is gone between two moments is gone between others around them
+pub gone-around : {old first then new : LaneOf} {key : ℕ} → IsPrefix old.book.seen first.book.seen → IsPrefix then.book.seen new.book.seen → IsGone first.book.seen then.book.seen key
+    → IsGone old.book.seen new.book.seen key
+gone-around {old} {first} {then} {new} {key} before after gone content published =
+    stays-cleared then.book.seen new.book.seen after key (gone content (stays-published old.book.seen first.book.seen before key content published))
