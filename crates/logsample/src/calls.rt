@@ -1,5 +1,5 @@
 //! What the log's lanes do with entries: a worker publishes them, and the collector reads and clears them.
-ghost use Rattle.std.specs.Prelude.{◌≡◌, ◌<◌, ◌≤◌, ◌↔◌, ℕ, List, length, IfOk, IfSome, IsNone, IsErrOf};
+ghost use Rattle.std.specs.Prelude.{◌≡◌, ◌<◌, ◌≤◌, ◌↔◌, ℕ, List, length, IfOk, IfSome, IsNone, IsErr, IsErrOf};
 ghost use Rattle.shardpool.specs.Tokens.{LaneOf};
 ghost use Rattle.shardpool.specs.Lanes.{Made};
 ghost use Rattle.poollaws.specs.Words.{IsPublished, IsGone};
@@ -7,7 +7,7 @@ ghost use Rattle.poollaws.specs.Rooms.{KnowsRoom};
 ghost use Rattle.guards.specs.Seated.{GoesOn};
 ghost use Rattle.logsample.specs.declared.calls.LogFault.TheVariants as faults;
 ghost use Rattle.logsample.specs.Requests.{numbers_of, content_of, line_of};
-ghost use Rattle.logsample.specs.Histories.{NobodyFinds, IsNext};
+ghost use Rattle.logsample.specs.Histories.{LogsNothing, NobodyFinds, IsNext};
 
 use crate::entries::{Entry, Line, Request};
 use guards::{PoolName, Seat, Told};
@@ -40,6 +40,7 @@ pub fn log<N: PoolName>(
     ensures room { IfOk result (λ key. KnowsRoom seat.new.lane key (length request.now.path.now)) }
     ensures reused { IfOk result (λ key. (last size : ℕ) → KnowsRoom seat.old.lane last size → IsNext key last → KnowsRoom seat.new.lane key size) }
     ensures no_status { IsErrOf result faults.NoStatus ↔ (request.now.status ≡ 0) }
+    ensures none { IsErr result → LogsNothing seat.old.lane seat.new.lane }
     ensures number { seat.new.lane.number ≡ seat.old.lane.number }
     ensures goes { GoesOn seat.old.lane seat.new.lane }
 {
