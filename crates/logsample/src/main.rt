@@ -2,10 +2,12 @@
 //! What a caller can conclude is in the contracts of `log`, `read`, `collect` and `close_log`.
 #![tactic(auto)]
 
-ghost use Rattle.std.specs.Prelude.{◌≡◌, IfOk, List, map, Some};
+ghost use Rattle.std.specs.Prelude.{◌≡◌, ℕ, IfOk, List, map, Some, slice_get};
 ghost use Rattle.shardpool.specs.Tokens.{LaneOf};
 ghost use Rattle.guards.specs.Here.{HoldNothing};
+ghost use Rattle.logsample.specs.declared.tasks.Report.{Report};
 ghost use Rattle.logsample.specs.Closed.{IsSettled};
+ghost use Rattle.logsample.specs.Tasks.{LogsAll};
 
 mod calls;
 mod entries;
@@ -79,6 +81,7 @@ fn run_all<N: PoolName + Send, R: Threads + Wait + Sync>(
 ) -> anyhow::Result<Vec<Report>>
     requires pool { opened.old.pool ≡ N.pool }
     requires nothing { HoldNothing opened.old.lanes }
+    ensures all { IfOk result (λ reports. (number : ℕ) (report : Report) → slice_get reports.items number ≡ Some report → LogsAll report) }
 {
     let tasks = all_tasks::<N>(alloc)?;
     match run_lanes::<N, Entry, Task<N>, R>(rt, alloc, opened, tasks) {
