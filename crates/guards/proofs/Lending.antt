@@ -1,12 +1,11 @@
 -- References that a lane takes and gives back.
-use Rattle.std.proofs.Common.{◌≡◌, ◌==◌, ◌≢◌, ◌⊎◌, ℕ, ◌+◌, ◌-◌, ◌≤◌, Bool, true, false, cond, List, [], ◌∷◌, ◌++◌, length, Option, Some, None, is_some, refl, sym, ap, ◌∙◌, subst, inl, inr, arith, eqb-true, eq-eqb, length-append, append-nil}
-use Rattle.std.proofs.lemmas.Bool.{cases_Bool}
+use Rattle.std.proofs.Common.{◌≡◌, ◌==◌, ℕ, zero, suc, ◌+◌, ◌-◌, ◌≤◌, Bool, true, false, cond, List, [], ◌∷◌, ◌++◌, Some, slice_get, refl, sym, ap, ◌∙◌, subst, arith, eqb-true, eq-eqb, length-append, append-nil}
 use mathlib.Core.List.{IsPrefix}
-use Rattle.keybits.specs.declared.shape.Shape.{Shape}
+use Rattle.seqpool.specs.declared.act.Act.{Act}
 use Rattle.poolsteps.proofs.ViewLemmas.{prefix-trans}
-use Rattle.shardpool.specs.Tokens.{PoolOf, LaneOf, FillingOf, RefOf}
+use Rattle.shardpool.specs.Tokens.{PoolOf, LaneOf, FillingOf}
 use Rattle.shardpool.specs.Lanes.{Owns, Made, SameLane, holds, refs}
-use Rattle.poollaws.specs.Words.{IsPublished, IsCleared, IsGone}
+use Rattle.poollaws.specs.Words.{IsPublished, IsGone}
 use Rattle.poollaws.proofs.Ends.{stays-published, stays-cleared}
 use Rattle.guards.specs.Several.{more_of, Lends, Returns}
 
@@ -36,6 +35,24 @@ more-no-less (k ∷ ks) key m n low = one-no-less (k == key) (more_of ks key m) 
 one-of-first : (b : Bool) (n : ℕ) → b ≡ true → 1 ≤ cond b (n + 1) n
 one-of-first true n is = omega arith
 one-of-first false n is = absurd (cc is)
+
+less-one : (b : Bool) (m n : ℕ) → (b ≡ true → 1 ≤ m) → n ≡ cond b (m - 1) m → m ≡ cond b (n + 1) n
+less-one true m n some is = let low = some refl in omega (arith, low, is)
+less-one false m n some is = sym is
+
+one-higher-still : (b : Bool) (n : ℕ) → 1 ≤ n → 1 ≤ cond b (n + 1) n
+one-higher-still true n low = omega (arith, low)
+one-higher-still false n low = low
+
+-- there is one at least to each key that stands in the list
+held-in : (ks : List ℕ) (i key n : ℕ) → slice_get ks i ≡ Some key → 1 ≤ more_of ks key n
+held-in [] i key n at = absurd (cc at)
+held-in (k ∷ ks) zero key n at = let same : k ≡ key = cc at in one-of-first (k == key) (more_of ks key n) (eq-eqb k key same)
+held-in (k ∷ ks) (suc i) key n at = one-higher-still (k == key) (more_of ks key n) (held-in ks i key n at)
+
+-- two lists of two
+pub same-two : {a b c d : ℕ} → a ≡ b → c ≡ d → (let one : List ℕ = a ∷ c ∷ [] in one) ≡ (b ∷ d ∷ [])
+same-two first second = cc (first, second)
 
 module _ {T : Type 0} {pool : PoolOf} where
   -- ---- what a lane has
@@ -98,10 +115,6 @@ module _ {T : Type 0} {pool : PoolOf} where
       → ((k : ℕ) → holds new k ≡ holds old k) → ((filling : FillingOf T) → Made old filling → Made new filling) → Lends T pool [] old new
   lends-missed owns same seen more held fillings = record { owns = owns; same = same; seen = seen; refs_are = more; held = held; fillings = fillings }
 
-  less-one : (b : Bool) (m n : ℕ) → (b ≡ true → 1 ≤ m) → n ≡ cond b (m - 1) m → m ≡ cond b (n + 1) n
-  less-one true m n some is = let low = some refl in omega (arith, low, is)
-  less-one false m n some is = sym is
-
   -- a release
   pub returns-one : {old new : LaneOf} (key : ℕ) → 1 ≤ holds old key → Owns pool new → SameLane old new → IsPrefix old.book.seen new.book.seen → refs new + 1 ≡ refs old
       → ((k : ℕ) → holds new k ≡ cond (key == k) (holds old k - 1) (holds old k)) → ((filling : FillingOf T) → Made old filling → Made new filling) → Returns T pool (key ∷ []) old new
@@ -113,6 +126,28 @@ module _ {T : Type 0} {pool : PoolOf} where
     held = λ k. less-one (key == k) (holds old k) (holds new k) (λ is. subst (λ (n : ℕ). 1 ≤ holds old n) (eqb-true key k is) some) (held k);
     fillings = fillings;
   }
+
+  -- a release of a reference to this key
+  pub returns-of : {old new : LaneOf} (key of : ℕ) → of ≡ key → 1 ≤ holds old of → Owns pool new → SameLane old new → IsPrefix old.book.seen new.book.seen → refs new + 1 ≡ refs old
+      → ((k : ℕ) → holds new k ≡ cond (of == k) (holds old k - 1) (holds old k)) → ((filling : FillingOf T) → Made old filling → Made new filling) → Returns T pool (key ∷ []) old new
+  returns-of {old} {new} key of is some owns same seen less held fillings =
+      subst (λ (k : ℕ). Returns T pool (k ∷ []) old new) is (returns-one of some owns same seen less held fillings)
+
+  -- ---- references that are held
+
+  -- the lane has the reference that stands here among those that it took
+  pub has-one : {ks : List ℕ} {old new : LaneOf} → Lends T pool ks old new → (i key of : ℕ) → slice_get ks i ≡ Some key → of ≡ key → 1 ≤ holds new of
+  has-one {ks} {old} {new} lends i key of at is =
+      let low = held-in ks i key 0 at in let all = has-all lends key in subst (λ (k : ℕ). 1 ≤ holds new k) (sym is) (omega (arith, low, all))
+
+  -- the lane has both that it took
+  pub has-two : {old new : LaneOf} (first second one two : ℕ) → one ≡ first → two ≡ second → Lends T pool (second ∷ first ∷ []) old new → (key : ℕ) → more_of (two ∷ one ∷ []) key 0 ≤ holds new key
+  has-two {old} {new} first second one two is same lends key = subst (λ (keys : List ℕ). more_of keys key 0 ≤ holds new key) (sym (same-two same is)) (has-all lends key)
+
+  -- two that were taken, and given back
+  pub back-two : {old between new : LaneOf} (first second one two : ℕ) → one ≡ first → two ≡ second → Lends T pool (second ∷ first ∷ []) old between → Returns T pool (two ∷ one ∷ []) between new
+      → Lends T pool [] old new
+  back-two {old} {between} {new} first second one two is same lends returns = lends-back lends (subst (λ (keys : List ℕ). Returns T pool keys between new) (same-two same is) returns)
 
 -- ---- references that are held
 
@@ -133,7 +168,11 @@ second-held one other before now low is = second (other == one) (one == one) bef
 -- ---- keys that are gone
 
 -- a key that is gone between two moments is gone between others around them
-pub gone-around : {old first then new : LaneOf} {key : ℕ} → IsPrefix old.book.seen first.book.seen → IsPrefix then.book.seen new.book.seen → IsGone first.book.seen then.book.seen key
-    → IsGone old.book.seen new.book.seen key
-gone-around {old} {first} {then} {new} {key} before after gone content published =
-    stays-cleared then.book.seen new.book.seen after key (gone content (stays-published old.book.seen first.book.seen before key content published))
+pub gone-around : (old first then new : List Act) (key : ℕ) → IsPrefix old first → IsPrefix then new → IsGone first then key → IsGone old new key
+gone-around old first then new key before after gone content published = stays-cleared then new after key (gone content (stays-published old first before key content published))
+
+-- ---- what was read
+
+-- what was published under a key still is
+pub read-later : (then new : List Act) (content : List ℕ) (of key : ℕ) → of ≡ key → IsPrefix then new → IsPublished then of content → IsPublished new key content
+read-later then new content of key is seen read = subst (λ (k : ℕ). IsPublished new k content) is (stays-published then new seen of content read)

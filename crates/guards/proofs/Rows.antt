@@ -1,12 +1,10 @@
 -- Rows of lanes that were taken out, or are given back.
-use Rattle.std.proofs.Common.{◌≡◌, ◌≢◌, ◌⊎◌, ℕ, zero, suc, ◌+◌, ◌<◌, ◌≤◌, List, [], ◌∷◌, ◌++◌, length, map, slice_get, Option, Some, None, option_map, unwrap_or, refl, sym, ap, ◌∙◌, subst, ⊎_elim, inl, inr, arith, length-append, append_assoc}
+use Rattle.std.proofs.Common.{◌≡◌, ◌≢◌, ◌⊎◌, ℕ, zero, suc, ◌<◌, ◌≤◌, List, [], ◌∷◌, ◌++◌, length, map, slice_get, Option, Some, None, option_map, unwrap_or, refl, sym, ap, ◌∙◌, subst, ⊎_elim, inl, inr, arith, length-append, append_assoc}
 use Rattle.std.proofs.lemmas.List.{length-map}
 use Rattle.std.proofs.lemmas.Option.{slice_get_within, slice_get_cases, slice_get-map, unwrap_or-slice_get}
-use mathlib.Core.Logic.{dite}
-use native.Mathlib.Decide.{ℕ_discrete}
 use Rattle.shardpool.specs.Tokens.{LaneOf}
 use Rattle.guards.specs.Here.{LanesOf, lane_at, AreHereBelow}
-use Rattle.guards.specs.Runs.{RanOn, AllRan, IsDone, AreFrom, AreBack}
+use Rattle.guards.specs.Runs.{AllRan, IsDone, AreFrom, AreBack}
 use Rattle.guards.proofs.Slots.{all-some}
 
 -- an element of a list with one more at its end is of the list, or that one

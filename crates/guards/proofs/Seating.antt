@@ -1,5 +1,5 @@
 -- What the calls of a seat leave of its lane, and what a message tells.
-use Rattle.std.proofs.Common.{◌≡◌, ℕ, zero, suc, ◌==◌, Bool, true, false, cond, List, [], ◌∷◌, Option, Some, None, refl, sym, ap, ◌∙◌, subst, inl, inr, eqb-true, eq-eqb, append-nil}
+use Rattle.std.proofs.Common.{◌≡◌, ℕ, zero, suc, ◌==◌, Bool, true, false, cond, List, [], ◌∷◌, Option, Some, None, refl, sym, ap, subst, inl, inr, eqb-true, eq-eqb, append-nil}
 use Rattle.std.specs.Prelude.{MatchOption, IsNone, IsSome, IsTrue, IsFalse, IsErr, IfOk, OnOk, is_err, Result, Ok, Err}
 use Rattle.std.proofs.lemmas.Bool.{cases_Bool}
 use mathlib.Core.List.{IsPrefix}

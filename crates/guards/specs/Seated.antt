@@ -1,5 +1,5 @@
 -- What the calls of a seat do with its lane.
-use Rattle.std.specs.Prelude.{◌≡◌, ◌==◌, ◌+◌, ◌≤◌, ◌⊎◌, ℕ, false, List, [], ◌∷◌, if◌then◌else◌}
+use Rattle.std.specs.Prelude.{◌≡◌, ◌==◌, ◌+◌, ◌⊎◌, ℕ, false, List, [], ◌∷◌, if◌then◌else◌}
 use mathlib.Core.List.{IsPrefix}
 use Rattle.keybits.specs.Keys.{place_of, generation_of}
 use Rattle.seqpool.specs.declared.act.Act.{Act}

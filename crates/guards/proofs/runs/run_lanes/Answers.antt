@@ -1,7 +1,6 @@
 -- The lanes are back, and the answers are those of the jobs.
-use Rattle.std.proofs.Common.{◌≡◌, ◌≤◌, List, Option, Some, length, map, refl, sym, ap, ◌∙◌, arith}
+use Rattle.std.proofs.Common.{Some, length, sym, ap, ◌∙◌, arith}
 use Rattle.std.proofs.lemmas.List.{length-map}
-use Rattle.guards.specs.Runs.{AllRan}
 use Rattle.guards.proofs.Slots.{same-pool}
 use Rattle.guards.proofs.Rows.{done-numbers, done-answers, all-ran, still-here}
 use Rattle.guards.proofs.runs.run_lanes.Goals as goal

@@ -1,0 +1,57 @@
+-- What the gets gave, or gave back.
+use Rattle.std.proofs.Common.{ℕ, ◌≤◌, [], refl, sym, subst, arith}
+use Rattle.shardpool.specs.Lanes.{holds}
+use Rattle.shardpool.proofs.references.Holdings.{got-inside}
+use Rattle.poollaws.proofs.Ends.{missed-law}
+use Rattle.guards.proofs.Lending.{lends-more, lends-back, lends-one, lends-missed, returns-of, has-all, first-held, gone-around}
+use Rattle.guards.proofs.several.get_two.Goals as goal
+
+pub returns-in_err-one-clause-gone : goal.returns-in_err-one-clause-gone
+returns-in_err-one-clause-gone g c = λ none. (
+  c.args.first,
+  (0, omega arith, refl),
+  missed-law c.args.first c.args.lane.now c.get.new.lane c.in_err-one.ensures.seen (c.in_err-one.ensures.missed refl),
+)
+
+-- ---- the second get found none
+
+pub returns-in_default-clause-none : goal.returns-in_default-clause-none
+returns-in_default-clause-none g c = λ none.
+    let first = c.in_ok-one.ensures in
+    let second = c.in_default.ensures in
+    let one = c.in_ok-one.one in
+    let is = first.held.0 in
+    let lent = lends-one {pool = c.args.pool.now} {new = c.get.new.lane} c.args.first first.owns first.same first.seen first.refs (first.one_more refl) first.fillings in
+    let both = lends-more lent (lends-missed second.owns second.same second.seen second.refs (second.no_more refl) second.fillings) in
+    let some = first-held [] c.args.first (holds c.get-2.new.lane c.args.first) (has-all both c.args.first) in
+    let gave = c.release.ensures in
+    lends-back both (returns-of c.args.first one.key is (subst (λ (k : ℕ). 1 ≤ holds c.get-2.new.lane k) (sym is) some) gave.owns gave.releases.1.same gave.seen gave.refs gave.one_less gave.fillings)
+
+pub returns-in_default-clause-gone : goal.returns-in_default-clause-gone
+returns-in_default-clause-gone g c = λ none. (
+  c.args.second,
+  (1, omega arith, refl),
+  gone-around c.args.lane.now.book.seen c.get.new.lane.book.seen c.get-2.new.lane.book.seen c.release.new.lane.book.seen c.args.second c.in_ok-one.ensures.seen c.release.ensures.seen
+      (missed-law c.args.second c.get.new.lane c.get-2.new.lane c.in_default.ensures.seen (c.in_default.ensures.missed refl)),
+)
+
+-- ---- both found one
+
+pub returns-clause-lends : goal.returns-clause-lends
+returns-clause-lends g c = λ some.
+    let first = c.in_ok-one.ensures in
+    let second = c.in-Some.ensures in
+    lends-more (lends-one {pool = c.args.pool.now} {new = c.get.new.lane} c.args.first first.owns first.same first.seen first.refs (first.one_more refl) first.fillings)
+    (lends-one c.args.second second.owns second.same second.seen second.refs (second.one_more refl) second.fillings)
+
+pub returns-clause-got : goal.returns-clause-got
+returns-clause-got g c = λ some.
+    let first = c.in_ok-one.ensures in
+    let second = c.in-Some.ensures in
+    let z = c.args.pool.now.shape in
+    let inside = got-inside z c.args.first c.args.lane.now c.get.new.lane c.in_ok-one.one first.outside in
+    let within = got-inside z c.args.second c.get.new.lane c.get-2.new.lane c.in-Some.other second.outside in (
+      c.get.new.lane,
+      record { called = first.called inside; reference = c.in_ok-one.one; gets = first.gets inside },
+      record { called = second.called within; reference = c.in-Some.other; gets = second.gets within },
+    )
