@@ -10,10 +10,14 @@ usage: python3 docs/check.py
 - names: the edits of WRONG_BODIES are those of the crates; the files that pages name are there
 - sentences: none beyond 40 words, and 22 on average, on the pages that are read first; words of all pages
 - DEFINITIONS is what definitions.py writes, and the picture of the crates what crates_picture.py does
+- what docs/begin makes is the sample under another name
 """
 import pathlib
 import re
+import shutil
+import subprocess
 import sys
+import tempfile
 
 sys.dont_write_bytecode = True
 import crates_picture
@@ -228,9 +232,34 @@ def made():
         yield "docs/crates.svg isn't what docs/crates_picture.py writes: run it"
 
 
+def files_of(folder):
+    """The files of a crate, with their texts, by their names; what a check left is no part of it."""
+    return {str(path.relative_to(folder)): text_of(path) for path in folder.rglob("*") if path.is_file() and "out" not in path.relative_to(folder).parts}
+
+
+def begun():
+    """Where a crate that docs/begin makes isn't the sample under another name."""
+    sample, name = ROOT / "crates" / "logsample", "a_begun_crate"
+    with tempfile.TemporaryDirectory() as made:
+        there = pathlib.Path(made)
+        shutil.copytree(sample, there / "crates" / "logsample", ignore=shutil.ignore_patterns("out"))
+        (there / "docs").mkdir()
+        shutil.copy2(ROOT / "docs" / "begin", there / "docs")
+        shutil.copy2(ROOT / "crates.txt", there)
+        run = subprocess.run([there / "docs" / "begin", name], capture_output=True, text=True, check=False)
+        if run.returncode:
+            yield f"docs/begin: {run.stderr.strip()}"
+            return
+        found = {path: text.replace(name, "logsample") for path, text in files_of(there / "crates" / name).items()}
+        due = files_of(sample)
+        yield from (f"docs/begin: {path} differs" for path in sorted(found.keys() | due.keys()) if found.get(path) != due.get(path))
+        if f"\n{name}: " not in text_of(there / "crates.txt"):
+            yield "docs/begin: no line in crates.txt"
+
+
 def main():
     bad = 0
-    tests = (("links", links), ("snippets", snippets), ("figures", figures), ("figures at home", strays), ("the edits' rows", wrong_bodies), ("names of files", paths), ("sentences and words", long_sentences), ("pages that scripts write", made))
+    tests = (("links", links), ("snippets", snippets), ("figures", figures), ("figures at home", strays), ("the edits' rows", wrong_bodies), ("names of files", paths), ("sentences and words", long_sentences), ("pages that scripts write", made), ("the crate that docs/begin makes", begun))
     for name, test in tests:
         faults = list(test())
         bad += bool(faults)

@@ -1,0 +1,6 @@
+use Rattle.std.proofs.Common.{rules}
+use Rattle.std.proofs.lemmas.Option.{IfSome_then}
+use Rattle.logsample.proofs.calls.read.Goals as goal
+
+pub returns-clause-shown : goal.returns-clause-shown
+returns-clause-shown g c = IfSome_then c.with.result c.with.ensures.some (λ line found content published. let same = found.3 content published in let ran = found.1 in search rules)

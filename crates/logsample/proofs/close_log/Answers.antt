@@ -1,0 +1,16 @@
+use Rattle.std.proofs.lemmas.Result.{IfOk-weaker}
+use Rattle.logsample.proofs.close_log.Goals as goal
+
+pub returns : goal.returns
+returns c = record {
+  settled = IfOk-weaker c.close.result _ _
+      (λ census known. (
+        known.0,
+        known.1,
+        record {
+          closes = known.2;
+          all = c.close_law.ensures.last c.args.opened.pool known.0 census known.2;
+          settled = λ key content is. (c.end_law.ensures c.args.opened.pool.shape known.2.history key content known.2.last.legal is).0;
+        },
+      )) c.close.ensures.closes;
+}

@@ -1,0 +1,12 @@
+-- What a closed log says of its entries.
+use Rattle.std.specs.Prelude.{◌≡◌, ◌⊎◌, ℕ, List}
+use Rattle.shardpool.specs.declared.census.Census.{Census}
+use Rattle.shardpool.specs.Tokens.{PoolOf, LaneOf}
+use Rattle.shardpool.specs.Closings.{Closes}
+use Rattle.poollaws.specs.Words.{IsPublished, IsCleared, IsPresent, HasAll}
+
+-- one history has all that the lanes have seen; and each entry that was published is cleared in it, or present at its end
+pub record IsSettled (pool : PoolOf) (lanes : List LaneOf) (census : Census) : Type 0 where
+  pub closes : Closes pool lanes census
+  pub all : HasAll lanes closes.history
+  pub settled : (key : ℕ) (content : List ℕ) → IsPublished closes.history key content → IsCleared closes.history key ⊎ IsPresent pool.shape closes.history key content

@@ -1,0 +1,4 @@
+pub mod Requests
+pub mod Histories
+pub mod Tasks
+pub mod Closed
