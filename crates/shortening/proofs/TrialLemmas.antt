@@ -1,7 +1,7 @@
 -- Trials one after the other, and what is kept of a schedule.
-use Rattle.std.proofs.Common.{◌≡◌, ◌<◌, ℕ, Bool, true, false, List, length}
+use Rattle.std.proofs.Common.{◌≡◌, ℕ, Bool, true, false, List}
 use Rattle.std.specs.Prelude.{MatchBool}
-use Rattle.shortening.specs.Parts.{IsPart, without}
+use Rattle.shortening.specs.Parts.{IsPart}
 use Rattle.shortening.specs.Shortest.{IsSameTrial, IsShortest}
 use Rattle.shortening.proofs.PartLemmas.{part-refl, part-trans}
 

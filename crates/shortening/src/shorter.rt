@@ -9,12 +9,7 @@ use crate::trial::Trial;
 use std::alloc::{AllocError, Global};
 
 /// A schedule without so many entries from this index on.
-fn without(
-    alloc: Global,
-    schedule: &[u32],
-    at: usize,
-    count: usize,
-) -> Result<Vec<u32>, AllocError>
+fn without(alloc: Global, schedule: &[u32], at: usize, count: usize) -> Result<Vec<u32>, AllocError>
     requires { at ≤ length schedule.now }
     ensures { IfOk result (λ left. left.items ≡ without at count schedule.now) }
 {

@@ -1,5 +1,4 @@
-use Rattle.std.proofs.Common.{◌≡◌, ℕ, List, true, subst}
-use Rattle.std.proofs.lemmas.Bool.{not-false}
+use Rattle.std.proofs.Common.{subst}
 use Rattle.std.proofs.lemmas.Result.{IfOk-weaker}
 use Rattle.shortening.proofs.PartLemmas.{part-refl}
 use Rattle.shortening.proofs.TrialLemmas.{kept-first, kept-next, passed-by, shortest-kept}

@@ -27,8 +27,8 @@ returns-in-Some-split_first c =
     let is = subst (Stripped word text) c.in-Some.is (strip_prefix_is Decides-eqb text word c.strip_prefix.result c.strip_prefix.ensures.cases) in (
       λ told. record { gap = byte; is_one = sym c.is_gap.ensures ∙ told; rest = c.in-Some-split_first.field-0-1.now; is = is ∙ ap (λ (t : List ℕ). word ++ t) first },
       λ begins.
-        let there = begins-behind word text behind is begins in
-        let same : byte ∷ c.in-Some-split_first.field-0-1.now ≡ there.0 ∷ there.2 = sym first ∙ there.3 in
-        let gap : byte ≡ there.0 = cc same in
-        c.is_gap.ensures ∙ ap is_gap gap ∙ there.1
+          let there = begins-behind word text behind is begins in
+          let same : byte ∷ c.in-Some-split_first.field-0-1.now ≡ there.0 ∷ there.2 = sym first ∙ there.3 in
+          let gap : byte ≡ there.0 = cc same in
+          c.is_gap.ensures ∙ ap is_gap gap ∙ there.1,
     )
