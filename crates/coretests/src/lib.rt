@@ -41,6 +41,8 @@ mod test_runs;
 #[cfg(test)]
 mod test_schedules;
 #[cfg(test)]
+mod test_shortening;
+#[cfg(test)]
 mod test_tasks;
 #[cfg(test)]
 mod test_texts;

@@ -68,6 +68,7 @@ RefusesActs bytes (runs.Acts refusal) = RefusesText bytes refusal
 RefusesActs bytes runs.Memory = HasVerdict bytes
 RefusesActs bytes (runs.Read fault) = ⊥
 RefusesActs bytes (runs.Core fault) = ⊥
+RefusesActs bytes (runs.Shortening fault) = ⊥
 RefusesActs bytes runs.Open = ⊥
 RefusesActs bytes runs.File = ⊥
 RefusesActs bytes runs.Output = ⊥

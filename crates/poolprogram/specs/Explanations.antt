@@ -2,8 +2,10 @@
 use Rattle.std.specs.Prelude.{◌≡◌, ℕ, Bool, true, false, List, [], ◌++◌, Option, Some, None, Result, Ok, Err, decimal, codes, string_bytes}
 use Rattle.commandline.specs.Tasks.{path_of}
 use Rattle.commandline.specs.declared.tasks.Task.{Task}
-use Rattle.commandline.specs.declared.tasks.Task.TheVariants.{Replay, Check, Run, Key, Word}
+use Rattle.commandline.specs.declared.tasks.Task.TheVariants.{Replay, Schedule, Shorten, Check, Run, Key, Word}
 use Rattle.scripts.specs.declared.script_refusal.ScriptRefusal.{ScriptRefusal}
+use Rattle.shortening.specs.declared.fault.Unshortened.{Unshortened}
+use Rattle.shortening.specs.declared.fault.Unshortened.TheVariants as shortenings
 use Rattle.poolprogram.specs.ActsTexts.{acts_explanation, ExplainsCheck}
 use Rattle.poolprogram.specs.ScriptTexts.{script_explanation}
 use Rattle.poolprogram.specs.Shown.{shown_bytes}
@@ -16,6 +18,8 @@ use Rattle.poolprogram.specs.declared.run_fault.RunFault.TheVariants as runs
 -- the number that a task is about, where it is about one
 abbrev pub number_of_task : Task → Option ℕ
 number_of_task (Replay file turns stop acts) = None
+number_of_task (Schedule file turns stop) = None
+number_of_task (Shorten file turns stop until) = None
 number_of_task (Check file) = None
 number_of_task (Run file) = None
 number_of_task (Key number) = Some number
@@ -35,6 +39,12 @@ abbrev pub file_text : Subject → List ℕ
 file_text (Path path) = shown_bytes (string_bytes path) ++ codes " can't be opened, or not read to its end\n"
 file_text (Number number) = []
 
+-- why a schedule isn't shortened
+abbrev pub shortening_text : Unshortened → List ℕ
+shortening_text shortenings.Fails = codes "the word of --until stands in no line of the replay, neither with --acts nor without\n"
+shortening_text shortenings.Limit = codes "100000000 entries were replayed, and more can perhaps be left out: cut the schedule before\n"
+shortening_text shortenings.Memory = codes "memory was refused\n"
+
 -- the text explains why a script file is refused, with the value at the place, where there is one
 pub record ExplainsValue (file : List ℕ) (refusal : ScriptRefusal) (text : List ℕ) : Type 0 where
   pub value : Option (List ℕ)
@@ -53,6 +63,7 @@ ExplainsFault subject file (runs.Acts refusal) whole text = (whole ≡ true) × 
 ExplainsFault subject file (runs.Core fault) whole text = (whole ≡ true) × (text ≡ codes "memory was refused\n")
 ExplainsFault subject file runs.File whole text = (whole ≡ true) × (text ≡ file_text subject)
 ExplainsFault subject file runs.Output whole text = (whole ≡ true) × (text ≡ codes "standard output can't be written\n")
+ExplainsFault subject file (runs.Shortening fault) whole text = (whole ≡ true) × (text ≡ shortening_text fault)
 ExplainsFault subject file runs.Open whole text = (whole ≡ true) × (text ≡ codes "memory was refused\n")
 ExplainsFault subject file runs.Memory whole text = (whole ≡ true) × (text ≡ codes "memory was refused\n")
 

@@ -10,5 +10,8 @@ pub mod Values
 pub mod Explanations
 pub mod Runs
 pub mod Turns
+pub mod Shortenings
 pub mod Tasks
+pub mod Reading
+pub mod Listings
 pub mod Program

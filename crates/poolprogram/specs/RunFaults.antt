@@ -5,6 +5,7 @@ use Rattle.seqpool.specs.Refusals.{acts_fault_number}
 use Rattle.scripts.specs.ScriptFaults.{script_fault_number, script_fault_name}
 use Rattle.streams.specs.declared.reading.Unread.{Unread}
 use Rattle.streams.specs.declared.reading.Unread.TheVariants as unread
+use Rattle.shortening.specs.declared.fault.Unshortened.TheVariants as shortenings
 use Rattle.poolprogram.specs.declared.run_fault.RunFault.{RunFault}
 use Rattle.poolprogram.specs.declared.run_fault.RunFault.TheVariants as runs
 
@@ -18,6 +19,9 @@ abbrev pub run_fault_number : RunFault → ℕ
 run_fault_number (runs.Read refusal) = script_fault_number refusal.fault
 run_fault_number (runs.Acts refusal) = acts_fault_number refusal.fault
 run_fault_number (runs.Core fault) = 25
+run_fault_number (runs.Shortening shortenings.Fails) = 44
+run_fault_number (runs.Shortening shortenings.Limit) = 45
+run_fault_number (runs.Shortening shortenings.Memory) = 25
 run_fault_number runs.Open = 5
 run_fault_number runs.File = 41
 run_fault_number runs.Output = 42
@@ -28,6 +32,9 @@ abbrev pub run_fault_name : RunFault → List ℕ
 run_fault_name (runs.Read refusal) = script_fault_name refusal.fault
 run_fault_name (runs.Acts refusal) = acts_fault_name refusal.fault
 run_fault_name (runs.Core fault) = codes "Memory"
+run_fault_name (runs.Shortening shortenings.Fails) = codes "Absent"
+run_fault_name (runs.Shortening shortenings.Limit) = codes "Limit"
+run_fault_name (runs.Shortening shortenings.Memory) = codes "Memory"
 run_fault_name runs.Open = codes "Memory"
 run_fault_name runs.File = codes "File"
 run_fault_name runs.Output = codes "Output"

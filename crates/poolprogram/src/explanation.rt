@@ -1,6 +1,6 @@
 //! Why a task ended as it did, in words.
 ghost use Rattle.std.specs.Prelude.{◌≡◌, true, IfOk, string_bytes};
-ghost use Rattle.poolprogram.specs.Explanations.{IsSubjectOf, no_key_text, file_text, ExplainsPlan, ExplainsFault, Explains};
+ghost use Rattle.poolprogram.specs.Explanations.{IsSubjectOf, no_key_text, file_text, shortening_text, ExplainsPlan, ExplainsFault, Explains};
 
 use crate::explain_acts::{explain_acts, explain_check};
 use crate::explain_script::explain_script;
@@ -9,6 +9,7 @@ use crate::shown::push_shown;
 use crate::value::value_at;
 use commandline::Task;
 use scripts::ScriptRefusal;
+use shortening::Unshortened;
 use std::alloc::{AllocError, Global};
 
 /// What a task is about: the path of its file, or its number.
@@ -32,7 +33,11 @@ pub fn subject_of(alloc: Global, task: &Task) -> Result<Subject, AllocError>
     ensures { IfOk result (IsSubjectOf task.now) }
 {
     match task {
-        Task::Replay { file, .. } | Task::Check { file } | Task::Run { file } => {
+        Task::Replay { file, .. }
+        | Task::Schedule { file, .. }
+        | Task::Shorten { file, .. }
+        | Task::Check { file }
+        | Task::Run { file } => {
             let path = String::from_str(alloc, file.as_str())?;
             Ok(Subject::Path(path))
         }
@@ -54,6 +59,19 @@ fn explain_no_key(alloc: Global, number: u64) -> Result<String, AllocError>
     ensures { IfOk result (λ text. string_bytes text ≡ no_key_text number) }
 {
     format!(in alloc; "{number} is no key: its generation, which is its bits 24 to 55, is 0\n")
+}
+
+/// The line that explains why a schedule isn't shortened.
+fn why_not_shorter(fault: Unshortened) -> &'static str
+    ensures { result.now ≡ shortening_text fault }
+{
+    match fault {
+        Unshortened::Fails =>
+            "the word of --until stands in no line of the replay, neither with --acts nor without\n",
+        Unshortened::Limit =>
+            "100000000 entries were replayed, and more can perhaps be left out: cut the schedule before\n",
+        Unshortened::Memory => "memory was refused\n",
+    }
 }
 
 /// The line that explains why a file wasn't read.
@@ -109,6 +127,7 @@ fn explain_fault(
             Ok(Explanation { text, whole: true })
         }
         RunFault::Output => explained_by(alloc, "standard output can't be written\n"),
+        RunFault::Shortening(fault) => explained_by(alloc, why_not_shorter(*fault)),
         RunFault::Core(_) | RunFault::Open | RunFault::Memory => {
             explained_by(alloc, "memory was refused\n")
         }

@@ -4,6 +4,7 @@ ghost use Rattle.poolprogram.specs.declared.run_fault.RunFault.TheVariants as ru
 use coresteps::CoreFault;
 use scripts::ScriptRefusal;
 use seqpool::ActsRefusal;
+use shortening::Unshortened;
 use std::alloc::AllocError;
 use streams::{Unread, WriteFailed};
 use thiserror::Error;
@@ -22,6 +23,10 @@ pub enum RunFault {
     /// The core was refused memory (25).
     #[error(transparent)]
     Core(CoreFault),
+    /// A schedule wasn't shortened: the word stands nowhere in its replay (44), too much would have to be replayed (45) or memory was
+    /// refused to a replay (25).
+    #[error("the schedule isn't shortened")]
+    Shortening(Unshortened),
     /// The pool wasn't opened, as memory was refused (5).
     #[error("out of memory")]
     Open,
@@ -48,6 +53,9 @@ impl RunFault {
             RunFault::Read(refusal) => refusal.fault.number(),
             RunFault::Acts(refusal) => refusal.fault.number(),
             RunFault::Core(_) => 25,
+            RunFault::Shortening(Unshortened::Fails) => 44,
+            RunFault::Shortening(Unshortened::Limit) => 45,
+            RunFault::Shortening(Unshortened::Memory) => 25,
             RunFault::Open => 5,
             RunFault::File => 41,
             RunFault::Output => 42,
@@ -63,6 +71,9 @@ impl RunFault {
             RunFault::Read(refusal) => refusal.fault.name(),
             RunFault::Acts(refusal) => refusal.fault.name(),
             RunFault::Core(_) => "Memory",
+            RunFault::Shortening(Unshortened::Fails) => "Absent",
+            RunFault::Shortening(Unshortened::Limit) => "Limit",
+            RunFault::Shortening(Unshortened::Memory) => "Memory",
             RunFault::Open => "Memory",
             RunFault::File => "File",
             RunFault::Output => "Output",
