@@ -1,0 +1,5 @@
+pub mod Found
+pub mod Wanted
+pub mod Places
+pub mod JsonFaults
+pub mod ScriptTexts

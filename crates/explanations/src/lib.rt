@@ -1,0 +1,10 @@
+//! Why a script file is refused, a text of acts is refused, or an act is illegal: in words, in one line that can be printed.
+#![tactic(auto)]
+
+mod found;
+mod json_fault;
+mod places;
+mod script;
+mod wanted;
+
+pub use script::explain_script;
