@@ -1,6 +1,7 @@
 //! Why a script file is refused, a text of acts is refused, or an act is illegal: in words, in one line that can be printed.
 #![tactic(auto)]
 
+mod acts_fields;
 mod found;
 mod json_fault;
 mod places;
