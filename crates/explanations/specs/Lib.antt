@@ -1,6 +1,9 @@
+pub mod Said
 pub mod Found
 pub mod Wanted
 pub mod Places
 pub mod JsonFaults
-pub mod ActsFields
 pub mod ScriptTexts
+pub mod ActsFields
+pub mod Reasons
+pub mod ActsTexts
