@@ -7,3 +7,4 @@ pub mod ScriptTexts
 pub mod ActsFields
 pub mod Reasons
 pub mod ActsTexts
+pub mod HalfRuns

@@ -1,9 +1,11 @@
-//! Why a script file is refused, a text of acts is refused, or an act is illegal: in words, in one line that can be printed.
+//! Why a script file or a text of acts is refused, or an act is illegal, and what a replay left undone: in words, in one line that
+//! can be printed.
 #![tactic(auto)]
 
 mod acts;
 mod acts_fields;
 mod found;
+mod half_run;
 mod json_fault;
 mod places;
 mod reasons;
@@ -11,4 +13,5 @@ mod script;
 mod wanted;
 
 pub use acts::{explain_acts, explain_check};
+pub use half_run::explain_half;
 pub use script::explain_script;
