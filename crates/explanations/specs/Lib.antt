@@ -8,3 +8,4 @@ pub mod ActsFields
 pub mod Reasons
 pub mod ActsTexts
 pub mod HalfRuns
+pub mod Plain

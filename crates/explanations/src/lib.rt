@@ -8,10 +8,12 @@ mod found;
 mod half_run;
 mod json_fault;
 mod places;
+mod plain;
 mod reasons;
 mod script;
 mod wanted;
 
 pub use acts::{explain_acts, explain_check};
 pub use half_run::explain_half;
+pub use plain::{explain_file, explain_no_key};
 pub use script::explain_script;

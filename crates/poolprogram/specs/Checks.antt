@@ -69,5 +69,5 @@ RefusesActs bytes runs.Memory = HasVerdict bytes
 RefusesActs bytes (runs.Read fault) = ⊥
 RefusesActs bytes (runs.Core fault) = ⊥
 RefusesActs bytes runs.Open = ⊥
-RefusesActs bytes runs.File = ⊥
+RefusesActs bytes (runs.File why) = ⊥
 RefusesActs bytes runs.Output = ⊥

@@ -12,7 +12,10 @@ use Rattle.commandline.specs.Tasks.{path_of}
 use Rattle.commandline.specs.declared.fault.TaskFault.{TaskFault}
 use Rattle.commandline.specs.declared.requests.Request.{Request}
 use Rattle.commandline.specs.declared.tasks.Task.{Task}
+use Rattle.streams.specs.declared.reading.Unread.{Unread}
+use Rattle.explanations.specs.Said.{IsLineOrNone}
 use Rattle.poolprogram.specs.Explanations.{IsSubjectOf, Explains}
+use Rattle.poolprogram.specs.RunFaults.{unread_fault}
 use Rattle.poolprogram.specs.Tasks.{WritesTask, RefusesTask, task_status, report_text}
 use Rattle.poolprogram.specs.declared.explanation.Subject.{Subject}
 use Rattle.poolprogram.specs.declared.program.Ending.{Ending}
@@ -27,7 +30,7 @@ IsFileOf (Some path) left file = path ≡ codes "-" → IfSome left (λ known. f
 -- the file at this path wasn't read
 abbrev pub IsUnread : Option (List ℕ) → RunFault → Type 0
 IsUnread None fault = ⊥
-IsUnread (Some path) fault = (fault ≡ runs.Memory) ⊎ (fault ≡ runs.File)
+IsUnread (Some path) fault = (unread : Unread) × (fault ≡ unread_fault unread)
 
 -- a task was done on these bytes, or refused: nothing was written, but where the output failed
 pub record Does {O : Type 0} (contents : O → Option (List ℕ)) (task : Task) (file : List ℕ) (done : Result Bool RunFault) (old new : Watched O) : Type 0 where
@@ -52,9 +55,15 @@ pub record LacksFile {O : Type 0} (task : Task) (file : List ℕ) (done : Result
 abbrev pub DoesTask : {O : Type 0} → (O → Option (List ℕ)) → Option (List ℕ) → Task → List ℕ → Result Bool RunFault → Watched O → Watched O → Type 0
 DoesTask contents left task file done old new = DoesFile contents left task file done old new ⊎ LacksFile task file done old new
 
--- the text explains how a task ended that is about this; or it is empty, as memory was refused, and not all is explained
+-- the text, which is one line that can be printed, or empty, explains how a task ended that is about this
+pub record ExplainsEnd (subject : Subject) (file : List ℕ) (done : Result Bool RunFault) (explained : Bool) (text : List ℕ) : Type 0 where
+  pub all : explained ≡ true
+  pub explains : Explains subject file done text
+  pub safe : IsLineOrNone text
+
+-- it does; or it is empty, as memory was refused, and that is told
 abbrev pub IsWhy : Result Subject AllocError → List ℕ → Result Bool RunFault → Bool → List ℕ → Type 0
-IsWhy (Ok subject) file done explained text = Explains subject file done explained text ⊎ ((explained ≡ false) × (text ≡ []))
+IsWhy (Ok subject) file done explained text = ExplainsEnd subject file done explained text ⊎ ((explained ≡ false) × (text ≡ []))
 IsWhy (Err refused) file done explained text = (explained ≡ false) × (text ≡ [])
 
 -- such a text is said

@@ -40,7 +40,7 @@ RefusesSchedule file (runs.Read refusal) = RefusesFile file refusal ⊎ ((refusa
 RefusesSchedule file (runs.Core fault) = ⊥
 RefusesSchedule file (runs.Acts fault) = ⊥
 RefusesSchedule file runs.Open = ⊥
-RefusesSchedule file runs.File = ⊥
+RefusesSchedule file (runs.File why) = ⊥
 RefusesSchedule file runs.Output = ⊥
 RefusesSchedule file runs.Memory = ⊥
 
