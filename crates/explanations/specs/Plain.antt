@@ -4,9 +4,13 @@ use Rattle.streams.specs.Reasons.{reason_text}
 use Rattle.streams.specs.Shown.{cut_text, line_text}
 use Rattle.streams.specs.declared.reading.Unreadable.{Unreadable}
 
--- the line that explains why the file at this path wasn't read, by the system's reason
+-- why the file at this path wasn't read, by the system's reason
+abbrev pub file_told : List ℕ → Unreadable → List ℕ
+file_told path why = codes "\"" ++ cut_text path ++ codes "\" can't be opened, or not read to its end: " ++ reason_text why
+
+-- the line that explains it
 abbrev pub file_line : List ℕ → Unreadable → List ℕ
-file_line path why = line_text (codes "\"" ++ cut_text path ++ codes "\" can't be opened, or not read to its end: " ++ reason_text why)
+file_line path why = line_text (file_told path why)
 
 -- the line that explains why a number is no key's
 abbrev pub no_key_line : ℕ → List ℕ
