@@ -10,7 +10,7 @@ use seqpool::{ActsFault, ActsRefusal};
 use std::alloc::AllocGlobal;
 use std::io::Write;
 use std::process::Abort;
-use streams::Watched;
+use streams::{Unreadable, Watched};
 
 // Texts of acts, and behind each the line that its check gives.
 const CHECKS: &str = "shape 1 2 1 4294967295
@@ -212,7 +212,7 @@ fn names_faults(rt: HostRuntime) {
     }
     is_named(&rt, &RunFault::Core(CoreFault::Memory), 25, "Memory");
     is_named(&rt, &RunFault::Open, 5, "Memory");
-    is_named(&rt, &RunFault::File, 41, "File");
+    is_named(&rt, &RunFault::File(Unreadable::Other), 41, "File");
     is_named(&rt, &RunFault::Output, 42, "Output");
     is_named(&rt, &RunFault::Memory, 43, "Memory");
 }

@@ -52,7 +52,7 @@ const ROWS: [Row; 7] = [
         words: "poolrun|run|nosuch.json|--explain",
         input: "",
         said: "",
-        told: "fault 41 File\n\"nosuch.json\" can't be opened, or not read to its end\n",
+        told: "fault 41 File\n\"nosuch.json\" can't be opened, or not read to its end: there is no such file\n",
         status: 1,
     },
     Row {

@@ -71,7 +71,7 @@ const ROWS: [Row; 5] = [
         words: "poolrun|replay|nosuch.json|--schedule|-|--explain",
         input: "0,1\n1\n",
         said: "",
-        told: "fault 41 File\n\"nosuch.json\" can't be opened, or not read to its end\n",
+        told: "fault 41 File\n\"nosuch.json\" can't be opened, or not read to its end: there is no such file\n",
         status: 1,
     },
     Row {
@@ -92,7 +92,7 @@ const ROWS: [Row; 5] = [
         words: "poolrun|replay|-|--schedule|@no\u{1b}such|--explain",
         input: "{}",
         said: "",
-        told: "fault 41 File\n\"no<27>such\" can't be opened, or not read to its end\n",
+        told: "fault 41 File\n\"no<27>such\" can't be opened, or not read to its end: there is no such file\n",
         status: 1,
     },
     Row {

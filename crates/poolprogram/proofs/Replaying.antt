@@ -28,5 +28,5 @@ refuses_replay file schedule plan (runs.Read fault) stands of = absurd of
 refuses_replay file schedule plan (runs.Acts fault) stands of = absurd of
 refuses_replay file schedule plan (runs.Shortening fault) stands of = absurd of
 refuses_replay file schedule plan runs.Open stands of = absurd of
-refuses_replay file schedule plan runs.File stands of = absurd of
+refuses_replay file schedule plan (runs.File why) stands of = absurd of
 refuses_replay file schedule plan runs.Output stands of = absurd of

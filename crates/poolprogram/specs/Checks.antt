@@ -70,5 +70,5 @@ RefusesActs bytes (runs.Read fault) = ⊥
 RefusesActs bytes (runs.Core fault) = ⊥
 RefusesActs bytes (runs.Shortening fault) = ⊥
 RefusesActs bytes runs.Open = ⊥
-RefusesActs bytes runs.File = ⊥
+RefusesActs bytes (runs.File why) = ⊥
 RefusesActs bytes runs.Output = ⊥

@@ -14,11 +14,12 @@ use Rattle.commandline.specs.declared.requests.Request.{Request}
 use Rattle.commandline.specs.declared.tasks.Task.{Task}
 use Rattle.commandline.specs.declared.tasks.Turns.{Turns}
 use Rattle.poolprogram.specs.Explanations.{IsSubjectOf, Explains}
+use Rattle.explanations.specs.Said.{IsLineOrNone}
 use Rattle.poolprogram.specs.Listings.{ListsTurns, IsUnlisted}
 use Rattle.poolprogram.specs.Reading.{IsFileOf, IsUnread}
 use Rattle.poolprogram.specs.Tasks.{WritesTask, RefusesTask, task_status, fault_line, report_text}
 use Rattle.poolprogram.specs.declared.explanation.Subject.{Subject}
-use Rattle.poolprogram.specs.declared.explanation.Subject.TheVariants.{Path, Number}
+use Rattle.poolprogram.specs.declared.explanation.Subject.TheVariants.{Replay, Path, Number}
 use Rattle.poolprogram.specs.declared.listing.Unlisted.{Unlisted}
 use Rattle.poolprogram.specs.declared.listing.Unlisted.TheVariants.{Unread, Words}
 use Rattle.poolprogram.specs.declared.program.Ending.{Ending}
@@ -48,9 +49,15 @@ pub record LacksFile {O : Type 0} (task : Task) (file : List ℕ) (done : Result
 abbrev pub DoesTask : {O : Type 0} → (O → Option (List ℕ)) → Option (List ℕ) → Task → List ℕ → Result Bool RunFault → Watched O → Watched O → Type 0
 DoesTask contents left task file done old new = DoesFile contents left task file done old new ⊎ LacksFile task file done old new
 
--- the text explains how a task ended that is about this; or it is empty, as memory was refused, and not all is explained
+-- the text, which is one line that can be printed, or empty, explains how a task ended that is about this
+pub record ExplainsEnd (subject : Subject) (file : List ℕ) (done : Result Bool RunFault) (explained : Bool) (text : List ℕ) : Type 0 where
+  pub all : explained ≡ true
+  pub explains : Explains subject file done text
+  pub safe : IsLineOrNone text
+
+-- it does; or it is empty, as memory was refused, and that is told
 abbrev pub IsWhy : Result Subject AllocError → List ℕ → Result Bool RunFault → Bool → List ℕ → Type 0
-IsWhy (Ok subject) file done explained text = Explains subject file done explained text ⊎ ((explained ≡ false) × (text ≡ []))
+IsWhy (Ok subject) file done explained text = ExplainsEnd subject file done explained text ⊎ ((explained ≡ false) × (text ≡ []))
 IsWhy (Err refused) file done explained text = (explained ≡ false) × (text ≡ [])
 
 -- such a text is said
@@ -91,6 +98,7 @@ pub record EndsTask {O E : Type 0} (contents : O → Option (List ℕ)) (errors 
 -- what is explained is the file at this path
 abbrev pub IsSubjectAt : List ℕ → Subject → Type 0
 IsSubjectAt path (Path at) = string_bytes at ≡ path
+IsSubjectAt path (Replay at turns stop) = ⊥
 IsSubjectAt path (Number number) = ⊥
 
 -- the text explains why the file at this path wasn't read

@@ -67,7 +67,7 @@ IsCoreFault (runs.Read fault) = ⊥
 IsCoreFault (runs.Acts fault) = ⊥
 IsCoreFault (runs.Shortening fault) = ⊥
 IsCoreFault runs.Open = ⊥
-IsCoreFault runs.File = ⊥
+IsCoreFault (runs.File why) = ⊥
 IsCoreFault runs.Output = ⊥
 IsCoreFault runs.Memory = ⊥
 
@@ -79,7 +79,7 @@ RefusesReplayOf plan schedule (runs.Read fault) = ⊥
 RefusesReplayOf plan schedule (runs.Acts fault) = ⊥
 RefusesReplayOf plan schedule (runs.Shortening fault) = ⊥
 RefusesReplayOf plan schedule runs.Open = ⊥
-RefusesReplayOf plan schedule runs.File = ⊥
+RefusesReplayOf plan schedule (runs.File why) = ⊥
 RefusesReplayOf plan schedule runs.Output = ⊥
 
 -- the file is refused with this fault: as a script file; or the core was refused memory for the plan that it stands for; or memory was refused for the text of a trace
@@ -90,5 +90,5 @@ RefusesReplay file schedule runs.Memory = HasReplay file schedule
 RefusesReplay file schedule (runs.Acts fault) = ⊥
 RefusesReplay file schedule (runs.Shortening fault) = ⊥
 RefusesReplay file schedule runs.Open = ⊥
-RefusesReplay file schedule runs.File = ⊥
+RefusesReplay file schedule (runs.File why) = ⊥
 RefusesReplay file schedule runs.Output = ⊥

@@ -95,5 +95,5 @@ RefusesRun file runs.Memory = HasPlan file
 RefusesRun file (runs.Core fault) = ⊥
 RefusesRun file (runs.Acts fault) = ⊥
 RefusesRun file (runs.Shortening fault) = ⊥
-RefusesRun file runs.File = ⊥
+RefusesRun file (runs.File why) = ⊥
 RefusesRun file runs.Output = ⊥

@@ -35,7 +35,7 @@ RefusesShortestOf plan word schedule (runs.Read fault) = ⊥
 RefusesShortestOf plan word schedule (runs.Acts fault) = ⊥
 RefusesShortestOf plan word schedule (runs.Core fault) = ⊥
 RefusesShortestOf plan word schedule runs.Open = ⊥
-RefusesShortestOf plan word schedule runs.File = ⊥
+RefusesShortestOf plan word schedule (runs.File why) = ⊥
 RefusesShortestOf plan word schedule runs.Output = ⊥
 
 -- the same of the schedule of the turns for the lanes of the file

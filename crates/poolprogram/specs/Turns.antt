@@ -11,6 +11,7 @@ use Rattle.schedules.specs.Stops.{IsStopped}
 use Rattle.scripts.specs.declared.plan.Plan.{Plan}
 use Rattle.scripts.specs.ScriptPlaces.{out_of_memory}
 use Rattle.scripts.specs.Readings.{StandsFor, RefusesFile}
+use Rattle.streams.specs.declared.reading.Unreadable.TheVariants as unreadable
 use Rattle.poolprogram.specs.Replays.{HasPlan, WritesReplayOf, RefusesReplayOf}
 use Rattle.poolprogram.specs.declared.run_fault.RunFault.{RunFault}
 use Rattle.poolprogram.specs.declared.run_fault.RunFault.TheVariants as runs
@@ -58,12 +59,12 @@ AreInFile turns = (path : String Global) × (turns ≡ InFile path)
 
 -- no schedule of the turns is made, for this fault: memory was refused for it; or they are in a file
 abbrev pub RefusesEntries : Turns → RunFault → Type 0
-RefusesEntries turns fault = (fault ≡ runs.Read out_of_memory) ⊎ ((fault ≡ runs.File) × AreInFile turns)
+RefusesEntries turns fault = (fault ≡ runs.Read out_of_memory) ⊎ ((fault ≡ runs.File unreadable.Other) × AreInFile turns)
 
 -- the file or its schedule is refused with this fault: as the file's reading says; or memory was refused for the schedule of the plan that it stands for; or the turns are in a file
 abbrev pub RefusesSchedule : List ℕ → Turns → RunFault → Type 0
 RefusesSchedule file turns (runs.Read refusal) = RefusesFile file refusal ⊎ ((refusal ≡ out_of_memory) × HasPlan file)
-RefusesSchedule file turns runs.File = AreInFile turns × HasPlan file
+RefusesSchedule file turns (runs.File why) = (why ≡ unreadable.Other) × AreInFile turns × HasPlan file
 RefusesSchedule file turns (runs.Core fault) = ⊥
 RefusesSchedule file turns (runs.Acts fault) = ⊥
 RefusesSchedule file turns (runs.Shortening fault) = ⊥

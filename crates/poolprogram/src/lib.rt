@@ -4,9 +4,8 @@
 #![tactic(auto)]
 
 mod check;
-mod explain_acts;
-mod explain_script;
 mod explanation;
+mod half_run;
 mod key;
 mod listing;
 mod opening;
@@ -15,15 +14,13 @@ mod replay;
 mod run;
 mod run_fault;
 mod shortest;
-mod shown;
 mod tasks;
 mod texts;
 mod turns;
-mod value;
 mod word;
 
 pub use check::check_text;
-pub use explanation::{Explanation, Subject, explain, subject_of};
+pub use explanation::{Subject, explain, subject_of};
 pub use key::key_text;
 pub use program::{Ending, run_program};
 pub use replay::{replay_plan, replay_text};

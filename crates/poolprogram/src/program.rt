@@ -82,8 +82,8 @@ fn write_explanation<E: Write>(
 {
     match explain(alloc, subject, file, done) {
         Ok(why) => {
-            write_text(why.text.as_bytes(), errors);
-            why.whole
+            write_text(why.as_bytes(), errors);
+            true
         }
         Err(_) => false,
     }

@@ -19,7 +19,7 @@ use streams::{Watched, write_and_flush};
 use traces::{Trace, write_trace};
 
 /// The trace of a plan over a schedule.
-fn run_plan(alloc: Global, plan: Plan, schedule: &[u32]) -> Result<Trace, RunFault>
+pub(crate) fn run_plan(alloc: Global, plan: Plan, schedule: &[u32]) -> Result<Trace, RunFault>
     requires shape { IsShape plan.shape }
     requires count { length plan.scripts ≡ plan.shape.lanes }
     ensures ok { IfOk result (λ trace. IsLawful plan.shape plan.scripts schedule.now trace) }

@@ -6,7 +6,7 @@ use scripts::ScriptRefusal;
 use seqpool::ActsRefusal;
 use shortening::Unshortened;
 use std::alloc::AllocError;
-use streams::{Unread, WriteFailed};
+use streams::{Unread, Unreadable, WriteFailed};
 use thiserror::Error;
 
 /// Why the program could not do what it was told.
@@ -30,9 +30,9 @@ pub enum RunFault {
     /// The pool wasn't opened, as memory was refused (5).
     #[error("out of memory")]
     Open,
-    /// The file can't be opened or read to its end (41).
+    /// The file can't be opened or read to its end, for this reason (41).
     #[error("the file can't be read")]
-    File,
+    File(Unreadable),
     /// A write failed (42).
     #[error("the output can't be written")]
     Output,
@@ -57,7 +57,7 @@ impl RunFault {
             RunFault::Shortening(Unshortened::Limit) => 45,
             RunFault::Shortening(Unshortened::Memory) => 25,
             RunFault::Open => 5,
-            RunFault::File => 41,
+            RunFault::File(_) => 41,
             RunFault::Output => 42,
             RunFault::Memory => 43,
         }
@@ -75,7 +75,7 @@ impl RunFault {
             RunFault::Shortening(Unshortened::Limit) => "Limit",
             RunFault::Shortening(Unshortened::Memory) => "Memory",
             RunFault::Open => "Memory",
-            RunFault::File => "File",
+            RunFault::File(_) => "File",
             RunFault::Output => "Output",
             RunFault::Memory => "Memory",
         }
@@ -90,7 +90,7 @@ impl From<Unread> for RunFault {
     fn from(unread: Unread) -> RunFault {
         match unread {
             Unread::Memory => RunFault::Memory,
-            Unread::File => RunFault::File,
+            Unread::File(why) => RunFault::File(why),
         }
     }
 }

@@ -13,7 +13,7 @@ use schedules::{draw, push_schedule, stop_after};
 use scripts::{Plan, ScriptRefusal, parse};
 use std::alloc::Global;
 use std::io::Write;
-use streams::{Watched, write_and_flush};
+use streams::{Unreadable, Watched, write_and_flush};
 
 /// The fault of a want of memory for a schedule.
 fn out_of_memory() -> RunFault
@@ -34,7 +34,7 @@ fn list_entries(alloc: Global, lanes: u32, turns: Turns) -> Result<Vec<u32>, Run
             Ok(entries) => Ok(entries),
             Err(_) => Err(out_of_memory()),
         },
-        Turns::InFile(_) => Err(RunFault::File),
+        Turns::InFile(_) => Err(RunFault::File(Unreadable::Other)),
     }
 }
 
