@@ -148,7 +148,7 @@ def option_lines(argument):
     kind, value_name = argument["kind"]
     if kind == "Positional":
         head = f"\\fI{roff(value_name)}\\fR"
-    elif kind == "Valued":
+    elif kind in ("Valued", "Needed"):
         head = f"\\fB\\-\\-{roff(argument['name'])}\\fR \\fI{roff(value_name)}\\fR"
     else:
         head = f"\\fB\\-\\-{roff(argument['name'])}\\fR"
@@ -204,7 +204,7 @@ def bash_completion(table):
         "    case ${COMP_WORDS[1]} in",
     ]
     for line in table["lines"]:
-        valued = ["--" + argument["name"] for argument in options_of(line) if argument["kind"][0] == "Valued"]
+        valued = ["--" + argument["name"] for argument in options_of(line) if argument["kind"][0] in ("Valued", "Needed")]
         out += [f"    {line['name']})"]
         if valued:
             out += [f"        case $before in {' | '.join(valued)}) return ;; esac"]
@@ -232,7 +232,7 @@ def fish_completion(table):
     for line in table["lines"]:
         out += [f"complete -c {name} -f -n __fish_use_subcommand -a {line['name']} -d {quoted(line['help']['about'])}"]
         for argument in options_of(line):
-            wants = " -x" if argument["kind"][0] == "Valued" else ""
+            wants = " -x" if argument["kind"][0] in ("Valued", "Needed") else ""
             out += [f"complete -c {name} -n '__fish_seen_subcommand_from {line['name']}' -l {argument['name']}{wants} -d {quoted(argument['help'])}"]
     return "\n".join(out) + "\n"
 
@@ -246,7 +246,7 @@ def zsh_argument(argument):
     if kind == "Positional":
         action = "_files" if argument["name"] != "number" else " "
         return f"'1:{zsh_text(value_name)}:{action}'"
-    if kind == "Valued":
+    if kind in ("Valued", "Needed"):
         return f"'--{argument['name']}[{zsh_text(argument['help'])}]:{zsh_text(value_name)}: '"
     return f"'--{argument['name']}[{zsh_text(argument['help'])}]'"
 

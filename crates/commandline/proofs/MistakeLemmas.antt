@@ -1,5 +1,5 @@
 -- What is told of a mistake is a line that can be printed, and short.
-use Rattle.std.proofs.Common.{◌≡◌, ℕ, ◌+◌, ◌≤◌, List, ◌++◌, Option, Some, None, length, decimal, codes, string_bytes, refl, arith}
+use Rattle.std.proofs.Common.{◌≡◌, ℕ, ◌+◌, ◌≤◌, List, ◌++◌, Option, Some, None, length, decimal, codes, refl, arith}
 use Rattle.std.proofs.lemmas.Bool.{leb-true}
 use Rattle.std.proofs.lemmas.List.{length-append}
 use Rattle.schedules.specs.Schedules.{bad_entry}
@@ -8,7 +8,7 @@ use Rattle.streams.proofs.SafeLines.{length-cut, length-decimal, printable-bytes
 use Rattle.commandline.specs.MistakeTexts.{before_of, after_of, entry_told, where_of, mistake_told, mistake_text}
 use Rattle.commandline.specs.declared.mistakes.Mistake.{Mistake}
 use Rattle.commandline.specs.declared.mistakes.Reason.{Reason}
-use Rattle.commandline.specs.declared.mistakes.Reason.TheVariants.{NoTurns, SeedAlone, TurnsAlone, ScheduleAndMore, BadSchedule, BadSeed, BadTurns, BadStop, BadNumber, BadHexadecimal, BadFrom, BadCount, NoText, Missing}
+use Rattle.commandline.specs.declared.mistakes.Reason.TheVariants.{NoTurns, SeedAlone, TurnsAlone, ScheduleAndMore, BadSchedule, BadFile, InputTwice, TwoTexts, BadSeed, BadTurns, BadStop, BadNumber, BadHexadecimal, BadFrom, BadCount, NoText, Missing}
 
 four : (one two three last : List ℕ) → length (one ++ two ++ three ++ last) ≡ length one + length two + length three + length last
 four one two three last = omega (arith, length-append (one ++ two ++ three) last, length-append (one ++ two) three, length-append one two)
@@ -19,6 +19,9 @@ before-short SeedAlone = leb-true (length (before_of SeedAlone)) 200 refl
 before-short TurnsAlone = leb-true (length (before_of TurnsAlone)) 200 refl
 before-short ScheduleAndMore = leb-true (length (before_of ScheduleAndMore)) 200 refl
 before-short BadSchedule = leb-true (length (before_of BadSchedule)) 200 refl
+before-short BadFile = leb-true (length (before_of BadFile)) 200 refl
+before-short InputTwice = leb-true (length (before_of InputTwice)) 200 refl
+before-short TwoTexts = leb-true (length (before_of TwoTexts)) 200 refl
 before-short BadSeed = leb-true (length (before_of BadSeed)) 200 refl
 before-short BadTurns = leb-true (length (before_of BadTurns)) 200 refl
 before-short BadStop = leb-true (length (before_of BadStop)) 200 refl
@@ -35,6 +38,9 @@ after-short SeedAlone = leb-true (length (after_of SeedAlone)) 200 refl
 after-short TurnsAlone = leb-true (length (after_of TurnsAlone)) 200 refl
 after-short ScheduleAndMore = leb-true (length (after_of ScheduleAndMore)) 200 refl
 after-short BadSchedule = leb-true (length (after_of BadSchedule)) 200 refl
+after-short BadFile = leb-true (length (after_of BadFile)) 200 refl
+after-short InputTwice = leb-true (length (after_of InputTwice)) 200 refl
+after-short TwoTexts = leb-true (length (after_of TwoTexts)) 200 refl
 after-short BadSeed = leb-true (length (after_of BadSeed)) 200 refl
 after-short BadTurns = leb-true (length (after_of BadTurns)) 200 refl
 after-short BadStop = leb-true (length (after_of BadStop)) 200 refl
@@ -66,6 +72,9 @@ where-short SeedAlone found = omega arith
 where-short TurnsAlone found = omega arith
 where-short ScheduleAndMore found = omega arith
 where-short BadSchedule found = entry-short (bad_entry found)
+where-short BadFile found = entry-short (bad_entry found)
+where-short InputTwice found = omega arith
+where-short TwoTexts found = omega arith
 where-short BadSeed found = omega arith
 where-short BadTurns found = omega arith
 where-short BadStop found = omega arith
@@ -79,7 +88,7 @@ where-short Missing found = omega arith
 -- the line that explains a mistake is safe
 pub safe-mistake : (mistake : Mistake) → IsSafeLine (mistake_text mistake)
 safe-mistake mistake =
-    let found = string_bytes mistake.found in
+    let found = mistake.found.items in
     let reason = mistake.reason in record {
       told = mistake_told mistake;
       short = omega (arith, four (before_of reason) (cut found) (after_of reason) (where_of reason found), before-short reason, length-cut found, after-short reason, where-short reason found);

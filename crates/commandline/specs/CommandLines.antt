@@ -5,9 +5,9 @@ use Rattle.clap.specs.Words.{App, Row, Rule, first_of, new_app, new_rule, subcom
 use Rattle.clap.specs.declared.builder.action.ArgAction.TheVariants.{SetTrue}
 use Rattle.commandline.specs.declared.tasks.Stop.{Stop}
 use Rattle.commandline.specs.declared.tasks.Task.{Task}
-use Rattle.commandline.specs.declared.tasks.Task.TheVariants.{Replay, Check, Run, Key, Word}
+use Rattle.commandline.specs.declared.tasks.Task.TheVariants.{Replay, Schedule, Shorten, Check, Run, Key, Word}
 use Rattle.commandline.specs.declared.tasks.Turns.{Turns}
-use Rattle.commandline.specs.Readings.{flag_of, key_number, AreTurns, IsStop}
+use Rattle.commandline.specs.Readings.{flag_of, key_number, are_both_input, AreTurns, IsStop}
 
 -- a positional argument with this id, which must be there
 abbrev pub positional : List ℕ → Rule
@@ -16,6 +16,10 @@ positional id = record (new_rule id) { value_names = 1; required = true }
 -- an option of this name, with a value
 abbrev pub option_named : List ℕ → Rule
 option_named name = record (new_rule name) { long = Some name; value_names = 1 }
+
+-- an option of this name, with a value, which must be there
+abbrev pub needed_option : List ℕ → Rule
+needed_option name = record (option_named name) { required = true }
 
 -- a flag of this name
 abbrev pub flag_named : List ℕ → Rule
@@ -29,7 +33,13 @@ line_of name arguments = fold with_rule (new_app name) arguments
 abbrev pub replay_line : App
 replay_line = line_of (codes "replay")
     (positional (codes "file") ∷ option_named (codes "schedule") ∷ option_named (codes "seed") ∷ option_named (codes "turns")
-    ∷ option_named (codes "stop") ∷ flag_named (codes "acts") ∷ flag_named (codes "explain") ∷ [])
+    ∷ option_named (codes "stop") ∷ flag_named (codes "acts") ∷ flag_named (codes "print-schedule") ∷ flag_named (codes "explain") ∷ [])
+
+-- the subcommand `shorten`
+abbrev pub shorten_line : App
+shorten_line = line_of (codes "shorten")
+    (positional (codes "file") ∷ needed_option (codes "until") ∷ option_named (codes "schedule") ∷ option_named (codes "seed")
+    ∷ option_named (codes "turns") ∷ option_named (codes "stop") ∷ flag_named (codes "explain") ∷ [])
 
 -- the subcommand `check`
 abbrev pub check_line : App
@@ -50,14 +60,19 @@ program = record { top = record (new_shape (codes "poolrun")) { subcommand_requi
 
 -- the program's command line
 abbrev pub command_line : App
-command_line = with_subcommand (with_subcommand (with_subcommand (with_subcommand program replay_line.top) check_line.top) run_line.top) key_line.top
+command_line = with_subcommand (with_subcommand (with_subcommand (with_subcommand (with_subcommand program replay_line.top) shorten_line.top) check_line.top) run_line.top) key_line.top
 
--- a replay, by the matches of `replay`: its file, its turns, its stop, and that the acts are wanted where the flag was used
-pub record IsReplayTask (rows : List Row) (file : List ℕ) (turns : Turns) (stop : Option Stop) (acts : Bool) : Type 0 where
+-- the file, the turns and the stop of a replay, by matches
+pub record HasTurns (rows : List Row) (file : List ℕ) (turns : Turns) (stop : Option Stop) : Type 0 where
   pub is_file : first_of (codes "file") rows ≡ Some file
   pub are_turns : AreTurns (first_of (codes "schedule") rows) (first_of (codes "seed") rows) (first_of (codes "turns") rows) turns
   pub is_stop : IsStop (first_of (codes "stop") rows) stop
-  pub are_acts : acts ≡ flag_of (first_of (codes "acts") rows)
+  -- the file and the schedule aren't both standard input
+  pub apart : are_both_input (first_of (codes "file") rows) (first_of (codes "schedule") rows) ≡ false
+
+-- whether a flag of this name was used
+abbrev pub is_flagged : List ℕ → List Row → Bool
+is_flagged name rows = flag_of (first_of name rows)
 
 -- the number of a key or a word, by the matches of `key`: in hexadecimal digits where that flag was used
 abbrev pub number_in : List Row → Option ℕ
@@ -65,7 +80,12 @@ number_in rows = option_and_then (key_number (flag_of (first_of (codes "hex") ro
 
 -- a task, by the name of a subcommand and its matches
 abbrev pub AreMatchesOf : List ℕ → List Row → Task → Type 0
-AreMatchesOf name rows (Replay file turns stop acts) = (name ≡ codes "replay") × IsReplayTask rows (string_bytes file) turns stop acts
+AreMatchesOf name rows (Replay file turns stop acts) = (name ≡ codes "replay") × HasTurns rows (string_bytes file) turns stop
+    × (is_flagged (codes "print-schedule") rows ≡ false) × (acts ≡ is_flagged (codes "acts") rows)
+AreMatchesOf name rows (Schedule file turns stop) = (name ≡ codes "replay") × HasTurns rows (string_bytes file) turns stop
+    × (is_flagged (codes "print-schedule") rows ≡ true) × (is_flagged (codes "acts") rows ≡ false)
+AreMatchesOf name rows (Shorten file turns stop until) = (name ≡ codes "shorten") × HasTurns rows (string_bytes file) turns stop
+    × (first_of (codes "until") rows ≡ Some (string_bytes until))
 AreMatchesOf name rows (Check file) = (name ≡ codes "check") × (first_of (codes "acts") rows ≡ Some (string_bytes file))
 AreMatchesOf name rows (Run file) = (name ≡ codes "run") × (first_of (codes "file") rows ≡ Some (string_bytes file))
 AreMatchesOf name rows (Key number) = (name ≡ codes "key") × (flag_of (first_of (codes "word") rows) ≡ false) × (number_in rows ≡ Some number)

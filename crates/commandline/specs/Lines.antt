@@ -1,9 +1,9 @@
 -- What the table of subcommands says.
 use Rattle.std.specs.Prelude.{ℕ, List, [], ◌∷◌}
 use Rattle.clap.specs.Words.{App, Rule, new_app, with_rule, with_subcommand}
-use Rattle.commandline.specs.CommandLines.{positional, option_named, flag_named}
+use Rattle.commandline.specs.CommandLines.{positional, option_named, needed_option, flag_named}
 use Rattle.commandline.specs.declared.lines.Kind.{Kind}
-use Rattle.commandline.specs.declared.lines.Kind.TheVariants.{Positional, Valued, Flag}
+use Rattle.commandline.specs.declared.lines.Kind.TheVariants.{Positional, Valued, Needed, Flag}
 use Rattle.commandline.specs.declared.lines.Argument.{Argument}
 use Rattle.commandline.specs.declared.lines.Line.{Line}
 
@@ -11,6 +11,7 @@ use Rattle.commandline.specs.declared.lines.Line.{Line}
 abbrev pub rule_as : Kind → List ℕ → Rule
 rule_as (Positional value_name) name = positional name
 rule_as (Valued value_name) name = option_named name
+rule_as (Needed value_name) name = needed_option name
 rule_as Flag name = flag_named name
 
 -- the rule of an argument

@@ -1,10 +1,10 @@
 -- What is said of a mistake in the words.
-use Rattle.std.specs.Prelude.{ℕ, ◌+◌, Bool, true, false, List, [], ◌++◌, Option, Some, None, decimal, codes, string_bytes}
+use Rattle.std.specs.Prelude.{ℕ, ◌+◌, Bool, true, false, List, [], ◌++◌, Option, Some, None, decimal, codes}
 use Rattle.schedules.specs.Schedules.{bad_entry}
 use Rattle.streams.specs.Shown.{bytes_text, cut}
 use Rattle.commandline.specs.declared.mistakes.Mistake.{Mistake}
 use Rattle.commandline.specs.declared.mistakes.Reason.{Reason}
-use Rattle.commandline.specs.declared.mistakes.Reason.TheVariants.{NoTurns, SeedAlone, TurnsAlone, ScheduleAndMore, BadSchedule, BadSeed, BadTurns, BadStop, BadNumber, BadHexadecimal, BadFrom, BadCount, NoText, Missing}
+use Rattle.commandline.specs.declared.mistakes.Reason.TheVariants.{NoTurns, SeedAlone, TurnsAlone, ScheduleAndMore, BadSchedule, BadFile, InputTwice, TwoTexts, BadSeed, BadTurns, BadStop, BadNumber, BadHexadecimal, BadFrom, BadCount, NoText, Missing}
 
 -- before the text that the reason is about: the option
 abbrev pub before_of : Reason → List ℕ
@@ -13,6 +13,9 @@ before_of SeedAlone = codes "--seed "
 before_of TurnsAlone = codes "--turns "
 before_of ScheduleAndMore = codes "--schedule "
 before_of BadSchedule = codes "--schedule \""
+before_of BadFile = codes "the file of --schedule: \""
+before_of InputTwice = codes "FILE and --schedule are both standard input"
+before_of TwoTexts = codes "--acts stands beside --print-schedule"
 before_of BadSeed = codes "--seed \""
 before_of BadTurns = codes "--turns \""
 before_of BadStop = codes "--stop \""
@@ -30,6 +33,9 @@ after_of SeedAlone = codes " needs --turns"
 after_of TurnsAlone = codes " needs --seed"
 after_of ScheduleAndMore = codes " stands beside --seed or --turns: give --schedule alone, or --seed and --turns"
 after_of BadSchedule = codes "\" is no schedule: numbers of one to three digits, at most 255, with single commas between them"
+after_of BadFile = codes "\" is no schedule: numbers of one to three digits, at most 255, with single commas or line feeds between them"
+after_of InputTwice = codes ": give one of them by its path"
+after_of TwoTexts = codes ": one text alone is printed"
 after_of BadSeed = codes "\" is no seed: one to twenty decimal digits, at most 18446744073709551615"
 after_of BadTurns = codes "\" is no number of turns: one to twenty decimal digits, at most 1000000"
 after_of BadStop = codes "\" is no stop: a lane, a colon and a number of turns, each of one to twenty decimal digits and at most 4294967295"
@@ -48,11 +54,12 @@ entry_told (Some (before, entry)) = codes "; entry " ++ decimal (before + 1) ++ 
 -- where in the text that the reason is about the mistake stands: of a schedule the entry
 abbrev pub where_of : Reason → List ℕ → List ℕ
 where_of BadSchedule found = entry_told (bad_entry found)
+where_of BadFile found = entry_told (bad_entry found)
 where_of reason found = []
 
 -- what is told of a mistake; the text that was found is cut where it is long
 abbrev pub mistake_told : Mistake → List ℕ
-mistake_told mistake = before_of mistake.reason ++ cut (string_bytes mistake.found) ++ after_of mistake.reason ++ where_of mistake.reason (string_bytes mistake.found)
+mistake_told mistake = before_of mistake.reason ++ cut mistake.found.items ++ after_of mistake.reason ++ where_of mistake.reason mistake.found.items
 
 -- the line that explains a mistake
 abbrev pub mistake_text : Mistake → List ℕ

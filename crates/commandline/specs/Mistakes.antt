@@ -1,16 +1,16 @@
 -- Which mistake there is in words that clap takes, where they are no task: a reason, and the text that it is about.
-use Rattle.std.specs.Prelude.{◌≡◌, ℕ, Bool, true, false, List, [], Option, Some, None, Result, Ok, Err, IfOk, IfErr, codes, string_bytes}
+use Rattle.std.specs.Prelude.{◌≡◌, ◌&&◌, ℕ, Bool, true, false, List, [], Option, Some, None, Result, Ok, Err, IfOk, IfErr, codes}
 use Rattle.clap.specs.Words.{Row, first_of, subcommand_of}
-use Rattle.commandline.specs.Readings.{flag_of, long_number, turn_count, key_number}
-use Rattle.commandline.specs.CommandLines.{command_line, IsTaskOf, IsTaskOfNone}
+use Rattle.commandline.specs.Readings.{flag_of, long_number, turn_count, key_number, schedule_file, are_both_input}
+use Rattle.commandline.specs.CommandLines.{command_line, is_flagged, IsTaskOf, IsTaskOfNone}
 use Rattle.commandline.specs.declared.fault.TaskFault.{TaskFault}
 use Rattle.commandline.specs.declared.fault.TaskFault.TheVariants as faults
 use Rattle.commandline.specs.declared.mistakes.Mistake.{Mistake}
 use Rattle.commandline.specs.declared.mistakes.Reason.{Reason}
-use Rattle.commandline.specs.declared.mistakes.Reason.TheVariants.{NoTurns, SeedAlone, TurnsAlone, ScheduleAndMore, BadSchedule, BadSeed, BadTurns, BadStop, BadNumber, BadHexadecimal, Missing}
+use Rattle.commandline.specs.declared.mistakes.Reason.TheVariants.{NoTurns, SeedAlone, TurnsAlone, ScheduleAndMore, BadSchedule, BadFile, InputTwice, TwoTexts, BadSeed, BadTurns, BadStop, BadNumber, BadHexadecimal, Missing}
 use Rattle.commandline.specs.declared.requests.Request.{Request}
 use Rattle.commandline.specs.declared.tasks.Task.{Task}
-use Rattle.schedules.specs.Schedules.{schedule_of, stop_of}
+use Rattle.schedules.specs.Schedules.{schedule_of, stop_of, joined, joined_schedule}
 
 -- a reason, and the text that it is about
 abbrev pub Wrong : Type 0
@@ -26,13 +26,18 @@ abbrev pub first_wrong : Option Wrong → Option Wrong → Option Wrong
 first_wrong (Some wrong) later = Some wrong
 first_wrong None later = later
 
+-- what is wrong with the text of a schedule, which may name the file that it is in
+abbrev pub wrong_schedule : Option (List ℕ) → List ℕ → Option Wrong
+wrong_schedule (Some path) text = None
+wrong_schedule None text = unless_read (schedule_of text) BadSchedule text
+
 -- what is wrong with the turns, by the texts of a schedule, a seed and a number of turns
 abbrev pub wrong_turns : Option (List ℕ) → Option (List ℕ) → Option (List ℕ) → Option Wrong
 wrong_turns None None None = Some (NoTurns, [])
 wrong_turns None (Some seed) None = Some (SeedAlone, seed)
 wrong_turns None None (Some turns) = Some (TurnsAlone, turns)
 wrong_turns None (Some seed) (Some turns) = first_wrong (unless_read (long_number seed) BadSeed seed) (unless_read (turn_count turns) BadTurns turns)
-wrong_turns (Some schedule) None None = unless_read (schedule_of schedule) BadSchedule schedule
+wrong_turns (Some schedule) None None = wrong_schedule (schedule_file schedule) schedule
 wrong_turns (Some schedule) seed turns = Some (ScheduleAndMore, schedule)
 
 -- what is wrong with the text of a stop
@@ -55,10 +60,28 @@ abbrev pub wrong_file : Option (List ℕ) → Option Wrong
 wrong_file None = Some (Missing, [])
 wrong_file (Some text) = None
 
--- what is wrong with the matches of `replay`: its file, then its turns, then its stop
+-- a mistake that there is where this holds
+abbrev pub wrong_if : Bool → Reason → Option Wrong
+wrong_if true reason = Some (reason, [])
+wrong_if false reason = None
+
+-- what is wrong with the matches of a replay: its file, then its turns, then its stop, then both of standard input
+abbrev pub wrong_given : List Row → Option Wrong
+wrong_given rows = first_wrong (wrong_file (first_of (codes "file") rows))
+    (first_wrong (wrong_turns (first_of (codes "schedule") rows) (first_of (codes "seed") rows) (first_of (codes "turns") rows))
+    (first_wrong (wrong_stop (first_of (codes "stop") rows)) (wrong_if (are_both_input (first_of (codes "file") rows) (first_of (codes "schedule") rows)) InputTwice)))
+
+-- what is wrong with the matches of `replay`: what is wrong with a replay, then that two texts are wanted
 abbrev pub wrong_replay : List Row → Option Wrong
-wrong_replay rows = first_wrong (wrong_file (first_of (codes "file") rows))
-    (first_wrong (wrong_turns (first_of (codes "schedule") rows) (first_of (codes "seed") rows) (first_of (codes "turns") rows)) (wrong_stop (first_of (codes "stop") rows)))
+wrong_replay rows = first_wrong (wrong_given rows) (wrong_if (is_flagged (codes "print-schedule") rows && is_flagged (codes "acts") rows) TwoTexts)
+
+-- what is wrong with the matches of `shorten`: what is wrong with a replay, then with its word
+abbrev pub wrong_shorten : List Row → Option Wrong
+wrong_shorten rows = first_wrong (wrong_given rows) (wrong_file (first_of (codes "until") rows))
+
+-- what is wrong with the bytes of a schedule's file
+abbrev pub wrong_listed : List ℕ → Option Wrong
+wrong_listed bytes = unless_read (joined_schedule (joined bytes)) BadFile (joined bytes)
 
 -- what is wrong with the matches of `key`
 abbrev pub wrong_key : List Row → Option Wrong
@@ -67,13 +90,14 @@ wrong_key rows = wrong_number (flag_of (first_of (codes "hex") rows)) (first_of 
 -- this is wrong with the matches of the subcommand with this name
 pub record IsWrong (name : List ℕ) (rows : List Row) (wrong : Wrong) : Type 0 where
   pub replay : name ≡ codes "replay" → wrong_replay rows ≡ Some wrong
+  pub shorten : name ≡ codes "shorten" → wrong_shorten rows ≡ Some wrong
   pub check : name ≡ codes "check" → wrong_file (first_of (codes "acts") rows) ≡ Some wrong
   pub run : name ≡ codes "run" → wrong_file (first_of (codes "file") rows) ≡ Some wrong
   pub key : name ≡ codes "key" → wrong_key rows ≡ Some wrong
 
 -- what a mistake says
 abbrev pub said_by : Mistake → Wrong
-said_by mistake = (mistake.reason, string_bytes mistake.found)
+said_by mistake = (mistake.reason, mistake.found.items)
 
 -- a mistake says what is wrong, where something is; another fault says nothing of it
 abbrev pub Tells : Option Wrong → TaskFault → Type 0

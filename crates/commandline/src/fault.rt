@@ -41,7 +41,7 @@ impl From<AllocError> for TaskFault {
 pub(crate) fn mistaken(alloc: Global, reason: Reason, found: &str) -> TaskFault
     ensures { Tells (Some (reason, found.now)) result }
 {
-    match String::from_str(alloc, found) {
+    match Vec::from_slice(alloc, found.as_bytes()) {
         Ok(found) => TaskFault::Words(Mistake { reason, found }),
         Err(refused) => TaskFault::Memory(refused),
     }
@@ -53,6 +53,6 @@ pub(crate) fn mistaken_without(alloc: Global, reason: Reason) -> TaskFault
 {
     TaskFault::Words(Mistake {
         reason,
-        found: String::new(alloc),
+        found: Vec::new(alloc),
     })
 }

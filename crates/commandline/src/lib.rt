@@ -20,4 +20,5 @@ pub use mistakes::{Mistake, Reason, write_mistake};
 pub use reports::{end_by_words, read_args};
 pub use requests::{Request, read_request, request_of_args, task};
 pub use tasks::{Stop, Task, Turns};
+pub use turns::turns_in;
 pub use views::{View, ViewRequest, Viewing, read_viewing};

@@ -14,6 +14,8 @@ pub(crate) enum Kind<'a> {
     Positional(&'a str),
     /// By its name, with a value behind it.
     Valued(&'a str),
+    /// By its name, with a value behind it, and it must be there.
+    Needed(&'a str),
     /// By its name alone.
     Flag,
 }
@@ -49,6 +51,10 @@ fn argument_of<'a>(alloc: Global, argument: &Argument<'a>) -> Arg<'a>
     match argument.kind {
         Kind::Positional(value_name) => arg.value_name(value_name).required(true),
         Kind::Valued(value_name) => arg.long(argument.name).value_name(value_name),
+        Kind::Needed(value_name) => arg
+            .long(argument.name)
+            .value_name(value_name)
+            .required(true),
         Kind::Flag => arg.long(argument.name).action(ArgAction::SetTrue),
     }
 }

@@ -1,5 +1,5 @@
 //! Why words that `clap` took are still no task.
-ghost use Rattle.std.specs.Prelude.{◌≡◌, string_bytes};
+ghost use Rattle.std.specs.Prelude.{◌≡◌};
 ghost use Rattle.schedules.specs.Schedules.{bad_entry};
 ghost use Rattle.streams.specs.Saying.{Says};
 ghost use Rattle.streams.specs.Shown.{IsSafeLine, bytes_text};
@@ -23,6 +23,12 @@ pub enum Reason {
     ScheduleAndMore,
     /// The text of the schedule is none.
     BadSchedule,
+    /// The text of the schedule's file is none.
+    BadFile,
+    /// The file and the schedule are both standard input.
+    InputTwice,
+    /// The acts are wanted, and the schedule.
+    TwoTexts,
     /// The seed is no number, or too large.
     BadSeed,
     /// The number of turns is none, or too large.
@@ -48,9 +54,9 @@ pub enum Reason {
 pub struct Mistake {
     /// Why the words are no task.
     pub reason: Reason,
-    /// The text behind the option, or of the argument, that the reason is about; empty where it is about
-    /// a word that isn't there or is no text.
-    pub found: String,
+    /// The text behind the option, of the argument, or of the schedule's file as one of a command line, that the reason is about;
+    /// empty where it is about none.
+    pub found: Vec<u8>,
 }
 
 /// What is said of a reason before the text that it is about.
@@ -63,6 +69,9 @@ fn before(reason: Reason) -> &'static str
         Reason::TurnsAlone => "--turns ",
         Reason::ScheduleAndMore => "--schedule ",
         Reason::BadSchedule => "--schedule \"",
+        Reason::BadFile => "the file of --schedule: \"",
+        Reason::InputTwice => "FILE and --schedule are both standard input",
+        Reason::TwoTexts => "--acts stands beside --print-schedule",
         Reason::BadSeed => "--seed \"",
         Reason::BadTurns => "--turns \"",
         Reason::BadStop => "--stop \"",
@@ -87,6 +96,10 @@ fn after(reason: Reason) -> &'static str
             " stands beside --seed or --turns: give --schedule alone, or --seed and --turns",
         Reason::BadSchedule =>
             "\" is no schedule: numbers of one to three digits, at most 255, with single commas between them",
+        Reason::BadFile =>
+            "\" is no schedule: numbers of one to three digits, at most 255, with single commas or line feeds between them",
+        Reason::InputTwice => ": give one of them by its path",
+        Reason::TwoTexts => ": one text alone is printed",
         Reason::BadSeed =>
             "\" is no seed: one to twenty decimal digits, at most 18446744073709551615",
         Reason::BadTurns =>
@@ -122,10 +135,10 @@ fn write_entry<W: Write>(schedule: &[u8], out: &mut Watched<W>)
 
 /// Writes where in the text that a reason is about the mistake stands: of a schedule the entry.
 fn write_where<W: Write>(mistake: &Mistake, out: &mut Watched<W>)
-    ensures { Says W.contents out.old out.new (bytes_text (where_of mistake.now.reason (string_bytes mistake.now.found))) }
+    ensures { Says W.contents out.old out.new (bytes_text (where_of mistake.now.reason mistake.now.found.items)) }
 {
     match mistake.reason {
-        Reason::BadSchedule => write_entry(mistake.found.as_bytes(), out),
+        Reason::BadSchedule | Reason::BadFile => write_entry(mistake.found.as_slice(), out),
         _ => {}
     }
 }
@@ -138,7 +151,7 @@ pub fn write_mistake<W: Write>(mistake: &Mistake, out: &mut Watched<W>)
     ensures safe { IsSafeLine (mistake_text mistake.now) }
 {
     write_bytes(before(mistake.reason).as_bytes(), out);
-    write_cut(mistake.found.as_bytes(), out);
+    write_cut(mistake.found.as_slice(), out);
     write_bytes(after(mistake.reason).as_bytes(), out);
     write_where(mistake, out);
     write_text(b"\n", out);

@@ -104,7 +104,7 @@ pub fn read_args(alloc: Global, args: io::Result<Args>) -> Result<Vec<String>, T
             }
             Err(TaskFault::Words(Mistake {
                 reason: Reason::NoText,
-                found: String::new(alloc),
+                found: Vec::new(alloc),
             }))
         }
     }

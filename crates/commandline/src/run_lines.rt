@@ -36,20 +36,49 @@ Example: poolrun replay first.json --schedule 0,0",
 /// What help says of the option by which mistakes are explained.
 const EXPLAIN: &str = "Says on standard error where a mistake is, and what is wanted there";
 
+/// The lanes that take turns.
+const SCHEDULE: Argument<'static> = Argument {
+    kind: Kind::Valued("LANES"),
+    name: "schedule",
+    help: "The lanes that take turns, as 0,1,1: numbers of at most 255; @PATH for those in a file, - for those on standard input",
+};
+
+/// The seed of turns that are drawn.
+const SEED: Argument<'static> = Argument {
+    kind: Kind::Valued("N"),
+    name: "seed",
+    help: "The seed that turns are drawn from, at most 18446744073709551615",
+};
+
+/// How many turns are drawn.
+const TURNS: Argument<'static> = Argument {
+    kind: Kind::Valued("M"),
+    name: "turns",
+    help: "How many turns are drawn, at most 1000000",
+};
+
+/// Where a lane stops.
+const STOP: Argument<'static> = Argument {
+    kind: Kind::Valued("L:K"),
+    name: "stop",
+    help: "Lane L has no turn after its K-th",
+};
+
 /// The subcommands of the program.
-static LINES: [Line<'static>; 4] = [
+static LINES: [Line<'static>; 5] = [
     Line {
         name: "replay",
         help: Help {
             about: "Replays the scripts of a file over a schedule, step by step, and prints what each step did",
             usage: Some(
-                "poolrun replay <FILE> --schedule <LANES> [--stop <L:K>] [--acts] [--explain]\n       poolrun replay <FILE> --seed <N> --turns <M> [--stop <L:K>] [--acts] [--explain]",
+                "poolrun replay <FILE> --schedule <LANES> [--stop <L:K>] [--acts | --print-schedule] [--explain]\n       poolrun replay <FILE> --seed <N> --turns <M> [--stop <L:K>] [--acts | --print-schedule] [--explain]",
             ),
             more: "\
 Give either --schedule, or both --seed and --turns. The same words print the same text each time.
 
 Prints a line for each reply of a command and for each atomic step, in the order of the turns; with
---acts the text of acts that `poolrun check` reads. A fault prints `fault NUMBER NAME` on standard
+--acts the text of acts that `poolrun check` reads; with --print-schedule the schedule, as --schedule
+reads it from a file: numbers with single commas or line feeds between them. A fault prints `fault NUMBER NAME` on standard
 error, and nothing on standard output.
 
 Exit status: 0 where it is done, 1 after a fault, 2 after a mistake in these words.
@@ -62,31 +91,60 @@ Example: poolrun replay first.json --schedule 0,0",
                 name: "file",
                 help: "The script file, or - for standard input",
             },
-            Argument {
-                kind: Kind::Valued("LANES"),
-                name: "schedule",
-                help: "The lanes that take turns, as 0,1,1: numbers of at most 255",
-            },
-            Argument {
-                kind: Kind::Valued("N"),
-                name: "seed",
-                help: "The seed that turns are drawn from, at most 18446744073709551615",
-            },
-            Argument {
-                kind: Kind::Valued("M"),
-                name: "turns",
-                help: "How many turns are drawn, at most 1000000",
-            },
-            Argument {
-                kind: Kind::Valued("L:K"),
-                name: "stop",
-                help: "Lane L has no turn after its K-th",
-            },
+            SCHEDULE,
+            SEED,
+            TURNS,
+            STOP,
             Argument {
                 kind: Kind::Flag,
                 name: "acts",
                 help: "Prints the acts in place of the trace",
             },
+            Argument {
+                kind: Kind::Flag,
+                name: "print-schedule",
+                help: "Prints the schedule in place of the trace",
+            },
+            Argument {
+                kind: Kind::Flag,
+                name: "explain",
+                help: EXPLAIN,
+            },
+        ],
+    },
+    Line {
+        name: "shorten",
+        help: Help {
+            about: "Leaves entries out of a schedule for as long as a word stands in its replay, and prints what is left",
+            usage: Some(
+                "poolrun shorten <FILE> --schedule <LANES> [--stop <L:K>] --until <WORD> [--explain]\n       poolrun shorten <FILE> --seed <N> --turns <M> [--stop <L:K>] --until <WORD> [--explain]",
+            ),
+            more: "\
+WORD is one or more fields of a line of the trace or of the acts, as full, CLAIM or 'clear 16777216 true':
+it stands between spaces, or at an end of the line. No single entry of what is printed can be left out.
+
+Each trial is a replay. After those of 100000000 entries in all it gives up.
+
+Exit status: 0 where it is done; 1 after a fault, as where WORD stands nowhere; 2 after a mistake in
+these words.
+
+Example: poolrun shorten first.json --seed 1 --turns 100 --until PUBLISH",
+        },
+        arguments: &[
+            Argument {
+                kind: Kind::Positional("FILE"),
+                name: "file",
+                help: "The script file, or - for standard input",
+            },
+            Argument {
+                kind: Kind::Needed("WORD"),
+                name: "until",
+                help: "What is to stand in the replay still",
+            },
+            SCHEDULE,
+            SEED,
+            TURNS,
+            STOP,
             Argument {
                 kind: Kind::Flag,
                 name: "explain",

@@ -9,6 +9,19 @@ pub enum Task {
         stop: Option<Stop>,
         acts: bool,
     },
+    /// Print the schedule of these turns, up to the stop, for the lanes of the script file at this path.
+    Schedule {
+        file: String,
+        turns: Turns,
+        stop: Option<Stop>,
+    },
+    /// Leave entries out of that schedule for as long as this word stands in the replay, and print what is left.
+    Shorten {
+        file: String,
+        turns: Turns,
+        stop: Option<Stop>,
+        until: String,
+    },
     /// Check the acts in the file at this path.
     Check {
         file: String,
@@ -30,17 +43,67 @@ pub enum Task {
 impl Task {
     ghost use Rattle.std.specs.Prelude.{◌≡◌};
     ghost use Rattle.commandline.specs.Readings.{text_of};
-    ghost use Rattle.commandline.specs.Tasks.{path_of};
+    ghost use Rattle.commandline.specs.Tasks.{path_of, schedule_path_of, over};
 
     /// The path of the file that the task is about, where there is one; `-` stands for standard input.
     pub fn path(&self) -> Option<&str>
         ensures { text_of result ≡ path_of self.now }
     {
         match self {
-            Task::Replay { file, .. } | Task::Check { file } | Task::Run { file } => {
-                Some(file.as_str())
-            }
+            Task::Replay { file, .. }
+            | Task::Schedule { file, .. }
+            | Task::Shorten { file, .. }
+            | Task::Check { file }
+            | Task::Run { file } => Some(file.as_str()),
             Task::Key { .. } | Task::Word { .. } => None,
+        }
+    }
+
+    /// The path of the file that the task's turns are in, where they are in one; `-` stands for standard input.
+    pub fn schedule_path(&self) -> Option<&str>
+        ensures { text_of result ≡ schedule_path_of self.now }
+    {
+        match self {
+            Task::Replay { turns, .. }
+            | Task::Schedule { turns, .. }
+            | Task::Shorten { turns, .. } => turns.path(),
+            Task::Check { .. } | Task::Run { .. } | Task::Key { .. } | Task::Word { .. } => None,
+        }
+    }
+
+    /// The task over these turns in place of its own, where it has some.
+    pub fn over(self, turns: Turns) -> Task
+        ensures { result ≡ over turns self }
+    {
+        match self {
+            Task::Replay {
+                file,
+                turns: _,
+                stop,
+                acts,
+            } => Task::Replay {
+                file,
+                turns,
+                stop,
+                acts,
+            },
+            Task::Schedule {
+                file,
+                turns: _,
+                stop,
+            } => Task::Schedule { file, turns, stop },
+            Task::Shorten {
+                file,
+                turns: _,
+                stop,
+                until,
+            } => Task::Shorten {
+                file,
+                turns,
+                stop,
+                until,
+            },
+            other => other,
         }
     }
 }
@@ -52,6 +115,24 @@ pub enum Turns {
     Listed(Vec<u32>),
     /// So many, drawn from this seed.
     Drawn { seed: u64, turns: u32 },
+    /// Those of the schedule in the file at this path; `-` stands for standard input.
+    InFile(String),
+}
+
+impl Turns {
+    ghost use Rattle.std.specs.Prelude.{◌≡◌};
+    ghost use Rattle.commandline.specs.Readings.{text_of};
+    ghost use Rattle.commandline.specs.Tasks.{turns_path};
+
+    /// The path of the file that the turns are in, where they are in one.
+    pub fn path(&self) -> Option<&str>
+        ensures { text_of result ≡ turns_path self.now }
+    {
+        match self {
+            Turns::InFile(path) => Some(path.as_str()),
+            Turns::Listed(_) | Turns::Drawn { .. } => None,
+        }
+    }
 }
 
 /// Where a lane stops: after so many of its entries in the schedule.

@@ -1,12 +1,12 @@
 ghost use Rattle.std.specs.Prelude.{◌≡◌, Option, Some, None, IfOk, IfErr};
-ghost use Rattle.commandline.specs.Readings.{text_of, long_number, turn_count, key_number, AreTurns, IsStop};
-ghost use Rattle.commandline.specs.Mistakes.{Tells, wrong_turns, wrong_stop, wrong_number};
+ghost use Rattle.commandline.specs.Readings.{text_of, long_number, turn_count, key_number, schedule_file, are_both_input, AreTurns, AreListed, IsStop};
+ghost use Rattle.commandline.specs.Mistakes.{Tells, wrong_turns, wrong_stop, wrong_number, wrong_listed};
 
 use crate::fault::{TaskFault, mistaken, mistaken_without};
 use crate::hexadecimal::read_hexadecimal;
-use crate::mistakes::Reason;
+use crate::mistakes::{Mistake, Reason};
 use crate::tasks::{Stop, Turns};
-use schedules::{read_number, read_schedule, read_stop};
+use schedules::{join_lines, read_joined, read_number, read_schedule, read_stop};
 use std::alloc::Global;
 
 /// A number of 64 bits.
@@ -41,15 +41,58 @@ pub(crate) fn read_key_number(alloc: Global, text: &str, hex: bool) -> Result<u6
     Ok(number)
 }
 
-/// The turns of a schedule.
+/// The path of the file that a schedule is in, where its text names one: a dash, or an at sign and the path.
+fn schedule_file(text: &str) -> Option<&str>
+    ensures { text_of result ≡ schedule_file text.now }
+{
+    if text == "-" {
+        return Some(text);
+    }
+    text.strip_prefix('@')
+}
+
+/// The turns of a schedule, which may be in a file.
 fn listed_turns(alloc: Global, schedule: &str) -> Result<Turns, TaskFault>
     ensures ok { IfOk result (AreTurns (Some schedule.now) None None) }
     ensures err { IfErr result (Tells (wrong_turns (Some schedule.now) None None)) }
 {
+    if let Some(path) = schedule_file(schedule) {
+        let path = String::from_str(alloc, path)?;
+        return Ok(Turns::InFile(path));
+    }
     let Some(lanes) = read_schedule(alloc, schedule.as_bytes())? else {
         return Err(mistaken(alloc, Reason::BadSchedule, schedule));
     };
     Ok(Turns::Listed(lanes))
+}
+
+/// The turns that the bytes of a schedule's file list: decimal numbers of one to three digits, at most 255, with single commas or
+/// line feeds between them, and perhaps a line feed behind the last; or none. The faults: `Words` where they list none, and `Memory`.
+pub fn turns_in(alloc: Global, bytes: &[u8]) -> Result<Turns, TaskFault>
+    ensures ok { IfOk result (AreListed bytes.now) }
+    ensures err { IfErr result (Tells (wrong_listed bytes.now)) }
+{
+    let text = join_lines(alloc, bytes)?;
+    let Some(lanes) = read_joined(alloc, text.as_slice())? else {
+        return Err(TaskFault::Words(Mistake {
+            reason: Reason::BadFile,
+            found: text,
+        }));
+    };
+    Ok(Turns::Listed(lanes))
+}
+
+/// Whether the texts of a file and of a schedule both name standard input.
+pub(crate) fn are_both_input(file: &str, schedule: Option<&str>) -> bool
+    ensures { result ≡ are_both_input (Some file.now) (text_of schedule.entry) }
+{
+    let Some(schedule) = schedule else {
+        return false;
+    };
+    let Some(path) = schedule_file(schedule) else {
+        return false;
+    };
+    file == "-" && path == "-"
 }
 
 /// So many turns, drawn from a seed.

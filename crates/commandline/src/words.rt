@@ -1,14 +1,14 @@
 ghost use Rattle.std.specs.Prelude.{◌≡◌, map, codes, IfOk, IfErr, string_bytes};
 ghost use Rattle.clap.specs.Words.{first_of, found_of, rows_of, subcommand_of, subcommand_rows_of};
 ghost use Rattle.commandline.specs.Readings.{text_of, flag_of};
-ghost use Rattle.commandline.specs.CommandLines.{command_line, AreMatchesOf};
-ghost use Rattle.commandline.specs.Mistakes.{Tells, RefusesMatches, wrong_replay, wrong_file, wrong_key};
+ghost use Rattle.commandline.specs.CommandLines.{command_line, AreMatchesOf, HasTurns};
+ghost use Rattle.commandline.specs.Mistakes.{Tells, RefusesMatches, wrong_given, wrong_replay, wrong_shorten, wrong_file, wrong_key};
 
 use crate::fault::{TaskFault, mistaken_without};
 use crate::mistakes::Reason;
 use crate::run_lines::program_command;
-use crate::tasks::Task;
-use crate::turns::{read_key_number, read_turns, stop_given};
+use crate::tasks::{Stop, Task, Turns};
+use crate::turns::{are_both_input, read_key_number, read_turns, stop_given};
 use clap::{ArgMatches, Error as ClapError};
 use std::alloc::Global;
 
@@ -41,7 +41,7 @@ pub(crate) fn is_used(matches: &ArgMatches, id: &str) -> bool
     }
 }
 
-/// The path that is given under an id.
+/// The path or the word that is given under an id.
 fn file_given(alloc: Global, matches: &ArgMatches, id: &str) -> Result<String, TaskFault>
     ensures ok { IfOk result
         (λ file. first_of id.now (rows_of (found_of matches.now)) ≡ Some (string_bytes file)) }
@@ -54,10 +54,17 @@ fn file_given(alloc: Global, matches: &ArgMatches, id: &str) -> Result<String, T
     Ok(file)
 }
 
-/// The task of the matches of `replay`.
-fn replay_task(alloc: Global, matches: &ArgMatches) -> Result<Task, TaskFault>
-    ensures ok { IfOk result (AreMatchesOf (codes "replay") (rows_of (found_of matches.now))) }
-    ensures err { IfErr result (Tells (wrong_replay (rows_of (found_of matches.now)))) }
+/// What is given of a replay.
+struct GivenTurns {
+    file: String,
+    turns: Turns,
+    stop: Option<Stop>,
+}
+
+/// What the matches of a replay give.
+fn turns_given(alloc: Global, matches: &ArgMatches) -> Result<GivenTurns, TaskFault>
+    ensures ok { IfOk result (λ given. HasTurns (rows_of (found_of matches.now)) (string_bytes given.file) given.turns given.stop) }
+    ensures err { IfErr result (Tells (wrong_given (rows_of (found_of matches.now)))) }
 {
     let file = file_given(alloc, matches, "file")?;
     let schedule = given(matches, "schedule");
@@ -65,12 +72,45 @@ fn replay_task(alloc: Global, matches: &ArgMatches) -> Result<Task, TaskFault>
     let count = given(matches, "turns");
     let turns = read_turns(alloc, schedule, seed, count)?;
     let stop = stop_given(alloc, given(matches, "stop"))?;
+    if are_both_input(file.as_str(), schedule) {
+        return Err(mistaken_without(alloc, Reason::InputTwice));
+    }
+    Ok(GivenTurns { file, turns, stop })
+}
+
+/// The task of the matches of `replay`.
+fn replay_task(alloc: Global, matches: &ArgMatches) -> Result<Task, TaskFault>
+    ensures ok { IfOk result (AreMatchesOf (codes "replay") (rows_of (found_of matches.now))) }
+    ensures err { IfErr result (Tells (wrong_replay (rows_of (found_of matches.now)))) }
+{
+    let GivenTurns { file, turns, stop } = turns_given(alloc, matches)?;
     let acts = is_used(matches, "acts");
-    Ok(Task::Replay {
+    if !is_used(matches, "print-schedule") {
+        return Ok(Task::Replay {
+            file,
+            turns,
+            stop,
+            acts,
+        });
+    }
+    if acts {
+        return Err(mistaken_without(alloc, Reason::TwoTexts));
+    }
+    Ok(Task::Schedule { file, turns, stop })
+}
+
+/// The task of the matches of `shorten`.
+fn shorten_task(alloc: Global, matches: &ArgMatches) -> Result<Task, TaskFault>
+    ensures ok { IfOk result (AreMatchesOf (codes "shorten") (rows_of (found_of matches.now))) }
+    ensures err { IfErr result (Tells (wrong_shorten (rows_of (found_of matches.now)))) }
+{
+    let GivenTurns { file, turns, stop } = turns_given(alloc, matches)?;
+    let until = file_given(alloc, matches, "until")?;
+    Ok(Task::Shorten {
         file,
         turns,
         stop,
-        acts,
+        until,
     })
 }
 
@@ -114,6 +154,7 @@ pub(crate) fn task_of(alloc: Global, name: &str, matches: &ArgMatches) -> Result
 {
     match name {
         "replay" => replay_task(alloc, matches),
+        "shorten" => shorten_task(alloc, matches),
         "check" => check_task(alloc, matches),
         "run" => run_task(alloc, matches),
         "key" => key_task(alloc, matches),

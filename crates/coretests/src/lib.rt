@@ -37,6 +37,8 @@ mod test_runs;
 #[cfg(test)]
 mod test_schedules;
 #[cfg(test)]
+mod test_shortening;
+#[cfg(test)]
 mod test_texts;
 #[cfg(test)]
 mod test_tool_views;

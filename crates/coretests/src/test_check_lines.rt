@@ -6,7 +6,7 @@ use poolprogram::check_text;
 use std::alloc::AllocGlobal;
 use std::io::Write;
 use std::process::Abort;
-use streams::Watched;
+use streams::{Unreadable, Watched};
 
 // Texts of acts, and behind each the line that its check gives.
 const CHECKS: &str = "shape 1 2 1 4294967295

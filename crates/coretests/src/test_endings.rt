@@ -12,12 +12,12 @@ use std::thread::Threads;
 use streams::Watched;
 
 /// Words, what is left of the input, what is written on the output and as errors, and the status.
-struct Row {
-    words: &'static str,
-    input: &'static str,
-    said: &'static str,
-    told: &'static str,
-    status: u8,
+pub(crate) struct Row {
+    pub(crate) words: &'static str,
+    pub(crate) input: &'static str,
+    pub(crate) said: &'static str,
+    pub(crate) told: &'static str,
+    pub(crate) status: u8,
 }
 
 const ROWS: [Row; 8] = [
@@ -61,7 +61,7 @@ const ROWS: [Row; 8] = [
         words: "poolrun|run|nosuch.json|--explain",
         input: "",
         said: "",
-        told: "fault 41 File\n\"nosuch.json\" can't be opened, or not read to its end\n",
+        told: "fault 41 File\n\"nosuch.json\" can't be opened, or not read to its end: there is no such file\n",
         status: 1,
     },
     Row {
@@ -81,7 +81,7 @@ const ROWS: [Row; 8] = [
 ];
 
 /// The program writes so, and ends so.
-fn ends<R: Abort + AllocGlobal + Files + Threads + Wait + Sync>(rt: &R, row: &Row) {
+pub(crate) fn ends<R: Abort + AllocGlobal + Files + Threads + Wait + Sync>(rt: &R, row: &Row) {
     let args = words_of(rt, row.words).into_iter();
     let mut input = row.input.as_bytes();
     let mut out = Watched::new(Vec::new(rt.alloc()));

@@ -16,37 +16,37 @@ const SCRIPT: &str =
 const SCRIPTS: &str = "[[\"create\", 0], [\"write\", 0, \"aa01\"]
 => [[\"create\", 0], [\"write\", 0, \"aa0\"]
 => fault 35 Number
-lane 0, line 2, operand 2: \"aa0\" is not what is wanted: bytes are pairs of hexadecimal digits in quotes, a key is a whole number of at most 18446744073709551615 or a text as \"@0\"
+lane 0, line 2 (line 1 of the file), operand 2: \"aa0\" are no bytes: pairs of hexadecimal digits in quotes
 ~
 [\"read\", 0], [\"release\", 0]]]}
 => [\"read\", 0], [\"release\", 0]]],}
 => fault 31 NotJson
-the file: it is no JSON text
+the file, line 1, column 364: a comma stands before the end of a list or an object
 ~
 [\"publish\", 0]
 => [\"pubish\", 0]
 => fault 33 Act
-lane 0, line 3: \"pubish\" is no command; commands are create, write, publish, downgrade, get, read, release, clear
+lane 0, line 3 (line 1 of the file): \"pubish\" is no command; commands are create, write, publish, downgrade, get, read, release, clear
 ~
 [\"create\", 0]
 => [\"create\", 16]
 => fault 34 Register
-lane 0, line 1, operand 1: 16 is no register: a number of 0 to 15, or where a key is wanted a text as \"@0\"
+lane 0, line 1 (line 1 of the file), operand 1: 16 is no register: a number of 0 to 15
 ~
 [\"read\", 1]
 => [\"read\"]
 => fault 32 Field
-lane 0, line 5: [\"read\"] is no list of a command and its operands: create R, write R BYTES, publish R, downgrade R, get R KEY, read R, release R, clear KEY
+lane 0, line 5 (line 1 of the file): [\"read\"] has not the operands of its command: read R
 ~
 , [[\"get\", 0, 16777216], [\"clear\", 16777216], [\"read\", 0], [\"release\", 0]]
 => 
 => fault 32 Field
-field scripts: it has not one script for each lane of the shape
+field scripts: [[[\"create\",0],[\"write\",0,\"aa01\"],[\"publish\",0],[\"get\",1,\"@0.. has not one script for each lane of the shape: scripts 2, lanes 3
 ~
 [\"get\", 1, \"@0\"]
 => [\"get\", 1, \"0\"]
 => fault 34 Register
-lane 0, line 4, operand 2: \"0\" is no register: a number of 0 to 15, or where a key is wanted a text as \"@0\"
+lane 0, line 4 (line 1 of the file), operand 2: \"0\" is no key: a whole number of at most 18446744073709551615, or a text of @ and a register, as \"@0\"
 ~
 \"lanes\": 3
 => \"lanes\": 17
@@ -61,53 +61,64 @@ field first_page: 3 is not 1, 2, 4, 8, 16, 32 or 64
 [\"release\", 0]]]}
 => [\"release\", 0]]], \"comment\": \"hi\"}
 => fault 32 Field
-the file: it is no object with the fields shape and scripts, and no other
+the file: it has the field \"comment\"; its fields are shape and scripts, and no other
+~
+\"lanes\": 3
+=> \"lanes\": 3, \"size\": 4
+=> fault 32 Field
+field shape: {\"lanes\":3,\"size\":4,\"first_page\":1,\"pages\":2,\"last_generation\":4294967295} has the field \"size\"; its fields are lanes, first_page, pages and last_generation, perhaps tag, and no other
 ~
 \"write\", 0, \"aa01\"
 => \"write\", 0, \"hello\"
 => fault 35 Number
-lane 0, line 2, operand 2: \"hello\" is not what is wanted: bytes are pairs of hexadecimal digits in quotes, a key is a whole number of at most 18446744073709551615 or a text as \"@0\"
+lane 0, line 2 (line 1 of the file), operand 2: \"hello\" are no bytes: pairs of hexadecimal digits in quotes
 ~
 [\"get\", 0, 16777216]
 => [\"get\", 0, \"16777216\"]
 => fault 34 Register
-lane 1, line 1, operand 2: \"16777216\" is no register: a number of 0 to 15, or where a key is wanted a text as \"@0\"
+lane 1, line 1 (line 1 of the file), operand 2: \"16777216\" is no key: a whole number of at most 18446744073709551615, or a text of @ and a register, as \"@0\"
 ~
 [\"publish\", 0]
-=> [\"PUBLISH\", 0]
+=> 
+[\"PUBLISH\", 0]
 => fault 33 Act
-lane 0, line 3: \"PUBLISH\" is no command; commands are create, write, publish, downgrade, get, read, release, clear
+lane 0, line 3 (line 2 of the file): \"PUBLISH\" is no command; commands are create, write, publish, downgrade, get, read, release, clear
 ~
 \"lanes\": 3
-=> \"lanes\": 3.0
+=> \"lanes\": 1e0
 => fault 35 Number
-field lanes: 3.0 is no whole number of at most 4294967295
+field lanes: 1e0 is no whole number of at most 4294967295
 ~
 [\"create\", 0]
-=> [\"create\", -1]
+=> [\"create\", -0]
 => fault 34 Register
-lane 0, line 1, operand 1: -1 is no register: a number of 0 to 15, or where a key is wanted a text as \"@0\"
+lane 0, line 1 (line 1 of the file), operand 1: -0 is no register: a number of 0 to 15
 ~
 \"lanes\": 3
 => \"lanes\": 2
 => fault 32 Field
-field scripts: it has not one script for each lane of the shape
-~
-[\"publish\", 0]
-=> [\"pub\", 0]
-=> fault 33 Act
-lane 0, line 3: \"pub\" is no command; commands are create, write, publish, downgrade, get, read, release, clear
+field scripts: [[[\"create\",0],[\"write\",0,\"aa01\"],[\"publish\",0],[\"get\",1,\"@0.. has not one script for each lane of the shape: scripts 3, lanes 2
 ~
 {\"shape\"
-=> ﻿{\"shape\"
+=> \u{feff}{\"shape\"
 => fault 31 NotJson
-the file: it is no JSON text
+the file, line 1, column 1: a byte order mark stands here, and JSON has none
 ~
 [[\"create\"
 => [ // first
 [\"create\"
 => fault 31 NotJson
-the file: it is no JSON text
+the file, line 1, column 99: a comment stands here, and JSON has none
+~
+[\"release\", 0]]]}
+=> [\"release\", 0]]]
+=> fault 31 NotJson
+the file, line 1, column 363: the text ends where a comma or } is wanted
+~
+[\"read\", 1], [\"release\", 1]
+=> [\"read\", 1] [\"release\", 1]
+=> fault 31 NotJson
+the file, line 1, column 181: \"[\"release\", 1], [\"clear\", \"@0\"]], [[\"get\", 0, 16777216], [\"r..\" stands where a comma or ] is wanted
 ~
 , \"last_generation\": 4294967295
 => 
@@ -115,19 +126,24 @@ the file: it is no JSON text
 field last_generation: it is missing
 ~
 [\"clear\", 16777216]
-=> [\"clear\", -1]
+=> [\"clear\", 18446744073709551616]
 => fault 35 Number
-lane 1, line 4, operand 1: -1 is not what is wanted: bytes are pairs of hexadecimal digits in quotes, a key is a whole number of at most 18446744073709551615 or a text as \"@0\"
+lane 1, line 4 (line 1 of the file), operand 1: 18446744073709551616 is no key: a whole number of at most 18446744073709551615, or a text of @ and a register, as \"@0\"
 ~
 [\"read\", 0]
 => \"read\"
 => fault 32 Field
-lane 1, line 2: \"read\" is no list of a command and its operands: create R, write R BYTES, publish R, downgrade R, get R KEY, read R, release R, clear KEY
+lane 1, line 2 (line 1 of the file): \"read\" is no list of a command and its operands: create R, write R BYTES, publish R, downgrade R, get R KEY, read R, release R, clear KEY
 ~
 [\"read\", 0]
 => [0, \"read\"]
 => fault 32 Field
-lane 1, line 2: 0 is no text; commands are create, write, publish, downgrade, get, read, release, clear
+lane 1, line 2 (line 1 of the file): 0 is no text; commands are create, write, publish, downgrade, get, read, release, clear
+~
+[\"publish\", 0]
+=> [\"\u{202e}pub\u{85}\\u001b[31m\", 0]
+=> fault 33 Act
+lane 0, line 3 (line 1 of the file): \"<226><128><174>pub<194><133>\\u001b[31m\" is no command; commands are create, write, publish, downgrade, get, read, release, clear
 ";
 
 // Words, below them a text of acts, and behind that what is printed on standard output and on standard error.
@@ -138,7 +154,7 @@ shape 3 1 2 4294967295
 0 clear 16777216 true
 0 reclaim 16777216
 =illegal 3 15 StillHeld
-=act 3 (line 5): \"0 reclaim 16777216\": a lane still refers to the key
+=act 3 (line 5): \"0 reclaim 16777216\": lane 1 still refers to the key
 ~
 check|a.acts
 shape 3 1 2 4294967295
@@ -146,14 +162,14 @@ shape 3 1 2 4294967295
 1 get 16777216 some aa01
 0 claer 16777216 true
 ==fault 19 ActsLine
-line 4: \"0 claer 16777216 true\" is no act: LANE publish KEY BYTES 0 (or 1), LANE get KEY some BYTES (or none), LANE release KEY, LANE clear KEY true (or false), LANE reclaim KEY, LANE home PLACE, LANE collect PLACE,PLACE
+line 4: \"0 claer 16777216 true\": field 2, \"claer\", isn't the name of an act: publish, get, release, clear, reclaim, home or collect
 ~
 check|a.acts
 shape 3 1 2 4294967295\r
 0 publish 16777216 aa01 0\r
 1 get 16777216 some aa01\r
 ==fault 19 ActsLine
-line 1: \"shape 3 1 2 4294967295<13>\" is no shape's line: shape LANES FIRST_PAGE PAGES LAST_GENERATION, and perhaps a tag
+line 1: \"shape 3 1 2 4294967295<13>\": field 5, \"4294967295<13>\", isn't a decimal number of at most 4294967295 without leading zeros
 ~
 check|a.acts
 shape 3 1 2 4294967295
@@ -162,33 +178,68 @@ shape 3 1 2 4294967295
 0 clear 16777216 true
 
 ==fault 19 ActsLine
-line 5: \"\" is no act: LANE publish KEY BYTES 0 (or 1), LANE get KEY some BYTES (or none), LANE release KEY, LANE clear KEY true (or false), LANE reclaim KEY, LANE home PLACE, LANE collect PLACE,PLACE
+line 5: \"\": field 1, \"\", isn't a lane: a decimal number of at most 4294967295 without leading zeros
 ~
 check|a.acts
 shape 3 1 2 4294967295
 0 publish 16777216 aa01 0
 1 get 16777216 some bb
 =illegal 1 13 WrongReply
-=act 1 (line 3): \"1 get 16777216 some bb\": the reply isn't the pool's
+=act 1 (line 3): \"1 get 16777216 some bb\": the pool's reply is some aa01
+~
+check|a.acts
+shape 3 1 2 4294967295
+0 publish 16777216 aa01 0
+0 clear 16777216 true
+1 get 16777216 some aa01
+=illegal 2 13 WrongReply
+=act 2 (line 4): \"1 get 16777216 some aa01\": the pool's reply is none
+~
+check|a.acts
+shape 3 1 2 4294967295
+0 publish 16777216 aa01 0
+1 clear 16777216 false
+=illegal 1 13 WrongReply
+=act 1 (line 3): \"1 clear 16777216 false\": the pool's reply is true
 ~
 check|a.acts
 shape 3 1 2 4294967295
 0 publish 16777216 AA01 0
 ==fault 19 ActsLine
-line 2: \"0 publish 16777216 AA01 0\" is no act: LANE publish KEY BYTES 0 (or 1), LANE get KEY some BYTES (or none), LANE release KEY, LANE clear KEY true (or false), LANE reclaim KEY, LANE home PLACE, LANE collect PLACE,PLACE
+line 2: \"0 publish 16777216 AA01 0\": field 4, \"AA01\", isn't bytes: pairs of lower-case hexadecimal digits, or - for none
+~
+check|a.acts
+shape 3 1 2 4294967295
+0 publish 16777216 aa01 0
+1 get 16777216
+==fault 19 ActsLine
+line 3: \"1 get 16777216\": field 4 is missing: some and bytes, or none
+~
+check|a.acts
+shape 3 1 2 4294967295
+0 publish 16777216 aa01 0
+1 release 16777216 0
+==fault 19 ActsLine
+line 3: \"1 release 16777216 0\": field 4, \"0\", is too much
+~
+check|a.acts
+shape 3 1 2 4294967295
+0 collect 0,01
+==fault 19 ActsLine
+line 2: \"0 collect 0,01\": field 3, \"0,01\", isn't places with single commas between them, each a decimal number of at most 16777215 without leading zeros
 ~
 check|a.acts
 shape 3 3 2 4294967295
 ==fault 2 FirstPage
-line 1: \"shape 3 3 2 4294967295\": first_page is not 1, 2, 4, 8, 16, 32 or 64
+line 1: \"shape 3 3 2 4294967295\": field first_page is not 1, 2, 4, 8, 16, 32 or 64
 ~
 check|a.acts
 ==fault 19 ActsLine
-line 1: \"\" is no shape's line: shape LANES FIRST_PAGE PAGES LAST_GENERATION, and perhaps a tag
+line 1: \"\": field 1, \"\", isn't the word shape
 ~
 check|a.acts
 {\"shape\": {\"lanes\": 3, \"first_page\": 1, \"pages\": 2, \"last_generation\": 4294967295}, \"scripts\": []}==fault 19 ActsLine
-line 1: it is no shape's line: shape LANES FIRST_PAGE PAGES LAST_GENERATION, and perhaps a tag
+line 1: \"{\"shape\": {\"lanes\": 3, \"first_page\": 1, \"pages\": 2, \"last_ge..\": field 1, \"{\"shape\":\", isn't the word shape
 ~
 check|a.acts
 shape 3 1 2 4294967295
@@ -199,20 +250,50 @@ check|a.acts
 shape 3 1 2 4294967295
 3 clear 16777216 false
 =illegal 0 11 NotWithLane
-=act 0 (line 2): \"3 clear 16777216 false\": the lane is none of the shape's, or the place isn't with it, or the key is of another pool
+=act 0 (line 2): \"3 clear 16777216 false\": the lane is none of the shape's, which are 3
+~
+check|a.acts
+shape 3 1 2 4294967295
+0 publish 16842752 - 0
+=illegal 0 11 NotWithLane
+=act 0 (line 2): \"0 publish 16842752 - 0\": the place isn't with the lane
+~
+check|a.acts
+shape 3 1 2 4294967295
+0 publish 72057594054705152 - 0
+=illegal 0 11 NotWithLane
+=act 0 (line 2): \"0 publish 72057594054705152 - 0\": the key is of another pool: the shape's tag is 0
+~
+check|a.acts
+shape 3 1 2 4294967295
+0 publish 16777217 - 0
+=illegal 0 11 NotWithLane
+=act 0 (line 2): \"0 publish 16777217 - 0\": the place is none of the shape's
+~
+check|a.acts
+shape 3 1 2 4294967295
+1 home 65536
+=illegal 0 11 NotWithLane
+=act 0 (line 2): \"1 home 65536\": the place is of the lane's own shard
 ~
 check|a.acts
 shape 3 1 2 4294967295
 0 publish 33554432 - 0
 =illegal 0 12 WrongGeneration
-=act 0 (line 2): \"0 publish 33554432 - 0\": the key isn't the next of its place
+=act 0 (line 2): \"0 publish 33554432 - 0\": the next key of the place is 16777216
 ~
 check|a.acts
 shape 3 1 2 4294967295
 0 publish 16777216 aa01 0
 0 reclaim 16777216
 =illegal 1 16 NotMarked
-=act 1 (line 3): \"0 reclaim 16777216\": the key isn't published, or isn't cleared
+=act 1 (line 3): \"0 reclaim 16777216\": the key isn't cleared
+~
+check|a.acts
+shape 3 1 2 4294967295
+0 reclaim 16777216
+=illegal 0 16 NotMarked
+=act 0 (line 2): \"0 reclaim 16777216\": the key isn't published
 ~
 check|a.acts
 shape 3 1 2 4294967295
@@ -313,8 +394,7 @@ fn explains<R: Abort + AllocGlobal>(
     let mut said = Watched::new(Vec::new(rt.alloc()));
     write_report(done, &mut said);
     let why = explain(rt.alloc(), subject, file.as_bytes(), done).expect(rt, "memory for a line");
-    assert!(rt; why.whole);
-    write_text(why.text.as_bytes(), &mut said);
+    write_text(why.as_bytes(), &mut said);
     wrote(rt, said, wanted, file);
 }
 
@@ -334,19 +414,12 @@ fn says<R: Abort + AllocGlobal + Threads + Wait + Sync>(
     explains(rt, &subject, file, &done, said);
 }
 
-/// The script file with something else in a place, on which a replay and a run say the same.
+/// The script file with something else in a place, of which this is said.
 fn says_of_script<R: Abort + AllocGlobal + Threads + Wait + Sync>(rt: &R, row: &str) {
     let (old, rest) = row.trim_start().split_once("\n=> ").expect(rt, "a part");
     let (new, said) = rest.split_once("\n=> ").expect(rt, "another part");
     let (before, behind) = SCRIPT.split_once(old).expect(rt, "a part of the script");
     let file = around(rt, before, new, 1, behind);
-    says(
-        rt,
-        "replay|a.json|--schedule|0,0,1",
-        file.as_str(),
-        "",
-        said,
-    );
     says(rt, "run|a.json", file.as_str(), "", said);
 }
 
@@ -429,6 +502,22 @@ fn explains_a_missing_file(rt: HostRuntime) {
     let fault = load(&rt, "nosuch.json").err().expect(&rt, "a fault");
     let task = task_of(&rt, "run|nosuch.json");
     let subject = subject_of(rt.alloc(), &task).expect(&rt, "memory for a path");
-    let said = "fault 41 File\n\"nosuch.json\" can't be opened, or not read to its end\n";
+    let said = "fault 41 File\n\"nosuch.json\" can't be opened, or not read to its end: there is no such file\n";
     explains(&rt, &subject, "", &Err(RunFault::from(fault)), said);
+}
+
+/// A replay of the script file that these words ask for leaves this undone.
+fn leaves_undone<R: Abort + AllocGlobal>(rt: &R, words: &str, said: &str) {
+    let task = task_of(rt, words);
+    let subject = subject_of(rt.alloc(), &task).expect(rt, "memory for a path");
+    explains(rt, &subject, SCRIPT, &Ok(true), said);
+}
+
+// Two turns of lane 0 publish and get, one of lane 1 gets and reads; two entries are no lane's.
+#[test]
+fn tells_what_is_half_done(rt: HostRuntime) {
+    let said = "half done; entry 2 of the schedule is lane 3, which there isn't; such entries are 2; lane 0 did 5 of its 7 commands; lane 1 did 2 of its 4 commands; lane 2 did 0 of its 4 commands\n";
+    leaves_undone(&rt, "replay|a.json|--schedule|0,3,0,7,1", said);
+    let whole = around(&rt, "replay|a.json|--schedule|0", ",1,2,0", 14, "");
+    leaves_undone(&rt, whole.as_str(), "");
 }

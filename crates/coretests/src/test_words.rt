@@ -47,6 +47,9 @@ poolrun|replay|a.json|--schedule|0|--stop|1:2 => Replay { file: \"a.json\", turn
 poolrun|replay|a.json|--seed|1|--turns|3 => Replay { file: \"a.json\", turns: Drawn { seed: 1, turns: 3 }, stop: None, acts: false }
 poolrun|replay|a.json|--turns|0|--seed|18446744073709551615 => Replay { file: \"a.json\", turns: Drawn { seed: 18446744073709551615, turns: 0 }, stop: None, acts: false }
 poolrun|replay|a.json|--seed|00000000000000000007|--turns|00000000000001000000|--stop|4294967295:00000000000000000000|--acts => Replay { file: \"a.json\", turns: Drawn { seed: 7, turns: 1000000 }, stop: Some(Stop { lane: 4294967295, after: 0 }), acts: true }
+poolrun|replay|a.json|--schedule|@a/b.txt => Replay { file: \"a.json\", turns: InFile(\"a/b.txt\"), stop: None, acts: false }
+poolrun|replay|--schedule=-|a.json|--print-schedule => Schedule { file: \"a.json\", turns: InFile(\"-\"), stop: None }
+poolrun|shorten|-|--until|get 5 none|--seed|1|--turns|3|--stop|1:2 => Shorten { file: \"-\", turns: Drawn { seed: 1, turns: 3 }, stop: Some(Stop { lane: 1, after: 2 }), until: \"get 5 none\" }
 poolrun|check|a.acts => Check { file: \"a.acts\" }
 poolrun|check|true => Check { file: \"true\" }
 poolrun|run|a.json => Run { file: \"a.json\" }
@@ -65,6 +68,9 @@ const WRONG_TURNS: &str = "poolrun|replay|a.json
 poolrun|replay|a.json|--acts
 poolrun|replay|a.json|--seed|1
 poolrun|replay|a.json|--turns|1
+poolrun|replay|a.json|--schedule|0|--acts|--print-schedule
+poolrun|replay|-|--schedule|-
+poolrun|shorten|a.json|--until|full
 poolrun|replay|a.json|--schedule|0|--seed|1
 poolrun|replay|a.json|--schedule|0|--turns|1
 poolrun|replay|a.json|--schedule|0|--seed|1|--turns|1
@@ -135,6 +141,8 @@ poolrun|replay|a.json|--schedule|0|--acts=true
 poolrun|replay|a.json|b.json|--schedule|0
 poolrun|check
 poolrun|check|a.acts|b.acts
+poolrun|shorten|a.json|--schedule|0
+poolrun|shorten|a.json|--schedule|0|--until|full|--acts
 poolrun|check|a.acts|--schedule|0
 poolrun|check|--acts|a.acts
 poolrun|run
@@ -150,6 +158,7 @@ poolrun|key|-1";
 const HELPS: &str = "poolrun|--help => Example: poolrun replay
 poolrun|help => Example: poolrun replay
 poolrun|replay|--help => Example: poolrun replay
+poolrun|shorten|--help => Example: poolrun shorten
 poolrun|check|--help => Example: poolrun check
 poolrun|run|--help => Example: poolrun run
 poolrun|key|--help => Example: poolrun key

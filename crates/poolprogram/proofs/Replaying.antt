@@ -26,6 +26,7 @@ refuses_replay file schedule plan runs.Memory stands (trace, lawful) =
     record { shape = plan.shape; trace = trace; replayed = record { plan = plan; stands = stands; shape = refl; lawful = lawful } }
 refuses_replay file schedule plan (runs.Read fault) stands of = absurd of
 refuses_replay file schedule plan (runs.Acts fault) stands of = absurd of
+refuses_replay file schedule plan (runs.Shortening fault) stands of = absurd of
 refuses_replay file schedule plan runs.Open stands of = absurd of
-refuses_replay file schedule plan runs.File stands of = absurd of
+refuses_replay file schedule plan (runs.File why) stands of = absurd of
 refuses_replay file schedule plan runs.Output stands of = absurd of

@@ -1,64 +1,94 @@
 -- Why a task ended as it did, in words.
-use Rattle.std.specs.Prelude.{◌≡◌, ℕ, Bool, true, false, List, [], ◌++◌, Option, Some, None, Result, Ok, Err, decimal, codes, string_bytes}
+use Rattle.std.specs.Prelude.{◌≡◌, ℕ, Bool, true, false, List, [], Option, Some, None, Result, Ok, Err, codes, string_bytes}
 use Rattle.commandline.specs.Tasks.{path_of}
+use Rattle.commandline.specs.declared.tasks.Stop.{Stop}
 use Rattle.commandline.specs.declared.tasks.Task.{Task}
-use Rattle.commandline.specs.declared.tasks.Task.TheVariants.{Replay, Check, Run, Key, Word}
-use Rattle.scripts.specs.declared.script_refusal.ScriptRefusal.{ScriptRefusal}
-use Rattle.poolprogram.specs.ActsTexts.{acts_explanation, ExplainsCheck}
-use Rattle.poolprogram.specs.ScriptTexts.{script_explanation}
-use Rattle.poolprogram.specs.Shown.{shown_bytes}
-use Rattle.poolprogram.specs.Values.{IsValueAt}
+use Rattle.commandline.specs.declared.tasks.Task.TheVariants as tasks
+use Rattle.commandline.specs.declared.tasks.Turns.{Turns}
+use Rattle.streams.specs.Shown.{line_text}
+use Rattle.streams.specs.declared.reading.Unreadable.{Unreadable}
+use Rattle.shortening.specs.declared.fault.Unshortened.{Unshortened}
+use Rattle.shortening.specs.declared.fault.Unshortened.TheVariants as shortenings
+use Rattle.explanations.specs.ActsTexts.{acts_explanation, ExplainsCheck}
+use Rattle.explanations.specs.Plain.{file_line, no_key_line}
+use Rattle.explanations.specs.ScriptTexts.{ExplainsScript}
+use Rattle.poolprogram.specs.HalfRuns.{ExplainsHalf}
+use Rattle.poolprogram.specs.Turns.{entries_for}
 use Rattle.poolprogram.specs.declared.explanation.Subject.{Subject}
-use Rattle.poolprogram.specs.declared.explanation.Subject.TheVariants.{Path, Number}
+use Rattle.poolprogram.specs.declared.explanation.Subject.TheVariants.{Replay, Path, Number}
 use Rattle.poolprogram.specs.declared.run_fault.RunFault.{RunFault}
 use Rattle.poolprogram.specs.declared.run_fault.RunFault.TheVariants as runs
 
+-- the turns are the same for any number of lanes, and so is the stop
+pub record AreSameTurns (asked : Turns) (until : Option Stop) (turns : Turns) (stop : Option Stop) : Type 0 where
+  pub entries : (lanes : ℕ) → entries_for lanes turns ≡ entries_for lanes asked
+  pub stop_is : stop ≡ until
+
+-- a task is a replay over these turns, up to the stop
+abbrev pub IsReplayOver : Task → Turns → Option Stop → Type 0
+IsReplayOver (tasks.Replay file asked until acts) turns stop = AreSameTurns asked until turns stop
+IsReplayOver (tasks.Schedule file asked until) turns stop = ⊥
+IsReplayOver (tasks.Shorten file asked until word) turns stop = ⊥
+IsReplayOver (tasks.Check file) turns stop = ⊥
+IsReplayOver (tasks.Run file) turns stop = ⊥
+IsReplayOver (tasks.Key number) turns stop = ⊥
+IsReplayOver (tasks.Word word) turns stop = ⊥
+
+-- a task is about the file at this path, and is no replay
+abbrev pub IsAboutFile : Task → List ℕ → Type 0
+IsAboutFile (tasks.Replay file turns stop acts) path = ⊥
+IsAboutFile (tasks.Schedule file turns stop) path = string_bytes file ≡ path
+IsAboutFile (tasks.Shorten file turns stop word) path = string_bytes file ≡ path
+IsAboutFile (tasks.Check file) path = string_bytes file ≡ path
+IsAboutFile (tasks.Run file) path = string_bytes file ≡ path
+IsAboutFile (tasks.Key number) path = ⊥
+IsAboutFile (tasks.Word word) path = ⊥
+
 -- the number that a task is about, where it is about one
 abbrev pub number_of_task : Task → Option ℕ
-number_of_task (Replay file turns stop acts) = None
-number_of_task (Check file) = None
-number_of_task (Run file) = None
-number_of_task (Key number) = Some number
-number_of_task (Word word) = Some word
+number_of_task (tasks.Replay file turns stop acts) = None
+number_of_task (tasks.Schedule file turns stop) = None
+number_of_task (tasks.Shorten file turns stop word) = None
+number_of_task (tasks.Check file) = None
+number_of_task (tasks.Run file) = None
+number_of_task (tasks.Key number) = Some number
+number_of_task (tasks.Word word) = Some word
 
--- a task is about this: the path of its file, or its number
+-- a task is about this: a replay, another file, or a number
 abbrev pub IsSubjectOf : Task → Subject → Type 0
-IsSubjectOf task (Path path) = path_of task ≡ Some (string_bytes path)
+IsSubjectOf task (Replay path turns stop) = (path_of task ≡ Some (string_bytes path)) × IsReplayOver task turns stop
+IsSubjectOf task (Path path) = IsAboutFile task (string_bytes path)
 IsSubjectOf task (Number number) = number_of_task task ≡ Some number
 
--- why a number is no key's
-abbrev pub no_key_text : ℕ → List ℕ
-no_key_text number = decimal number ++ codes " is no key: its generation, which is its bits 24 to 55, is 0\n"
+-- the text explains why a file wasn't read; it is empty for a task that is about none
+abbrev pub ExplainsUnread : Subject → Unreadable → List ℕ → Type 0
+ExplainsUnread (Replay path turns stop) why text = text ≡ file_line (string_bytes path) why
+ExplainsUnread (Path path) why text = text ≡ file_line (string_bytes path) why
+ExplainsUnread (Number number) why text = text ≡ []
 
--- that a file wasn't read
-abbrev pub file_text : Subject → List ℕ
-file_text (Path path) = shown_bytes (string_bytes path) ++ codes " can't be opened, or not read to its end\n"
-file_text (Number number) = []
+-- why a schedule isn't shortened
+abbrev pub shortening_told : Unshortened → List ℕ
+shortening_told shortenings.Fails = codes "the word of --until stands in no line of the replay, neither with --acts nor without"
+shortening_told shortenings.Limit = codes "100000000 entries were replayed, and more can perhaps be left out: cut the schedule before"
+shortening_told shortenings.Memory = codes "memory was refused"
 
--- the text explains why a script file is refused, with the value at the place, where there is one
-pub record ExplainsValue (file : List ℕ) (refusal : ScriptRefusal) (text : List ℕ) : Type 0 where
-  pub value : Option (List ℕ)
-  pub stands : IsValueAt file refusal.place value
-  pub is : text ≡ script_explanation refusal value
+-- the text explains a fault
+abbrev pub ExplainsFault : Subject → List ℕ → RunFault → List ℕ → Type 0
+ExplainsFault subject file (runs.Read refusal) text = ExplainsScript file refusal text
+ExplainsFault subject file (runs.Acts refusal) text = text ≡ acts_explanation file refusal
+ExplainsFault subject file (runs.File why) text = ExplainsUnread subject why text
+ExplainsFault subject file runs.Output text = text ≡ line_text (codes "standard output can't be written")
+ExplainsFault subject file (runs.Core fault) text = text ≡ line_text (codes "memory was refused")
+ExplainsFault subject file (runs.Shortening fault) text = text ≡ line_text (shortening_told fault)
+ExplainsFault subject file runs.Open text = text ≡ line_text (codes "memory was refused")
+ExplainsFault subject file runs.Memory text = text ≡ line_text (codes "memory was refused")
 
--- the same; where it isn't whole, with no value, whatever stands there
-abbrev pub ExplainsPlan : List ℕ → ScriptRefusal → Bool → List ℕ → Type 0
-ExplainsPlan file refusal true text = ExplainsValue file refusal text
-ExplainsPlan file refusal false text = text ≡ script_explanation refusal None
-
--- the text explains a fault; only of a script file it may not be whole
-abbrev pub ExplainsFault : Subject → List ℕ → RunFault → Bool → List ℕ → Type 0
-ExplainsFault subject file (runs.Read refusal) whole text = ExplainsPlan file refusal whole text
-ExplainsFault subject file (runs.Acts refusal) whole text = (whole ≡ true) × (text ≡ acts_explanation file refusal)
-ExplainsFault subject file (runs.Core fault) whole text = (whole ≡ true) × (text ≡ codes "memory was refused\n")
-ExplainsFault subject file runs.File whole text = (whole ≡ true) × (text ≡ file_text subject)
-ExplainsFault subject file runs.Output whole text = (whole ≡ true) × (text ≡ codes "standard output can't be written\n")
-ExplainsFault subject file runs.Open whole text = (whole ≡ true) × (text ≡ codes "memory was refused\n")
-ExplainsFault subject file runs.Memory whole text = (whole ≡ true) × (text ≡ codes "memory was refused\n")
-
--- the text explains how a task ended that is about this
-abbrev pub Explains : Subject → List ℕ → Result Bool RunFault → Bool → List ℕ → Type 0
-Explains subject file (Err fault) whole text = ExplainsFault subject file fault whole text
-Explains subject file (Ok true) whole text = (whole ≡ true) × (text ≡ [])
-Explains (Path path) file (Ok false) whole text = (whole ≡ true) × ExplainsCheck file text
-Explains (Number number) file (Ok false) whole text = (whole ≡ true) × (text ≡ no_key_text number)
+-- the text explains how a task ended that is about this; of a replay that was done it tells what that left undone
+abbrev pub Explains : Subject → List ℕ → Result Bool RunFault → List ℕ → Type 0
+Explains subject file (Err fault) text = ExplainsFault subject file fault text
+Explains (Replay path turns stop) file (Ok true) text = ExplainsHalf file turns stop text
+Explains (Path path) file (Ok true) text = text ≡ []
+Explains (Number number) file (Ok true) text = text ≡ []
+Explains (Replay path turns stop) file (Ok false) text = ExplainsCheck file text
+Explains (Path path) file (Ok false) text = ExplainsCheck file text
+Explains (Number number) file (Ok false) text = text ≡ no_key_line number

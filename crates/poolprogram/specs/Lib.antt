@@ -3,12 +3,12 @@ pub mod RunFaults
 pub mod Checks
 pub mod KeyTexts
 pub mod WordTexts
-pub mod Shown
-pub mod ScriptTexts
-pub mod ActsTexts
-pub mod Values
-pub mod Explanations
 pub mod Runs
 pub mod Turns
+pub mod Shortenings
+pub mod HalfRuns
+pub mod Explanations
 pub mod Tasks
+pub mod Reading
+pub mod Listings
 pub mod Program

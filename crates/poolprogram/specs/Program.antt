@@ -1,5 +1,5 @@
 -- How the program ends: its status, and what is written on the output and as errors.
-use Rattle.std.specs.Prelude.{◌≡◌, ◌≢◌, ◌⊎◌, ◌↔◌, ℕ, Bool, true, false, List, [], ◌++◌, Option, Some, None, Result, Ok, Err, IfOk, IfErr, IfSome, IsErrOf, String, codes}
+use Rattle.std.specs.Prelude.{◌≡◌, ◌≢◌, ◌⊎◌, ◌↔◌, ℕ, Bool, true, false, List, [], ◌++◌, Option, Some, None, Result, Ok, Err, IfOk, IfErr, IsErrOf, String, codes, string_bytes}
 use Rattle.std.specs.declared.alloc.AllocError.{AllocError}
 use Rattle.std.specs.declared.alloc.Global.{Global}
 use Rattle.std.specs.declared.io.Error.{Error}
@@ -8,26 +8,23 @@ use Rattle.streams.specs.Saying.{Says}
 use Rattle.streams.specs.declared.writer.Watched.{Watched}
 use Rattle.commandline.specs.Asking.{IsAsked}
 use Rattle.commandline.specs.Statuses.{EndsByWords}
-use Rattle.commandline.specs.Tasks.{path_of}
+use Rattle.commandline.specs.Tasks.{path_of, schedule_path_of, over}
 use Rattle.commandline.specs.declared.fault.TaskFault.{TaskFault}
 use Rattle.commandline.specs.declared.requests.Request.{Request}
 use Rattle.commandline.specs.declared.tasks.Task.{Task}
+use Rattle.commandline.specs.declared.tasks.Turns.{Turns}
 use Rattle.poolprogram.specs.Explanations.{IsSubjectOf, Explains}
-use Rattle.poolprogram.specs.Tasks.{WritesTask, RefusesTask, task_status, report_text}
+use Rattle.explanations.specs.Said.{IsLineOrNone}
+use Rattle.poolprogram.specs.Listings.{ListsTurns, IsUnlisted}
+use Rattle.poolprogram.specs.Reading.{IsFileOf, IsUnread}
+use Rattle.poolprogram.specs.Tasks.{WritesTask, RefusesTask, task_status, fault_line, report_text}
 use Rattle.poolprogram.specs.declared.explanation.Subject.{Subject}
+use Rattle.poolprogram.specs.declared.explanation.Subject.TheVariants.{Replay, Path, Number}
+use Rattle.poolprogram.specs.declared.listing.Unlisted.{Unlisted}
+use Rattle.poolprogram.specs.declared.listing.Unlisted.TheVariants.{Unread, Words}
 use Rattle.poolprogram.specs.declared.program.Ending.{Ending}
 use Rattle.poolprogram.specs.declared.run_fault.RunFault.{RunFault}
 use Rattle.poolprogram.specs.declared.run_fault.RunFault.TheVariants as runs
-
--- a task that is about the file at this path, or about none, was given these bytes: what is left of an input where it is named by a dash; of a file nothing more is said
-abbrev pub IsFileOf : Option (List ℕ) → Option (List ℕ) → List ℕ → Type 0
-IsFileOf None left file = file ≡ []
-IsFileOf (Some path) left file = path ≡ codes "-" → IfSome left (λ known. file ≡ known)
-
--- the file at this path wasn't read
-abbrev pub IsUnread : Option (List ℕ) → RunFault → Type 0
-IsUnread None fault = ⊥
-IsUnread (Some path) fault = (fault ≡ runs.Memory) ⊎ (fault ≡ runs.File)
 
 -- a task was done on these bytes, or refused: nothing was written, but where the output failed
 pub record Does {O : Type 0} (contents : O → Option (List ℕ)) (task : Task) (file : List ℕ) (done : Result Bool RunFault) (old new : Watched O) : Type 0 where
@@ -52,9 +49,15 @@ pub record LacksFile {O : Type 0} (task : Task) (file : List ℕ) (done : Result
 abbrev pub DoesTask : {O : Type 0} → (O → Option (List ℕ)) → Option (List ℕ) → Task → List ℕ → Result Bool RunFault → Watched O → Watched O → Type 0
 DoesTask contents left task file done old new = DoesFile contents left task file done old new ⊎ LacksFile task file done old new
 
--- the text explains how a task ended that is about this; or it is empty, as memory was refused, and not all is explained
+-- the text, which is one line that can be printed, or empty, explains how a task ended that is about this
+pub record ExplainsEnd (subject : Subject) (file : List ℕ) (done : Result Bool RunFault) (explained : Bool) (text : List ℕ) : Type 0 where
+  pub all : explained ≡ true
+  pub explains : Explains subject file done text
+  pub safe : IsLineOrNone text
+
+-- it does; or it is empty, as memory was refused, and that is told
 abbrev pub IsWhy : Result Subject AllocError → List ℕ → Result Bool RunFault → Bool → List ℕ → Type 0
-IsWhy (Ok subject) file done explained text = Explains subject file done explained text ⊎ ((explained ≡ false) × (text ≡ []))
+IsWhy (Ok subject) file done explained text = ExplainsEnd subject file done explained text ⊎ ((explained ≡ false) × (text ≡ []))
 IsWhy (Err refused) file done explained text = (explained ≡ false) × (text ≡ [])
 
 -- such a text is said
@@ -92,10 +95,65 @@ pub record EndsTask {O E : Type 0} (contents : O → Option (List ℕ)) (errors 
   pub explains : ExplainsIf explain task file done ending.explained why
   pub says : Says errors before after (report_text done ++ why)
 
+-- what is explained is the file at this path
+abbrev pub IsSubjectAt : List ℕ → Subject → Type 0
+IsSubjectAt path (Path at) = string_bytes at ≡ path
+IsSubjectAt path (Replay at turns stop) = ⊥
+IsSubjectAt path (Number number) = ⊥
+
+-- the text explains why the file at this path wasn't read
+pub record IsWhyUnread (path : List ℕ) (fault : RunFault) (explained : Bool) (text : List ℕ) : Type 0 where
+  pub subject : Result Subject AllocError
+  pub about : IfOk subject (IsSubjectAt path)
+  pub is : IsWhy subject [] (Err fault) explained text
+
+-- it does, where that is wanted, and is empty where it isn't
+abbrev pub WhyUnread : Bool → List ℕ → RunFault → Bool → List ℕ → Type 0
+WhyUnread true path fault explained text = IsWhyUnread path fault explained text
+WhyUnread false path fault explained text = (explained ≡ true) × (text ≡ [])
+
+-- how the program ends where the file of turns at this path wasn't read: with the line of its fault, and where that is wanted why
+pub record EndsUnread {E : Type 0} (errors : E → Option (List ℕ)) (path : List ℕ) (fault : RunFault) (explain : Bool)
+    (before after : Watched E) (ending : Ending) : Type 0 where
+  pub status_is : ending.status ≡ 1
+  pub why : List ℕ
+  pub explains : WhyUnread explain path fault ending.explained why
+  pub says : Says errors before after (fault_line fault ++ why)
+
+-- how the program ends that has no turns
+abbrev pub EndsUnlisted : {O E : Type 0} → (E → Option (List ℕ)) → List ℕ → Unlisted → Bool → Watched O → Watched O → Watched E → Watched E → Ending → Type 0
+EndsUnlisted errors path (Unread fault) explain old new before after ending = (new ≡ old) × EndsUnread errors path fault explain before after ending
+EndsUnlisted errors path (Words fault) explain old new before after ending =
+    (ending.explained ≡ true) × EndsByWords errors fault explain old new before after ending.status
+
+-- how the program ends after a task whose turns are in the file at this path: they are read, and then it is done
+pub record EndsListed {O E : Type 0} (contents : O → Option (List ℕ)) (errors : E → Option (List ℕ)) (left : Option (List ℕ)) (path : List ℕ) (task : Task) (explain : Bool)
+    (old new : Watched O) (before after : Watched E) (ending : Ending) : Type 0 where
+  pub turns : Turns
+  pub reads : ListsTurns path left turns
+  -- what is left of the input is as before, unless the turns are in it
+  pub rest : Option (List ℕ)
+  pub keeps : path ≢ codes "-" → rest ≡ left
+  pub ends : EndsTask contents errors rest (over turns task) explain old new before after ending
+
+-- how the program ends where there are no turns in the file at this path
+pub record EndsWithout {O E : Type 0} (errors : E → Option (List ℕ)) (left : Option (List ℕ)) (path : List ℕ) (explain : Bool)
+    (old new : Watched O) (before after : Watched E) (ending : Ending) : Type 0 where
+  pub why : Unlisted
+  pub is : IsUnlisted path left why
+  pub ends : EndsUnlisted errors path why explain old new before after ending
+
+-- how the program ends after a task, by the path of the file that its turns are in
+abbrev pub EndsFor : {O E : Type 0} → (O → Option (List ℕ)) → (E → Option (List ℕ)) → Option (List ℕ) → Option (List ℕ) → Task → Bool
+    → Watched O → Watched O → Watched E → Watched E → Ending → Type 0
+EndsFor contents errors left None task explain old new before after ending = EndsTask contents errors left task explain old new before after ending
+EndsFor contents errors left (Some path) task explain old new before after ending =
+    EndsListed contents errors left path task explain old new before after ending ⊎ EndsWithout errors left path explain old new before after ending
+
 -- how the program ends, by what is asked for
 abbrev pub EndsRequest : {O E : Type 0} → (O → Option (List ℕ)) → (E → Option (List ℕ)) → Option (List ℕ) → Result Task TaskFault → Bool
     → Watched O → Watched O → Watched E → Watched E → Ending → Type 0
-EndsRequest contents errors left (Ok task) explain old new before after ending = EndsTask contents errors left task explain old new before after ending
+EndsRequest contents errors left (Ok task) explain old new before after ending = EndsFor contents errors left (schedule_path_of task) task explain old new before after ending
 EndsRequest contents errors left (Err fault) explain old new before after ending =
     (ending.explained ≡ true) × EndsByWords errors fault explain old new before after ending.status
 

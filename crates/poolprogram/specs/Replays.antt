@@ -65,8 +65,9 @@ abbrev pub IsCoreFault : RunFault → Type 0
 IsCoreFault (runs.Core fault) = Unit {0}
 IsCoreFault (runs.Read fault) = ⊥
 IsCoreFault (runs.Acts fault) = ⊥
+IsCoreFault (runs.Shortening fault) = ⊥
 IsCoreFault runs.Open = ⊥
-IsCoreFault runs.File = ⊥
+IsCoreFault (runs.File why) = ⊥
 IsCoreFault runs.Output = ⊥
 IsCoreFault runs.Memory = ⊥
 
@@ -76,8 +77,9 @@ RefusesReplayOf plan schedule (runs.Core fault) = Unit {0}
 RefusesReplayOf plan schedule runs.Memory = (trace : List Turn) × IsLawful plan.shape plan.scripts schedule trace
 RefusesReplayOf plan schedule (runs.Read fault) = ⊥
 RefusesReplayOf plan schedule (runs.Acts fault) = ⊥
+RefusesReplayOf plan schedule (runs.Shortening fault) = ⊥
 RefusesReplayOf plan schedule runs.Open = ⊥
-RefusesReplayOf plan schedule runs.File = ⊥
+RefusesReplayOf plan schedule (runs.File why) = ⊥
 RefusesReplayOf plan schedule runs.Output = ⊥
 
 -- the file is refused with this fault: as a script file; or the core was refused memory for the plan that it stands for; or memory was refused for the text of a trace
@@ -86,6 +88,7 @@ RefusesReplay file schedule (runs.Read refusal) = RefusesFile file refusal
 RefusesReplay file schedule (runs.Core fault) = HasPlan file
 RefusesReplay file schedule runs.Memory = HasReplay file schedule
 RefusesReplay file schedule (runs.Acts fault) = ⊥
+RefusesReplay file schedule (runs.Shortening fault) = ⊥
 RefusesReplay file schedule runs.Open = ⊥
-RefusesReplay file schedule runs.File = ⊥
+RefusesReplay file schedule (runs.File why) = ⊥
 RefusesReplay file schedule runs.Output = ⊥

@@ -94,5 +94,6 @@ RefusesRun file runs.Open = HasPlan file
 RefusesRun file runs.Memory = HasPlan file
 RefusesRun file (runs.Core fault) = ⊥
 RefusesRun file (runs.Acts fault) = ⊥
-RefusesRun file runs.File = ⊥
+RefusesRun file (runs.Shortening fault) = ⊥
+RefusesRun file (runs.File why) = ⊥
 RefusesRun file runs.Output = ⊥

@@ -1,9 +1,10 @@
 -- What a task of the command line writes, with what it is refused, and how the program ends after it.
-use Rattle.std.specs.Prelude.{◌≡◌, ℕ, Bool, true, false, List, [], ◌++◌, Option, Result, Ok, Err, decimal, codes}
+use Rattle.std.specs.Prelude.{◌≡◌, ℕ, Bool, true, false, List, [], ◌++◌, Option, Result, Ok, Err, decimal, codes, string_bytes}
 use Rattle.std.specs.Io.KnownBytes.{Appends}
 use Rattle.commandline.specs.declared.tasks.Task.{Task}
-use Rattle.commandline.specs.declared.tasks.Task.TheVariants.{Replay, Check, Run, Key, Word}
-use Rattle.poolprogram.specs.Turns.{WritesTurns, RefusesTurns}
+use Rattle.commandline.specs.declared.tasks.Task.TheVariants.{Replay, Schedule, Shorten, Check, Run, Key, Word}
+use Rattle.poolprogram.specs.Turns.{WritesTurns, WritesSchedule, RefusesTurns, RefusesListing}
+use Rattle.poolprogram.specs.Shortenings.{WritesShortest, RefusesShortest}
 use Rattle.poolprogram.specs.Checks.{WritesVerdict, RefusesActs}
 use Rattle.poolprogram.specs.Runs.{WritesRun, RefusesRun}
 use Rattle.poolprogram.specs.KeyTexts.{WritesKey}
@@ -12,9 +13,11 @@ use Rattle.poolprogram.specs.RunFaults.{run_fault_number, run_fault_name}
 use Rattle.poolprogram.specs.declared.run_fault.RunFault.{RunFault}
 use Rattle.poolprogram.specs.declared.run_fault.RunFault.TheVariants as runs
 
--- known bytes grow by what the task says of the bytes of its file, or of its number; and it is told whether all is well: a replay and a run are, acts where they are legal, a number where it is a key's, each lifecycle word
+-- known bytes grow by what the task says of the bytes of its file, or of its number; and it is told whether all is well: a replay, what is said of its schedule and a run are, acts where they are legal, a number where it is a key's, each lifecycle word
 abbrev pub WritesTask : Task → List ℕ → Bool → Option (List ℕ) → Option (List ℕ) → Type 0
 WritesTask (Replay path turns stop acts) file good old new = (good ≡ true) × WritesTurns file turns stop acts old new
+WritesTask (Schedule path turns stop) file good old new = (good ≡ true) × WritesSchedule file turns stop old new
+WritesTask (Shorten path turns stop until) file good old new = (good ≡ true) × WritesShortest file turns stop (string_bytes until) old new
 WritesTask (Check path) file good old new = WritesVerdict file good old new
 WritesTask (Run path) file good old new = (good ≡ true) × WritesRun file old new
 WritesTask (Key number) file good old new = WritesKey number good old new
@@ -23,6 +26,8 @@ WritesTask (Word word) file good old new = (good ≡ true) × Appends old new (w
 -- the task is refused with this fault: as that of its kind; for a number memory was refused
 abbrev pub RefusesTask : Task → List ℕ → RunFault → Type 0
 RefusesTask (Replay path turns stop acts) file fault = RefusesTurns file turns stop fault
+RefusesTask (Schedule path turns stop) file fault = RefusesListing file turns fault
+RefusesTask (Shorten path turns stop until) file fault = RefusesShortest file turns stop (string_bytes until) fault
 RefusesTask (Check path) file fault = RefusesActs file fault
 RefusesTask (Run path) file fault = RefusesRun file fault
 RefusesTask (Key number) file fault = fault ≡ runs.Memory

@@ -1,38 +1,70 @@
 //! Why a task ended as it did, in words.
-ghost use Rattle.std.specs.Prelude.{◌≡◌, true, IfOk, string_bytes};
-ghost use Rattle.poolprogram.specs.Explanations.{IsSubjectOf, no_key_text, file_text, ExplainsPlan, ExplainsFault, Explains};
+ghost use Rattle.std.specs.Prelude.{◌≡◌, ℕ, IfOk, codes, string_bytes};
+ghost use Rattle.streams.specs.Shown.{IsSafeLine, line_text};
+ghost use Rattle.explanations.specs.Said.{IsLineOrNone};
+ghost use Rattle.poolprogram.specs.Turns.{entries_for};
+ghost use Rattle.poolprogram.specs.Explanations.{IsSubjectOf, shortening_told, ExplainsUnread, ExplainsFault, Explains};
 
-use crate::explain_acts::{explain_acts, explain_check};
-use crate::explain_script::explain_script;
+use crate::half_run::explain_half_run;
 use crate::run_fault::RunFault;
-use crate::shown::push_shown;
-use crate::value::value_at;
-use commandline::Task;
-use scripts::ScriptRefusal;
+use commandline::{Stop, Task, Turns};
+use explanations::{explain_acts, explain_check, explain_file, explain_no_key, explain_script};
+use shortening::Unshortened;
 use std::alloc::{AllocError, Global};
+use streams::{Unreadable, line_of};
 
-/// What a task is about: the path of its file, or its number.
+/// What a task is about.
 #[derive(Drop)]
 pub enum Subject {
+    /// A replay of the file at this path over these turns, up to the stop.
+    Replay {
+        path: String,
+        turns: Turns,
+        stop: Option<Stop>,
+    },
+    /// The file at this path.
     Path(String),
+    /// A number.
     Number(u64),
 }
 
-/// Why a task ended as it did, in words.
-#[derive(Drop)]
-pub struct Explanation {
-    /// The line that says so; empty where all is well.
-    pub text: String,
-    /// Whether it shows all that there is to show: false where memory was refused for the value at a place, for which `it` stands.
-    pub whole: bool,
+/// The same turns once more.
+pub(crate) fn copy_turns(alloc: Global, turns: &Turns) -> Result<Turns, AllocError>
+    ensures { IfOk result (λ copy. (lanes : ℕ) → entries_for lanes copy ≡ entries_for lanes turns.now) }
+{
+    match turns {
+        Turns::Listed(entries) => Ok(Turns::Listed(Vec::from_slice(alloc, entries.as_slice())?)),
+        Turns::Drawn { seed, turns } => Ok(Turns::Drawn {
+            seed: *seed,
+            turns: *turns,
+        }),
+        Turns::InFile(path) => Ok(Turns::InFile(String::from_str(alloc, path.as_str())?)),
+    }
 }
 
-/// What a task is about. The error is want of memory for the path.
+/// What a task is about. The error is want of memory for the path or the turns.
 pub fn subject_of(alloc: Global, task: &Task) -> Result<Subject, AllocError>
     ensures { IfOk result (IsSubjectOf task.now) }
 {
     match task {
-        Task::Replay { file, .. } | Task::Check { file } | Task::Run { file } => {
+        Task::Replay {
+            file,
+            turns,
+            stop,
+            ..
+        } => {
+            let path = String::from_str(alloc, file.as_str())?;
+            let turns = copy_turns(alloc, turns)?;
+            Ok(Subject::Replay {
+                path,
+                turns,
+                stop: *stop,
+            })
+        }
+        Task::Schedule { file, .. }
+        | Task::Shorten { file, .. }
+        | Task::Check { file }
+        | Task::Run { file } => {
             let path = String::from_str(alloc, file.as_str())?;
             Ok(Subject::Path(path))
         }
@@ -41,51 +73,28 @@ pub fn subject_of(alloc: Global, task: &Task) -> Result<Subject, AllocError>
     }
 }
 
-/// The explanation that is this text.
-fn explained_by(alloc: Global, text: &str) -> Result<Explanation, AllocError>
-    ensures { IfOk result (λ why. (why.whole ≡ true) × (string_bytes why.text ≡ text.now)) }
+/// The line that explains why a file wasn't read; nothing of a task that is about none.
+fn explain_unread(alloc: Global, subject: &Subject, why: Unreadable) -> Result<String, AllocError>
+    ensures is { IfOk result (λ text. ExplainsUnread subject.now why (string_bytes text)) }
+    ensures safe { IfOk result (λ text. IsLineOrNone (string_bytes text)) }
 {
-    let text = String::from_str(alloc, text)?;
-    Ok(Explanation { text, whole: true })
-}
-
-/// The line that explains why a number is no key's.
-fn explain_no_key(alloc: Global, number: u64) -> Result<String, AllocError>
-    ensures { IfOk result (λ text. string_bytes text ≡ no_key_text number) }
-{
-    format!(in alloc; "{number} is no key: its generation, which is its bits 24 to 55, is 0\n")
-}
-
-/// The line that explains why a file wasn't read.
-fn explain_file(alloc: Global, subject: &Subject) -> Result<String, AllocError>
-    ensures { IfOk result (λ text. string_bytes text ≡ file_text subject.now) }
-{
-    let mut text = String::new(alloc);
-    if let Subject::Path(path) = subject {
-        push_shown(&mut text, path.as_bytes())?;
-        text.push_str(" can't be opened, or not read to its end\n")?;
+    match subject {
+        Subject::Replay { path, .. } => explain_file(alloc, path.as_str(), why),
+        Subject::Path(path) => explain_file(alloc, path.as_str(), why),
+        Subject::Number(_) => Ok(String::new(alloc)),
     }
-    Ok(text)
 }
 
-/// The line that explains why a script file is refused, with the value at the place. Where memory was refused for the value, `it`
-/// stands in its place.
-fn explain_plan(
-    alloc: Global,
-    file: &[u8],
-    refusal: &ScriptRefusal,
-) -> Result<Explanation, AllocError>
-    ensures { IfOk result (λ why. ExplainsPlan file.now refusal.now why.whole (string_bytes why.text)) }
+/// Why a schedule isn't shortened.
+fn why_not_shorter(fault: Unshortened) -> &'static [u8]
+    ensures { result.now ≡ shortening_told fault }
 {
-    match value_at(alloc, file, refusal.place) {
-        Ok(value) => {
-            let text = explain_script(alloc, refusal, &value)?;
-            Ok(Explanation { text, whole: true })
-        }
-        Err(_) => {
-            let text = explain_script(alloc, refusal, &None)?;
-            Ok(Explanation { text, whole: false })
-        }
+    match fault {
+        Unshortened::Fails =>
+            b"the word of --until stands in no line of the replay, neither with --acts nor without",
+        Unshortened::Limit =>
+            b"100000000 entries were replayed, and more can perhaps be left out: cut the schedule before",
+        Unshortened::Memory => b"memory was refused",
     }
 }
 
@@ -95,47 +104,41 @@ fn explain_fault(
     subject: &Subject,
     file: &[u8],
     fault: &RunFault,
-) -> Result<Explanation, AllocError>
-    ensures { IfOk result (λ why. ExplainsFault subject.now file.now fault.now why.whole (string_bytes why.text)) }
+) -> Result<String, AllocError>
+    ensures is { IfOk result (λ text. ExplainsFault subject.now file.now fault.now (string_bytes text)) }
+    ensures safe { IfOk result (λ text. IsLineOrNone (string_bytes text)) }
 {
     match fault {
-        RunFault::Read(refusal) => explain_plan(alloc, file, refusal),
-        RunFault::Acts(refusal) => {
-            let text = explain_acts(alloc, file, refusal)?;
-            Ok(Explanation { text, whole: true })
-        }
-        RunFault::File => {
-            let text = explain_file(alloc, subject)?;
-            Ok(Explanation { text, whole: true })
-        }
-        RunFault::Output => explained_by(alloc, "standard output can't be written\n"),
+        RunFault::Read(refusal) => explain_script(alloc, file, refusal),
+        RunFault::Acts(refusal) => explain_acts(alloc, file, refusal),
+        RunFault::File(why) => explain_unread(alloc, subject, *why),
+        RunFault::Output => line_of(alloc, b"standard output can't be written"),
+        RunFault::Shortening(fault) => line_of(alloc, why_not_shorter(*fault)),
         RunFault::Core(_) | RunFault::Open | RunFault::Memory => {
-            explained_by(alloc, "memory was refused\n")
+            line_of(alloc, b"memory was refused")
         }
     }
 }
 
-/// The line that explains how a task ended that is about this, on the bytes of its file: the place of the
-/// fault or of the first act that is refused, what stands there, and what is wanted. Empty where all is well. The error is want
-/// of memory.
+/// The line that explains how a task ended that is about this, on the bytes of its file: the place of the fault or of the first
+/// act that is refused, what stands there, and what is wanted; or what a replay left undone. Empty where all is well. The error is
+/// want of memory.
 pub fn explain(
     alloc: Global,
     subject: &Subject,
     file: &[u8],
     done: &Result<bool, RunFault>,
-) -> Result<Explanation, AllocError>
-    ensures { IfOk result (λ why. Explains subject.now file.now done.now why.whole (string_bytes why.text)) }
+) -> Result<String, AllocError>
+    ensures is { IfOk result (λ text. Explains subject.now file.now done.now (string_bytes text)) }
+    ensures safe { IfOk result (λ text. IsLineOrNone (string_bytes text)) }
 {
     match (done, subject) {
         (Err(fault), _) => explain_fault(alloc, subject, file, fault),
-        (Ok(true), _) => explained_by(alloc, ""),
-        (Ok(false), Subject::Path(_)) => {
-            let text = explain_check(alloc, file)?;
-            Ok(Explanation { text, whole: true })
+        (Ok(true), Subject::Replay { turns, stop, .. }) => {
+            explain_half_run(alloc, file, turns, *stop)
         }
-        (Ok(false), Subject::Number(number)) => {
-            let text = explain_no_key(alloc, *number)?;
-            Ok(Explanation { text, whole: true })
-        }
+        (Ok(true), _) => Ok(String::new(alloc)),
+        (Ok(false), Subject::Number(number)) => explain_no_key(alloc, *number),
+        (Ok(false), _) => explain_check(alloc, file),
     }
 }

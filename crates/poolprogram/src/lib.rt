@@ -4,30 +4,30 @@
 #![tactic(auto)]
 
 mod check;
-mod explain_acts;
-mod explain_script;
 mod explanation;
+mod half_run;
 mod key;
+mod listing;
 mod opening;
 mod program;
 mod replay;
 mod run;
 mod run_fault;
-mod shown;
+mod shortest;
 mod tasks;
 mod texts;
 mod turns;
-mod value;
 mod word;
 
 pub use check::check_text;
-pub use explanation::{Explanation, Subject, explain, subject_of};
+pub use explanation::{Subject, explain, subject_of};
 pub use key::key_text;
 pub use program::{Ending, run_program};
 pub use replay::{replay_plan, replay_text};
 pub use run::run_text;
 pub use run_fault::RunFault;
 pub use schedules::{read_schedule, stop_after};
+pub use shortest::shortest_text;
 pub use tasks::{do_task, status_of, write_report};
-pub use turns::{plan_turns, replay_turns};
+pub use turns::{plan_turns, replay_turns, schedule_text};
 pub use word::word_text;

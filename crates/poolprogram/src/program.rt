@@ -1,11 +1,13 @@
 //! The whole program over any input and writers: what the words ask for is done, and said on the output and as errors.
 ghost use Rattle.std.specs.Prelude.{◌≡◌, true, false, Ok, IfOk, IfErr};
 ghost use Rattle.streams.specs.Saying.{Says};
-ghost use Rattle.commandline.specs.Tasks.{path_of};
+ghost use Rattle.commandline.specs.Tasks.{path_of, schedule_path_of};
 ghost use Rattle.poolprogram.specs.Tasks.{task_status, report_text};
-ghost use Rattle.poolprogram.specs.Program.{IsFileOf, IsUnread, SaysWhy, SaysEnd, EndsTask, EndsProgram};
+ghost use Rattle.poolprogram.specs.Reading.{IsFileOf, IsUnread};
+ghost use Rattle.poolprogram.specs.Program.{SaysWhy, SaysEnd, EndsTask, EndsFor, EndsProgram};
 
 use crate::explanation::{Subject, explain, subject_of};
+use crate::listing::{end_unlisted, turns_at};
 use crate::run_fault::RunFault;
 use crate::tasks::{do_task, status_of, write_report};
 use commandline::{Request, Task, end_by_words, request_of_args};
@@ -53,7 +55,10 @@ fn end_task<E: Write>(done: &Result<bool, RunFault>, errors: &mut Watched<E>) ->
 }
 
 /// Ends a task of which nothing is explained.
-fn end_plainly<E: Write>(done: &Result<bool, RunFault>, errors: &mut Watched<E>) -> Ending
+pub(crate) fn end_plainly<E: Write>(
+    done: &Result<bool, RunFault>,
+    errors: &mut Watched<E>,
+) -> Ending
     ensures status { result.status ≡ task_status done.now }
     ensures explained { result.explained ≡ true }
     ensures says { Says E.contents errors.old errors.new (report_text done.now) }
@@ -77,8 +82,8 @@ fn write_explanation<E: Write>(
 {
     match explain(alloc, subject, file, done) {
         Ok(why) => {
-            write_text(why.text.as_bytes(), errors);
-            why.whole
+            write_text(why.as_bytes(), errors);
+            true
         }
         Err(_) => false,
     }
@@ -101,7 +106,7 @@ fn write_why<E: Write>(
 }
 
 /// Writes the line of a task's fault, where it has one, and behind it why the task ended as it did.
-fn end_and_explain<E: Write>(
+pub(crate) fn end_and_explain<E: Write>(
     alloc: Global,
     subject: &Result<Subject, AllocError>,
     file: &[u8],
@@ -157,8 +162,48 @@ fn run_task<R: Files + AllocGlobal + Threads + Wait + Sync, I: Read, O: Write, E
     }
 }
 
+/// Does a task, and writes the line of its fault, where it has one, and with `explain` behind it why.
+fn run_to_end<R: Files + AllocGlobal + Threads + Wait + Sync, I: Read, O: Write, E: Write>(
+    rt: &R,
+    task: Task,
+    explain: bool,
+    input: &mut I,
+    out: &mut Watched<O>,
+    errors: &mut Watched<E>,
+) -> Ending
+    requires { out.old.failed ≡ false }
+    ensures { EndsTask O.contents E.contents (I.remaining input.old) task explain out.old out.new errors.old errors.new result }
+{
+    if explain {
+        run_and_explain(rt, task, input, out, errors)
+    } else {
+        run_task(rt, task, input, out, errors)
+    }
+}
+
+/// Does a task, whose turns are read before where they are in a file.
+fn run_listed<R: Files + AllocGlobal + Threads + Wait + Sync, I: Read, O: Write, E: Write>(
+    rt: &R,
+    task: Task,
+    explain: bool,
+    input: &mut I,
+    out: &mut Watched<O>,
+    errors: &mut Watched<E>,
+) -> Ending
+    requires { out.old.failed ≡ false }
+    ensures { EndsFor O.contents E.contents (I.remaining input.old) (schedule_path_of task) task explain out.old out.new errors.old errors.new result }
+{
+    let Some(path) = task.schedule_path() else {
+        return run_to_end(rt, task, explain, input, out, errors);
+    };
+    match turns_at(rt, path, input) {
+        Ok(turns) => run_to_end(rt, task.over(turns), explain, input, out, errors),
+        Err(why) => end_unlisted(rt.alloc(), path, why, explain, out, errors),
+    }
+}
+
 /// Does what the words ask for, which are those that `env::args` answers. A task's file is read, or `input` where it is named
-/// `-`; what it says is written on `out`. The line of its fault is written on `errors`, and behind it, where that is wanted, why; or
+/// `-`, and before it that of its turns, where they are in one; what it says is written on `out`. The line of its fault is written on `errors`, and behind it, where that is wanted, why; or
 /// else why the words ask for nothing. The exit status is 0 where it is done and after help, 1 after a fault, an illegal act and
 /// where there is no key, and 2 after a mistake in the words. Workers run on the threads of `rt`.
 pub fn run_program<R: Files + AllocGlobal + Threads + Wait + Sync, I: Read, O: Write, E: Write>(
@@ -173,8 +218,7 @@ pub fn run_program<R: Files + AllocGlobal + Threads + Wait + Sync, I: Read, O: W
 {
     let Request { task, explain } = request_of_args(rt.alloc(), args);
     match task {
-        Ok(task) if explain => run_and_explain(rt, task, input, out, errors),
-        Ok(task) => run_task(rt, task, input, out, errors),
+        Ok(task) => run_listed(rt, task, explain, input, out, errors),
         Err(fault) => Ending {
             status: end_by_words(&fault, explain, out, errors),
             explained: true,

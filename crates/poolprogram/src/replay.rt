@@ -1,9 +1,8 @@
-ghost use Rattle.std.specs.Prelude.{◌≡◌, ◌≢◌, ◌↔◌, ◌++◌, true, false, length, IfOk, IfErr, OnOk, IsErrOf};
+ghost use Rattle.std.specs.Prelude.{◌≡◌, ◌≢◌, ◌↔◌, true, false, length, IfOk, IfErr, OnOk, IsErrOf};
 ghost use Rattle.keybits.specs.Shapes.{IsShape};
 ghost use Rattle.traces.specs.Lawful.{IsLawful};
 ghost use Rattle.seqpool.specs.ActsText.{IsTextOf};
 ghost use Rattle.traces.specs.Text.{trace_text};
-ghost use Rattle.traces.specs.Books.{act_list};
 ghost use Rattle.traces.specs.TurnLaws.{all_acts};
 ghost use Rattle.scripts.specs.Readings.{StandsFor};
 ghost use Rattle.poolprogram.specs.Replays.{IsText, IsCoreFault, IsReplayOf, RefusesReplayOf, WritesReplayOf, RefusesReplay, WritesReplay};
@@ -12,14 +11,15 @@ use crate::run_fault::RunFault;
 use coresteps::run;
 use keybits::Shape;
 use scripts::{Plan, parse};
-use seqpool::{Act, write_acts};
-use std::alloc::{AllocError, Global};
+use seqpool::write_acts;
+use shortening::acts_of;
+use std::alloc::Global;
 use std::io::Write;
 use streams::{Watched, write_and_flush};
-use traces::{Trace, Turn, write_trace};
+use traces::{Trace, write_trace};
 
 /// The trace of a plan over a schedule.
-fn run_plan(alloc: Global, plan: Plan, schedule: &[u32]) -> Result<Trace, RunFault>
+pub(crate) fn run_plan(alloc: Global, plan: Plan, schedule: &[u32]) -> Result<Trace, RunFault>
     requires shape { IsShape plan.shape }
     requires count { length plan.scripts ≡ plan.shape.lanes }
     ensures ok { IfOk result (λ trace. IsLawful plan.shape plan.scripts schedule.now trace) }
@@ -27,28 +27,6 @@ fn run_plan(alloc: Global, plan: Plan, schedule: &[u32]) -> Result<Trace, RunFau
 {
     let Plan { shape, scripts } = plan;
     run(alloc, shape, scripts.into_vec(), schedule).map_err(RunFault::Core)
-}
-
-/// Appends a turn's act once more, where it has one.
-fn push_act(alloc: Global, act: &Option<Act>, acts: &mut Vec<Act>) -> Result<(), AllocError>
-    ensures { OnOk result (acts.new.items ≡ acts.old.items ++ act_list act.now) }
-{
-    if let Some(act) = act {
-        let act = act.copy(alloc)?;
-        acts.push(act)?;
-    }
-    Ok(())
-}
-
-/// The acts of a trace, once more.
-fn acts_of(alloc: Global, turns: &[Turn]) -> Result<Vec<Act>, AllocError>
-    ensures { IfOk result (λ acts. acts.items ≡ all_acts turns.now) }
-{
-    let mut acts = Vec::new(alloc);
-    for turn in turns {
-        push_act(alloc, &turn.act, &mut acts)?;
-    }
-    Ok(acts)
 }
 
 /// The text of a shape and of a trace's acts.

@@ -4,8 +4,9 @@ ghost use Rattle.poolprogram.specs.declared.run_fault.RunFault.TheVariants as ru
 use coresteps::CoreFault;
 use scripts::ScriptRefusal;
 use seqpool::ActsRefusal;
+use shortening::Unshortened;
 use std::alloc::AllocError;
-use streams::{Unread, WriteFailed};
+use streams::{Unread, Unreadable, WriteFailed};
 use thiserror::Error;
 
 /// Why the program could not do what it was told.
@@ -22,12 +23,16 @@ pub enum RunFault {
     /// The core was refused memory (25).
     #[error(transparent)]
     Core(CoreFault),
+    /// A schedule wasn't shortened: the word stands nowhere in its replay (44), too much would have to be replayed (45) or memory was
+    /// refused to a replay (25).
+    #[error("the schedule isn't shortened")]
+    Shortening(Unshortened),
     /// The pool wasn't opened, as memory was refused (5).
     #[error("out of memory")]
     Open,
-    /// The file can't be opened or read to its end (41).
+    /// The file can't be opened or read to its end, for this reason (41).
     #[error("the file can't be read")]
-    File,
+    File(Unreadable),
     /// A write failed (42).
     #[error("the output can't be written")]
     Output,
@@ -48,8 +53,11 @@ impl RunFault {
             RunFault::Read(refusal) => refusal.fault.number(),
             RunFault::Acts(refusal) => refusal.fault.number(),
             RunFault::Core(_) => 25,
+            RunFault::Shortening(Unshortened::Fails) => 44,
+            RunFault::Shortening(Unshortened::Limit) => 45,
+            RunFault::Shortening(Unshortened::Memory) => 25,
             RunFault::Open => 5,
-            RunFault::File => 41,
+            RunFault::File(_) => 41,
             RunFault::Output => 42,
             RunFault::Memory => 43,
         }
@@ -63,8 +71,11 @@ impl RunFault {
             RunFault::Read(refusal) => refusal.fault.name(),
             RunFault::Acts(refusal) => refusal.fault.name(),
             RunFault::Core(_) => "Memory",
+            RunFault::Shortening(Unshortened::Fails) => "Absent",
+            RunFault::Shortening(Unshortened::Limit) => "Limit",
+            RunFault::Shortening(Unshortened::Memory) => "Memory",
             RunFault::Open => "Memory",
-            RunFault::File => "File",
+            RunFault::File(_) => "File",
             RunFault::Output => "Output",
             RunFault::Memory => "Memory",
         }
@@ -79,7 +90,7 @@ impl From<Unread> for RunFault {
     fn from(unread: Unread) -> RunFault {
         match unread {
             Unread::Memory => RunFault::Memory,
-            Unread::File => RunFault::File,
+            Unread::File(why) => RunFault::File(why),
         }
     }
 }

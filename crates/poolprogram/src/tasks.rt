@@ -7,7 +7,8 @@ use crate::check::check_text;
 use crate::key::key_text;
 use crate::run::run_text;
 use crate::run_fault::RunFault;
-use crate::turns::replay_turns;
+use crate::shortest::shortest_text;
+use crate::turns::{replay_turns, schedule_text};
 use crate::word::word_text;
 use commandline::Task;
 use itoa::Buffer;
@@ -17,7 +18,7 @@ use std::sync::Wait;
 use std::thread::Threads;
 use streams::{Watched, write_text};
 
-/// Does a task on the bytes of its file: a replay, a check, a run or what is said of a key or a word. The answer is
+/// Does a task on the bytes of its file: a replay, what is said of its schedule, a check, a run or what is said of a key or a word. The answer is
 /// false where acts are illegal or a number is no key's, and then this was said. The errors are those of
 /// the call for the task's kind, and all but `Output` come before the first byte.
 pub fn do_task<R: Threads + Wait + Sync, W: Write>(
@@ -42,6 +43,23 @@ pub fn do_task<R: Threads + Wait + Sync, W: Write>(
             acts,
         } => {
             replay_turns(alloc, file, turns, stop, acts, out)?;
+            Ok(true)
+        }
+        Task::Schedule {
+            file: _,
+            turns,
+            stop,
+        } => {
+            schedule_text(alloc, file, turns, stop, out)?;
+            Ok(true)
+        }
+        Task::Shorten {
+            file: _,
+            turns,
+            stop,
+            until,
+        } => {
+            shortest_text(alloc, file, turns, stop, until, out)?;
             Ok(true)
         }
         Task::Check { file: _ } => check_text(alloc, file, out),

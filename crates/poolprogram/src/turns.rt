@@ -1,34 +1,55 @@
-//! Replays over turns that are listed or drawn, up to a stop.
+//! Replays over turns that are listed or drawn, up to a stop, and their schedules.
 ghost use Rattle.std.specs.Prelude.{◌≡◌, ◌≢◌, ◌≤◌, ◌↔◌, true, false, length, IfOk, IfErr, OnOk, IsErrOf};
+ghost use Rattle.std.specs.Io.KnownBytes.{Appends};
 ghost use Rattle.keybits.specs.Shapes.{IsShape};
-ghost use Rattle.poolprogram.specs.Turns.{entries_for, IsUpTo, IsPlanned, WritesTurns, RefusesSchedule, RefusesTurns};
+ghost use Rattle.schedules.specs.Schedules.{schedule_line};
+ghost use Rattle.scripts.specs.ScriptPlaces.{out_of_memory};
+ghost use Rattle.poolprogram.specs.Turns.{AreKnown, entries_for, IsUpTo, IsPlanned, WritesTurns, WritesSchedule, RefusesEntries, RefusesSchedule, RefusesTurns, RefusesListing};
 
 use crate::replay::replay_plan;
 use crate::run_fault::RunFault;
 use commandline::{Stop, Turns};
-use schedules::{Memory, draw, stop_after};
+use schedules::{draw, push_schedule, stop_after};
 use scripts::{Plan, ScriptRefusal, parse};
 use std::alloc::Global;
 use std::io::Write;
-use streams::Watched;
+use streams::{Unreadable, Watched, write_and_flush};
 
-/// The entries of turns for so many lanes.
-fn list_entries(alloc: Global, lanes: u32, turns: Turns) -> Result<Vec<u32>, Memory>
+/// The fault of a want of memory for a schedule.
+fn out_of_memory() -> RunFault
+    ensures { result ≡ RunFault.Read out_of_memory }
+{
+    RunFault::Read(ScriptRefusal::out_of_memory())
+}
+
+/// The entries of turns for so many lanes. The errors: `Read` with `Memory`, and `File` where the turns are in a file, which isn't read.
+fn list_entries(alloc: Global, lanes: u32, turns: Turns) -> Result<Vec<u32>, RunFault>
     requires { 1 ≤ lanes }
-    ensures { IfOk result (λ entries. entries.items ≡ entries_for lanes turns) }
+    ensures ok { IfOk result (λ entries. AreKnown turns × (entries.items ≡ entries_for lanes turns)) }
+    ensures err { IfErr result (RefusesEntries turns) }
 {
     match turns {
         Turns::Listed(entries) => Ok(entries),
-        Turns::Drawn { seed, turns } => draw(alloc, seed, lanes, turns),
+        Turns::Drawn { seed, turns } => match draw(alloc, seed, lanes, turns) {
+            Ok(entries) => Ok(entries),
+            Err(_) => Err(out_of_memory()),
+        },
+        Turns::InFile(_) => Err(RunFault::File(Unreadable::Other)),
     }
 }
 
 /// The schedule of these entries, where there is a stop without those that come after it.
-fn cut(alloc: Global, entries: Vec<u32>, stop: Option<Stop>) -> Result<Vec<u32>, Memory>
-    ensures { IfOk result (λ schedule. IsUpTo stop entries.items schedule.items) }
+fn cut(alloc: Global, entries: Vec<u32>, stop: Option<Stop>) -> Result<Vec<u32>, RunFault>
+    ensures ok { IfOk result (λ schedule. IsUpTo stop entries.items schedule.items) }
+    ensures err { IfErr result (λ fault. fault ≡ RunFault.Read out_of_memory) }
 {
     match stop {
-        Some(Stop { lane, after }) => stop_after(alloc, entries.as_slice(), lane, after),
+        Some(Stop { lane, after }) => {
+            match stop_after(alloc, entries.as_slice(), lane, after) {
+                Ok(schedule) => Ok(schedule),
+                Err(_) => Err(out_of_memory()),
+            }
+        }
         None => Ok(entries),
     }
 }
@@ -39,9 +60,10 @@ fn schedule_of(
     lanes: u32,
     turns: Turns,
     stop: Option<Stop>,
-) -> Result<Vec<u32>, Memory>
+) -> Result<Vec<u32>, RunFault>
     requires { 1 ≤ lanes }
-    ensures { IfOk result (λ schedule. IsUpTo stop (entries_for lanes turns) schedule.items) }
+    ensures ok { IfOk result (λ schedule. AreKnown turns × IsUpTo stop (entries_for lanes turns) schedule.items) }
+    ensures err { IfErr result (RefusesEntries turns) }
 {
     let entries = list_entries(alloc, lanes, turns)?;
     cut(alloc, entries, stop)
@@ -49,7 +71,7 @@ fn schedule_of(
 
 /// The plan of a script file, and the schedule of turns for its lanes: those listed, or so many drawn from
 /// a seed; where there is a stop, without the entries of its lane that come after it. The errors: `Read` as
-/// `parse` answers it, and with `Memory` where it was refused for the schedule.
+/// `parse` answers it, and with `Memory` where it was refused for the schedule; `File` where the turns are in a file.
 pub fn plan_turns(
     alloc: Global,
     file: &[u8],
@@ -59,13 +81,59 @@ pub fn plan_turns(
     ensures ok { IfOk result (λ made. IsPlanned file.now turns stop made.0 made.1.items) }
     ensures shape { IfOk result (λ made. IsShape made.0.shape) }
     ensures count { IfOk result (λ made. length made.0.scripts ≡ made.0.shape.lanes) }
-    ensures err { IfErr result (RefusesSchedule file.now) }
+    ensures err { IfErr result (RefusesSchedule file.now turns) }
 {
     let plan = parse(alloc, file).map_err(RunFault::Read)?;
     match schedule_of(alloc, plan.shape.lanes, turns, stop) {
         Ok(schedule) => Ok((plan, schedule)),
-        Err(_) => Err(RunFault::Read(ScriptRefusal::out_of_memory())),
+        Err(fault) => Err(fault),
     }
+}
+
+/// The line of a schedule.
+fn line_of(alloc: Global, schedule: &[u32]) -> Result<Vec<u8>, RunFault>
+    ensures ok { IfOk result (λ line. line.items ≡ schedule_line schedule.now) }
+    ensures err { IfErr result (λ fault. fault ≡ RunFault.Memory) }
+{
+    let mut line = Vec::new(alloc);
+    push_schedule(schedule, &mut line)?;
+    Ok(line)
+}
+
+/// Writes the line of a schedule. The errors: `Memory` before the first byte, and `Output` exactly where `out` failed.
+pub(crate) fn write_line<W: Write>(
+    alloc: Global,
+    schedule: &[u32],
+    out: &mut Watched<W>,
+) -> Result<(), RunFault>
+    requires { out.old.failed ≡ false }
+    ensures ok { OnOk result (Appends (W.contents out.old.inner) (W.contents out.new.inner) (schedule_line schedule.now)) }
+    ensures output { IsErrOf result RunFault.Output ↔ (out.new.failed ≡ true) }
+    ensures refused { IfErr result (λ fault. fault ≢ RunFault.Output → (out.new ≡ out.old) × (fault ≡ RunFault.Memory)) }
+{
+    let line = line_of(alloc, schedule)?;
+    write_and_flush(line.as_slice(), out)?;
+    Ok(())
+}
+
+/// Writes the line of the schedule of turns for the lanes of a script file, up to a stop, which is that of `plan_turns`. The errors
+/// are those of `plan_turns`, `Memory` and `Output`.
+pub fn schedule_text<W: Write>(
+    alloc: Global,
+    file: &[u8],
+    turns: Turns,
+    stop: Option<Stop>,
+    out: &mut Watched<W>,
+) -> Result<(), RunFault>
+    requires { out.old.failed ≡ false }
+    ensures ok { OnOk result (WritesSchedule file.now turns stop
+        (W.contents out.old.inner) (W.contents out.new.inner)) }
+    ensures output { IsErrOf result RunFault.Output ↔ (out.new.failed ≡ true) }
+    ensures refused { IfErr result (λ fault. fault ≢ RunFault.Output
+        → (out.new ≡ out.old) × RefusesListing file.now turns fault) }
+{
+    let (_, schedule) = plan_turns(alloc, file, turns, stop)?;
+    write_line(alloc, schedule.as_slice(), out)
 }
 
 /// Replays a script file over turns, up to a stop, as `replay_plan` does the plan and the schedule of

@@ -2,36 +2,46 @@
 use Rattle.std.specs.Prelude.{ℕ, ◌-◌, Bool, true, false, List, [], ◌++◌, codes, decimal}
 use Rattle.streams.specs.declared.reading.Unread.{Unread}
 use Rattle.streams.specs.declared.reading.Unread.TheVariants as unread
+use Rattle.streams.specs.declared.reading.Unreadable.{Unreadable}
 use Rattle.traceviews.specs.Wants.{wanted_text}
-use Rattle.poolview.specs.Shown.{shown_bytes, line_at}
+use Rattle.streams.specs.Lines.{line_at}
+use Rattle.streams.specs.Reasons.{reason_text}
+use Rattle.streams.specs.Shown.{bytes_text, cut}
 use Rattle.poolview.specs.declared.fault.Fault.{Fault}
 use Rattle.poolview.specs.declared.fault.Fault.TheVariants as faults
 
 -- the fault of a file that wasn't read
 abbrev pub unread_fault : Unread → Fault
 unread_fault unread.Memory = faults.Memory
-unread_fault unread.File = faults.File
+unread_fault (unread.File why) = faults.File why
 
 -- the line of a fault; of a text that is no trace the number of its first line that is none, and what is wanted there
 abbrev pub fault_text : Fault → List ℕ
-fault_text faults.File = codes "fault 41 File\n"
+fault_text (faults.File why) = codes "fault 41 File\n"
 fault_text faults.Output = codes "fault 42 Output\n"
 fault_text faults.Memory = codes "fault 43 Memory\n"
 fault_text (faults.Line number wanted) = codes "line " ++ decimal number ++ codes ": " ++ wanted_text wanted ++ codes " is wanted\n"
 
--- what stands in the line of this number, and that it is none
-abbrev pub wrong_line_text : ℕ → List ℕ → List ℕ
-wrong_line_text number bytes =
-    codes "line " ++ decimal number ++ codes ": " ++ shown_bytes (line_at (number - 1) bytes)
-    ++ codes " is no line of a trace: LANE = REPLY, LANE KIND PLACE BEFORE AFTER, or LANE PUSH (or TAKE) SHARD.LANE BEFORE AFTER\n"
+-- what is told of the line of this number: what stands there, and that it is none
+abbrev pub wrong_line_told : ℕ → List ℕ → List ℕ
+wrong_line_told number bytes =
+    codes "line " ++ decimal number ++ codes ": \"" ++ cut (line_at (number - 1) bytes)
+    ++ codes "\" is no line of a trace: LANE = REPLY, LANE KIND PLACE BEFORE AFTER, or LANE PUSH (or TAKE) SHARD.LANE BEFORE AFTER"
 
--- why the file at this path isn't read
-abbrev pub wrong_file_text : List ℕ → List ℕ
-wrong_file_text path = shown_bytes path ++ codes " can't be opened, or not read to its end\n"
+-- why the file at this path isn't read, by the system's reason
+abbrev pub wrong_file_told : List ℕ → Unreadable → List ℕ
+wrong_file_told path why = codes "\"" ++ cut path ++ codes "\" can't be opened, or not read to its end: " ++ reason_text why
+
+-- the lines that show these
+abbrev pub wrong_line_text : ℕ → List ℕ → List ℕ
+wrong_line_text number bytes = bytes_text (wrong_line_told number bytes) ++ codes "\n"
+
+abbrev pub wrong_file_text : List ℕ → Unreadable → List ℕ
+wrong_file_text path why = bytes_text (wrong_file_told path why) ++ codes "\n"
 
 -- the explanation of a fault, by the path of the file and its bytes: where it is, and what stands there
 abbrev pub explanation_text : List ℕ → List ℕ → Fault → List ℕ
-explanation_text path bytes faults.File = wrong_file_text path
+explanation_text path bytes (faults.File why) = wrong_file_text path why
 explanation_text path bytes faults.Output = []
 explanation_text path bytes faults.Memory = []
 explanation_text path bytes (faults.Line number wanted) = wrong_line_text number bytes

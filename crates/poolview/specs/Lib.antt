@@ -1,4 +1,3 @@
-pub mod Shown
 pub mod Faults
 pub mod Shows
 pub mod Endings

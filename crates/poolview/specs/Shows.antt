@@ -32,7 +32,7 @@ pub record ShowsText (view : View) (bytes text : List ℕ) : Type 0 where
 abbrev pub RefusesText : List ℕ → Fault → Type 0
 RefusesText bytes (faults.Line number wanted) = IsFirstWrong number bytes
 RefusesText bytes faults.Memory = Unit {0}
-RefusesText bytes faults.File = ⊥
+RefusesText bytes (faults.File why) = ⊥
 RefusesText bytes faults.Output = ⊥
 
 -- the bytes were read of the file at this path: what is left of an input where it is named by a dash; of a file nothing more is said

@@ -6,14 +6,14 @@ ghost use Rattle.poolview.specs.declared.fault.Fault.TheVariants as faults;
 use itoa::Buffer;
 use std::alloc::AllocError;
 use std::io::Write;
-use streams::{Unread, Watched, WriteFailed, write_text};
+use streams::{Unread, Unreadable, Watched, WriteFailed, write_text};
 use traceviews::{ReadFault, Wanted};
 
 /// Why a trace isn't shown.
 #[derive(Clone, Copy)]
 pub(crate) enum Fault {
-    /// The file can't be opened or read to its end.
-    File,
+    /// The file can't be opened or read to its end, for this reason.
+    File(Unreadable),
     /// A write failed.
     Output,
     /// Memory was refused.
@@ -28,7 +28,7 @@ impl From<Unread> for Fault {
     fn from(unread: Unread) -> Fault {
         match unread {
             Unread::Memory => Fault::Memory,
-            Unread::File => Fault::File,
+            Unread::File(why) => Fault::File(why),
         }
     }
 }
@@ -65,7 +65,7 @@ pub(crate) fn write_fault<E: Write>(fault: Fault, errors: &mut Watched<E>)
     ensures { Says E.contents errors.old errors.new (fault_text fault) }
 {
     match fault {
-        Fault::File => write_text(b"fault 41 File\n", errors),
+        Fault::File(_) => write_text(b"fault 41 File\n", errors),
         Fault::Output => write_text(b"fault 42 Output\n", errors),
         Fault::Memory => write_text(b"fault 43 Memory\n", errors),
         Fault::Line { number, wanted } => write_line(number, wanted, errors),

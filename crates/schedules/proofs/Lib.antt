@@ -4,3 +4,4 @@ pub mod Entries
 pub mod Schedules
 pub mod Drawing
 pub mod Stopping
+pub mod Ends

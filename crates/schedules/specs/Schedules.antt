@@ -1,6 +1,6 @@
 -- The text of a schedule: one or more decimal numbers of one to three digits, at most 255, with single commas between. The text of a stop: a
 -- lane and a number of its entries, with a colon between.
-use Rattle.std.specs.Prelude.{ℕ, ◌+◌, List, [], ◌∷◌, Option, Some, None, is_some, if◌then◌else◌, option_map, option_and_then}
+use Rattle.std.specs.Prelude.{ℕ, ◌+◌, ◌==◌, List, [], ◌∷◌, ◌++◌, Option, Some, None, is_some, map, flat_map, if◌then◌else◌, option_map, option_and_then, decimal, codes}
 use Rattle.schedules.specs.Numbers.{number_of}
 use Rattle.schedules.specs.Parts.{parts_of}
 
@@ -35,3 +35,33 @@ stop_with parts = None
 -- the stop that a text stands for: the lane, and how many of its entries count
 abbrev pub stop_of : List ℕ → Option (ℕ × ℕ)
 stop_of text = stop_with (parts_of 58 text)
+
+-- ---- schedules in files
+
+-- a text without the line's end behind it, where it has one
+abbrev pub without_end : List ℕ → List ℕ
+without_end [] = []
+without_end (byte ∷ []) = if byte == 10 then [] else byte ∷ []
+without_end (byte ∷ next ∷ more) = byte ∷ without_end (next ∷ more)
+
+-- a comma in place of a line's end
+abbrev pub comma_for : ℕ → ℕ
+comma_for byte = if byte == 10 then 44 else byte
+
+-- the text of a file as that of a command line
+abbrev pub joined : List ℕ → List ℕ
+joined text = map comma_for (without_end text)
+
+-- the schedule of a file's text that was joined: no text is the schedule without entries
+abbrev pub joined_schedule : List ℕ → Option (List ℕ)
+joined_schedule [] = Some []
+joined_schedule (byte ∷ more) = schedule_of (byte ∷ more)
+
+-- entries, each with a comma before it
+abbrev pub further_entries : List ℕ → List ℕ
+further_entries entries = flat_map (λ entry. codes "," ++ decimal entry) entries
+
+-- the line of a schedule: its entries with commas between them
+abbrev pub schedule_line : List ℕ → List ℕ
+schedule_line [] = codes "\n"
+schedule_line (entry ∷ more) = decimal entry ++ further_entries more ++ codes "\n"

@@ -11,6 +11,7 @@ mod script_fault;
 mod script_place;
 mod script_refusal;
 
+pub use command_name::{CommandName, find_command};
 pub use plan::{Plan, Scripts};
 pub use reading::parse;
 pub use schedules::{Memory, draw, stop_after};

@@ -1,14 +1,16 @@
-//! What programs read and write: files and inputs that are read to their end, writers that remember whether a write failed, and
-//! how bytes are shown that aren't the programs' own.
+//! What programs read and write: files and inputs that are read to their end, writers that remember whether a write failed, lines,
+//! and how bytes are shown that aren't the programs' own.
 #![tactic(auto)]
 
+mod lines;
 mod reading;
 mod shown;
 mod write_failed;
 mod writer;
 mod writing;
 
-pub use reading::{Unread, load, load_input, read_path};
+pub use lines::{after_line, line_at};
+pub use reading::{Unread, Unreadable, load, load_input, read_path};
 pub use shown::{line_of, push_bytes, push_cut, push_shown, write_bytes, write_cut};
 pub use write_failed::WriteFailed;
 pub use writer::Watched;

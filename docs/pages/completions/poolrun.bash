@@ -3,14 +3,22 @@ _poolrun() {
     local word=${COMP_WORDS[COMP_CWORD]} before=${COMP_WORDS[COMP_CWORD-1]}
     COMPREPLY=()
     if [ "$COMP_CWORD" -eq 1 ]; then
-        mapfile -t COMPREPLY < <(compgen -W 'replay check run key --help --version' -- "$word")
+        mapfile -t COMPREPLY < <(compgen -W 'replay shorten check run key --help --version' -- "$word")
         return
     fi
     case ${COMP_WORDS[1]} in
     replay)
         case $before in --schedule | --seed | --turns | --stop) return ;; esac
         if [[ $word == -* ]]; then
-            mapfile -t COMPREPLY < <(compgen -W '--schedule --seed --turns --stop --acts --explain --help' -- "$word")
+            mapfile -t COMPREPLY < <(compgen -W '--schedule --seed --turns --stop --acts --print-schedule --explain --help' -- "$word")
+        else
+            mapfile -t COMPREPLY < <(compgen -f -- "$word")
+        fi
+        ;;
+    shorten)
+        case $before in --until | --schedule | --seed | --turns | --stop) return ;; esac
+        if [[ $word == -* ]]; then
+            mapfile -t COMPREPLY < <(compgen -W '--until --schedule --seed --turns --stop --explain --help' -- "$word")
         else
             mapfile -t COMPREPLY < <(compgen -f -- "$word")
         fi

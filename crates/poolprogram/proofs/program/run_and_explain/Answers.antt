@@ -1,6 +1,6 @@
 use Rattle.std.proofs.Common.{[], ℕ, List, Err, inl, inr, refl, sym, subst}
 use Rattle.commandline.specs.Tasks.{path_of}
-use Rattle.poolprogram.specs.Program.{IsFileOf}
+use Rattle.poolprogram.specs.Reading.{IsFileOf}
 use Rattle.poolprogram.proofs.program.run_and_explain.Goals as goal
 
 pub returns-in-Ok : goal.returns-in-Ok

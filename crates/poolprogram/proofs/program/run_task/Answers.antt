@@ -1,7 +1,7 @@
 use Rattle.std.proofs.Common.{[], ℕ, List, Err, inl, inr, append-nil, refl, sym, subst}
 use Rattle.streams.specs.Saying.{Says}
 use Rattle.commandline.specs.Tasks.{path_of}
-use Rattle.poolprogram.specs.Program.{IsFileOf}
+use Rattle.poolprogram.specs.Reading.{IsFileOf}
 use Rattle.poolprogram.specs.Tasks.{report_text}
 use Rattle.poolprogram.proofs.program.run_task.Goals as goal
 

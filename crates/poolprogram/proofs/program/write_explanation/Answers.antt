@@ -8,8 +8,8 @@ returns-in-Ok g c =
     let contents = g.E.Write.contents in
     let old = c.args.errors.now in
     let new = c.write_text.new.out in record {
-      why = string_bytes c.in-Ok.why.text;
-      is = inl c.in-Ok.ensures;
+      why = string_bytes c.in-Ok.why;
+      is = inl (record { all = refl; explains = c.in-Ok.ensures.is; safe = c.in-Ok.ensures.safe });
       says = subst (λ (text : List ℕ). Says contents old new text) c.as_bytes.ensures.value c.write_text.ensures;
     }
 

@@ -1,0 +1,13 @@
+use Rattle.std.proofs.Common.{◌∙◌}
+use Rattle.seqpool.specs.Rows.{pool_in}
+use Rattle.seqpool.proofs.HistoryLaws.{pool-more}
+use Rattle.explanations.proofs.reasons.pool_behind.Goals as goal
+
+pub loop-act-preserved : goal.loop-act-preserved
+loop-act-preserved c =
+    let done = c.in_default-apply.ensures {u = tt} in
+    record {
+      shape = done.shape ∙ c.loop-act.invariant.shape;
+      pool = pool-more c.args.shape c.loop-act.pool.shape (pool_in c.loop-act.pool) (pool_in c.apply.new.self) c.args.acts.now c.loop-act.act-index c.act-item.result c.loop-act-test.true c.act-item.is
+          c.loop-act.invariant.shape c.loop-act.invariant.pool done.pool;
+    }

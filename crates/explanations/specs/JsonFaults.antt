@@ -1,0 +1,104 @@
+-- Where bytes stop being a JSON text, and why, in words.
+use Rattle.std.specs.Prelude.{◌≡◌, ◌≤◌, ℕ, ◌==◌, ◌&&◌, ◌||◌, Bool, true, false, List, [], ◌∷◌, ◌++◌, length, take, drop, Option, Some, None, if◌then◌else◌, nat_eq, fold, decimal, codes}
+use Rattle.std.specs.List.{starts_with, list_all}
+use Rattle.streams.specs.Shown.{cut_text, line_text}
+use Rattle.explanations.specs.Places.{line_number, column_number}
+use Rattle.explanations.specs.declared.json_fault.Opened.{Opened}
+use Rattle.explanations.specs.declared.json_fault.Opened.TheVariants.{Nothing, Array, Object}
+use Rattle.explanations.specs.declared.json_fault.Halt.{Halt}
+use Rattle.explanations.specs.declared.json_fault.Halt.TheVariants.{Token, Large, Deep, NoText}
+
+-- a byte that JSON passes over
+abbrev pub is_space : ℕ → Bool
+is_space byte = (byte == 32) || ((byte == 9) || ((byte == 10) || (byte == 13)))
+
+-- the last byte that isn't passed over, behind one byte more
+abbrev pub last_with : Option ℕ → ℕ → Option ℕ
+last_with last byte = if is_space byte then last else Some byte
+
+-- the last of some bytes that isn't passed over
+abbrev pub last_of : List ℕ → Option ℕ
+last_of bytes = fold last_with None bytes
+
+-- the first of some bytes is this
+abbrev pub first_is : ℕ → List ℕ → Bool
+first_is byte [] = false
+first_is byte (first ∷ more) = first == byte
+
+-- it is a comma
+abbrev pub is_comma : Option ℕ → Bool
+is_comma None = false
+is_comma (Some last) = last == 44
+
+-- what may stand behind a value, by what is open: within a list a comma or its end
+abbrev pub wanted_behind : Opened → List ℕ
+wanted_behind Nothing = codes "the end of the file"
+wanted_behind Array = codes "a comma or ]"
+wanted_behind Object = codes "a comma or }"
+
+-- what may stand behind a comma
+abbrev pub wanted_next : Opened → List ℕ
+wanted_next Nothing = codes "the end of the file"
+wanted_next Array = codes "a value"
+wanted_next Object = codes "a name in quotes with a colon behind it"
+
+-- what may stand behind this byte, the last that isn't passed over, by what is open there
+unfoldable pub wanted_by : Opened → Option ℕ → List ℕ
+wanted_by opened None = codes "a value"
+wanted_by opened (Some last) =
+    if last == 44 then wanted_next opened else
+    (if last == 58 then codes "a value" else
+    (if last == 91 then codes "a value or ]" else
+    (if last == 123 then codes "a name in quotes with a colon behind it, or }" else wanted_behind opened)))
+
+-- a byte order mark stands in front
+abbrev pub has_mark : List ℕ → Bool
+has_mark rest = starts_with nat_eq rest (239 ∷ 187 ∷ 191 ∷ [])
+
+-- a comment stands in front, as other formats have it
+abbrev pub has_comment : List ℕ → Bool
+has_comment rest = starts_with nat_eq rest (codes "//") || (starts_with nat_eq rest (codes "/*") || starts_with nat_eq rest (codes "#"))
+
+-- a list or an object ends in front
+abbrev pub has_end : List ℕ → Bool
+has_end rest = first_is 93 rest || first_is 125 rest
+
+-- what stands in front, where this is wanted: nothing but what is passed over, or some bytes
+unfoldable pub found_told : List ℕ → List ℕ → List ℕ
+found_told rest wanted =
+    if list_all is_space rest then codes "the text ends where " ++ wanted ++ codes " is wanted" else codes "\"" ++ cut_text rest ++ codes "\" stands where " ++ wanted ++ codes " is wanted"
+
+-- what is wrong by its name: a mark, a comment, or a comma in front of an end
+unfoldable pub named_told : Option ℕ → List ℕ → Option (List ℕ)
+named_told last rest =
+    if has_mark rest then Some (codes "a byte order mark stands here, and JSON has none") else
+    (if has_comment rest then Some (codes "a comment stands here, and JSON has none") else
+    (if is_comma last && has_end rest then Some (codes "a comma stands before the end of a list or an object") else None))
+
+-- what is wrong, if it has no name: what stands there and what is wanted
+abbrev pub token_by : Option (List ℕ) → Opened → Option ℕ → List ℕ → List ℕ
+token_by (Some named) opened last rest = named
+token_by None opened last rest = found_told rest (wanted_by opened last)
+
+-- why a token is wrong
+abbrev pub token_told : Opened → Option ℕ → List ℕ → List ℕ
+token_told opened last rest = token_by (named_told last rest) opened last rest
+
+-- why a text ends being JSON at this place
+abbrev pub halt_told : Halt → ℕ → List ℕ → List ℕ
+halt_told (Token opened) at file = token_told opened (last_of (take at file)) (drop at file)
+halt_told Large at file = codes "the number is too large"
+halt_told Deep at file = codes "more than 127 lists and objects are in one another"
+halt_told NoText at file = codes "the bytes are no text in UTF-8"
+
+-- where bytes stop being a JSON text, and why
+abbrev pub json_told : Halt → ℕ → List ℕ → List ℕ
+json_told halt at file =
+    codes "the file, line " ++ decimal (line_number at file) ++ codes ", column " ++ decimal (column_number at file) ++ codes ": " ++ halt_told halt at file
+
+-- the text explains why bytes are no JSON text: it names some place of theirs, and why the text ends there
+pub record ExplainsJson (file text : List ℕ) : Type 0 where
+  pub at : ℕ
+  pub within : at ≤ length file
+  pub halt : Halt
+  pub is : text ≡ line_text (json_told halt at file)

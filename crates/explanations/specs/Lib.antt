@@ -1,0 +1,11 @@
+pub mod Said
+pub mod Found
+pub mod Wanted
+pub mod Places
+pub mod JsonFaults
+pub mod ScriptTexts
+pub mod ActsFields
+pub mod Reasons
+pub mod ActsTexts
+pub mod HalfRuns
+pub mod Plain

@@ -1,0 +1,120 @@
+-- Why an act isn't allowed: what of it is outside of the shape, or what would have been allowed in its place.
+use Rattle.std.specs.Prelude.{◌≡◌, ◌≢◌, ◌≤◌, ◌⊎◌, ◌==◌, ℕ, List, [], ◌++◌, length, if◌then◌else◌, Bool, true, false, Some, None, decimal, codes}
+use Rattle.keybits.specs.declared.shape.Shape.{Shape}
+use Rattle.keybits.specs.Keys.{place_of, tag_of}
+use Rattle.keybits.specs.Places.{shard_of}
+use Rattle.keybits.specs.Shapes.{is_place}
+use Rattle.seqpool.specs.ActsText.{hex}
+use Rattle.seqpool.specs.Pool.{Pool, Allowed, lane_of}
+use Rattle.seqpool.specs.declared.act.Act.{Act}
+use Rattle.seqpool.specs.declared.act.Act.TheVariants.{Publish, Get, Release, Clear, Reclaim, Home, Collect}
+use Rattle.seqpool.specs.declared.fault.ApplyFault.{ApplyFault}
+use Rattle.seqpool.specs.declared.fault.ApplyFault.TheVariants as faults
+use Rattle.streams.specs.Shown.{cut_text}
+use Rattle.explanations.specs.declared.reasons.Outside.{Outside}
+use Rattle.explanations.specs.declared.reasons.Outside.TheVariants.{NoLane, OtherPool, NoPlace, OwnShard}
+use Rattle.explanations.specs.declared.reasons.Due.{Due}
+use Rattle.explanations.specs.declared.reasons.Due.TheVariants.{NextKey, Found, Missing, Cleared, HeldBy, Unmarked, General}
+
+-- a key is outside of the shape: its tag is another than the shape's, or its place is none
+abbrev pub IsKeyOutside : Shape → ℕ → Outside → Type 0
+IsKeyOutside z key (OtherPool tag) = (tag ≡ z.tag) × (tag_of key ≢ z.tag)
+IsKeyOutside z key NoPlace = is_place z (place_of key) ≡ false
+IsKeyOutside z key reason = ⊥
+
+-- a place can't be returned: it is none of the shape, or of the lane's own shard
+abbrev pub IsPlaceOutside : Shape → ℕ → ℕ → Outside → Type 0
+IsPlaceOutside z lane place NoPlace = is_place z place ≡ false
+IsPlaceOutside z lane place OwnShard = shard_of place ≡ lane
+IsPlaceOutside z lane place reason = ⊥
+
+-- an act is outside of the shape: its lane is none of so many, or its key is, or its place
+abbrev pub IsOutside : Shape → Act → Outside → Type 0
+IsOutside z act (NoLane lanes) = (lanes ≡ z.lanes) × (z.lanes ≤ lane_of act)
+IsOutside z (Publish lane key content with_ref) reason = IsKeyOutside z key reason
+IsOutside z (Home lane place) reason = IsPlaceOutside z lane place reason
+IsOutside z act reason = ⊥
+
+-- what would have been allowed in place of a publish: one of this key
+abbrev pub IsPublishDue : Shape → Pool → ℕ → Due → Type 0
+IsPublishDue z pool lane (NextKey next) = Allowed z pool (Publish lane next [] false)
+IsPublishDue z pool lane General = Unit {0}
+IsPublishDue z pool lane due = ⊥
+
+-- in place of a get: one with this reply
+abbrev pub IsGetDue : Shape → Pool → ℕ → ℕ → Due → Type 0
+IsGetDue z pool lane key (Found content) = Allowed z pool (Get lane key (Some content))
+IsGetDue z pool lane key Missing = Allowed z pool (Get lane key None)
+IsGetDue z pool lane key General = Unit {0}
+IsGetDue z pool lane key due = ⊥
+
+-- in place of a clear: one with this reply
+abbrev pub IsClearDue : Shape → Pool → ℕ → ℕ → Due → Type 0
+IsClearDue z pool lane key (Cleared reply) = Allowed z pool (Clear lane key reply)
+IsClearDue z pool lane key General = Unit {0}
+IsClearDue z pool lane key due = ⊥
+
+-- in place of a reclaim: a release of the key by this lane, or a clear of it
+abbrev pub IsReclaimDue : Shape → Pool → ℕ → ℕ → Due → Type 0
+IsReclaimDue z pool lane key (HeldBy other) = Allowed z pool (Release other key)
+IsReclaimDue z pool lane key Unmarked = Allowed z pool (Clear lane key true)
+IsReclaimDue z pool lane key General = Unit {0}
+IsReclaimDue z pool lane key due = ⊥
+
+-- what would have been allowed in an act's place
+abbrev pub IsDue : Shape → Pool → Act → Due → Type 0
+IsDue z pool (Publish lane key content with_ref) due = IsPublishDue z pool lane due
+IsDue z pool (Get lane key reply) due = IsGetDue z pool lane key due
+IsDue z pool (Clear lane key reply) due = IsClearDue z pool lane key due
+IsDue z pool (Reclaim lane key) due = IsReclaimDue z pool lane key due
+IsDue z pool act due = due ≡ General
+
+-- ---- in words
+
+abbrev pub outside_text : Outside → List ℕ
+outside_text (NoLane lanes) = codes "the lane is none of the shape's, which are " ++ decimal lanes
+outside_text (OtherPool tag) = codes "the key is of another pool: the shape's tag is " ++ decimal tag
+outside_text NoPlace = codes "the place is none of the shape's"
+outside_text OwnShard = codes "the place is of the lane's own shard"
+
+-- why an act is refused, if no more is known
+abbrev pub general_text : ApplyFault → List ℕ
+general_text faults.NotWithLane = codes "the place isn't with the lane"
+general_text faults.WrongGeneration = codes "the key isn't the next of its place"
+general_text faults.WrongReply = codes "the reply isn't the pool's"
+general_text faults.NotHeld = codes "the lane has no reference to the key"
+general_text faults.StillHeld = codes "a lane still refers to the key"
+general_text faults.NotMarked = codes "the key isn't published"
+general_text faults.NotHome = codes "the places aren't returned ones of the lane's shard, or one stands twice"
+general_text faults.Memory = codes "memory was refused"
+
+-- that a get finds this content
+abbrev pub found_text : List ℕ → List ℕ
+found_text content = if length content == 0 then codes "the pool's reply is some -" else codes "the pool's reply is some " ++ cut_text (hex content)
+
+-- what would have been allowed, in words
+abbrev pub due_text : ApplyFault → Due → List ℕ
+due_text fault (NextKey next) = codes "the next key of the place is " ++ decimal next
+due_text fault (Found content) = found_text content
+due_text fault Missing = codes "the pool's reply is none"
+due_text fault (Cleared true) = codes "the pool's reply is true"
+due_text fault (Cleared false) = codes "the pool's reply is false"
+due_text fault (HeldBy lane) = codes "lane " ++ decimal lane ++ codes " still refers to the key"
+due_text fault Unmarked = codes "the key isn't cleared"
+due_text fault General = general_text fault
+
+-- the text says what of an act is outside of the shape
+pub record TellsOutside (z : Shape) (act : Act) (text : List ℕ) : Type 0 where
+  pub outside : Outside
+  pub is_outside : IsOutside z act outside
+  pub is : text ≡ outside_text outside
+
+-- the text says what would have been allowed in this pool in an act's place
+pub record TellsDue (z : Shape) (pool : Pool) (act : Act) (fault : ApplyFault) (text : List ℕ) : Type 0 where
+  pub due : Due
+  pub is_due : IsDue z pool act due
+  pub is : text ≡ due_text fault due
+
+-- the text says why an act has this fault
+abbrev pub TellsReason : Shape → Pool → Act → ApplyFault → List ℕ → Type 0
+TellsReason z pool act fault text = TellsOutside z act text ⊎ TellsDue z pool act fault text

@@ -1,0 +1,406 @@
+//! Why an act isn't allowed: what of it is outside of the shape, or what would have been allowed in its place.
+ghost use Rattle.std.specs.Prelude.{◌≡◌, ◌≤◌, true, false, None, IfOk, IfSome, string_bytes};
+ghost use Rattle.keybits.specs.Shapes.{IsShape};
+ghost use Rattle.seqpool.specs.Pool.{Allowed, pool_after};
+ghost use Rattle.seqpool.specs.declared.act.Act.TheVariants.{Release};
+ghost use Rattle.seqpool.specs.Rows.{pool_in};
+ghost use Rattle.seqpool.specs.ActsText.{hex};
+ghost use Rattle.explanations.specs.Reasons.{IsKeyOutside, IsPlaceOutside, IsOutside, IsPublishDue, IsGetDue, IsClearDue, IsReclaimDue, IsDue, outside_text, general_text, found_text, due_text, TellsReason};
+
+use crate::found::cut_of;
+use keybits::{GREATEST_PLACE, Key, Place, Shape, place_of, shard_of, tag_of};
+use seqpool::{Act, ApplyFault, Bytes, SeqPool, hex_pair};
+use std::alloc::{AllocError, Global};
+
+/// What of an act is outside of the shape.
+#[derive(Clone, Copy)]
+pub enum Outside {
+    /// Its lane is none of the shape's, which are so many.
+    NoLane(u32),
+    /// Its key has another tag than the shape's, which is this.
+    OtherPool(u32),
+    /// Its place is none of the shape's.
+    NoPlace,
+    /// It returns a place of its lane's own shard.
+    OwnShard,
+}
+
+/// What would have been allowed in place of an act.
+#[derive(Drop)]
+pub enum Due {
+    /// A publish of this key.
+    NextKey(u64),
+    /// A get that finds this content.
+    Found(Bytes),
+    /// A get that finds none.
+    Missing,
+    /// A clear with this reply.
+    Cleared(bool),
+    /// A release of the key by this lane, which comes before its reclaim.
+    HeldBy(u32),
+    /// A clear of the key, which comes before its reclaim.
+    Unmarked,
+    /// No more is known.
+    General,
+}
+
+/// What is outside of the shape of a key.
+fn key_outside(shape: &Shape, key: u64) -> Option<Outside>
+    ensures { IfSome result (IsKeyOutside shape.now key) }
+{
+    if u32::from(tag_of(key)) != shape.tag {
+        return Some(Outside::OtherPool(shape.tag));
+    }
+    if !shape.is_place(place_of(key)) {
+        return Some(Outside::NoPlace);
+    }
+    None
+}
+
+/// What is outside of the shape of a place that a lane returns.
+fn place_outside(shape: &Shape, lane: u32, place: u32) -> Option<Outside>
+    ensures { IfSome result (IsPlaceOutside shape.now lane place) }
+{
+    if !shape.is_place(place) {
+        return Some(Outside::NoPlace);
+    }
+    if shard_of(place) == lane {
+        return Some(Outside::OwnShard);
+    }
+    None
+}
+
+/// What of an act is outside of the shape.
+fn outside_of(shape: &Shape, act: &Act) -> Option<Outside>
+    ensures { IfSome result (IsOutside shape.now act.now) }
+{
+    if act.lane() >= shape.lanes {
+        return Some(Outside::NoLane(shape.lanes));
+    }
+    match act {
+        Act::Publish { key, .. } => key_outside(shape, *key),
+        Act::Home { lane, place } => place_outside(shape, *lane, *place),
+        _ => None,
+    }
+}
+
+/// Whether the pool allows an act, which is then made.
+fn allows(pool: &mut SeqPool, act: &Act) -> Result<bool, AllocError>
+    ensures yes { IfOk result (λ yes. yes ≡ true → Allowed pool.old.shape (pool_in pool.old) act.now) }
+    ensures no { IfOk result (λ yes. yes ≡ false → pool.new ≡ pool.old) }
+{
+    match pool.apply(act) {
+        Ok(()) => Ok(true),
+        Err(ApplyFault::Memory) => Err(AllocError),
+        Err(_) => Ok(false),
+    }
+}
+
+/// How many of some acts reclaim a key of a place.
+fn reclaims_of(history: &[Act], place: u32) -> u32 {
+    let mut count = 0u32;
+    for act in history {
+        if let Act::Reclaim { key, .. } = act {
+            if place_of(*key) == place {
+                count = count.saturating_add(1);
+            }
+        }
+    }
+    count
+}
+
+/// The next key of a place, by the acts so far, with a tag.
+fn next_key(history: &[Act], tag: u8, place: u32) -> u64
+    requires { place ≤ GREATEST_PLACE }
+{
+    let generation = reclaims_of(history, place).saturating_add(1);
+    match Key::pack_tagged(tag, Place::of_number(place), generation) {
+        Some(key) => key.number(),
+        None => 0,
+    }
+}
+
+/// What would have been allowed in place of a publish of a key.
+fn publish_due(
+    alloc: Global,
+    history: &[Act],
+    pool: &mut SeqPool,
+    lane: u32,
+    key: u64,
+) -> Result<Due, AllocError>
+    ensures { IfOk result (IsPublishDue pool.old.shape (pool_in pool.old) lane) }
+{
+    let next = next_key(history, tag_of(key), place_of(key));
+    let act = Act::Publish {
+        lane,
+        key: next,
+        content: Bytes::empty(alloc),
+        with_ref: false,
+    };
+    if allows(pool, &act)? {
+        return Ok(Due::NextKey(next));
+    }
+    Ok(Due::General)
+}
+
+/// The content of the last publish of a key.
+fn last_content(history: &[Act], key: u64) -> Option<&Bytes> {
+    for act in history.iter().rev() {
+        if let Act::Publish {
+            key: published,
+            content,
+            ..
+        } = act
+        {
+            if *published == key {
+                return Some(content);
+            }
+        }
+    }
+    None
+}
+
+/// What would have been allowed in place of a get: one that finds this content.
+fn found_due(
+    alloc: Global,
+    content: &Bytes,
+    pool: &mut SeqPool,
+    lane: u32,
+    key: u64,
+) -> Result<Due, AllocError>
+    ensures { IfOk result (IsGetDue pool.old.shape (pool_in pool.old) lane key) }
+{
+    let reply = content.copy(alloc)?;
+    let act = Act::Get {
+        lane,
+        key,
+        reply: Some(reply),
+    };
+    if allows(pool, &act)? {
+        return Ok(Due::Found(content.copy(alloc)?));
+    }
+    Ok(Due::General)
+}
+
+/// What would have been allowed in place of a get.
+fn get_due(
+    alloc: Global,
+    history: &[Act],
+    pool: &mut SeqPool,
+    lane: u32,
+    key: u64,
+) -> Result<Due, AllocError>
+    ensures { IfOk result (IsGetDue pool.old.shape (pool_in pool.old) lane key) }
+{
+    let act = Act::Get {
+        lane,
+        key,
+        reply: None,
+    };
+    if allows(pool, &act)? {
+        return Ok(Due::Missing);
+    }
+    match last_content(history, key) {
+        Some(content) => found_due(alloc, content, pool, lane, key),
+        None => Ok(Due::General),
+    }
+}
+
+/// What would have been allowed in place of a clear with this reply.
+fn clear_due(pool: &mut SeqPool, lane: u32, key: u64, reply: bool) -> Result<Due, AllocError>
+    ensures { IfOk result (IsClearDue pool.old.shape (pool_in pool.old) lane key) }
+{
+    let reply = !reply;
+    let act = Act::Clear { lane, key, reply };
+    if allows(pool, &act)? {
+        return Ok(Due::Cleared(reply));
+    }
+    Ok(Due::General)
+}
+
+/// The first lane that refers to a key, if one does.
+fn holder_of(pool: &mut SeqPool, lanes: u32, key: u64) -> Result<Option<u32>, AllocError>
+    ensures held { IfOk result (λ found. IfSome found (λ lane. Allowed pool.old.shape (pool_in pool.old) (Release lane key))) }
+    ensures none { IfOk result (λ found. found ≡ None → pool.new ≡ pool.old) }
+{
+    for lane in 0..lanes {
+        if allows(pool, &Act::Release { lane, key })? {
+            return Ok(Some(lane));
+        }
+    }
+    Ok(None)
+}
+
+/// What would have been allowed in place of a reclaim, or before it.
+fn reclaim_due(
+    pool: &mut SeqPool,
+    lanes: u32,
+    lane: u32,
+    key: u64,
+    fault: ApplyFault,
+) -> Result<Due, AllocError>
+    ensures { IfOk result (IsReclaimDue pool.old.shape (pool_in pool.old) lane key) }
+{
+    if let ApplyFault::StillHeld = fault {
+        return match holder_of(pool, lanes, key)? {
+            Some(holder) => Ok(Due::HeldBy(holder)),
+            None => Ok(Due::General),
+        };
+    }
+    let act = Act::Clear {
+        lane,
+        key,
+        reply: true,
+    };
+    if allows(pool, &act)? {
+        return Ok(Due::Unmarked);
+    }
+    Ok(Due::General)
+}
+
+/// What would have been allowed in an act's place, behind these acts.
+fn due_of(
+    alloc: Global,
+    lanes: u32,
+    history: &[Act],
+    pool: &mut SeqPool,
+    act: &Act,
+    fault: ApplyFault,
+) -> Result<Due, AllocError>
+    ensures { IfOk result (IsDue pool.old.shape (pool_in pool.old) act.now) }
+{
+    match act {
+        Act::Publish { lane, key, .. } => publish_due(alloc, history, pool, *lane, *key),
+        Act::Get { lane, key, .. } => get_due(alloc, history, pool, *lane, *key),
+        Act::Clear { lane, key, reply } => clear_due(pool, *lane, *key, *reply),
+        Act::Reclaim { lane, key } => reclaim_due(pool, lanes, *lane, *key, fault),
+        _ => Ok(Due::General),
+    }
+}
+
+/// What is outside of the shape, in words.
+fn outside_told(alloc: Global, outside: Outside) -> Result<String, AllocError>
+    ensures { IfOk result (λ text. string_bytes text ≡ outside_text outside) }
+{
+    match outside {
+        Outside::NoLane(lanes) => {
+            format!(in alloc; "the lane is none of the shape's, which are {lanes}")
+        }
+        Outside::OtherPool(tag) => {
+            format!(in alloc; "the key is of another pool: the shape's tag is {tag}")
+        }
+        Outside::NoPlace => String::from_str(alloc, "the place is none of the shape's"),
+        Outside::OwnShard => String::from_str(alloc, "the place is of the lane's own shard"),
+    }
+}
+
+/// Why an act is refused, if no more is known.
+fn general_text(fault: ApplyFault) -> &'static str
+    ensures { result.now ≡ general_text fault }
+{
+    match fault {
+        ApplyFault::NotWithLane => "the place isn't with the lane",
+        ApplyFault::WrongGeneration => "the key isn't the next of its place",
+        ApplyFault::WrongReply => "the reply isn't the pool's",
+        ApplyFault::NotHeld => "the lane has no reference to the key",
+        ApplyFault::StillHeld => "a lane still refers to the key",
+        ApplyFault::NotMarked => "the key isn't published",
+        ApplyFault::NotHome =>
+            "the places aren't returned ones of the lane's shard, or one stands twice",
+        ApplyFault::Memory => "memory was refused",
+    }
+}
+
+/// Some bytes as pairs of hexadecimal digits.
+fn hex_of(alloc: Global, bytes: &[u8]) -> Result<Vec<u8>, AllocError>
+    ensures { IfOk result (λ text. text.items ≡ hex bytes.now) }
+{
+    let mut text = Vec::new(alloc);
+    for byte in bytes {
+        text.extend_from_slice(&hex_pair(*byte))?;
+    }
+    Ok(text)
+}
+
+/// That a get finds this content.
+fn found_told(alloc: Global, content: &[u8]) -> Result<String, AllocError>
+    ensures { IfOk result (λ text. string_bytes text ≡ found_text content.now) }
+{
+    if content.is_empty() {
+        return String::from_str(alloc, "the pool's reply is some -");
+    }
+    let bytes = hex_of(alloc, content)?;
+    let shown = cut_of(alloc, bytes.as_slice())?;
+    format!(in alloc; "the pool's reply is some {shown}")
+}
+
+/// What would have been allowed, in words.
+fn due_told(alloc: Global, fault: ApplyFault, due: &Due) -> Result<String, AllocError>
+    ensures { IfOk result (λ text. string_bytes text ≡ due_text fault due.now) }
+{
+    match due {
+        Due::NextKey(next) => format!(in alloc; "the next key of the place is {next}"),
+        Due::Found(content) => found_told(alloc, content.as_slice()),
+        Due::Missing => String::from_str(alloc, "the pool's reply is none"),
+        Due::Cleared(true) => String::from_str(alloc, "the pool's reply is true"),
+        Due::Cleared(false) => String::from_str(alloc, "the pool's reply is false"),
+        Due::HeldBy(lane) => format!(in alloc; "lane {lane} still refers to the key"),
+        Due::Unmarked => String::from_str(alloc, "the key isn't cleared"),
+        Due::General => String::from_str(alloc, general_text(fault)),
+    }
+}
+
+/// The pool behind some acts that are legal. The error is want of memory.
+fn pool_behind(alloc: Global, shape: Shape, acts: &[Act]) -> Result<SeqPool, AllocError>
+    requires { IsShape shape }
+    ensures shape { IfOk result (λ pool. pool.shape ≡ shape) }
+    ensures pool { IfOk result (λ pool. pool_in pool ≡ pool_after shape acts.now) }
+{
+    let Ok(mut pool) = SeqPool::new(alloc, shape) else {
+        return Err(AllocError);
+    };
+    for act in acts {
+        if let Err(_) = pool.apply(act) {
+            return Err(AllocError);
+        }
+    }
+    Ok(pool)
+}
+
+/// What would have been allowed in place of an act behind these acts, in words.
+fn due_behind(
+    alloc: Global,
+    shape: Shape,
+    history: &[Act],
+    act: &Act,
+    fault: ApplyFault,
+) -> Result<String, AllocError>
+    requires { IsShape shape }
+    ensures { IfOk result (λ text. TellsReason shape (pool_after shape history.now) act.now fault (string_bytes text)) }
+{
+    let mut pool = pool_behind(alloc, shape, history)?;
+    let due = due_of(alloc, shape.lanes, history, &mut pool, act, fault)?;
+    due_told(alloc, fault, &due)
+}
+
+/// Why an act isn't allowed behind these acts, by its fault, in words: what is outside of the shape, or what would have been
+/// allowed. The error is want of memory.
+pub(crate) fn reason_told(
+    alloc: Global,
+    shape: Shape,
+    history: &[Act],
+    act: &Act,
+    fault: ApplyFault,
+) -> Result<String, AllocError>
+    requires { IsShape shape }
+    ensures { IfOk result (λ text. TellsReason shape (pool_after shape history.now) act.now fault (string_bytes text)) }
+{
+    let outside = match fault {
+        ApplyFault::NotWithLane => outside_of(&shape, act),
+        _ => None,
+    };
+    match outside {
+        Some(outside) => outside_told(alloc, outside),
+        None => due_behind(alloc, shape, history, act, fault),
+    }
+}

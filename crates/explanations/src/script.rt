@@ -1,0 +1,79 @@
+//! Why a script file is refused, in words.
+ghost use Rattle.std.specs.Prelude.{◌≡◌, IfOk, string_bytes};
+ghost use Rattle.json.specs.Tree.{HasNumbers};
+ghost use Rattle.json.specs.Value.{value_view};
+ghost use Rattle.streams.specs.Shown.{IsSafeLine};
+ghost use Rattle.explanations.specs.ScriptTexts.{script_told, HasValue, ExplainsValue, ExplainsScript};
+
+use crate::found::value_told;
+use crate::json_fault::explain_json;
+use crate::places::{begin_of, line_number, place_told};
+use crate::wanted::wanted_told;
+use json::{Error, Scratch, Value};
+use scripts::{ScriptFault, ScriptRefusal};
+use std::alloc::{AllocError, Global};
+use streams::line_of;
+
+/// The text that says of a refusal where it is, what stands there, and what is wanted: of a file with this value, in which what
+/// the place names begins in this line.
+fn script_told(
+    alloc: Global,
+    refusal: &ScriptRefusal,
+    whole: &Value<'_>,
+    number: u128,
+) -> Result<String, AllocError>
+    requires { HasNumbers (value_view whole.now) }
+    ensures { IfOk result (λ text. string_bytes text ≡ script_told refusal.now (value_view whole.now) number) }
+{
+    let place = place_told(alloc, number, refusal.place)?;
+    let found = value_told(alloc, whole, refusal.place)?;
+    let wanted = wanted_told(alloc, refusal, whole)?;
+    format!(in alloc; "{place}: {found} {wanted}")
+}
+
+/// The line that explains a refusal of a file with this value.
+fn explain_by(
+    alloc: Global,
+    file: &[u8],
+    refusal: &ScriptRefusal,
+    whole: &Value<'_>,
+) -> Result<String, AllocError>
+    requires numbers { HasNumbers (value_view whole.now) }
+    requires value { HasValue file.now (value_view whole.now) }
+    ensures is { IfOk result (λ text. ExplainsValue file.now refusal.now (string_bytes text)) }
+    ensures safe { IfOk result (λ text. IsSafeLine (string_bytes text)) }
+{
+    let begin = begin_of(alloc, file, refusal.place)?;
+    let told = script_told(alloc, refusal, whole, line_number(file, begin))?;
+    line_of(alloc, told.as_bytes())
+}
+
+/// The line that explains a refusal by the file's value.
+fn explain_value(alloc: Global, file: &[u8], refusal: &ScriptRefusal) -> Result<String, AllocError>
+    ensures is { IfOk result (λ text. ExplainsValue file.now refusal.now (string_bytes text)) }
+    ensures safe { IfOk result (λ text. IsSafeLine (string_bytes text)) }
+{
+    let mut scratch = Scratch::new(alloc);
+    match Value::from_slice(alloc, file, &mut scratch) {
+        Ok(whole) => explain_by(alloc, file, refusal, &whole),
+        Err(Error::Invalid) => explain_by(alloc, file, refusal, &Value::Null),
+        Err(_) => Err(AllocError),
+    }
+}
+
+/// The line that explains why a script file is refused: the place, for a line of a script with its line in the file; the value that
+/// stands there, with its numbers as they were typed, and cut where it is long; and what is wanted. Of bytes that are no JSON text,
+/// where they stop being one. The error is want of memory.
+pub fn explain_script(
+    alloc: Global,
+    file: &[u8],
+    refusal: &ScriptRefusal,
+) -> Result<String, AllocError>
+    ensures is { IfOk result (λ text. ExplainsScript file.now refusal.now (string_bytes text)) }
+    ensures safe { IfOk result (λ text. IsSafeLine (string_bytes text)) }
+{
+    match refusal.fault {
+        ScriptFault::NotJson => explain_json(alloc, file),
+        _ => explain_value(alloc, file, refusal),
+    }
+}

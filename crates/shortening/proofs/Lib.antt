@@ -1,0 +1,4 @@
+pub mod PartLemmas
+pub mod TrialLemmas
+pub mod WordLemmas
+pub mod ReplayLemmas

@@ -1,0 +1,4 @@
+pub mod Parts
+pub mod Shortest
+pub mod Words
+pub mod Replays

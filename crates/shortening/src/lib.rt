@@ -1,0 +1,18 @@
+//! Schedules with as few entries as still show a word in their replay.
+#![tactic(auto)]
+
+mod acts;
+mod copies;
+mod fault;
+mod printing;
+mod shorter;
+mod trial;
+mod word_trial;
+mod words;
+
+pub use acts::acts_of;
+pub use fault::Unshortened;
+pub use shorter::shorten;
+pub use trial::Trial;
+pub use word_trial::WordTrial;
+pub use words::stands_in;

@@ -1,0 +1,125 @@
+//! Schedules from which entries are left out for as long as they pass a trial: first halves, then quarters, and so on; last
+//! single entries, until none can go.
+ghost use Rattle.std.specs.Prelude.{◌≡◌, ◌+◌, ◌<◌, ◌≤◌, ℕ, length, Err, None, IfOk, IfErr, IfSome};
+ghost use Rattle.shortening.specs.Parts.{IsPart, without};
+ghost use Rattle.shortening.specs.Shortest.{IsShortest, IsSameTrial, GivesUp};
+
+use crate::fault::Unshortened;
+use crate::trial::Trial;
+use std::alloc::{AllocError, Global};
+
+/// A schedule without so many entries from this index on.
+fn without(alloc: Global, schedule: &[u32], at: usize, count: usize) -> Result<Vec<u32>, AllocError>
+    requires { at ≤ length schedule.now }
+    ensures { IfOk result (λ left. left.items ≡ without at count schedule.now) }
+{
+    let mut left = Vec::from_slice(alloc, &schedule[..at])?;
+    if count < schedule.len() - at {
+        left.extend_from_slice(&schedule[at + count..])?;
+    }
+    Ok(left)
+}
+
+/// Leaves so many entries at a time out of a schedule that passes, where the rest still passes, from the first entry on to the last.
+fn sweep<T: Trial>(
+    alloc: Global,
+    trial: &mut T,
+    schedule: Vec<u32>,
+    count: usize,
+) -> Result<Vec<u32>, Unshortened>
+    requires some { 1 ≤ count }
+    requires passed { T.passes trial.old schedule.items }
+    ensures ok { IfOk result (λ kept. IsPart kept.items schedule.items × T.passes trial.old kept.items) }
+    ensures err { IfErr result (GivesUp (T.is_spent trial.new)) }
+    ensures same { IsSameTrial (T.passes trial.old) (T.fails trial.old) (T.passes trial.new) (T.fails trial.new) }
+{
+    let mut kept = schedule;
+    let mut at = 0;
+    while at < kept.len() {
+        let left = without(alloc, kept.as_slice(), at, count)?;
+        if trial.is_passed(alloc, left.as_slice())? {
+            kept = left;
+        } else {
+            at = at.saturating_add(count);
+        }
+    }
+    Ok(kept)
+}
+
+/// Leaves halves, then quarters, and so on out of a schedule that passes, where the rest still passes; last single entries.
+fn narrow<T: Trial>(
+    alloc: Global,
+    trial: &mut T,
+    schedule: Vec<u32>,
+) -> Result<Vec<u32>, Unshortened>
+    requires passed { T.passes trial.old schedule.items }
+    ensures ok { IfOk result (λ kept. IsPart kept.items schedule.items × T.passes trial.old kept.items) }
+    ensures err { IfErr result (GivesUp (T.is_spent trial.new)) }
+    ensures same { IsSameTrial (T.passes trial.old) (T.fails trial.old) (T.passes trial.new) (T.fails trial.new) }
+{
+    let mut kept = schedule;
+    let mut count = kept.len() / 2;
+    while count > 0 {
+        kept = sweep(alloc, trial, kept, count)?;
+        count = count.min(kept.len()) / 2;
+    }
+    Ok(kept)
+}
+
+/// A schedule without the first entry that can go; none where each has to stay.
+fn without_one<T: Trial>(
+    alloc: Global,
+    trial: &mut T,
+    schedule: &[u32],
+) -> Result<Option<Vec<u32>>, Unshortened>
+    ensures some { IfOk result (λ found. IfSome found (λ left. IsPart left.items schedule.now × T.passes trial.old left.items
+        × (length left.items < length schedule.now))) }
+    ensures none { IfOk result (λ found. found ≡ None → (at : ℕ) → at < length schedule.now → T.fails trial.old (without at 1 schedule.now)) }
+    ensures err { IfErr result (GivesUp (T.is_spent trial.new)) }
+    ensures same { IsSameTrial (T.passes trial.old) (T.fails trial.old) (T.passes trial.new) (T.fails trial.new) }
+{
+    for at in 0..schedule.len() {
+        let left = without(alloc, schedule, at, 1)?;
+        if trial.is_passed(alloc, left.as_slice())? {
+            return Ok(Some(left));
+        }
+    }
+    Ok(None)
+}
+
+/// Leaves single entries out of a schedule that passes, until none can go.
+fn settle<T: Trial>(
+    alloc: Global,
+    trial: &mut T,
+    schedule: Vec<u32>,
+) -> Result<Vec<u32>, Unshortened>
+    requires passed { T.passes trial.old schedule.items }
+    ensures ok { IfOk result (λ short. IsShortest (T.passes trial.old) (T.fails trial.old) schedule.items short.items) }
+    ensures err { IfErr result (GivesUp (T.is_spent trial.new)) }
+    ensures same { IsSameTrial (T.passes trial.old) (T.fails trial.old) (T.passes trial.new) (T.fails trial.new) }
+{
+    let mut kept = schedule;
+    while let Some(left) = without_one(alloc, trial, kept.as_slice())? {
+        kept = left;
+    }
+    Ok(kept)
+}
+
+/// What is left of a schedule when entries are left out for as long as it passes the trial, so that it fails as soon as any one
+/// entry more is left out. Halves are tried first, then quarters, and so on, so that a long schedule takes few trials. The errors:
+/// `Fails` where the whole schedule fails; `Limit` where the trial may try no more; `Memory`.
+pub fn shorten<T: Trial>(
+    alloc: Global,
+    trial: &mut T,
+    schedule: Vec<u32>,
+) -> Result<Vec<u32>, Unshortened>
+    ensures ok { IfOk result (λ short. IsShortest (T.passes trial.old) (T.fails trial.old) schedule.items short.items) }
+    ensures fails { result ≡ Err Unshortened.Fails → T.fails trial.old schedule.items }
+    ensures limit { result ≡ Err Unshortened.Limit → T.is_spent trial.new }
+{
+    if !trial.is_passed(alloc, schedule.as_slice())? {
+        return Err(Unshortened::Fails);
+    }
+    let kept = narrow(alloc, trial, schedule)?;
+    settle(alloc, trial, kept)
+}

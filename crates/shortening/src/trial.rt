@@ -1,0 +1,25 @@
+//! What a schedule has to pass.
+ghost use Rattle.std.specs.Prelude.{ℕ, List, MatchBool, IfOk, IfErr};
+ghost use Rattle.shortening.specs.Shortest.{IsSameTrial, GivesUp};
+
+use crate::fault::Unshortened;
+use std::alloc::Global;
+
+/// A trial of schedules.
+pub trait Trial {
+    /// The schedules that it may pass.
+    ghost passes: { Self → List ℕ → Type 0 };
+
+    /// The schedules that it may fail.
+    ghost fails: { Self → List ℕ → Type 0 };
+
+    /// It may try no more.
+    ghost is_spent: { Self → Type 0 };
+
+    /// Whether a schedule passes. The errors: `Limit` where it may try no more, and `Memory`. What passes and what fails is the
+    /// same after each trial.
+    fn is_passed(&mut self, alloc: Global, schedule: &[u32]) -> Result<bool, Unshortened>
+        ensures ok { IfOk result (λ passed. MatchBool passed (passes self.old schedule.now) (fails self.old schedule.now)) }
+        ensures err { IfErr result (GivesUp (is_spent self.new)) }
+        ensures same { IsSameTrial (passes self.old) (fails self.old) (passes self.new) (fails self.new) };
+}

@@ -1,0 +1,25 @@
+-- Why a file or an input isn't read, by the kind of the system's error, and in words.
+use Rattle.std.specs.Prelude.{ℕ, List, codes}
+use Rattle.std.specs.declared.io.ErrorKind.{ErrorKind}
+use Rattle.std.specs.declared.io.ErrorKind.TheVariants as kinds
+use Rattle.streams.specs.declared.reading.Unread.{Unread}
+use Rattle.streams.specs.declared.reading.Unread.TheVariants.{Memory, File}
+use Rattle.streams.specs.declared.reading.Unreadable.{Unreadable}
+use Rattle.streams.specs.declared.reading.Unreadable.TheVariants.{Missing, Denied, Folder, NoFolder, Other}
+
+-- why it isn't read, by the kind of the error
+abbrev pub unread_by : ErrorKind → Unread
+unread_by kinds.OutOfMemory = Memory
+unread_by kinds.NotFound = File Missing
+unread_by kinds.PermissionDenied = File Denied
+unread_by kinds.IsADirectory = File Folder
+unread_by kinds.NotADirectory = File NoFolder
+unread_by kind = File Other
+
+-- the reason in words
+abbrev pub reason_text : Unreadable → List ℕ
+reason_text Missing = codes "there is no such file"
+reason_text Denied = codes "it may not be read"
+reason_text Folder = codes "it is a folder"
+reason_text NoFolder = codes "a part of its path is no folder"
+reason_text Other = codes "the system refuses it"
