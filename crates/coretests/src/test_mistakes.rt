@@ -502,7 +502,8 @@ fn explains_a_missing_file(rt: HostRuntime) {
     let fault = load(&rt, "nosuch.json").err().expect(&rt, "a fault");
     let task = task_of(&rt, "run|nosuch.json");
     let subject = subject_of(rt.alloc(), &task).expect(&rt, "memory for a path");
-    let said = "fault 41 File\n\"nosuch.json\" can't be opened, or not read to its end: there is no such file\n";
+    let said =
+        "fault 41 File\n\"nosuch.json\" can't be opened, or not read to its end: there is no such file\n";
     explains(&rt, &subject, "", &Err(RunFault::from(fault)), said);
 }
 
@@ -516,7 +517,8 @@ fn leaves_undone<R: Abort + AllocGlobal>(rt: &R, words: &str, said: &str) {
 // Two turns of lane 0 publish and get, one of lane 1 gets and reads; two entries are no lane's.
 #[test]
 fn tells_what_is_half_done(rt: HostRuntime) {
-    let said = "half done; entry 2 of the schedule is lane 3, which there isn't; such entries are 2; lane 0 did 5 of its 7 commands; lane 1 did 2 of its 4 commands; lane 2 did 0 of its 4 commands\n";
+    let said =
+        "half done; entry 2 of the schedule is lane 3, which there isn't; such entries are 2; lane 0 did 5 of its 7 commands; lane 1 did 2 of its 4 commands; lane 2 did 0 of its 4 commands\n";
     leaves_undone(&rt, "replay|a.json|--schedule|0,3,0,7,1", said);
     let whole = around(&rt, "replay|a.json|--schedule|0", ",1,2,0", 14, "");
     leaves_undone(&rt, whole.as_str(), "");
