@@ -12,6 +12,15 @@ close-requires g c =
       lanes = subst (λ (pool : PoolOf). AreLanes pool c.into_row.result.items) (same-pool opened.lanes.pool opened.pool opened.table opened.directory opened.shape) c.into_row.ensures.lanes;
     }
 
+pub returns-in-None-clause-closes : goal.returns-in-None-clause-closes
+returns-in-None-clause-closes g c =
+    let opened = c.args.self in (
+      c.into_row.result.items,
+      c.into_row.ensures.slots,
+      c.close.ensures.closes,
+      subst (λ (pool : PoolOf). AreLanes pool c.into_row.result.items) (same-pool opened.lanes.pool opened.pool opened.table opened.directory opened.shape) c.into_row.ensures.lanes,
+    )
+
 pub returns-in-Some-clause-all : goal.returns-in-Some-clause-all
 returns-in-Some-clause-all g c = λ here.
     let missing = c.in-Some.ensures.some in
