@@ -19,7 +19,7 @@ use anyhow::anyhow;
 use crossbeam_channel::bounded;
 use guards::{Missing, Opened, PoolName, open_lanes, run_lanes};
 use keybits::Shape;
-use poollaws::{close_law, end_law};
+use poollaws::close_law;
 use shardpool::Census;
 use std::alloc::Global;
 use std::marker::Brand;
@@ -41,7 +41,7 @@ const SHAPE: Shape = Shape {
 /// How many messages wait in the channel.
 const WAITING: usize = 4;
 
-/// Closes the log. Each entry that was published is cleared then, or present.
+/// Closes the log. Each entry that was published is cleared then, or counted as present.
 ///
 /// # Errors
 ///
@@ -50,7 +50,6 @@ pub fn close_log(opened: Opened<Entry>) -> Result<Census, Missing<Entry>>
     ensures settled { IfOk result (λ census. (lanes : List LaneOf) × (opened.lanes.slots ≡ map Some lanes) × IsSettled opened.pool lanes census) }
 {
     close_law();
-    end_law();
     opened.close()
 }
 

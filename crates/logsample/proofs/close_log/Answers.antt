@@ -10,7 +10,8 @@ returns c = record {
         record {
           closes = known.2;
           all = c.close_law.ensures.last c.args.opened.pool known.0 census known.2;
-          settled = λ key content is. (c.end_law.ensures c.args.opened.pool.shape known.2.history key content known.2.last.legal is).0;
+          settled = c.close_law.ensures.counted c.args.opened.pool known.0 census known.3 known.2;
+          none_left = c.close_law.ensures.none_left c.args.opened.pool known.0 census known.3 known.2;
         },
       )) c.close.ensures.closes;
 }
