@@ -1,13 +1,14 @@
 -- References that a lane takes and gives back.
-use Rattle.std.proofs.Common.{◌≡◌, ◌==◌, ℕ, zero, suc, ◌+◌, ◌-◌, ◌≤◌, Bool, true, false, cond, List, [], ◌∷◌, ◌++◌, Some, slice_get, refl, sym, ap, ◌∙◌, subst, arith, eqb-true, eq-eqb, length-append, append-nil}
+use Rattle.std.proofs.Common.{◌≡◌, ◌==◌, ℕ, zero, suc, ◌+◌, ◌-◌, ◌≤◌, Bool, true, false, cond, List, [], ◌∷◌, ◌++◌, Some, slice_get, refl, sym, ap, ◌∙◌, subst, arith, eqb-true, eq-eqb, length-append}
 use mathlib.Core.List.{IsPrefix}
 use Rattle.seqpool.specs.declared.act.Act.{Act}
-use Rattle.poolsteps.proofs.ViewLemmas.{prefix-trans}
 use Rattle.shardpool.specs.Tokens.{PoolOf, LaneOf, FillingOf}
 use Rattle.shardpool.specs.Lanes.{Owns, Made, SameLane, holds, refs}
 use Rattle.poollaws.specs.Words.{IsPublished, IsGone}
 use Rattle.poollaws.proofs.Ends.{stays-published, stays-cleared}
+use Rattle.guards.specs.Seated.{GoesOn}
 use Rattle.guards.specs.Several.{more_of, Lends, Returns}
+use Rattle.guards.proofs.Seating.{goes-further}
 
 -- ---- counts
 
@@ -57,21 +58,11 @@ same-two first second = cc (first, second)
 module _ {T : Type 0} {pool : PoolOf} where
   -- ---- what a lane has
 
-  pub lends-none : {lane : LaneOf} → Owns pool lane → Lends T pool [] lane lane
-  lends-none {lane} owns = record {
-    owns = owns;
-    same = (refl, refl, refl, refl);
-    seen = ([], append-nil lane.book.seen);
-    refs_are = omega arith;
-    held = λ key. refl;
-    fillings = λ filling made. made;
-  }
-
   pub lends-more : {ks ms : List ℕ} {old between new : LaneOf} → Lends T pool ks old between → Lends T pool ms between new → Lends T pool (ms ++ ks) old new
   lends-more {ks} {ms} {old} {between} {new} first then = record {
     owns = then.owns;
     same = (then.same.0 ∙ first.same.0, then.same.1 ∙ first.same.1, then.same.2 ∙ first.same.2, then.same.3 ∙ first.same.3);
-    seen = prefix-trans old.book.seen between.book.seen new.book.seen first.seen then.seen;
+    goes = goes-further {between = between} first.goes then.goes;
     refs_are = let one = first.refs_are in let other = then.refs_are in let long = length-append ms ks in omega (arith, one, other, long);
     held = λ key. then.held key ∙ (ap (more_of ms key) (first.held key) ∙ sym (more-append ms ks key (holds old key)));
     fillings = λ filling made. then.fillings filling (first.fillings filling made);
@@ -82,7 +73,7 @@ module _ {T : Type 0} {pool : PoolOf} where
   lends-back {ks} {old} {between} {new} first then = record {
     owns = then.owns;
     same = (then.same.0 ∙ first.same.0, then.same.1 ∙ first.same.1, then.same.2 ∙ first.same.2, then.same.3 ∙ first.same.3);
-    seen = prefix-trans old.book.seen between.book.seen new.book.seen first.seen then.seen;
+    goes = goes-further {between = between} first.goes then.goes;
     refs_are = let one = first.refs_are in let other = then.refs_were in omega (arith, one, other);
     held = λ key. more-same ks key (holds new key) (holds old key) (sym (then.held key) ∙ first.held key);
     fillings = λ filling made. then.fillings filling (first.fillings filling made);
@@ -97,7 +88,7 @@ module _ {T : Type 0} {pool : PoolOf} where
   returns-more {ks} {ms} {old} {between} {new} first then = record {
     owns = then.owns;
     same = (then.same.0 ∙ first.same.0, then.same.1 ∙ first.same.1, then.same.2 ∙ first.same.2, then.same.3 ∙ first.same.3);
-    seen = prefix-trans old.book.seen between.book.seen new.book.seen first.seen then.seen;
+    goes = goes-further {between = between} first.goes then.goes;
     refs_were = let one = first.refs_were in let other = then.refs_were in let long = length-append ms ks in omega (arith, one, other, long);
     held = λ key. first.held key ∙ (ap (more_of ms key) (then.held key) ∙ sym (more-append ms ks key (holds new key)));
     fillings = λ filling made. then.fillings filling (first.fillings filling made);
@@ -106,32 +97,32 @@ module _ {T : Type 0} {pool : PoolOf} where
   -- ---- one call
 
   -- a get that gave a reference
-  pub lends-one : {old new : LaneOf} (key : ℕ) → Owns pool new → SameLane old new → IsPrefix old.book.seen new.book.seen → refs new ≡ refs old + 1
+  pub lends-one : {old new : LaneOf} (key : ℕ) → Owns pool new → SameLane old new → GoesOn old new → refs new ≡ refs old + 1
       → ((k : ℕ) → holds new k ≡ cond (key == k) (holds old k + 1) (holds old k)) → ((filling : FillingOf T) → Made old filling → Made new filling) → Lends T pool (key ∷ []) old new
-  lends-one key owns same seen more held fillings = record { owns = owns; same = same; seen = seen; refs_are = more; held = held; fillings = fillings }
+  lends-one key owns same goes more held fillings = record { owns = owns; same = same; goes = goes; refs_are = more; held = held; fillings = fillings }
 
   -- one that gave none
-  pub lends-missed : {old new : LaneOf} → Owns pool new → SameLane old new → IsPrefix old.book.seen new.book.seen → refs new ≡ refs old + 0
+  pub lends-missed : {old new : LaneOf} → Owns pool new → SameLane old new → GoesOn old new → refs new ≡ refs old + 0
       → ((k : ℕ) → holds new k ≡ holds old k) → ((filling : FillingOf T) → Made old filling → Made new filling) → Lends T pool [] old new
-  lends-missed owns same seen more held fillings = record { owns = owns; same = same; seen = seen; refs_are = more; held = held; fillings = fillings }
+  lends-missed owns same goes more held fillings = record { owns = owns; same = same; goes = goes; refs_are = more; held = held; fillings = fillings }
 
   -- a release
-  pub returns-one : {old new : LaneOf} (key : ℕ) → 1 ≤ holds old key → Owns pool new → SameLane old new → IsPrefix old.book.seen new.book.seen → refs new + 1 ≡ refs old
+  pub returns-one : {old new : LaneOf} (key : ℕ) → 1 ≤ holds old key → Owns pool new → SameLane old new → GoesOn old new → refs new + 1 ≡ refs old
       → ((k : ℕ) → holds new k ≡ cond (key == k) (holds old k - 1) (holds old k)) → ((filling : FillingOf T) → Made old filling → Made new filling) → Returns T pool (key ∷ []) old new
-  returns-one {old} {new} key some owns same seen less held fillings = record {
+  returns-one {old} {new} key some owns same goes less held fillings = record {
     owns = owns;
     same = same;
-    seen = seen;
+    goes = goes;
     refs_were = sym less;
     held = λ k. less-one (key == k) (holds old k) (holds new k) (λ is. subst (λ (n : ℕ). 1 ≤ holds old n) (eqb-true key k is) some) (held k);
     fillings = fillings;
   }
 
   -- a release of a reference to this key
-  pub returns-of : {old new : LaneOf} (key of : ℕ) → of ≡ key → 1 ≤ holds old of → Owns pool new → SameLane old new → IsPrefix old.book.seen new.book.seen → refs new + 1 ≡ refs old
+  pub returns-of : {old new : LaneOf} (key of : ℕ) → of ≡ key → 1 ≤ holds old of → Owns pool new → SameLane old new → GoesOn old new → refs new + 1 ≡ refs old
       → ((k : ℕ) → holds new k ≡ cond (of == k) (holds old k - 1) (holds old k)) → ((filling : FillingOf T) → Made old filling → Made new filling) → Returns T pool (key ∷ []) old new
-  returns-of {old} {new} key of is some owns same seen less held fillings =
-      subst (λ (k : ℕ). Returns T pool (k ∷ []) old new) is (returns-one of some owns same seen less held fillings)
+  returns-of {old} {new} key of is some owns same goes less held fillings =
+      subst (λ (k : ℕ). Returns T pool (k ∷ []) old new) is (returns-one of some owns same goes less held fillings)
 
   -- ---- references that are held
 

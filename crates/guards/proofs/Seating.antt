@@ -11,7 +11,7 @@ use Rattle.seqpool.specs.Pool.{IsLegal}
 use Rattle.seqpool.specs.Laws.{ContentLaw}
 use Rattle.poolsteps.proofs.ViewLemmas.{prefix-trans}
 use Rattle.shardpool.specs.declared.create.CreateFault.{CreateFault}
-use Rattle.shardpool.specs.Tokens.{LaneOf, FillingOf}
+use Rattle.shardpool.specs.Tokens.{LaneOf, FillingOf, RefOf}
 use Rattle.shardpool.specs.Lanes.{SeesOn, Did, Gets}
 use Rattle.shardpool.specs.Seen.{MissedSince, ClearedSince}
 use Rattle.shardpool.specs.Creates.{Gives, GivesNone}
@@ -48,6 +48,17 @@ module _ {R : Type 0} (key : ℕ) (old new : LaneOf) where
     | inl is ↦ looked answer (inside is)
     | inr not_one ↦ goes-nowhere (outside not_one).1
   ]
+
+got-goes : (key : ℕ) (old new : LaneOf) (answer : Option RefOf) → Gets key old new answer → GoesOn old new
+got-goes key old new None did = goes-on did.1.goes
+got-goes key old new (Some reference) did = goes-on did.3.goes
+
+-- a get
+pub get-goes : (z : Shape) (key : ℕ) (old new : LaneOf) (answer : Option RefOf) → (is_key z key ≡ false → IsNone answer × (new ≡ old)) → (is_key z key ≡ true → Gets key old new answer) → GoesOn old new
+get-goes z key old new answer outside inside = elim (cases_Bool (is_key z key)) [
+  | inl is ↦ got-goes key old new answer (inside is)
+  | inr not_one ↦ goes-nowhere (outside not_one).1
+]
 
 pub clear-goes : (z : Shape) (key : ℕ) (reply : Bool) (old new : LaneOf) → (is_key z key ≡ false → (reply ≡ false) × (new ≡ old))
     → (is_key z key ≡ true → (rest : List Act) × Did (Clear old.number key reply ∷ rest) old new) → GoesOn old new

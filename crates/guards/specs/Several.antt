@@ -1,12 +1,12 @@
 -- What the calls that lend several objects at once do with a lane.
 use Rattle.std.specs.Prelude.{◌≡◌, ◌==◌, ◌+◌, ℕ, List, [], ◌∷◌, length, Some, if◌then◌else◌}
-use mathlib.Core.List.{IsPrefix}
 use Rattle.keybits.specs.declared.shape.Shape.{Shape}
 use Rattle.seqpool.specs.declared.act.Act.{Act}
 use Rattle.seqpool.specs.declared.act.Act.TheVariants as acts
 use Rattle.steplaws.specs.Calls.Call.{Getting, Releasing}
 use Rattle.shardpool.specs.Tokens.{PoolOf, LaneOf, FillingOf, RefOf}
 use Rattle.shardpool.specs.Lanes.{Owns, Made, SameLane, Calls, Did, Gets, holds, refs}
+use Rattle.guards.specs.Seated.{GoesOn}
 
 -- a get that found the key: the lane made this call, and nothing more
 pub record Got (z : Shape) (key : ℕ) (old new : LaneOf) : Type 0 where
@@ -34,7 +34,7 @@ more_of (other ∷ more) key count = if other == key then more_of more key count
 pub record Lends (T : Type 0) (pool : PoolOf) (keys : List ℕ) (old new : LaneOf) : Type 0 where
   pub owns : Owns pool new
   pub same : SameLane old new
-  pub seen : IsPrefix old.book.seen new.book.seen
+  pub goes : GoesOn old new
   pub refs_are : refs new ≡ refs old + length keys
   pub held : (key : ℕ) → holds new key ≡ more_of keys key (holds old key)
   pub fillings : (filling : FillingOf T) → Made old filling → Made new filling
@@ -43,7 +43,7 @@ pub record Lends (T : Type 0) (pool : PoolOf) (keys : List ℕ) (old new : LaneO
 pub record Returns (T : Type 0) (pool : PoolOf) (keys : List ℕ) (old new : LaneOf) : Type 0 where
   pub owns : Owns pool new
   pub same : SameLane old new
-  pub seen : IsPrefix old.book.seen new.book.seen
+  pub goes : GoesOn old new
   pub refs_were : refs old ≡ refs new + length keys
   pub held : (key : ℕ) → holds old key ≡ more_of keys key (holds new key)
   pub fillings : (filling : FillingOf T) → Made old filling → Made new filling

@@ -1,5 +1,5 @@
 //! A lane together with its pool, for a thread that does its work with that lane alone.
-ghost use Rattle.std.specs.Prelude.{◌≡◌, ◌≢◌, ◌<◌, ◌≤◌, ℕ, List, [], ◌∷◌, true, false, None, MatchOption, IfOk, IsErr, IsErrOf, IfSome, IsNone, IsTrue};
+ghost use Rattle.std.specs.Prelude.{◌≡◌, ◌≢◌, ◌<◌, ◌≤◌, ℕ, List, [], ◌∷◌, true, false, None, MatchOption, IfOk, IsErr, IsErrOf, IfSome, IsSome, IsNone, IsTrue, Contains};
 ghost use Rattle.std.specs.Fn.{FnOnceReturnsAt};
 ghost use Rattle.keybits.specs.Keys.{is_key};
 ghost use Rattle.seqpool.specs.declared.act.Act.{Act};
@@ -13,11 +13,13 @@ ghost use Rattle.shardpool.specs.declared.create.CreateFault.TheVariants.{Full, 
 ghost use Rattle.poollaws.specs.Words.{IsPublished, IsCleared, IsGone};
 ghost use Rattle.poollaws.specs.Rooms.{KnowsRoom};
 ghost use Rattle.guards.specs.Guarded.{Uses};
+ghost use Rattle.guards.specs.Several.{UsesAll};
 ghost use Rattle.guards.specs.Seated.{GoesOn, IsNextOf, Puts, CreatesAtMost};
 
 use crate::closures::with;
 use crate::contents::Contents;
 use crate::named::PoolName;
+use crate::several::{with_four, with_three, with_two};
 use crate::told::Told;
 use poollaws::room_kept_law;
 use seqpool::once_law;
@@ -151,6 +153,59 @@ impl<'p, N: PoolName, T: Clear + Drop> Seat<'p, N, T> {
         self.lane.seen_law();
         once_law();
         answer
+    }
+
+    /// Looks at the objects of two keys at once. None, without a look, where one of them isn't published, or is cleared.
+    pub fn with_two<A, F: FnOnce(&T, &T) -> A>(&mut self, keys: (u64, u64), look: F) -> Option<A>
+        requires may { F.IsAlwaysCallable look }
+        ensures some { IfSome result (λ answer. (x : _) × (y : _) × F.post look x y answer
+            × IsPublished self.new.lane.book.seen keys.0 (T.content x.now)
+            × IsPublished self.new.lane.book.seen keys.1 (T.content y.now)) }
+        ensures uses { IsSome result → UsesAll N.pool.shape (keys.0 ∷ keys.1 ∷ []) self.old.lane self.new.lane }
+        ensures gone { IsNone result → (key : ℕ) × Contains (keys.0 ∷ keys.1 ∷ []) key × IsGone self.old.lane.book.seen self.new.lane.book.seen key }
+        ensures number { self.new.lane.number ≡ self.old.lane.number }
+        ensures goes { GoesOn self.old.lane self.new.lane }
+    {
+        with_two(self.pool, &mut self.lane, keys, look)
+    }
+
+    /// As `with_two`, with three keys.
+    pub fn with_three<A, F: FnOnce(&T, &T, &T) -> A>(
+        &mut self,
+        keys: (u64, u64, u64),
+        look: F,
+    ) -> Option<A>
+        requires may { F.IsAlwaysCallable look }
+        ensures some { IfSome result (λ answer. (x : _) × (y : _) × (z : _) × F.post look x y z answer
+            × IsPublished self.new.lane.book.seen keys.0 (T.content x.now)
+            × IsPublished self.new.lane.book.seen keys.1 (T.content y.now)
+            × IsPublished self.new.lane.book.seen keys.2 (T.content z.now)) }
+        ensures uses { IsSome result → UsesAll N.pool.shape (keys.0 ∷ keys.1 ∷ keys.2 ∷ []) self.old.lane self.new.lane }
+        ensures gone { IsNone result → (key : ℕ) × Contains (keys.0 ∷ keys.1 ∷ keys.2 ∷ []) key × IsGone self.old.lane.book.seen self.new.lane.book.seen key }
+        ensures number { self.new.lane.number ≡ self.old.lane.number }
+        ensures goes { GoesOn self.old.lane self.new.lane }
+    {
+        with_three(self.pool, &mut self.lane, keys, look)
+    }
+
+    /// As `with_two`, with four keys.
+    pub fn with_four<A, F: FnOnce(&T, &T, &T, &T) -> A>(
+        &mut self,
+        keys: (u64, u64, u64, u64),
+        look: F,
+    ) -> Option<A>
+        requires may { F.IsAlwaysCallable look }
+        ensures some { IfSome result (λ answer. (x : _) × (y : _) × (z : _) × (w : _) × F.post look x y z w answer
+            × IsPublished self.new.lane.book.seen keys.0 (T.content x.now)
+            × IsPublished self.new.lane.book.seen keys.1 (T.content y.now)
+            × IsPublished self.new.lane.book.seen keys.2 (T.content z.now)
+            × IsPublished self.new.lane.book.seen keys.3 (T.content w.now)) }
+        ensures uses { IsSome result → UsesAll N.pool.shape (keys.0 ∷ keys.1 ∷ keys.2 ∷ keys.3 ∷ []) self.old.lane self.new.lane }
+        ensures gone { IsNone result → (key : ℕ) × Contains (keys.0 ∷ keys.1 ∷ keys.2 ∷ keys.3 ∷ []) key × IsGone self.old.lane.book.seen self.new.lane.book.seen key }
+        ensures number { self.new.lane.number ≡ self.old.lane.number }
+        ensures goes { GoesOn self.old.lane self.new.lane }
+    {
+        with_four(self.pool, &mut self.lane, keys, look)
     }
 
     /// Clears a key: true where it is this call that marked it. After it the key is cleared, if it was published before.

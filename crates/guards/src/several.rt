@@ -1,10 +1,10 @@
 //! Calls of a pool that lend the objects of several keys at once to a closure.
 ghost use Rattle.std.specs.Prelude.{◌≡◌, ◌<◌, ◌≤◌, ◌+◌, ℕ, [], ◌∷◌, Contains, IsNone, IsSome, IfSome};
-ghost use mathlib.Core.List.{IsPrefix};
 ghost use Rattle.steplaws.specs.Facts.{most_references};
 ghost use Rattle.shardpool.specs.Tokens.{LaneOf, FillingOf};
 ghost use Rattle.shardpool.specs.Lanes.{Owns, Made, SameLane, holds, refs};
 ghost use Rattle.poollaws.specs.Words.{IsPublished, IsGone};
+ghost use Rattle.guards.specs.Seated.{GoesOn};
 ghost use Rattle.guards.specs.Several.{Got, Gave, UsesAll, more_of, Lends, Returns};
 
 use shardpool::{Lane, Pool, Ref};
@@ -61,7 +61,7 @@ pub fn with_two<T: Clear + Drop, R, F: FnOnce(&T, &T) -> R>(
         × IsPublished lane.new.book.seen keys.1 (T.content y.now)) }
     ensures uses { IsSome result → UsesAll pool.now.shape (keys.0 ∷ keys.1 ∷ []) lane.old lane.new }
     ensures gone { IsNone result → (key : ℕ) × Contains (keys.0 ∷ keys.1 ∷ []) key × IsGone lane.old.book.seen lane.new.book.seen key }
-    ensures seen { IsPrefix lane.old.book.seen lane.new.book.seen }
+    ensures goes { GoesOn lane.old lane.new }
     ensures refs { refs lane.new ≡ refs lane.old }
     ensures holds { (key : ℕ) → holds lane.new key ≡ holds lane.old key }
     ensures fillings { (filling : FillingOf T) → Made lane.old filling → Made lane.new filling }
@@ -90,7 +90,7 @@ pub fn with_three<T: Clear + Drop, R, F: FnOnce(&T, &T, &T) -> R>(
         × IsPublished lane.new.book.seen keys.2 (T.content z.now)) }
     ensures uses { IsSome result → UsesAll pool.now.shape (keys.0 ∷ keys.1 ∷ keys.2 ∷ []) lane.old lane.new }
     ensures gone { IsNone result → (key : ℕ) × Contains (keys.0 ∷ keys.1 ∷ keys.2 ∷ []) key × IsGone lane.old.book.seen lane.new.book.seen key }
-    ensures seen { IsPrefix lane.old.book.seen lane.new.book.seen }
+    ensures goes { GoesOn lane.old lane.new }
     ensures refs { refs lane.new ≡ refs lane.old }
     ensures holds { (key : ℕ) → holds lane.new key ≡ holds lane.old key }
     ensures fillings { (filling : FillingOf T) → Made lane.old filling → Made lane.new filling }
@@ -125,7 +125,7 @@ pub fn with_four<T: Clear + Drop, R, F: FnOnce(&T, &T, &T, &T) -> R>(
         × IsPublished lane.new.book.seen keys.3 (T.content w.now)) }
     ensures uses { IsSome result → UsesAll pool.now.shape (keys.0 ∷ keys.1 ∷ keys.2 ∷ keys.3 ∷ []) lane.old lane.new }
     ensures gone { IsNone result → (key : ℕ) × Contains (keys.0 ∷ keys.1 ∷ keys.2 ∷ keys.3 ∷ []) key × IsGone lane.old.book.seen lane.new.book.seen key }
-    ensures seen { IsPrefix lane.old.book.seen lane.new.book.seen }
+    ensures goes { GoesOn lane.old lane.new }
     ensures refs { refs lane.new ≡ refs lane.old }
     ensures holds { (key : ℕ) → holds lane.new key ≡ holds lane.old key }
     ensures fillings { (filling : FillingOf T) → Made lane.old filling → Made lane.new filling }

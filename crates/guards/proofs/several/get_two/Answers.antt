@@ -1,9 +1,10 @@
 -- What the gets gave, or gave back.
-use Rattle.std.proofs.Common.{ℕ, ◌≤◌, [], refl, sym, subst, arith}
+use Rattle.std.proofs.Common.{ℕ, Some, None, ◌≤◌, [], refl, sym, subst, arith}
 use Rattle.shardpool.specs.Lanes.{holds}
 use Rattle.shardpool.proofs.references.Holdings.{got-inside}
 use Rattle.poollaws.proofs.Ends.{missed-law}
 use Rattle.guards.proofs.Lending.{lends-more, lends-back, lends-one, lends-missed, returns-of, has-all, first-held, gone-around}
+use Rattle.guards.proofs.Seating.{get-goes, goes-on}
 use Rattle.guards.proofs.several.get_two.Goals as goal
 
 pub returns-in_err-one-clause-gone : goal.returns-in_err-one-clause-gone
@@ -13,6 +14,11 @@ returns-in_err-one-clause-gone g c = λ none. (
   missed-law c.args.first c.args.lane.now c.get.new.lane c.in_err-one.ensures.seen (c.in_err-one.ensures.missed refl),
 )
 
+pub returns-in_err-one-clause-none : goal.returns-in_err-one-clause-none
+returns-in_err-one-clause-none g c = λ none.
+    let missed = c.in_err-one.ensures in
+    lends-missed missed.owns missed.same (get-goes c.args.pool.now.shape c.args.first c.args.lane.now c.get.new.lane None missed.outside missed.gets) missed.refs (missed.no_more refl) missed.fillings
+
 -- ---- the second get found none
 
 pub returns-in_default-clause-none : goal.returns-in_default-clause-none
@@ -21,11 +27,11 @@ returns-in_default-clause-none g c = λ none.
     let second = c.in_default.ensures in
     let one = c.in_ok-one.one in
     let is = first.held.0 in
-    let lent = lends-one {pool = c.args.pool.now} {new = c.get.new.lane} c.args.first first.owns first.same first.seen first.refs (first.one_more refl) first.fillings in
-    let both = lends-more lent (lends-missed second.owns second.same second.seen second.refs (second.no_more refl) second.fillings) in
+    let lent = lends-one {pool = c.args.pool.now} {new = c.get.new.lane} c.args.first first.owns first.same (get-goes c.args.pool.now.shape c.args.first c.args.lane.now c.get.new.lane (Some c.in_ok-one.one) first.outside first.gets) first.refs (first.one_more refl) first.fillings in
+    let both = lends-more lent (lends-missed second.owns second.same (get-goes c.args.pool.now.shape c.args.second c.get.new.lane c.get-2.new.lane None second.outside second.gets) second.refs (second.no_more refl) second.fillings) in
     let some = first-held [] c.args.first (holds c.get-2.new.lane c.args.first) (has-all both c.args.first) in
     let gave = c.release.ensures in
-    lends-back both (returns-of c.args.first one.key is (subst (λ (k : ℕ). 1 ≤ holds c.get-2.new.lane k) (sym is) some) gave.owns gave.releases.1.same gave.seen gave.refs gave.one_less gave.fillings)
+    lends-back both (returns-of c.args.first one.key is (subst (λ (k : ℕ). 1 ≤ holds c.get-2.new.lane k) (sym is) some) gave.owns gave.releases.1.same (goes-on gave.releases.1.goes) gave.refs gave.one_less gave.fillings)
 
 pub returns-in_default-clause-gone : goal.returns-in_default-clause-gone
 returns-in_default-clause-gone g c = λ none. (
@@ -41,8 +47,8 @@ pub returns-clause-lends : goal.returns-clause-lends
 returns-clause-lends g c = λ some.
     let first = c.in_ok-one.ensures in
     let second = c.in-Some.ensures in
-    lends-more (lends-one {pool = c.args.pool.now} {new = c.get.new.lane} c.args.first first.owns first.same first.seen first.refs (first.one_more refl) first.fillings)
-    (lends-one c.args.second second.owns second.same second.seen second.refs (second.one_more refl) second.fillings)
+    lends-more (lends-one {pool = c.args.pool.now} {new = c.get.new.lane} c.args.first first.owns first.same (get-goes c.args.pool.now.shape c.args.first c.args.lane.now c.get.new.lane (Some c.in_ok-one.one) first.outside first.gets) first.refs (first.one_more refl) first.fillings)
+    (lends-one c.args.second second.owns second.same (get-goes c.args.pool.now.shape c.args.second c.get.new.lane c.get-2.new.lane (Some c.in-Some.other) second.outside second.gets) second.refs (second.one_more refl) second.fillings)
 
 pub returns-clause-got : goal.returns-clause-got
 returns-clause-got g c = λ some.

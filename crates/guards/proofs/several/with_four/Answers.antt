@@ -18,8 +18,8 @@ returns-in_default-clause-gone g c = λ none.
     let gone = c.in_default.ensures.gone refl in (
       gone.0,
       Contains-append_right (c.args.keys.0 ∷ c.args.keys.1 ∷ []) (c.args.keys.2 ∷ c.args.keys.3 ∷ []) gone.0 gone.1,
-      gone-around c.args.lane.now.book.seen c.get_two.new.lane.book.seen c.get_two-2.new.lane.book.seen c.release_two.new.lane.book.seen gone.0 (c.in_ok-one.ensures.lends refl).seen
-          c.release_two.ensures.returns.seen gone.2,
+      gone-around c.args.lane.now.book.seen c.get_two.new.lane.book.seen c.get_two-2.new.lane.book.seen c.release_two.new.lane.book.seen gone.0 (c.in_ok-one.ensures.lends refl).goes.seen
+          c.release_two.ensures.returns.goes.seen gone.2,
     )
 
 pub returns-in_default-clause-owns : goal.returns-in_default-clause-owns
@@ -32,10 +32,10 @@ returns-in_default-clause-same g c =
     let both = c.in_ok-one.ensures.both in
     (back-two c.args.keys.0 c.args.keys.1 c.in_ok-one.one.key c.in_ok-one.two.key both.0 both.1 (lends-more (c.in_ok-one.ensures.lends refl) (c.in_default.ensures.none refl)) c.release_two.ensures.returns).same
 
-pub returns-in_default-clause-seen : goal.returns-in_default-clause-seen
-returns-in_default-clause-seen g c =
+pub returns-in_default-clause-goes : goal.returns-in_default-clause-goes
+returns-in_default-clause-goes g c =
     let both = c.in_ok-one.ensures.both in
-    (back-two c.args.keys.0 c.args.keys.1 c.in_ok-one.one.key c.in_ok-one.two.key both.0 both.1 (lends-more (c.in_ok-one.ensures.lends refl) (c.in_default.ensures.none refl)) c.release_two.ensures.returns).seen
+    (back-two c.args.keys.0 c.args.keys.1 c.in_ok-one.one.key c.in_ok-one.two.key both.0 both.1 (lends-more (c.in_ok-one.ensures.lends refl) (c.in_default.ensures.none refl)) c.release_two.ensures.returns).goes
 
 pub returns-in_default-clause-holds : goal.returns-in_default-clause-holds
 returns-in_default-clause-holds g c =
@@ -78,7 +78,7 @@ returns-clause-some g c =
     let last = c.in-Some.ensures.both in
     let then = c.get_two-2.new.lane.book.seen in
     let new = c.release_two-3.new.lane.book.seen in
-    let seen = prefix-trans then c.release_two-2.new.lane.book.seen new c.release_two-2.ensures.returns.seen c.release_two-3.ensures.returns.seen in (
+    let seen = prefix-trans then c.release_two-2.new.lane.book.seen new c.release_two-2.ensures.returns.goes.seen c.release_two-3.ensures.returns.goes.seen in (
       c.read.result,
       c.read-2.result,
       c.read-3.result,
@@ -137,13 +137,13 @@ returns-clause-same g c =
     (lends-more (c.in_ok-one.ensures.lends refl) (back-two c.args.keys.2 c.args.keys.3 c.in-Some.three.key c.in-Some.four.key last.0 last.1 (c.in-Some.ensures.lends refl) c.release_two-2.ensures.returns))
     c.release_two-3.ensures.returns).same
 
-pub returns-clause-seen : goal.returns-clause-seen
-returns-clause-seen g c =
+pub returns-clause-goes : goal.returns-clause-goes
+returns-clause-goes g c =
     let both = c.in_ok-one.ensures.both in
     let last = c.in-Some.ensures.both in
     (back-two c.args.keys.0 c.args.keys.1 c.in_ok-one.one.key c.in_ok-one.two.key both.0 both.1
     (lends-more (c.in_ok-one.ensures.lends refl) (back-two c.args.keys.2 c.args.keys.3 c.in-Some.three.key c.in-Some.four.key last.0 last.1 (c.in-Some.ensures.lends refl) c.release_two-2.ensures.returns))
-    c.release_two-3.ensures.returns).seen
+    c.release_two-3.ensures.returns).goes
 
 pub returns-clause-holds : goal.returns-clause-holds
 returns-clause-holds g c =

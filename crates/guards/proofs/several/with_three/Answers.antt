@@ -1,10 +1,11 @@
 -- What was lent is given back, and was published.
-use Rattle.std.proofs.Common.{ℕ, refl, subst, arith}
+use Rattle.std.proofs.Common.{Some, None, ℕ, refl, subst, arith}
 use Rattle.poolsteps.proofs.ViewLemmas.{prefix-trans}
 use Rattle.shardpool.proofs.references.Holdings.{got-inside}
 use Rattle.poollaws.proofs.Ends.{missed-law}
 use Rattle.guards.specs.Several.{Gave}
 use Rattle.guards.proofs.Lending.{lends-more, lends-one, lends-missed, lends-back, returns-of, has-one, has-two, back-two, read-later, gone-around}
+use Rattle.guards.proofs.Seating.{get-goes, goes-on}
 use Rattle.guards.proofs.several.with_three.Goals as goal
 
 -- ---- the last get found none
@@ -14,14 +15,14 @@ release_two-requires-clause-held g c =
     let both = c.in_ok-one.ensures.both in
     let none = c.in_default.ensures in
     has-two c.args.keys.0 c.args.keys.1 c.in_ok-one.one.key c.in_ok-one.two.key both.0 both.1
-    (lends-more (c.in_ok-one.ensures.lends refl) (lends-missed none.owns none.same none.seen none.refs (none.no_more refl) none.fillings))
+    (lends-more (c.in_ok-one.ensures.lends refl) (lends-missed none.owns none.same (get-goes c.args.pool.now.shape c.args.keys.2 c.get_two.new.lane c.get.new.lane None none.outside none.gets) none.refs (none.no_more refl) none.fillings))
 
 pub returns-in_default-clause-gone : goal.returns-in_default-clause-gone
 returns-in_default-clause-gone g c = λ none. (
   c.args.keys.2,
   (2, omega arith, refl),
-  gone-around c.args.lane.now.book.seen c.get_two.new.lane.book.seen c.get.new.lane.book.seen c.release_two.new.lane.book.seen c.args.keys.2 (c.in_ok-one.ensures.lends refl).seen
-      c.release_two.ensures.returns.seen (missed-law c.args.keys.2 c.get_two.new.lane c.get.new.lane c.in_default.ensures.seen (c.in_default.ensures.missed refl)),
+  gone-around c.args.lane.now.book.seen c.get_two.new.lane.book.seen c.get.new.lane.book.seen c.release_two.new.lane.book.seen c.args.keys.2 (c.in_ok-one.ensures.lends refl).goes.seen
+      c.release_two.ensures.returns.goes.seen (missed-law c.args.keys.2 c.get_two.new.lane c.get.new.lane c.in_default.ensures.seen (c.in_default.ensures.missed refl)),
 )
 
 pub returns-in_default-clause-owns : goal.returns-in_default-clause-owns
@@ -29,48 +30,48 @@ returns-in_default-clause-owns g c =
     let both = c.in_ok-one.ensures.both in
     let none = c.in_default.ensures in
     (back-two c.args.keys.0 c.args.keys.1 c.in_ok-one.one.key c.in_ok-one.two.key both.0 both.1
-    (lends-more (c.in_ok-one.ensures.lends refl) (lends-missed none.owns none.same none.seen none.refs (none.no_more refl) none.fillings)) c.release_two.ensures.returns).owns
+    (lends-more (c.in_ok-one.ensures.lends refl) (lends-missed none.owns none.same (get-goes c.args.pool.now.shape c.args.keys.2 c.get_two.new.lane c.get.new.lane None none.outside none.gets) none.refs (none.no_more refl) none.fillings)) c.release_two.ensures.returns).owns
 
 pub returns-in_default-clause-same : goal.returns-in_default-clause-same
 returns-in_default-clause-same g c =
     let both = c.in_ok-one.ensures.both in
     let none = c.in_default.ensures in
     (back-two c.args.keys.0 c.args.keys.1 c.in_ok-one.one.key c.in_ok-one.two.key both.0 both.1
-    (lends-more (c.in_ok-one.ensures.lends refl) (lends-missed none.owns none.same none.seen none.refs (none.no_more refl) none.fillings)) c.release_two.ensures.returns).same
+    (lends-more (c.in_ok-one.ensures.lends refl) (lends-missed none.owns none.same (get-goes c.args.pool.now.shape c.args.keys.2 c.get_two.new.lane c.get.new.lane None none.outside none.gets) none.refs (none.no_more refl) none.fillings)) c.release_two.ensures.returns).same
 
-pub returns-in_default-clause-seen : goal.returns-in_default-clause-seen
-returns-in_default-clause-seen g c =
+pub returns-in_default-clause-goes : goal.returns-in_default-clause-goes
+returns-in_default-clause-goes g c =
     let both = c.in_ok-one.ensures.both in
     let none = c.in_default.ensures in
     (back-two c.args.keys.0 c.args.keys.1 c.in_ok-one.one.key c.in_ok-one.two.key both.0 both.1
-    (lends-more (c.in_ok-one.ensures.lends refl) (lends-missed none.owns none.same none.seen none.refs (none.no_more refl) none.fillings)) c.release_two.ensures.returns).seen
+    (lends-more (c.in_ok-one.ensures.lends refl) (lends-missed none.owns none.same (get-goes c.args.pool.now.shape c.args.keys.2 c.get_two.new.lane c.get.new.lane None none.outside none.gets) none.refs (none.no_more refl) none.fillings)) c.release_two.ensures.returns).goes
 
 pub returns-in_default-clause-holds : goal.returns-in_default-clause-holds
 returns-in_default-clause-holds g c =
     let both = c.in_ok-one.ensures.both in
     let none = c.in_default.ensures in
     (back-two c.args.keys.0 c.args.keys.1 c.in_ok-one.one.key c.in_ok-one.two.key both.0 both.1
-    (lends-more (c.in_ok-one.ensures.lends refl) (lends-missed none.owns none.same none.seen none.refs (none.no_more refl) none.fillings)) c.release_two.ensures.returns).held
+    (lends-more (c.in_ok-one.ensures.lends refl) (lends-missed none.owns none.same (get-goes c.args.pool.now.shape c.args.keys.2 c.get_two.new.lane c.get.new.lane None none.outside none.gets) none.refs (none.no_more refl) none.fillings)) c.release_two.ensures.returns).held
 
 pub returns-in_default-clause-fillings : goal.returns-in_default-clause-fillings
 returns-in_default-clause-fillings g c =
     let both = c.in_ok-one.ensures.both in
     let none = c.in_default.ensures in
     (back-two c.args.keys.0 c.args.keys.1 c.in_ok-one.one.key c.in_ok-one.two.key both.0 both.1
-    (lends-more (c.in_ok-one.ensures.lends refl) (lends-missed none.owns none.same none.seen none.refs (none.no_more refl) none.fillings)) c.release_two.ensures.returns).fillings
+    (lends-more (c.in_ok-one.ensures.lends refl) (lends-missed none.owns none.same (get-goes c.args.pool.now.shape c.args.keys.2 c.get_two.new.lane c.get.new.lane None none.outside none.gets) none.refs (none.no_more refl) none.fillings)) c.release_two.ensures.returns).fillings
 
 -- ---- all were found
 
 pub read-requires : goal.read-requires
 read-requires g c =
     let third = c.in-Some.ensures in
-    has-one (lends-more (c.in_ok-one.ensures.lends refl) (lends-one c.args.keys.2 third.owns third.same third.seen third.refs (third.one_more refl) third.fillings))
+    has-one (lends-more (c.in_ok-one.ensures.lends refl) (lends-one c.args.keys.2 third.owns third.same (get-goes c.args.pool.now.shape c.args.keys.2 c.get_two.new.lane c.get.new.lane (Some c.in-Some.three) third.outside third.gets) third.refs (third.one_more refl) third.fillings))
     2 c.args.keys.0 c.in_ok-one.one.key refl c.in_ok-one.ensures.both.0
 
 pub read-requires-2 : goal.read-requires-2
 read-requires-2 g c =
     let third = c.in-Some.ensures in
-    has-one (lends-more (c.in_ok-one.ensures.lends refl) (lends-one c.args.keys.2 third.owns third.same third.seen third.refs (third.one_more refl) third.fillings))
+    has-one (lends-more (c.in_ok-one.ensures.lends refl) (lends-one c.args.keys.2 third.owns third.same (get-goes c.args.pool.now.shape c.args.keys.2 c.get_two.new.lane c.get.new.lane (Some c.in-Some.three) third.outside third.gets) third.refs (third.one_more refl) third.fillings))
     1 c.args.keys.1 c.in_ok-one.two.key refl c.in_ok-one.ensures.both.1
 
 pub release_two-requires-2-clause-held : goal.release_two-requires-2-clause-held
@@ -79,9 +80,9 @@ release_two-requires-2-clause-held g c =
     has-two c.args.keys.0 c.args.keys.1 c.in_ok-one.one.key c.in_ok-one.two.key both.0 both.1 (lends-more (c.in_ok-one.ensures.lends refl)
     (let third = c.in-Some.ensures in
     let gave = c.release.ensures in
-    let lent = lends-one {pool = c.args.pool.now} {new = c.get.new.lane} c.args.keys.2 third.owns third.same third.seen third.refs (third.one_more refl) third.fillings in
+    let lent = lends-one {pool = c.args.pool.now} {new = c.get.new.lane} c.args.keys.2 third.owns third.same (get-goes c.args.pool.now.shape c.args.keys.2 c.get_two.new.lane c.get.new.lane (Some c.in-Some.three) third.outside third.gets) third.refs (third.one_more refl) third.fillings in
     lends-back lent (returns-of c.args.keys.2 c.in-Some.three.key third.held.0 (has-one lent 0 c.args.keys.2 c.in-Some.three.key refl third.held.0)
-    gave.owns gave.releases.1.same gave.seen gave.refs gave.one_less gave.fillings)))
+    gave.owns gave.releases.1.same (goes-on gave.releases.1.goes) gave.refs gave.one_less gave.fillings)))
 
 pub returns-clause-some : goal.returns-clause-some
 returns-clause-some g c =
@@ -89,7 +90,7 @@ returns-clause-some g c =
     let last = c.in-Some.ensures.held in
     let then = c.get.new.lane.book.seen in
     let new = c.release_two-2.new.lane.book.seen in
-    let seen = prefix-trans then c.release.new.lane.book.seen new c.release.ensures.seen c.release_two-2.ensures.returns.seen in (
+    let seen = prefix-trans then c.release.new.lane.book.seen new c.release.ensures.seen c.release_two-2.ensures.returns.goes.seen in (
       c.read.result,
       c.read-2.result,
       c.read-3.result,
@@ -136,9 +137,9 @@ returns-clause-owns g c =
     (back-two c.args.keys.0 c.args.keys.1 c.in_ok-one.one.key c.in_ok-one.two.key both.0 both.1 (lends-more (c.in_ok-one.ensures.lends refl)
     (let third = c.in-Some.ensures in
     let gave = c.release.ensures in
-    let lent = lends-one {pool = c.args.pool.now} {new = c.get.new.lane} c.args.keys.2 third.owns third.same third.seen third.refs (third.one_more refl) third.fillings in
+    let lent = lends-one {pool = c.args.pool.now} {new = c.get.new.lane} c.args.keys.2 third.owns third.same (get-goes c.args.pool.now.shape c.args.keys.2 c.get_two.new.lane c.get.new.lane (Some c.in-Some.three) third.outside third.gets) third.refs (third.one_more refl) third.fillings in
     lends-back lent (returns-of c.args.keys.2 c.in-Some.three.key third.held.0 (has-one lent 0 c.args.keys.2 c.in-Some.three.key refl third.held.0)
-    gave.owns gave.releases.1.same gave.seen gave.refs gave.one_less gave.fillings)))
+    gave.owns gave.releases.1.same (goes-on gave.releases.1.goes) gave.refs gave.one_less gave.fillings)))
     c.release_two-2.ensures.returns).owns
 
 pub returns-clause-same : goal.returns-clause-same
@@ -147,21 +148,21 @@ returns-clause-same g c =
     (back-two c.args.keys.0 c.args.keys.1 c.in_ok-one.one.key c.in_ok-one.two.key both.0 both.1 (lends-more (c.in_ok-one.ensures.lends refl)
     (let third = c.in-Some.ensures in
     let gave = c.release.ensures in
-    let lent = lends-one {pool = c.args.pool.now} {new = c.get.new.lane} c.args.keys.2 third.owns third.same third.seen third.refs (third.one_more refl) third.fillings in
+    let lent = lends-one {pool = c.args.pool.now} {new = c.get.new.lane} c.args.keys.2 third.owns third.same (get-goes c.args.pool.now.shape c.args.keys.2 c.get_two.new.lane c.get.new.lane (Some c.in-Some.three) third.outside third.gets) third.refs (third.one_more refl) third.fillings in
     lends-back lent (returns-of c.args.keys.2 c.in-Some.three.key third.held.0 (has-one lent 0 c.args.keys.2 c.in-Some.three.key refl third.held.0)
-    gave.owns gave.releases.1.same gave.seen gave.refs gave.one_less gave.fillings)))
+    gave.owns gave.releases.1.same (goes-on gave.releases.1.goes) gave.refs gave.one_less gave.fillings)))
     c.release_two-2.ensures.returns).same
 
-pub returns-clause-seen : goal.returns-clause-seen
-returns-clause-seen g c =
+pub returns-clause-goes : goal.returns-clause-goes
+returns-clause-goes g c =
     let both = c.in_ok-one.ensures.both in
     (back-two c.args.keys.0 c.args.keys.1 c.in_ok-one.one.key c.in_ok-one.two.key both.0 both.1 (lends-more (c.in_ok-one.ensures.lends refl)
     (let third = c.in-Some.ensures in
     let gave = c.release.ensures in
-    let lent = lends-one {pool = c.args.pool.now} {new = c.get.new.lane} c.args.keys.2 third.owns third.same third.seen third.refs (third.one_more refl) third.fillings in
+    let lent = lends-one {pool = c.args.pool.now} {new = c.get.new.lane} c.args.keys.2 third.owns third.same (get-goes c.args.pool.now.shape c.args.keys.2 c.get_two.new.lane c.get.new.lane (Some c.in-Some.three) third.outside third.gets) third.refs (third.one_more refl) third.fillings in
     lends-back lent (returns-of c.args.keys.2 c.in-Some.three.key third.held.0 (has-one lent 0 c.args.keys.2 c.in-Some.three.key refl third.held.0)
-    gave.owns gave.releases.1.same gave.seen gave.refs gave.one_less gave.fillings)))
-    c.release_two-2.ensures.returns).seen
+    gave.owns gave.releases.1.same (goes-on gave.releases.1.goes) gave.refs gave.one_less gave.fillings)))
+    c.release_two-2.ensures.returns).goes
 
 pub returns-clause-holds : goal.returns-clause-holds
 returns-clause-holds g c =
@@ -169,9 +170,9 @@ returns-clause-holds g c =
     (back-two c.args.keys.0 c.args.keys.1 c.in_ok-one.one.key c.in_ok-one.two.key both.0 both.1 (lends-more (c.in_ok-one.ensures.lends refl)
     (let third = c.in-Some.ensures in
     let gave = c.release.ensures in
-    let lent = lends-one {pool = c.args.pool.now} {new = c.get.new.lane} c.args.keys.2 third.owns third.same third.seen third.refs (third.one_more refl) third.fillings in
+    let lent = lends-one {pool = c.args.pool.now} {new = c.get.new.lane} c.args.keys.2 third.owns third.same (get-goes c.args.pool.now.shape c.args.keys.2 c.get_two.new.lane c.get.new.lane (Some c.in-Some.three) third.outside third.gets) third.refs (third.one_more refl) third.fillings in
     lends-back lent (returns-of c.args.keys.2 c.in-Some.three.key third.held.0 (has-one lent 0 c.args.keys.2 c.in-Some.three.key refl third.held.0)
-    gave.owns gave.releases.1.same gave.seen gave.refs gave.one_less gave.fillings)))
+    gave.owns gave.releases.1.same (goes-on gave.releases.1.goes) gave.refs gave.one_less gave.fillings)))
     c.release_two-2.ensures.returns).held
 
 pub returns-clause-fillings : goal.returns-clause-fillings
@@ -180,7 +181,7 @@ returns-clause-fillings g c =
     (back-two c.args.keys.0 c.args.keys.1 c.in_ok-one.one.key c.in_ok-one.two.key both.0 both.1 (lends-more (c.in_ok-one.ensures.lends refl)
     (let third = c.in-Some.ensures in
     let gave = c.release.ensures in
-    let lent = lends-one {pool = c.args.pool.now} {new = c.get.new.lane} c.args.keys.2 third.owns third.same third.seen third.refs (third.one_more refl) third.fillings in
+    let lent = lends-one {pool = c.args.pool.now} {new = c.get.new.lane} c.args.keys.2 third.owns third.same (get-goes c.args.pool.now.shape c.args.keys.2 c.get_two.new.lane c.get.new.lane (Some c.in-Some.three) third.outside third.gets) third.refs (third.one_more refl) third.fillings in
     lends-back lent (returns-of c.args.keys.2 c.in-Some.three.key third.held.0 (has-one lent 0 c.args.keys.2 c.in-Some.three.key refl third.held.0)
-    gave.owns gave.releases.1.same gave.seen gave.refs gave.one_less gave.fillings)))
+    gave.owns gave.releases.1.same (goes-on gave.releases.1.goes) gave.refs gave.one_less gave.fillings)))
     c.release_two-2.ensures.returns).fillings

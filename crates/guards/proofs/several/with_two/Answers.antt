@@ -7,7 +7,7 @@ use Rattle.guards.proofs.several.with_two.Goals as goal
 pub returns-clause-some : goal.returns-clause-some
 returns-clause-some g c =
     let both = c.in_ok-one.ensures.both in
-    let seen = c.release_two.ensures.returns.seen in (
+    let seen = c.release_two.ensures.returns.goes.seen in (
       c.read.result,
       c.read-2.result,
       c.f-answer.ensures,
@@ -28,10 +28,10 @@ returns-clause-uses g c = λ some.
       subst (λ (k : ℕ). Gave z k gave.0 c.release_two.new.lane) both.0 gave.2,
     )
 
-pub returns-clause-seen : goal.returns-clause-seen
-returns-clause-seen g c =
+pub returns-clause-goes : goal.returns-clause-goes
+returns-clause-goes g c =
     let both = c.in_ok-one.ensures.both in
-    (back-two c.args.keys.0 c.args.keys.1 c.in_ok-one.one.key c.in_ok-one.other.key both.0 both.1 (c.in_ok-one.ensures.lends refl) c.release_two.ensures.returns).seen
+    (back-two c.args.keys.0 c.args.keys.1 c.in_ok-one.one.key c.in_ok-one.other.key both.0 both.1 (c.in_ok-one.ensures.lends refl) c.release_two.ensures.returns).goes
 
 pub returns-clause-holds : goal.returns-clause-holds
 returns-clause-holds g c =
