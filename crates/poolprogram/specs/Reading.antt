@@ -4,7 +4,6 @@ use Rattle.streams.specs.declared.reading.Unread.{Unread}
 use Rattle.poolprogram.specs.RunFaults.{unread_fault}
 use Rattle.poolprogram.specs.declared.run_fault.RunFault.{RunFault}
 
-
 -- a task that is about the file at this path, or about none, was given these bytes: what is left of an input where it is named by a dash; of a file nothing more is said
 abbrev pub IsFileOf : Option (List ℕ) → Option (List ℕ) → List ℕ → Type 0
 IsFileOf None left file = file ≡ []
