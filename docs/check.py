@@ -32,10 +32,10 @@ MOST_WORDS, MEAN_WORDS = 40, 22
 WORDS_OF_README, WORDS_OF_PAGES = 1000, 32000
 
 # A figure, and where it stands: in each page by a pattern, whose groups are all the same. The first place is the one to change first.
-EDITS = len(list(ROOT.glob("crates/*/must-fail/*.edit")))
 CRATES = len(definitions.crates())
+EDITS = [path for crate in definitions.crates() for path in ROOT.glob(f"crates/{crate}/must-fail/*.edit")]
 FIGURES = [
-    ("edits", str(EDITS), [("docs/GATE.md", r"(\d+) edits refused")]),
+    ("edits", str(len(EDITS)), [("docs/GATE.md", r"(\d+) edits refused")]),
     ("crates", str(CRATES), [("README.md", r"all (\d+) crates"), ("docs/ARCHITECTURE.md", r"^(\d+) crates in")]),
     ("the kit", None, [("docs/PROVED.md", r"`(rattle-kit-\w+) logic"), ("README.md", r"(rattle-kit-\w+)"), ("docs/USING.md", r"(rattle-kit-\w+)")]),
     ("the crate's version", None, [("bindings/rust/Cargo.toml", r'^version = "([\d.]+)"'), ("README.md", r"\*\*Version\*\* ([\d.]+)"), ("docs/release", r'^VERSION = "([\d.]+)"')]),
@@ -168,7 +168,7 @@ def wrong_bodies():
         row = re.match(r"- `(\w+)`, ", line)
         if row and crate and (ROOT / "crates" / crate).is_dir():
             listed.add((crate, row.group(1)))
-    there = {(path.parent.parent.name, path.stem) for path in ROOT.glob("crates/*/must-fail/*.edit")}
+    there = {(path.parent.parent.name, path.stem) for path in EDITS}
     yield from (f"no row for {crate}/{name}" for crate, name in sorted(there - listed))
     yield from (f"no edit for {crate}/{name}" for crate, name in sorted(listed - there))
 

@@ -7,6 +7,9 @@ usage: python3 docs/crates_picture.py            writes the picture
 import pathlib
 import sys
 
+sys.dont_write_bytecode = True
+import definitions
+
 ROOT = pathlib.Path(__file__).resolve().parent.parent
 PICTURE = ROOT / "docs" / "crates.svg"
 WIDE, HIGH, ACROSS, DOWN, EDGE, BEND = 104, 26, 14, 34, 16, 0.22
@@ -21,7 +24,7 @@ STYLE = (
 def read():
     """The crates' bands by their numbers, the bands' names, and on which crates each stands."""
     names, band, below = [], {}, {}
-    for line in (ROOT / "crates.txt").read_text(encoding="utf-8").splitlines():
+    for line in definitions.lines_of_crates():
         if line.startswith("#"):
             names.append(line[1:].strip())
         elif line.strip():

@@ -21,12 +21,20 @@ What the contracts of the pool cite, file by file, in the crates' `specs/`. Made
 PROGRAMS = "# programs and tests"
 # (what a file says whose definitions the crate's own proofs alone use)
 INNER = "No public clause cites this module"
+# The line of crates.txt behind which docs/begin puts crates of one's own: no page tells of them.
+OWN = "# your own"
 DEFINES = re.compile(r"(?:abbrev |unfoldable )?pub (?:record |data |type )?([^\s(:]+)")
+
+
+def lines_of_crates():
+    """The lines of crates.txt that pages tell of."""
+    lines = (ROOT / "crates.txt").read_text(encoding="utf-8").splitlines()
+    return lines[: lines.index(OWN)] if OWN in lines else lines
 
 
 def crates(until=None):
     """The crates, in the order of crates.txt, up to a line of it."""
-    lines = (ROOT / "crates.txt").read_text(encoding="utf-8").splitlines()
+    lines = lines_of_crates()
     lines = lines[: lines.index(until)] if until else lines
     return [line.split(":")[0].split()[0] for line in lines if line.strip() and not line.startswith("#")]
 
