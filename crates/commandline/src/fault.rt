@@ -1,3 +1,4 @@
+//! Why words are no task, as the faults that tell it.
 ghost use Rattle.std.specs.Prelude.{◌≡◌, Some, []};
 ghost use Rattle.commandline.specs.Mistakes.{Tells};
 ghost use Rattle.commandline.specs.declared.fault.TaskFault.TheVariants as faults;

@@ -1,3 +1,4 @@
+//! What the words of a command line ask for.
 ghost use Rattle.std.specs.Prelude.{◌≡◌, map, IfOk, IfErr, string_bytes};
 ghost use Rattle.commandline.specs.Arguments.{ReadsArgs};
 ghost use Rattle.commandline.specs.Asking.{IsAsked};

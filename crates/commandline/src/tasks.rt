@@ -1,3 +1,5 @@
+//! What the program is told to do, and over which turns.
+
 /// What the program is told to do.
 #[derive(Drop, Debug)]
 pub enum Task {

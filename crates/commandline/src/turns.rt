@@ -1,3 +1,4 @@
+//! The turns and the numbers that texts of the command line stand for.
 ghost use Rattle.std.specs.Prelude.{◌≡◌, Option, Some, None, IfOk, IfErr};
 ghost use Rattle.commandline.specs.Readings.{text_of, long_number, turn_count, key_number, schedule_file, are_both_input, AreTurns, AreListed, IsStop};
 ghost use Rattle.commandline.specs.Mistakes.{Tells, wrong_turns, wrong_stop, wrong_number, wrong_listed};

@@ -1,3 +1,4 @@
+//! What `poolview` is told to show.
 ghost use Rattle.std.specs.Prelude.{◌≡◌, map, codes, IfOk, IfErr, string_bytes};
 ghost use Rattle.clap.specs.Words.{found_of, rows_of, subcommand_of, subcommand_rows_of};
 ghost use Rattle.commandline.specs.Readings.{text_of};

@@ -1,3 +1,4 @@
+//! The tasks of the words that `clap` took.
 ghost use Rattle.std.specs.Prelude.{◌≡◌, map, codes, IfOk, IfErr, string_bytes};
 ghost use Rattle.clap.specs.Words.{first_of, found_of, rows_of, subcommand_of, subcommand_rows_of};
 ghost use Rattle.commandline.specs.Readings.{text_of, flag_of};

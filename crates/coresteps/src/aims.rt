@@ -1,3 +1,4 @@
+//! Which step a lane makes next.
 ghost use Rattle.std.specs.Prelude.{option_copied, MatchBool, MatchOption, ◌≡◌, ◌≢◌, ◌∷◌, ◌++◌, ◌<◌, ◌≤◌, ℕ, [], List, Some, None, true, false, nat_lt, slice_get, slice_index, if◌then◌else◌};
 ghost use Rattle.keybits.specs.Shapes.{IsShape};
 ghost use Rattle.keybits.specs.Places.{shard_of};

@@ -1,3 +1,4 @@
+//! What a lane does by itself between two steps, and what it replies.
 ghost use Rattle.std.specs.Prelude.{◌+◌, option_copied, true, ◌≡◌, ◌∷◌, ◌++◌, ◌<◌, nat_lt, ℕ, [], List, Option, Some, None, IfOk, MatchOption, if◌then◌else◌};
 ghost use Rattle.keybits.specs.declared.shape.Shape.{Shape};
 ghost use Rattle.keybits.specs.Shapes.{IsShape, is_place};

@@ -1,3 +1,4 @@
+//! The commands of a lane, with the places of its writes.
 ghost use Rattle.std.specs.Prelude.{◌≡◌, ◌<◌, ◌≤◌, ◌-◌, ◌++◌, ℕ, List, [], ◌∷◌, All, drop, length, take, IfOk, OnOk};
 ghost use Rattle.traces.specs.declared.script.Command.{Command};
 ghost use Rattle.coresteps.specs.Lanes.{written_since};

@@ -1,3 +1,4 @@
+//! Why the core could not go on.
 ghost use Rattle.std.specs.Prelude.{◌≡◌};
 ghost use Rattle.coresteps.specs.declared.fault.CoreFault.TheVariants.{Memory};
 

@@ -1,3 +1,4 @@
+//! A lane of the core.
 use crate::commands::Commands;
 use crate::progress::Progress;
 

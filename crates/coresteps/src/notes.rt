@@ -1,3 +1,4 @@
+//! What a lane notes of the steps and the acts that it makes.
 ghost use Rattle.std.specs.Prelude.{◌≡◌, ◌∷◌, ◌++◌, ◌+◌, ◌<◌, ◌≤◌, ℕ, List, None, Some, length, slice_index, if◌then◌else◌};
 ghost use Rattle.keybits.specs.Keys.{place_of};
 ghost use Rattle.keybits.specs.declared.step.Kind.TheVariants as kinds;

@@ -1,3 +1,4 @@
+//! A lane's own free places, in the order in which they are handed out.
 ghost use Rattle.std.specs.Prelude.{◌≡◌, ◌<◌, ◌≤◌, ◌+◌, ◌-◌, ℕ, List, [], ◌∷◌, ◌++◌, drop, length, None, Some, ◌≢◌, MatchOption, MatchBool};
 ghost use Rattle.keybits.specs.Shapes.{IsShape, shard_places};
 ghost use Rattle.keybits.specs.Places.{place_at};

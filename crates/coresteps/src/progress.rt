@@ -1,3 +1,4 @@
+//! How far a lane has come in its script.
 ghost use Rattle.std.specs.Prelude.{None, false, ◌≡◌, ◌<◌, ◌+◌, ℕ, List, length, IfOk, replicate, slice_set, slice_index};
 ghost use Rattle.traces.specs.declared.script.Command.{Command};
 ghost use Rattle.traces.specs.Registers.{operand_key};

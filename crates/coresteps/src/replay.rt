@@ -1,3 +1,4 @@
+//! The core, turn by turn, and replays of scripts over a schedule.
 ghost use Rattle.std.specs.Prelude.{ℕ, Bool, List, ◌≡◌, ◌∷◌, ◌++◌, ◌<◌, ◌≤◌, ◌+◌, [], true, false, None, Some, IsOk, IfOk, OnOk, OnErr, length, replicate, slice_get, slice_index};
 ghost use Rattle.keybits.specs.declared.shape.Shape.{Shape};
 ghost use Rattle.keybits.specs.Shapes.{IsShape, shard_places, all_places, is_place, position_of};

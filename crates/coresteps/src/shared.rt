@@ -1,3 +1,4 @@
+//! What all lanes share.
 use crate::words::Table;
 use keybits::{Shape, Step};
 use seqpool::Act;

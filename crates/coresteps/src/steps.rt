@@ -1,3 +1,4 @@
+//! The next step of a lane, with the act that it makes.
 ghost use Rattle.std.specs.Prelude.{option_copied, ◌<◌, ◌≤◌, ◌==◌, Bool, true, false, Option, Some, None, length, ◌≡◌, ◌++◌, ℕ, List, IfOk, if◌then◌else◌};
 ghost use Rattle.steplaws.specs.StepLaws.{HasRoom};
 ghost use Rattle.steplaws.specs.Calls as steps;

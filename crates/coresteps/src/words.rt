@@ -1,3 +1,4 @@
+//! The values of the pool's words.
 ghost use Rattle.std.specs.Prelude.{◌*◌, ◌+◌, ◌≡◌, ◌<◌, ℕ, IfOk};
 ghost use Rattle.keybits.specs.Shapes.{IsShape};
 ghost use Rattle.keybits.specs.declared.step.Word.TheVariants.{Stack};

@@ -1,3 +1,4 @@
+//! Writers that fail or take nothing, as tests want them.
 use std::io;
 use std::io::Write;
 

@@ -1,3 +1,4 @@
+//! Objects that are cleared, and cells that are split into shares and joined again.
 ghost use Rattle.std.specs.Prelude.{◌≡◌, ◌<◌, ◌≤◌, [], ◌∷◌, ◌++◌, length, All, Some, IsSome};
 
 use crate::test_texts;

@@ -1,3 +1,4 @@
+//! What is said of texts of acts that are checked, and writers that are watched.
 use crate::fake_writers::{Clogged, Deaf, Halting};
 use crate::test_plans::is_told;
 use crate::test_programs::{fault_of, wrote};

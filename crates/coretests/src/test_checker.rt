@@ -1,3 +1,4 @@
+//! A long history that is checked, and the texts of faults and of refusals.
 use crate::test_acts_texts::are_answered;
 use crate::test_texts::shows;
 use keybits::{Shape, ShapeFault};

@@ -1,3 +1,4 @@
+//! The core, turn by turn and over whole schedules.
 ghost use Rattle.std.specs.Prelude.{◌≡◌, length};
 ghost use Rattle.keybits.specs.Shapes.{IsShape};
 

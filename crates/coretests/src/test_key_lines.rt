@@ -1,3 +1,4 @@
+//! What is said of numbers as keys.
 use crate::test_programs::wrote;
 use crate::test_texts::same_at;
 use poolprogram::key_text;

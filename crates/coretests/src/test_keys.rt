@@ -1,3 +1,4 @@
+//! Keys, and the pages and places of shapes.
 use crate::test_texts::{same, same_at, shows};
 use keybits::{Key, Place, Shape, ShapeFault};
 use std::process::Abort;

@@ -1,3 +1,4 @@
+//! The places of the first faults of script files and of texts of acts.
 use crate::test_texts::same_at;
 use scripts::parse;
 use seqpool::read_acts;

@@ -1,3 +1,4 @@
+//! The plans of script files, and the faults of files that are none.
 use crate::test_programs::{Fault, replay_fault_of};
 use crate::test_texts::{same, same_at};
 use keybits::Shape;

@@ -1,3 +1,4 @@
+//! What replays of script files write, and turns that are drawn for them.
 use crate::fake_writers::{Deaf, Halting};
 use crate::test_programs::{
     around, fault_of, is_fault, replays_as, says_output, schedule_of, wrote,

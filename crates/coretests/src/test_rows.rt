@@ -1,3 +1,4 @@
+//! Worked rows: script files with schedules, their traces and their acts.
 use crate::test_programs::{
     check_of, is_fault, reads_at, replay_fault_of, replay_of, replays_as, schedule_of,
 };

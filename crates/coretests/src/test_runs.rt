@@ -1,3 +1,4 @@
+//! What runs of script files write, and how they fail.
 use crate::fake_writers::{Clogged, Deaf, Halting};
 use crate::test_programs::{fault_of, is_fault, says_output, wrote};
 use poolprogram::run_text;

@@ -1,3 +1,4 @@
+//! Schedules that are read, drawn, or left without the last turns of a lane.
 ghost use Rattle.std.specs.Prelude.{◌≤◌};
 
 use crate::test_programs::schedule_of;

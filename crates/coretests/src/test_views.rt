@@ -1,3 +1,4 @@
+//! Traces as lines with their words decoded, in sum, and as pictures.
 use crate::test_texts::{reads, same_at, shows};
 use std::alloc::AllocGlobal;
 use std::process::Abort;

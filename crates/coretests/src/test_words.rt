@@ -1,3 +1,4 @@
+//! The words of `poolrun`, and the tasks that they ask for.
 use crate::test_programs::words_of;
 use crate::test_texts::same_at;
 use commandline::{Task, TaskFault, task};

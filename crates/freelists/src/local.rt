@@ -1,3 +1,4 @@
+//! The free places of a lane.
 ghost use Rattle.std.specs.Prelude.{◌≡◌, ◌<◌, ◌≤◌};
 ghost use Rattle.freelists.specs.Queues.{next_in_ring, IsEnd};
 

@@ -1,3 +1,4 @@
+//! The pages of a shard.
 use crate::shard::Shard;
 use keybits::{MOST_LANES, Place};
 use std::marker::Model;

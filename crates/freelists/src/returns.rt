@@ -1,3 +1,4 @@
+//! The words by which other lanes return places to a shard.
 ghost use Rattle.keybits.specs.declared.place.TheConstants.{SHARD_NUMBERS};
 ghost use Rattle.keybits.specs.declared.shape.TheConstants.{MOST_LANES};
 ghost use Rattle.std.specs.Prelude.{◌<◌};

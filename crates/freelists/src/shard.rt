@@ -1,3 +1,4 @@
+//! A shard, and its places by their indexes.
 ghost use Rattle.std.specs.Prelude.{◌≡◌, ◌<◌, ◌≤◌};
 ghost use Rattle.keybits.specs.Places.{number_of};
 ghost use Rattle.keybits.specs.Links.{linked_place};

@@ -1,3 +1,4 @@
+//! The parts of a key's number.
 ghost use Rattle.std.specs.Prelude.{◌≡◌, ◌≤◌};
 ghost use Rattle.keybits.specs.Keys.{place_of, generation_of, tag_of};
 

@@ -1,3 +1,4 @@
+//! Which numbers are keys of a shape.
 ghost use Rattle.std.specs.Prelude.{◌≡◌};
 ghost use Rattle.keybits.specs.Keys.{is_key};
 

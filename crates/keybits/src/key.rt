@@ -1,3 +1,4 @@
+//! Keys of published objects.
 ghost use Rattle.std.specs.Prelude.{◌≡◌, ◌+◌, ◌*◌, ◌/◌, ◌%◌, ◌<◌, ◌≤◌, ◌↔◌, Some, IsSome, IfSome};
 
 use crate::fields::{generation_of, place_of, tag_of};

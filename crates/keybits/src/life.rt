@@ -1,3 +1,5 @@
+//! What the lifecycle word of a place says.
+
 /// What a publish adds to an idle lifecycle word, which is then present.
 pub const PUBLISHED_BIT: u64 = 1;
 

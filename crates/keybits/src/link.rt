@@ -1,3 +1,4 @@
+//! Link and stack words, and the places that they stand for.
 ghost use Rattle.std.specs.Prelude.{◌≡◌, ◌<◌, ◌≤◌};
 ghost use Rattle.keybits.specs.Places.{shard_of};
 ghost use Rattle.keybits.specs.Links.{link_to, linked_place};

@@ -1,3 +1,4 @@
+//! Places, and their numbers.
 ghost use Rattle.std.specs.Prelude.{◌≡◌};
 ghost use Rattle.keybits.specs.Places.{shard_of, page_of, slot_of};
 

@@ -1,3 +1,4 @@
+//! Shapes of pools: their limits, and the places that they have.
 ghost use Rattle.std.specs.Prelude.{◌↔◌, IsTrue};
 ghost use Rattle.keybits.specs.Shapes.{IsFirstPage};
 

@@ -1,3 +1,5 @@
+//! The pool's atomic words, and the steps on them.
+
 /// One of the pool's atomic words. Places go by their numbers.
 #[derive(Clone, Copy, Debug, PartialEq, Eq)]
 pub enum Word {

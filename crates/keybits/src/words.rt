@@ -1,3 +1,4 @@
+//! Lifecycle words: what a step tells by the one that it finds, and what it leaves.
 ghost use Rattle.std.specs.Prelude.{◌≡◌, ◌==◌, ℕ, ◌+◌, ◌<◌, ◌≤◌, ◌⊎◌, IsTrue, if◌then◌else◌};
 ghost use Rattle.keybits.specs.Words.{state_in, count_in, generation_in, claimable, is_hit, owes_claim};
 ghost use Rattle.keybits.specs.Steps.{Changes};

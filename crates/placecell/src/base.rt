@@ -1,4 +1,4 @@
-// Where a row of values begins.
+//! Where a row of values begins.
 ghost use Rattle.std.specs.Prelude.{◌≡◌, ⊤};
 
 use std::alloc::AllocError;

@@ -1,4 +1,4 @@
-// The right to free a row's memory, in a form that may go to another thread, which a `Lease` may not.
+//! The right to free a row's memory, in a form that may go to another thread, which a `Lease` may not.
 ghost use Rattle.std.specs.Prelude.{◌≡◌};
 ghost use base.Fml.{ftrue};
 

@@ -1,4 +1,4 @@
-// The row of a lane: of each word of a directory, what the lane has of its place.
+//! The row of a lane: of each word of a directory, what the lane has of its place.
 ghost use Rattle.std.specs.Prelude.{◌≡◌, ℕ, ◌+◌, ◌<◌, ◌≤◌, Some, length, replicate, slice_get, slice_set, IfSome, IsNone};
 ghost use Rattle.placerows.specs.declared.rows.Own.TheVariants as owns;
 ghost use Rattle.placerows.specs.Objects.{spot_at};

@@ -1,4 +1,4 @@
-// What goes from thread to thread.
+//! What goes from thread to thread.
 use crate::objects::Objects;
 use placecell::Directory;
 use std::marker::{Send, Sync};

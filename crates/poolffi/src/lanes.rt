@@ -1,4 +1,4 @@
-// A pool's lanes, into their slots.
+//! A pool's lanes, into their slots.
 ghost use Rattle.std.specs.Prelude.{◌≡◌, length, IsTrue, IsFalse};
 ghost use Rattle.poolffi.specs.Exports.{Opens, AnyHasLane, NoneHasLane, AreLowered};
 

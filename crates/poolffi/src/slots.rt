@@ -1,4 +1,4 @@
-// A handle out of its slot, and into one; and the codes.
+//! A handle out of its slot, and into one; and the codes.
 ghost use Rattle.std.specs.Prelude.{◌≡◌, [], ◌∷◌, IfSome, IsNone};
 ghost use Rattle.poolffi.specs.Codes.{code_of, answer_code};
 ghost use Rattle.poolffi.specs.Exports.{HasNoLane};

@@ -1,4 +1,4 @@
-// How lanes are joined, and the pool is closed.
+//! How lanes are joined, and the pool is closed.
 ghost use Rattle.std.specs.Prelude.{◌≡◌, ◌+◌, ◌⊎◌, List, [], ◌∷◌, All, IfSome, IfErr, IfOk, OnOk, IsOk, Contains, MatchResult, option_map};
 ghost use Rattle.std.specs.Arc.{arc_value};
 ghost use Rattle.shardpool.specs.Tokens.{LaneOf};

@@ -1,4 +1,4 @@
-// A filling as a handle keeps it.
+//! A filling as a handle keeps it.
 ghost use Rattle.std.specs.Prelude.{◌≡◌, ◌-◌, ◌<◌, ◌≤◌, ◌++◌, length, take, replicate, IsTrue, IsFalse, if◌then◌else◌};
 
 use shardpool::Filling;

@@ -1,4 +1,4 @@
-// What the lanes of a pool share.
+//! What the lanes of a pool share.
 ghost use Rattle.std.specs.Prelude.{◌≡◌, All};
 ghost use Rattle.shardpool.specs.Lanes.{Owns};
 

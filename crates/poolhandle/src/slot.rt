@@ -1,4 +1,4 @@
-// What a foreign program keeps of a handle.
+//! What a foreign program keeps of a handle.
 ghost use Rattle.std.specs.Prelude.{◌≡◌, ◌==◌, ℕ, List, [], ◌∷◌, length, IfSome, IsNone};
 ghost use Rattle.std.specs.Borrow.{sem};
 ghost use base.Stored.{coded_list};

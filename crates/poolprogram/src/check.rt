@@ -1,3 +1,4 @@
+//! What a check says of the acts that a text stands for.
 ghost use Rattle.std.specs.Prelude.{◌≡◌, ◌≢◌, ◌↔◌, true, false, IfOk, IfErr, IsErrOf, string_bytes};
 ghost use Rattle.poolprogram.specs.Checks.{summary_text, illegal_text, IsVerdict, WritesVerdict, RefusesActs};
 ghost use Rattle.seqpool.specs.ActsText.{StandsFor};

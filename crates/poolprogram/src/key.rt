@@ -1,3 +1,4 @@
+//! What is said of a number as a key.
 ghost use Rattle.std.specs.Prelude.{◌≡◌, ◌≢◌, ◌↔◌, true, false, ◌++◌, IfOk, IfErr, OnOk, IsErrOf, string_bytes};
 ghost use Rattle.poolprogram.specs.KeyTexts.{tag_text, parts_text, is_some_key, key_line, WritesKey};
 

@@ -1,3 +1,4 @@
+//! Replays of plans and of script files over a schedule.
 ghost use Rattle.std.specs.Prelude.{◌≡◌, ◌≢◌, ◌↔◌, true, false, length, IfOk, IfErr, OnOk, IsErrOf};
 ghost use Rattle.keybits.specs.Shapes.{IsShape};
 ghost use Rattle.traces.specs.Lawful.{IsLawful};

@@ -1,3 +1,4 @@
+//! Why the program could not do what it was told.
 ghost use Rattle.std.specs.Prelude.{◌≡◌};
 ghost use Rattle.poolprogram.specs.declared.run_fault.RunFault.TheVariants as runs;
 

@@ -1,3 +1,4 @@
+//! How the cell of a place is dropped at a close.
 ghost use Rattle.std.specs.Prelude.{◌≡◌, ◌<◌, ◌⊎◌, true, Some, None, IsSome, IfSome, slice_get};
 ghost use Rattle.core.specs.Mem.Slots.{slots_items, slots_len, IsFull};
 ghost use Rattle.keybits.specs.Shapes.{IsShape, is_place, position_of};

@@ -1,3 +1,4 @@
+//! Closures and guards over the calls of a pool.
 ghost use Rattle.std.specs.Prelude.{◌≡◌};
 ghost use Rattle.shardpool.specs.Lanes.{Owns, refs};
 

@@ -1,3 +1,4 @@
+//! Lanes that stop inside a call.
 ghost use Rattle.std.specs.Prelude.{◌≡◌};
 ghost use Rattle.shardpool.specs.Lanes.{Owns, holds, refs};
 

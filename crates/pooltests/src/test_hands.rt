@@ -1,3 +1,4 @@
+//! Publishes and clears by the hands of two lanes.
 ghost use Rattle.std.specs.Prelude.{◌≡◌, ◌∷◌, []};
 ghost use Rattle.poolsteps.specs.Layout.{spots_at};
 ghost use Rattle.poolsteps.specs.Grids.{IsSpot, IsFirstHand};

@@ -1,3 +1,4 @@
+//! Pools that are opened, and shapes that are refused.
 use crate::test_calls::{open_all, same, shape_of};
 use keybits::{Shape, ShapeFault};
 use shardpool::{CreateFault, Lane, OpenFault, open};

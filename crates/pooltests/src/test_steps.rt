@@ -1,3 +1,4 @@
+//! Steps and moves by the hands of two lanes, also on two threads.
 ghost use Rattle.std.specs.Prelude.{◌≡◌, ◌≤◌, true, [], None, IfSome};
 ghost use Rattle.std.specs.Mem.Slots.{IsFull};
 ghost use Rattle.keybits.specs.Keys.{place_of, is_key};

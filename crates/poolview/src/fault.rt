@@ -1,3 +1,4 @@
+//! Why a trace isn't shown.
 ghost use Rattle.std.specs.Prelude.{◌≡◌, codes};
 ghost use Rattle.streams.specs.Saying.{Says};
 ghost use Rattle.poolview.specs.Faults.{fault_text, unread_fault};

@@ -1,3 +1,4 @@
+//! A text that is cut at its first separator.
 ghost use Rattle.std.specs.Prelude.{◌≡◌, ◌==◌, ◌<◌, ◌∷◌, [], length, IfSome, MatchOption, position};
 ghost use Rattle.schedules.specs.Parts.{parts_of};
 

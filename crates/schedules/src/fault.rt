@@ -1,3 +1,4 @@
+//! Why a call answers no schedule: memory was refused.
 use std::alloc::{AllocError, AllocFailed};
 use std::error::Error;
 use std::fmt;

@@ -1,3 +1,4 @@
+//! Decimal numbers as words.
 ghost use Rattle.std.specs.Prelude.{◌≡◌, ◌+◌, ◌*◌, ◌≤◌, IfSome, option_and_then};
 ghost use Rattle.schedules.specs.Numbers.{digit_of, at_most, number_of};
 

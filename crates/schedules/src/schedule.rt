@@ -1,3 +1,4 @@
+//! Schedules and stops as text.
 ghost use Rattle.std.specs.Prelude.{◌≡◌, IfOk, option_map};
 ghost use Rattle.schedules.specs.Schedules.{entry_of, bad_entry, schedule_of, stop_of};
 

@@ -1,3 +1,4 @@
+//! Schedules that are drawn from a seed.
 ghost use Rattle.std.specs.Prelude.{◌≡◌, ◌≤◌, IfOk, IsOk};
 ghost use Rattle.schedules.specs.Draws.{drawn};
 

@@ -1,3 +1,4 @@
+//! Schedules in which a lane stops.
 ghost use Rattle.std.specs.Prelude.{◌≡◌, [], IfOk, IsOk};
 ghost use Rattle.schedules.specs.Stops.{IsStopped};
 

@@ -1,3 +1,4 @@
+//! The names of commands.
 ghost use Rattle.std.specs.Prelude.{◌≡◌};
 ghost use Rattle.scripts.specs.CommandNames.{command_name_of};
 

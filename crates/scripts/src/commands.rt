@@ -1,3 +1,4 @@
+//! Commands and scripts, as they are read from the values of a file.
 ghost use Rattle.std.specs.Prelude.{◌≡◌, map};
 ghost use Rattle.serde_json.specs.View.{view};
 ghost use Rattle.scripts.specs.ScriptFiles.{only_of, both_of, only_register_of, command_with, line_of, each_of, command_of, script_of, scripts_of};

@@ -1,3 +1,4 @@
+//! The fields of values of a script file.
 ghost use Rattle.std.specs.Prelude.{◌≡◌, map};
 ghost use Rattle.serde_json.specs.View.{view};
 ghost use Rattle.scripts.specs.ScriptFiles.{has_fields, has_field, holds, field_of, number_at, items_of};

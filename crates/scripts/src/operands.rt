@@ -1,3 +1,4 @@
+//! The operands of commands, as they are read.
 ghost use Rattle.std.specs.Prelude.{◌≡◌};
 ghost use Rattle.serde_json.specs.View.{view};
 ghost use Rattle.scripts.specs.ScriptFiles.{register_at, register_of, register_named, key_named, key_of, content_of};

@@ -1,3 +1,4 @@
+//! What a script file says.
 ghost use Rattle.std.specs.Prelude.{◌≡◌};
 
 use keybits::Shape;

@@ -1,3 +1,4 @@
+//! Script files, as they are read.
 ghost use Rattle.std.specs.Prelude.{◌≡◌, map, IfOk, IfErr};
 ghost use Rattle.serde_json.specs.View.{view};
 ghost use Rattle.scripts.specs.ScriptFiles.{shape_fields_of, tag_of, shape_of, fields_of, file_of};

@@ -1,3 +1,4 @@
+//! Why a script file is no plan.
 use keybits::ShapeFault;
 use std::error::Error;
 use std::fmt;

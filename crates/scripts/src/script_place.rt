@@ -1,3 +1,4 @@
+//! Places in a script file.
 use keybits::ShapeFault;
 
 /// A field of a script file: `Shape` and `Scripts` of the file itself, the others of its shape.

@@ -1,3 +1,4 @@
+//! Why a script file is no plan, and where.
 ghost use Rattle.std.specs.Prelude.{◌≡◌};
 ghost use Rattle.scripts.specs.ScriptPlaces.{out_of_memory};
 

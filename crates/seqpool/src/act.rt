@@ -1,3 +1,4 @@
+//! Acts of lanes, with their replies.
 ghost use Rattle.std.specs.Prelude.{◌≡◌, IfOk};
 
 use crate::contents::{Bytes, Places};

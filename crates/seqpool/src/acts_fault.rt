@@ -1,3 +1,4 @@
+//! Why a text is none of a shape and acts.
 ghost use Rattle.std.specs.Prelude.{◌≡◌};
 ghost use Rattle.seqpool.specs.declared.acts_fault.ActsFault.TheVariants as acts_faults;
 

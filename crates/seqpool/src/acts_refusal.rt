@@ -1,3 +1,4 @@
+//! Why a text is none of a shape and acts, and where.
 ghost use Rattle.std.specs.Prelude.{◌≡◌};
 ghost use Rattle.seqpool.specs.ActsPlaces.{out_of_memory};
 

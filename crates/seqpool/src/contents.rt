@@ -1,3 +1,4 @@
+//! Contents of objects, and places by their numbers.
 ghost use Rattle.std.specs.Prelude.{◌≡◌, ◌≢◌, ◌++◌, ℕ, List, [], IfOk, OnOk, OnErr};
 
 use std::alloc::{AllocError, Global};

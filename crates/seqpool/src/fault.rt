@@ -1,3 +1,4 @@
+//! Why an act isn't applied, and why a history isn't found legal.
 ghost use Rattle.std.specs.Prelude.{◌≡◌};
 ghost use Rattle.seqpool.specs.declared.fault.ApplyFault.TheVariants as faults;
 ghost use Rattle.seqpool.specs.declared.fault.CheckFault.TheVariants as check_faults;

@@ -1,3 +1,4 @@
+//! The pool of one thread, to which acts are applied.
 ghost use Rattle.std.specs.Prelude.{◌≡◌, vec_len};
 ghost use Rattle.keybits.specs.Shapes.{IsShape, all_places};
 ghost use Rattle.keybits.specs.SameShapes.{IsShape-prop};

@@ -1,3 +1,4 @@
+//! What the pool keeps of a place.
 ghost use Rattle.std.specs.Prelude.{◌≡◌, ℕ, length, slice_index};
 
 use crate::contents::Bytes;

@@ -1,3 +1,4 @@
+//! How many references a lane has to a key.
 ghost use Rattle.std.specs.Prelude.{◌≡◌, ◌+◌, ◌-◌, ◌<◌, ℕ, OnOk, OnErr, length};
 
 use std::alloc::{AllocError, Global};

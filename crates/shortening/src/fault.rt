@@ -1,3 +1,4 @@
+//! Why there is no shorter schedule.
 ghost use Rattle.std.specs.Prelude.{◌≡◌};
 ghost use Rattle.shortening.specs.declared.fault.Unshortened.TheVariants.{Memory};
 

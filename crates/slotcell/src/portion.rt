@@ -1,4 +1,4 @@
-// A cell that is lent to readers, in equal parts.
+//! A cell that is lent to readers, in equal parts.
 ghost use Rattle.std.specs.Prelude.{◌≡◌, ℕ, ◌+◌, ◌-◌, ◌^◌, ◌<◌, ◌≤◌, Bool, true, false, ◌||◌};
 ghost use Rattle.slotcell.specs.Portion.{portion_owns, portion_shares};
 

@@ -1,4 +1,4 @@
-// A box, as its pointer and its allocator.
+//! A box, as its pointer and its allocator.
 ghost use Rattle.std.specs.Prelude.{◌≡◌};
 ghost use Rattle.std_alloc.specs.Box.Ownership.{box_owns};
 

@@ -1,3 +1,5 @@
+//! What a lane has under way between two steps of a call.
+
 /// What a lane has under way between two steps of a call. Keys and places go by their numbers.
 #[derive(Clone, Copy)]
 pub enum Pending {

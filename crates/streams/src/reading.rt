@@ -1,3 +1,4 @@
+//! Files and inputs that are read to their end.
 ghost use Rattle.std.specs.Prelude.{◌≡◌, ◌≢◌, IfOk, IfSome, codes};
 ghost use Rattle.streams.specs.Reasons.{unread_by};
 

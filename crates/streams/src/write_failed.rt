@@ -1,3 +1,4 @@
+//! The error of a write that failed.
 use std::error::Error;
 use std::fmt;
 

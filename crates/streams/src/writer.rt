@@ -1,3 +1,4 @@
+//! Writers that remember whether a write failed.
 use std::io;
 use std::io::Write;
 

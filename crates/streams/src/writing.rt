@@ -1,3 +1,4 @@
+//! Texts that are written up to the first write that fails.
 ghost use Rattle.std.specs.Prelude.{◌≡◌, false, OnOk, is_err};
 ghost use Rattle.std.specs.Io.KnownBytes.{Appends};
 ghost use Rattle.streams.specs.Saying.{Says};

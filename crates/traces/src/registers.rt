@@ -1,3 +1,4 @@
+//! What registers hold.
 use seqpool::Bytes;
 
 /// What a register holds.

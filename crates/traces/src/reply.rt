@@ -1,3 +1,4 @@
+//! What commands answer.
 ghost use Rattle.std.specs.Prelude.{◌≡◌, ◌∷◌, ◌++◌, [], List, OnOk, OnErr};
 
 use seqpool::Bytes;

@@ -1,3 +1,4 @@
+//! The commands of a lane's script.
 ghost use Rattle.std.specs.Prelude.{◌≡◌, ◌<◌, List};
 
 use seqpool::Bytes;

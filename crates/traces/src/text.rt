@@ -1,3 +1,4 @@
+//! The text of a trace, as it is written.
 ghost use Rattle.std.specs.Prelude.{◌≡◌, ◌++◌, OnOk, OnErr, codes, flat_map};
 ghost use Rattle.std.specs.Fmt.{decimal};
 ghost use Rattle.seqpool.specs.ActsText.{content_text};

@@ -1,3 +1,4 @@
+//! The turns of a run.
 ghost use Rattle.std.specs.Prelude.{◌≡◌, ◌∷◌, ◌++◌, [], None, List, OnOk, OnErr};
 
 use crate::reply::Replies;

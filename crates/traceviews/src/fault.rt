@@ -1,3 +1,4 @@
+//! Why a text is not read as that of a trace, and what is wanted there.
 ghost use Rattle.std.specs.Prelude.{◌≡◌};
 ghost use Rattle.traceviews.specs.declared.fault.ReadFault.TheVariants as read_faults;
 

@@ -1,3 +1,4 @@
+//! What a line of a trace's text says.
 use keybits::Word;
 use traces::Reply;
 
