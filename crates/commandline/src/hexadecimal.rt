@@ -26,7 +26,7 @@ fn strip(text: &[u8]) -> &[u8]
 }
 
 /// The number that a text stands for: one to sixteen hexadecimal digits of either case, with or without
-/// `0x` before them. None for any other text. This project's profile.
+/// `0x` before them. None for any other text.
 #[tactic(auto, unfolding(crate::specs::Hexadecimal::hex_number))]
 pub(crate) fn read_hexadecimal(text: &[u8]) -> Option<u64>
     ensures { result ≡ hex_number text.now }

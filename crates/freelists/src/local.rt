@@ -11,7 +11,7 @@ use std::marker::Model;
 /// from its stacks.
 ///
 /// The own list stands in a ring with room for each place of the shard, so that nothing but `new` takes memory: a contract
-/// sees the room of the ring beside the places, and no call changes it. The order and the chain are this project's profile.
+/// sees the room of the ring beside the places, and no call changes it.
 #[derive(Drop)]
 pub struct LocalFree {
     shard: Shard,

@@ -7,7 +7,7 @@ use std::marker::Model;
 /// shard.
 ///
 /// A shard is a row of pages, each twice as large as the one before, which are opened from the lowest on, as in
-/// sharded-slab's documentation. The limits are this project's profile.
+/// sharded-slab's documentation.
 #[derive(Drop)]
 pub struct Pages {
     shard: Shard,

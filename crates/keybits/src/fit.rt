@@ -7,7 +7,7 @@ use crate::shape::Shape;
 
 /// Whether this is the number of a key of the shape: the shape's tag, a place of the shape and a
 /// generation from 1 to the last. Any other number is outside the shape. The shape need not be
-/// checked. This project's profile.
+/// checked.
 #[inline]
 pub fn fits(number: u64, shape: &Shape) -> bool
     ensures { result ≡ is_key shape.now number }

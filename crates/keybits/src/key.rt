@@ -8,7 +8,7 @@ use crate::place::Place;
 ///
 /// The slot has the bits 0 to 11, the page 12 to 15, the shard 16 to 23, the generation 24 to 55 and
 /// the tag 56 to 63. That a key packs its place and a generation is taken from sharded-slab's
-/// documentation; the packing and the tag are this project's profile.
+/// documentation.
 #[derive(Clone, Copy, Debug, PartialEq, Eq)]
 pub struct Key {
     number: u64,

@@ -70,7 +70,7 @@ impl Life {
     ghost use Rattle.keybits.specs.Words.{state_bits, word_of, state_in, count_in, generation_in};
 
     /// The word that says this of a place, for a count of at most 1073741823: the state has the bits
-    /// 0 and 1, the count 2 to 31 and the generation 32 to 63. This project's profile.
+    /// 0 and 1, the count 2 to 31 and the generation 32 to 63.
     #[inline]
     pub fn word(&self) -> u64
         requires { self.now.count ≤ 1073741823 }

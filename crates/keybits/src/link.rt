@@ -7,7 +7,7 @@ use crate::place::SHARD_NUMBERS;
 use crate::shape::MOST_LANES;
 
 /// The link or stack word that stands for a place: 1 more than the lowest 16 bits of its number, so
-/// that no place has the word 0, which is the end. This project's profile.
+/// that no place has the word 0, which is the end.
 #[inline]
 pub fn link_to(place: u32) -> u64
     ensures word { result ≡ link_to place }

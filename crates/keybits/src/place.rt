@@ -28,7 +28,7 @@ impl Place {
     ghost use Rattle.keybits.specs.Places.{number_of, shard_of, page_of, slot_of};
 
     /// The place's number, slot + 4096 * page + 65536 * shard, for a page of at most 15 and a slot
-    /// of at most 4095, so that each keeps to its own bits. This project's profile.
+    /// of at most 4095, so that each keeps to its own bits.
     #[inline]
     pub fn number(&self) -> u32
         requires page { self.now.page ≤ 15 }

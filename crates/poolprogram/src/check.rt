@@ -77,7 +77,7 @@ fn judge(alloc: Global, acts: &[u8]) -> Result<Verdict, RunFault>
 /// then the answer is true; or which act is the first that is refused, and why, and then it is false.
 /// The errors: `Acts` where the text stands for no acts or memory was refused, and `Memory` where it
 /// was refused for the line, come before the first byte; `Output` comes exactly where `out` failed,
-/// and then it isn't said how much went out. The format is this project's profile.
+/// and then it isn't said how much went out.
 pub fn check_text<W: Write>(
     alloc: Global,
     acts: &[u8],

@@ -58,7 +58,7 @@ fn describe(alloc: Global, number: u64) -> Result<KeyLine, AllocError>
 /// Writes one line of a number as a key: its place, its generation and its tag, where that isn't 0, and
 /// then the answer is true; or that no key has it, and then it is false. The errors: `Memory` where
 /// memory was refused for the line, before the first byte; `Output` comes exactly where `out` failed,
-/// and then it isn't said how much went out. The format is this project's profile.
+/// and then it isn't said how much went out.
 pub fn key_text<W: Write>(
     alloc: Global,
     number: u64,

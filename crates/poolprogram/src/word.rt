@@ -45,7 +45,7 @@ fn describe_word(alloc: Global, word: u64) -> Result<String, AllocError>
 
 /// Writes one line of a number as a lifecycle word: the state, the count and the generation. The errors:
 /// `Memory` where memory was refused for the line, before the first byte; `Output` comes exactly where
-/// `out` failed, and then it isn't said how much went out. The format is this project's profile.
+/// `out` failed, and then it isn't said how much went out.
 pub fn word_text<W: Write>(alloc: Global, word: u64, out: &mut Watched<W>) -> Result<(), RunFault>
     requires { out.old.failed ≡ false }
     ensures ok { OnOk result (Appends (W.contents out.old.inner) (W.contents out.new.inner) (word_line word)) }

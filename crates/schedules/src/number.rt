@@ -26,7 +26,7 @@ fn add_digit(number: u64, byte: u8, limit: u64) -> Option<u64>
 }
 
 /// The number that a text stands for: one or more decimal digits, but no more than so many, leading
-/// zeros allowed, where it is at most the limit. None for any other text. This project's profile.
+/// zeros allowed, where it is at most the limit. None for any other text.
 #[tactic(auto, unfolding(crate::specs::Numbers::number_of))]
 pub fn read_number(text: &[u8], most_digits: usize, limit: u64) -> Option<u64>
     ensures number { result ≡ number_of most_digits limit text.now }

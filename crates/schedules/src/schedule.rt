@@ -15,7 +15,7 @@ fn read_entry(text: &[u8]) -> Option<u32>
 }
 
 /// The schedule that a text stands for: one or more decimal numbers of one to three digits, at most
-/// 255, with single commas between. None for any other text. This project's profile.
+/// 255, with single commas between. None for any other text.
 pub fn read_schedule(alloc: Global, text: &[u8]) -> Result<Option<Vec<u32>>, AllocError>
     ensures { IfOk result
         (λ schedule. option_map (λ v. v.items) schedule ≡ schedule_of text.now) }
@@ -57,8 +57,7 @@ pub fn bad_entry(text: &[u8]) -> Option<(usize, &[u8])>
 }
 
 /// The stop that a text stands for: the number of a lane, a colon, and how many of the lane's entries
-/// count; each of one to twenty decimal digits, at most 4294967295. None for any other text. This
-/// project's profile.
+/// count; each of one to twenty decimal digits, at most 4294967295. None for any other text.
 pub fn read_stop(text: &[u8]) -> Option<(u32, u32)>
     ensures { result ≡ stop_of text.now }
 {

@@ -117,8 +117,7 @@ fn read_json(alloc: Global, file: &[u8]) -> Result<Value, ScriptRefusal>
 /// the line is no array, or an empty one, and, at item 0, where it doesn't begin with a text; `Act`
 /// at item 0 where that names no command; `Field` at the line where the command wants another number
 /// of operands; and `Register` or `Number` for these, from left to right, each at its item. `Memory`
-/// comes where memory was refused, which it is for no empty file. The format is this project's
-/// profile.
+/// comes where memory was refused, which it is for no empty file.
 pub fn parse(alloc: Global, file: &[u8]) -> Result<Plan, ScriptRefusal>
     ensures { Parses file.now result }
 {

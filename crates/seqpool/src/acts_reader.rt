@@ -234,7 +234,7 @@ fn read_text(alloc: Global, bytes: &[u8]) -> Result<(Shape, Vec<Act>), ActsRefus
 ///
 /// `Shape` comes where the first line is that of a shape which `Shape::check` refuses, whatever follows, at line 1; `ActsLine` for
 /// any other text that stands for no shape with acts, at the first line that is wrong, which is line 1 of an empty text; `Memory`
-/// where a growth was refused, and only after a checked shape, at the text as a whole. This project's profile.
+/// where a growth was refused, and only after a checked shape, at the text as a whole.
 pub fn read_acts(alloc: Global, bytes: &[u8]) -> Result<(Shape, Vec<Act>), ActsRefusal>
     // What is read is what the text stands for, and a text that stands for something is read.
     ensures ok { IfOk result (λ found. StandsFor bytes.now found.0 found.1.items) }

@@ -312,8 +312,7 @@ impl SeqPool {
     /// reference to the key (`NotHeld`). A reclaim: the key isn't in the pool or isn't marked (`NotMarked`); a lane has a
     /// reference to it (`StillHeld`). A return home: the place isn't with the lane, or is of its own shard (`NotWithLane`). A
     /// collect: there are no places, or one isn't home, isn't of the lane's shard or came before (`NotHome`). `Memory` comes
-    /// where a content, or one more reference, can't be kept. After any fault the pool is as it was before. This project's
-    /// profile.
+    /// where a content, or one more reference, can't be kept. After any fault the pool is as it was before.
     pub fn apply(&mut self, act: &Act) -> Result<(), ApplyFault>
         ensures ok { OnOk result ((lane_of act.now < self.old.shape.lanes) × Allowed self.old.shape (pool_in self.old) act.now) }
         ensures pool { OnOk result (pool_in self.new ≡ after self.old.shape act.now (pool_in self.old)) }

@@ -1,4 +1,4 @@
-//! Objects that are cleared in place and used again.
+//! Objects, which are cleared in place and used again: what all can do, buffers of bytes, and records of numbers.
 ghost use Rattle.std.specs.Vec.{vec_len, vec_capacity};
 ghost use Rattle.std.specs.Prelude.{◌≡◌, ◌+◌, ◌-◌, ◌≤◌, ◌<◌, ◌↔◌, ℕ, List, [], ◌∷◌, ◌++◌, length, take, replicate, IsTrue, IsOk, OnOk, OnErr, if◌then◌else◌};
 
@@ -11,9 +11,9 @@ use std::marker::Model;
 
 /// An object that can be emptied in place and filled again, so that its memory is kept.
 ///
-/// As in sharded-slab's documentation of `Clear`. By this project's profile an object's content is a list of whole
-/// numbers, its room is how much it can hold in all without taking memory, and an empty object comes from `fresh`, which
-/// is handed the allocator, in place of a default.
+/// As in sharded-slab's documentation of `Clear`. An object's content is a list of whole numbers, its room is how much
+/// it can hold in all without taking memory, and an empty object comes from `fresh`, which is handed the allocator, in
+/// place of a default.
 pub trait Clear {
     ghost content: { Self → List ℕ };
 
@@ -28,7 +28,7 @@ pub trait Clear {
         ensures empty { content self.new ≡ [] }
         ensures room_kept { room self.old ≤ room self.new };
 
-    /// Returns how much the object can hold in all without taking memory.
+    /// Answers how much the object can hold in all without taking memory.
     fn room(&self) -> usize
         ensures { result ≡ room self.now };
 }
@@ -45,8 +45,8 @@ impl fmt::Display for Memory {
 
 impl Error for Memory {}
 
-/// A buffer of bytes. Its content is the bytes, and its room, which never shrinks, is how many bytes it can hold in all
-/// without taking memory.
+/// An object that is a buffer of bytes. Its content is the bytes, and its room, which never shrinks, is how many bytes it
+/// can hold in all without taking memory.
 #[derive(Debug, Drop)]
 pub struct ByteBuf {
     bytes: Vec<u8>,
@@ -149,7 +149,7 @@ impl ByteBuf {
         self.bytes.truncate(kept);
     }
 
-    /// Returns where the last `count` bytes stand, for a foreign program to write them before the next call on the buffer.
+    /// Answers where the last `count` bytes stand, for a foreign program to write them before the next call on the buffer.
     pub fn address_of_last(&mut self, count: usize) -> *mut u8
         requires { (0 < count) × (count ≤ length self.old.bytes) }
         ensures { self.new ≡ self.old }
@@ -158,21 +158,21 @@ impl ByteBuf {
         std::ptr::from_mut(&mut self.bytes[first])
     }
 
-    /// Returns the bytes.
+    /// Answers the bytes.
     pub fn as_slice(&self) -> &[u8]
         ensures { result.now ≡ self.now.bytes }
     {
         self.bytes.as_slice()
     }
 
-    /// Returns the number of bytes.
+    /// Answers the number of bytes.
     pub fn len(&self) -> usize
         ensures { result ≡ length self.now.bytes }
     {
         self.bytes.len()
     }
 
-    /// Returns whether there is no byte.
+    /// Answers whether there is no byte.
     pub fn is_empty(&self) -> bool
         ensures { IsTrue result ↔ (self.now.bytes ≡ []) }
     {
@@ -194,7 +194,8 @@ fn with_appended(bytes: Vec<u8>, more: &[u8]) -> (Vec<u8>, ())
     (all, ())
 }
 
-/// At most eight numbers, which are its content and lie in the value itself. Its room is 8, and it never takes memory.
+/// An object of at most eight numbers, which are its content and lie in the value itself. Its room is 8, and it never
+/// takes memory.
 #[derive(Debug, Drop)]
 pub struct Record {
     numbers: ArrayVec<u64, 8>,
@@ -237,7 +238,7 @@ impl Clear for Record {
 }
 
 impl Record {
-    /// Appends `number` and returns true. Where the record holds eight numbers it returns false and changes nothing.
+    /// Appends `number` and answers true. Where the record holds eight numbers it answers false and changes nothing.
     pub fn push(&mut self, number: u64) -> bool
         ensures variant { IsTrue result ↔ (length self.old < 8) }
         ensures numbers { self.new ≡ (if result then self.old ++ number ∷ [] else self.old) }
@@ -249,7 +250,7 @@ impl Record {
         true
     }
 
-    /// Returns the numbers, in the order in which they were pushed.
+    /// Answers the numbers, in the order in which they were pushed.
     pub fn as_slice(&self) -> &[u64]
         ensures numbers { result.now ≡ self.now }
         ensures at_most_eight { length result.now ≤ 8 }

@@ -31,7 +31,7 @@ impl<T> Model for Share<T> {
 impl<T> Share<T> {
     ghost use Rattle.slotcell.specs.Parts.{IsOneShare, shown_by};
 
-    /// Returns the object.
+    /// Answers the object.
     pub fn read(&self) -> &T
         ensures { result.now ≡ self.now.object }
     {

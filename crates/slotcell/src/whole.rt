@@ -43,14 +43,14 @@ impl<T> Whole<T> {
         }
     }
 
-    /// Returns the object.
+    /// Answers the object.
     pub fn get(&self) -> &T
         ensures { result.now ≡ self.now }
     {
         &self.boxed
     }
 
-    /// Returns the object for writing.
+    /// Answers the object for writing.
     pub fn get_mut(&mut self) -> &mut T
         ensures* writes_back { sem 𝓛 (LendsObject T.row self.entry result) }
         ensures object { result.now ≡ self.old }

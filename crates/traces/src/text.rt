@@ -12,7 +12,7 @@ use keybits::{Kind, Step, Word};
 use seqpool::hex_pair;
 use std::alloc::AllocError;
 
-/// Appends the trace text, by this project's profile: a line for each reply and each step, in the order of the turns.
+/// Appends the trace text: a line for each reply and each step, in the order of the turns.
 ///
 /// Each line ends with one line feed. Numbers are decimal, without leading zeros. Bytes are pairs of lower-case
 /// hexadecimal digits, or a dash where there are none.
