@@ -1,5 +1,5 @@
-//! The words of the command lines of `poolrun` and `poolview`, what they ask for, and how the programs end where they ask for
-//! nothing.
+//! The words of the command lines of `poolrun` and `poolview`, what they ask for, and how the programs end where they
+//! ask for nothing.
 #![tactic(auto)]
 
 mod fault;

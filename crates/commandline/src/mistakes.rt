@@ -54,8 +54,8 @@ pub enum Reason {
 pub struct Mistake {
     /// Why the words are no task.
     pub reason: Reason,
-    /// The text behind the option, of the argument, or of the schedule's file as one of a command line, that the reason is about;
-    /// empty where it is about none.
+    /// The text behind the option, of the argument, or of the schedule's file as one of a command line, that the reason
+    /// is about; empty where it is about none.
     pub found: Vec<u8>,
 }
 
@@ -143,9 +143,9 @@ fn write_where<W: Write>(mistake: &Mistake, out: &mut Watched<W>)
     }
 }
 
-/// Writes the line that explains a mistake: the option, the text that was found and what is wanted, and of a schedule which entry
-/// is none. Bytes of the text that are no printable characters of ASCII are shown by their numbers, and of more than 80 the first
-/// 60. Nothing is allocated.
+/// Writes the line that explains a mistake: the option, the text that was found and what is wanted, and of a schedule
+/// which entry is none. Bytes of the text that are no printable characters of ASCII are shown by their numbers, and of
+/// more than 80 the first 60. Nothing is allocated.
 pub fn write_mistake<W: Write>(mistake: &Mistake, out: &mut Watched<W>)
     ensures says { Says W.contents out.old out.new (mistake_text mistake.now) }
     ensures safe { IsSafeLine (mistake_text mistake.now) }

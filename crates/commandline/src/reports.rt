@@ -67,9 +67,10 @@ fn report_mistake<E: Write>(mistake: &Mistake, explain: bool, errors: &mut Watch
     }
 }
 
-/// Writes why the words ask for nothing, and with `explain` where a mistake is and what is wanted there, on `errors`; or the
-/// help that they ask for on `out`. Answers the exit status: 2 for a mistake, whether or not it gets out; 0 for help or the
-/// version; and 1 where memory was refused for the words, or help can't be written, which is said on `errors`.
+/// Writes why the words ask for nothing, and with `explain` where a mistake is and what is wanted there, on `errors`;
+/// or the help that they ask for on `out`. Answers the exit status: 2 for a mistake, whether or not it gets out; 0 for
+/// help or the version; and 1 where memory was refused for the words, or help can't be written, which is said on
+/// `errors`.
 pub fn end_by_words<O: Write, E: Write>(
     fault: &TaskFault,
     explain: bool,
@@ -91,8 +92,8 @@ pub fn end_by_words<O: Write, E: Write>(
     }
 }
 
-/// The words that the program was called with, by what `env::args` answers. The faults: `Words` where one is no text; `Memory`
-/// where memory was refused.
+/// The words that the program was called with, by what `env::args` answers. The faults: `Words` where one is no text;
+/// `Memory` where memory was refused.
 pub fn read_args(alloc: Global, args: io::Result<Args>) -> Result<Vec<String>, TaskFault>
     ensures { ReadsArgs args result }
 {

@@ -59,8 +59,8 @@ pub fn read_request(alloc: Global, words: &[String]) -> Request
     }
 }
 
-/// What the words ask for that the program was called with, by what `env::args` answers. The faults are those of `read_args`, and
-/// of `read_request`.
+/// What the words ask for that the program was called with, by what `env::args` answers. The faults are those of
+/// `read_args`, and of `read_request`.
 pub fn request_of_args(alloc: Global, args: io::Result<Args>) -> Request
     ensures { IsAsked args result }
 {

@@ -67,8 +67,9 @@ fn listed_turns(alloc: Global, schedule: &str) -> Result<Turns, TaskFault>
     Ok(Turns::Listed(lanes))
 }
 
-/// The turns that the bytes of a schedule's file list: decimal numbers of one to three digits, at most 255, with single commas or
-/// line feeds between them, and perhaps a line feed behind the last; or none. The faults: `Words` where they list none, and `Memory`.
+/// The turns that the bytes of a schedule's file list: decimal numbers of one to three digits, at most 255, with single
+/// commas or line feeds between them, and perhaps a line feed behind the last; or none. The faults: `Words` where they
+/// list none, and `Memory`.
 pub fn turns_in(alloc: Global, bytes: &[u8]) -> Result<Turns, TaskFault>
     ensures ok { IfOk result (AreListed bytes.now) }
     ensures err { IfErr result (Tells (wrong_listed bytes.now)) }

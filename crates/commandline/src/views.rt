@@ -17,15 +17,15 @@ use std::alloc::Global;
 /// What is to be shown of a trace.
 #[derive(Clone, Copy)]
 pub enum View {
-    /// The picture of its turns from the first of these on, and of so many at most; where `fit` holds, one that fits into 32767
-    /// pixels, and says more.
+    /// The picture of its turns from the first of these on, and of so many at most; where `fit` holds, one that fits
+    /// into 32767 pixels, and says more.
     Picture {
         first: usize,
         count: usize,
         fit: bool,
     },
-    /// Its lines with their words decoded: keys too where `keys` holds, and each behind the number of its turn where `numbers`
-    /// does.
+    /// Its lines with their words decoded: keys too where `keys` holds, and each behind the number of its turn where
+    /// `numbers` does.
     Words {
         keys: bool,
         numbers: bool,
@@ -147,9 +147,9 @@ fn read_view_words<'a>(alloc: Global, words: &'a [String]) -> Result<ArgMatches<
     command.try_get_matches_from(words)
 }
 
-/// Reads the command line of `poolview`, the program's name first: what is to be shown, of which file, and whether mistakes are
-/// to be explained. The faults: `Clap` where `clap` refuses the words, or help or the version was asked for; `Words` with the
-/// mistake where it takes them and a number of turns is none; `Memory` where memory was refused.
+/// Reads the command line of `poolview`, the program's name first: what is to be shown, of which file, and whether
+/// mistakes are to be explained. The faults: `Clap` where `clap` refuses the words, or help or the version was asked
+/// for; `Words` with the mistake where it takes them and a number of turns is none; `Memory` where memory was refused.
 pub fn read_viewing<'a>(alloc: Global, words: &'a [String]) -> ViewRequest<'a>
     ensures ok { IfOk result.viewing (AreViewWordsOf (map string_bytes words.now)) }
     ensures err { IfErr result.viewing (RefusesViewWords (map string_bytes words.now)) }

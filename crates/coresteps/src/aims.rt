@@ -32,7 +32,8 @@ pub(crate) struct Aim {
 }
 
 impl Shared {
-    /// The step that a lane makes next, before any further reply; none where the next is a reply, or the script is at its end.
+    /// The step that a lane makes next, before any further reply; none where the next is a reply, or the script is at
+    /// its end.
     pub(crate) fn next_aim(
         &self,
         lane: &Lane,

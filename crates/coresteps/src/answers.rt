@@ -149,7 +149,8 @@ impl Shared {
         Reply::Filling(key)
     }
 
-    /// Takes the place that a create hands out: the first of the lane's own list, else of its chain, else of its next page.
+    /// Takes the place that a create hands out: the first of the lane's own list, else of its chain, else of its next
+    /// page.
     fn hand_out(
         &self,
         lane: &Lane,

@@ -13,7 +13,8 @@ use traces::{Command, Register, Script};
 /// How many registers a lane has.
 const REGISTERS: usize = 16;
 
-/// The commands of a lane, with the places of its writes: for each register the indices of the writes to it, in rising order.
+/// The commands of a lane, with the places of its writes: for each register the indices of the writes to it, in rising
+/// order.
 #[derive(Drop)]
 pub(crate) struct Commands {
     script: Script,
@@ -51,7 +52,8 @@ impl Commands {
         self.script.as_slice()
     }
 
-    /// The bytes that were written to a register by the commands from one to before another. It goes over these writes alone.
+    /// The bytes that were written to a register by the commands from one to before another. It goes over these writes
+    /// alone.
     pub(crate) fn written_since(
         &self,
         alloc: Global,

@@ -8,8 +8,8 @@ ghost use Rattle.coresteps.specs.OwnLists.{IsOwnList, own_places, unused_places,
 use keybits::{Place, Shape};
 
 /// A lane's own free places, in the order in which they are handed out: those of the page opened last that were never
-/// handed out, then those of a ring, and last the one that the step under way reclaimed. The ring itself, with room for each
-/// place of the shard, is the lane's and stands beside this.
+/// handed out, then those of a ring, and last the one that the step under way reclaimed. The ring itself, with room for
+/// each place of the shard, is the lane's and stands beside this.
 #[derive(Clone, Copy)]
 pub(crate) struct OwnList {
     /// How many pages are opened.

@@ -66,9 +66,9 @@ impl Core {
         Ok(Core { shared, lanes })
     }
 
-    /// One turn of a lane: its next atomic step, with the work of its own before its first step and after each one. A turn of a
-    /// finished lane, or of a number that is no lane, does nothing and takes no memory. Where memory is refused (25), the core
-    /// is as before.
+    /// One turn of a lane: its next atomic step, with the work of its own before its first step and after each one. A
+    /// turn of a finished lane, or of a number that is no lane, does nothing and takes no memory. Where memory is
+    /// refused (25), the core is as before.
     pub fn turn(&mut self, lane: u32) -> Result<Turn, CoreFault>
         ensures ok { IfOk result (λ turn. (w : World) (most : ℕ → Most) → IsCore w most self.old → Turns self.old w most lane turn self.new) }
         ensures finished { (w : World) (most : ℕ → Most) → IsCore w most self.old → is_finished self.old.shared.shape w lane ≡ true → IsOk result }
@@ -99,8 +99,8 @@ impl Core {
         self.shared.acts.as_slice()
     }
 
-    /// The greatest number of steps of one create of a lane so far, and of one other call. A call under way counts with its
-    /// steps so far. It is (0, 0) for a number that is no lane. It takes no memory.
+    /// The greatest number of steps of one create of a lane so far, and of one other call. A call under way counts with
+    /// its steps so far. It is (0, 0) for a number that is no lane. It takes no memory.
     pub fn most(&self, lane: u32) -> (u32, u32)
         ensures lane { (w : World) (most : ℕ → Most) → IsCore w most self.now → lane < self.now.shared.shape.lanes
             → result ≡ ((most lane).create, (most lane).other) }
@@ -116,8 +116,8 @@ impl Core {
 }
 
 impl Shared {
-    /// Makes a step: a copy of its act joins the history, and its word has the value after it. Where memory is refused, nothing
-    /// changes.
+    /// Makes a step: a copy of its act joins the history, and its word has the value after it. Where memory is refused,
+    /// nothing changes.
     fn keep(&mut self, made: &Made) -> Result<(), CoreFault>
         requires draft { (w : World) × IsDraft self.old w (Some made.now) }
         requires word { IsWordOf self.old.shape made.now.step.word }
@@ -135,8 +135,8 @@ impl Shared {
         Ok(())
     }
 
-    /// A copy of an act joins the history, and where it publishes a key, that key's place has its index. Where memory is refused,
-    /// nothing changes.
+    /// A copy of an act joins the history, and where it publishes a key, that key's place has its index. Where memory
+    /// is refused, nothing changes.
     fn keep_act(&mut self, act: &Act) -> Result<(), CoreFault>
         requires shape { IsShape self.old.shape }
         requires rows { length self.old.published.items ≡ all_places self.old.shape }
@@ -176,8 +176,8 @@ fn next_turn(shared: &mut Shared, lanes: &mut Vec<Lane>, lane: u32) -> Result<Tu
     Ok(turn)
 }
 
-/// Makes the next turn of a lane: its next step, with the work before and behind it, or only the work that ends its script.
-/// It is left to keep how far the lane has come. Where memory is refused, what all lanes share is as before.
+/// Makes the next turn of a lane: its next step, with the work before and behind it, or only the work that ends its
+/// script. It is left to keep how far the lane has come. Where memory is refused, what all lanes share is as before.
 fn advance(
     shared: &mut Shared,
     of: &Lane,
@@ -219,8 +219,8 @@ fn advance(
     })
 }
 
-/// The work behind a step that was noted, and then the step itself, with the replies of that work. Where memory is refused, what
-/// all lanes share is as before.
+/// The work behind a step that was noted, and then the step itself, with the replies of that work. Where memory is
+/// refused, what all lanes share is as before.
 fn finish_step(
     shared: &mut Shared,
     of: &Lane,
@@ -299,7 +299,8 @@ fn add_turn(core: &mut Core, trace: &mut Trace, lane: u32) -> Result<(), CoreFau
     Ok(())
 }
 
-/// Replays scripts over a schedule: one turn for each entry that names an unfinished lane. Memory (25) where it was refused.
+/// Replays scripts over a schedule: one turn for each entry that names an unfinished lane. Memory (25) where it was
+/// refused.
 pub fn run(
     alloc: Global,
     shape: Shape,

@@ -11,8 +11,8 @@ use crate::fault::CoreFault;
 use keybits::{Life, Shape, State, Word};
 use std::alloc::Global;
 
-/// The values of the pool's words: the lifecycle and the link word of each place, by its position among all places, and the
-/// stack word of each shard and lane, shard after shard.
+/// The values of the pool's words: the lifecycle and the link word of each place, by its position among all places, and
+/// the stack word of each shard and lane, shard after shard.
 #[derive(Drop)]
 pub(crate) struct Table {
     pub(crate) life: Vec<u64>,

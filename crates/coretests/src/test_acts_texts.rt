@@ -186,10 +186,10 @@ shape 2 1 1 4294967295
 1 clear 33554432 false
 =Legal([10, 2, 1, 0, 1, 0, 0])";
 
-// Texts of the largest shape. Of tag 255: the keys of place 983040 (shard 15, page 0, slot 0) and the generations 1 and 2 are
-// 18374686479689383936 and 18374686479706161152; those of place 1005567 (shard 15, page 5, slot 2047) and the generations 1 to 3
-// are 18374686479689406463, 18374686479706183679 and 18374686479722960895. Those refused are of the last generation of a key, a
-// slot past the last, another tag, and a lane past the last.
+// Texts of the largest shape. Of tag 255: the keys of place 983040 (shard 15, page 0, slot 0) and the generations 1 and
+// 2 are 18374686479689383936 and 18374686479706161152; those of place 1005567 (shard 15, page 5, slot 2047) and the
+// generations 1 to 3 are 18374686479689406463, 18374686479706183679 and 18374686479722960895. Those refused are of the
+// last generation of a key, a slot past the last, another tag, and a lane past the last.
 const LARGEST: &str = "shape 16 64 6 4294967295 255
 15 publish 18374686479689383936 6869 1
 3 get 18374686479689383936 some 6869

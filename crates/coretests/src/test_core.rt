@@ -139,7 +139,8 @@ fn collects(acts: &[Act]) -> usize {
         .count()
 }
 
-// Lane 15 of the largest shape publishes, lane 0 clears and returns the place, and lane 15 takes it before it opens a page.
+// Lane 15 of the largest shape publishes, lane 0 clears and returns the place, and lane 15 takes it before it opens a
+// page.
 #[test]
 fn runs_the_largest_shape(rt: HostRuntime) {
     let file = largest_file(&rt);

@@ -74,8 +74,8 @@ fn told_at(
     }
 }
 
-/// The line that explains why a text of acts is refused: the number of the line, the line itself, which of its fields is wrong,
-/// and what is wanted there. The error is want of memory.
+/// The line that explains why a text of acts is refused: the number of the line, the line itself, which of its fields
+/// is wrong, and what is wanted there. The error is want of memory.
 pub fn explain_acts(
     alloc: Global,
     bytes: &[u8],

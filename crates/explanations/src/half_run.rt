@@ -122,9 +122,9 @@ fn undone_line(alloc: Global, told: &str) -> Result<String, AllocError>
     line_of(alloc, text.as_bytes())
 }
 
-/// The line that tells what a replay of so many lanes over this schedule left undone: entries of the schedule that are no lane's,
-/// and lanes that haven't done all of the commands of their scripts, which are so many. Empty where there is nothing. The error is
-/// want of memory.
+/// The line that tells what a replay of so many lanes over this schedule left undone: entries of the schedule that are
+/// no lane's, and lanes that haven't done all of the commands of their scripts, which are so many. Empty where there is
+/// nothing. The error is want of memory.
 pub fn explain_half(
     alloc: Global,
     lanes: u32,

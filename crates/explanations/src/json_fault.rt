@@ -326,8 +326,8 @@ fn json_told(alloc: Global, halt: Halt, at: usize, file: &[u8]) -> Result<String
     format!(in alloc; "the file, line {line}, column {column}: {why}")
 }
 
-/// The line that explains why bytes are no JSON text: where they stop being one, what stands there and what is wanted; a byte
-/// order mark, a comment and a comma that is too much by their names. The error is want of memory.
+/// The line that explains why bytes are no JSON text: where they stop being one, what stands there and what is wanted;
+/// a byte order mark, a comment and a comma that is too much by their names. The error is want of memory.
 pub(crate) fn explain_json(alloc: Global, file: &[u8]) -> Result<String, AllocError>
     ensures is { IfOk result (λ text. ExplainsJson file.now (string_bytes text)) }
     ensures safe { IfOk result (λ text. IsSafeLine (string_bytes text)) }

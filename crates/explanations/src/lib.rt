@@ -1,5 +1,5 @@
-//! Why a script file or a text of acts is refused, or an act is illegal, and what a replay left undone: in words, in one line that
-//! can be printed.
+//! Why a script file or a text of acts is refused, or an act is illegal, and what a replay left undone: in words, in
+//! one line that can be printed.
 #![tactic(auto)]
 
 mod acts;

@@ -383,8 +383,8 @@ fn due_behind(
     due_told(alloc, fault, &due)
 }
 
-/// Why an act isn't allowed behind these acts, by its fault, in words: what is outside of the shape, or what would have been
-/// allowed. The error is want of memory.
+/// Why an act isn't allowed behind these acts, by its fault, in words: what is outside of the shape, or what would have
+/// been allowed. The error is want of memory.
 pub(crate) fn reason_told(
     alloc: Global,
     shape: Shape,

@@ -14,8 +14,8 @@ use scripts::{ScriptFault, ScriptRefusal};
 use std::alloc::{AllocError, Global};
 use streams::line_of;
 
-/// The text that says of a refusal where it is, what stands there, and what is wanted: of a file with this value, in which what
-/// the place names begins in this line.
+/// The text that says of a refusal where it is, what stands there, and what is wanted: of a file with this value, in
+/// which what the place names begins in this line.
 fn script_told(
     alloc: Global,
     refusal: &ScriptRefusal,
@@ -61,9 +61,9 @@ fn explain_value(alloc: Global, file: &[u8], refusal: &ScriptRefusal) -> Result<
     }
 }
 
-/// The line that explains why a script file is refused: the place, for a line of a script with its line in the file; the value that
-/// stands there, with its numbers as they were typed, and cut where it is long; and what is wanted. Of bytes that are no JSON text,
-/// where they stop being one. The error is want of memory.
+/// The line that explains why a script file is refused: the place, for a line of a script with its line in the file;
+/// the value that stands there, with its numbers as they were typed, and cut where it is long; and what is wanted. Of
+/// bytes that are no JSON text, where they stop being one. The error is want of memory.
 pub fn explain_script(
     alloc: Global,
     file: &[u8],

@@ -10,8 +10,8 @@ use std::marker::Model;
 /// The free places of a lane: its own list, first in first out, and beside it the first place of the chain that it took
 /// from its stacks.
 ///
-/// The own list stands in a ring with room for each place of the shard, so that nothing but `new` takes memory: a contract
-/// sees the room of the ring beside the places, and no call changes it.
+/// The own list stands in a ring with room for each place of the shard, so that nothing but `new` takes memory: a
+/// contract sees the room of the ring beside the places, and no call changes it.
 #[derive(Drop)]
 pub struct LocalFree {
     shard: Shard,
@@ -58,8 +58,8 @@ impl LocalFree {
     ghost use Rattle.freelists.specs.Shards.{shape_of, IsOwn};
     ghost use Rattle.freelists.specs.Queues.{AreFree, IsAway, GoesOnBy};
 
-    /// No free places of a shard from 0 to 15 and no chain, with room for all its places. The first page has 1, 2, 4, 8,
-    /// 16, 32 or 64 places, and there are 1 to 6 pages. None where memory was refused.
+    /// No free places of a shard from 0 to 15 and no chain, with room for all its places. The first page has 1, 2, 4,
+    /// 8, 16, 32 or 64 places, and there are 1 to 6 pages. None where memory was refused.
     pub fn new(alloc: Global, shard: u8, first_page: u32, pages: u32) -> Option<LocalFree>
         requires shard { shard < MOST_LANES }
         requires shape { IsShape (shape_of first_page pages) }
@@ -96,8 +96,8 @@ impl LocalFree {
         self.count += 1;
     }
 
-    /// Takes the place off the own list that was pushed first, and answers it, which may be pushed again. None where the
-    /// list is empty, which changes nothing.
+    /// Takes the place off the own list that was pushed first, and answers it, which may be pushed again. None where
+    /// the list is empty, which changes nothing.
     #[inline]
     pub fn pop(&mut self) -> Option<Place>
         ensures some { IsSome result ↔ (0 < length self.old.own) }

@@ -9,8 +9,8 @@ use keybits::{Place, Word, link_to};
 /// The words by which other lanes return places to a shard: a stack word for each of these lanes, and a link word for
 /// each place. All are 0 at first.
 ///
-/// A returned place is the top of its lane's stack, and its link word leads to the place below. A link or stack word is 0
-/// for the end, else 1 more than the lowest 16 bits of the number of a place of the shard.
+/// A returned place is the top of its lane's stack, and its link word leads to the place below. A link or stack word is
+/// 0 for the end, else 1 more than the lowest 16 bits of the number of a place of the shard.
 #[derive(Clone, Copy, Debug, PartialEq, Eq)]
 pub struct Returns {
     /// The shard to which places are returned, 0 to 15.

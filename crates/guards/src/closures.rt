@@ -45,7 +45,8 @@ pub fn create_with<T: Clear + Drop, F: FnOnce(&mut T)>(
     Ok(pool.publish(lane, filling))
 }
 
-/// Gets a key, calls `f` on its object, and gives the reference back. None, and `f` is not called, where the get finds none.
+/// Gets a key, calls `f` on its object, and gives the reference back. None, and `f` is not called, where the get finds
+/// none.
 pub fn with<T: Clear + Drop, R, F: FnOnce(&T) -> R>(
     pool: &Pool<T>,
     lane: &mut Lane<T>,

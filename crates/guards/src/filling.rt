@@ -36,7 +36,8 @@ impl<T: Clear + Drop> Fills<T> for Filling<T> {
     }
 }
 
-/// A place that a lane fills, which is published where the guard is dropped. The lane is the guard's as long as it lives.
+/// A place that a lane fills, which is published where the guard is dropped. The lane is the guard's as long as it
+/// lives.
 pub struct FillGuard<'a, T: Clear + Drop, F: Fills<T> = Filling<T>> {
     lane: &'a mut Lane<T>,
     pool: &'a Pool<T>,

@@ -17,7 +17,8 @@ use std::alloc::Global;
 use std::marker::Model;
 use std::snapshot::Snapshot;
 
-/// The lanes of a pool that are here: each that was not taken, or was given back. `open_lanes` makes it, with all lanes.
+/// The lanes of a pool that are here: each that was not taken, or was given back. `open_lanes` makes it, with all
+/// lanes.
 #[derive(Drop)]
 pub struct Lanes<T: Clear> {
     /// How many lanes the pool has.
@@ -197,8 +198,8 @@ impl<T: Clear + Drop> Lanes<T> {
 }
 
 impl<T: Clear + Drop> Opened<T> {
-    /// Closes the pool, as `shardpool::close` does, if all its lanes are here, and answers what its places were. It takes no
-    /// memory.
+    /// Closes the pool, as `shardpool::close` does, if all its lanes are here, and answers what its places were. It
+    /// takes no memory.
     ///
     /// # Errors
     ///

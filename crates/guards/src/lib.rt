@@ -1,4 +1,5 @@
-//! Closures and guards over the calls of a pool: what they take they give back by themselves; lanes as one value, and jobs on them in threads.
+//! Closures and guards over the calls of a pool: what they take they give back by themselves; lanes as one value, and
+//! jobs on them in threads.
 #![tactic(auto)]
 
 mod closures;

@@ -20,8 +20,9 @@ pub struct Unrun<J> {
     pub missing: Option<u32>,
 }
 
-/// Runs each job on the lane of its number, in a thread of its own, all at the same time, and waits for their ends. A job whose thread can't be
-/// started is run in another's. All lanes are then here again, also where a job stopped by an error; the answers stand in the order of the jobs.
+/// Runs each job on the lane of its number, in a thread of its own, all at the same time, and waits for their ends. A
+/// job whose thread can't be started is run in another's. All lanes are then here again, also where a job stopped by an
+/// error; the answers stand in the order of the jobs.
 ///
 /// # Errors
 ///

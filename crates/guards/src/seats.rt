@@ -78,7 +78,8 @@ impl<'p, N: PoolName, T: Clear + Drop> Seat<'p, N, T> {
         self.lane.seen_law();
     }
 
-    /// A place to be filled, as `Pool::create` gives it. Its object is empty, and has the room that it had under the key before.
+    /// A place to be filled, as `Pool::create` gives it. Its object is empty, and has the room that it had under the
+    /// key before.
     ///
     /// # Errors
     ///
@@ -118,8 +119,8 @@ impl<'p, N: PoolName, T: Clear + Drop> Seat<'p, N, T> {
     ///
     /// # Errors
     ///
-    /// As `Pool::create`; `Memory`, too, where it was refused for the content. Nothing is then published; and where it was refused for the content,
-    /// the place is lost until the pool is closed.
+    /// As `Pool::create`; `Memory`, too, where it was refused for the content. Nothing is then published; and where it
+    /// was refused for the content, the place is lost until the pool is closed.
     pub fn put<C: Contents<T>>(&mut self, contents: &C) -> Result<u64, CreateFault>
         ensures puts { IfOk result (Puts T.content T.room (C.content contents.now) self.old.lane self.new.lane) }
         ensures published { IfOk result (λ key. IsPublished self.new.lane.book.seen key (C.content contents.now)) }
@@ -155,7 +156,8 @@ impl<'p, N: PoolName, T: Clear + Drop> Seat<'p, N, T> {
         answer
     }
 
-    /// Looks at the objects of two keys at once. None, without a look, where one of them isn't published, or is cleared.
+    /// Looks at the objects of two keys at once. None, without a look, where one of them isn't published, or is
+    /// cleared.
     pub fn with_two<A, F: FnOnce(&T, &T) -> A>(&mut self, keys: (u64, u64), look: F) -> Option<A>
         requires may { F.IsAlwaysCallable look }
         ensures some { IfSome result (λ answer. (x : _) × (y : _) × F.post look x y answer
@@ -208,7 +210,8 @@ impl<'p, N: PoolName, T: Clear + Drop> Seat<'p, N, T> {
         with_four(self.pool, &mut self.lane, keys, look)
     }
 
-    /// Clears a key: true where it is this call that marked it. After it the key is cleared, if it was published before.
+    /// Clears a key: true where it is this call that marked it. After it the key is cleared, if it was published
+    /// before.
     pub fn clear(&mut self, key: u64) -> bool
         ensures clears { is_key N.pool.shape key ≡ true → (rest : List Act) × Did (acts.Clear self.old.lane.number key result ∷ rest) self.old.lane self.new.lane }
         ensures outside { is_key N.pool.shape key ≡ false → (result ≡ false) × (self.new.lane ≡ self.old.lane) }

@@ -44,7 +44,8 @@ fn release_two<T: Clear + Drop>(pool: &Pool<T>, lane: &mut Lane<T>, one: Ref<T>,
     pool.release(lane, one);
 }
 
-/// Gets two keys, calls `f` on their objects, and gives the references back. None, and `f` is not called, where a get finds none.
+/// Gets two keys, calls `f` on their objects, and gives the references back. None, and `f` is not called, where a get
+/// finds none.
 pub fn with_two<T: Clear + Drop, R, F: FnOnce(&T, &T) -> R>(
     pool: &Pool<T>,
     lane: &mut Lane<T>,

@@ -8,7 +8,8 @@ use shardpool::Note;
 use slotcell::Clear;
 use std::marker::{Model, PhantomData};
 
-/// A key, and a note of a lane that has seen its publish. Contracts see the key, and the content with which it is published.
+/// A key, and a note of a lane that has seen its publish. Contracts see the key, and the content with which it is
+/// published.
 #[derive(Drop)]
 pub struct Told<N: PoolName, T: Clear> {
     key: u64,

@@ -9,14 +9,14 @@ pub fn home_law()
     ensures empty { EmptyLaw }
 {}
 
-/// The home places of a shard stay where neither a stack word of the shard nor the link word of a home place is changed.
-/// So they stay at a LINK of a place to return, at a PUSH that fails and at a FOLLOW.
+/// The home places of a shard stay where neither a stack word of the shard nor the link word of a home place is
+/// changed. So they stay at a LINK of a place to return, at a PUSH that fails and at a FOLLOW.
 pub fn unchanged_law()
     ensures { UnchangedLaw }
 {}
 
-/// A PUSH that succeeds, after the LINK of its place to the word that it finds, makes that place home and changes nothing
-/// else.
+/// A PUSH that succeeds, after the LINK of its place to the word that it finds, makes that place home and changes
+/// nothing else.
 pub fn push_law()
     ensures { PushLaw }
 {}

@@ -22,7 +22,8 @@ pub enum Kind {
     Publish { with_ref: bool },
     /// PRESENT or MARKED becomes MARKED.
     Mark,
-    /// From MARKED with count 0 at the generation to IDLE at the next one, or to RETIRED at the last; no change at any other word.
+    /// From MARKED with count 0 at the generation to IDLE at the next one, or to RETIRED at the last; no change at any
+    /// other word.
     Claim { generation: u32 },
     /// The place's link word becomes the expected top.
     Link { expected: u64 },

@@ -27,7 +27,8 @@ pub enum LogFault {
     Unheard,
 }
 
-/// Publishes a request. Answers its key. The place of the entry has room for the path from then on, whenever it is used again.
+/// Publishes a request. Answers its key. The place of the entry has room for the path from then on, whenever it is used
+/// again.
 ///
 /// # Errors
 ///
@@ -56,7 +57,8 @@ pub fn log<N: PoolName>(
     }
 }
 
-/// Writes a request into a filling. None where memory was refused for its path: the place is then lost until the pool is closed.
+/// Writes a request into a filling. None where memory was refused for its path: the place is then lost until the pool
+/// is closed.
 fn fill(mut filling: Filling<Entry>, request: &Request<'_>) -> Option<Filling<Entry>>
     requires { 0 < request.now.status }
     ensures key { IfSome result (λ filled. filled.key ≡ filling.key) }
@@ -82,7 +84,8 @@ pub fn read<N: PoolName>(seat: &mut Seat<'_, N, Entry>, key: u64) -> Option<Line
     seat.with(key, |entry: &Entry| entry.line())
 }
 
-/// Hears of an entry, reads it and clears it. What it reads is what was published under the key, which nobody finds from then on.
+/// Hears of an entry, reads it and clears it. What it reads is what was published under the key, which nobody finds
+/// from then on.
 pub fn collect<N: PoolName>(seat: &mut Seat<'_, N, Entry>, told: Told<N, Entry>) -> Option<Line>
     ensures published { IsPublished seat.new.lane.book.seen told.key told.content }
     ensures shown { IfSome result (λ line. line ≡ line_of told.content) }

@@ -1,5 +1,5 @@
-//! A log of requests: workers publish entries, and a collector reads and clears them, each on a lane of a pool, in a thread of its own.
-//! What a caller can conclude is in the contracts of `log`, `read`, `collect` and `close_log`.
+//! A log of requests: workers publish entries, and a collector reads and clears them, each on a lane of a pool, in a
+//! thread of its own. What a caller can conclude is in the contracts of `log`, `read`, `collect` and `close_log`.
 #![tactic(auto)]
 
 ghost use Rattle.std.specs.Prelude.{◌≡◌, ℕ, IfOk, List, map, Some, slice_get};

@@ -8,8 +8,8 @@ use crate::objects::Objects;
 use placecell::{Directory, Vacancy};
 use std::alloc::Global;
 
-/// Frees a directory, where the rights to all its places are with these lanes; each object that waits is dropped. Where a right is
-/// missing, what is left isn't freed.
+/// Frees a directory, where the rights to all its places are with these lanes; each object that waits is dropped. Where
+/// a right is missing, what is left isn't freed.
 pub fn close_directory<T: Drop>(
     alloc: Global,
     mut directory: Directory<T>,

@@ -8,8 +8,8 @@ use std::alloc::Global;
 use std::marker::Model;
 use std::mem;
 
-/// What a lane has of a directory's places: the rights to its own, whose words stand side by side there, with the objects that wait
-/// in them; and any rights that it keeps until the close. A place is named by its word's number.
+/// What a lane has of a directory's places: the rights to its own, whose words stand side by side there, with the
+/// objects that wait in them; and any rights that it keeps until the close. A place is named by its word's number.
 #[derive(Drop)]
 pub struct Objects<T> {
     directory: Base<Box<T, Global>>,
@@ -43,8 +43,8 @@ impl<T> Objects<T> {
 }
 
 impl<T: Drop> Objects<T> {
-    /// So many own places, from `first` on, of a directory of `total` words. No right is here yet. None where memory was refused; what
-    /// is made needs no more of it.
+    /// So many own places, from `first` on, of a directory of `total` words. No right is here yet. None where memory
+    /// was refused; what is made needs no more of it.
     pub fn new(
         alloc: Global,
         directory: Base<Box<T, Global>>,
@@ -64,7 +64,8 @@ impl<T: Drop> Objects<T> {
         })
     }
 
-    /// Takes the rights to the own places out of the directory, and keeps those to the `gap` words behind them until the close.
+    /// Takes the rights to the own places out of the directory, and keeps those to the `gap` words behind them until
+    /// the close.
     pub fn endow(&mut self, directory: &mut Directory<T>, gap: usize)
         requires at { self.old.directory ≡ directory.old.at }
         requires first { self.old.first ≡ directory.old.next }
@@ -152,7 +153,8 @@ impl<T: Drop> Objects<T> {
         Whole::put(vacancy, object, self.directory, start)
     }
 
-    /// Keeps the right to a place that is used no more until the close. Where a right to it is here, this one is let go.
+    /// Keeps the right to a place that is used no more until the close. Where a right to it is here, this one is let
+    /// go.
     #[inline]
     pub fn retire(&mut self, start: usize, vacancy: Vacancy<T>)
         requires start { start < self.old.wide }

@@ -33,7 +33,8 @@ impl<T> Own<T> {
     }
 }
 
-// How many bytes of room stand behind a row, so that what follows it in memory isn't on two lines of a processor's cache with it.
+// How many bytes of room stand behind a row, so that what follows it in memory isn't on two lines of a processor's
+// cache with it.
 const BYTES_APART: usize = 128;
 
 // A row for so many words, with nothing. None where memory was refused.

@@ -1,5 +1,5 @@
-//! Does one case so many rounds on so many threads: the pool's calls, and two yardsticks. The program reads no clock, so it is
-//! timed from outside.
+//! Does one case so many rounds on so many threads: the pool's calls, and two yardsticks. The program reads no clock,
+//! so it is timed from outside.
 #![tactic(auto)]
 
 mod cases;

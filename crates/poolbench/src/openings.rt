@@ -25,12 +25,12 @@ pub const ONE_LANE: Shape = Shape {
     tag: 0,
 };
 
-/// How many objects a lane of these shapes puts till its last page is opened: one for each place of the pages before it, and one
-/// more.
+/// How many objects a lane of these shapes puts till its last page is opened: one for each place of the pages before
+/// it, and one more.
 pub const TILL_LAST_PAGE: u32 = 1985;
 
-/// Opens a pool of this shape, puts so many objects by its last lane, and closes it. Answers how many places it then had with an
-/// object, or in pages that were never opened: 0 where it can't be opened.
+/// Opens a pool of this shape, puts so many objects by its last lane, and closes it. Answers how many places it then
+/// had with an object, or in pages that were never opened: 0 where it can't be opened.
 pub fn open_and_close(alloc: Global, shape: Shape, objects: u32) -> u32 {
     let Ok((pool, mut lanes)) = open(alloc, shape) else {
         return 0;

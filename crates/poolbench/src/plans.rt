@@ -59,7 +59,8 @@ fn share(
     Ok(Shared { keys, ways })
 }
 
-/// Does a deed with these workers, each on a thread of its own; on one thread the only worker, or two that pass objects.
+/// Does a deed with these workers, each on a thread of its own; on one thread the only worker, or two that pass
+/// objects.
 fn run_deed<R: Threads + Wait + Sync>(
     rt: &R,
     alloc: Global,

@@ -168,7 +168,8 @@ fn alu(rounds: u64) -> u64 {
     word
 }
 
-/// Pools are opened, given so many objects and closed. Answers how many places they then had with an object or unopened.
+/// Pools are opened, given so many objects and closed. Answers how many places they then had with an object or
+/// unopened.
 fn open(alloc: Global, shape: Shape, objects: u32, rounds: u64) -> u64 {
     let mut places = 0u64;
     for _ in 0..rounds {

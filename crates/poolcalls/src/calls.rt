@@ -19,8 +19,9 @@ use keybits::{Life, ONE_COUNT, State, generation_of, is_hit, is_present, owes_cl
 use poolsteps::{Grid, Hand, Purpose, Spot};
 use slotcell::Clear;
 
-/// A clear of a key whose steps are one operation. Answers whether it is the one that marked the key, and what became of its place where
-/// that was reclaimed. None where another lane stepped on the key's word meanwhile: then it looked, and did nothing. It takes no memory.
+/// A clear of a key whose steps are one operation. Answers whether it is the one that marked the key, and what became
+/// of its place where that was reclaimed. None where another lane stepped on the key's word meanwhile: then it looked,
+/// and did nothing. It takes no memory.
 #[inline(always)]
 pub fn try_clear<T: Clear + Drop>(
     grid: &Grid<T>,
@@ -56,8 +57,8 @@ pub fn try_clear<T: Clear + Drop>(
     Some((false, None))
 }
 
-/// A clear of a key, each of whose steps is an operation. Answers whether it is the one that marked the key, and what became of its place
-/// where that was reclaimed. It takes no memory.
+/// A clear of a key, each of whose steps is an operation. Answers whether it is the one that marked the key, and what
+/// became of its place where that was reclaimed. It takes no memory.
 #[inline(always)]
 pub fn clear_by_steps<T: Clear + Drop>(
     grid: &Grid<T>,
@@ -93,8 +94,8 @@ fn unreferred(generation: u32) -> u64
     life.word()
 }
 
-/// MARK, after the ENTER of a clear that hit and found this word. Where nobody stepped on the word since, it is one compare-exchange;
-/// else that was a look. Answers whether it is this clear that marked the key.
+/// MARK, after the ENTER of a clear that hit and found this word. Where nobody stepped on the word since, it is one
+/// compare-exchange; else that was a look. Answers whether it is this clear that marked the key.
 #[inline(always)]
 fn mark<T: Clear>(grid: &Grid<T>, hand: &mut Hand<T>, spot: Spot, key: u64, entered: u64) -> bool
     requires present { state_in entered ≡ 1 }

@@ -1,4 +1,5 @@
-//! The moves of whole cells. Each is made by a lane that has all shares of the place, and makes moves of that place alone.
+//! The moves of whole cells. Each is made by a lane that has all shares of the place, and makes moves of that place
+//! alone.
 ghost use Rattle.std.specs.Prelude.{◌≡◌, ◌≢◌, ◌<◌, ◌≤◌, ◌*◌, ◌-◌, ℕ, true, []};
 ghost use Rattle.keybits.specs.declared.shape.Shape.{Shape};
 ghost use Rattle.sharelaws.specs.declared.stored.Status.TheVariants.{Untouched, Emptied};
@@ -14,8 +15,8 @@ use placecell::{Rest, Share, Whole};
 use poolsteps::{Grid, Hand, Spot, shares_law};
 use slotcell::Clear;
 
-/// Takes all shares of a place out of its slots, in which the lane left them alone: they are the whole cell that the lane
-/// knows. It takes two looks, and no memory.
+/// Takes all shares of a place out of its slots, in which the lane left them alone: they are the whole cell that the
+/// lane knows. It takes two looks, and no memory.
 pub fn take_cell<T: Clear + Drop>(
     grid: &Grid<T>,
     hand: &mut Hand<T>,
@@ -38,8 +39,8 @@ pub fn take_cell<T: Clear + Drop>(
     grid.out_all(hand, spot, lane).into_whole()
 }
 
-/// Takes the only share of a place at rest out of its slot: it is the whole cell that the lane knows. It takes two looks, and
-/// no memory.
+/// Takes the only share of a place at rest out of its slot: it is the whole cell that the lane knows. It takes two
+/// looks, and no memory.
 pub fn take_resting<T: Clear + Drop>(
     grid: &Grid<T>,
     hand: &mut Hand<T>,
@@ -61,8 +62,8 @@ pub fn take_resting<T: Clear + Drop>(
     Rest::of_last(grid.out_whole(hand, spot, lane)).into_whole()
 }
 
-/// Puts a whole cell into the slots of a place, which the lane has emptied: a share into each. It takes two looks, and no
-/// memory.
+/// Puts a whole cell into the slots of a place, which the lane has emptied: a share into each. It takes two looks, and
+/// no memory.
 pub fn spread_cell<T: Clear + Drop>(
     grid: &Grid<T>,
     hand: &mut Hand<T>,
@@ -87,8 +88,8 @@ pub fn spread_cell<T: Clear + Drop>(
     grid.back_all(hand, spot, lane, whole.lend(grid.shape.lanes as usize));
 }
 
-/// Puts the shares of a rest from its lowest number up to another into the slots of their place, which the lane has emptied.
-/// The last share stays with the rest.
+/// Puts the shares of a rest from its lowest number up to another into the slots of their place, which the lane has
+/// emptied. The last share stays with the rest.
 fn put_shares<T: Clear>(
     grid: &Grid<T>,
     hand: &mut Hand<T>,
@@ -117,9 +118,9 @@ fn put_shares<T: Clear>(
     }
 }
 
-/// Puts the shares of a whole cell into the slots of a place, which the lane has emptied, but for the lane's own, which it
-/// answers: the place may then be published with a reference. It takes two looks for each other lane of the pool, and no
-/// memory.
+/// Puts the shares of a whole cell into the slots of a place, which the lane has emptied, but for the lane's own, which
+/// it answers: the place may then be published with a reference. It takes two looks for each other lane of the pool,
+/// and no memory.
 pub fn spread_others<T: Clear + Drop>(
     grid: &Grid<T>,
     hand: &mut Hand<T>,
@@ -154,8 +155,8 @@ pub fn spread_others<T: Clear + Drop>(
     own
 }
 
-/// Puts a whole cell to rest in the slot of its place's shard, where the lane has emptied all slots of the place. It takes two
-/// looks, and no memory.
+/// Puts a whole cell to rest in the slot of its place's shard, where the lane has emptied all slots of the place. It
+/// takes two looks, and no memory.
 pub fn rest_cell<T: Clear + Drop>(
     grid: &Grid<T>,
     hand: &mut Hand<T>,

@@ -21,9 +21,9 @@ use poolsteps::{Grid, Hand, shares_law};
 use slotcell::Clear;
 use std::alloc::Global;
 
-/// What follows a LEAVE that found this word: where it left (g, MARKED, 0), the CLAIM of g; and where that succeeded, the
-/// place's object is cleared in place, and a place of another shard returned. None where no place was reclaimed. It takes no
-/// memory.
+/// What follows a LEAVE that found this word: where it left (g, MARKED, 0), the CLAIM of g; and where that succeeded,
+/// the place's object is cleared in place, and a place of another shard returned. None where no place was reclaimed. It
+/// takes no memory.
 #[inline(always)]
 pub fn finish_leave<T: Clear + Drop>(
     grid: &Grid<T>,

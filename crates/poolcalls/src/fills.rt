@@ -18,8 +18,8 @@ use placecell::{Share, Whole};
 use poolsteps::{Grid, Hand, Spot, shares_law};
 use slotcell::Clear;
 
-/// Publishes the content of a whole cell under a key whose place is with the lane, which emptied its slots: a share goes into
-/// each, and PUBLISH follows. It takes no memory.
+/// Publishes the content of a whole cell under a key whose place is with the lane, which emptied its slots: a share
+/// goes into each, and PUBLISH follows. It takes no memory.
 pub fn publish<T: Clear + Drop>(
     grid: &Grid<T>,
     hand: &mut Hand<T>,
@@ -47,8 +47,8 @@ pub fn publish<T: Clear + Drop>(
     grid.publish(hand, spot, key);
 }
 
-/// Publishes the content of a whole cell as `publish` does, with a reference: the lane's own share stays in its hands. It takes
-/// no memory.
+/// Publishes the content of a whole cell as `publish` does, with a reference: the lane's own share stays in its hands.
+/// It takes no memory.
 pub fn downgrade<T: Clear + Drop>(
     grid: &Grid<T>,
     hand: &mut Hand<T>,

@@ -44,8 +44,8 @@ pub fn get_within<T: Clear + Drop>(grid: &Grid<T>, hand: &mut Hand<T>, at: At, k
     }
 }
 
-/// A release of a key to which the lane has a reference, that ends after so many steps; its share is back in its slot where
-/// that reference is the last and a step is made.
+/// A release of a key to which the lane has a reference, that ends after so many steps; its share is back in its slot
+/// where that reference is the last and a step is made.
 pub fn release_within<T: Clear + Drop>(
     grid: &Grid<T>,
     hand: &mut Hand<T>,
@@ -187,7 +187,8 @@ fn finish_leave_within<T: Clear + Drop>(
     }
 }
 
-/// What follows a CLAIM of this generation that succeeded, up to so many steps. A place that isn't returned stays as it is.
+/// What follows a CLAIM of this generation that succeeded, up to so many steps. A place that isn't returned stays as it
+/// is.
 fn reclaim_place_within<T: Clear + Drop>(
     grid: &Grid<T>,
     hand: &mut Hand<T>,

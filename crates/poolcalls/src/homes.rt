@@ -12,8 +12,8 @@ use crate::at_place::At;
 use poolsteps::{Grid, Hand, shares_law};
 use slotcell::Clear;
 
-/// Returns a place of another shard, which is at rest: LINK and PUSH from the word that the lane last pushed there, and once
-/// more from an empty stack where that was taken. It takes no memory.
+/// Returns a place of another shard, which is at rest: LINK and PUSH from the word that the lane last pushed there, and
+/// once more from an empty stack where that was taken. It takes no memory.
 pub(crate) fn give_home<T: Clear>(grid: &Grid<T>, hand: &mut Hand<T>, at: At)
     requires hand { IsOf grid.now hand.old × IsOne hand.old.me.0 }
     requires at { IsAt grid.now.shape hand.old.me.0 at.spot.place at }

@@ -19,9 +19,9 @@ use poolsteps::{Grid, Hand, Spot};
 use slotcell::Clear;
 use steplaws::home_law;
 
-/// TAKEs of the stacks of the lane's shard, by rising number of the lanes that return to it, up to the first that has places:
-/// they are then the lane's taken chain. Answers the word that was found there, which leads to the first of them; 0 where
-/// none had places. It makes at most 15 steps and no look, and takes no memory.
+/// TAKEs of the stacks of the lane's shard, by rising number of the lanes that return to it, up to the first that has
+/// places: they are then the lane's taken chain. Answers the word that was found there, which leads to the first of
+/// them; 0 where none had places. It makes at most 15 steps and no look, and takes no memory.
 pub fn collect<T: Clear>(grid: &Grid<T>, hand: &mut Hand<T>, lane: u32) -> u64
     requires hand { IsOf grid.now hand.old × IsOne hand.old.me.0 }
     requires lane { (lane ≡ (the_lane hand.old.me.0).lane) × (lane < grid.now.shape.lanes) }
@@ -42,8 +42,8 @@ pub fn collect<T: Clear>(grid: &Grid<T>, hand: &mut Hand<T>, lane: u32) -> u64
     0
 }
 
-/// FOLLOW of the first place of the taken chain, and OUT of its object, which rested there. Answers the place's link word,
-/// which leads to the next place, or is 0 at the chain's end; and the object. It takes no memory.
+/// FOLLOW of the first place of the taken chain, and OUT of its object, which rested there. Answers the place's link
+/// word, which leads to the next place, or is 0 at the chain's end; and the object. It takes no memory.
 pub fn follow<T: Clear + Drop>(
     grid: &Grid<T>,
     hand: &mut Hand<T>,
@@ -65,8 +65,8 @@ pub fn follow<T: Clear + Drop>(
     (link, take_resting(grid, hand, spot, lane))
 }
 
-/// A look at the generation of a place that is with the lane: answers the key under which it may then be published. It takes no
-/// memory.
+/// A look at the generation of a place that is with the lane: answers the key under which it may then be published. It
+/// takes no memory.
 pub fn next_key<T: Clear>(grid: &Grid<T>, hand: &mut Hand<T>, spot: Spot) -> u64
     requires hand { IsOf grid.now hand.old × IsOne hand.old.me.0 }
     requires spot { IsSpot grid.now.shape spot spot.place }

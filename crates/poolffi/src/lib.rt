@@ -41,7 +41,8 @@ pub struct PoolCensus {
     pub retired: u32,
 }
 
-/// Opens a pool, and puts a lane into each slot, by rising number. By its own number, which no other pool has, a join knows its lanes.
+/// Opens a pool, and puts a lane into each slot, by rising number. By its own number, which no other pool has, a join
+/// knows its lanes.
 #[unsafe(no_mangle)]
 pub extern "C" fn pardz_open_numbered(
     alloc: Global,
@@ -162,7 +163,8 @@ pub extern "C" fn pardz_put(slot: &mut Slot, bytes: &[u8], key: &mut u64) -> u32
     }
 }
 
-/// A reference more to a key, and where its bytes are: they may be read until the lane has given back all its references to it.
+/// A reference more to a key, and where its bytes are: they may be read until the lane has given back all its
+/// references to it.
 #[unsafe(no_mangle)]
 pub extern "C" fn pardz_get(slot: &mut Slot, key: u64, at: &mut *const u8, len: &mut usize) -> u32
     ensures calls { Calls (Lends key len.new) slot.old.items slot.new.items result }
@@ -240,7 +242,8 @@ pub extern "C" fn pardz_leave(slot: &mut Slot, key: u64) -> u32
     code(handle.leave(key))
 }
 
-/// Gives the lane of a slot to that of lane 0, which is to close the pool: the last lane first, and then the one before it.
+/// Gives the lane of a slot to that of lane 0, which is to close the pool: the last lane first, and then the one before
+/// it.
 #[unsafe(no_mangle)]
 pub extern "C" fn pardz_join(alloc: Global, into: &mut Slot, slot: &mut Slot) -> u32
     ensures { JoinsSlots into.old.items slot.old.items into.new.items slot.new.items result }

@@ -14,8 +14,8 @@ use shardpool::{Census, Lane, Pool};
 use slotcell::ByteBuf;
 use std::sync::Arc;
 
-/// Gives the lane of another handle of the pool for the close, and ends that handle: the last lane first, and then the one before it. A filling
-/// is left.
+/// Gives the lane of another handle of the pool for the close, and ends that handle: the last lane first, and then the
+/// one before it. A filling is left.
 ///
 /// # Errors
 ///
@@ -69,8 +69,9 @@ fn put(place: &Counted<Option<Given>>, pool: &Pool<ByteBuf>, given: Given)
 ///
 /// # Errors
 ///
-/// The handle, where lanes are missing. Where the pool isn't let go by all handles though all lanes were given, the handle, or none where that is seen
-/// late: the lanes are then dropped. It happens only where the program opened two pools under one number.
+/// The handle, where lanes are missing. Where the pool isn't let go by all handles though all lanes were given, the
+/// handle, or none where that is seen late: the lanes are then dropped. It happens only where the program opened two
+/// pools under one number.
 pub fn close(handle: Box<Handle>) -> Result<Census, (Refusal, Option<Box<Handle>>)>
     ensures closes { IfOk result (λ census. (lanes : List LaneOf) × Contains lanes (lane_of handle.value) × Closes (pool_of handle.value) lanes census) }
     ensures stays { IfErr result (λ back. ClosesNot handle.value (option_map (λ same. same.value) back.1) back.0) }

@@ -72,8 +72,8 @@ impl Handle {
         }
     }
 
-    /// Gives room for so many bytes behind the content of a filling. They are zeros, and the program may write them until its next call on the
-    /// filling. Answers where they begin, if there are any.
+    /// Gives room for so many bytes behind the content of a filling. They are zeros, and the program may write them
+    /// until its next call on the filling. Answers where they begin, if there are any.
     pub fn room(&mut self, key: u64, count: usize) -> Result<*mut u8, Refusal>
         ensures ok { IfOk result (λ at. Rooms key count self.old self.new (Ok tt)) }
         ensures err { IfErr result (λ refusal. Rooms key count self.old self.new (Err refusal)) }
@@ -140,8 +140,8 @@ impl Handle {
         Ok(())
     }
 
-    /// Publishes these bytes in a place of their own: a create, an append and a publish in one. Answers the key. Where memory is refused, nothing
-    /// stays published, and the lane fills no place more than before.
+    /// Publishes these bytes in a place of their own: a create, an append and a publish in one. Answers the key. Where
+    /// memory is refused, nothing stays published, and the lane fills no place more than before.
     pub fn put(&mut self, bytes: &[u8]) -> Result<u64, Refusal>
         ensures { Puts bytes.now self.old self.new result }
     {

@@ -73,7 +73,8 @@ impl Kept {
         self.filling.value_mut().append(bytes).is_ok()
     }
 
-    /// Gives room for so many bytes behind the content, which are zeros: whether there was memory. Room that was given before ends.
+    /// Gives room for so many bytes behind the content, which are zeros: whether there was memory. Room that was given
+    /// before ends.
     pub(crate) fn grow(&mut self, count: usize) -> bool
         ensures same { SameFilling self.old self.new }
         ensures content { content_of self.new ≡ content_of self.old }
@@ -101,7 +102,8 @@ impl Kept {
         self.filling.value_mut().address_of_last(count)
     }
 
-    /// The first so many bytes of the room are content, and the others are gone: whether there are so many. If not, nothing changes.
+    /// The first so many bytes of the room are content, and the others are gone: whether there are so many. If not,
+    /// nothing changes.
     pub(crate) fn wrote(&mut self, count: usize) -> bool
         ensures same { SameFilling self.old self.new }
         ensures yes { IsTrue result → (count ≤ self.old.room) × (content_of self.new ≡ content_of self.old ++ take count (room_of self.old)) × (self.new.room ≡ 0) }

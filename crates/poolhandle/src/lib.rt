@@ -1,5 +1,5 @@
-//! What a thread of a foreign program has of a pool of buffers: its lane with a share of the pool, the places that it fills and the references
-//! that it has, each under its key alone.
+//! What a thread of a foreign program has of a pool of buffers: its lane with a share of the pool, the places that it
+//! fills and the references that it has, each under its key alone.
 #![tactic(auto)]
 
 mod closing;

@@ -23,8 +23,8 @@ use std::alloc::Global;
 use std::sync::Arc;
 use std::vec::IntoIter;
 
-/// The lanes of a pool of this shape that is opened, each with its share of the pool, by rising number. The pool's own number tells it from others at a
-/// join.
+/// The lanes of a pool of this shape that is opened, each with its share of the pool, by rising number. The pool's own
+/// number tells it from others at a join.
 ///
 /// # Errors
 ///

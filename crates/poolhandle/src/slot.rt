@@ -11,8 +11,8 @@ use crate::unboxed::Unboxed;
 use std::alloc::Global;
 use std::marker::Model;
 
-/// A slot that the program keeps: empty, or with a handle on the heap. In C `struct { void *at; uint64_t full; }`. The pointer's type is gone,
-/// since no type that leads to an `Arc` may stand in an export.
+/// A slot that the program keeps: empty, or with a handle on the heap. In C `struct { void *at; uint64_t full; }`. The
+/// pointer's type is gone, since no type that leads to an `Arc` may stand in an export.
 #[repr(C)]
 #[derive(Drop)]
 pub struct Slot {

@@ -4,7 +4,8 @@ ghost use Rattle.poollaws.specs.Laws.{StandsLaw, StaysPublishedLaw, StaysCleared
 use shardpool::room_law;
 use slotcell::Clear;
 
-/// What stands in a history stands in each that goes on from it: its acts, and so what was published, and what was cleared.
+/// What stands in a history stands in each that goes on from it: its acts, and so what was published, and what was
+/// cleared.
 pub fn going_law()
     ensures acts { StandsLaw }
     ensures published { StaysPublishedLaw }
@@ -16,8 +17,8 @@ pub fn own_acts_law()
     ensures { OwnActsLaw }
 {}
 
-/// No get behind a clear of its key finds it: neither in a longer history, nor by a lane that has seen the clear. And a call of a lane that finds
-/// nothing comes behind a clear of the key, if the lane saw it published.
+/// No get behind a clear of its key finds it: neither in a longer history, nor by a lane that has seen the clear. And a
+/// call of a lane that finds nothing comes behind a clear of the key, if the lane saw it published.
 pub fn gone_law()
     ensures gone { GoneLaw }
     ensures unfound { UnfoundLaw }
@@ -29,16 +30,16 @@ pub fn end_law()
     ensures { EndLaw }
 {}
 
-/// When a pool is closed one history has all that its lanes have seen, and each published key is cleared in it, or counted as present. Where none is
-/// counted as present, each is cleared.
+/// When a pool is closed one history has all that its lanes have seen, and each published key is cleared in it, or
+/// counted as present. Where none is counted as present, each is cleared.
 pub fn close_law()
     ensures last { LastLaw }
     ensures counted { CountedLaw }
     ensures none_left { NoneLeftLaw }
 {}
 
-/// A lane that published a key knows the room of its place, and goes on to know it; and the object of a filling has at least the room that its place had
-/// under the key before.
+/// A lane that published a key knows the room of its place, and goes on to know it; and the object of a filling has at
+/// least the room that its place had under the key before.
 pub fn room_kept_law<T: Clear>()
     ensures first { FirstRoomLaw }
     ensures kept { KeptRoomLaw }

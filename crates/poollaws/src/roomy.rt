@@ -1,7 +1,8 @@
 //! Objects whose content fits in their room.
 use slotcell::Clear;
 
-/// An object that holds nothing beyond its room. So an object with the room of another takes no memory for what fitted in that one.
+/// An object that holds nothing beyond its room. So an object with the room of another takes no memory for what fitted
+/// in that one.
 pub trait Roomy: Clear {
     ghost use Rattle.std.specs.Prelude.{◌≤◌, ℕ, List};
 

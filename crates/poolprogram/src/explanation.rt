@@ -120,9 +120,9 @@ fn explain_fault(
     }
 }
 
-/// The line that explains how a task ended that is about this, on the bytes of its file: the place of the fault or of the first
-/// act that is refused, what stands there, and what is wanted; or what a replay left undone. Empty where all is well. The error is
-/// want of memory.
+/// The line that explains how a task ended that is about this, on the bytes of its file: the place of the fault or of
+/// the first act that is refused, what stands there, and what is wanted; or what a replay left undone. Empty where all
+/// is well. The error is want of memory.
 pub fn explain(
     alloc: Global,
     subject: &Subject,

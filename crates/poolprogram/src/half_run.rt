@@ -40,8 +40,8 @@ fn explain_planned(alloc: Global, plan: Plan, schedule: &[u32]) -> Result<String
     explain_half(alloc, lanes, schedule, counts.as_slice(), trace.as_slice())
 }
 
-/// The line that tells what a replay of a script file over turns, up to a stop, leaves undone: entries of the schedule that are no
-/// lane's, and scripts that aren't at their end. It is replayed once more. The error is want of memory.
+/// The line that tells what a replay of a script file over turns, up to a stop, leaves undone: entries of the schedule
+/// that are no lane's, and scripts that aren't at their end. It is replayed once more. The error is want of memory.
 pub(crate) fn explain_half_run(
     alloc: Global,
     file: &[u8],

@@ -1,6 +1,6 @@
-//! The calls of the program: a script file's bytes become a trace, or a pool with a worker on each of its lanes and what these
-//! replied; a text of acts the line of its check; a number what it names as a key, or
-//! says as a lifecycle word. `run_program` is the whole program over any input and writers.
+//! The calls of the program: a script file's bytes become a trace, or a pool with a worker on each of its lanes and
+//! what these replied; a text of acts the line of its check; a number what it names as a key, or says as a lifecycle
+//! word. `run_program` is the whole program over any input and writers.
 #![tactic(auto)]
 
 mod check;

@@ -9,7 +9,8 @@ use shardpool::{Lane, Pool, open};
 use slotcell::ByteBuf;
 use std::alloc::Global;
 
-/// The pool of a shape within its limits, and its lanes. The error is `Open`, as for such a shape it is memory that was refused.
+/// The pool of a shape within its limits, and its lanes. The error is `Open`, as for such a shape it is memory that was
+/// refused.
 pub(crate) fn open_pool(
     alloc: Global,
     shape: Shape,

@@ -29,7 +29,8 @@ pub struct Ending {
     pub explained: bool,
 }
 
-/// The bytes of the file that a task is about, or what is left of the input where it is named `-`; none where it is about no file.
+/// The bytes of the file that a task is about, or what is left of the input where it is named `-`; none where it is
+/// about no file.
 fn read_file<R: Files + AllocGlobal, I: Read>(
     rt: &R,
     task: &Task,
@@ -202,10 +203,11 @@ fn run_listed<R: Files + AllocGlobal + Threads + Wait + Sync, I: Read, O: Write,
     }
 }
 
-/// Does what the words ask for, which are those that `env::args` answers. A task's file is read, or `input` where it is named
-/// `-`, and before it that of its turns, where they are in one; what it says is written on `out`. The line of its fault is written on `errors`, and behind it, where that is wanted, why; or
-/// else why the words ask for nothing. The exit status is 0 where it is done and after help, 1 after a fault, an illegal act and
-/// where there is no key, and 2 after a mistake in the words. Workers run on the threads of `rt`.
+/// Does what the words ask for, which are those that `env::args` answers. A task's file is read, or `input` where it is
+/// named `-`, and before it that of its turns, where they are in one; what it says is written on `out`. The line of its
+/// fault is written on `errors`, and behind it, where that is wanted, why; or else why the words ask for nothing. The
+/// exit status is 0 where it is done and after help, 1 after a fault, an illegal act and where there is no key, and 2
+/// after a mistake in the words. Workers run on the threads of `rt`.
 pub fn run_program<R: Files + AllocGlobal + Threads + Wait + Sync, I: Read, O: Write, E: Write>(
     rt: &R,
     args: io::Result<Args>,

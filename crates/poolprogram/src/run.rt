@@ -67,11 +67,12 @@ fn run_file<R: Threads + Wait + Sync>(
     run_plan(rt, alloc, plan)
 }
 
-/// Runs a script file: opens a pool of its shape, runs the script of each lane as a worker on a thread of its own, closes the
-/// pool, and then writes the replies of each worker, by rising number, and a line with the census of the pool's places. The
-/// errors: `Read` as `parse` answers it, and with `Memory` where the report of a worker was refused; `Open` where memory was
-/// refused for the pool; `Memory` where it was refused for a row of jobs, workers or lanes, or for the text. These come before the
-/// first byte; `Output` comes exactly where `out` failed, and then it isn't said how much went out.
+/// Runs a script file: opens a pool of its shape, runs the script of each lane as a worker on a thread of its own,
+/// closes the pool, and then writes the replies of each worker, by rising number, and a line with the census of the
+/// pool's places. The errors: `Read` as `parse` answers it, and with `Memory` where the report of a worker was refused;
+/// `Open` where memory was refused for the pool; `Memory` where it was refused for a row of jobs, workers or lanes, or
+/// for the text. These come before the first byte; `Output` comes exactly where `out` failed, and then it isn't said
+/// how much went out.
 pub fn run_text<R: Threads + Wait + Sync, W: Write>(
     rt: &R,
     alloc: Global,

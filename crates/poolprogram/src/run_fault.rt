@@ -24,8 +24,8 @@ pub enum RunFault {
     /// The core was refused memory (25).
     #[error(transparent)]
     Core(CoreFault),
-    /// A schedule wasn't shortened: the word stands nowhere in its replay (44), too much would have to be replayed (45) or memory was
-    /// refused to a replay (25).
+    /// A schedule wasn't shortened: the word stands nowhere in its replay (44), too much would have to be replayed (45)
+    /// or memory was refused to a replay (25).
     #[error("the schedule isn't shortened")]
     Shortening(Unshortened),
     /// The pool wasn't opened, as memory was refused (5).

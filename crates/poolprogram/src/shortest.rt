@@ -32,9 +32,10 @@ fn shortest_of(
     shorten(alloc, &mut trial, schedule).map_err(RunFault::Shortening)
 }
 
-/// Writes the line of what is left of the schedule of `plan_turns` when entries are left out for as long as the word stands in the
-/// replay: no single entry more can go. The errors are those of `plan_turns`; `Shortening` where the word doesn't stand in the replay
-/// of the whole schedule, where too much would have to be replayed, and where a replay was refused memory; `Memory`; and `Output`.
+/// Writes the line of what is left of the schedule of `plan_turns` when entries are left out for as long as the word
+/// stands in the replay: no single entry more can go. The errors are those of `plan_turns`; `Shortening` where the word
+/// doesn't stand in the replay of the whole schedule, where too much would have to be replayed, and where a replay was
+/// refused memory; `Memory`; and `Output`.
 pub fn shortest_text<W: Write>(
     alloc: Global,
     file: &[u8],

@@ -18,9 +18,9 @@ use std::sync::Wait;
 use std::thread::Threads;
 use streams::{Watched, write_text};
 
-/// Does a task on the bytes of its file: a replay, what is said of its schedule, a check, a run or what is said of a key or a word. The answer is
-/// false where acts are illegal or a number is no key's, and then this was said. The errors are those of
-/// the call for the task's kind, and all but `Output` come before the first byte.
+/// Does a task on the bytes of its file: a replay, what is said of its schedule, a check, a run or what is said of a
+/// key or a word. The answer is false where acts are illegal or a number is no key's, and then this was said. The
+/// errors are those of the call for the task's kind, and all but `Output` come before the first byte.
 pub fn do_task<R: Threads + Wait + Sync, W: Write>(
     rt: &R,
     alloc: Global,

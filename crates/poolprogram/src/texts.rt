@@ -10,8 +10,8 @@ use std::alloc::{AllocError, Global};
 use traces::{Reply, write_reply_line};
 use workers::Done;
 
-/// The text of what all workers replied. The errors: `Read` with `Memory` where a worker's report was refused, and `Memory` where
-/// memory was refused for the text.
+/// The text of what all workers replied. The errors: `Read` with `Memory` where a worker's report was refused, and
+/// `Memory` where memory was refused for the text.
 pub(crate) fn replies_text(alloc: Global, dones: &[Done]) -> Result<Vec<u8>, RunFault>
     ensures ok { IfOk result (λ text. AllReported dones.now × (text.items ≡ flat_map done_text dones.now)) }
     ensures err { IfErr result (λ fault. IsReportFault fault) }

@@ -22,7 +22,8 @@ fn out_of_memory() -> RunFault
     RunFault::Read(ScriptRefusal::out_of_memory())
 }
 
-/// The entries of turns for so many lanes. The errors: `Read` with `Memory`, and `File` where the turns are in a file, which isn't read.
+/// The entries of turns for so many lanes. The errors: `Read` with `Memory`, and `File` where the turns are in a file,
+/// which isn't read.
 fn list_entries(alloc: Global, lanes: u32, turns: Turns) -> Result<Vec<u32>, RunFault>
     requires { 1 ≤ lanes }
     ensures ok { IfOk result (λ entries. AreKnown turns × (entries.items ≡ entries_for lanes turns)) }
@@ -116,8 +117,8 @@ pub(crate) fn write_line<W: Write>(
     Ok(())
 }
 
-/// Writes the line of the schedule of turns for the lanes of a script file, up to a stop, which is that of `plan_turns`. The errors
-/// are those of `plan_turns`, `Memory` and `Output`.
+/// Writes the line of the schedule of turns for the lanes of a script file, up to a stop, which is that of
+/// `plan_turns`. The errors are those of `plan_turns`, `Memory` and `Output`.
 pub fn schedule_text<W: Write>(
     alloc: Global,
     file: &[u8],

@@ -1,6 +1,6 @@
 //! The program: it replays a script file over a schedule and prints the trace, checks that acts are a
-//! legal history, runs a script file on threads, or says what a key or a lifecycle word says. What it does, writes and ends
-//! with is `run_program`'s, over any input and writers: here are the streams.
+//! legal history, runs a script file on threads, or says what a key or a lifecycle word says. What it does, writes and
+//! ends with is `run_program`'s, over any input and writers: here are the streams.
 #![tactic(auto)]
 
 use poolprogram::run_program;

@@ -54,7 +54,8 @@ impl<T: Clear> Grid<T> {
             .load::<LayAll<T, J>>(hand, look_word(lane));
     }
 
-    /// Takes the share out of the slot of a place and a lane, which is the first in hand; the slot goes behind the others.
+    /// Takes the share out of the slot of a place and a lane, which is the first in hand; the slot goes behind the
+    /// others.
     #[inline]
     fn take_next(&self, hand: &mut Hand<T>, row: usize, spot: Spot, number: u32) -> Share<T>
         requires hand { IsOf self.now hand.old }
@@ -132,7 +133,8 @@ impl<T: Clear> Grid<T> {
         self.put_next(hand, row, spot, last, rest.into_share());
     }
 
-    /// OUT of all shares of a place that is with the lane, by two looks: they are in its hands, and the slots are empty.
+    /// OUT of all shares of a place that is with the lane, by two looks: they are in its hands, and the slots are
+    /// empty.
     #[inline]
     pub fn out_all(&self, hand: &mut Hand<T>, spot: Spot, lane: u32) -> Rest<T>
         requires hand { IsOf self.now hand.old × IsOne hand.old.me.0 × (hand.old.me.1 ≡ []) }
@@ -149,7 +151,8 @@ impl<T: Clear> Grid<T> {
         rest
     }
 
-    /// BACK of all shares of a cell into the slots of a place that is with the lane, which has emptied them, by two looks.
+    /// BACK of all shares of a cell into the slots of a place that is with the lane, which has emptied them, by two
+    /// looks.
     #[inline]
     pub fn back_all(&self, hand: &mut Hand<T>, spot: Spot, lane: u32, rest: Rest<T>)
         requires hand { IsOf self.now hand.old × IsOne hand.old.me.0 × (hand.old.me.1 ≡ []) }

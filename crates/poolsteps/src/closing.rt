@@ -24,8 +24,9 @@ fn lift<T: Drop>(index: usize, slots: &mut Slots<Slot<T>>) -> Share<T>
     slot.into_share()
 }
 
-/// Drops the cell that the slots of a place have, with its object, by the place's lifecycle word: where that is 0 the one that
-/// rests there, and where the place is published the one whose shares are all there. Of other places the slots have none.
+/// Drops the cell that the slots of a place have, with its object, by the place's lifecycle word: where that is 0 the
+/// one that rests there, and where the place is published the one whose shares are all there. Of other places the slots
+/// have none.
 pub fn drop_cell<T: Drop>(
     directory: Base<Box<T, Global>>,
     shape: &Shape,

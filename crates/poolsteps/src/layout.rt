@@ -1,6 +1,7 @@
-//! Where each word of a pool stands among the words of its table, and each slot among its slots: words that different lanes
-//! change by themselves stand 128 bytes apart, as a processor may fetch two lines of 64 together, and so do the words of neighbouring shards. No step changes the first words: the
-//! very first is read where seats are cut and joined, and behind it each lane has one that it looks at.
+//! Where each word of a pool stands among the words of its table, and each slot among its slots: words that different
+//! lanes change by themselves stand 128 bytes apart, as a processor may fetch two lines of 64 together, and so do the
+//! words of neighbouring shards. No step changes the first words: the very first is read where seats are cut and
+//! joined, and behind it each lane has one that it looks at.
 ghost use Rattle.std.specs.Prelude.{◌≡◌, ◌<◌, ◌*◌, ℕ, true, None, List, Option, length, slice_get, Some, IfSome};
 ghost use Rattle.keybits.specs.Shapes.{IsShape, position_of, is_place};
 ghost use Rattle.keybits.specs.Places.{shard_of};
@@ -16,8 +17,8 @@ use std::alloc::Global;
 /// How many words stand between two that different lanes change by themselves.
 pub(crate) const WORDS_APART: usize = 16;
 
-/// How many places' words stand unused behind those of each shard in a row, so that those of neighbouring shards don't share two lines
-/// of a processor's cache.
+/// How many places' words stand unused behind those of each shard in a row, so that those of neighbouring shards don't
+/// share two lines of a processor's cache.
 pub const SHARDS_APART: usize = 16;
 
 /// Where the lifecycle words begin: behind the very first word and, as far apart, one for each of the most lanes.
@@ -32,8 +33,8 @@ pub(crate) fn word_count(shape: &Shape) -> usize
     LIVES_START + 2 * slot_row(shape) + WORDS_APART * (lanes * lanes)
 }
 
-/// Where a place stands in each row of words, of slots or of what a lane has of each place; the place has this position among the
-/// places of the pool.
+/// Where a place stands in each row of words, of slots or of what a lane has of each place; the place has this position
+/// among the places of the pool.
 pub fn slot_start(shape: &Shape, place: u32, position: usize) -> usize
     requires shape { IsShape shape.now }
     requires place { is_place shape.now place ≡ true }
@@ -166,7 +167,8 @@ fn page_row(shape: &Shape, page: u32) -> PageRow
     }
 }
 
-/// The words before the first step: each lifecycle word is that of generation 1, idle, with count 0, and every other is 0.
+/// The words before the first step: each lifecycle word is that of generation 1, idle, with count 0, and every other is
+/// 0.
 pub(crate) fn first_words(alloc: Global, shape: &Shape) -> Option<Vec<u64>>
     requires { IsShape shape.now }
     ensures count { IfSome result (λ words. length words.items ≡ word_count shape.now) }

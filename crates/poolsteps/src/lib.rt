@@ -1,6 +1,6 @@
-//! The atomic steps of a sharded object pool, and the moves of its shares, over the words and the slots of one table: each is
-//! one call that keeps what holds between any two steps. At the end the cells in the slots of a closed pool are made whole again and
-//! dropped.
+//! The atomic steps of a sharded object pool, and the moves of its shares, over the words and the slots of one table:
+//! each is one call that keeps what holds between any two steps. At the end the cells in the slots of a closed pool are
+//! made whole again and dropped.
 #![tactic(auto)]
 
 mod at_once;

@@ -1,4 +1,5 @@
-//! The moves of shares: each is two looks at a word of the lane's own, one that takes a slot and one that gives it back.
+//! The moves of shares: each is two looks at a word of the lane's own, one that takes a slot and one that gives it
+//! back.
 ghost use Rattle.std.specs.Prelude.{◌≡◌, ◌≢◌, ◌<◌, ◌∷◌, Some, Option};
 ghost use Rattle.atomic_table.specs.Table.{rest};
 ghost use Rattle.placecell.specs.Share.{Share as Shown};
@@ -21,8 +22,8 @@ use slotcell::Clear;
 use std::marker::Brand;
 
 impl<T: Clear> Grid<T> {
-    /// OUT of a lane's share of a place, which the calling lane may have: it is in its hands, and the slot is empty. Where the
-    /// place is published, the share shows the content of its key.
+    /// OUT of a lane's share of a place, which the calling lane may have: it is in its hands, and the slot is empty.
+    /// Where the place is published, the share shows the content of its key.
     #[inline]
     pub fn out(&self, hand: &mut Hand<T>, spot: Spot, lane: u32, number: u32) -> Share<T>
         requires hand { IsOf self.now hand.old × IsOne hand.old.me.0 }
@@ -72,8 +73,8 @@ impl<T: Clear> Grid<T> {
         share
     }
 
-    /// BACK of a lane's share of a place into its slot, which the calling lane has emptied. Where all shares of the place are
-    /// with the lane, and no other slot of it has any, it may be of a new cell.
+    /// BACK of a lane's share of a place into its slot, which the calling lane has emptied. Where all shares of the
+    /// place are with the lane, and no other slot of it has any, it may be of a new cell.
     #[inline]
     pub fn back(&self, hand: &mut Hand<T>, spot: Spot, lane: u32, number: u32, share: Share<T>)
         requires hand { IsOf self.now hand.old × IsOne hand.old.me.0 }

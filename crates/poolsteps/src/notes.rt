@@ -29,8 +29,8 @@ impl<T: Clear> Grid<T> {
         self.table.shared.split_seat::<Tell>(hand)
     }
 
-    /// Takes in a note: what the lane has then seen begins with what it saw, and with what the note has. It is one look,
-    /// and a load before it.
+    /// Takes in a note: what the lane has then seen begins with what it saw, and with what the note has. It is one
+    /// look, and a load before it.
     pub fn hear(&self, hand: &mut Hand<T>, lane: u32, note: Hand<T>)
         requires hand { IsOf self.now hand.old × IsOne hand.old.me.0 }
         requires lane { lane < self.now.shape.lanes }
@@ -43,8 +43,9 @@ impl<T: Clear> Grid<T> {
         self.see_told::<Brand>(hand, lane);
     }
 
-    /// Takes in a note as `hear` does, and sees no further: what the lane has then seen is the longer of what it saw and what
-    /// the note has, and begins with both. So two lanes that take in a note of each other, one after the other, have seen one history.
+    /// Takes in a note as `hear` does, and sees no further: what the lane has then seen is the longer of what it saw
+    /// and what the note has, and begins with both. So two lanes that take in a note of each other, one after the
+    /// other, have seen one history.
     pub fn meet(&self, hand: &mut Hand<T>, lane: u32, note: Hand<T>)
         requires hand { IsOf self.now hand.old × IsOne hand.old.me.0 }
         requires lane { lane < self.now.shape.lanes }
@@ -89,8 +90,8 @@ impl<T: Clear> Grid<T> {
         self.table.shared.load::<SeeTold<J>>(hand, look_word(lane));
     }
 
-    /// Ends the pool's table, with the hands of its lanes: its last words and slots, of which one history tells that begins
-    /// with what each lane saw and has just its acts.
+    /// Ends the pool's table, with the hands of its lanes: its last words and slots, of which one history tells that
+    /// begins with what each lane saw and has just its acts.
     pub fn end(self, hands: Vec<Hand<T>>) -> Closed<Slot<T>, Global>
         requires { AreHands self hands.items }
         ensures world { (w : World) × EndsWith T.content T.room self hands.items (slots_items result.words) (slots_items result.slots) w }

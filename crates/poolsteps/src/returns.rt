@@ -1,5 +1,5 @@
-//! The steps by which a place of another shard is returned and returned places are taken, and the look. Each is one call of
-//! the table.
+//! The steps by which a place of another shard is returned and returned places are taken, and the look. Each is one
+//! call of the table.
 ghost use Rattle.std.specs.Prelude.{◌≡◌, ◌≢◌, ◌<◌, ◌∷◌, Some};
 ghost use Rattle.keybits.specs.declared.step.Word.TheVariants as words;
 ghost use Rattle.poolsteps.specs.Layout.{index_in, word_count};
@@ -45,9 +45,9 @@ impl<T: Clear> Grid<T> {
             .store::<Link<J>>(hand, self.link_of(spot), top)
     }
 
-    /// PUSH of a place to return, which is at rest, on its lane's stack at the place's shard, from the top that was linked:
-    /// the place is home where that was found. Else 0 was found, and LINK and PUSH follow once more, from the top 0. Answers the word that was
-    /// found.
+    /// PUSH of a place to return, which is at rest, on its lane's stack at the place's shard, from the top that was
+    /// linked: the place is home where that was found. Else 0 was found, and LINK and PUSH follow once more, from the
+    /// top 0. Answers the word that was found.
     #[inline]
     pub fn push(&self, hand: &mut Hand<T>, spot: Spot, lane: u32, top: u64) -> u64
         requires hand { IsOf self.now hand.old × IsOne hand.old.me.0 }
@@ -91,8 +91,8 @@ impl<T: Clear> Grid<T> {
         stacks + WORDS_APART * (shard as usize * self.shape.lanes as usize + lane as usize)
     }
 
-    /// TAKE of all places that another lane has returned to the shard of this one: they are its taken chain. Answers the
-    /// word that was found, which leads to the first of them; 0 where there is none.
+    /// TAKE of all places that another lane has returned to the shard of this one: they are its taken chain. Answers
+    /// the word that was found, which leads to the first of them; 0 where there is none.
     #[inline]
     pub fn take(&self, hand: &mut Hand<T>, lane: u32, from: u32) -> u64
         requires hand { IsOf self.now hand.old × IsOne hand.old.me.0 }
@@ -143,8 +143,8 @@ impl<T: Clear> Grid<T> {
             .load::<Follow<J>>(hand, self.link_of(spot))
     }
 
-    /// SEE of a place's lifecycle word: answers the place's generation, as what the lane has then seen has it. Of a place that
-    /// is with the lane it is that of its next publish.
+    /// SEE of a place's lifecycle word: answers the place's generation, as what the lane has then seen has it. Of a
+    /// place that is with the lane it is that of its next publish.
     #[inline]
     pub fn generation(&self, hand: &mut Hand<T>, spot: Spot) -> u32
         requires hand { IsOf self.now hand.old × IsOne hand.old.me.0 }

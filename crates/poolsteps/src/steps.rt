@@ -18,9 +18,9 @@ use slotcell::Clear;
 use std::marker::Brand;
 
 impl<T: Clear> Grid<T> {
-    /// ENTER of a get or of a clear of a key: one is added to the count of its place. Answers the word that was found; the
-    /// call hits where that is of the key's generation and PRESENT. A get is of a key to which the lane has fewer references
-    /// than the most.
+    /// ENTER of a get or of a clear of a key: one is added to the count of its place. Answers the word that was found;
+    /// the call hits where that is of the key's generation and PRESENT. A get is of a key to which the lane has fewer
+    /// references than the most.
     #[inline]
     pub fn enter(&self, hand: &mut Hand<T>, spot: Spot, key: u64, purpose: Purpose) -> u64
         requires hand { IsOf self.now hand.old × IsOne hand.old.me.0 }
@@ -52,8 +52,9 @@ impl<T: Clear> Grid<T> {
             .fetch_add::<Enter<J>>(hand, LIVES_START + spot.start as usize, ONE_COUNT)
     }
 
-    /// LEAVE: one is taken from the count of a key's place. It gives back a reference where nothing is under way, and else
-    /// undoes the ENTER that is. Before the last reference is given back its share is. Answers the word that was found.
+    /// LEAVE: one is taken from the count of a key's place. It gives back a reference where nothing is under way, and
+    /// else undoes the ENTER that is. Before the last reference is given back its share is. Answers the word that was
+    /// found.
     #[inline]
     pub fn leave(&self, hand: &mut Hand<T>, spot: Spot, key: u64) -> u64
         requires hand { IsOf self.now hand.old × IsOne hand.old.me.0 }
@@ -80,8 +81,8 @@ impl<T: Clear> Grid<T> {
             .fetch_sub::<Leave<J>>(hand, LIVES_START + spot.start as usize, ONE_COUNT)
     }
 
-    /// PUBLISH, without a reference, of the content of the cell at the place of a key: the place is with the lane, and each
-    /// share of the cell is in its slot. Answers the word that was found.
+    /// PUBLISH, without a reference, of the content of the cell at the place of a key: the place is with the lane, and
+    /// each share of the cell is in its slot. Answers the word that was found.
     #[inline]
     pub fn publish(&self, hand: &mut Hand<T>, spot: Spot, key: u64) -> u64
         requires hand { IsOf self.now hand.old × IsOne hand.old.me.0 }
@@ -94,8 +95,8 @@ impl<T: Clear> Grid<T> {
         self.publish_as::<Brand>(hand, spot, key, false)
     }
 
-    /// PUBLISH, with a reference, of the content of the cell that a share in the lane's hands shows: the place of the key is
-    /// with the lane, and each other share of the cell is in its slot. Answers the word that was found.
+    /// PUBLISH, with a reference, of the content of the cell that a share in the lane's hands shows: the place of the
+    /// key is with the lane, and each other share of the cell is in its slot. Answers the word that was found.
     #[inline]
     pub fn publish_held(&self, hand: &mut Hand<T>, spot: Spot, key: u64, share: &Share<T>) -> u64
         requires hand { IsOf self.now hand.old × IsOne hand.old.me.0 }
@@ -152,8 +153,8 @@ impl<T: Clear> Grid<T> {
             .fetch_add::<Publish<J>>(hand, LIVES_START + spot.start as usize, added)
     }
 
-    /// MARK, after the ENTER of a clear that hit. Answers the word that was found; the clear is the one that marked the key
-    /// where that was PRESENT.
+    /// MARK, after the ENTER of a clear that hit. Answers the word that was found; the clear is the one that marked the
+    /// key where that was PRESENT.
     #[inline]
     pub fn mark(&self, hand: &mut Hand<T>, spot: Spot, key: u64) -> u64
         requires hand { IsOf self.now hand.old × IsOne hand.old.me.0 }
@@ -180,8 +181,9 @@ impl<T: Clear> Grid<T> {
             .fetch_or::<Mark<J>>(hand, LIVES_START + spot.start as usize, MARK_BIT)
     }
 
-    /// MARK, after the ENTER of a clear that hit, where the word is still the one that is expected: so it is one compare-exchange,
-    /// which costs less than a MARK of any word. Where it finds another word, it changes nothing and was a look. Answers the word that was found.
+    /// MARK, after the ENTER of a clear that hit, where the word is still the one that is expected: so it is one
+    /// compare-exchange, which costs less than a MARK of any word. Where it finds another word, it changes nothing and
+    /// was a look. Answers the word that was found.
     #[inline]
     pub fn mark_from(&self, hand: &mut Hand<T>, spot: Spot, key: u64, expected: u64) -> u64
         requires hand { IsOf self.now hand.old × IsOne hand.old.me.0 }
@@ -211,8 +213,8 @@ impl<T: Clear> Grid<T> {
         )
     }
 
-    /// CLAIM of the place and generation that the lane owes: it succeeds where the word found is (generation, MARKED, count
-    /// 0). Answers the word that was found.
+    /// CLAIM of the place and generation that the lane owes: it succeeds where the word found is (generation, MARKED,
+    /// count 0). Answers the word that was found.
     #[inline]
     pub fn claim(&self, hand: &mut Hand<T>, spot: Spot, generation: u32) -> u64
         requires hand { IsOf self.now hand.old × IsOne hand.old.me.0 }

@@ -1,5 +1,5 @@
-//! Tests of the running pool, and of the steps, hands, guards and workers under and over it: they stand in a crate of their own,
-//! which proves no function of these libraries again.
+//! Tests of the running pool, and of the steps, hands, guards and workers under and over it: they stand in a crate of
+//! their own, which proves no function of these libraries again.
 #![tactic(auto)]
 
 pub mod contents;

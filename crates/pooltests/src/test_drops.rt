@@ -105,7 +105,8 @@ fn give_back<R: Abort>(
     clear(rt, pool, second, key, true);
 }
 
-/// Objects of the first lane that are present without a reference, present with one, marked with one, and under a filling.
+/// Objects of the first lane that are present without a reference, present with one, marked with one, and under a
+/// filling.
 fn keep_some<R: Abort>(
     rt: &R,
     pool: &Pool<Probe>,

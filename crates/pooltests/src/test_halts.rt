@@ -55,7 +55,8 @@ fn create_after_miss<R: Abort>(
     created_key(rt, pool, lane)
 }
 
-/// Lane 1 stops in a get of a key that lane 0 has cleared, and lane 0 gives its last reference to the key back. The key that it then creates.
+/// Lane 1 stops in a get of a key that lane 0 has cleared, and lane 0 gives its last reference to the key back. The key
+/// that it then creates.
 fn create_after_get<R: Abort>(
     rt: &R,
     pool: &Pool<ByteBuf>,

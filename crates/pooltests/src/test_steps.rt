@@ -75,7 +75,8 @@ fn publish_alone<T: Clear + Drop>(
     is_word(rt, found, 4294967296);
 }
 
-/// A clear of lane 1 alone hits, marks and claims the place of lane 0; a MARK from another word than the one that stands there changes nothing.
+/// A clear of lane 1 alone hits, marks and claims the place of lane 0; a MARK from another word than the one that
+/// stands there changes nothing.
 fn clear_and_claim<T: Clear>(rt: &impl Abort, grid: &Grid<T>, hand: &mut Hand<T>, spot: Spot)
     requires shape { grid.now.shape ≡ TWO_LANES }
     requires spot { IsSpot grid.now.shape spot 0 }

@@ -88,8 +88,8 @@ pub(crate) fn look<R: Abort>(rt: &R, pool: &Pool<ByteBuf>, lane: &mut Lane<ByteB
     }
 }
 
-/// A key of the lane is published and cleared, and found before its clear and not after it; meanwhile the key in the other
-/// lane's word is looked at.
+/// A key of the lane is published and cleared, and found before its clear and not after it; meanwhile the key in the
+/// other lane's word is looked at.
 fn round<R: Abort>(
     rt: &R,
     pool: &Pool<ByteBuf>,
@@ -197,8 +197,8 @@ fn take<R: Abort>(rt: &R, pool: &Pool<ByteBuf>, lane: &mut Lane<ByteBuf>, key: u
     read_and_release(rt, pool, lane, reference);
 }
 
-/// A lane leaves a key in its own word, and clears the one that still stood there; and takes the key out of the word of the
-/// lane before it, if one stands there. So each key is cleared once, by whoever took it out of its word.
+/// A lane leaves a key in its own word, and clears the one that still stood there; and takes the key out of the word of
+/// the lane before it, if one stands there. So each key is cleared once, by whoever took it out of its word.
 fn pass_on<R: Abort>(
     rt: &R,
     pool: &Pool<ByteBuf>,

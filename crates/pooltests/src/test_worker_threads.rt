@@ -87,8 +87,8 @@ fn all_told<R: Abort>(
     told
 }
 
-/// What workers reported, one on each lane of a pool of this shape, which all had so many lines; and what the places of the
-/// pool were in the end.
+/// What workers reported, one on each lane of a pool of this shape, which all had so many lines; and what the places of
+/// the pool were in the end.
 fn run_all<R: Threads + Wait + Abort + Sync, G: Gate + Sync>(
     rt: &R,
     alloc: Global,

@@ -1,4 +1,5 @@
-//! Workers on one thread, each with lines of a round. What scripts of other lines reply is tested by runs of script files.
+//! Workers on one thread, each with lines of a round. What scripts of other lines reply is tested by runs of script
+//! files.
 ghost use Rattle.std.specs.Prelude.{◌≡◌};
 ghost use Rattle.shardpool.specs.Lanes.{Owns, refs};
 

@@ -15,8 +15,8 @@ use std::io;
 use std::io::{Read, Write};
 use streams::{Watched, read_path, write_and_flush};
 
-/// Shows what is asked for of a trace, by its bytes. The errors: `Memory` and `Line` come before the first byte; `Output` comes
-/// exactly where `out` failed.
+/// Shows what is asked for of a trace, by its bytes. The errors: `Memory` and `Line` come before the first byte;
+/// `Output` comes exactly where `out` failed.
 fn show<O: Write>(
     alloc: Global,
     view: View,
@@ -54,8 +54,8 @@ fn end_by_bytes<O: Write, E: Write>(
     }
 }
 
-/// Shows what is asked for of the trace in a file, or what is left of the input where the file is named `-`; or writes why it
-/// can't on `errors`. Answers the exit status.
+/// Shows what is asked for of the trace in a file, or what is left of the input where the file is named `-`; or writes
+/// why it can't on `errors`. Answers the exit status.
 fn end_by_view<R: Files + AllocGlobal, I: Read, O: Write, E: Write>(
     rt: &R,
     viewing: &Viewing,
@@ -76,9 +76,9 @@ fn end_by_view<R: Files + AllocGlobal, I: Read, O: Write, E: Write>(
     }
 }
 
-/// Does what the words ask for, which are those that `env::args` answers: shows a trace on `out`, whose file is read, or `input`
-/// where it is named `-`; or writes on `errors` why it can't. Answers the exit status: 0 where it is done and after help, 1 after
-/// a fault, 2 after a mistake in the words.
+/// Does what the words ask for, which are those that `env::args` answers: shows a trace on `out`, whose file is read,
+/// or `input` where it is named `-`; or writes on `errors` why it can't. Answers the exit status: 0 where it is done
+/// and after help, 1 after a fault, 2 after a mistake in the words.
 pub(crate) fn view_trace<R: Files + AllocGlobal, I: Read, O: Write, E: Write>(
     rt: &R,
     args: io::Result<Args>,

@@ -1,4 +1,5 @@
-//! Schedules of turns: as text, in files, drawn by a generator, and with a lane that stops; and decimal numbers as words.
+//! Schedules of turns: as text, in files, drawn by a generator, and with a lane that stops; and decimal numbers as
+//! words.
 #![tactic(auto)]
 
 mod cut;

@@ -23,8 +23,8 @@ fn comma_for(byte: u8) -> u8
     if byte == b'\n' { b',' } else { byte }
 }
 
-/// The text of a file as one of a command line: without the line's end behind it, and with commas in place of the others. The error
-/// is want of memory.
+/// The text of a file as one of a command line: without the line's end behind it, and with commas in place of the
+/// others. The error is want of memory.
 pub fn join_lines(alloc: Global, text: &[u8]) -> Result<Vec<u8>, AllocError>
     ensures { IfOk result (λ line. line.items ≡ joined text.now) }
 {
@@ -34,8 +34,8 @@ pub fn join_lines(alloc: Global, text: &[u8]) -> Result<Vec<u8>, AllocError>
         .collect(alloc)
 }
 
-/// The schedule of a file's text that `join_lines` made: that of `read_schedule`, and that without entries where there is no text.
-/// The error is want of memory.
+/// The schedule of a file's text that `join_lines` made: that of `read_schedule`, and that without entries where there
+/// is no text. The error is want of memory.
 pub fn read_joined(alloc: Global, text: &[u8]) -> Result<Option<Vec<u32>>, AllocError>
     ensures { IfOk result (λ schedule. option_map (λ v. v.items) schedule ≡ joined_schedule text.now) }
 {
@@ -63,7 +63,8 @@ fn push_further(entries: &[u32], text: &mut Vec<u8>) -> Result<(), AllocError>
     Ok(())
 }
 
-/// Appends the line of a schedule, as `--schedule` and files have it. The error is want of memory, and then a part was appended.
+/// Appends the line of a schedule, as `--schedule` and files have it. The error is want of memory, and then a part was
+/// appended.
 pub fn push_schedule(entries: &[u32], text: &mut Vec<u8>) -> Result<(), AllocError>
     ensures { OnOk result (text.new.items ≡ text.old.items ++ schedule_line entries.now) }
 {

@@ -36,8 +36,8 @@ pub fn read_schedule(alloc: Global, text: &[u8]) -> Result<Option<Vec<u32>>, All
     Ok(Some(entries))
 }
 
-/// The first part of a text, between commas, that is no entry of a schedule, and how many parts stand before it; none where all
-/// are entries.
+/// The first part of a text, between commas, that is no entry of a schedule, and how many parts stand before it; none
+/// where all are entries.
 pub fn bad_entry(text: &[u8]) -> Option<(usize, &[u8])>
     ensures { option_map (λ bad. (bad.0, bad.1.now)) result ≡ bad_entry text.now }
 {

@@ -226,15 +226,16 @@ fn read_text(alloc: Global, bytes: &[u8]) -> Result<(Shape, Vec<Act>), ActsRefus
     Ok((shape, acts))
 }
 
-/// Reads the text of a shape and acts: a line for the shape, `shape` with the lanes, the places of the first page, the pages, the
-/// last generation and, where it isn't 0, the tag; and a line for each act. Numbers are decimal and have no leading zeros: a lane
-/// and the shape's numbers are at most 4294967295, a key at most 18446744073709551615, a place at most 16777215. Single spaces
-/// are between the fields, contents are pairs of lower-case hexadecimal digits or a dash for none, and the places of a collect, in
-/// any order, have commas between them. Each line ends with a line feed, which the last may lack; an explicit tag 0 is taken.
+/// Reads the text of a shape and acts: a line for the shape, `shape` with the lanes, the places of the first page, the
+/// pages, the last generation and, where it isn't 0, the tag; and a line for each act. Numbers are decimal and have no
+/// leading zeros: a lane and the shape's numbers are at most 4294967295, a key at most 18446744073709551615, a place at
+/// most 16777215. Single spaces are between the fields, contents are pairs of lower-case hexadecimal digits or a dash
+/// for none, and the places of a collect, in any order, have commas between them. Each line ends with a line feed,
+/// which the last may lack; an explicit tag 0 is taken.
 ///
-/// `Shape` comes where the first line is that of a shape which `Shape::check` refuses, whatever follows, at line 1; `ActsLine` for
-/// any other text that stands for no shape with acts, at the first line that is wrong, which is line 1 of an empty text; `Memory`
-/// where a growth was refused, and only after a checked shape, at the text as a whole.
+/// `Shape` comes where the first line is that of a shape which `Shape::check` refuses, whatever follows, at line 1;
+/// `ActsLine` for any other text that stands for no shape with acts, at the first line that is wrong, which is line 1
+/// of an empty text; `Memory` where a growth was refused, and only after a checked shape, at the text as a whole.
 pub fn read_acts(alloc: Global, bytes: &[u8]) -> Result<(Shape, Vec<Act>), ActsRefusal>
     // What is read is what the text stands for, and a text that stands for something is read.
     ensures ok { IfOk result (λ found. StandsFor bytes.now found.0 found.1.items) }

@@ -13,8 +13,8 @@ use crate::fault::Memory;
 use keybits::Shape;
 use std::alloc::{AllocError, Global};
 
-/// Appends the text of a shape and of some acts. The places of a collect are written in rising order, and the tag only where it
-/// isn't 0. After `Memory` the vector is as it was.
+/// Appends the text of a shape and of some acts. The places of a collect are written in rising order, and the tag only
+/// where it isn't 0. After `Memory` the vector is as it was.
 ///
 /// It is for acts that could be read again: no collect is without places, and places are at most 16777215.
 pub fn write_acts(

@@ -19,8 +19,8 @@ use std::alloc::Global;
 
 /// Whether a list of acts is a legal history of a pool of a checked shape, with its counts.
 ///
-/// `Illegal` names the first act that is refused, counted from 0, and the refusal of `SeqPool::apply`. `Memory` comes where a
-/// growth was refused.
+/// `Illegal` names the first act that is refused, counted from 0, and the refusal of `SeqPool::apply`. `Memory` comes
+/// where a growth was refused.
 pub fn check(alloc: Global, shape: Shape, acts: &[Act]) -> Result<Summary, CheckFault>
     requires { IsShape shape }
     ensures legal { IfOk result (λ summary. IsLegal shape acts.now) }

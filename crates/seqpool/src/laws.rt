@@ -2,19 +2,20 @@
 
 ghost use Rattle.seqpool.specs.Laws.{GetLaw, ClearLaw, MissLaw, LaterLaw, ReclaimLaw, AloneLaw, OnceLaw, ContentLaw, RetiredLaw, OwnLaw};
 
-/// A get of a key replies a content exactly where the publish of the key with that content stands before it and no clear of
-/// the key that replied true does.
+/// A get of a key replies a content exactly where the publish of the key with that content stands before it and no
+/// clear of the key that replied true does.
 pub fn get_law()
     ensures { GetLaw }
 {}
 
-/// A clear of a key replies true exactly where a publish of the key stands before it and no clear of the key that replied
-/// true does.
+/// A clear of a key replies true exactly where a publish of the key stands before it and no clear of the key that
+/// replied true does.
 pub fn clear_law()
     ensures { ClearLaw }
 {}
 
-/// Where a get or a clear didn't find a key that was published before, a clear of the key that replied true stands before it.
+/// Where a get or a clear didn't find a key that was published before, a clear of the key that replied true stands
+/// before it.
 pub fn miss_law()
     ensures { MissLaw }
 {}
@@ -24,7 +25,8 @@ pub fn later_law()
     ensures { LaterLaw }
 {}
 
-/// Where a key is reclaimed nobody refers to it, and between its publish and its reclaim no key of its place is published.
+/// Where a key is reclaimed nobody refers to it, and between its publish and its reclaim no key of its place is
+/// published.
 pub fn reclaim_law()
     ensures given_back { ReclaimLaw }
     ensures alone { AloneLaw }

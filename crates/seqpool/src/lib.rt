@@ -1,9 +1,11 @@
 //! The pool of one thread: its acts, its legal histories and their laws.
 //!
 //! - Acts: `act` and `contents`; why one is refused, `fault`.
-//! - The pool that acts are applied to: `pool`, which keeps a `row` for each place, with a `tally` for each lane; the `laws`.
+//! - The pool that acts are applied to: `pool`, which keeps a `row` for each place, with a `tally` for each lane; the
+//!   `laws`.
 //! - The checker of histories: `checker`, which gives a `summary`.
-//! - Acts as text: `acts_text` writes, `acts_reader` reads by lines and `acts_fields` by fields; `acts_fault`, and with its place `acts_refusal`.
+//! - Acts as text: `acts_text` writes, `acts_reader` reads by lines and `acts_fields` by fields; `acts_fault`, and with
+//!   its place `acts_refusal`.
 #![tactic(auto)]
 
 mod act;

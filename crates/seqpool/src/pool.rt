@@ -306,13 +306,14 @@ impl SeqPool {
 
     /// Makes an act, at the cost of about a look-up.
     ///
-    /// The act is refused where there is no such lane, and then by the first of these that fits it. A publish: the place isn't
-    /// with the lane or the key is outside the shape (`NotWithLane`); the place's next generation isn't the key's
-    /// (`WrongGeneration`). A get or a clear: the reply isn't that of the pool (`WrongReply`). A release: the lane has no
-    /// reference to the key (`NotHeld`). A reclaim: the key isn't in the pool or isn't marked (`NotMarked`); a lane has a
-    /// reference to it (`StillHeld`). A return home: the place isn't with the lane, or is of its own shard (`NotWithLane`). A
-    /// collect: there are no places, or one isn't home, isn't of the lane's shard or came before (`NotHome`). `Memory` comes
-    /// where a content, or one more reference, can't be kept. After any fault the pool is as it was before.
+    /// The act is refused where there is no such lane, and then by the first of these that fits it. A publish: the
+    /// place isn't with the lane or the key is outside the shape (`NotWithLane`); the place's next generation isn't the
+    /// key's (`WrongGeneration`). A get or a clear: the reply isn't that of the pool (`WrongReply`). A release: the
+    /// lane has no reference to the key (`NotHeld`). A reclaim: the key isn't in the pool or isn't marked
+    /// (`NotMarked`); a lane has a reference to it (`StillHeld`). A return home: the place isn't with the lane, or is
+    /// of its own shard (`NotWithLane`). A collect: there are no places, or one isn't home, isn't of the lane's shard
+    /// or came before (`NotHome`). `Memory` comes where a content, or one more reference, can't be kept. After any
+    /// fault the pool is as it was before.
     pub fn apply(&mut self, act: &Act) -> Result<(), ApplyFault>
         ensures ok { OnOk result ((lane_of act.now < self.old.shape.lanes) × Allowed self.old.shape (pool_in self.old) act.now) }
         ensures pool { OnOk result (pool_in self.new ≡ after self.old.shape act.now (pool_in self.old)) }

@@ -82,8 +82,8 @@ impl Census {
     }
 }
 
-/// The census of a pool, by its last words and what its lanes keep. The cells in the slots are dropped, with their objects, and the rights
-/// to their places are with the lanes, whose rights are left.
+/// The census of a pool, by its last words and what its lanes keep. The cells in the slots are dropped, with their
+/// objects, and the rights to their places are with the lanes, whose rights are left.
 pub(crate) fn take_census<T: Drop>(
     directory: Base<Box<T, Global>>,
     shape: &Shape,
@@ -211,8 +211,8 @@ fn mark(shape: &Shape, place: u32, words: &mut Slots<u64>)
     words.put(life_word(shape, place, shape.position(place)), 0);
 }
 
-/// The cells that the slots of a shard's places have are dropped, with their objects: of the places whose lifecycle word is 0, and
-/// of published places. The rights to these places are then the lane's.
+/// The cells that the slots of a shard's places have are dropped, with their objects: of the places whose lifecycle
+/// word is 0, and of published places. The rights to these places are then the lane's.
 fn drop_cells<T: Drop>(
     directory: Base<Box<T, Global>>,
     shape: &Shape,

@@ -15,7 +15,8 @@ use poolcalls::{At, clear_by_steps, try_clear};
 use poolsteps::{Grid, Hand, Spot};
 use slotcell::Clear;
 
-/// A clear of a key whose place stands here, and what the lane keeps of it. Answers whether it is the one that marked the key.
+/// A clear of a key whose place stands here, and what the lane keeps of it. Answers whether it is the one that marked
+/// the key.
 #[inline(always)]
 pub(crate) fn clear_and_keep<T: Clear + Drop>(
     grid: &Grid<T>,
@@ -51,7 +52,8 @@ pub(crate) fn clear_and_keep<T: Clear + Drop>(
     marked
 }
 
-/// The same where another lane stepped on the key's word meanwhile: step by step. Away from the call's own path, for few clears come here.
+/// The same where another lane stepped on the key's word meanwhile: step by step. Away from the call's own path, for
+/// few clears come here.
 #[cold]
 #[inline(never)]
 fn clear_by_steps_and_keep<T: Clear + Drop>(

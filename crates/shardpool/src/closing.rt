@@ -20,8 +20,8 @@ use poolsteps::Hand;
 use slotcell::Clear;
 use std::alloc::Global;
 
-/// A row with room for the hands of all lanes of a pool. Each lane has one, for the call that closes the pool. A hand has no
-/// bytes, so the row takes none.
+/// A row with room for the hands of all lanes of a pool. Each lane has one, for the call that closes the pool. A hand
+/// has no bytes, so the row takes none.
 #[derive(Drop)]
 pub(crate) struct HandRow<T: Clear> {
     hands: Vec<Hand<T>>,
@@ -38,8 +38,9 @@ impl<T: Clear> HandRow<T> {
 
 /// Closes a pool, with all its lanes, and answers what its places were. It takes no memory.
 ///
-/// Tokens that were left stay counted: the place of a filling as filling, and a key with a reference as present, or as marked
-/// where it was cleared. Each object is dropped that the pool has: with a lane, under a key, or with a returned place.
+/// Tokens that were left stay counted: the place of a filling as filling, and a key with a reference as present, or as
+/// marked where it was cleared. Each object is dropped that the pool has: with a lane, under a key, or with a returned
+/// place.
 pub fn close<T: Clear + Drop>(pool: Pool<T>, lanes: Vec<Lane<T>>) -> Census
     requires lanes { AreLanes pool lanes.items }
     ensures closes { Closes pool lanes.items result }

@@ -1,5 +1,5 @@
-//! How a lane gets a place to fill: from its own list, from its taken chain, from the places that were returned to it, or from
-//! its next page.
+//! How a lane gets a place to fill: from its own list, from its taken chain, from the places that were returned to it,
+//! or from its next page.
 ghost use Rattle.std.specs.Prelude.{◌≡◌, ◌≢◌, ◌<◌, ◌≤◌, ◌⊎◌, ℕ, [], ◌∷◌, length, All, IsSome, IfSome, IsNone, IfOk, IsOk, IsErr, IsErrOf};
 ghost use mathlib.Core.List.{IsPrefix};
 ghost use Rattle.shardpool.specs.Tokens.{FillingOf};
@@ -57,9 +57,9 @@ impl Error for CreateFault {}
 impl<T: Clear + Drop> Pool<T> {
     /// A place to be filled, whose object is empty, with at least the room that it had when it was last published.
     ///
-    /// The places come from the lane's own list, first in first out; then from the taken chain; then from the places that other
-    /// lanes returned, which are taken from the first stack by rising lane that has some; then from the next page. It takes memory only to
-    /// open a page, and none where the lane has a free place.
+    /// The places come from the lane's own list, first in first out; then from the taken chain; then from the places
+    /// that other lanes returned, which are taken from the first stack by rising lane that has some; then from the next
+    /// page. It takes memory only to open a page, and none where the lane has a free place.
     #[inline(always)]
     pub fn create(&self, lane: &mut Lane<T>) -> Result<Filling<T>, CreateFault>
         requires owns { Owns self.now lane.old }
@@ -83,8 +83,8 @@ impl<T: Clear + Drop> Pool<T> {
         self.create_apart(lane)
     }
 
-    /// A create where the lane's own list is empty. Apart, so that the short way of a create stands where it is called; where that is one place
-    /// alone, the compiler may put this there too.
+    /// A create where the lane's own list is empty. Apart, so that the short way of a create stands where it is called;
+    /// where that is one place alone, the compiler may put this there too.
     fn create_apart(&self, lane: &mut Lane<T>) -> Result<Filling<T>, CreateFault>
         requires owns { Owns self.now lane.old }
         requires own { lane.old.free.own ≡ [] }

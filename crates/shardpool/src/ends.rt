@@ -16,8 +16,8 @@ use poolcalls::{At, finish_leave};
 use poolsteps::{Grid, Hand, Spot};
 use slotcell::Clear;
 
-/// What follows the LEAVE of a key's place that found this word, and what the lane keeps of it: nothing, unless the call is the last to
-/// leave a marked place. Inlined, for what is seldom done stands apart.
+/// What follows the LEAVE of a key's place that found this word, and what the lane keeps of it: nothing, unless the
+/// call is the last to leave a marked place. Inlined, for what is seldom done stands apart.
 #[inline(always)]
 pub(crate) fn finish_if_owed<T: Clear + Drop>(
     grid: &Grid<T>,
@@ -42,8 +42,8 @@ pub(crate) fn finish_if_owed<T: Clear + Drop>(
     }
 }
 
-/// What the last to leave a marked place does. Away from the calls' own paths: few calls come here, so it takes what they have at hand, and
-/// answers nothing.
+/// What the last to leave a marked place does. Away from the calls' own paths: few calls come here, so it takes what
+/// they have at hand, and answers nothing.
 #[cold]
 #[inline(never)]
 fn finish<T: Clear + Drop>(
@@ -78,7 +78,8 @@ fn finish<T: Clear + Drop>(
     keep_reclaimed(state, spot, reclaimed);
 }
 
-/// The end of a call whose ENTER missed: its LEAVE, and what follows that. Apart from the call's own path, so that the hit is likely there.
+/// The end of a call whose ENTER missed: its LEAVE, and what follows that. Apart from the call's own path, so that the
+/// hit is likely there.
 #[cold]
 #[inline(never)]
 pub(crate) fn end_miss<T: Clear + Drop>(

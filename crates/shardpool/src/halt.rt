@@ -57,8 +57,9 @@ impl<T: Clear + Drop> Halted<T> {
 }
 
 impl<T: Clear + Drop> Pool<T> {
-    /// Makes a call of a lane, and ends it for good after so many atomic steps, or at its end where it has no more. A reference or a
-    /// filling that it gained is left, and a reference that it was to give back stays held where no step is made.
+    /// Makes a call of a lane, and ends it for good after so many atomic steps, or at its end where it has no more. A
+    /// reference or a filling that it gained is left, and a reference that it was to give back stays held where no step
+    /// is made.
     ///
     /// What the lane had under way stays so, and a pool with such a lane can't be closed.
     pub fn halt(&self, lane: Lane<T>, call: LastCall<T>, limit: u32) -> Halted<T>
@@ -144,8 +145,8 @@ impl<T: Clear + Drop> Pool<T> {
         release_within(&self.grid, hand, at, key, limit);
     }
 
-    /// A create that ends after so many steps. It makes none where the lane's own list has a place, and none where nothing hangs and
-    /// no page is opened.
+    /// A create that ends after so many steps. It makes none where the lane's own list has a place, and none where
+    /// nothing hangs and no page is opened.
     fn halt_create(&self, hand: &mut Hand<T>, state: &LaneState<T>, limit: u32)
         requires parts { AreParts T.content T.room self.now hand.old state.now }
         ensures table { hand.new.table_id ≡ hand.old.table_id }

@@ -88,7 +88,8 @@ impl<T: Clear> Lane<T> {
         )
     }
 
-    /// A reference to a key to which the lane has one: so a program may keep keys in place of references. None where it has none.
+    /// A reference to a key to which the lane has one: so a program may keep keys in place of references. None where it
+    /// has none.
     pub fn reference(&self, key: u64) -> Option<Ref<T>>
         ensures held { IfSome result (λ reference. (reference.key ≡ key) × (1 ≤ holds self.now reference.key)) }
         ensures none { IsNone result → holds self.now key ≡ 0 }
@@ -100,8 +101,9 @@ impl<T: Clear> Lane<T> {
         Some(Ref::to(key, places.start(place_of(key)), places))
     }
 
-    /// As a law: the lane has nothing under way, and what it has seen is a legal history of the pool, with a room beside each act, and with
-    /// just those of the lane's acts that it made. In a pool of one lane it has no other acts, so that each reply is that of a pool of one thread, and each key that was cleared and not yet reclaimed
+    /// As a law: the lane has nothing under way, and what it has seen is a legal history of the pool, with a room
+    /// beside each act, and with just those of the lane's acts that it made. In a pool of one lane it has no other
+    /// acts, so that each reply is that of a pool of one thread, and each key that was cleared and not yet reclaimed
     /// has a reference.
     pub fn seen_law(&self)
         ensures legal { IsLegal self.now.shape self.now.book.seen }
@@ -116,9 +118,9 @@ impl<T: Clear> Lane<T> {
         let _ = &self.state;
     }
 
-    /// As a law: the places of the lane's own list and of its taken chain are of its shard, of opened pages and with the lane, and no place stands
-    /// there twice; the chain hangs by its first place; each place of an unopened page is with the lane; and the references to a key are
-    /// among all that the lane has.
+    /// As a law: the places of the lane's own list and of its taken chain are of its shard, of opened pages and with
+    /// the lane, and no place stands there twice; the chain hangs by its first place; each place of an unopened page is
+    /// with the lane; and the references to a key are among all that the lane has.
     pub fn places_law(&self)
         ensures listed { (place : Place) → Contains self.now.free.own place → IsKept self.now.shape self.now.book.seen self.now (number_of place) }
         ensures chained { (place : ℕ) → has (the_lane self.now.book).chain place ≡ true → IsKept self.now.shape self.now.book.seen self.now place }

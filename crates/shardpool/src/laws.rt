@@ -2,8 +2,8 @@
 ghost use Rattle.shardpool.specs.Closings.{PartsLaw};
 ghost use Rattle.shardpool.specs.Seen.{RoomLaw};
 
-/// After a history a place is of an unopened page, free, a filling, under an unmarked key, under a marked one or retired, and one of these
-/// alone.
+/// After a history a place is of an unopened page, free, a filling, under an unmarked key, under a marked one or
+/// retired, and one of these alone.
 pub fn parts_law()
     ensures { PartsLaw }
 {}

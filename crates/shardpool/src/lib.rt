@@ -1,5 +1,5 @@
-//! A sharded pool of objects that are cleared and used again in place: threads share the pool, each with a lane of its own,
-//! without a lock and in a stated number of steps.
+//! A sharded pool of objects that are cleared and used again in place: threads share the pool, each with a lane of its
+//! own, without a lock and in a stated number of steps.
 #![tactic(auto)]
 
 mod apart;

@@ -22,7 +22,8 @@ impl<T: Clear + Drop> Pool<T> {
         }
     }
 
-    /// Takes in a note: what the lane has then seen begins with what it saw, and with what the note has. It makes no step.
+    /// Takes in a note: what the lane has then seen begins with what it saw, and with what the note has. It makes no
+    /// step.
     pub fn hear(&self, lane: &mut Lane<T>, note: Note<T>)
         requires owns { Owns self.now lane.old }
         requires note { Issued self.now note }
@@ -38,7 +39,8 @@ impl<T: Clear + Drop> Pool<T> {
         self.grid.hear(&mut lane.hand, number, note.hand);
     }
 
-    /// Two lanes tell each other what they have seen: it is then one history, which begins with what each saw. They make no step.
+    /// Two lanes tell each other what they have seen: it is then one history, which begins with what each saw. They
+    /// make no step.
     pub fn meet(&self, one: &mut Lane<T>, other: &mut Lane<T>)
         requires one { Owns self.now one.old }
         requires other { Owns self.now other.old }
@@ -60,8 +62,8 @@ impl<T: Clear + Drop> Pool<T> {
         self.meet_by(other, note);
     }
 
-    /// Takes in a note as `hear` does, and sees no further: what the lane has then seen is the longer of what it saw and what
-    /// the note has.
+    /// Takes in a note as `hear` does, and sees no further: what the lane has then seen is the longer of what it saw
+    /// and what the note has.
     fn meet_by(&self, lane: &mut Lane<T>, note: Note<T>)
         requires owns { Owns self.now lane.old }
         requires note { Issued self.now note }

@@ -75,8 +75,8 @@ fn try_open<T: Clear + Drop>(alloc: Global, shape: Shape) -> Option<(Pool<T>, Ve
     Some((pool, lanes))
 }
 
-/// The table of a pool of this shape, whose objects stand in this directory, and its lanes without their rights. None where memory
-/// was refused.
+/// The table of a pool of this shape, whose objects stand in this directory, and its lanes without their rights. None
+/// where memory was refused.
 fn parts_of<T: Clear + Drop>(
     alloc: Global,
     shape: &Shape,

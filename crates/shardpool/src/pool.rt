@@ -65,8 +65,8 @@ impl<T: Clear + Drop> Pool<T> {
         self.grid.shape
     }
 
-    /// A reference to the object of a key, where it is published and not cleared. None otherwise, and for a number that is no
-    /// key of the pool, without a step.
+    /// A reference to the object of a key, where it is published and not cleared. None otherwise, and for a number that
+    /// is no key of the pool, without a step.
     #[inline(always)]
     pub fn get(&self, lane: &mut Lane<T>, key: u64) -> Option<Ref<T>>
         requires owns { Owns self.now lane.old }
@@ -89,8 +89,8 @@ impl<T: Clear + Drop> Pool<T> {
         Some(Ref::to(key, start, &lane.state.places))
     }
 
-    /// A get whose reference stays with the lane, for who keeps keys in place of references: answers where `Lane::read_at` finds the
-    /// object without looking for the key's place again.
+    /// A get whose reference stays with the lane, for who keeps keys in place of references: answers where
+    /// `Lane::read_at` finds the object without looking for the key's place again.
     #[inline]
     pub fn get_at(&self, lane: &mut Lane<T>, key: u64) -> Option<u32>
         requires owns { Owns self.now lane.old }
@@ -112,7 +112,8 @@ impl<T: Clear + Drop> Pool<T> {
         shares_law();
         let number = lane.state.number;
         let spot = self.find(key)?;
-        // Behind the ENTER a processor may make this load wait for the ENTER's store, where both stand alike in their pages.
+        // Behind the ENTER a processor may make this load wait for the ENTER's store, where both stand alike in their
+        // pages.
         let held = lane.state.rows[spot.start as usize].count;
         let found = self.grid.enter(&mut lane.hand, spot, key, Purpose::ToGet);
         if !is_hit(key, found) {
@@ -150,8 +151,8 @@ impl<T: Clear + Drop> Pool<T> {
         self.release_at(lane, spot, key);
     }
 
-    /// Gives back a reference to a key, for who keeps keys in place of references: true where the lane had one. False, without a step,
-    /// where it had none, and for a number that is no key of the pool.
+    /// Gives back a reference to a key, for who keeps keys in place of references: true where the lane had one. False,
+    /// without a step, where it had none, and for a number that is no key of the pool.
     pub fn release_key(&self, lane: &mut Lane<T>, key: u64) -> bool
         requires owns { Owns self.now lane.old }
         ensures owns { Owns self.now lane.new }
@@ -195,9 +196,9 @@ impl<T: Clear + Drop> Pool<T> {
         finish_if_owed(&self.grid, &mut lane.hand, &mut lane.state, spot, key, left);
     }
 
-    /// Clears the object of a key: true where it is this call that marked the key, which a get then finds no more. The last
-    /// that refers to the object clears it in place. False for a key that is marked or not published, and for a number that is no key of the pool,
-    /// without a step.
+    /// Clears the object of a key: true where it is this call that marked the key, which a get then finds no more. The
+    /// last that refers to the object clears it in place. False for a key that is marked or not published, and for a
+    /// number that is no key of the pool, without a step.
     pub fn clear(&self, lane: &mut Lane<T>, key: u64) -> bool
         requires owns { Owns self.now lane.old }
         ensures owns { Owns self.now lane.new }

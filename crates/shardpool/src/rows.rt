@@ -63,7 +63,8 @@ pub(crate) fn add_reference<T: Drop>(state: &mut LaneState<T>, at: usize)
     state.references += 1;
 }
 
-/// The share of a row with one reference, which is taken out of it; the count stays. None where the row has more, and nothing is changed.
+/// The share of a row with one reference, which is taken out of it; the count stays. None where the row has more, and
+/// nothing is changed.
 #[inline]
 pub(crate) fn take_last_share<T: Drop>(state: &mut LaneState<T>, at: usize) -> Option<Share<T>>
     requires at { at < length state.old.rows.items }

@@ -10,7 +10,8 @@ use std::alloc::Global;
 /// What a lane has of a place: how many references to which of its keys, and the share under them.
 #[derive(Drop)]
 pub(crate) struct HeldKey<T> {
-    /// The generation of the last key of the place to which the lane had a reference; 0, which no key has, before the first.
+    /// The generation of the last key of the place to which the lane had a reference; 0, which no key has, before the
+    /// first.
     pub(crate) generation: u32,
     pub(crate) count: u32,
     pub(crate) share: Slot<T>,
@@ -45,8 +46,8 @@ impl<T> LaneState<T> {
     ghost use Rattle.keybits.specs.Keys.{place_of, is_key};
     ghost use Rattle.poolsteps.specs.Layout.{slot_start};
 
-    /// Where the place of a reference's key stands, which is one of the pool: as the reference tells, unless it comes from a pool whose
-    /// places stand elsewhere.
+    /// Where the place of a reference's key stands, which is one of the pool: as the reference tells, unless it comes
+    /// from a pool whose places stand elsewhere.
     #[inline]
     pub(crate) fn start_of(&self, reference: &Ref<T>) -> u32
         requires { is_key self.now.places.shape reference.now.key ≡ true }

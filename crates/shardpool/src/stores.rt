@@ -39,7 +39,8 @@ pub(crate) fn keep<T: Drop>(state: &mut LaneState<T>, spot: Spot, whole: Whole<T
     state.free.push(Place::of_number(spot.place));
 }
 
-/// An empty object of an own place, which never had one, rests with the lane, and the place goes to the end of the lane's list.
+/// An empty object of an own place, which never had one, rests with the lane, and the place goes to the end of the
+/// lane's list.
 fn list<T: Drop>(state: &mut LaneState<T>, place: u32, object: Box<T, Global>)
     requires shape { IsShape state.old.shape }
     requires placed { state.old.places.shape ≡ state.old.shape }
@@ -56,7 +57,8 @@ fn list<T: Drop>(state: &mut LaneState<T>, place: u32, object: Box<T, Global>)
     state.free.push(Place::of_number(place));
 }
 
-/// What became of a place that was reclaimed is kept: the object of an own place, and of a place that was returned its word.
+/// What became of a place that was reclaimed is kept: the object of an own place, and of a place that was returned its
+/// word.
 #[inline(always)]
 pub(crate) fn keep_reclaimed<T: Drop>(
     state: &mut LaneState<T>,
@@ -86,7 +88,8 @@ pub(crate) fn keep_reclaimed<T: Drop>(
     }
 }
 
-/// The first place of the lane's list, where it stands, and its object. None where the list is empty, which changes nothing.
+/// The first place of the lane's list, where it stands, and its object. None where the list is empty, which changes
+/// nothing.
 #[inline]
 pub(crate) fn take_own<T: Drop>(state: &mut LaneState<T>) -> Option<(Place, u32, Box<T, Global>)>
     requires shape { IsShape state.old.shape }

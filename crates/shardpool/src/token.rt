@@ -77,7 +77,8 @@ impl<T> Filling<T> {
         (key, start, object)
     }
 
-    /// The token ends, and the pool isn't told: the place stays filling until the pool is closed. The object is dropped.
+    /// The token ends, and the pool isn't told: the place stays filling until the pool is closed. The object is
+    /// dropped.
     pub fn leave(self)
     where
         T: Drop,

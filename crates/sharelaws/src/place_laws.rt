@@ -1,4 +1,5 @@
-//! The laws of places over a history that goes on, as calls that do nothing: whoever calls one may use its law in a proof.
+//! The laws of places over a history that goes on, as calls that do nothing: whoever calls one may use its law in a
+//! proof.
 
 ghost use Rattle.sharelaws.specs.PlaceLaws.{WithLaw, HeldContentLaw};
 

@@ -1,5 +1,5 @@
-//! The laws of shares, as calls that do nothing: whoever calls one may use its law in a proof. Each says of an act, or of a
-//! move of one slot, what it asks of the lane, and that afterwards every share is where it is to be.
+//! The laws of shares, as calls that do nothing: whoever calls one may use its law in a proof. Each says of an act, or
+//! of a move of one slot, what it asks of the lane, and that afterwards every share is where it is to be.
 
 ghost use Rattle.std.specs.Prelude.{ℕ};
 ghost use Rattle.placecell.specs.Spot.{Spot};
@@ -42,7 +42,8 @@ pub fn move_law<T: Clear>()
     ensures { (spots : ℕ → Spot) → MoveLaw T.content T.room spots }
 {}
 
-/// What a lane may have stays while others act, with whether the place is published, its room, and what is known of its cell.
+/// What a lane may have stays while others act, with whether the place is published, its room, and what is known of its
+/// cell.
 pub fn rights_law()
     ensures { RightsLaw }
 {}

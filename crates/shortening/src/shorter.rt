@@ -1,5 +1,5 @@
-//! Schedules from which entries are left out for as long as they pass a trial: first halves, then quarters, and so on; last
-//! single entries, until none can go.
+//! Schedules from which entries are left out for as long as they pass a trial: first halves, then quarters, and so on;
+//! last single entries, until none can go.
 ghost use Rattle.std.specs.Prelude.{◌≡◌, ◌+◌, ◌<◌, ◌≤◌, ℕ, length, Err, None, IfOk, IfErr, IfSome};
 ghost use Rattle.shortening.specs.Parts.{IsPart, without};
 ghost use Rattle.shortening.specs.Shortest.{IsShortest, IsSameTrial, GivesUp};
@@ -20,7 +20,8 @@ fn without(alloc: Global, schedule: &[u32], at: usize, count: usize) -> Result<V
     Ok(left)
 }
 
-/// Leaves so many entries at a time out of a schedule that passes, where the rest still passes, from the first entry on to the last.
+/// Leaves so many entries at a time out of a schedule that passes, where the rest still passes, from the first entry on
+/// to the last.
 fn sweep<T: Trial>(
     alloc: Global,
     trial: &mut T,
@@ -46,7 +47,8 @@ fn sweep<T: Trial>(
     Ok(kept)
 }
 
-/// Leaves halves, then quarters, and so on out of a schedule that passes, where the rest still passes; last single entries.
+/// Leaves halves, then quarters, and so on out of a schedule that passes, where the rest still passes; last single
+/// entries.
 fn narrow<T: Trial>(
     alloc: Global,
     trial: &mut T,
@@ -105,9 +107,9 @@ fn settle<T: Trial>(
     Ok(kept)
 }
 
-/// What is left of a schedule when entries are left out for as long as it passes the trial, so that it fails as soon as any one
-/// entry more is left out. Halves are tried first, then quarters, and so on, so that a long schedule takes few trials. The errors:
-/// `Fails` where the whole schedule fails; `Limit` where the trial may try no more; `Memory`.
+/// What is left of a schedule when entries are left out for as long as it passes the trial, so that it fails as soon as
+/// any one entry more is left out. Halves are tried first, then quarters, and so on, so that a long schedule takes few
+/// trials. The errors: `Fails` where the whole schedule fails; `Limit` where the trial may try no more; `Memory`.
 pub fn shorten<T: Trial>(
     alloc: Global,
     trial: &mut T,

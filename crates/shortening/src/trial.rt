@@ -16,8 +16,8 @@ pub trait Trial {
     /// It may try no more.
     ghost is_spent: { Self → Type 0 };
 
-    /// Whether a schedule passes. The errors: `Limit` where it may try no more, and `Memory`. What passes and what fails is the
-    /// same after each trial.
+    /// Whether a schedule passes. The errors: `Limit` where it may try no more, and `Memory`. What passes and what
+    /// fails is the same after each trial.
     fn is_passed(&mut self, alloc: Global, schedule: &[u32]) -> Result<bool, Unshortened>
         ensures ok { IfOk result (λ passed. MatchBool passed (passes self.old schedule.now) (fails self.old schedule.now)) }
         ensures err { IfErr result (GivesUp (is_spent self.new)) }

@@ -12,8 +12,9 @@ use std::alloc::Global;
 use std::marker::Model;
 use traces::Script;
 
-/// Whether a word stands in the text of the replay of some scripts: in a line of the trace, or of its acts, between spaces or at an
-/// end of the line. Only so many entries of schedules are replayed: behind the replay that reaches that number there is no more.
+/// Whether a word stands in the text of the replay of some scripts: in a line of the trace, or of its acts, between
+/// spaces or at an end of the line. Only so many entries of schedules are replayed: behind the replay that reaches that
+/// number there is no more.
 #[derive(Drop)]
 pub struct WordTrial {
     shape: Shape,

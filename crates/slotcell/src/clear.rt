@@ -45,8 +45,8 @@ impl fmt::Display for Memory {
 
 impl Error for Memory {}
 
-/// An object that is a buffer of bytes. Its content is the bytes, and its room, which never shrinks, is how many bytes it
-/// can hold in all without taking memory.
+/// An object that is a buffer of bytes. Its content is the bytes, and its room, which never shrinks, is how many bytes
+/// it can hold in all without taking memory.
 #[derive(Debug, Drop)]
 pub struct ByteBuf {
     bytes: Vec<u8>,
@@ -92,8 +92,8 @@ impl Clear for ByteBuf {
 }
 
 impl ByteBuf {
-    /// Appends `more`. Where the new length is at most the room it takes no memory, so that it succeeds and the room stays
-    /// the same.
+    /// Appends `more`. Where the new length is at most the room it takes no memory, so that it succeeds and the room
+    /// stays the same.
     ///
     /// # Errors
     ///
@@ -149,7 +149,8 @@ impl ByteBuf {
         self.bytes.truncate(kept);
     }
 
-    /// Answers where the last `count` bytes stand, for a foreign program to write them before the next call on the buffer.
+    /// Answers where the last `count` bytes stand, for a foreign program to write them before the next call on the
+    /// buffer.
     pub fn address_of_last(&mut self, count: usize) -> *mut u8
         requires { (0 < count) × (count ≤ length self.old.bytes) }
         ensures { self.new ≡ self.old }

@@ -7,8 +7,8 @@
 //! that sound is a type: a `Whole` reads and writes the object of a cell, a `Share` reads it, and all shares of a cell
 //! together are the whole again, with that very object.
 //!
-//! Raw pointers stand in `portion` and `unboxed` alone, in functions of a few lines that are proved by hand. All else is
-//! safe code over them.
+//! Raw pointers stand in `portion` and `unboxed` alone, in functions of a few lines that are proved by hand. All else
+//! is safe code over them.
 #![tactic(auto)]
 
 mod clear;

@@ -6,8 +6,8 @@ use crate::unboxed::Unboxed;
 use std::alloc::Global;
 use std::marker::Model;
 
-// Some of the 2^63 equal parts of a cell that is lent, `parts` of them. Each part is a right to read. Whoever has all, with
-// the right of the one `owner` to the box, ends the loan. At run time there is only the pointer.
+// Some of the 2^63 equal parts of a cell that is lent, `parts` of them. Each part is a right to read. Whoever has all,
+// with the right of the one `owner` to the box, ends the loan. At run time there is only the pointer.
 #[derive(Drop)]
 pub(crate) struct Portion<T> {
     at: *mut T,

@@ -10,7 +10,8 @@ use arrayvec::ArrayVec;
 use std::alloc::Global;
 use std::marker::Model;
 
-/// A cell on the heap with its object, which nobody else can reach. A contract sees the object, so its content and room.
+/// A cell on the heap with its object, which nobody else can reach. A contract sees the object, so its content and
+/// room.
 ///
 /// A whole that is dropped drops its object and frees its cell. It crosses threads as `T` does.
 #[derive(Drop)]
@@ -67,8 +68,8 @@ impl<T> Whole<T> {
 }
 
 impl<T: Drop> Whole<T> {
-    /// Splits the cell into `n` shares, from 1 to 16, which stand by rising number from 0. Each shows the object. It takes
-    /// no memory.
+    /// Splits the cell into `n` shares, from 1 to 16, which stand by rising number from 0. Each shows the object. It
+    /// takes no memory.
     ///
     /// The shares are `Some`s, since an `ArrayVec` holds blanks in its unused places and a share has none.
     pub fn split(self, n: usize) -> ArrayVec<Option<Share<T>>, 16>
@@ -95,8 +96,8 @@ impl<T: Drop> Whole<T> {
     }
 }
 
-/// Joins all the shares of one cell, in any order, to the whole. Its object is the one that each of them showed. It takes
-/// no memory.
+/// Joins all the shares of one cell, in any order, to the whole. Its object is the one that each of them showed. It
+/// takes no memory.
 pub fn join<T: Drop>(alloc: Global, shares: ArrayVec<Option<Share<T>>, 16>) -> Whole<T>
     requires { AreAllShares shares.items }
     ensures { AllShow result shares.items }

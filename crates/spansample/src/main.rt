@@ -1,5 +1,5 @@
-//! A registry of spans: three lanes of a pool, each in a thread of its own, pass them on through channels. What a caller can conclude is in the
-//! contracts of `guards::Seat` and of `close_spans`.
+//! A registry of spans: three lanes of a pool, each in a thread of its own, pass them on through channels. What a
+//! caller can conclude is in the contracts of `guards::Seat` and of `close_spans`.
 #![tactic(auto)]
 
 ghost use Rattle.std.specs.Prelude.{◌≡◌, List, map, Some, IfOk};

@@ -1,5 +1,5 @@
-//! What holds of moments and of histories beside the steps, as calls that do nothing: whoever calls one may use its law in
-//! a proof.
+//! What holds of moments and of histories beside the steps, as calls that do nothing: whoever calls one may use its law
+//! in a proof.
 
 ghost use Rattle.steplaws.specs.MomentLaws.{StartLaw, QuietLaw, CountLaw, ReturnerLaw, HomeStaysLaw, OwnActsLaw};
 

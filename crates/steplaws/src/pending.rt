@@ -15,7 +15,8 @@ pub enum Pending {
         place: u32,
         generation: u32,
     },
-    /// A place still to be returned to its shard: the expected top that was linked, if one was, and whether a PUSH of it failed.
+    /// A place still to be returned to its shard: the expected top that was linked, if one was, and whether a PUSH of
+    /// it failed.
     Returns {
         place: u32,
         linked: Option<u64>,

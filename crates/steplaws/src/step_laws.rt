@@ -1,6 +1,6 @@
-//! The laws of the steps, as calls that do nothing: whoever calls one may use its law in a proof. Each says of a kind of
-//! step, at a moment at which the rule holds, that its word is one at which it may be made, which act it makes, that the
-//! act is allowed, and that the rule holds of the moment after it.
+//! The laws of the steps, as calls that do nothing: whoever calls one may use its law in a proof. Each says of a kind
+//! of step, at a moment at which the rule holds, that its word is one at which it may be made, which act it makes, that
+//! the act is allowed, and that the rule holds of the moment after it.
 
 ghost use Rattle.steplaws.specs.StepLaws.{GetHitsLaw, GetMissesLaw, ClearHitsLaw, ClearMissesLaw, ReleaseLaw, UndoLaw, PublishLaw, MarkLaw};
 ghost use Rattle.steplaws.specs.StepLaws.{ClaimOwnLaw, ClaimOtherLaw, ClaimLastLaw, ClaimFailsLaw, LinkLaw, PushSucceedsLaw, PushFailsLaw, PushAgainLaw};

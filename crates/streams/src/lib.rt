@@ -1,5 +1,5 @@
-//! What programs read and write: files and inputs that are read to their end, writers that remember whether a write failed, lines,
-//! and how bytes are shown that aren't the programs' own.
+//! What programs read and write: files and inputs that are read to their end, writers that remember whether a write
+//! failed, lines, and how bytes are shown that aren't the programs' own.
 #![tactic(auto)]
 
 mod lines;

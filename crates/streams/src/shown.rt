@@ -1,5 +1,5 @@
-//! Bytes that weren't written by these programs, as they are shown in a line: whatever a file or a word has, the line is one,
-//! and no byte of it steers a terminal.
+//! Bytes that weren't written by these programs, as they are shown in a line: whatever a file or a word has, the line
+//! is one, and no byte of it steers a terminal.
 ghost use Rattle.std.specs.Prelude.{◌≡◌, ◌++◌, take, IfOk, OnOk, string_bytes};
 ghost use Rattle.streams.specs.Saying.{Says};
 ghost use Rattle.streams.specs.Shown.{byte_text, bytes_text, cut_text, shown_bytes, line_text, IsSafeLine};
@@ -29,8 +29,8 @@ fn push_byte(text: &mut String, byte: u8) -> Result<(), AllocError>
     write!(text, "<{byte}>")
 }
 
-/// Appends some bytes, one after the other: a character of ASCII that can be printed as it is, any other byte as its number, as
-/// `<27>`. The error is want of memory, and then a part was appended.
+/// Appends some bytes, one after the other: a character of ASCII that can be printed as it is, any other byte as its
+/// number, as `<27>`. The error is want of memory, and then a part was appended.
 pub fn push_bytes(text: &mut String, bytes: &[u8]) -> Result<(), AllocError>
     ensures { OnOk result (string_bytes text.new ≡ string_bytes text.old ++ bytes_text bytes.now) }
 {
@@ -68,7 +68,8 @@ pub fn push_shown(text: &mut String, bytes: &[u8]) -> Result<(), AllocError>
     text.push_str("\"")
 }
 
-/// The line that shows a text: its first 2000 bytes as `push_bytes` shows them, and the line's end. The error is want of memory.
+/// The line that shows a text: its first 2000 bytes as `push_bytes` shows them, and the line's end. The error is want
+/// of memory.
 pub fn line_of(alloc: Global, text: &[u8]) -> Result<String, AllocError>
     ensures is { IfOk result (λ line. string_bytes line ≡ line_text text.now) }
     ensures safe { IfOk result (λ line. IsSafeLine (string_bytes line)) }

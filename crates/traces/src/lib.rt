@@ -1,5 +1,5 @@
-//! Traces of the pool's algorithm: the commands of a lane's script, what a lane does in a turn, which traces are lawful, what
-//! follows from that, and the text of a trace.
+//! Traces of the pool's algorithm: the commands of a lane's script, what a lane does in a turn, which traces are
+//! lawful, what follows from that, and the text of a trace.
 #![tactic(auto)]
 
 mod laws;

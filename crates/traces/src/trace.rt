@@ -7,8 +7,8 @@ use seqpool::Act;
 use std::alloc::{AllocError, Global};
 use std::marker::Model;
 
-/// What a lane did in one turn: the replies before its step, the step with the act that it makes, and the replies after it.
-/// A turn without a step has its replies before it.
+/// What a lane did in one turn: the replies before its step, the step with the act that it makes, and the replies after
+/// it. A turn without a step has its replies before it.
 #[derive(Drop, Debug)]
 pub struct Turn {
     pub lane: u32,

@@ -11,8 +11,8 @@ use std::collections::BTreeMap;
 /// A word, as a key of a map: its kind, and its place or the lanes of its stack.
 type WordKey = (u8, u32, u32);
 
-/// The turn that left what a word has: its number and its column, and the heights at which its box begins, its step stands and the
-/// box ends.
+/// The turn that left what a word has: its number and its column, and the heights at which its box begins, its step
+/// stands and the box ends.
 #[derive(Clone, Copy)]
 pub(crate) struct Writer {
     pub(crate) turn: usize,
@@ -65,8 +65,8 @@ const PATH: u64 = 5;
 /// How many of them there are.
 const PATHS: usize = 11;
 
-/// Appends an arrow from one turn to the step of another, where they are in different columns: between two rows to a path that is
-/// the earlier turn's, and down along it. From a turn above the picture it comes down its own column.
+/// Appends an arrow from one turn to the step of another, where they are in different columns: between two rows to a
+/// path that is the earlier turn's, and down along it. From a turn above the picture it comes down its own column.
 pub(crate) fn push_arrow(columns: &Columns, from: &Writer, to: &Writer, out: &mut Page) {
     if from.column == to.column {
         return;

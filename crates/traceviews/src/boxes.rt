@@ -12,7 +12,8 @@ use traces::Reply;
 /// How wide a box is.
 pub(crate) const BOX: u64 = 268;
 
-/// How many lanes have columns side by side. Those of more lanes overlap, which their boxes don't: each turn has its own height.
+/// How many lanes have columns side by side. Those of more lanes overlap, which their boxes don't: each turn has its
+/// own height.
 const SIDE_BY_SIDE: usize = 4;
 
 /// How far columns are from each other at least: the arrows to a column have room left of it.
@@ -160,8 +161,8 @@ fn push_step(step: &NamedStep, x: u64, y: u64, out: &mut Page) {
     out.text(END);
 }
 
-/// The command that replied so, with the step before the reply where that is one of its own: a command that makes steps replies
-/// behind its last one.
+/// The command that replied so, with the step before the reply where that is one of its own: a command that makes steps
+/// replies behind its last one.
 fn command_of(reply: &Reply, own: Option<&NamedStep>) -> &'static str {
     match reply {
         Reply::Filling(_) | Reply::Full => "create ",

@@ -29,8 +29,8 @@ fn entries_of(alloc: Global, words: BTreeMap<u32, u64>) -> Result<Vec<(u32, u64)
     words.into_iter().collect(alloc)
 }
 
-/// The places on whose lifecycle words some lines' steps are made, in rising order, each with the word that the last such step
-/// left.
+/// The places on whose lifecycle words some lines' steps are made, in rising order, each with the word that the last
+/// such step left.
 pub(crate) fn ends_of(alloc: Global, lines: &[Line]) -> Result<Vec<(u32, u64)>, AllocError>
     ensures { IfOk result (λ ends. AreEnds lines.now ends.items) }
 {

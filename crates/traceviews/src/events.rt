@@ -119,8 +119,8 @@ fn push_flow_event(kind: &str, lane: u32, number: usize, object: u64, out: &mut 
     out.text("}");
 }
 
-/// Appends the end of a flow that a step on a lifecycle word is: a publish begins that of its object, and the mark that finds it
-/// PRESENT ends it.
+/// Appends the end of a flow that a step on a lifecycle word is: a publish begins that of its object, and the mark that
+/// finds it PRESENT ends it.
 fn push_flow_at(lane: u32, number: usize, step: &NamedStep, place: u32, out: &mut Page)
     ensures { Grows out.old out.new (flow_at lane number step.now.name place step.now.before step.now.after) }
 {
@@ -190,8 +190,9 @@ fn push_turns(lines: &[Line], out: &mut Page)
     }
 }
 
-/// A trace in the trace-event form: a track for each lane, a slice of one microsecond for each turn, named by its step, with the
-/// turn's object of the JSON view as its arguments, and for each object a flow from its publish to the mark that clears it.
+/// A trace in the trace-event form: a track for each lane, a slice of one microsecond for each turn, named by its step,
+/// with the turn's object of the JSON view as its arguments, and for each object a flow from its publish to the mark
+/// that clears it.
 ///
 /// # Errors
 ///

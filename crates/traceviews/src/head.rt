@@ -75,7 +75,8 @@ fn push_turns(extent: &Extent, out: &mut Page) {
     );
 }
 
-/// Appends what stands above the columns, behind the name of the first tag: the size, the title, the style, which turns are shown, and the legend.
+/// Appends what stands above the columns, behind the name of the first tag: the size, the title, the style, which turns
+/// are shown, and the legend.
 pub(crate) fn push_head(extent: &Extent, out: &mut Page) {
     let Extent { width, height, .. } = *extent;
     out.fill(

@@ -9,8 +9,8 @@ use crate::page::Page;
 use crate::template::{head, tail};
 use std::alloc::{AllocError, Global};
 
-/// A trace as an HTML page, which needs no network: its turns, the commands of each lane as its replies tell them, and who holds
-/// what, turn by turn.
+/// A trace as an HTML page, which needs no network: its turns, the commands of each lane as its replies tell them, and
+/// who holds what, turn by turn.
 ///
 /// # Errors
 ///

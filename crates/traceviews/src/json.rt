@@ -313,10 +313,10 @@ pub(crate) fn push_json(lines: &[Line], out: &mut Page)
     out.text("\n]\n");
 }
 
-/// A trace as JSON: an array with an object for each turn, on a line of its own. It has the turn's number and its lane, the
-/// replies before its step, the step or `null`, and the replies behind it; a step its kind, on which word it is, what it found and
-/// left, as it is and decoded, and whether it failed; a reply its name, and its key, as it is and decoded, or its content. Words
-/// and keys are texts of decimal digits, as they may have 64 bits.
+/// A trace as JSON: an array with an object for each turn, on a line of its own. It has the turn's number and its lane,
+/// the replies before its step, the step or `null`, and the replies behind it; a step its kind, on which word it is,
+/// what it found and left, as it is and decoded, and whether it failed; a reply its name, and its key, as it is and
+/// decoded, or its content. Words and keys are texts of decimal digits, as they may have 64 bits.
 ///
 /// # Errors
 ///

@@ -1,14 +1,16 @@
-//! The text of a trace, as it is read, and what people see of it: its lines with their words decoded, a summary, and a picture.
+//! The text of a trace, as it is read, and what people see of it: its lines with their words decoded, a summary, and a
+//! picture.
 //!
-//! - The text: `reader`, line by line, each a step (`steps`) or a reply (`replies`) of a lane, as `line` has it; its `fields`; why
-//!   it is none, `fault`.
+//! - The text: `reader`, line by line, each a step (`steps`) or a reply (`replies`) of a lane, as `line` has it; its
+//!   `fields`; why it is none, `fault`.
 //! - The lines with their words decoded: `words`; a state and a step's name as text: `decoded`.
 //! - The turns: `turns` puts lines together to turns.
 //! - The summary: `counts`, `ends` and `summary`; which lanes and places there are: `found`.
-//! - The picture: `rows` has its turns, `picture` draws them; `numbers` finds a lane or place among sorted ones; `strips` draws places, `arrows` who finds what another
-//!   left, `boxes` a turn, `head` the title and the legend, `shapes` the elements of SVG.
-//! - For other tools: `json`, the turns as JSON, and `events`, in the trace-event form. The HTML page: `html`, with what is the same
-//!   for each in `template`.
+//! - The picture: `rows` has its turns, `picture` draws them; `numbers` finds a lane or place among sorted ones;
+//!   `strips` draws places, `arrows` who finds what another left, `boxes` a turn, `head` the title and the legend,
+//!   `shapes` the elements of SVG.
+//! - For other tools: `json`, the turns as JSON, and `events`, in the trace-event form. The HTML page: `html`, with
+//!   what is the same for each in `template`.
 //! - What they write to: `page`, a text that remembers a refusal of memory; it has words and places as text.
 #![tactic(auto)]
 

@@ -24,7 +24,8 @@ pub struct Window {
     pub first: usize,
     /// How many turns at most.
     pub count: usize,
-    /// Whether the picture ends before 32767 pixels and says where, names the command of each reply, and has arrows in front.
+    /// Whether the picture ends before 32767 pixels and says where, names the command of each reply, and has arrows in
+    /// front.
     pub fit: bool,
 }
 
@@ -146,7 +147,8 @@ struct Canvas {
     fit: bool,
 }
 
-/// Notes who left what words have when the first turn is drawn. Where memory is refused for it, the arrows aren't whole.
+/// Notes who left what words have when the first turn is drawn. Where memory is refused for it, the arrows aren't
+/// whole.
 fn note_earlier(lines: &[Line], rows: &[Row], canvas: &mut Canvas) {
     for (turn, row) in rows.iter().enumerate() {
         if let Some(step) = step_of(lines_of(lines, row)) {
@@ -189,8 +191,8 @@ fn above_step(lines: &[Line]) -> u64 {
     0
 }
 
-/// Draws the step of a turn: its arrow, and the strip of its place. Where memory is refused for what it left, the arrows aren't
-/// whole.
+/// Draws the step of a turn: its arrow, and the strip of its place. Where memory is refused for what it left, the
+/// arrows aren't whole.
 fn draw_step(step: &NamedStep, to: Writer, canvas: &mut Canvas) {
     if let Some(from) = canvas.writers.before(step) {
         push_arrow(&canvas.columns, from, &to, &mut canvas.arrows);
@@ -333,9 +335,9 @@ fn drawing_of(alloc: Global, lines: &[Line], window: &Window) -> Result<Page, Al
     Ok(out)
 }
 
-/// The picture of some turns of a trace, as an SVG: each lane a column, each turn a row with its replies and its step, and beside
-/// them a strip for each place that these turns step on. A window past the end shows no turn; one that is to fit shows no more
-/// than have room.
+/// The picture of some turns of a trace, as an SVG: each lane a column, each turn a row with its replies and its step,
+/// and beside them a strip for each place that these turns step on. A window past the end shows no turn; one that is to
+/// fit shows no more than have room.
 ///
 /// # Errors
 ///

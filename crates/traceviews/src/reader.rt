@@ -81,12 +81,12 @@ fn read_line(alloc: Global, text: &[u8]) -> Result<Line, LineFault>
     Ok(Line { lane, entry })
 }
 
-/// Reads the text of a trace: a line for each step and each reply of a lane, as `traces::write_trace` writes it. A lane, a shard
-/// and a lane of a stack are at most 4294967295, a place at most 16777215, a word and a key at most 18446744073709551615. Whether
-/// the trace is lawful isn't looked at.
+/// Reads the text of a trace: a line for each step and each reply of a lane, as `traces::write_trace` writes it. A
+/// lane, a shard and a lane of a stack are at most 4294967295, a place at most 16777215, a word and a key at most
+/// 18446744073709551615. Whether the trace is lawful isn't looked at.
 ///
-/// `Line` comes where the text is none, with the number of the first line that is none, counted from 1, and what is wanted in
-/// it. `Memory` comes where a growth was refused, and of the text nothing is said.
+/// `Line` comes where the text is none, with the number of the first line that is none, counted from 1, and what is
+/// wanted in it. `Memory` comes where a growth was refused, and of the text nothing is said.
 pub fn read_trace(alloc: Global, text: &[u8]) -> Result<Vec<Line>, ReadFault>
     ensures lines { IfOk result (λ lines. AreLines lines.items text.now) }
     ensures wrong { (number : ℕ) (wanted : Wanted) → IsErrOf result (read_faults.Line number wanted) → IsFirstWrong number text.now }

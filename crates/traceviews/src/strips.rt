@@ -30,8 +30,8 @@ pub(crate) struct Strips {
     top: u64,
 }
 
-/// Appends a part of the strip of a place: its colour is the state, and in it stand the state's first letter and the count. Its title
-/// says what the place is.
+/// Appends a part of the strip of a place: its colour is the state, and in it stand the state's first letter and the
+/// count. Its title says what the place is.
 fn push_part(strip: &Strip, x: u64, end: u64, out: &mut Page) {
     let life = Life::of_word(strip.word);
     let area = Area {

@@ -154,9 +154,9 @@ fn push_counts(lines: &[Line], out: &mut Page)
     out.text("\n");
 }
 
-/// The summary of a trace: how many turns and lines; a line for each lane, with its replies, its failed steps, the steps of its
-/// longest call, whether it is in the midst of a call, and its steps by name; how many places are in which state at the end, and a
-/// line for each.
+/// The summary of a trace: how many turns and lines; a line for each lane, with its replies, its failed steps, the
+/// steps of its longest call, whether it is in the midst of a call, and its steps by name; how many places are in which
+/// state at the end, and a line for each.
 ///
 /// # Errors
 ///

@@ -89,8 +89,8 @@ pub(crate) fn split_step(turn: &[Line]) -> (&[Line], &[Line])
     turn.split_at(count_front(turn))
 }
 
-/// How many turns the lines of a trace have: a step with the replies of its lane before and behind it is one, and so are the
-/// replies of a lane that makes no step.
+/// How many turns the lines of a trace have: a step with the replies of its lane before and behind it is one, and so
+/// are the replies of a lane that makes no step.
 pub fn turn_count(lines: &[Line]) -> usize
     ensures { result ≡ length (turns_of lines.now) }
 {

@@ -151,9 +151,10 @@ fn push_words(style: WordStyle, lines: &[Line], out: &mut Page)
     }
 }
 
-/// The lines of a trace with each word decoded: a lifecycle word as its state, its count and its generation, a link or stack word
-/// as the place that it stands for (`end` for 0, a number over 65536 as it is), a place as its shard, page and slot. Behind a push
-/// or a claim that failed stands `failed`. Replies stand as they are in the trace, but for keys, where the style decodes them.
+/// The lines of a trace with each word decoded: a lifecycle word as its state, its count and its generation, a link or
+/// stack word as the place that it stands for (`end` for 0, a number over 65536 as it is), a place as its shard, page
+/// and slot. Behind a push or a claim that failed stands `failed`. Replies stand as they are in the trace, but for
+/// keys, where the style decodes them.
 ///
 /// # Errors
 ///

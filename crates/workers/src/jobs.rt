@@ -16,12 +16,13 @@ pub struct Job {
 pub struct Report {
     /// A reply for each line that was run, in order.
     pub replies: Vec<Reply>,
-    /// The line before which the worker was stopped by its gate, counted from 0; a line from 4294967295 on counts as that. None where all
-    /// lines were run.
+    /// The line before which the worker was stopped by its gate, counted from 0; a line from 4294967295 on counts as
+    /// that. None where all lines were run.
     pub stopped_at: Option<u32>,
 }
 
-/// What came of a job: its lane, and the report. Where the row of replies was refused there is none, and no line was run.
+/// What came of a job: its lane, and the report. Where the row of replies was refused there is none, and no line was
+/// run.
 #[derive(Drop)]
 pub struct Done {
     pub lane: Lane<ByteBuf>,

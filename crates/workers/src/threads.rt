@@ -90,8 +90,8 @@ fn finish_all<R: Threads, G: Gate>(rt: &R, begun: Vec<Begun<G>>, dones: Vec<Done
     dones
 }
 
-/// Runs each job in a thread of its own, all at the same time, and waits for their ends. A job whose thread can't be started is run in the
-/// caller's. The answers stand in the order of the jobs.
+/// Runs each job in a thread of its own, all at the same time, and waits for their ends. A job whose thread can't be
+/// started is run in the caller's. The answers stand in the order of the jobs.
 ///
 /// # Errors
 ///

@@ -16,8 +16,8 @@ use slotcell::ByteBuf;
 use std::alloc::Global;
 use traces::{Command, Reply, Script};
 
-/// Runs a script on a lane, line by line, as long as the gate lets each line pass. What its registers still hold at the end is left: a
-/// filling stays filling, and a reference stays held, until the pool is closed.
+/// Runs a script on a lane, line by line, as long as the gate lets each line pass. What its registers still hold at the
+/// end is left: a filling stays filling, and a reference stays held, until the pool is closed.
 ///
 /// # Errors
 ///
