@@ -11,14 +11,15 @@ use Rattle.seqpool.specs.Histories.{At, PublishedAt, acts_of}
 use Rattle.seqpool.proofs.Growth.{pool-append, legal-front, legal-rest, legal-take, legal-at}
 use Rattle.seqpool.proofs.Ranks.{rank, rank-rises, rank-after, published-ranks, current-key, level-with}
 use Rattle.sharelaws.specs.Shares.{room_of}
+use Rattle.poolsteps.specs.declared.view.View.{View}
 use Rattle.poolsteps.specs.Views.{the_lane}
 use Rattle.shardpool.specs.Tokens.{LaneOf, FillingOf}
 use Rattle.shardpool.specs.Lanes.{Made, SeesOn}
 use Rattle.shardpool.specs.Seen.{RoomLaw}
 use Rattle.shardpool.specs.Creates.{Gives}
 use Rattle.poollaws.specs.Words.{IsPublished}
-use Rattle.poollaws.specs.Rooms.{KnowsRoom}
-use Rattle.poollaws.specs.Laws.{OwnActsLaw, FirstRoomLaw, KeptRoomLaw, ReusedRoomLaw, OwnerLaw}
+use Rattle.poollaws.specs.Rooms.{SawRoom}
+use Rattle.poollaws.specs.Laws.{OwnActsLaw, FirstRoomLaw, KeptRoomLaw, ToldRoomLaw, HeardRoomLaw, ReusedRoomLaw, OwnerLaw}
 
 -- ---- a lane's own acts
 
@@ -93,24 +94,50 @@ first-room lane key size content is beside roomy = record {
   roomy = roomy;
 }
 
-pub kept-room : KeptRoomLaw
-kept-room made old new key size goes knows =
-    let long = length-append knows.kept goes.kept in
-    let longer = length-append knows.more goes.more in
-    let paired = knows.paired in
-    let more = goes.paired in record {
+-- what was seen goes on with these acts, and so many rooms beside them
+saw-more : (old new : View) (key size : ℕ) (more : List Act) (kept : List ℕ) → new.seen ≡ old.seen ++ more → new.rooms ≡ old.rooms ++ kept
+    → length kept ≡ length more → SawRoom old key size → SawRoom new key size
+saw-more old new key size acts rooms seen beside paired knows =
+    let long = length-append knows.kept rooms in
+    let longer = length-append knows.more acts in
+    let before = knows.paired in record {
       front = knows.front;
-      more = knows.more ++ goes.more;
-      seen = goes.seen ∙ (ap (λ (h : List Act). h ++ goes.more) knows.seen ∙ append_assoc knows.front knows.more goes.more);
+      more = knows.more ++ acts;
+      seen = seen ∙ (ap (λ (h : List Act). h ++ acts) knows.seen ∙ append_assoc knows.front knows.more acts);
       rooms = knows.rooms;
-      kept = knows.kept ++ goes.kept;
-      rooms_are = goes.rooms ∙ (ap (λ (r : List ℕ). r ++ goes.kept) knows.rooms_are ∙ append_assoc knows.rooms knows.kept goes.kept);
+      kept = knows.kept ++ rooms;
+      rooms_are = beside ∙ (ap (λ (r : List ℕ). r ++ rooms) knows.rooms_are ∙ append_assoc knows.rooms knows.kept rooms);
       beside = knows.beside;
-      paired = omega (arith, long, longer, paired, more);
+      paired = omega (arith, long, longer, before, paired);
       content = knows.content;
       published = knows.published;
       roomy = knows.roomy;
     }
+
+pub kept-room : KeptRoomLaw
+kept-room made old new key size goes knows = saw-more old.book new.book key size goes.more goes.kept goes.seen goes.rooms goes.paired knows
+
+pub told-room : ToldRoomLaw
+told-room teller note key size seen rooms knows =
+    saw-more teller note key size [] [] (seen ∙ sym (append-nil teller.seen)) (rooms ∙ sym (append-nil teller.rooms)) refl knows
+
+-- of a view of which a part is known
+saw-paired : (book : View) (key size : ℕ) → SawRoom book key size → length book.rooms ≡ length book.seen
+saw-paired book key size knows =
+    let acts = ap length knows.seen in
+    let rooms = ap length knows.rooms_are in
+    let front = length-append knows.front knows.more in
+    let beside = length-append knows.rooms knows.kept in
+    omega (arith, acts, rooms, front, beside, knows.beside, knows.paired)
+
+pub heard-room : HeardRoomLaw
+heard-room note hearer key size (more, seen) (kept, rooms) paired knows =
+    let acts = ap length seen in
+    let long = ap length rooms in
+    let acts_split = length-append note.seen more in
+    let rooms_split = length-append note.rooms kept in
+    let before = saw-paired note key size knows in
+    saw-more note hearer key size more kept (sym seen) (sym rooms) (omega (arith, acts, long, acts_split, rooms_split, before, paired)) knows
 
 module _ {T : Type 0} (content : T → List ℕ) (room : T → ℕ) (stays : RoomLaw) where
   pub reused-room : ReusedRoomLaw content room

@@ -8,6 +8,7 @@ use Rattle.seqpool.specs.declared.act.Act.{Act}
 use Rattle.seqpool.specs.declared.act.Act.TheVariants.{Get}
 use Rattle.seqpool.specs.Pool.{lane_of, IsLegal}
 use Rattle.seqpool.specs.Histories.{At, PublishedAt}
+use Rattle.poolsteps.specs.declared.view.View.{View}
 use Rattle.poolsteps.specs.Views.{the_lane}
 use Rattle.sharelaws.specs.Shares.{room_of}
 use Rattle.shardpool.specs.declared.census.Census.{Census}
@@ -17,7 +18,7 @@ use Rattle.shardpool.specs.Seen.{FoundSince, MissedSince}
 use Rattle.shardpool.specs.Creates.{Gives}
 use Rattle.shardpool.specs.Closings.{AreLanes, Closes}
 use Rattle.poollaws.specs.Words.{IsPublished, IsCleared, IsGone, IsPresent, HasAll}
-use Rattle.poollaws.specs.Rooms.{KnowsRoom}
+use Rattle.poollaws.specs.Rooms.{SawRoom, KnowsRoom}
 use Rattle.poollaws.specs.Counted.{CountsPresent}
 
 -- ---- histories that go on
@@ -85,6 +86,15 @@ FirstRoomLaw = (lane : LaneOf) (key size : ℕ) (content : List ℕ) → IsPubli
 -- what it knows it goes on to know
 abbrev pub KeptRoomLaw : Type 0
 KeptRoomLaw = (made : List Act) (old new : LaneOf) (key size : ℕ) → SeesOn made old new → KnowsRoom old key size → KnowsRoom new key size
+
+-- what a lane knows of rooms its note tells
+abbrev pub ToldRoomLaw : Type 0
+ToldRoomLaw = (teller note : View) (key size : ℕ) → note.seen ≡ teller.seen → note.rooms ≡ teller.rooms → SawRoom teller key size → SawRoom note key size
+
+-- and whoever hears the note, or meets the lane, knows it too
+abbrev pub HeardRoomLaw : Type 0
+HeardRoomLaw = (note hearer : View) (key size : ℕ) → IsPrefix note.seen hearer.seen → IsPrefix note.rooms hearer.rooms
+    → length hearer.rooms ≡ length hearer.seen → SawRoom note key size → SawRoom hearer key size
 
 -- the object of a filling has the room that its place had under the key before: a key's next has its place and the next generation
 abbrev pub ReusedRoomLaw : {T : Type 0} → (T → List ℕ) → (T → ℕ) → Type 0

@@ -1,5 +1,5 @@
 //! The laws, as calls that do nothing: whoever calls one may use its law in a proof.
-ghost use Rattle.poollaws.specs.Laws.{StandsLaw, StaysPublishedLaw, StaysClearedLaw, OwnActsLaw, GoneLaw, UnfoundLaw, MissedLaw, EndLaw, LastLaw, CountedLaw, NoneLeftLaw, FirstRoomLaw, KeptRoomLaw, ReusedRoomLaw, OwnerLaw};
+ghost use Rattle.poollaws.specs.Laws.{StandsLaw, StaysPublishedLaw, StaysClearedLaw, OwnActsLaw, GoneLaw, UnfoundLaw, MissedLaw, EndLaw, LastLaw, CountedLaw, NoneLeftLaw, FirstRoomLaw, KeptRoomLaw, ToldRoomLaw, HeardRoomLaw, ReusedRoomLaw, OwnerLaw};
 
 use shardpool::room_law;
 use slotcell::Clear;
@@ -38,11 +38,13 @@ pub fn close_law()
     ensures none_left { NoneLeftLaw }
 {}
 
-/// A lane that published a key knows the room of its place, and goes on to know it; and the object of a filling has at
-/// least the room that its place had under the key before.
+/// A lane that published a key knows the room of its place, and goes on to know it. So does whoever hears a note of the
+/// lane. And the object of a filling has at least the room that its place had under the key before.
 pub fn room_kept_law<T: Clear>()
     ensures first { FirstRoomLaw }
     ensures kept { KeptRoomLaw }
+    ensures told { ToldRoomLaw }
+    ensures heard { HeardRoomLaw }
     ensures reused { ReusedRoomLaw T.content T.room }
 {
     room_law();

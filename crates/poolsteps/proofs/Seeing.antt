@@ -1,6 +1,7 @@
 -- SEE, through the table.
 use Rattle.placecell.specs.Spot.{Spot as CellSpot}
-use Rattle.std.proofs.Common.{◌≡◌, true, [], ◌∷◌, ap, sym, ◌∙◌, ℕ, List, Option, refl, subst}
+use Rattle.std.proofs.Common.{◌≡◌, Bool, true, false, cond, ltb, [], ◌∷◌, length, take, ap, sym, ◌∙◌, ℕ, List, Option, refl, subst}
+use Rattle.std.proofs.lemmas.List.{take_at}
 use Rattle.atomic_table.specs.Table as table
 use Rattle.atomic_table.specs.Table.{Me, Allows}
 use Rattle.keybits.specs.declared.shape.Shape.{Shape}
@@ -9,7 +10,7 @@ use Rattle.poolsteps.specs.declared.view.LaneRecord.{LaneRecord}
 use Rattle.poolsteps.specs.declared.view.Heard.{Heard}
 use Rattle.poolsteps.specs.declared.view.View.{View}
 use Rattle.poolsteps.specs.Views.{the_lane, IsOne}
-use Rattle.poolsteps.specs.Rule.{World, IsRecord, IsBeginning, Kept}
+use Rattle.poolsteps.specs.Rule.{World, IsRecord, IsBeginning, HasSeen, Kept}
 use Rattle.poolsteps.specs.Told.{Sees, SeesLife}
 use Rattle.std.specs.List.{All}
 use Rattle.std.proofs.lemmas.List.Elements.{All-head}
@@ -19,25 +20,57 @@ use Rattle.keybits.specs.Shapes.{is_place}
 use Rattle.keybits.specs.Words.{generation_in}
 use Rattle.seqpool.specs.declared.act.Act.{Act}
 use Rattle.poolsteps.specs.Layout.{index_in}
-use Rattle.poolsteps.specs.Seats.{longer}
+use Rattle.poolsteps.specs.Seats.{heard_of, longer, HasHeard, SawLonger}
 use Rattle.poolsteps.specs.Returned.{SeesNoFurther}
 use Rattle.poolsteps.proofs.LayoutLemmas.{value-is}
 use Rattle.poolsteps.proofs.ViewLemmas.{prefix-self, longer-begins}
 use Rattle.poolsteps.proofs.SeatLemmas.{short_view, stays-same, short-stands, look_view, Agrees, is-at, look-stands}
 
+-- ---- a look that sees no further than what was told last
+
+-- the rooms beside a beginning of the history
+rooms-beside : (w : World) (heard : Heard) → IsBeginning w heard → take (length heard.seen) w.kept ≡ heard.rooms
+rooms-beside w heard begins = ap (take (length heard.seen)) (sym begins.rooms.1) ∙ take_at heard.rooms begins.rooms.0 (length heard.seen) begins.paired
+
+rooms-of : (less : Bool) (w : World) (one other : Heard) → IsBeginning w one → IsBeginning w other
+    → take (length (cond less other.seen one.seen)) w.kept ≡ cond less other.rooms one.rooms
+rooms-of true w one other first second = rooms-beside w other second
+rooms-of false w one other first second = rooms-beside w one first
+
+-- beside the longer of two beginnings stand the longer of their rooms
+longer-rooms : (w : World) (one other : Heard) → IsBeginning w one → IsBeginning w other
+    → take (length (longer one.seen other.seen)) w.kept ≡ longer one.rooms other.rooms
+longer-rooms w one other first second =
+    let same : ltb (length one.rooms) (length other.rooms) ≡ ltb (length one.seen) (length other.seen)
+    = ap (λ (n : ℕ). ltb n (length other.rooms)) first.paired ∙ ap (ltb (length one.seen)) second.paired in
+    rooms-of (ltb (length one.seen) (length other.seen)) w one other first second ∙ ap (λ (b : Bool). cond b other.rooms one.rooms) (sym same)
+
+-- a seat that then saw the longer of what it saw and of what it was told has heard that
+saw-longer : (w : World) (v : View) (heard : Heard) → HasSeen w v → IsBeginning w heard
+    → SawLonger v heard (short_view v w (longer v.seen heard.seen)) × HasHeard (short_view v w (longer v.seen heard.seen)) heard
+saw-longer w v heard own told =
+    let seen = longer-begins v.seen heard.seen w.history own.acts told.acts in
+    let rooms = longer-begins v.rooms heard.rooms w.kept own.rooms told.rooms in
+    let beside = longer-rooms w (heard_of v) heard own told in
+    ((refl, beside), record { acts = seen.2; rooms = subst (IsPrefix heard.rooms) (sym beside) rooms.2; paired = told.paired })
+
 -- what is seen then: the longer of what was seen and what was told last, if anything was
-furthest : (told : List Heard) (seen : List Act) (w : World) → IsPrefix seen w.history → All (IsBeginning w) told
-    → (far : List Act) × IsPrefix seen far × IsPrefix far w.history
-    × ((heard : Heard) (more : List Heard) → told ≡ heard ∷ more → (far ≡ longer seen heard.seen) × IsPrefix heard.seen far)
-furthest [] seen w begins all = (seen, prefix-self seen, begins, λ heard more is. absurd (cc is))
-furthest (heard ∷ more) seen w begins all =
-    let most = longer-begins seen heard.seen w.history begins (All-head (IsBeginning w) heard more all).acts in (
-      longer seen heard.seen,
+furthest : (told : List Heard) (v : View) (w : World) → HasSeen w v → All (IsBeginning w) told
+    → (far : List Act) × IsPrefix v.seen far × IsPrefix far w.history
+    × ((heard : Heard) (more : List Heard) → told ≡ heard ∷ more → SawLonger v heard (short_view v w far) × HasHeard (short_view v w far) heard)
+furthest [] v w own all = (v.seen, prefix-self v.seen, own.acts, λ heard more is. absurd (cc is))
+furthest (heard ∷ more) v w own all =
+    let told = All-head (IsBeginning w) heard more all in
+    let far : List Act = longer v.seen heard.seen in
+    let most = longer-begins v.seen heard.seen w.history own.acts told.acts in (
+      far,
       most.1,
       most.0,
       λ other rest is. let same : heard ≡ other = cc is in
-          subst (λ (h : Heard). (longer seen heard.seen ≡ longer seen h.seen) × IsPrefix h.seen (longer seen heard.seen)) same (refl, most.2),
+          subst (λ (h : Heard). SawLonger v h (short_view v w far) × HasHeard (short_view v w far) h) same (saw-longer w v heard own told),
     )
+
+-- ---- what the table allows
 
 -- a record that is so agrees with its world
 pub agrees-now : (z : Shape) (w : World) (r : LaneRecord) → IsRecord z w r → Agrees r w.lanes w.stock
@@ -70,7 +103,6 @@ pub see-no-further-allows : {T : Type 0} (content : T → List ℕ) (room : T �
 see-no-further-allows content room spots z slots id me one index s kept homes at small =
     let w : World = kept.0 in
     let st = kept.1 in
-    let old = (st.seats.seen id me.0 at).acts in
-    let far = furthest me.0.told me.0.seen w old (st.seats.told id me.0 at) in
+    let far = furthest me.0.told me.0 w (st.seats.seen id me.0 at) (st.seats.told id me.0 at) in
     let looks = short-stands content room spots z id me one w s.homes s.words s.views st at index far.0 far.1 far.2 in
     (short_view me.0 w far.0, table.keeps, tt, (w, looks.0), (record { goes = looks.1; held = refl; steps = refl; looks = refl }, far.3))

@@ -2,16 +2,14 @@
 use Rattle.placecell.specs.Spot.{Spot as CellSpot}
 use Rattle.std.proofs.Common.{◌≡◌, ◌∷◌, ◌∙◌, ℕ, List, Option, refl, ap, sym, inl, inr, arith}
 use Rattle.std.proofs.lemmas.List.Elements.{All-cons, All-head, All-same}
-use mathlib.Core.List.{IsPrefix}
 use Rattle.atomic_table.specs.Table as table
 use Rattle.atomic_table.specs.Table.{Me, Allows, Splits, Joins}
 use Rattle.keybits.specs.declared.shape.Shape.{Shape}
 use Rattle.placecell.specs.Share.{Share}
-use Rattle.poolsteps.specs.declared.view.Heard.{Heard}
 use Rattle.poolsteps.specs.declared.view.View.{View}
 use Rattle.poolsteps.specs.Views.{the_lane, IsOne}
 use Rattle.poolsteps.specs.Rule.{World, IsBeginning, Kept}
-use Rattle.poolsteps.specs.Seats.{note_of, heard_of, told_by, longer, spent}
+use Rattle.poolsteps.specs.Seats.{note_of, heard_of, told_by, longer, spent, HasHeard, SawLonger}
 use Rattle.poolsteps.specs.Told.{Sees}
 use Rattle.poolsteps.specs.Returned.{SeesTold, SeesNoFurther}
 use Rattle.poolsteps.proofs.SeatLemmas.{look_view, is-at, look-stands}
@@ -47,8 +45,17 @@ module _ {T : Type 0} (content : T → List ℕ) (room : T → ℕ) (spots : ℕ
       let here = is-at content room spots z id me one w s.homes s.words s.views st at in
       let looks = look-stands content room spots z id me one w s.homes s.words s.views st at index s.homes w.stock (the_lane me.0) st.deep st.shared refl refl
       (agrees-now z w (the_lane me.0) here.record_is) (λ l other. record { under = refl; pushed = λ shard. refl; chain = refl; status = λ place number. refl; knows = λ place. refl }) in
-      let sees : Sees z me (look_view me.0 (the_lane me.0) w, me.1) = record { goes = looks.1; held = refl; steps = refl; looks = refl } in
-      (look_view me.0 (the_lane me.0) w, table.keeps, tt, (w, looks.0), (sees, λ k heard below. (st.seats.told id me.0 at k heard below).acts))
+      let sees : Sees z me (look_view me.0 (the_lane me.0) w, me.1) = record { goes = looks.1; held = refl; steps = refl; looks = refl } in (
+        look_view me.0 (the_lane me.0) w,
+        table.keeps,
+        tt,
+        (w, looks.0),
+        (
+          sees,
+          λ k heard below.
+              let begins = st.seats.told id me.0 at k heard below in record { acts = begins.acts; rooms = begins.rooms; paired = begins.paired },
+        ),
+      )
 
 -- ---- what a look shows of a note that was taken in
 
@@ -57,12 +64,13 @@ module _ {S : Type 0} (z : Shape) (before told after : Me S View) (note : View) 
   told-note : told.0.told ≡ heard_of note ∷ before.0.told
   told-note = ap (λ (m : Me S View). m.0.told) is
 
-  pub heard-note : SeesTold z told after → IsPrefix note.seen after.0.seen
+  pub heard-note : SeesTold z told after → HasHeard after.0 (heard_of note)
   heard-note sees =
-      let begins : Heard → Type 0 = λ heard. IsPrefix heard.seen after.0.seen in
-      All-head begins (heard_of note) before.0.told (All-same begins (heard_of note ∷ before.0.told) told.0.told (sym told-note) sees.1)
+      All-head (HasHeard after.0) (heard_of note) before.0.told
+      (All-same (HasHeard after.0) (heard_of note ∷ before.0.told) told.0.told (sym told-note) sees.1)
 
-  pub met-note : SeesNoFurther z told after → (after.0.seen ≡ longer before.0.seen note.seen) × IsPrefix note.seen after.0.seen
+  pub met-note : SeesNoFurther z told after → SawLonger before.0 (heard_of note) after.0 × HasHeard after.0 (heard_of note)
   met-note sees =
       let met = sees.1 (heard_of note) before.0.told told-note in
-      (met.0 ∙ ap (λ (m : Me S View). longer m.0.seen note.seen) is, met.1)
+      let seen = met.0.0 ∙ ap (λ (m : Me S View). longer m.0.seen note.seen) is in
+      let rooms = met.0.1 ∙ ap (λ (m : Me S View). longer m.0.rooms note.rooms) is in ((seen, rooms), met.1)

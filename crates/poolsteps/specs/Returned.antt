@@ -1,5 +1,4 @@
 -- What the steps of returns and of takes, and looks, tell of the seat that made them.
-use mathlib.Core.List.{IsPrefix}
 use Rattle.std.specs.List.{All}
 use Rattle.std.specs.Prelude.{◌≡◌, ◌≢◌, ◌⊎◌, ℕ, ◌<◌, ◌≤◌, Bool, true, false, List, [], ◌∷◌, ◌++◌, length, Option, Some, None}
 use Rattle.atomic_table.specs.Table.{Me}
@@ -21,7 +20,7 @@ use Rattle.poolsteps.specs.declared.view.LaneRecord.{LaneRecord}
 use Rattle.poolsteps.specs.declared.view.Heard.{Heard}
 use Rattle.poolsteps.specs.declared.view.View.{View}
 use Rattle.poolsteps.specs.Views.{the_lane, pushed_in, status_of, known_of}
-use Rattle.poolsteps.specs.Seats.{longer}
+use Rattle.poolsteps.specs.Seats.{HasHeard, SawLonger}
 use Rattle.poolsteps.specs.Told.{Steps, Sees, HasPlace}
 
 -- ---- the record after each step
@@ -129,12 +128,11 @@ module _ {S : Type 0} (z : Shape) where
   Follows before found after = let r : LaneRecord = the_lane before.0 in
       LeadsTo z r.lane found (rest_of r.chain) × Steps z kinds.Follow found found before after None (followed_record r)
 
-  -- a look, after which the seat saw all that it was told
+  -- a look, after which the seat saw all that it was told, with the rooms beside it
   abbrev pub SeesTold : Me S View → Me S View → Type 0
-  SeesTold before after = Sees z before after × All (λ heard. IsPrefix heard.seen after.0.seen) before.0.told
+  SeesTold before after = Sees z before after × All (HasHeard after.0) before.0.told
 
   -- a look after which the seat saw what it was told last, and no further than that or than it had
   abbrev pub SeesNoFurther : Me S View → Me S View → Type 0
   SeesNoFurther before after = Sees z before after
-      × ((heard : Heard) (more : List Heard) → before.0.told ≡ heard ∷ more
-      → (after.0.seen ≡ longer before.0.seen heard.seen) × IsPrefix heard.seen after.0.seen)
+      × ((heard : Heard) (more : List Heard) → before.0.told ≡ heard ∷ more → SawLonger before.0 heard after.0 × HasHeard after.0 heard)

@@ -1,5 +1,6 @@
 -- How seats are cut and joined.
-use Rattle.std.specs.Prelude.{List, [], ◌∷◌, ◌++◌, length, nat_lt, if◌then◌else◌}
+use Rattle.std.specs.Prelude.{◌≡◌, List, [], ◌∷◌, ◌++◌, length, nat_lt, if◌then◌else◌}
+use mathlib.Core.List.{IsPrefix}
 use Rattle.poolsteps.specs.declared.view.LaneRecord.{LaneRecord}
 use Rattle.poolsteps.specs.declared.view.Heard.{Heard}
 use Rattle.poolsteps.specs.declared.view.View.{View}
@@ -37,6 +38,16 @@ told_by v w = record v { told = heard_of w ∷ v.told }
 -- the longer of two lists
 abbrev pub longer : {A : Type 0} → List A → List A → List A
 longer xs ys = if nat_lt (length xs) (length ys) then ys else xs
+
+-- what a seat saw begins with this history, and the rooms with those beside it, of which each act has one
+pub record HasHeard (v : View) (heard : Heard) : Type 0 where
+  pub acts : IsPrefix heard.seen v.seen
+  pub rooms : IsPrefix heard.rooms v.rooms
+  pub paired : length heard.rooms ≡ length heard.seen
+
+-- what a seat then saw is the longer of what it saw before and of this history, and so are the rooms
+abbrev pub SawLonger : View → Heard → View → Type 0
+SawLonger before heard after = (after.seen ≡ longer before.seen heard.seen) × (after.rooms ≡ longer before.rooms heard.rooms)
 
 -- the lanes of two seats at one; it is told what both saw
 abbrev pub both_of : View → View → View

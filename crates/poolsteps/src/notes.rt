@@ -1,11 +1,10 @@
 //! What lanes tell each other, and the end of a pool's table.
 ghost use Rattle.std.specs.Prelude.{◌≡◌, ◌<◌, []};
-ghost use mathlib.Core.List.{IsPrefix};
 ghost use Rattle.std.specs.Mem.Slots.{slots_items, slots_len, IsFull};
 ghost use Rattle.poolsteps.specs.Layout.{word_count, slot_count};
 ghost use Rattle.poolsteps.specs.Rule.{World};
 ghost use Rattle.poolsteps.specs.Views.{IsOne};
-ghost use Rattle.poolsteps.specs.Seats.{note_of, longer, told_by, both_of};
+ghost use Rattle.poolsteps.specs.Seats.{note_of, heard_of, told_by, both_of, HasHeard, SawLonger};
 ghost use Rattle.poolsteps.specs.Grids.{IsOf, SameSeat, AreHands, EndsWith};
 ghost use Rattle.poolsteps.specs.Told.{Sees};
 ghost use Rattle.poolsteps.specs.Returned.{SeesTold, SeesNoFurther};
@@ -29,15 +28,15 @@ impl<T: Clear> Grid<T> {
         self.table.shared.split_seat::<Tell>(hand)
     }
 
-    /// Takes in a note: what the lane has then seen begins with what it saw, and with what the note has. It is one
-    /// look, and a load before it.
+    /// Takes in a note: what the lane has then seen begins with what it saw, and with what the note has, and so do the rooms beside it.
+    /// It is one look, and a load before it.
     pub fn hear(&self, hand: &mut Hand<T>, lane: u32, note: Hand<T>)
         requires hand { IsOf self.now hand.old × IsOne hand.old.me.0 }
         requires lane { lane < self.now.shape.lanes }
         requires note { IsOf self.now note × (note.me.1 ≡ []) }
         ensures hand { SameSeat hand.old hand.new }
         ensures sees { Sees self.now.shape hand.old.me hand.new.me }
-        ensures heard { IsPrefix note.me.0.seen hand.new.me.0.seen }
+        ensures heard { HasHeard hand.new.me.0 (heard_of note.me.0) }
     {
         self.join_note(hand, note);
         self.see_told::<Brand>(hand, lane);
@@ -52,8 +51,8 @@ impl<T: Clear> Grid<T> {
         requires note { IsOf self.now note × (note.me.1 ≡ []) }
         ensures hand { SameSeat hand.old hand.new }
         ensures sees { Sees self.now.shape hand.old.me hand.new.me }
-        ensures met { hand.new.me.0.seen ≡ longer hand.old.me.0.seen note.me.0.seen }
-        ensures heard { IsPrefix note.me.0.seen hand.new.me.0.seen }
+        ensures met { SawLonger hand.old.me.0 (heard_of note.me.0) hand.new.me.0 }
+        ensures heard { HasHeard hand.new.me.0 (heard_of note.me.0) }
     {
         self.join_note(hand, note);
         self.see_no_further::<Brand>(hand, lane);

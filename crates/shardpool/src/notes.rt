@@ -15,6 +15,7 @@ impl<T: Clear + Drop> Pool<T> {
     pub fn tell(&self, lane: &mut Lane<T>) -> Note<T>
         requires { Owns self.now lane.old }
         ensures note { Issued self.now result × (result.book.seen ≡ lane.old.book.seen) }
+        ensures rooms { result.book.rooms ≡ lane.old.book.rooms }
         ensures lane { lane.new ≡ lane.old }
     {
         Note {
@@ -22,13 +23,14 @@ impl<T: Clear + Drop> Pool<T> {
         }
     }
 
-    /// Takes in a note: what the lane has then seen begins with what it saw, and with what the note has. It makes no
-    /// step.
+    /// Takes in a note: what the lane has then seen begins with what it saw, and with what the note has, and so do the
+    /// rooms beside it. It makes no step.
     pub fn hear(&self, lane: &mut Lane<T>, note: Note<T>)
         requires owns { Owns self.now lane.old }
         requires note { Issued self.now note }
         ensures owns { Owns self.now lane.new }
         ensures heard { IsPrefix note.book.seen lane.new.book.seen × IsPrefix lane.old.book.seen lane.new.book.seen }
+        ensures rooms { IsPrefix note.book.rooms lane.new.book.rooms × IsPrefix lane.old.book.rooms lane.new.book.rooms }
         ensures goes { Did [] lane.old lane.new }
         ensures steps { lane.new.book.steps ≡ lane.old.book.steps }
         ensures refs { refs lane.new ≡ refs lane.old }
@@ -39,14 +41,15 @@ impl<T: Clear + Drop> Pool<T> {
         self.grid.hear(&mut lane.hand, number, note.hand);
     }
 
-    /// Two lanes tell each other what they have seen: it is then one history, which begins with what each saw. They
-    /// make no step.
+    /// Two lanes tell each other what they have seen: it is then one history, which begins with what each saw, with the
+    /// same rooms beside it. They make no step.
     pub fn meet(&self, one: &mut Lane<T>, other: &mut Lane<T>)
         requires one { Owns self.now one.old }
         requires other { Owns self.now other.old }
         ensures one { Owns self.now one.new }
         ensures other { Owns self.now other.new }
         ensures met { one.new.book.seen ≡ other.new.book.seen }
+        ensures rooms { one.new.book.rooms ≡ other.new.book.rooms }
         ensures heard { IsPrefix one.old.book.seen one.new.book.seen × IsPrefix other.old.book.seen other.new.book.seen }
         ensures goes { Did [] one.old one.new × Did [] other.old other.new }
         ensures refs { (refs one.new ≡ refs one.old) × (refs other.new ≡ refs other.old) }
@@ -69,7 +72,9 @@ impl<T: Clear + Drop> Pool<T> {
         requires note { Issued self.now note }
         ensures owns { Owns self.now lane.new }
         ensures met { lane.new.book.seen ≡ longer lane.old.book.seen note.book.seen }
+        ensures rooms_met { lane.new.book.rooms ≡ longer lane.old.book.rooms note.book.rooms }
         ensures heard { IsPrefix note.book.seen lane.new.book.seen × IsPrefix lane.old.book.seen lane.new.book.seen }
+        ensures rooms { IsPrefix note.book.rooms lane.new.book.rooms }
         ensures goes { Did [] lane.old lane.new }
         ensures steps { lane.new.book.steps ≡ lane.old.book.steps }
         ensures refs { refs lane.new ≡ refs lane.old }

@@ -15,13 +15,15 @@ impl<T: Clear> Pool<T> {
         }
     }
 
-    /// Takes in a note: what the lane has then seen begins with what it saw, and with what the note has. It makes no step.
+    /// Takes in a note: what the lane has then seen begins with what it saw, and with what the note has, and so do the
+    /// rooms beside it. It makes no step.
     pub fn hear(&self, lane: &mut Lane<T>, note: Note<T>) {
         let number = lane.state.number;
         self.grid.hear(&mut lane.hand, number, note.hand);
     }
 
-    /// Two lanes tell each other what they have seen: it is then one history, which begins with what each saw. They make no step.
+    /// Two lanes tell each other what they have seen: it is then one history, which begins with what each saw, with the
+    /// same rooms beside it. They make no step.
     pub fn meet(&self, one: &mut Lane<T>, other: &mut Lane<T>) {
         let note = self.tell(other);
         self.meet_by(one, note);

@@ -1,7 +1,34 @@
 -- Each lane takes in what the other has seen.
-use Rattle.std.proofs.Common.{sym, subst}
+use Rattle.std.proofs.Common.{◌≡◌, ℕ, Bool, true, false, cond, ltb, List, [], ◌∷◌, ◌++◌, length, length-append, refl, ap, sym, ◌∙◌, subst, arith, append-nil}
+use Rattle.std.proofs.lemmas.Bool.{ltb-false}
+use mathlib.Core.List.{IsPrefix}
+use Rattle.poolsteps.specs.Seats.{longer}
+use Rattle.shardpool.specs.Tokens.{LaneOf}
 use Rattle.shardpool.specs.Lanes.{Owns}
 use Rattle.shardpool.proofs.pool.Pool.meet.Goals as goal
+
+-- where a list goes on for no more entries it is the other
+no-longer : (xs ys : List ℕ) → IsPrefix xs ys → length ys ≤ length xs → xs ≡ ys
+no-longer xs ys ([], is) most = sym (append-nil xs) ∙ is
+no-longer xs ys (x ∷ rest, is) most = let all = length-append xs (x ∷ rest) in let same = ap length is in absurd (omega (arith, all, same, most))
+
+longer-of : (less : Bool) (xs ys : List ℕ) → ltb (length xs) (length ys) ≡ less → IsPrefix xs ys → cond less ys xs ≡ ys
+longer-of true xs ys is begins = refl
+longer-of false xs ys is begins = no-longer xs ys begins (ltb-false (length xs) (length ys) is)
+
+-- the longer of a list and one that begins it is that list
+longer-begun : (xs ys : List ℕ) → IsPrefix xs ys → longer xs ys ≡ ys
+longer-begun xs ys begins = longer-of (ltb (length xs) (length ys)) xs ys refl begins
+
+pub returns-clause-rooms : goal.returns-clause-rooms
+returns-clause-rooms g c =
+    let one : List ℕ = c.meet_by.new.lane.book.rooms in
+    let other : List ℕ = c.args.other.now.book.rooms in
+    let begins : IsPrefix other one = subst (λ (rooms : List ℕ). IsPrefix rooms one) c.tell-note.ensures.rooms c.meet_by.ensures.rooms in
+    ap (λ (l : LaneOf). l.book.rooms) c.tell-note-2.ensures.lane
+    ∙ sym (c.meet_by-2.ensures.rooms_met
+    ∙ (ap (λ (l : LaneOf). longer l.book.rooms c.tell-note-2.result.book.rooms) c.tell-note.ensures.lane
+    ∙ (ap (longer other) c.tell-note-2.ensures.rooms ∙ longer-begun other one begins)))
 
 pub tell-note-requires : goal.tell-note-requires
 tell-note-requires g c = c.requires.other
