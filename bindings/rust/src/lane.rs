@@ -17,7 +17,7 @@ use crate::buffer::Buffer;
 use crate::clear::Clear;
 use crate::erased::keybits::{Life, Place, State};
 use crate::erased::poolsteps::life_word;
-use crate::erased::shardpool::{self, CreateFault};
+use crate::erased::shardpool::{self, CreateFault, MOST_REFERENCES};
 use crate::errors::{CreateError, OpenError};
 use crate::key::Key;
 use crate::lock::Lock;
@@ -43,9 +43,6 @@ type ProvedPool<T> = shardpool::Pool<Object<T>>;
 type ProvedLane<T> = shardpool::Lane<Object<T>>;
 type ProvedFilling<T> = shardpool::Filling<Object<T>>;
 type ProvedRef<T> = shardpool::Ref<Object<T>>;
-
-/// The most references of a lane.
-const MOST_REFERENCES: u32 = 1_048_575;
 
 /// The proved pool, with its lanes.
 pub(crate) struct Shards<T: Clear> {

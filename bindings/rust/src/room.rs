@@ -3,6 +3,7 @@
 //! A lane stands for the same number in each segment: who has it, has all of them. A lane is at home, where nobody has it; or in hand
 //! ([`Lane`]); or kept by a thread, until that ends; or shared for good, by any thread, each call under a lock.
 use crate::clear::Clear;
+use crate::erased::keybits::{GREATEST_TAG, LARGEST_FIRST_PAGE, MOST_LANES, MOST_PAGES};
 use crate::errors::{CreateError, OpenError};
 use crate::key::Key;
 use crate::lane::{Filling, Shards};
@@ -14,10 +15,10 @@ use std::sync::atomic::{AtomicU32, AtomicU64, AtomicUsize, Ordering};
 use std::sync::{Mutex, PoisonError};
 
 /// The most segments: a key has room for so many tags.
-const MOST_SEGMENTS: usize = 256;
+const MOST_SEGMENTS: usize = GREATEST_TAG as usize + 1;
 
 /// The lanes of a growing pool, and those of them that are shared from the start.
-pub(crate) const LANES: u32 = 16;
+pub(crate) const LANES: u32 = MOST_LANES;
 const SHARED: u32 = 4;
 
 /// How many creates pass by a lane that was found full in all segments: twice as many each time, since each look costs as many steps as
@@ -59,17 +60,17 @@ pub(crate) struct Room<T: Clear> {
 
 /// The shape of the segment of this tag: each is larger than the one before, up to the largest.
 fn shape_of(tag: usize, last_generation: u32) -> Shape {
+    let tag = tag as u32;
     let (first_page, pages) = match tag {
-        0 => (32, 1),
-        1..=6 => (64, tag as u32),
-        _ => (64, 6),
+        0 => (LARGEST_FIRST_PAGE / 2, 1),
+        _ => (LARGEST_FIRST_PAGE, tag.min(MOST_PAGES)),
     };
     Shape {
         lanes: LANES,
         first_page,
         pages,
         last_generation,
-        tag: tag as u32,
+        tag,
     }
 }
 

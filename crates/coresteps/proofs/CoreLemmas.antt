@@ -120,7 +120,7 @@ longer z history more number lane p b at has rest = record {
   own = at.own;
   chain = chained_front history more p.chain.collect p.chain.followed _ at.chain;
   opened = at.opened;
-  sixteen = at.sixteen;
+  pushed_count = at.pushed_count;
   pushed = at.pushed;
   last = at.last;
   made = at.made;
@@ -563,12 +563,12 @@ first_lane_at z number lane shape ring =
     record {
       left = refl;
       within = omega arith;
-      slots = record { sixteen = refl; registers_sixteen = refl; each = λ n below. first_slot lane.script n 16 n };
+      slots = record { count = refl; register_count = refl; each = λ n below. first_slot lane.script n 16 n };
       list = record { pages = omega arith; room = room; start = omega arith; within = omega arith };
       own = refl;
       chain = refl;
       opened = refl;
-      sixteen = refl;
+      pushed_count = refl;
       pushed = λ shard below. got_or-replicate 16 shard 0;
       last = refl;
       made = refl;

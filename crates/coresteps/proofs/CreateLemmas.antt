@@ -457,7 +457,7 @@ module _ (z : Shape) (shape : IsShape z) (history : List Act) (number : ℕ) (la
         own = is.own ∙ sym (append-nil ((free_after z number b command reply).own ++ of_shard number (reclaimed z.last_generation b.acts)));
         chain = subst (IsChained history new.chain) (sym (append-nil (free_after z number b command reply).chain)) is.chain;
         opened = is.opened;
-        sixteen = ap length is.pushed ∙ at.sixteen;
+        pushed_count = ap length is.pushed ∙ at.pushed_count;
         pushed = λ shard small. ap (λ (p : List ℕ). slice_index p shard) is.pushed ∙ at.pushed shard small;
         last = refl;
         made = refl;

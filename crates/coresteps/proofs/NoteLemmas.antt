@@ -588,7 +588,7 @@ module _ (z : Shape) (w : World) (number : ℕ) (k : IsKept z w) (below : number
 
     module _ (lane : Lane) (old : Progress) (l : IsLaneAt z w.history number lane old (w.books number))
         (legal : IsLegal z (w.history ++ act_list act)) (settled : old.own.added ≡ None) (most : Most) (pushed : List ℕ)
-        (sixteen : length pushed ≡ 16)
+        (pushed_count : length pushed ≡ 16)
         (puts : (shard : ℕ) → slice_index pushed shard ≡ pushed_by step step.kind step.word (λ (n : ℕ). slice_index old.pushed n) shard) where
       abbrev before : Book
       before = w.books number
@@ -640,7 +640,7 @@ module _ (z : Shape) (w : World) (number : ℕ) (k : IsKept z w) (below : number
         own = own ∙ ap (λ (xs : List Act). before.own ++ of_shard number (reclaimed z.last_generation (before.acts ++ xs))) same;
         chain = subst (λ (xs : List Act). IsChained (w.history ++ xs) p.chain (before.chain ++ taken (before.acts ++ xs))) same chain;
         opened = opened ∙ l.opened;
-        sixteen = ap length stacks ∙ sixteen;
+        pushed_count = ap length stacks ∙ pushed_count;
         pushed = λ shard less. ap (λ (xs : List ℕ). slice_index xs shard) stacks ∙ pushed_is shard less;
         last = last ∙ sym (last-snoc before.steps step);
         made = count ∙ (ap (λ (n : ℕ). n + 1) l.made ∙ sym (length-snoc before.steps step));
@@ -753,14 +753,14 @@ module _ (shared : Shared) (w : World) (z : Shape) (number : ℕ) (lane : Lane) 
       → new ≡ noted z number act index pushes
       → IsLaneAt z (w.history ++ act_list act) number lane new (stepped (w.books number) step act)
       × (new.most ≡ counted (command ∷ more) (length (w.books number).steps + 1) old.most)
-  note_tells legal index command more counts pushes new at settled count others sixteen puts notes =
+  note_tells legal index command more counts pushes new at settled count others pushed_count puts notes =
       let most : Most = counted (command ∷ more) (old.made + 1) old.most in
       let next : Progress = record old { pushed = pushes.pushed; last = Some step; made = old.made + 1; most = most } in
       let whole : new ≡ noted z number act (length w.history) next =
       notes ∙ (ap (noted z number act index) (others ∙ ap (λ (p : Progress). let q : Progress = record p { pushed = pushes.pushed } in q) count)
       ∙ ap (λ (n : ℕ). noted z number act n next) at) in (
         subst (λ (p : Progress). IsLaneAt z (w.history ++ act_list act) number lane p (stepped (w.books number) step act)) (sym whole)
-            (lane_noted z w number kept_at below step act is lane old l legal settled most pushes.pushed sixteen
+            (lane_noted z w number kept_at below step act is lane old l legal settled most pushes.pushed pushed_count
             (λ shard. puts shard
             ∙ ap (λ (p : Progress). pushed_by step step.kind step.word (λ (n : ℕ). slice_index p.pushed n) shard) count)),
         ap (λ (p : Progress). p.most) whole ∙ (noted_most z number act (length w.history) next

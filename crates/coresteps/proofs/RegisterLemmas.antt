@@ -119,9 +119,9 @@ module _ (script : List Command) (done : ℕ) (command : Command) (more : List C
         → ((number : ℕ) → number < 16 → ((register_at after number).last_key ≡ (register_at registers number).last_key)
         × ((register_at after number).holding ≡ written (written_by number command) (register_at registers number).holding))
         → AreSlots script (done + 1) slots after
-    slots_next after sixteen each = record {
-      sixteen = are.sixteen;
-      registers_sixteen = sixteen;
+    slots_next after registers_count each = record {
+      count = are.count;
+      register_count = registers_count;
       each = λ number small. let was = are.each number small in let is = each number small in (
         was.0 ∙ sym is.0,
         subst (IsHeld script (done + 1) number (slot_at slots number).held) (sym is.1)
@@ -131,7 +131,7 @@ module _ (script : List Command) (done : ℕ) (command : Command) (more : List C
 
     -- a command that writes nothing leaves them
     pub slots_stay : ((number : ℕ) → written_by number command ≡ []) → AreSlots script (done + 1) slots registers
-    slots_stay none = slots_next registers are.registers_sixteen (λ number small. (
+    slots_stay none = slots_next registers are.register_count (λ number small. (
       refl,
       sym (ap (λ (bytes : List ℕ). written bytes (register_at registers number).holding) (none number)
           ∙ written_none (register_at registers number).holding),
@@ -141,10 +141,10 @@ module _ (script : List Command) (done : ℕ) (command : Command) (more : List C
     pub slots_set : ((number : ℕ) → written_by number command ≡ []) → (i : ℕ) → i < 16 → (slot : KeptRegister) (register : RegisterState)
         → IsSlot script (done + 1) i slot register → AreSlots script (done + 1) (set slots i slot) (set registers i register)
     slots_set none i small slot register is = record {
-      sixteen = length-set slots i slot ∙ are.sixteen;
-      registers_sixteen = length-set registers i register ∙ are.registers_sixteen;
+      count = length-set slots i slot ∙ are.count;
+      register_count = length-set registers i register ∙ are.register_count;
       each = λ number below. dite (ℕ_discrete number i)
-          (λ same. let count = are.sixteen in let registers_count = are.registers_sixteen in
+          (λ same. let count = are.count in let registers_count = are.register_count in
           let a : slot_at (set slots i slot) number ≡ slot = ap (slot_at (set slots i slot)) same ∙ slot_at-same slots i slot (omega arith) in
           let b : register_at (set registers i register) number ≡ register
           = ap (register_at (set registers i register)) same ∙ register_at-same registers i register (omega arith) in
@@ -178,9 +178,9 @@ module _ (script : List Command) (done : ℕ) (register : Register) (bytes : Lis
   -- the bytes go to the filling of the register
   pub slots_written : AreSlots script (done + 1) slots (set registers register.number now)
   slots_written = slots_next script done (commands.Write register bytes) more next slots registers are (set registers register.number now)
-      (length-set registers register.number now ∙ are.registers_sixteen)
+      (length-set registers register.number now ∙ are.register_count)
       (λ number below. dite (ℕ_discrete register.number number)
-      (λ same. let count = are.registers_sixteen in
+      (λ same. let count = are.register_count in
       let here : register_at (set registers register.number now) number ≡ now
       = ap (register_at (set registers register.number now)) (sym same) ∙ register_at-same registers register.number now (omega arith) in (
         ap (λ (r : RegisterState). r.last_key) here ∙ ap (λ (k : ℕ). (register_at registers k).last_key) same,
@@ -197,7 +197,7 @@ module _ (script : List Command) (done : ℕ) (register : Register) (bytes : Lis
 
   -- where the register has no filling nothing changes
   pub slots_unwritten : NoFilling (slot_at slots register.number).held → AreSlots script (done + 1) slots registers
-  slots_unwritten none = slots_next script done (commands.Write register bytes) more next slots registers are registers are.registers_sixteen
+  slots_unwritten none = slots_next script done (commands.Write register bytes) more next slots registers are registers are.register_count
       (λ number below. (
         refl,
         dite (ℕ_discrete register.number number)

@@ -275,7 +275,7 @@ pub write_noted : (script : List Command) (rows : List (Vec ℕ Global)) (index 
 write_noted script rows index register bytes old new are at small was is =
     let here = register.number in
     let write = commands.Write register bytes in
-    let within : here < length rows = let sixteen = are.sixteen in omega arith in
+    let within : here < length rows = let count = are.count in omega arith in
     let there : slice_get (set rows here new) here ≡ Some new = set_here rows here new within in
     let own : old.items ≡ write_indices here 0 script = are.each here old (slice_get_read rows (length rows) here old refl within was) in
     let noted : write_at here index write ≡ index ∷ [] = ap (λ (t : Bool). cond t (index ∷ []) []) (eq-eqb here here refl) in
@@ -283,7 +283,7 @@ write_noted script rows index register bytes old new are at small was is =
     = is ∙ (ap (λ (xs : List ℕ). xs ++ index ∷ []) own
     ∙ sym (write_indices-push here index script write at ∙ ap (λ (xs : List ℕ). write_indices here 0 script ++ xs) noted)) in
     record {
-      sixteen = length-set rows here new ∙ are.sixteen;
+      count = length-set rows here new ∙ are.count;
       each = λ number row e. elim (cases_eq number here) [
         | inl same ↦ (
             let its : slice_get (set rows here new) here ≡ Some row = ap (slice_get (set rows here new)) (sym same) ∙ e in
@@ -308,17 +308,17 @@ no_write command not number index = refl
 pub none_noted : (script : List Command) (rows : List (Vec ℕ Global)) (command : Command)
     → ((number : ℕ) → write_at number (length script) command ≡ []) → AreWrites script rows → AreWrites (script ++ command ∷ []) rows
 none_noted script rows command none are = record {
-  sixteen = are.sixteen;
+  count = are.count;
   each = λ number row e. are.each number row e
       ∙ sym (write_indices-push number (length script) script command refl
       ∙ ap (λ (more : List ℕ). write_indices number 0 script ++ more) (none number) ∙ append-nil (write_indices number 0 script));
 }
 
--- a row of the sixteen
+-- a row of a register
 pub row_is : (script : List Command) (rows : List (Vec ℕ Global)) (number : ℕ) (row : Vec ℕ Global) → AreWrites script rows → number < 16
     → row ≡ get_or rows number row → row.items ≡ write_indices number 0 script
 row_is script rows number row are small at =
-    are.each number row (slice_get_read rows (length rows) number row refl (let sixteen = are.sixteen in omega arith) at)
+    are.each number row (slice_get_read rows (length rows) number row refl (let count = are.count in omega arith) at)
 
 -- the rows after one command more
 pub writes_more : (script commands : List Command) (old new : List (Vec ℕ Global)) (index : ℕ) (command : Command) → commands ≡ script

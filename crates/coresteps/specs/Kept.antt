@@ -1,6 +1,7 @@
 -- What the core keeps of the world that its turns so far have made.
 use Rattle.std.specs.Prelude.{◌≡◌, ◌==◌, ℕ, ◌+◌, ◌*◌, ◌<◌, ◌≤◌, Bool, true, List, [], ◌∷◌, ◌++◌, drop, length, Option, Some, None, slice_get, slice_index, MatchBool, if◌then◌else◌}
 use Rattle.keybits.specs.declared.shape.Shape.{Shape}
+use Rattle.keybits.specs.declared.shape.TheConstants.{MOST_LANES}
 use Rattle.keybits.specs.declared.step.Step.{Step}
 use Rattle.keybits.specs.declared.step.Word.{Word}
 use Rattle.keybits.specs.declared.step.Word.TheVariants.{Life, Link, Stack}
@@ -28,7 +29,7 @@ use Rattle.coresteps.specs.declared.progress.Most.{Most}
 use Rattle.coresteps.specs.declared.shared.Made.{Made}
 use Rattle.coresteps.specs.declared.shared.Shared.{Shared}
 use Rattle.coresteps.specs.OwnLists.{IsOwnList, own_places}
-use Rattle.coresteps.specs.Lanes.{AreSlots, last_step, IsChained, most_after}
+use Rattle.coresteps.specs.Lanes.{AreSlots, last_step, IsChained, most_after, most_create_steps, most_other_steps}
 
 -- ---- words
 
@@ -94,8 +95,8 @@ pub record IsLaneAt (z : Shape) (history : List Act) (number : ℕ) (lane : Lane
   pub own : own_places z number lane.ring.items p.own ≡ b.own ++ of_shard number (reclaimed z.last_generation b.acts)
   pub chain : IsChained history p.chain (b.chain ++ taken b.acts)
   pub opened : p.own.opened ≡ b.opened
-  pub sixteen : length p.pushed ≡ 16
-  pub pushed : (shard : ℕ) → shard < 16 → slice_index p.pushed shard ≡ pushed_after b.steps b.pushed shard
+  pub pushed_count : length p.pushed ≡ MOST_LANES
+  pub pushed : (shard : ℕ) → shard < MOST_LANES → slice_index p.pushed shard ≡ pushed_after b.steps b.pushed shard
   pub last : p.last ≡ last_step b.steps
   pub made : p.made ≡ length b.steps
   pub cleared : p.cleared ≡ cleared b.acts
@@ -140,7 +141,7 @@ pub record IsCoreAt (w : World) (most : ℕ → Most) (shared : Shared) (lanes :
   pub lane : (number : ℕ) (lane : Lane) → slice_get lanes number ≡ Some lane → IsLaneAt shared.shape w.history number lane lane.progress (w.books number)
   pub settled : (number : ℕ) (lane : Lane) → slice_get lanes number ≡ Some lane → lane.progress.own.added ≡ None
   pub most_is : (number : ℕ) (lane : Lane) → slice_get lanes number ≡ Some lane → lane.progress.most ≡ most number
-  pub bounded : (number : ℕ) → ((most number).create ≤ 16) × ((most number).other ≤ 8)
+  pub bounded : (number : ℕ) → ((most number).create ≤ most_create_steps) × ((most number).other ≤ most_other_steps)
   pub resting : AreResting shared.shape w
 
 -- what all lanes share is as before, but for the room of what grows

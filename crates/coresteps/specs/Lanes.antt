@@ -1,5 +1,6 @@
 -- What the core keeps of a lane tells of its book: its registers, its call, its next step and its chain.
 use Rattle.std.specs.Prelude.{◌≡◌, ◌==◌, ℕ, ◌+◌, ◌-◌, ◌<◌, ◌≤◌, false, List, [], ◌∷◌, take, drop, flat_map, length, replicate, Option, Some, None, slice_get, max, if◌then◌else◌}
+use Rattle.keybits.specs.declared.shape.TheConstants.{MOST_LANES}
 use Rattle.keybits.specs.declared.step.Step.{Step}
 use Rattle.seqpool.specs.declared.act.Act.{Act}
 use Rattle.seqpool.specs.declared.act.Act.TheVariants as acts
@@ -23,6 +24,7 @@ use Rattle.coresteps.specs.declared.progress.Call.TheVariants.{Publish, Get, Rel
 use Rattle.coresteps.specs.declared.progress.Chain.{Chain}
 use Rattle.coresteps.specs.declared.progress.Most.{Most}
 use Rattle.coresteps.specs.declared.progress.Progress.{Progress}
+use Rattle.coresteps.specs.declared.progress.TheConstants.{REGISTERS}
 
 -- ---- registers
 
@@ -59,11 +61,11 @@ IsHeld script done number (Reference key) holding = (content : List ℕ) × (hol
 abbrev pub IsSlot : List Command → ℕ → ℕ → KeptRegister → RegisterState → Type 0
 IsSlot script done number slot register = (slot.last_key ≡ register.last_key) × IsHeld script done number slot.held register.holding
 
--- sixteen slots stand for the sixteen registers
+-- the slots stand for the registers
 pub record AreSlots (script : List Command) (done : ℕ) (slots : List KeptRegister) (registers : List RegisterState) : Type 0 where
-  pub sixteen : length slots ≡ 16
-  pub registers_sixteen : length registers ≡ 16
-  pub each : (number : ℕ) → number < 16 → IsSlot script done number (slot_at slots number) (register_at registers number)
+  pub count : length slots ≡ REGISTERS
+  pub register_count : length registers ≡ REGISTERS
+  pub each : (number : ℕ) → number < REGISTERS → IsSlot script done number (slot_at slots number) (register_at registers number)
 
 -- ---- calls and steps
 
@@ -107,6 +109,14 @@ IsChained history chain places = AreChained history chain.collect chain.followed
 
 -- ---- how many steps calls have made
 
+-- the most steps of a create: a TAKE for each other lane, and a FOLLOW
+abbrev pub most_create_steps : ℕ
+most_create_steps = MOST_LANES
+
+-- the most steps of another call: ENTER, MARK, LEAVE and CLAIM, and LINK and PUSH twice
+abbrev pub most_other_steps : ℕ
+most_other_steps = 8
+
 -- before the first turn
 abbrev pub no_most : Most
 no_most = record { create = 0; other = 0 }
@@ -132,10 +142,10 @@ most_after z w t most lane = if lane == t.lane then counted_step (book_before z 
 abbrev pub first_progress : Progress
 first_progress = record {
   done = 0;
-  slots = replicate 16 empty_slot;
+  slots = replicate REGISTERS empty_slot;
   own = record { opened = 0; unused = 0; first = 0; length = 0; added = None };
   chain = record { collect = None; followed = 0 };
-  pushed = replicate 16 0;
+  pushed = replicate MOST_LANES 0;
   last = None;
   made = 0;
   cleared = false;

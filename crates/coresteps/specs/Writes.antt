@@ -3,6 +3,7 @@ use Rattle.std.specs.Prelude.{◌≡◌, ◌==◌, ℕ, ◌+◌, List, [], ◌�
 use Rattle.std.specs.declared.alloc.Global.{Global}
 use Rattle.traces.specs.declared.script.Command.{Command}
 use Rattle.traces.specs.declared.script.Command.TheVariants as commands
+use Rattle.coresteps.specs.declared.progress.TheConstants.{REGISTERS}
 
 -- this index, where the command at it writes to the register of this number
 abbrev pub write_at : ℕ → ℕ → Command → List ℕ
@@ -27,7 +28,7 @@ bytes_if_some None = []
 abbrev pub bytes_at : List Command → ℕ → List ℕ
 bytes_at script index = bytes_if_some (slice_get script index)
 
--- there are sixteen rows, and the row of each register has the indices of the writes to it
+-- there is a row for each register, and it has the indices of the writes to it
 pub record AreWrites (script : List Command) (rows : List (Vec ℕ Global)) : Type 0 where
-  pub sixteen : length rows ≡ 16
+  pub count : length rows ≡ REGISTERS
   pub each : (number : ℕ) (row : Vec ℕ Global) → slice_get rows number ≡ Some row → row.items ≡ write_indices number 0 script

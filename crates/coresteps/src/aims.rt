@@ -16,11 +16,11 @@ ghost use Rattle.keybits.specs.declared.step.Word.TheVariants as words;
 ghost use Rattle.keybits.specs.declared.step.Kind.TheVariants as kinds;
 
 use crate::lane::Lane;
-use crate::progress::{Call, Chain, Progress};
+use crate::progress::{Call, Chain, LANES, Progress};
 use crate::shared::{Made, Shared};
 use keybits::{
-    Kind, Life, Shape, Step, Word, claimable, fits, is_hit, link_to, linked_place, owes_claim,
-    place_of, shard_of,
+    Kind, Life, MOST_LANES, SHARD_NUMBERS, Shape, Step, Word, claimable, fits, is_hit, link_to,
+    linked_place, owes_claim, place_of, shard_of,
 };
 use seqpool::Act;
 
@@ -164,14 +164,14 @@ fn on_life(kind: Kind, place: u32) -> Option<Aim>
 }
 
 /// The step of a call after this one, which was its last so far.
-fn next_step(shape: &Shape, lane: u32, pushed: &[u64; 16], call: Call, step: Step) -> Option<Aim>
-    requires lane { lane < 16 }
+fn next_step(shape: &Shape, lane: u32, pushed: &[u64; LANES], call: Call, step: Step) -> Option<Aim>
+    requires lane { lane < MOST_LANES }
     requires place { (script : List Command) × (done : ℕ) × (b : Book) × (is : calls.Call)
-        × IsCall script done b (Some call) (Some is) × (shard_of (place_of (key_in is)) < 16) }
-    requires take { (shard from : ℕ) → step.kind ≡ kinds.Take → step.word ≡ words.Stack shard from → (from < 16) × (step.before ≤ 65536) }
+        × IsCall script done b (Some call) (Some is) × (shard_of (place_of (key_in is)) < MOST_LANES) }
+    requires take { (shard from : ℕ) → step.kind ≡ kinds.Take → step.word ≡ words.Stack shard from → (from < MOST_LANES) × (step.before ≤ SHARD_NUMBERS) }
     ensures { (script : List Command) (done : ℕ) (b : Book) (is : calls.Call) → IsCall script done b (Some call) (Some is)
         → AreSteps (caller shape.now lane b) is [] b.steps → AreFound b.steps → last_step b.steps ≡ Some step
-        → ((shard : ℕ) → shard < 16 → slice_index pushed.now shard ≡ pushed_after b.steps b.pushed shard)
+        → ((shard : ℕ) → shard < MOST_LANES → slice_index pushed.now shard ≡ pushed_after b.steps b.pushed shard)
         → IsAim result (calls.next_step (caller shape.now lane b) is b.steps) }
 {
     match call {
@@ -196,8 +196,8 @@ fn next_step(shape: &Shape, lane: u32, pushed: &[u64; 16], call: Call, step: Ste
 }
 
 /// The step after this one in the LEAVE, the CLAIM and the return of a place, as far as they are owed.
-fn end_step(shape: &Shape, lane: u32, pushed: &[u64; 16], place: u32, step: Step) -> Option<Aim>
-    requires { shard_of place < 16 }
+fn end_step(shape: &Shape, lane: u32, pushed: &[u64; LANES], place: u32, step: Step) -> Option<Aim>
+    requires { shard_of place < MOST_LANES }
     ensures { (b : Book) (call : calls.Call) → AreSteps (caller shape.now lane b) call [] b.steps → AreFound b.steps
         → last_step b.steps ≡ Some step
         → slice_index pushed.now (shard_of place) ≡ pushed_after b.steps b.pushed (shard_of place)
@@ -257,8 +257,8 @@ fn link(expected: u64, place: u32) -> Option<Aim>
 
 /// The step of a create after this one: the next TAKE where it found none, a FOLLOW where it took a chain.
 fn next_of_create(shape: &Shape, lane: u32, step: Step) -> Option<Aim>
-    requires lane { lane < 16 }
-    requires take { (shard from : ℕ) → step.kind ≡ kinds.Take → step.word ≡ words.Stack shard from → (from < 16) × (step.before ≤ 65536) }
+    requires lane { lane < MOST_LANES }
+    requires take { (shard from : ℕ) → step.kind ≡ kinds.Take → step.word ≡ words.Stack shard from → (from < MOST_LANES) × (step.before ≤ SHARD_NUMBERS) }
     ensures { (b : Book) (own chain : List ℕ) (opened : ℕ) → AreSteps (caller shape.now lane b) (calls.Creating own chain opened) [] b.steps
         → last_step b.steps ≡ Some step
         → IsAim result (calls.next_step (caller shape.now lane b) (calls.Creating own chain opened) b.steps) }

@@ -18,7 +18,7 @@ ghost use Rattle.coresteps.specs.Kept.{made_acts, IsDraft, IsLaneAt, IsReplied, 
 
 use crate::fault::CoreFault;
 use crate::lane::Lane;
-use crate::progress::{Held, KeptRegister, Progress};
+use crate::progress::{Held, Progress};
 use crate::shared::{Made, Shared};
 use keybits::{Kind, Life, Word, generation_of, place_of};
 use traces::{Command, Operand, Register, Replies, Reply};
@@ -139,13 +139,7 @@ impl Shared {
             key,
             created: progress.done,
         };
-        progress.set_slot(
-            register,
-            KeptRegister {
-                held,
-                last_key: Some(key),
-            },
-        );
+        progress.set_slot(register, held, Some(key));
         Reply::Filling(key)
     }
 
@@ -236,13 +230,7 @@ impl Shared {
             Some(step) if matches!(step.kind, Kind::Enter) => {
                 let content = self.content(place_of(key), made)?;
                 let held = Held::Reference { key };
-                progress.set_slot(
-                    register,
-                    KeptRegister {
-                        held,
-                        last_key: Some(key),
-                    },
-                );
+                progress.set_slot(register, held, Some(key));
                 Ok(Reply::Found(content))
             }
             _ => Ok(Reply::Missing),
@@ -305,13 +293,7 @@ impl Progress {
         let Held::Filling { key, .. } = slot.held else {
             return Reply::Skip;
         };
-        self.set_slot(
-            register,
-            KeptRegister {
-                held: Held::Empty,
-                last_key: slot.last_key,
-            },
-        );
+        self.set_slot(register, Held::Empty, slot.last_key);
         Reply::Key(key)
     }
 
@@ -326,13 +308,7 @@ impl Progress {
         let Held::Filling { key, .. } = slot.held else {
             return Reply::Skip;
         };
-        self.set_slot(
-            register,
-            KeptRegister {
-                held: Held::Reference { key },
-                last_key: slot.last_key,
-            },
-        );
+        self.set_slot(register, Held::Reference { key }, slot.last_key);
         Reply::Key(key)
     }
 
@@ -347,13 +323,7 @@ impl Progress {
         let Held::Reference { .. } = slot.held else {
             return Reply::Skip;
         };
-        self.set_slot(
-            register,
-            KeptRegister {
-                held: Held::Empty,
-                last_key: slot.last_key,
-            },
-        );
+        self.set_slot(register, Held::Empty, slot.last_key);
         Reply::Done
     }
 

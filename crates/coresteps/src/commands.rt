@@ -5,13 +5,11 @@ ghost use Rattle.coresteps.specs.Lanes.{written_since};
 ghost use Rattle.coresteps.specs.Writes.{AreWrites, bytes_of, write_indices};
 
 use crate::fault::CoreFault;
+use crate::progress::REGISTERS;
 use seqpool::Bytes;
 use std::alloc::Global;
 use std::marker::Model;
 use traces::{Command, Register, Script};
-
-/// How many registers a lane has.
-const REGISTERS: usize = 16;
 
 /// The commands of a lane, with the places of its writes: for each register the indices of the writes to it, in rising
 /// order.
@@ -107,7 +105,7 @@ fn no_writes(alloc: Global) -> Result<Vec<Vec<usize>>, CoreFault>
 
 /// Notes the index of the next command, if it is a write, in its register's row.
 fn note_write(rows: &mut Vec<Vec<usize>>, index: usize, command: &Command) -> Result<(), CoreFault>
-    requires { length rows.old.items ≡ 16 }
+    requires { length rows.old.items ≡ REGISTERS }
     ensures { OnOk result ((script : List Command) → AreWrites script rows.old.items → length script ≡ index
         → AreWrites (script ++ command.now ∷ []) rows.new.items) }
 {

@@ -9,13 +9,13 @@ ghost use Rattle.traces.specs.Books.{act_list, stepped, pushed_by};
 ghost use Rattle.traces.specs.Lawful.{World, IsStep};
 ghost use Rattle.coresteps.specs.declared.lane.Lane.{Lane};
 ghost use Rattle.coresteps.specs.declared.shared.Shared.{Shared};
-ghost use Rattle.coresteps.specs.Lanes.{counted};
+ghost use Rattle.coresteps.specs.Lanes.{counted, most_create_steps};
 ghost use Rattle.coresteps.specs.Kept.{IsDraft, IsLaneAt};
 ghost use Rattle.coresteps.specs.Notes.{returns_own, act_noted};
 
-use crate::progress::{Chain, Progress};
+use crate::progress::{Chain, LANES, Progress};
 use crate::shared::Made;
-use keybits::{Kind, Shape, Step, Word, generation_of, place_of, shard_of};
+use keybits::{Kind, MOST_LANES, Shape, Step, Word, generation_of, place_of, shard_of};
 use seqpool::Act;
 use traces::Command;
 
@@ -50,7 +50,7 @@ impl Progress {
 
     /// Counts a step, which is now the last of its call.
     fn count(&mut self, command: &Command, step: Step)
-        requires { self.old.made ≤ 16 }
+        requires { self.old.made ≤ most_create_steps }
         ensures { (more : List Command) → self.new ≡ record self.old {
           last = Some step;
           made = self.old.made + 1;
@@ -67,10 +67,10 @@ impl Progress {
 
     /// Remembers the word that a PUSH that succeeded left on its stack.
     fn note_push(&mut self, step: Step)
-        requires sixteen { length self.old.pushed ≡ 16 }
-        requires shard { (expected link shard lane : ℕ) → step.kind ≡ kinds.Push expected link → step.word ≡ words.Stack shard lane → shard < 16 }
+        requires count { length self.old.pushed ≡ LANES }
+        requires shard { (expected link shard lane : ℕ) → step.kind ≡ kinds.Push expected link → step.word ≡ words.Stack shard lane → shard < MOST_LANES }
         ensures others { self.new ≡ record self.old { pushed = self.new.pushed } }
-        ensures sixteen { length self.new.pushed ≡ 16 }
+        ensures count { length self.new.pushed ≡ LANES }
         ensures pushed { (shard : ℕ) → slice_index self.new.pushed shard
             ≡ pushed_by step step.kind step.word (λ (n : ℕ). slice_index self.old.pushed n) shard }
     {

@@ -1,11 +1,11 @@
 //! A lane's own free places, in the order in which they are handed out.
-ghost use Rattle.std.specs.Prelude.{◌≡◌, ◌<◌, ◌≤◌, ◌+◌, ◌-◌, ℕ, List, [], ◌∷◌, ◌++◌, drop, length, None, Some, ◌≢◌, MatchOption, MatchBool};
+ghost use Rattle.std.specs.Prelude.{◌≡◌, ◌<◌, ◌≤◌, ◌+◌, ◌-◌, ◌/◌, ℕ, List, [], ◌∷◌, ◌++◌, drop, length, None, Some, ◌≢◌, MatchOption, MatchBool};
 ghost use Rattle.keybits.specs.Shapes.{IsShape, shard_places};
 ghost use Rattle.keybits.specs.Places.{place_at};
 ghost use Rattle.traces.specs.Books.{page_places};
 ghost use Rattle.coresteps.specs.OwnLists.{IsOwnList, own_places, unused_places, next_in_ring};
 
-use keybits::{Place, Shape};
+use keybits::{MOST_LANES, PAGE_NUMBERS, Place, SHARD_NUMBERS, Shape};
 
 /// A lane's own free places, in the order in which they are handed out: those of the page opened last that were never
 /// handed out, then those of a ring, and last the one that the step under way reclaimed. The ring itself, with room for
@@ -155,9 +155,9 @@ fn after(at: usize, length: usize) -> usize
 
 /// The number of a lane's place.
 fn place_number(lane: u32, page: u32, slot: u32) -> u32
-    requires lane { lane < 16 }
-    requires page { page < 16 }
-    requires slot { slot < 4096 }
+    requires lane { lane < MOST_LANES }
+    requires page { page < SHARD_NUMBERS / PAGE_NUMBERS }
+    requires slot { slot < PAGE_NUMBERS }
     ensures { result ≡ place_at lane page slot }
 {
     let place = Place {

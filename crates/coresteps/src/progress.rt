@@ -8,8 +8,14 @@ ghost use Rattle.traces.specs.declared.registers.Holding.TheVariants.{Empty};
 ghost use Rattle.coresteps.specs.Lanes.{AreSlots, IsCall, first_progress, slot_at};
 
 use crate::own::OwnList;
-use keybits::Step;
+use keybits::{MOST_LANES, Step};
 use traces::{Command, Operand, Register};
+
+/// How many registers a lane has: as many as a `Register` can name.
+pub(crate) const REGISTERS: usize = 16;
+
+/// The most lanes, as a length.
+pub(crate) const LANES: usize = MOST_LANES as usize;
 
 /// What a register holds.
 #[derive(Clone, Copy)]
@@ -71,11 +77,11 @@ pub(crate) struct Most {
 pub(crate) struct Progress {
     /// How many commands have their reply.
     pub(crate) done: usize,
-    pub(crate) slots: [KeptRegister; 16],
+    pub(crate) slots: [KeptRegister; REGISTERS],
     pub(crate) own: OwnList,
     pub(crate) chain: Chain,
     /// For each shard the word that it last pushed on its stack there.
-    pub(crate) pushed: [u64; 16],
+    pub(crate) pushed: [u64; LANES],
     /// The last step of the call under way.
     pub(crate) last: Option<Step>,
     /// How many steps the call under way has made.
@@ -96,13 +102,13 @@ impl Progress {
         };
         Progress {
             done: 0,
-            slots: [empty; 16],
+            slots: [empty; REGISTERS],
             own: OwnList::new(),
             chain: Chain {
                 collect: None,
                 followed: 0,
             },
-            pushed: [0; 16],
+            pushed: [0; LANES],
             last: None,
             made: 0,
             cleared: false,
@@ -120,11 +126,11 @@ impl Progress {
         self.slots[register.number as usize]
     }
 
-    /// Sets a register.
-    pub(crate) fn set_slot(&mut self, register: Register, slot: KeptRegister)
-        ensures { self.new ≡ record self.old { slots = slice_set self.old.slots register.number slot } }
+    /// Sets what a register holds, and the last key that it had.
+    pub(crate) fn set_slot(&mut self, register: Register, held: Held, last_key: Option<u64>)
+        ensures { self.new ≡ record self.old { slots = slice_set self.old.slots register.number (record { held = held; last_key = last_key }) } }
     {
-        self.slots[register.number as usize] = slot;
+        self.slots[register.number as usize] = KeptRegister { held, last_key };
     }
 
     /// The key that an operand names, if it names one.

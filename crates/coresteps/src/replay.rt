@@ -10,7 +10,7 @@ ghost use Rattle.traces.specs.Books.{Book};
 ghost use Rattle.traces.specs.Lawful.{IsLawful, World, first_world, is_finished, world_after, book_before, book_after, IsNextTurn};
 ghost use Rattle.traces.specs.Parts.{StandsThroughout};
 ghost use Rattle.coresteps.specs.declared.progress.Most.{Most};
-ghost use Rattle.coresteps.specs.Lanes.{first_progress, no_most, counted_step};
+ghost use Rattle.coresteps.specs.Lanes.{first_progress, no_most, counted_step, most_create_steps, most_other_steps};
 ghost use Rattle.coresteps.specs.Kept.{IsCore, IsCoreAt, IsDraft, IsLaneAt, IsRun, IsWordOf, IsWorked, MakesTurn, SameShared, Turns, index_of_publish};
 
 use crate::commands::Commands;
@@ -105,8 +105,8 @@ impl Core {
         ensures lane { (w : World) (most : ℕ → Most) → IsCore w most self.now → lane < self.now.shared.shape.lanes
             → result ≡ ((most lane).create, (most lane).other) }
         ensures none { self.now.shared.shape.lanes ≤ lane → result ≡ (0, 0) }
-        ensures create { result.0 ≤ 64 }
-        ensures other { result.1 ≤ 8 }
+        ensures create { result.0 ≤ most_create_steps }
+        ensures other { result.1 ≤ most_other_steps }
     {
         match self.lanes.get(lane as usize) {
             Some(of) => (of.progress.most.create, of.progress.most.other),

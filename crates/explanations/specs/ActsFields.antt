@@ -2,6 +2,7 @@
 use Rattle.std.specs.Prelude.{ℕ, ◌+◌, ◌%◌, ◌==◌, ◌&&◌, ◌||◌, Bool, true, false, not, nat_lt, nat_le, List, [], ◌∷◌, ◌++◌, length, Option, Some, None, is_some, if◌then◌else◌, decimal, codes}
 use Rattle.std.specs.List.{list_all}
 use Rattle.std.specs.Str.{bytes_eq}
+use Rattle.keybits.specs.declared.place.TheConstants.{GREATEST_PLACE}
 use Rattle.schedules.specs.Numbers.{number_of}
 use Rattle.schedules.specs.Parts.{parts_of}
 use Rattle.streams.specs.Shown.{cut_text}
@@ -19,6 +20,10 @@ has_leading_zero (digit ∷ next ∷ more) = digit == 48
 -- a decimal number without leading zeros, at most the limit
 abbrev pub is_number : ℕ → List ℕ → Bool
 is_number limit text = is_some (number_of 20 limit text) && not (has_leading_zero text)
+
+-- the number of a place
+abbrev pub is_place_number : List ℕ → Bool
+is_place_number text = is_number GREATEST_PLACE text
 
 -- a hexadecimal digit, in lower case
 abbrev pub is_hex_digit : ℕ → Bool
@@ -45,8 +50,8 @@ fits Content text = bytes_eq text (codes "-") || are_pairs text
 fits Flag text = bytes_eq text (codes "0") || bytes_eq text (codes "1")
 fits Reply text = bytes_eq text (codes "none") || bytes_eq text (codes "some")
 fits Truth text = bytes_eq text (codes "true") || bytes_eq text (codes "false")
-fits Place text = is_number 16777215 text
-fits Places text = list_all (is_number 16777215) (parts_of 44 text)
+fits Place text = is_place_number text
+fits Places text = list_all is_place_number (parts_of 44 text)
 
 -- ---- which fields a line has
 

@@ -3,9 +3,10 @@ ghost use Rattle.std.specs.Prelude.{◌≡◌, ◌+◌, ◌^◌, ◌<◌, ◌∷
 ghost use Rattle.std.specs.List.{list_all};
 ghost use Rattle.std.specs.Str.{bytes_eq};
 ghost use Rattle.schedules.specs.Parts.{parts_of};
-ghost use Rattle.explanations.specs.ActsFields.{has_leading_zero, is_number, is_hex_digit, are_pairs, is_name, fits, fields_of, first_of, behind, shape_wants, wants_by, act_wants, seen_wrong, first_wrong, want_text, missing_told, unfit_told, extra_told, wrong_told, shape_line_told, act_line_told};
+ghost use Rattle.explanations.specs.ActsFields.{has_leading_zero, is_number, is_place_number, is_hex_digit, are_pairs, is_name, fits, fields_of, first_of, behind, shape_wants, wants_by, act_wants, seen_wrong, first_wrong, want_text, missing_told, unfit_told, extra_told, wrong_told, shape_line_told, act_line_told};
 
 use crate::found::cut_of;
+use keybits::GREATEST_PLACE;
 use schedules::read_number;
 use seqpool::cut;
 use std::alloc::{AllocError, Global};
@@ -57,6 +58,13 @@ fn is_number(limit: u64, text: &[u8]) -> bool
     read_number(text, 20, limit).is_some() && !has_leading_zero(text)
 }
 
+/// Whether a text is the number of a place.
+fn is_place_number(text: &[u8]) -> bool
+    ensures { result ≡ is_place_number text.now }
+{
+    is_number(u64::from(GREATEST_PLACE), text)
+}
+
 /// Whether a byte is a hexadecimal digit in lower case.
 fn is_hex_digit(byte: u8) -> bool
     ensures { result ≡ is_hex_digit byte }
@@ -93,16 +101,16 @@ fn is_name(text: &[u8]) -> bool
 
 /// Whether all places of a list are numbers of places.
 fn are_places(text: &[u8]) -> bool
-    ensures { result ≡ list_all (is_number 16777215) (parts_of 44 text.now) }
+    ensures { result ≡ list_all is_place_number (parts_of 44 text.now) }
 {
     let mut rest = text;
     while let Some((place, after)) = cut(rest, b',') {
-        if !is_number(16_777_215, place) {
+        if !is_place_number(place) {
             return false;
         }
         rest = after;
     }
-    is_number(16_777_215, rest)
+    is_place_number(rest)
 }
 
 /// Whether a field is what it is to be.
@@ -118,7 +126,7 @@ fn fits(want: Want, text: &[u8]) -> bool
         Want::Flag => is_word(text, "0") || is_word(text, "1"),
         Want::Reply => is_word(text, "none") || is_word(text, "some"),
         Want::Truth => is_word(text, "true") || is_word(text, "false"),
-        Want::Place => is_number(16_777_215, text),
+        Want::Place => is_place_number(text),
         Want::Places => are_places(text),
     }
 }

@@ -1,6 +1,7 @@
 //! The free places of a lane.
 ghost use Rattle.std.specs.Prelude.{◌≡◌, ◌<◌, ◌≤◌};
 ghost use Rattle.freelists.specs.Queues.{next_in_ring, IsEnd};
+ghost use Rattle.freelists.specs.Shards.{most_places};
 
 use crate::shard::{Shard, place_of_word};
 use keybits::{MOST_LANES, Place, link_to};
@@ -185,7 +186,7 @@ fn after(at: usize, length: usize) -> usize
 fn behind(first: usize, count: usize, length: usize) -> usize
     requires first { first < length }
     requires count { count < length }
-    requires small { length ≤ 4032 }
+    requires small { length ≤ most_places }
     ensures end { IsEnd length first count result }
     ensures below { result < length }
 {

@@ -1,4 +1,5 @@
-//! What a lane of a pool has of places: the rights to its own, with the objects that wait there, and the rights to those that it
+//! What a lane of a pool has of places: the rights to its own, with the objects that wait there, and the rights to
+//! those that it
 //! used up.
 #![tactic(auto)]
 

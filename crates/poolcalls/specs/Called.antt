@@ -22,6 +22,7 @@ use Rattle.poolsteps.specs.declared.view.View.{View}
 use Rattle.poolsteps.specs.Views.{the_lane, pushed_in, status_of, known_of, acts_in}
 use Rattle.poolsteps.specs.Told.{Sees, Marks, IsIdle, Quiet, HasPlace, LeftAlone, references_seen}
 use Rattle.poolcalls.specs.Acted.{Acted}
+use Rattle.poolcalls.specs.Bounds.{most_return_steps, most_end_steps, most_steps, most_end_looks}
 use Rattle.poolcalls.specs.Carried.{AreEmptied}
 use Rattle.poolcalls.specs.declared.reclaimed.Reclaimed.{Reclaimed}
 use Rattle.poolcalls.specs.declared.reclaimed.Reclaimed.TheVariants.{Own, Returned, Retired}
@@ -74,16 +75,16 @@ pub record GoesToEnd {S : Type 0} (z : Shape) (place : ℕ) (done : List Step) (
 -- the return of a place, after a LEAVE and a CLAIM that succeeded below the last generation, at a place of another shard
 abbrev pub GivesHome : {S : Type 0} → Shape → ℕ → Me S View → Me S View → Type 0
 GivesHome z place before after = (leave claim : Step) → is_claimed (generation_in leave.before) claim.before ≡ true
-    → generation_in leave.before ≢ z.last_generation → shard_of place ≢ (the_lane before.0).lane → GoesToEnd z place (leave ∷ claim ∷ []) 4 0 before after
+    → generation_in leave.before ≢ z.last_generation → shard_of place ≢ (the_lane before.0).lane → GoesToEnd z place (leave ∷ claim ∷ []) most_return_steps 0 before after
 
 -- what follows a CLAIM of this generation that succeeded
 abbrev pub Tails : {S : Type 0} → Shape → ℕ → ℕ → Me S View → Me S View → Type 0
 Tails z place generation before after = (leave claim : Step) → generation_in leave.before ≡ generation → is_claimed generation claim.before ≡ true
-    → GoesToEnd z place (leave ∷ claim ∷ []) 4 33 before after
+    → GoesToEnd z place (leave ∷ claim ∷ []) most_return_steps most_end_looks before after
 
 -- what follows a LEAVE that found this word
 abbrev pub Ends : {S : Type 0} → Shape → ℕ → ℕ → Me S View → Me S View → Type 0
-Ends z place found before after = (leave : Step) → leave.before ≡ found → GoesToEnd z place (leave ∷ []) 5 33 before after
+Ends z place found before after = (leave : Step) → leave.before ≡ found → GoesToEnd z place (leave ∷ []) most_end_steps most_end_looks before after
 
 -- what became of the place, by what the seat then saw and knows: the object of an own place is empty, with at least the place's room
 abbrev pub IsReclaimed : {T : Type 0} → (T → List ℕ) → (T → ℕ) → Shape → ℕ → ℕ → View → Reclaimed T → Type 0
@@ -154,7 +155,7 @@ pub record Called {S : Type 0} (z : Shape) (call : Call) (looks : ℕ) (before a
   pub all : next_step (caller_of z before.0) call steps ≡ None
   pub make : Make z (caller_of z before.0) call steps made
   pub did : Did z (place_of (key_in call)) made (length steps) looks before after
-  pub few : length steps ≤ 8
+  pub few : length steps ≤ most_steps
   pub idle : IsIdle after.0
 
 -- the lane made its MARK, at once or after a look that moved nothing

@@ -1,4 +1,5 @@
 pub mod AtPlace
+pub mod Bounds
 pub mod Acted
 pub mod Called
 pub mod Clears

@@ -22,6 +22,7 @@ use Rattle.poolsteps.specs.declared.view.View.{View}
 use Rattle.poolsteps.specs.Views.{the_lane, status_of, known_of}
 use Rattle.poolsteps.specs.Returned.{rest_of, taken_record, LeadsTo}
 use Rattle.poolcalls.specs.Acted.{Acted}
+use Rattle.poolcalls.specs.Bounds.{most_takes}
 use Rattle.poolcalls.specs.Carried.{AreEmptied}
 use Rattle.poolcalls.specs.Called.{caller_of, Make}
 
@@ -52,7 +53,7 @@ pub record Collects {S : Type 0} (z : Shape) (opened found : ℕ) (before after 
   pub are : AreSteps (caller_of z before.0) (Creating [] [] opened) [] steps
   pub next : next_step (caller_of z before.0) (Creating [] [] opened) steps ≡ follow_aim (the_lane before.0).lane found
   pub make : Make z (caller_of z before.0) (Creating [] [] opened) steps made
-  pub few : length steps ≤ 15
+  pub few : length steps ≤ most_takes
   pub went : Went z made before.0 after.0
   pub held : after.1 ≡ before.1
   pub stepped : after.0.steps ≡ before.0.steps + length steps

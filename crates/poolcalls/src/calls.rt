@@ -1,5 +1,5 @@
 //! The clear of a key. A key's place is one of the pool's.
-ghost use Rattle.std.specs.Prelude.{[], ◌≡◌, ◌==◌, ℕ, IsNone, IfSome, true};
+ghost use Rattle.std.specs.Prelude.{[], ◌≡◌, ◌==◌, ◌+◌, ℕ, IsNone, IfSome, true};
 ghost use Rattle.keybits.specs.Keys.{place_of, is_key};
 ghost use Rattle.keybits.specs.Words.{state_in};
 ghost use Rattle.steplaws.specs.declared.pending.Pending.TheVariants.{Undo};
@@ -9,6 +9,7 @@ ghost use Rattle.poolsteps.specs.Grids.{IsSpot, IsOf, SameSeat};
 ghost use Rattle.poolsteps.specs.Told.{IsIdle};
 ghost use Rattle.poolsteps.specs.AtOnce.{unreferred};
 ghost use Rattle.poolcalls.specs.AtPlace.{IsAt};
+ghost use Rattle.poolcalls.specs.Bounds.{most_call_looks};
 ghost use Rattle.poolcalls.specs.Called.{MarksAtLast};
 ghost use Rattle.poolcalls.specs.Clears.{Clears, LooksTwice};
 
@@ -35,7 +36,7 @@ pub fn try_clear<T: Clear + Drop>(
     requires key { is_key grid.now.shape key ≡ true }
     requires idle { IsIdle hand.old.me.0 }
     ensures hand { SameSeat hand.old hand.new }
-    ensures clears { IfSome result (λ answer. Clears T.content T.room grid.now.shape (spots_at grid.now.objects.ptr grid.now.shape (place_of key)) key at.entry.lane 35
+    ensures clears { IfSome result (λ answer. Clears T.content T.room grid.now.shape (spots_at grid.now.objects.ptr grid.now.shape (place_of key)) key at.entry.lane (most_call_looks + 1)
         hand.old.me hand.new.me answer.0 answer.1) }
     ensures looks { IsNone result → LooksTwice grid.now.shape hand.old.me hand.new.me }
 {
@@ -72,7 +73,7 @@ pub fn clear_by_steps<T: Clear + Drop>(
     requires key { is_key grid.now.shape key ≡ true }
     requires idle { IsIdle hand.old.me.0 }
     ensures hand { SameSeat hand.old hand.new }
-    ensures clears { Clears T.content T.room grid.now.shape (spots_at grid.now.objects.ptr grid.now.shape (place_of key)) key at.entry.lane 34
+    ensures clears { Clears T.content T.room grid.now.shape (spots_at grid.now.objects.ptr grid.now.shape (place_of key)) key at.entry.lane most_call_looks
         hand.old.me hand.new.me result.0 result.1 }
 {
     let found = grid.enter(hand, at.spot, key, Purpose::ToClear);

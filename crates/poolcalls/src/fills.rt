@@ -10,6 +10,7 @@ ghost use Rattle.poolsteps.specs.Views.{the_lane, status_of, known_of, IsOne};
 ghost use Rattle.poolsteps.specs.Grids.{IsSpot, IsOf, SameSeat};
 ghost use Rattle.poolsteps.specs.Told.{MayPublish, LeftAlone};
 ghost use Rattle.poolsteps.specs.Moved.{stored_of};
+ghost use Rattle.poolcalls.specs.Bounds.{most_call_looks};
 ghost use Rattle.poolcalls.specs.Carried.{AreEmptied, ShowsCell};
 ghost use Rattle.poolcalls.specs.Called.{Called, MadeOne};
 
@@ -36,7 +37,7 @@ pub fn publish<T: Clear + Drop>(
     requires slots { AreEmptied grid.now.shape (the_lane hand.old.me.0) (place_of key) }
     requires at { whole.spot ≡ spots_at grid.now.objects.ptr grid.now.shape (place_of key) }
     ensures hand { SameSeat hand.old hand.new }
-    ensures called { Called grid.now.shape (Publishing key (T.content whole.object) false) 34 hand.old.me hand.new.me }
+    ensures called { Called grid.now.shape (Publishing key (T.content whole.object) false) most_call_looks hand.old.me hand.new.me }
     ensures acts { MadeOne hand.old.me.0 hand.new.me.0 (acts.Publish lane key (T.content whole.object) false) }
     ensures room { room_of hand.new.me.0.seen hand.new.me.0.rooms (place_of key) ≡ T.room whole.object }
     ensures slots { LeftAlone grid.now.shape (the_lane hand.new.me.0) (place_of key) }
@@ -64,7 +65,7 @@ pub fn downgrade<T: Clear + Drop>(
     requires slots { AreEmptied grid.now.shape (the_lane hand.old.me.0) (place_of key) }
     requires at { whole.spot ≡ spots_at grid.now.objects.ptr grid.now.shape (place_of key) }
     ensures hand { SameSeat hand.old hand.new }
-    ensures called { Called grid.now.shape (Publishing key (T.content whole.object) true) 34 hand.old.me hand.new.me }
+    ensures called { Called grid.now.shape (Publishing key (T.content whole.object) true) most_call_looks hand.old.me hand.new.me }
     ensures acts { MadeOne hand.old.me.0 hand.new.me.0 (acts.Publish lane key (T.content whole.object) true) }
     ensures room { room_of hand.new.me.0.seen hand.new.me.0.rooms (place_of key) ≡ T.room whole.object }
     ensures slot { status_of (the_lane hand.new.me.0) (place_of key) lane ≡ Emptied }

@@ -1,5 +1,7 @@
-//! The calls of a pool, over the hands of its lanes: each puts steps and moves together, and tells them as the steps of the
-//! call. Whole cells are taken out of a place's slots and spread into them; a create's TAKEs and FOLLOW; calls that end for good
+//! The calls of a pool, over the hands of its lanes: each puts steps and moves together, and tells them as the steps of
+//! the
+//! call. Whole cells are taken out of a place's slots and spread into them; a create's TAKEs and FOLLOW; calls that end
+//! for good
 //! after a number of steps.
 #![tactic(auto)]
 

@@ -1,6 +1,7 @@
 -- What the calls of a handle answer, what each does, and what each leaves alone.
 use Rattle.std.specs.Prelude.{◌≡◌, ◌≢◌, ◌==◌, ◌⊎◌, ℕ, ◌+◌, ◌-◌, ◌<◌, ◌≤◌, Bool, true, false, List, [], ◌++◌, length, take, replicate, Contains, Result, Option, Ok, Err, Some, None, if◌then◌else◌}
 use Rattle.std.specs.Arc.{arc_value}
+use Rattle.keybits.specs.declared.shape.TheConstants.{MOST_LANES}
 use Rattle.seqpool.specs.Histories.{PublishedAt}
 use Rattle.steplaws.specs.Facts.{most_references}
 use Rattle.slotcell.specs.ByteBuf.{ByteBuf}
@@ -11,6 +12,7 @@ use Rattle.poolhandle.specs.declared.refusal.Refusal.{Refusal}
 use Rattle.poolhandle.specs.declared.refusal.Refusal.TheVariants.{Memory, Full, Fillings, NoFilling, NoReference, Gone, References, OtherPool, Lanes, Room, Shared}
 use Rattle.poolhandle.specs.declared.kept.Kept.{Kept}
 use Rattle.poolhandle.specs.declared.handle.Handle.{Handle}
+use Rattle.poolhandle.specs.declared.fillings.TheConstants.{MOST_FILLINGS}
 use Rattle.poolhandle.specs.Filled.{HaveNot, MustGrow, StayAll, Gain, Turn, Lose, content_of, room_of}
 use Rattle.poolhandle.specs.LaneCalls.{LanePublishes, LaneGets, LaneMisses, LaneReleases, LaneClears, LaneClearsNone}
 
@@ -79,7 +81,7 @@ CreatesNone before after refusal = (((refusal ≡ Full) × ((lane_of before).pag
 abbrev pub Creates : Handle → Handle → Result ℕ Refusal → Type 0
 Creates before after (Ok key) = (filling : FillingOf ByteBuf) × (filling.key ≡ key) × Gives (λ b. b.bytes) (λ b. b.room) (lane_of before) (lane_of after) filling
     × KeepsElse (Gain filling) as_many before after
-Creates before after (Err refusal) = ((refusal ≡ Fillings) × (16 ≤ length (filled before)) × (after ≡ before)) ⊎ CreatesNone before after refusal
+Creates before after (Err refusal) = ((refusal ≡ Fillings) × (MOST_FILLINGS ≤ length (filled before)) × (after ≡ before)) ⊎ CreatesNone before after refusal
 
 -- its content is as before, and it has no room more
 abbrev pub EndsRoom : Kept → Kept → Type 0
@@ -162,7 +164,7 @@ pub record IsNext (into other : Handle) : Type 0 where
   pub first : (lane_of into).number ≡ 0
   pub later : 1 ≤ (lane_of other).number
   pub single : other.joined ≡ 0
-  pub few : into.joined < 16
+  pub few : into.joined < MOST_LANES
   pub next : (lane_of other).number + into.joined + 1 ≡ (pool_of into).shape.lanes
 
 -- the number under which its pool was opened

@@ -10,6 +10,7 @@ use crate::handle::Handle;
 use crate::refusal::Refusal;
 use crate::shared::{Given, Shared};
 use counted_slot::Counted;
+use keybits::MOST_LANES;
 use shardpool::{Census, Lane, Pool};
 use slotcell::ByteBuf;
 use std::sync::Arc;
@@ -27,7 +28,7 @@ pub fn join(into: &mut Handle, other: Box<Handle>) -> Result<(), (Refusal, Box<H
     if into.lane.number() != 0
         || other.lane.number() == 0
         || other.joined != 0
-        || into.joined >= 16
+        || into.joined >= MOST_LANES
     {
         return Err((Refusal::Lanes, other));
     }

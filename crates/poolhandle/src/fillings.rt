@@ -3,6 +3,7 @@ ghost use Rattle.std.specs.Prelude.{◌≡◌, ◌<◌, ◌≤◌, [], ◌∷◌
 ghost use Rattle.std.specs.Vec.{vec_capacity};
 ghost use Rattle.std.specs.List.Sorted.{IsPermutation};
 ghost use Rattle.poolhandle.specs.declared.kept.Kept.{Kept as One};
+ghost use Rattle.poolhandle.specs.declared.fillings.TheConstants.{MOST_FILLINGS};
 ghost use Rattle.poolhandle.specs.Filled.{AreDistinct, HaveNot, Changes, MustGrow, content_of, room_of};
 
 use crate::kept::Kept;
@@ -11,12 +12,12 @@ use std::alloc::Global;
 /// The most places that a lane fills at once.
 pub const MOST_FILLINGS: usize = 16;
 
-/// The places that a lane fills, 16 at most, each under its own key.
+/// The places that a lane fills, at most `MOST_FILLINGS`, each under its own key.
 #[derive(Drop)]
 pub struct Fillings {
     pub list: Vec<Kept>,
-    ghost few: { length list.items ≤ 16 },
-    ghost roomy: { 16 ≤ vec_capacity list },
+    ghost few: { length list.items ≤ MOST_FILLINGS },
+    ghost roomy: { MOST_FILLINGS ≤ vec_capacity list },
     ghost distinct: { AreDistinct list.items },
 }
 
@@ -31,8 +32,8 @@ impl Fillings {
 
     /// Whether no place can be filled any more.
     pub(crate) fn is_full(&self) -> bool
-        ensures full { IsTrue result → 16 ≤ length self.now.list.items }
-        ensures more { IsFalse result → length self.now.list.items < 16 }
+        ensures full { IsTrue result → MOST_FILLINGS ≤ length self.now.list.items }
+        ensures more { IsFalse result → length self.now.list.items < MOST_FILLINGS }
     {
         self.list.len() >= MOST_FILLINGS
     }
@@ -62,7 +63,7 @@ impl Fillings {
 
     /// Puts a filling in, whose key no other has.
     pub(crate) fn keep(&mut self, kept: Kept)
-        requires room { length self.old.list.items < 16 }
+        requires room { length self.old.list.items < MOST_FILLINGS }
         requires apart { HaveNot kept.filling.key self.old.list.items }
         ensures { self.new.list.items ≡ self.old.list.items ++ kept ∷ [] }
     {

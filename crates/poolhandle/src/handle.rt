@@ -8,12 +8,9 @@ use crate::fillings::Fillings;
 use crate::kept::Kept;
 use crate::refusal::Refusal;
 use crate::shared::Shared;
-use shardpool::{CreateFault, Filling, Lane};
+use shardpool::{CreateFault, Filling, Lane, MOST_REFERENCES};
 use slotcell::ByteBuf;
 use std::sync::Arc;
-
-/// The most references of a lane.
-const MOST_REFERENCES: u32 = 1_048_575;
 
 /// A lane, with its share of the pool and the places that it fills.
 #[derive(Drop)]

@@ -4,6 +4,7 @@ use mathlib.Core.Option as maybe
 use lib.ListN.{get_elem?}
 use denote.RawPtr.{Ptr}
 use Rattle.placecell.specs.Spot.{Spot as CellSpot}
+use Rattle.keybits.specs.declared.place.TheConstants.{PAGE_NUMBERS}
 use Rattle.keybits.specs.declared.shape.Shape.{Shape}
 use Rattle.keybits.specs.declared.step.Word.{Word}
 use Rattle.keybits.specs.declared.step.Word.TheVariants.{Life, Link, Stack}
@@ -13,7 +14,7 @@ use Rattle.placecell.specs.Share.{Share}
 use Rattle.sharelaws.specs.Shares.{Slots}
 use Rattle.steplaws.specs.Facts.{Words}
 use Rattle.poolsteps.specs.declared.layout.PageRow.{PageRow}
-use Rattle.poolsteps.specs.declared.layout.TheConstants.{WORDS_APART, SHARDS_APART, LIVES_START}
+use Rattle.poolsteps.specs.declared.layout.TheConstants.{WORDS_APART, SHARDS_APART, LIVES_START, SHARD_PAGES}
 
 -- a word of the lane's own, which no step changes
 abbrev pub look_word : ℕ → ℕ
@@ -63,10 +64,14 @@ words_in z words = record {
   stack = λ shard lane. value_in z words (Stack shard lane);
 }
 
--- where the places of a page stand, of those counted over all shards, 16 to each: those of its first place, and none where the shape has no such page
+-- how many pages the numbers of a pool's places have room for
+abbrev pub page_count : Shape → ℕ
+page_count z = SHARD_PAGES * z.lanes
+
+-- where the places of a page stand, of those counted over all shards: those of its first place, and none where the shape has no such page
 abbrev pub page_row : Shape → ℕ → PageRow
-page_row z page = if nat_lt (page % 16) z.pages
-    then record { places = page_size z (page % 16); start = slot_start z (4096 * page) }
+page_row z page = if nat_lt (page % SHARD_PAGES) z.pages
+    then record { places = page_size z (page % SHARD_PAGES); start = slot_start z (PAGE_NUMBERS * page) }
     else record { places = 0; start = 0 }
 
 -- the rows of so many pages

@@ -2,6 +2,7 @@
 use Rattle.std.specs.List.{All}
 use Rattle.std.specs.Prelude.{◌≡◌, ◌≢◌, ◌⊎◌, ℕ, ◌<◌, ◌≤◌, Bool, true, false, List, [], ◌∷◌, ◌++◌, length, Option, Some, None}
 use Rattle.atomic_table.specs.Table.{Me}
+use Rattle.keybits.specs.declared.place.TheConstants.{SHARD_NUMBERS}
 use Rattle.keybits.specs.declared.shape.Shape.{Shape}
 use Rattle.keybits.specs.declared.step.Kind.TheVariants as kinds
 use Rattle.keybits.specs.Places.{shard_of}
@@ -94,7 +95,7 @@ pub record IsAtRest (z : Shape) (v : View) (place : ℕ) : Type 0 where
 -- a word that leads to these places of a shard, or to the end where there are none
 abbrev pub LeadsTo : Shape → ℕ → ℕ → List ℕ → Type 0
 LeadsTo z shard word [] = word ≡ 0
-LeadsTo z shard word (place ∷ more) = (0 < word) × (word ≤ 65536) × (place ≡ linked_place shard word) × (is_place z place ≡ true)
+LeadsTo z shard word (place ∷ more) = (0 < word) × (word ≤ SHARD_NUMBERS) × (place ≡ linked_place shard word) × (is_place z place ≡ true)
 
 -- every home place of the shard was returned by another lane of the pool than this one
 abbrev pub NoneFrom : Shape → List Act → ℕ → ℕ → Type 0

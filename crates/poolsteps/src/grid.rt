@@ -1,9 +1,9 @@
 //! The table of a pool, the hands of its lanes, and where the words of a place stand.
-ghost use Rattle.std.specs.Prelude.{◌≡◌, ◌*◌, ◌/◌};
+ghost use Rattle.std.specs.Prelude.{◌≡◌, ◌/◌};
 ghost use Rattle.keybits.specs.Keys.{key_number};
 ghost use Rattle.keybits.specs.Shapes.{IsShape};
 ghost use Rattle.keybits.specs.SameShapes.{IsShape-prop};
-ghost use Rattle.poolsteps.specs.Layout.{word_count, page_rows, slot_count, slot_row, links_start};
+ghost use Rattle.poolsteps.specs.Layout.{word_count, page_count, page_rows, slot_count, slot_row, links_start};
 
 use crate::layout::PageRow;
 use crate::plays::PoolRule;
@@ -54,7 +54,7 @@ pub struct Grid<T: Clear> {
     ghost checked: { IsShape shape } by { IsShape-prop shape },
     ghost sized: { table.shared.table_id.words ≡ word_count shape },
     ghost deep: { table.shared.table_id.slots ≡ slot_count shape },
-    ghost pages_are: { pages.items ≡ page_rows shape (16 * shape.lanes) },
+    ghost pages_are: { pages.items ≡ page_rows shape (page_count shape) },
     ghost row_is: { row ≡ slot_row shape },
     ghost links_are: { links ≡ links_start shape },
     ghost first_key_is: { first_key ≡ key_number shape.tag 0 1 / 16777216 },

@@ -2,15 +2,15 @@
 //! lanes change by themselves stand 128 bytes apart, as a processor may fetch two lines of 64 together, and so do the
 //! words of neighbouring shards. No step changes the first words: the very first is read where seats are cut and
 //! joined, and behind it each lane has one that it looks at.
-ghost use Rattle.std.specs.Prelude.{◌≡◌, ◌<◌, ◌*◌, ℕ, true, None, List, Option, length, slice_get, Some, IfSome};
+ghost use Rattle.std.specs.Prelude.{◌≡◌, ◌<◌, ℕ, true, None, List, Option, length, slice_get, Some, IfSome};
 ghost use Rattle.keybits.specs.Shapes.{IsShape, position_of, is_place};
 ghost use Rattle.keybits.specs.Places.{shard_of};
 ghost use Rattle.keybits.specs.declared.step.Word.TheVariants as words;
 ghost use Rattle.placecell.specs.Share.{Share};
-ghost use Rattle.poolsteps.specs.Layout.{index_in, look_word, links_start, word_count, words_in, page_row, page_rows, slot_start, slot_row, slot_count, slot_index, shard_start};
+ghost use Rattle.poolsteps.specs.Layout.{index_in, look_word, links_start, word_count, words_in, page_count, page_row, page_rows, slot_start, slot_row, slot_count, slot_index, shard_start};
 ghost use Rattle.steplaws.specs.MomentLaws.{AreFirst};
 
-use keybits::{Life, PAGE_NUMBERS, Shape, State, shard_of};
+use keybits::{Life, MOST_LANES, PAGE_NUMBERS, SHARD_NUMBERS, Shape, State, shard_of};
 use placecell::Slot;
 use std::alloc::Global;
 
@@ -22,7 +22,10 @@ pub(crate) const WORDS_APART: usize = 16;
 pub const SHARDS_APART: usize = 16;
 
 /// Where the lifecycle words begin: behind the very first word and, as far apart, one for each of the most lanes.
-pub(crate) const LIVES_START: usize = 272;
+pub(crate) const LIVES_START: usize = WORDS_APART * (1 + MOST_LANES as usize);
+
+/// How many pages the numbers of a shard's places have room for.
+pub(crate) const SHARD_PAGES: u32 = SHARD_NUMBERS / PAGE_NUMBERS;
 
 /// How many words there are.
 pub(crate) fn word_count(shape: &Shape) -> usize
@@ -135,12 +138,12 @@ pub struct PageRow {
     pub start: u32,
 }
 
-/// The rows of all pages, 16 to a shard. None where memory was refused.
+/// The rows of all pages, `SHARD_PAGES` to a shard. None where memory was refused.
 pub fn page_rows(alloc: Global, shape: &Shape) -> Option<Vec<PageRow>>
     requires { IsShape shape.now }
-    ensures { IfSome result (λ rows. rows.items ≡ page_rows shape.now (16 * shape.now.lanes)) }
+    ensures { IfSome result (λ rows. rows.items ≡ page_rows shape.now (page_count shape.now)) }
 {
-    let count = 16 * shape.lanes;
+    let count = SHARD_PAGES * shape.lanes;
     let mut rows = Vec::with_capacity(alloc, count as usize).ok()?;
     for page in 0..count {
         rows.push_reserved(page_row(shape, page));
@@ -148,13 +151,13 @@ pub fn page_rows(alloc: Global, shape: &Shape) -> Option<Vec<PageRow>>
     Some(rows)
 }
 
-/// The row of a page, counted over all shards, 16 to each.
+/// The row of a page, counted over all shards.
 fn page_row(shape: &Shape, page: u32) -> PageRow
     requires shape { IsShape shape.now }
-    requires page { page < 16 * shape.now.lanes }
+    requires page { page < page_count shape.now }
     ensures { result ≡ page_row shape.now page }
 {
-    if page % 16 >= shape.pages {
+    if page % SHARD_PAGES >= shape.pages {
         return PageRow {
             places: 0,
             start: 0,
@@ -162,7 +165,7 @@ fn page_row(shape: &Shape, page: u32) -> PageRow
     }
     let first = page * PAGE_NUMBERS;
     PageRow {
-        places: shape.page_size(page % 16),
+        places: shape.page_size(page % SHARD_PAGES),
         start: slot_start(shape, first, shape.position(first)) as u32,
     }
 }

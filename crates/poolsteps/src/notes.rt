@@ -28,7 +28,8 @@ impl<T: Clear> Grid<T> {
         self.table.shared.split_seat::<Tell>(hand)
     }
 
-    /// Takes in a note: what the lane has then seen begins with what it saw, and with what the note has, and so do the rooms beside it.
+    /// Takes in a note: what the lane has then seen begins with what it saw, and with what the note has, and so do the
+    /// rooms beside it.
     /// It is one look, and a load before it.
     pub fn hear(&self, hand: &mut Hand<T>, lane: u32, note: Hand<T>)
         requires hand { IsOf self.now hand.old × IsOne hand.old.me.0 }

@@ -12,6 +12,7 @@ use Rattle.steplaws.specs.Calls.{Call, next_step, AreSteps}
 use Rattle.steplaws.specs.Calls.Call.{Creating}
 use Rattle.poolsteps.specs.Views.{the_lane}
 use Rattle.poolsteps.specs.Told.{IsIdle, Sees}
+use Rattle.poolcalls.specs.Bounds.{most_create_steps, most_looks}
 use Rattle.poolcalls.specs.Called.{caller_of, Make}
 use Rattle.poolcalls.specs.Taken.{NoneHome, Collects, FollowsOut}
 use Rattle.shardpool.specs.declared.create.CreateFault.{CreateFault}
@@ -41,8 +42,8 @@ pub record Created (made : List Act) (old new : LaneOf) : Type 0 where
   pub held : (key : ℕ) → holds new key ≡ holds old key
   pub idle : IsIdle new.book
   pub stepped : new.book.steps ≡ old.book.steps + length steps
-  pub few : length steps ≤ 64
-  pub looked : new.book.looks ≤ old.book.looks + 64
+  pub few : length steps ≤ most_create_steps
+  pub looked : new.book.looks ≤ old.book.looks + most_looks
 
 -- the slots of a page of a shard, from this one on, so many
 abbrev pub page_slots : ℕ → ℕ → ℕ → ℕ → List Place

@@ -16,6 +16,7 @@ use Rattle.poolsteps.specs.Layout.{slot_start}
 use Rattle.poolsteps.specs.Views.{the_lane}
 use Rattle.poolsteps.specs.Told.{MayPublish, references_seen}
 use Rattle.poolsteps.specs.ViewLaws.{references_made}
+use Rattle.poolcalls.specs.Bounds.{most_looks}
 use Rattle.poolcalls.specs.Carried.{AreEmptied}
 use Rattle.poolcalls.specs.Called.{Called}
 use Rattle.shardpool.specs.Tokens.{PoolOf, LaneOf, FillingOf, RefOf, NoteOf}
@@ -77,7 +78,7 @@ SameLane old new = (new.table ≡ old.table) × (new.shape ≡ old.shape) × (ne
 
 -- between two views the lane made one call: its steps, each by the step relation, the acts that these made, and nothing more
 abbrev pub Calls : Shape → Call → View → View → Type 0
-Calls z call v w = Called {S = Unit {0}} z call 64 (v, []) (w, [])
+Calls z call v w = Called {S = Unit {0}} z call most_looks (v, []) (w, [])
 
 -- the places that acts of a lane brought to its own list: those of its shard that it reclaimed below the last generation
 abbrev pub freed : Shape → ℕ → List Act → List Place

@@ -1,11 +1,12 @@
 //! A clear, with what its lane keeps of it.
-ghost use Rattle.std.specs.Prelude.{◌≡◌, true, []};
+ghost use Rattle.std.specs.Prelude.{◌≡◌, ◌+◌, true, []};
 ghost use Rattle.keybits.specs.Keys.{place_of, is_key};
 ghost use Rattle.poolsteps.specs.Layout.{slot_start};
 ghost use Rattle.poolsteps.specs.Views.{IsOne};
 ghost use Rattle.poolsteps.specs.Grids.{IsOf, SameSeat};
 ghost use Rattle.poolsteps.specs.Told.{IsIdle};
 ghost use Rattle.keybits.specs.Shapes.{is_place};
+ghost use Rattle.poolcalls.specs.Bounds.{most_call_looks};
 ghost use Rattle.shardpool.specs.Finishes.{IsKeeper, MayClear, ClearsAndKeeps};
 
 use crate::state::LaneState;
@@ -34,7 +35,7 @@ pub(crate) fn clear_and_keep<T: Clear + Drop>(
     requires keeper { IsKeeper grid.now.shape grid.now.objects.ptr (place_of key) hand.old.me.0 state.old }
     requires may { MayClear T.content T.room grid.now.shape key grid.now.objects.ptr hand.old.me state.old }
     ensures hand { SameSeat hand.old hand.new }
-    ensures clears { ClearsAndKeeps T.content T.room grid.now.shape key grid.now.objects.ptr 36 hand.old.me hand.new.me state.old state.new result }
+    ensures clears { ClearsAndKeeps T.content T.room grid.now.shape key grid.now.objects.ptr (most_call_looks + 2) hand.old.me hand.new.me state.old state.new result }
 {
     let spot = Spot {
         place: place_of(key),
@@ -72,7 +73,7 @@ fn clear_by_steps_and_keep<T: Clear + Drop>(
     requires keeper { IsKeeper grid.now.shape grid.now.objects.ptr (place_of key) hand.old.me.0 state.old }
     requires may { MayClear T.content T.room grid.now.shape key grid.now.objects.ptr hand.old.me state.old }
     ensures hand { SameSeat hand.old hand.new }
-    ensures clears { ClearsAndKeeps T.content T.room grid.now.shape key grid.now.objects.ptr 34 hand.old.me hand.new.me state.old state.new result }
+    ensures clears { ClearsAndKeeps T.content T.room grid.now.shape key grid.now.objects.ptr most_call_looks hand.old.me hand.new.me state.old state.new result }
 {
     let spot = Spot {
         place: place_of(key),

@@ -9,6 +9,9 @@ use poolsteps::Hand;
 use slotcell::Clear;
 use std::marker::Model;
 
+/// The most references of a lane.
+pub const MOST_REFERENCES: u32 = 1_048_575;
+
 /// The owner of a shard. A thread that has one calls the pool with it.
 #[derive(Drop)]
 pub struct Lane<T: Clear> {

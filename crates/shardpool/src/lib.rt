@@ -27,7 +27,7 @@ pub use closing::close;
 pub use create::CreateFault;
 pub use fault::OpenFault;
 pub use halt::{Halted, LastCall};
-pub use lane::Lane;
+pub use lane::{Lane, MOST_REFERENCES};
 pub use laws::{parts_law, room_law};
 pub use opening::open;
 pub use pool::Pool;

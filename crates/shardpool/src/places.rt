@@ -1,8 +1,8 @@
 //! Where the places of a pool stand in rows of words, of slots and of what a lane has of each.
-ghost use Rattle.std.specs.Prelude.{◌≡◌, ◌*◌};
+ghost use Rattle.std.specs.Prelude.{◌≡◌};
 ghost use Rattle.keybits.specs.Shapes.{IsShape};
 ghost use Rattle.keybits.specs.SameShapes.{IsShape-prop};
-ghost use Rattle.poolsteps.specs.Layout.{page_rows};
+ghost use Rattle.poolsteps.specs.Layout.{page_count, page_rows};
 ghost use Rattle.shardpool.specs.Rows.{pages_code};
 
 use keybits::{PAGE_NUMBERS, Shape};
@@ -20,7 +20,7 @@ pub(crate) struct Places {
     pub(crate) rows: Vec<PageRow>,
     ghost checked: { IsShape shape } by { IsShape-prop shape },
     ghost code_is: { code ≡ pages_code shape },
-    ghost rows_are: { rows.items ≡ page_rows shape (16 * shape.lanes) },
+    ghost rows_are: { rows.items ≡ page_rows shape (page_count shape) },
 }
 
 impl Places {

@@ -62,7 +62,7 @@ all-light f light (suc n) =
 pub tidy-first : (pool : PoolOf) (lane : LaneOf) → Owns pool lane → refs lane ≤ 1048559 → Tidy pool (first_desk lane)
 tidy-first pool lane owns few = record {
   owns = owns;
-  sixteen = length-replicate 16 empty_register;
+  count = length-replicate 16 empty_register;
   made = λ i filling is. absurd (none-filling i filling is);
   apart = λ i j filling other is also same. absurd (none-filling i filling is);
   held = λ key. let none = all-light (λ r. key_weight key r.held) refl 16 in omega (arith, none);
@@ -76,7 +76,7 @@ module _ {pool : PoolOf} {old new : LaneOf} {rs : List Register} (tidy : Tidy po
   pub tidy-lane : ((filling : FillingOf ByteBuf) → Made old filling → Made new filling) → ((key : ℕ) → holds new key ≡ holds old key) → refs new ≡ refs old → Tidy pool (desk new rs)
   tidy-lane fillings held_same refs_same = record {
     owns = owns;
-    sixteen = tidy.sixteen;
+    count = tidy.count;
     made = λ i filling is. fillings filling (tidy.made i filling is);
     apart = tidy.apart;
     held = λ key. let h = tidy.held key in let s = held_same key in omega (arith, h, s);
@@ -90,7 +90,7 @@ module _ {pool : PoolOf} {old new : LaneOf} {rs : List Register} (tidy : Tidy po
       (held : (key : ℕ) → holds old key + key_weight key r.held ≤ holds new key + key_weight key (register_at rs n).held)
       (room : refs new + weight (register_at rs n).held ≤ refs old + weight r.held) where
     inside : n < length rs
-    inside = omega (arith, tidy.sixteen)
+    inside = omega (arith, tidy.count)
 
     here-is : (i : ℕ) → i ≡ n → register_at (set rs n r) i ≡ r
     here-is i here = subst (λ (k : ℕ). register_at (set rs n r) k ≡ r) (sym here) (at-same rs n r inside)
@@ -116,7 +116,7 @@ module _ {pool : PoolOf} {old new : LaneOf} {rs : List Register} (tidy : Tidy po
     pub tidy-set : Tidy pool (desk new (set rs n r))
     tidy-set = record {
       owns = owns;
-      sixteen = length-set rs n r ∙ tidy.sixteen;
+      count = length-set rs n r ∙ tidy.count;
       made = λ i filling is. dite (ℕ_discrete i n) (λ (here : i ≡ n). made filling (held-here i filling here is))
           (λ (there : i ≢ n). others i filling there (held-there i filling there is));
       apart = two-apart;
@@ -132,8 +132,8 @@ module _ {pool : PoolOf} {old new : LaneOf} {rs : List Register} (tidy : Tidy po
 -- where a register weighs nothing the lane may have one more reference
 pub tidy-room : {pool : PoolOf} {lane : LaneOf} {rs : List Register} → Tidy pool (desk lane rs) → (n : ℕ) → n < 16 → weight (register_at rs n).held ≡ 0 → refs lane < 1048575
 tidy-room {rs = rs} tidy n low light =
-    let less = sum-less (λ x. weight x.held) small-weight rs n (omega (arith, tidy.sixteen)) light in
-    omega (arith, less, tidy.sixteen, tidy.room)
+    let less = sum-less (λ x. weight x.held) small-weight rs n (omega (arith, tidy.count)) light in
+    omega (arith, less, tidy.count, tidy.room)
 
 hit-weight : (b : Bool) (m : ℕ) → b ≡ true → m ≡ cond b 1 0 → m ≡ 1
 hit-weight true m hit is = is
@@ -151,4 +151,4 @@ least-held lane rs held n low reference is =
 -- the reference of a register is one of the lane
 pub tidy-held : {pool : PoolOf} {lane : LaneOf} {rs : List Register} → Tidy pool (desk lane rs) → (n : ℕ) → n < 16 → (reference : RefOf)
     → reference_in (register_at rs n).held ≡ Some reference → 1 ≤ holds lane reference.key
-tidy-held {lane = lane} {rs = rs} tidy n low reference is = least-held lane rs tidy.held n (omega (arith, low, tidy.sixteen)) reference is
+tidy-held {lane = lane} {rs = rs} tidy n low reference is = least-held lane rs tidy.held n (omega (arith, low, tidy.count)) reference is

@@ -157,7 +157,7 @@ module _ {pool : PoolOf} {lane : LaneOf} {rs : List Register} (register : Number
   }
 
   inside : register.number < length rs
-  inside = omega (arith, tidy.sixteen, register.small)
+  inside = omega (arith, tidy.count, register.small)
 
   module _ (between now : List Register) (between_is : between ≡ with_held rs register.number Empty) (now_is : now ≡ with_held between register.number (Filling now_filling)) where
     put : now ≡ with_held rs register.number (Filling now_filling)
@@ -244,7 +244,7 @@ module _ {pool : PoolOf} {old new : LaneOf} {rs : List Register} (register : Num
         let one : has ≡ of_filling = ap (λ (k : ℕ). record { key = k }) has_is in
         let put : now ≡ with_held rs register.number (Reference of_filling) =
         now_is ∙ (ap (λ (x : List Register). with_held x register.number (Reference has)) between_is
-        ∙ (held-again rs register.number Empty (Reference has) (omega (arith, tidy.sixteen, register.small)) ∙ ap (λ (r : RefOf). with_held rs register.number (Reference r)) one)) in
+        ∙ (held-again rs register.number Empty (Reference has) (omega (arith, tidy.count, register.small)) ∙ ap (λ (r : RefOf). with_held rs register.number (Reference r)) one)) in
         subst (λ (x : List Register). Runs pool (desk old rs) (Downgrade register) (replies.Key key) (desk new x)) (sym put)
         (subst (λ (k : ℕ). Runs pool (desk old rs) (Downgrade register) (replies.Key k) (desk new (with_held rs register.number (Reference of_filling)))) (sym (key_is ∙ has_is)) downgraded)
 

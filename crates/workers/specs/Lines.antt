@@ -17,6 +17,7 @@ use Rattle.shardpool.specs.Tokens.{LaneOf, FillingOf, RefOf}
 use Rattle.shardpool.specs.Lanes.{Calls, Did, Gets}
 use Rattle.shardpool.specs.Creates.{Gives, GivesNone}
 use Rattle.workers.specs.declared.registers.Register.{Register}
+use Rattle.workers.specs.declared.registers.TheConstants.{REGISTERS}
 use Rattle.workers.specs.declared.registers.Held.{Held}
 use Rattle.workers.specs.declared.registers.Held.TheVariants.{Empty, Filling, Reference}
 
@@ -31,7 +32,7 @@ empty_register = record { held = Empty; last_key = None }
 
 -- before the first line all registers are empty
 abbrev pub first_desk : LaneOf → Desk
-first_desk lane = record { lane = lane; registers = replicate 16 empty_register }
+first_desk lane = record { lane = lane; registers = replicate REGISTERS empty_register }
 
 -- the register, or an empty one where there is none of this number
 abbrev pub register_or_empty : Option Register → Register

@@ -9,10 +9,11 @@ use Rattle.workers.specs.declared.jobs.Job.{Job}
 use Rattle.workers.specs.declared.jobs.Done.{Done}
 use Rattle.workers.specs.declared.jobs.Report.{Report}
 use Rattle.workers.specs.Lines.{first_desk, AreLines}
+use Rattle.workers.specs.Tidy.{most_besides}
 
--- the lane is of the pool, and its references leave room for sixteen more
+-- the lane is of the pool, and its references leave room for one more in each register
 abbrev pub MayWork : PoolOf → LaneOf → Type 0
-MayWork pool lane = Owns pool lane × (refs lane ≤ 1048559)
+MayWork pool lane = Owns pool lane × (refs lane ≤ most_besides)
 
 -- so many lines were run: all, or all before the one at which the worker was stopped, of which numbers too large for the report count as the largest
 abbrev pub Stops : ℕ → List Command → Option ℕ → Type 0

@@ -97,8 +97,11 @@ pub(crate) struct Register {
     pub(crate) last_key: Option<u64>,
 }
 
+/// How many registers a script has: as many as a `Number` can name.
+pub(crate) const REGISTERS: usize = 16;
+
 /// The registers of a script.
-pub(crate) type Registers = [Register; 16];
+pub(crate) type Registers = [Register; REGISTERS];
 
 /// A register that held nothing yet.
 fn empty() -> Register
@@ -112,7 +115,7 @@ fn empty() -> Register
 
 /// Registers that held nothing yet.
 pub(crate) fn all_empty() -> Registers
-    ensures { result ≡ replicate 16 empty_register }
+    ensures { result ≡ replicate REGISTERS empty_register }
 {
     [
         empty(),

@@ -12,7 +12,7 @@ use crate::erased::slotcell::Clear;
 
 /// TAKEs of the stacks of the lane's shard, by rising number of the lanes that return to it, up to the first that has places:
 /// they are then the lane's taken chain. Answers the word that was found there, which leads to the first of them; 0 where
-/// none had places. It makes at most 15 steps and no look, and takes no memory.
+/// none had places. It makes at most one step for each other lane and no look, and takes no memory.
 pub fn collect<T: Clear>(grid: &Grid<T>, hand: &mut Hand<T>, lane: u32) -> u64 {
     for from in 0..grid.shape.lanes {
         if from != lane {

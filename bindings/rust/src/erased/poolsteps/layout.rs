@@ -6,7 +6,9 @@
 
 use crate::shim::{Global, Vec};
 
-use crate::erased::keybits::{shard_of, Life, Shape, State, PAGE_NUMBERS};
+use crate::erased::keybits::{
+    shard_of, Life, Shape, State, MOST_LANES, PAGE_NUMBERS, SHARD_NUMBERS,
+};
 use crate::erased::placecell::Slot;
 
 /// How many words stand between two that different lanes change by themselves.
@@ -17,7 +19,10 @@ pub(crate) const WORDS_APART: usize = 16;
 pub const SHARDS_APART: usize = 16;
 
 /// Where the lifecycle words begin: behind the very first word and, as far apart, one for each of the most lanes.
-pub(crate) const LIVES_START: usize = 272;
+pub(crate) const LIVES_START: usize = WORDS_APART * (1 + MOST_LANES as usize);
+
+/// How many pages the numbers of a shard's places have room for.
+pub(crate) const SHARD_PAGES: u32 = SHARD_NUMBERS / PAGE_NUMBERS;
 
 /// How many words there are.
 #[inline]
@@ -92,10 +97,10 @@ pub struct PageRow {
     pub start: u32,
 }
 
-/// The rows of all pages, 16 to a shard. None where memory was refused.
+/// The rows of all pages, `SHARD_PAGES` to a shard. None where memory was refused.
 #[inline]
 pub fn page_rows(alloc: Global, shape: &Shape) -> Option<Vec<PageRow>> {
-    let count = 16 * shape.lanes;
+    let count = SHARD_PAGES * shape.lanes;
     let mut rows = Vec::with_capacity(alloc, count as usize).ok()?;
     for page in 0..count {
         rows.push_reserved(page_row(shape, page));
@@ -103,10 +108,10 @@ pub fn page_rows(alloc: Global, shape: &Shape) -> Option<Vec<PageRow>> {
     Some(rows)
 }
 
-/// The row of a page, counted over all shards, 16 to each.
+/// The row of a page, counted over all shards.
 #[inline]
 fn page_row(shape: &Shape, page: u32) -> PageRow {
-    if page % 16 >= shape.pages {
+    if page % SHARD_PAGES >= shape.pages {
         return PageRow {
             places: 0,
             start: 0,
@@ -114,7 +119,7 @@ fn page_row(shape: &Shape, page: u32) -> PageRow {
     }
     let first = page * PAGE_NUMBERS;
     PageRow {
-        places: shape.page_size(page % 16),
+        places: shape.page_size(page % SHARD_PAGES),
         start: slot_start(shape, first, shape.position(first)) as u32,
     }
 }

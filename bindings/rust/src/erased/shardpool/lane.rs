@@ -11,6 +11,9 @@ use crate::erased::shardpool::state::LaneState;
 use crate::erased::shardpool::token::Ref;
 use crate::erased::slotcell::Clear;
 
+/// The most references of a lane.
+pub const MOST_REFERENCES: u32 = 1_048_575;
+
 /// The owner of a shard. A thread that has one calls the pool with it.
 pub struct Lane<T: Clear> {
     pub(crate) hand: Hand<T>,

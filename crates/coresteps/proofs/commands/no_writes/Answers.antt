@@ -12,4 +12,4 @@ loop-preserved c =
     )
 
 pub returns : goal.returns
-returns c = record { sixteen = omega arith; each = c.loop.invariant.1 }
+returns c = record { count = omega arith; each = c.loop.invariant.1 }

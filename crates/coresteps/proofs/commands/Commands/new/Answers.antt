@@ -4,7 +4,7 @@ use Rattle.coresteps.proofs.WriteLemmas.{writes_more, writes_all}
 use Rattle.coresteps.proofs.commands.Commands.new.Goals as goal
 
 pub note_write-requires : goal.note_write-requires
-note_write-requires c = c.loop-index.invariant.sixteen
+note_write-requires c = c.loop-index.invariant.count
 
 pub loop-index-preserved : goal.loop-index-preserved
 loop-index-preserved c =

@@ -1,4 +1,4 @@
--- The row of the register is one of the sixteen.
+-- The row of the register is one of the rows.
 use Rattle.std.proofs.Common.{ap, ◌∙◌}
 use Rattle.coresteps.specs.Writes.{write_indices}
 use Rattle.coresteps.proofs.WriteLemmas.{row_is}

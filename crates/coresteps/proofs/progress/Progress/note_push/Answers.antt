@@ -9,11 +9,11 @@ bounds-self-shard c =
 pub returns-then-step-expected-clause-others : goal.returns-then-step-expected-clause-others
 returns-then-step-expected-clause-others c = refl
 
-pub returns-then-step-expected-clause-sixteen : goal.returns-then-step-expected-clause-sixteen
-returns-then-step-expected-clause-sixteen c = length-set c.args.self.now.pushed c.in-Push-Stack.shard c.in-Push-Stack.link ∙ c.requires.sixteen
+pub returns-then-step-expected-clause-count : goal.returns-then-step-expected-clause-count
+returns-then-step-expected-clause-count c = length-set c.args.self.now.pushed c.in-Push-Stack.shard c.in-Push-Stack.link ∙ c.requires.count
 
 pub returns-else-step-expected-clause-others : goal.returns-else-step-expected-clause-others
 returns-else-step-expected-clause-others c = refl
 
-pub returns-else-step-expected-clause-sixteen : goal.returns-else-step-expected-clause-sixteen
-returns-else-step-expected-clause-sixteen c = c.requires.sixteen
+pub returns-else-step-expected-clause-count : goal.returns-else-step-expected-clause-count
+returns-else-step-expected-clause-count c = c.requires.count

@@ -9,16 +9,16 @@ use Rattle.coresteps.proofs.CoreLemmas.{most_by}
 use Rattle.coresteps.proofs.replay.Core.most.Goals as goal
 
 -- few steps are no more than may be told
-within : (m n : Most) → m ≡ n → n.create ≤ 16 → n.other ≤ 8 → (m.create ≤ 64) × (m.other ≤ 8)
+within : (m n : Most) → m ≡ n → n.create ≤ 16 → n.other ≤ 8 → (m.create ≤ 16) × (m.other ≤ 8)
 within m n same create other =
-    subst (λ (m : Most). (m.create ≤ 64) × (m.other ≤ 8)) (sym same) (omega arith, other)
+    subst (λ (m : Most). (m.create ≤ 16) × (m.other ≤ 8)) (sym same) (create, other)
 
 -- a number isn't both below and past another
 apart : (n long lanes : ℕ) → long ≡ lanes → n < long → lanes ≤ n → ⊥
 apart n long lanes same below beyond = omega arith
 
 -- the numbers of a lane are bounded
-bounds : (c : goal.In-Some) → (c.in-Some.of.now.progress.most.create ≤ 64) × (c.in-Some.of.now.progress.most.other ≤ 8)
+bounds : (c : goal.In-Some) → (c.in-Some.of.now.progress.most.create ≤ 16) × (c.in-Some.of.now.progress.most.other ≤ 8)
 bounds c =
     let k = c.self.invariant in
     let is = most_by (record { shared = c.self.inside.shared; lanes = c.self.inside.lanes.items }) k.0 k.1 c.args.lane c.deref.result.now c.in-Some.of.now k.2
