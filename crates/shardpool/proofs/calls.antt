@@ -6,6 +6,7 @@ pub mod Creates
 pub mod Gets
 pub mod CallParts
 pub mod KeyCalls
+pub mod AfterCalls
 pub mod Publishes
 pub mod Releases
 pub mod Halts

@@ -11,6 +11,7 @@ pub mod Finishes
 pub mod Lendings
 pub mod Opened
 pub mod Creates
+pub mod AfterCalls
 pub mod Openings
 pub mod Halts
 pub mod Closings

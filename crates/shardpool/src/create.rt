@@ -1,12 +1,12 @@
 //! How a lane gets a place to fill: from its own list, from its taken chain, from the places that were returned to it,
 //! or from its next page.
-ghost use Rattle.std.specs.Prelude.{◌≡◌, ◌≢◌, ◌<◌, ◌≤◌, ◌⊎◌, ℕ, [], ◌∷◌, length, All, IsSome, IfSome, IsNone, IfOk, IsOk, IsErr, IsErrOf};
-ghost use mathlib.Core.List.{IsPrefix};
+ghost use Rattle.std.specs.Prelude.{◌≡◌, ◌<◌, [], length, All, IfSome, IsNone, IsOk, IsErr, IsErrOf};
 ghost use Rattle.shardpool.specs.Tokens.{FillingOf};
-ghost use Rattle.shardpool.specs.Lanes.{Owns, Made, holds, refs};
+ghost use Rattle.shardpool.specs.Lanes.{Owns, Made};
 ghost use Rattle.poolsteps.specs.Grids.{IsSpot};
 ghost use Rattle.poolsteps.specs.Views.{the_lane};
-ghost use Rattle.shardpool.specs.Creates.{Pops, TakesReturned, FollowsChain, OpensPage, Fills, IsLoose, Gives, GivesNone};
+ghost use Rattle.shardpool.specs.Creates.{Pops, TakesReturned, FollowsChain, OpensPage, Fills, IsLoose};
+ghost use Rattle.shardpool.specs.AfterCalls.{AfterCreate};
 ghost use Rattle.shardpool.specs.declared.create.CreateFault.TheVariants.{Full, Memory};
 
 use crate::lane::Lane;
@@ -63,17 +63,7 @@ impl<T: Clear + Drop> Pool<T> {
     #[inline(always)]
     pub fn create(&self, lane: &mut Lane<T>) -> Result<Filling<T>, CreateFault>
         requires owns { Owns self.now lane.old }
-        ensures owns { Owns self.now lane.new }
-        ensures gives { IfOk result (Gives T.content T.room lane.old lane.new) }
-        ensures apart { IfOk result (λ filling. (other : FillingOf T) → Made lane.old other → other.key ≢ filling.key) }
-        ensures none { IsErr result → GivesNone lane.old lane.new }
-        ensures full { IsErrOf result Full → lane.old.pages.opened ≡ lane.old.shape.pages }
-        ensures memory { IsErrOf result Memory → lane.old.pages.opened < lane.old.shape.pages }
-        ensures seen { IsPrefix lane.old.book.seen lane.new.book.seen }
-        ensures succeeds { ((lane.old.free.own ≢ []) ⊎ IsSome lane.old.free.chain) → IsOk result }
-        ensures refs { refs lane.new ≡ refs lane.old }
-        ensures held { (key : ℕ) → holds lane.new key ≡ holds lane.old key }
-        ensures fillings { (filling : FillingOf T) → Made lane.old filling → Made lane.new filling }
+        ensures { AfterCreate T.content T.room self.now lane.old lane.new result }
     {
         // A proof knows the invariant of a lane once a field of it is seen.
         let _ = &lane.state;
@@ -88,15 +78,7 @@ impl<T: Clear + Drop> Pool<T> {
     fn create_apart(&self, lane: &mut Lane<T>) -> Result<Filling<T>, CreateFault>
         requires owns { Owns self.now lane.old }
         requires own { lane.old.free.own ≡ [] }
-        ensures owns { Owns self.now lane.new }
-        ensures gives { IfOk result (Gives T.content T.room lane.old lane.new) }
-        ensures none { IsErr result → GivesNone lane.old lane.new }
-        ensures full { IsErrOf result Full → lane.old.pages.opened ≡ lane.old.shape.pages }
-        ensures memory { IsErrOf result Memory → lane.old.pages.opened < lane.old.shape.pages }
-        ensures succeeds { IsSome lane.old.free.chain → IsOk result }
-        ensures refs { refs lane.new ≡ refs lane.old }
-        ensures held { (key : ℕ) → holds lane.new key ≡ holds lane.old key }
-        ensures fillings { (filling : FillingOf T) → Made lane.old filling → Made lane.new filling }
+        ensures { AfterCreate T.content T.room self.now lane.old lane.new result }
     {
         // A proof knows the invariant of a lane once a field of it is seen.
         let _ = &lane.state;

@@ -1,17 +1,11 @@
 //! The pool, and the calls of its lanes.
-ghost use Rattle.std.specs.Prelude.{◌≡◌, ◌≢◌, ◌==◌, ℕ, ◌+◌, ◌-◌, ◌<◌, ◌≤◌, ◌↔◌, true, false, is_some, option_map, IsNone, IfSome, IsSome, IsTrue, IsFalse, [], ◌∷◌, List, if◌then◌else◌};
-ghost use mathlib.Core.List.{IsPrefix};
+ghost use Rattle.std.specs.Prelude.{◌≡◌, ◌<◌, ◌≤◌, ◌↔◌, true, option_map, IfSome, IsSome};
 ghost use Rattle.keybits.specs.Keys.{is_key, place_of};
 ghost use Rattle.poolsteps.specs.Layout.{slot_start};
-ghost use Rattle.seqpool.specs.declared.act.Act.{Act};
-ghost use Rattle.seqpool.specs.declared.act.Act.TheVariants as acts;
-ghost use Rattle.steplaws.specs.Calls.Call.{Publishing, Getting, Releasing, Clearing};
 ghost use Rattle.steplaws.specs.Facts.{most_references};
-ghost use Rattle.sharelaws.specs.Shares.{room_of};
 ghost use Rattle.poolsteps.specs.Grids.{IsSpot};
-ghost use Rattle.shardpool.specs.Tokens.{FillingOf};
-ghost use Rattle.shardpool.specs.Lanes.{Owns, Made, SameLane, Calls, Did, Gets, holds, refs};
-ghost use Rattle.shardpool.specs.Seen.{PublishedSince, FoundSince, MissedSince, ClearedSince};
+ghost use Rattle.shardpool.specs.Lanes.{Owns, Made, holds, refs};
+ghost use Rattle.shardpool.specs.AfterCalls.{AfterGet, AfterRelease, AfterReleaseKey, AfterClear, AfterPublish, AfterDowngrade};
 
 use crate::clears::clear_and_keep;
 use crate::ends::{end_miss, finish_if_owed};
@@ -71,19 +65,7 @@ impl<T: Clear + Drop> Pool<T> {
     pub fn get(&self, lane: &mut Lane<T>, key: u64) -> Option<Ref<T>>
         requires owns { Owns self.now lane.old }
         requires room { refs lane.old < most_references }
-        ensures owns { Owns self.now lane.new }
-        ensures same { SameLane lane.old lane.new }
-        ensures outside { is_key self.now.shape key ≡ false → IsNone result × (lane.new ≡ lane.old) }
-        ensures called { is_key self.now.shape key ≡ true → Calls self.now.shape (Getting key) lane.old.book lane.new.book }
-        ensures gets { is_key self.now.shape key ≡ true → Gets key lane.old lane.new result }
-        ensures found { IsSome result → FoundSince key lane.old lane.new }
-        ensures missed { IsNone result → MissedSince key lane.old lane.new }
-        ensures seen { IsPrefix lane.old.book.seen lane.new.book.seen }
-        ensures refs { refs lane.new ≡ refs lane.old + (if is_some result then 1 else 0) }
-        ensures held { IfSome result (λ reference. (reference.key ≡ key) × (1 ≤ holds lane.new reference.key)) }
-        ensures one_more { IsSome result → (k : ℕ) → holds lane.new k ≡ (if key == k then holds lane.old k + 1 else holds lane.old k) }
-        ensures no_more { IsNone result → (k : ℕ) → holds lane.new k ≡ holds lane.old k }
-        ensures fillings { (filling : FillingOf T) → Made lane.old filling → Made lane.new filling }
+        ensures { AfterGet T self.now key lane.old lane.new result }
     {
         let start = self.get_at(lane, key)?;
         Some(Ref::to(key, start, &lane.state.places))
@@ -95,19 +77,8 @@ impl<T: Clear + Drop> Pool<T> {
     pub fn get_at(&self, lane: &mut Lane<T>, key: u64) -> Option<u32>
         requires owns { Owns self.now lane.old }
         requires room { refs lane.old < most_references }
-        ensures owns { Owns self.now lane.new }
-        ensures same { SameLane lane.old lane.new }
-        ensures outside { is_key self.now.shape key ≡ false → IsNone result × (lane.new ≡ lane.old) }
-        ensures called { is_key self.now.shape key ≡ true → Calls self.now.shape (Getting key) lane.old.book lane.new.book }
-        ensures gets { is_key self.now.shape key ≡ true → Gets key lane.old lane.new (option_map (λ at. record { key = key }) result) }
-        ensures found { IsSome result → FoundSince key lane.old lane.new }
-        ensures missed { IsNone result → MissedSince key lane.old lane.new }
-        ensures seen { IsPrefix lane.old.book.seen lane.new.book.seen }
-        ensures refs { refs lane.new ≡ refs lane.old + (if is_some result then 1 else 0) }
-        ensures held { IfSome result (λ at. (at ≡ slot_start self.now.shape (place_of key)) × (1 ≤ holds lane.new key)) }
-        ensures one_more { IsSome result → (k : ℕ) → holds lane.new k ≡ (if key == k then holds lane.old k + 1 else holds lane.old k) }
-        ensures no_more { IsNone result → (k : ℕ) → holds lane.new k ≡ holds lane.old k }
-        ensures fillings { (filling : FillingOf T) → Made lane.old filling → Made lane.new filling }
+        ensures got { AfterGet T self.now key lane.old lane.new (option_map (λ at. record { key = key }) result) }
+        ensures stands { IfSome result (λ at. at ≡ slot_start self.now.shape (place_of key)) }
     {
         shares_law();
         let number = lane.state.number;
@@ -134,13 +105,7 @@ impl<T: Clear + Drop> Pool<T> {
     pub fn release(&self, lane: &mut Lane<T>, reference: Ref<T>)
         requires owns { Owns self.now lane.old }
         requires held { 1 ≤ holds lane.old reference.key }
-        ensures owns { Owns self.now lane.new }
-        ensures called { Calls self.now.shape (Releasing reference.key) lane.old.book lane.new.book }
-        ensures releases { (rest : List Act) × Did (acts.Release lane.old.number reference.key ∷ rest) lane.old lane.new }
-        ensures seen { IsPrefix lane.old.book.seen lane.new.book.seen }
-        ensures refs { refs lane.new + 1 ≡ refs lane.old }
-        ensures one_less { (k : ℕ) → holds lane.new k ≡ (if reference.key == k then holds lane.old k - 1 else holds lane.old k) }
-        ensures fillings { (filling : FillingOf T) → Made lane.old filling → Made lane.new filling }
+        ensures { AfterRelease T self.now reference.key lane.old lane.new }
     {
         let start = lane.state.start_of(&reference);
         let key = reference.spend();
@@ -155,16 +120,7 @@ impl<T: Clear + Drop> Pool<T> {
     /// without a step, where it had none, and for a number that is no key of the pool.
     pub fn release_key(&self, lane: &mut Lane<T>, key: u64) -> bool
         requires owns { Owns self.now lane.old }
-        ensures owns { Owns self.now lane.new }
-        ensures same { SameLane lane.old lane.new }
-        ensures held { IsTrue result ↔ (1 ≤ holds lane.old key) }
-        ensures none { IsFalse result → lane.new ≡ lane.old }
-        ensures called { IsTrue result → Calls self.now.shape (Releasing key) lane.old.book lane.new.book }
-        ensures releases { IsTrue result → (rest : List Act) × Did (acts.Release lane.old.number key ∷ rest) lane.old lane.new }
-        ensures seen { IsPrefix lane.old.book.seen lane.new.book.seen }
-        ensures refs { refs lane.new + (if result then 1 else 0) ≡ refs lane.old }
-        ensures one_less { IsTrue result → (k : ℕ) → holds lane.new k ≡ (if key == k then holds lane.old k - 1 else holds lane.old k) }
-        ensures fillings { (filling : FillingOf T) → Made lane.old filling → Made lane.new filling }
+        ensures { AfterReleaseKey T self.now key lane.old lane.new result }
     {
         let Some(spot) = self.find(key) else {
             return false;
@@ -182,13 +138,7 @@ impl<T: Clear + Drop> Pool<T> {
         requires owns { Owns self.now lane.old }
         requires spot { IsSpot self.now.shape spot (place_of key) }
         requires held { 1 ≤ holds lane.old key }
-        ensures owns { Owns self.now lane.new }
-        ensures called { Calls self.now.shape (Releasing key) lane.old.book lane.new.book }
-        ensures releases { (rest : List Act) × Did (acts.Release lane.old.number key ∷ rest) lane.old lane.new }
-        ensures seen { IsPrefix lane.old.book.seen lane.new.book.seen }
-        ensures refs { refs lane.new + 1 ≡ refs lane.old }
-        ensures one_less { (k : ℕ) → holds lane.new k ≡ (if key == k then holds lane.old k - 1 else holds lane.old k) }
-        ensures fillings { (filling : FillingOf T) → Made lane.old filling → Made lane.new filling }
+        ensures { AfterRelease T self.now key lane.old lane.new }
     {
         return_last_share(&self.grid, &mut lane.hand, &mut lane.state, spot, key);
         drop_reference(&mut lane.state, spot.start as usize);
@@ -201,17 +151,7 @@ impl<T: Clear + Drop> Pool<T> {
     /// number that is no key of the pool, without a step.
     pub fn clear(&self, lane: &mut Lane<T>, key: u64) -> bool
         requires owns { Owns self.now lane.old }
-        ensures owns { Owns self.now lane.new }
-        ensures same { SameLane lane.old lane.new }
-        ensures outside { is_key self.now.shape key ≡ false → (result ≡ false) × (lane.new ≡ lane.old) }
-        ensures called { is_key self.now.shape key ≡ true → Calls self.now.shape (Clearing key) lane.old.book lane.new.book }
-        ensures clears { is_key self.now.shape key ≡ true → (rest : List Act) × Did (acts.Clear lane.old.number key result ∷ rest) lane.old lane.new }
-        ensures cleared { IsTrue result → ClearedSince key lane.old lane.new }
-        ensures missed { IsFalse result → MissedSince key lane.old lane.new }
-        ensures seen { IsPrefix lane.old.book.seen lane.new.book.seen }
-        ensures refs { refs lane.new ≡ refs lane.old }
-        ensures held { (k : ℕ) → holds lane.new k ≡ holds lane.old k }
-        ensures fillings { (filling : FillingOf T) → Made lane.old filling → Made lane.new filling }
+        ensures { AfterClear T self.now key lane.old lane.new result }
     {
         let Some(spot) = self.find(key) else {
             lane.seen_law();
@@ -224,16 +164,7 @@ impl<T: Clear + Drop> Pool<T> {
     pub fn publish(&self, lane: &mut Lane<T>, filling: Filling<T>) -> u64
         requires owns { Owns self.now lane.old }
         requires made { Made lane.old filling }
-        ensures key { result ≡ filling.key }
-        ensures owns { Owns self.now lane.new }
-        ensures called { Calls self.now.shape (Publishing filling.key (T.content filling.object) false) lane.old.book lane.new.book }
-        ensures publishes { Did (acts.Publish lane.old.number filling.key (T.content filling.object) false ∷ []) lane.old lane.new }
-        ensures published { PublishedSince filling.key (T.content filling.object) false lane.old lane.new }
-        ensures seen { IsPrefix lane.old.book.seen lane.new.book.seen }
-        ensures refs { refs lane.new ≡ refs lane.old }
-        ensures held { (k : ℕ) → holds lane.new k ≡ holds lane.old k }
-        ensures room { room_of lane.new.book.seen lane.new.book.rooms (place_of filling.key) ≡ T.room filling.object }
-        ensures fillings { (other : FillingOf T) → other.key ≢ filling.key → Made lane.old other → Made lane.new other }
+        ensures { AfterPublish T.content T.room self.now filling lane.old lane.new result }
     {
         let (key, start, written) = filling.spend();
         let spot = Spot {
@@ -251,16 +182,7 @@ impl<T: Clear + Drop> Pool<T> {
         requires owns { Owns self.now lane.old }
         requires made { Made lane.old filling }
         requires room { refs lane.old < most_references }
-        ensures key { (result.key ≡ filling.key) × (1 ≤ holds lane.new filling.key) }
-        ensures owns { Owns self.now lane.new }
-        ensures called { Calls self.now.shape (Publishing filling.key (T.content filling.object) true) lane.old.book lane.new.book }
-        ensures publishes { Did (acts.Publish lane.old.number filling.key (T.content filling.object) true ∷ []) lane.old lane.new }
-        ensures published { PublishedSince filling.key (T.content filling.object) true lane.old lane.new }
-        ensures seen { IsPrefix lane.old.book.seen lane.new.book.seen }
-        ensures refs { refs lane.new ≡ refs lane.old + 1 }
-        ensures one_more { (k : ℕ) → holds lane.new k ≡ (if filling.key == k then holds lane.old k + 1 else holds lane.old k) }
-        ensures room { room_of lane.new.book.seen lane.new.book.rooms (place_of filling.key) ≡ T.room filling.object }
-        ensures fillings { (other : FillingOf T) → other.key ≢ filling.key → Made lane.old other → Made lane.new other }
+        ensures { AfterDowngrade T.content T.room self.now filling lane.old lane.new result }
     {
         let (key, start, object) = filling.spend();
         let spot = Spot {

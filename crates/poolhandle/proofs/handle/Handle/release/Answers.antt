@@ -22,10 +22,10 @@ returns-then-release_key c =
     let before = c.args.self.now in let given = c.deref_mut.result.now in let new = c.release_key.new.lane in let did = c.release_key.ensures in let is = c.deref_mut.ensures.value in
     let key = c.args.key in let yes : c.release_key.result ≡ true = search rules in (
       subst (λ (lane : LaneOf). 1 ≤ holds lane key) is (did.held.0 yes),
-      makes given before.lane.value new is _ (Releasing key) (λ n. acts.Release n key) (sym did.same.1 ∙ did.owns.1) (did.called yes) (did.releases yes),
+      makes given before.lane.value new is _ (Releasing key) (λ n. acts.Release n key) (sym did.same.1 ∙ did.owns.1) (did.released yes).called (did.released yes).releases,
       record {
         fillings_so = refl;
-        references_so = held given before.lane.value new is (one_less key) (did.one_less yes);
+        references_so = held given before.lane.value new is (one_less key) (did.released yes).one_less;
         lane = same-lane given before.lane.value new is did.same;
         share = refl;
         joined = refl;

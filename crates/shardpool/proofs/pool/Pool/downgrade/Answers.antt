@@ -22,8 +22,7 @@ use Rattle.shardpool.proofs.frame.SeenHistories.{same-shape, same-directory}
 use Rattle.shardpool.proofs.calls.Ends.{fits-beside, own-begins}
 use Rattle.shardpool.proofs.frame.LaneFacts.{lane_of}
 use Rattle.shardpool.proofs.pool.Pool.downgrade.Given.{Over}
-use Rattle.shardpool.proofs.references.Holdings.{publish-holds}
-use Rattle.shardpool.proofs.frame.Standing.{published-since, seen-of}
+use Rattle.shardpool.proofs.calls.AfterCalls.{after-downgrade}
 use Rattle.shardpool.proofs.pool.Pool.downgrade.Goals as goal
 
 module _ (g : Over) (c : goal.After-to g) where
@@ -111,63 +110,27 @@ invariant_of-lane g c =
     (ap (λ x. x.references) c.add_first_reference.ensures.rest ∙ ap (λ x. x.references + 1) (out g c).rest) in
     (told.called.did.held ∙ c.lane.invariant.0, subst (λ (y : Shape). Fits g.T.Clear.content g.T.Clear.room y c.downgrade-share.new.hand.me.0 c.add_first_reference.new.state) (sym now.shape_is) now)
 
-pub returns-clause-key : goal.returns-clause-key
-returns-clause-key g c =
-    let s = c.lane.inside.state in
-    let told = c.downgrade-share.ensures in
-    let one = published-one s c.add_first_reference.new.state c.lane.inside.hand.table_id (filling g c) (g.T.Clear.content c.give_out-whole.result.object) true (fits g c) told.called.did told.called.idle told.acts (was g c)
-    c.give_out-whole.new.state (out g c) c.add_first_reference.ensures.rest refl in
-    (c.to.ensures ∙ c.spend-key.ensures.0, rw (← c.spend-key.ensures.0) (omega (arith, one)))
-
-pub returns-clause-called : goal.returns-clause-called
-returns-clause-called g c =
+pub returns : goal.returns
+returns g c =
     let z : Shape = c.self.inside.grid.shape in
-    rw (← c.self.view_is, ← c.lane.view_is)
-    (subst (λ (f : FillingOf g.row.T.Denot). Calls z (Publishing f.key (g.T.Clear.content f.object) true) c.lane.inside.hand.me.0 c.downgrade-share.new.hand.me.0) (same g c)
-    (calls-more c.downgrade-share.ensures.called (omega arith)))
-
-pub returns-clause-publishes : goal.returns-clause-publishes
-returns-clause-publishes g c =
     let s = c.lane.inside.state in
+    let m = c.give_out-whole.new.state in
+    let n = c.add_first_reference.new.state in
+    let rest = c.add_first_reference.ensures.rest in
     let told = c.downgrade-share.ensures in
-    let did = published-did s c.add_first_reference.new.state c.lane.inside.hand.table_id (filling g c) (g.T.Clear.content c.give_out-whole.result.object) true (fits g c) told.called.did told.called.idle told.acts (was g c)
-    c.give_out-whole.new.state (out g c) c.add_first_reference.ensures.rest c.downgrade-share.new.hand.table_id told.hand.0 in
-    let one : acts.Publish s.number c.spend-key.result.0 (g.T.Clear.content c.give_out-whole.result.object) true ≡ acts.Publish s.number c.args.filling.key (g.T.Clear.content c.args.filling.object) true
-    = ap (λ (f : FillingOf g.row.T.Denot). acts.Publish s.number f.key (g.T.Clear.content f.object) true) (same g c) in
-    rw (← c.lane.view_is) (subst (λ (x : Act). Did (x ∷ []) (before g c) (lane_of c.downgrade-share.new.hand.table_id c.downgrade-share.new.hand.me.0 c.add_first_reference.new.state)) one did)
-
-pub returns-clause-owns : goal.returns-clause-owns
-returns-clause-owns g c = let same = (returns-clause-publishes g c).same in (same.0 ∙ c.requires.owns.0, same.1 ∙ c.requires.owns.1, same.3 ∙ c.requires.owns.2)
-
-pub returns-clause-refs : goal.returns-clause-refs
-returns-clause-refs g c =
-    let s = c.lane.inside.state in
-    let told = c.downgrade-share.ensures in
-    rw (← c.lane.view_is) (published-held s c.add_first_reference.new.state c.lane.inside.hand.table_id (filling g c) (g.T.Clear.content c.give_out-whole.result.object) true (fits g c) told.called.did told.called.idle told.acts (was g c)
-    c.give_out-whole.new.state (out g c) c.add_first_reference.ensures.rest)
-
-pub returns-clause-fillings : goal.returns-clause-fillings
-returns-clause-fillings g c other differs is =
-    let s = c.lane.inside.state in
-    let told = c.downgrade-share.ensures in
-    published-others s c.add_first_reference.new.state c.lane.inside.hand.table_id (filling g c) (g.T.Clear.content c.give_out-whole.result.object) true (fits g c) told.called.did told.called.idle told.acts (was g c)
-    c.give_out-whole.new.state (out g c) c.add_first_reference.ensures.rest c.downgrade-share.new.hand.table_id told.hand.0 other (λ e. differs (e ∙ c.spend-key.ensures.0)) (subst (λ (l : LaneOf). Made l other) (sym c.lane.view_is) is)
-
-pub returns-clause-one_more : goal.returns-clause-one_more
-returns-clause-one_more g c = publish-holds c.requires.made.place (returns-clause-publishes g c)
-
--- ---- where its act stands
-
-pub returns-clause-published : goal.returns-clause-published
-returns-clause-published g c = published-since _ _ _ _ _ (returns-clause-publishes g c)
-
-pub returns-clause-seen : goal.returns-clause-seen
-returns-clause-seen g c = seen-of (returns-clause-publishes g c).goes
-
--- ---- the room is that of its object
-
-pub returns-clause-room : goal.returns-clause-room
-returns-clause-room g c =
+    let table = c.downgrade-share.new.hand.table_id in
     let now = c.downgrade-share.new.hand.me.0 in
-    ap (λ (key : ℕ). room_of now.seen now.rooms (place_of key)) (sym c.spend-key.ensures.0)
-    ∙ (c.downgrade-share.ensures.room ∙ ap g.T.Clear.room (c.give_out-whole.ensures.whole.1 ∙ c.spend-key.ensures.2))
+    let content : List ℕ = g.T.Clear.content c.give_out-whole.result.object in
+    let did = published-did s n c.lane.inside.hand.table_id (filling g c) content true (fits g c) told.called.did told.called.idle told.acts (was g c) m (out g c) rest table told.hand.0 in
+    let one : acts.Publish s.number c.spend-key.result.0 content true ≡ acts.Publish s.number c.args.filling.key (g.T.Clear.content c.args.filling.object) true
+    = ap (λ (f : FillingOf g.row.T.Denot). acts.Publish s.number f.key (g.T.Clear.content f.object) true) (same g c) in
+    let has = published-one s n c.lane.inside.hand.table_id (filling g c) content true (fits g c) told.called.did told.called.idle told.acts (was g c) m (out g c) rest refl in
+    after-downgrade {pool = c.args.self.now} {old = c.args.lane.now} {new = lane_of table now n} c.requires.owns {filling = c.args.filling} c.requires.made
+    c.to.result (c.to.ensures ∙ c.spend-key.ensures.0, rw (← c.spend-key.ensures.0) (omega (arith, has)))
+    (rw (← c.self.view_is, ← c.lane.view_is)
+    (subst (λ (f : FillingOf g.row.T.Denot). Calls z (Publishing f.key (g.T.Clear.content f.object) true) c.lane.inside.hand.me.0 now) (same g c) (calls-more told.called (omega arith))))
+    (rw (← c.lane.view_is) (subst (λ (x : Act). Did (x ∷ []) (before g c) (lane_of table now n)) one did))
+    (ap (λ (key : ℕ). room_of now.seen now.rooms (place_of key)) (sym c.spend-key.ensures.0) ∙ (told.room ∙ ap g.T.Clear.room (c.give_out-whole.ensures.whole.1 ∙ c.spend-key.ensures.2)))
+    (λ other differs is. published-others s n c.lane.inside.hand.table_id (filling g c) content true (fits g c) told.called.did told.called.idle told.acts (was g c) m (out g c) rest
+    table told.hand.0 other (λ e. differs (e ∙ c.spend-key.ensures.0)) (subst (λ (l : LaneOf). Made l other) (sym c.lane.view_is) is))
+    (rw (← c.lane.view_is) (published-held s n c.lane.inside.hand.table_id (filling g c) content true (fits g c) told.called.did told.called.idle told.acts (was g c) m (out g c) rest))

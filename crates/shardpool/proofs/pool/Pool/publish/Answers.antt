@@ -1,4 +1,4 @@
-use Rattle.std.proofs.Common.{◌≡◌, ℕ, true, false, [], ◌∷◌, slice_get, Some, refl, sym, ap, ◌∙◌, subst, arith}
+use Rattle.std.proofs.Common.{◌≡◌, ℕ, true, false, List, [], ◌∷◌, slice_get, Some, refl, sym, ap, ◌∙◌, subst, arith}
 use Rattle.keybits.specs.declared.shape.Shape.{Shape}
 use Rattle.keybits.specs.Keys.{place_of}
 use Rattle.sharelaws.specs.Shares.{room_of}
@@ -20,8 +20,7 @@ use Rattle.shardpool.proofs.frame.SeenHistories.{same-shape, same-directory}
 use Rattle.shardpool.proofs.calls.Ends.{fits-beside, own-begins}
 use Rattle.shardpool.proofs.frame.LaneFacts.{lane_of}
 use Rattle.shardpool.proofs.pool.Pool.publish.Given.{Over}
-use Rattle.shardpool.proofs.references.Holdings.{publish-alone}
-use Rattle.shardpool.proofs.frame.Standing.{published-since, seen-of}
+use Rattle.shardpool.proofs.calls.AfterCalls.{after-publish}
 use Rattle.shardpool.proofs.pool.Pool.publish.Goals as goal
 
 module _ (g : Over) (c : goal.After-publish g) where
@@ -83,9 +82,6 @@ publish-requires-clause-spot g c =
     made-spot (record { place = c.place_of.result; start = c.spend-key.result.1 }) c.spend-key.result.0 c.requires.made (c.requires.owns.1 ∙ sym (ap (λ p. p.shape) c.self.view_is))
     c.spend-key.ensures.0 c.spend-key.ensures.1 c.place_of.ensures.place
 
-pub returns-clause-key : goal.returns-clause-key
-returns-clause-key g c = c.spend-key.ensures.0
-
 pub invariant_of-lane : goal.invariant_of-lane
 invariant_of-lane g c =
     let s = c.lane.inside.state in
@@ -94,57 +90,23 @@ invariant_of-lane g c =
     let now = published-alone s m c.lane.inside.hand.table_id (filling g c) (g.T.Clear.content c.give_out-whole.result.object) false (fits g c) told.called.did told.called.idle told.acts (was g c) m (out g c) refl refl (ap (λ x. x.rows.items) (out g c).rest) (ap (λ x. x.references) (out g c).rest) in
     (told.called.did.held ∙ c.lane.invariant.0, subst (λ (y : Shape). Fits g.T.Clear.content g.T.Clear.room y c.publish.new.hand.me.0 m) (sym now.shape_is) now)
 
-pub returns-clause-called : goal.returns-clause-called
-returns-clause-called g c =
+pub returns : goal.returns
+returns g c =
     let z : Shape = c.self.inside.grid.shape in
-    rw (← c.self.view_is, ← c.lane.view_is)
-    (subst (λ (f : FillingOf g.row.T.Denot). Calls z (Publishing f.key (g.T.Clear.content f.object) false) c.lane.inside.hand.me.0 c.publish.new.hand.me.0) (same g c)
-    (calls-more c.publish.ensures.called (omega arith)))
-
-pub returns-clause-publishes : goal.returns-clause-publishes
-returns-clause-publishes g c =
     let s = c.lane.inside.state in
     let m = c.give_out-whole.new.state in
     let told = c.publish.ensures in
-    let did = published-did s m c.lane.inside.hand.table_id (filling g c) (g.T.Clear.content c.give_out-whole.result.object) false (fits g c) told.called.did told.called.idle told.acts (was g c) m (out g c) refl
-    c.publish.new.hand.table_id told.hand.0 in
-    let one : acts.Publish s.number c.spend-key.result.0 (g.T.Clear.content c.give_out-whole.result.object) false ≡ acts.Publish s.number c.args.filling.key (g.T.Clear.content c.args.filling.object) false
-    = ap (λ (f : FillingOf g.row.T.Denot). acts.Publish s.number f.key (g.T.Clear.content f.object) false) (same g c) in
-    rw (← c.lane.view_is) (subst (λ (x : Act). Did (x ∷ []) (before g c) (lane_of c.publish.new.hand.table_id c.publish.new.hand.me.0 m)) one did)
-
-pub returns-clause-owns : goal.returns-clause-owns
-returns-clause-owns g c = let same = (returns-clause-publishes g c).same in (same.0 ∙ c.requires.owns.0, same.1 ∙ c.requires.owns.1, same.3 ∙ c.requires.owns.2)
-
-pub returns-clause-refs : goal.returns-clause-refs
-returns-clause-refs g c =
-    let s = c.lane.inside.state in
-    let m = c.give_out-whole.new.state in
-    let told = c.publish.ensures in
-    rw (← c.lane.view_is) (published-held s m c.lane.inside.hand.table_id (filling g c) (g.T.Clear.content c.give_out-whole.result.object) false (fits g c) told.called.did told.called.idle told.acts (was g c) m (out g c) refl)
-
-pub returns-clause-fillings : goal.returns-clause-fillings
-returns-clause-fillings g c other differs is =
-    let s = c.lane.inside.state in
-    let m = c.give_out-whole.new.state in
-    let told = c.publish.ensures in
-    published-others s m c.lane.inside.hand.table_id (filling g c) (g.T.Clear.content c.give_out-whole.result.object) false (fits g c) told.called.did told.called.idle told.acts (was g c) m (out g c) refl
-    c.publish.new.hand.table_id told.hand.0 other (λ e. differs (e ∙ c.spend-key.ensures.0)) (subst (λ (l : LaneOf). Made l other) (sym c.lane.view_is) is)
-
-pub returns-clause-held : goal.returns-clause-held
-returns-clause-held g c = publish-alone c.requires.made.place (returns-clause-publishes g c)
-
--- ---- where its act stands
-
-pub returns-clause-published : goal.returns-clause-published
-returns-clause-published g c = published-since _ _ _ _ _ (returns-clause-publishes g c)
-
-pub returns-clause-seen : goal.returns-clause-seen
-returns-clause-seen g c = seen-of (returns-clause-publishes g c).goes
-
--- ---- the room is that of its object
-
-pub returns-clause-room : goal.returns-clause-room
-returns-clause-room g c =
+    let table = c.publish.new.hand.table_id in
     let now = c.publish.new.hand.me.0 in
-    ap (λ (key : ℕ). room_of now.seen now.rooms (place_of key)) (sym c.spend-key.ensures.0)
-    ∙ (c.publish.ensures.room ∙ ap g.T.Clear.room (c.give_out-whole.ensures.whole.1 ∙ c.spend-key.ensures.2))
+    let content : List ℕ = g.T.Clear.content c.give_out-whole.result.object in
+    let did = published-did s m c.lane.inside.hand.table_id (filling g c) content false (fits g c) told.called.did told.called.idle told.acts (was g c) m (out g c) refl table told.hand.0 in
+    let one : acts.Publish s.number c.spend-key.result.0 content false ≡ acts.Publish s.number c.args.filling.key (g.T.Clear.content c.args.filling.object) false
+    = ap (λ (f : FillingOf g.row.T.Denot). acts.Publish s.number f.key (g.T.Clear.content f.object) false) (same g c) in
+    after-publish {pool = c.args.self.now} {old = c.args.lane.now} {new = lane_of table now m} c.requires.owns {filling = c.args.filling} c.requires.made c.spend-key.result.0 c.spend-key.ensures.0
+    (rw (← c.self.view_is, ← c.lane.view_is)
+    (subst (λ (f : FillingOf g.row.T.Denot). Calls z (Publishing f.key (g.T.Clear.content f.object) false) c.lane.inside.hand.me.0 now) (same g c) (calls-more told.called (omega arith))))
+    (rw (← c.lane.view_is) (subst (λ (x : Act). Did (x ∷ []) (before g c) (lane_of table now m)) one did))
+    (ap (λ (key : ℕ). room_of now.seen now.rooms (place_of key)) (sym c.spend-key.ensures.0) ∙ (told.room ∙ ap g.T.Clear.room (c.give_out-whole.ensures.whole.1 ∙ c.spend-key.ensures.2)))
+    (λ other differs is. published-others s m c.lane.inside.hand.table_id (filling g c) content false (fits g c) told.called.did told.called.idle told.acts (was g c) m (out g c) refl
+    table told.hand.0 other (λ e. differs (e ∙ c.spend-key.ensures.0)) (subst (λ (l : LaneOf). Made l other) (sym c.lane.view_is) is))
+    (rw (← c.lane.view_is) (published-held s m c.lane.inside.hand.table_id (filling g c) content false (fits g c) told.called.did told.called.idle told.acts (was g c) m (out g c) refl))

@@ -15,9 +15,9 @@ use Rattle.shardpool.proofs.calls.CallParts.{calls-more, calls-behind}
 use Rattle.shardpool.proofs.frame.SeenHistories.{same-directory}
 use Rattle.shardpool.proofs.calls.Ends.{keeper}
 use Rattle.shardpool.proofs.calls.Releases.{EndsAt, Released, refers-held, lent-some, lent-share, end-low, end-more, end-within, beside, released-away, released}
-use Rattle.shardpool.proofs.references.Holdings.{release-holds}
+use Rattle.shardpool.proofs.calls.AfterCalls.{after-release}
+use Rattle.shardpool.proofs.frame.LaneFacts.{lane_of}
 use Rattle.shardpool.proofs.pool.Pool.release_at.Given.{Over}
-use Rattle.shardpool.proofs.frame.Standing.{seen-of}
 use Rattle.shardpool.proofs.pool.Pool.release_at.Goals as goal
 
 pub return_last_share-requires-clause-fits : goal.return_last_share-requires-clause-fits
@@ -127,27 +127,12 @@ invariant_of-lane g c =
       subst (λ (z : Shape). Fits g.T.Clear.content g.T.Clear.room z c.finish_if_owed.new.hand.me.0 c.finish_if_owed.new.state) (sym now.shape_is) now,
     )
 
-pub returns-clause-called : goal.returns-clause-called
-returns-clause-called g c =
+pub returns : goal.returns
+returns g c =
     let lends = c.return_last_share.ensures.lends in
-    rw (← c.self.view_is, ← c.lane.view_is)
-    (calls-more (calls-behind lends.did lends.pushed (called g c)) (omega arith))
-
-pub returns-clause-releases : goal.returns-clause-releases
-returns-clause-releases g c =
-    rw (← c.lane.view_is) ((leaves g c).did c.lane.inside.hand.table_id c.finish_if_owed.new.hand.table_id (table g c))
-
-pub returns-clause-refs : goal.returns-clause-refs
-returns-clause-refs g c = rw (← c.lane.view_is) (leaves g c).refs
-
-pub returns-clause-fillings : goal.returns-clause-fillings
-returns-clause-fillings g c filling was =
-    (leaves g c).fillings c.lane.inside.hand.table_id c.finish_if_owed.new.hand.table_id (table g c) filling (subst (λ (l : LaneOf). Made l filling) (sym c.lane.view_is) was)
-
-pub returns-clause-one_less : goal.returns-clause-one_less
-returns-clause-one_less g c = release-holds (returns-clause-called g c) (returns-clause-releases g c).1
-
--- ---- what it sees
-
-pub returns-clause-seen : goal.returns-clause-seen
-returns-clause-seen g c = seen-of (returns-clause-releases g c).1.goes
+    after-release {pool = c.args.self.now} {key = c.args.key} {old = c.args.lane.now} {new = lane_of c.finish_if_owed.new.hand.table_id c.finish_if_owed.new.hand.me.0 c.finish_if_owed.new.state}
+    c.requires.owns
+    (rw (← c.self.view_is, ← c.lane.view_is) (calls-more (calls-behind lends.did lends.pushed (called g c)) (omega arith)))
+    (rw (← c.lane.view_is) ((leaves g c).did c.lane.inside.hand.table_id c.finish_if_owed.new.hand.table_id (table g c)))
+    (rw (← c.lane.view_is) (leaves g c).refs)
+    (λ filling. rw (← c.lane.view_is) ((leaves g c).fillings c.lane.inside.hand.table_id c.finish_if_owed.new.hand.table_id (table g c) filling))
