@@ -1,13 +1,14 @@
 -- References that a lane takes and gives back.
-use Rattle.std.proofs.Common.{◌≡◌, ◌==◌, ℕ, zero, suc, ◌+◌, ◌-◌, ◌≤◌, Bool, true, false, cond, List, [], ◌∷◌, ◌++◌, Some, slice_get, refl, sym, ap, ◌∙◌, subst, arith, eqb-true, eq-eqb, length-append}
+use Rattle.std.proofs.Common.{◌≡◌, ◌==◌, ℕ, zero, suc, ◌+◌, ◌-◌, ◌≤◌, Bool, true, false, cond, List, [], ◌∷◌, ◌++◌, Some, slice_get, refl, sym, ap, ◌∙◌, subst, inl, inr, arith, eqb-true, eq-eqb, length-append}
 use mathlib.Core.List.{IsPrefix}
+use Rattle.keybits.specs.declared.shape.Shape.{Shape}
 use Rattle.seqpool.specs.declared.act.Act.{Act}
 use Rattle.shardpool.specs.Tokens.{PoolOf, LaneOf, FillingOf}
 use Rattle.shardpool.specs.Lanes.{Owns, Made, SameLane, holds, refs}
 use Rattle.poollaws.specs.Words.{IsPublished, IsGone}
 use Rattle.poollaws.proofs.Ends.{stays-published, stays-cleared}
 use Rattle.guards.specs.Seated.{GoesOn}
-use Rattle.guards.specs.Several.{more_of, Lends, Returns}
+use Rattle.guards.specs.Several.{Got, Gave, TriesAll, more_of, Lends, Returns}
 use Rattle.guards.proofs.Seating.{goes-further}
 
 -- ---- counts
@@ -161,6 +162,26 @@ second-held one other before now low is = second (other == one) (one == one) bef
 -- a key that is gone between two moments is gone between others around them
 pub gone-around : (old first then new : List Act) (key : ℕ) → IsPrefix old first → IsPrefix then new → IsGone first then key → IsGone old new key
 gone-around old first then new key before after gone content published = stays-cleared then new after key (gone content (stays-published old first before key content published))
+
+-- ---- keys that are tried
+
+-- behind the first that isn't found none is tried
+pub tries-sooner : (z : Shape) (keys more : List ℕ) (old new : LaneOf) → TriesAll z keys old new → TriesAll z (keys ++ more) old new
+tries-sooner z [] more old new tries = absurd tries
+tries-sooner z (key ∷ keys) more old new (inl missed) = inl missed
+tries-sooner z (key ∷ keys) more old new (inr (got, left, found, tries, gave)) = inr (got, left, found, tries-sooner z keys more got left tries, gave)
+
+-- two that were found, others that were tried behind them, and the releases of the two
+pub tries-behind : (z : Shape) (first second one two : ℕ) (more : List ℕ) (old between tried new : LaneOf) → one ≡ first → two ≡ second
+    → ((got : LaneOf) × Got z first old got × Got z second got between) → TriesAll z more between tried
+    → ((left : LaneOf) × Gave z two tried left × Gave z one left new) → TriesAll z (first ∷ second ∷ more) old new
+tries-behind z first second one two more old between tried new is same got tries gave = inr (
+  got.0,
+  gave.0,
+  got.1,
+  inr (between, tried, got.2, tries, subst (λ (k : ℕ). Gave z k tried gave.0) same gave.1),
+  subst (λ (k : ℕ). Gave z k gave.0 new) is gave.2,
+)
 
 -- ---- what was read
 

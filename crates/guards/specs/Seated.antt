@@ -29,9 +29,13 @@ pub record Puts {T : Type 0} (content : T → List ℕ) (room : T → ℕ) (writ
   pub publishes : Did (Publish old.number key written false ∷ []) between new
   pub knows : KnowsRoom new key (room object)
 
+-- the lane made a create that gave a place, and nothing more
+abbrev pub CreatesOne : {T : Type 0} → (T → List ℕ) → (T → ℕ) → LaneOf → LaneOf → Type 0
+CreatesOne {T} content room old new = (filling : FillingOf T) × Gives content room old new filling
+
 -- the lane made a create, and nothing more
 abbrev pub CreatesAtMost : {T : Type 0} → (T → List ℕ) → (T → ℕ) → LaneOf → LaneOf → Type 0
-CreatesAtMost {T} content room old new = GivesNone old new ⊎ ((filling : FillingOf T) × Gives content room old new filling)
+CreatesAtMost content room old new = GivesNone old new ⊎ CreatesOne content room old new
 
 -- the content with which a key is published in a history; the empty one where it isn't
 abbrev pub content_in : List Act → ℕ → List ℕ

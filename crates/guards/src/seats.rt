@@ -1,5 +1,5 @@
 //! A lane together with its pool, for a thread that does its work with that lane alone.
-ghost use Rattle.std.specs.Prelude.{◌≡◌, ◌≢◌, ◌<◌, ◌≤◌, ℕ, List, [], ◌∷◌, true, false, None, MatchOption, IfOk, IsErr, IsErrOf, IfSome, IsSome, IsNone, IsTrue, Contains};
+ghost use Rattle.std.specs.Prelude.{◌≡◌, ◌≢◌, ◌⊎◌, ◌<◌, ◌≤◌, ℕ, List, [], ◌∷◌, true, false, None, MatchOption, IfOk, IsErr, IsErrOf, IfSome, IsSome, IsNone, IsTrue, Contains};
 ghost use Rattle.std.specs.Fn.{FnOnceReturnsAt};
 ghost use Rattle.keybits.specs.Keys.{is_key};
 ghost use Rattle.seqpool.specs.declared.act.Act.{Act};
@@ -13,8 +13,8 @@ ghost use Rattle.shardpool.specs.declared.create.CreateFault.TheVariants.{Full, 
 ghost use Rattle.poollaws.specs.Words.{IsPublished, IsCleared, IsGone};
 ghost use Rattle.poollaws.specs.Rooms.{KnowsRoom};
 ghost use Rattle.guards.specs.Guarded.{Uses};
-ghost use Rattle.guards.specs.Several.{UsesAll};
-ghost use Rattle.guards.specs.Seated.{GoesOn, IsNextOf, Puts, CreatesAtMost};
+ghost use Rattle.guards.specs.Several.{UsesAll, TriesAll};
+ghost use Rattle.guards.specs.Seated.{GoesOn, IsNextOf, Puts, CreatesOne, CreatesAtMost};
 
 use crate::closures::with;
 use crate::contents::Contents;
@@ -125,7 +125,9 @@ impl<'p, N: PoolName, T: Clear + Drop> Seat<'p, N, T> {
         ensures puts { IfOk result (Puts T.content T.room (C.content contents.now) self.old.lane self.new.lane) }
         ensures published { IfOk result (λ key. IsPublished self.new.lane.book.seen key (C.content contents.now)) }
         ensures none { IsErr result → CreatesAtMost T.content T.room self.old.lane self.new.lane }
-        ensures full { IsErrOf result Full → self.old.lane.pages.opened ≡ N.pool.shape.pages }
+        ensures full { IsErrOf result Full → GivesNone self.old.lane self.new.lane × (self.old.lane.pages.opened ≡ N.pool.shape.pages) }
+        ensures memory { IsErrOf result Memory → (GivesNone self.old.lane self.new.lane × (self.old.lane.pages.opened < N.pool.shape.pages))
+            ⊎ CreatesOne T.content T.room self.old.lane self.new.lane }
         ensures number { self.new.lane.number ≡ self.old.lane.number }
         ensures goes { GoesOn self.old.lane self.new.lane }
     {
@@ -164,6 +166,7 @@ impl<'p, N: PoolName, T: Clear + Drop> Seat<'p, N, T> {
             × IsPublished self.new.lane.book.seen keys.0 (T.content x.now)
             × IsPublished self.new.lane.book.seen keys.1 (T.content y.now)) }
         ensures uses { IsSome result → UsesAll N.pool.shape (keys.0 ∷ keys.1 ∷ []) self.old.lane self.new.lane }
+        ensures tries { IsNone result → TriesAll N.pool.shape (keys.0 ∷ keys.1 ∷ []) self.old.lane self.new.lane }
         ensures gone { IsNone result → (key : ℕ) × Contains (keys.0 ∷ keys.1 ∷ []) key × IsGone self.old.lane.book.seen self.new.lane.book.seen key }
         ensures number { self.new.lane.number ≡ self.old.lane.number }
         ensures goes { GoesOn self.old.lane self.new.lane }
@@ -183,6 +186,7 @@ impl<'p, N: PoolName, T: Clear + Drop> Seat<'p, N, T> {
             × IsPublished self.new.lane.book.seen keys.1 (T.content y.now)
             × IsPublished self.new.lane.book.seen keys.2 (T.content z.now)) }
         ensures uses { IsSome result → UsesAll N.pool.shape (keys.0 ∷ keys.1 ∷ keys.2 ∷ []) self.old.lane self.new.lane }
+        ensures tries { IsNone result → TriesAll N.pool.shape (keys.0 ∷ keys.1 ∷ keys.2 ∷ []) self.old.lane self.new.lane }
         ensures gone { IsNone result → (key : ℕ) × Contains (keys.0 ∷ keys.1 ∷ keys.2 ∷ []) key × IsGone self.old.lane.book.seen self.new.lane.book.seen key }
         ensures number { self.new.lane.number ≡ self.old.lane.number }
         ensures goes { GoesOn self.old.lane self.new.lane }
@@ -203,6 +207,7 @@ impl<'p, N: PoolName, T: Clear + Drop> Seat<'p, N, T> {
             × IsPublished self.new.lane.book.seen keys.2 (T.content z.now)
             × IsPublished self.new.lane.book.seen keys.3 (T.content w.now)) }
         ensures uses { IsSome result → UsesAll N.pool.shape (keys.0 ∷ keys.1 ∷ keys.2 ∷ keys.3 ∷ []) self.old.lane self.new.lane }
+        ensures tries { IsNone result → TriesAll N.pool.shape (keys.0 ∷ keys.1 ∷ keys.2 ∷ keys.3 ∷ []) self.old.lane self.new.lane }
         ensures gone { IsNone result → (key : ℕ) × Contains (keys.0 ∷ keys.1 ∷ keys.2 ∷ keys.3 ∷ []) key × IsGone self.old.lane.book.seen self.new.lane.book.seen key }
         ensures number { self.new.lane.number ≡ self.old.lane.number }
         ensures goes { GoesOn self.old.lane self.new.lane }

@@ -5,7 +5,7 @@ ghost use Rattle.shardpool.specs.Tokens.{LaneOf, FillingOf};
 ghost use Rattle.shardpool.specs.Lanes.{Owns, Made, SameLane, holds, refs};
 ghost use Rattle.poollaws.specs.Words.{IsPublished, IsGone};
 ghost use Rattle.guards.specs.Seated.{GoesOn};
-ghost use Rattle.guards.specs.Several.{Got, Gave, UsesAll, more_of, Lends, Returns};
+ghost use Rattle.guards.specs.Several.{Got, Gave, UsesAll, TriesAll, more_of, Lends, Returns};
 
 use shardpool::{Lane, Pool, Ref};
 use slotcell::Clear;
@@ -23,6 +23,7 @@ fn get_two<T: Clear + Drop>(
     ensures lends { IsSome result → Lends T pool.now (second ∷ first ∷ []) lane.old lane.new }
     ensures got { IsSome result → (between : LaneOf) × Got pool.now.shape first lane.old between × Got pool.now.shape second between lane.new }
     ensures none { IsNone result → Lends T pool.now [] lane.old lane.new }
+    ensures tries { IsNone result → TriesAll pool.now.shape (first ∷ second ∷ []) lane.old lane.new }
     ensures gone { IsNone result → (key : ℕ) × Contains (first ∷ second ∷ []) key × IsGone lane.old.book.seen lane.new.book.seen key }
 {
     let one = pool.get(lane, first)?;
@@ -45,7 +46,8 @@ fn release_two<T: Clear + Drop>(pool: &Pool<T>, lane: &mut Lane<T>, one: Ref<T>,
 }
 
 /// Gets two keys, calls `f` on their objects, and gives the references back. None, and `f` is not called, where a get
-/// finds none.
+/// finds none: the keys
+/// behind it are then not tried.
 pub fn with_two<T: Clear + Drop, R, F: FnOnce(&T, &T) -> R>(
     pool: &Pool<T>,
     lane: &mut Lane<T>,
@@ -61,6 +63,7 @@ pub fn with_two<T: Clear + Drop, R, F: FnOnce(&T, &T) -> R>(
         × IsPublished lane.new.book.seen keys.0 (T.content x.now)
         × IsPublished lane.new.book.seen keys.1 (T.content y.now)) }
     ensures uses { IsSome result → UsesAll pool.now.shape (keys.0 ∷ keys.1 ∷ []) lane.old lane.new }
+    ensures tries { IsNone result → TriesAll pool.now.shape (keys.0 ∷ keys.1 ∷ []) lane.old lane.new }
     ensures gone { IsNone result → (key : ℕ) × Contains (keys.0 ∷ keys.1 ∷ []) key × IsGone lane.old.book.seen lane.new.book.seen key }
     ensures goes { GoesOn lane.old lane.new }
     ensures refs { refs lane.new ≡ refs lane.old }
@@ -90,6 +93,7 @@ pub fn with_three<T: Clear + Drop, R, F: FnOnce(&T, &T, &T) -> R>(
         × IsPublished lane.new.book.seen keys.1 (T.content y.now)
         × IsPublished lane.new.book.seen keys.2 (T.content z.now)) }
     ensures uses { IsSome result → UsesAll pool.now.shape (keys.0 ∷ keys.1 ∷ keys.2 ∷ []) lane.old lane.new }
+    ensures tries { IsNone result → TriesAll pool.now.shape (keys.0 ∷ keys.1 ∷ keys.2 ∷ []) lane.old lane.new }
     ensures gone { IsNone result → (key : ℕ) × Contains (keys.0 ∷ keys.1 ∷ keys.2 ∷ []) key × IsGone lane.old.book.seen lane.new.book.seen key }
     ensures goes { GoesOn lane.old lane.new }
     ensures refs { refs lane.new ≡ refs lane.old }
@@ -125,6 +129,7 @@ pub fn with_four<T: Clear + Drop, R, F: FnOnce(&T, &T, &T, &T) -> R>(
         × IsPublished lane.new.book.seen keys.2 (T.content z.now)
         × IsPublished lane.new.book.seen keys.3 (T.content w.now)) }
     ensures uses { IsSome result → UsesAll pool.now.shape (keys.0 ∷ keys.1 ∷ keys.2 ∷ keys.3 ∷ []) lane.old lane.new }
+    ensures tries { IsNone result → TriesAll pool.now.shape (keys.0 ∷ keys.1 ∷ keys.2 ∷ keys.3 ∷ []) lane.old lane.new }
     ensures gone { IsNone result → (key : ℕ) × Contains (keys.0 ∷ keys.1 ∷ keys.2 ∷ keys.3 ∷ []) key × IsGone lane.old.book.seen lane.new.book.seen key }
     ensures goes { GoesOn lane.old lane.new }
     ensures refs { refs lane.new ≡ refs lane.old }

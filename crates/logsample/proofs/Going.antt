@@ -1,8 +1,13 @@
--- What goes on twice goes on, and what has room has room for less.
-use Rattle.std.proofs.Common.{ℕ, ◌≤◌, ◌++◌, List, sym, ap, ◌∙◌, append_assoc, arith}
+-- What goes on twice goes on, what has room has room for less, and a second clear marks nothing.
+use Rattle.std.proofs.Common.{◌≡◌, ℕ, ◌≤◌, Bool, true, false, ◌++◌, List, refl, sym, ap, ◌∙◌, append_assoc, arith}
+use Rattle.std.specs.Prelude.{IsTrue}
 use mathlib.Core.List.{IsPrefix}
 use Rattle.seqpool.specs.declared.act.Act.{Act}
+use Rattle.seqpool.specs.declared.act.Act.TheVariants.{Clear}
 use Rattle.shardpool.specs.Tokens.{LaneOf}
+use Rattle.shardpool.specs.Seen.{ClearedSince}
+use Rattle.poollaws.specs.Laws.{StandsLaw}
+use Rattle.poollaws.specs.Words.{IsCleared}
 use Rattle.poollaws.specs.Rooms.{KnowsRoom}
 use Rattle.guards.specs.Seated.{GoesOn}
 
@@ -30,3 +35,13 @@ room-less lane key size less knows low =
       published = knows.published;
       roomy = omega (arith, roomy, low);
     }
+
+-- a clear of a key that the lane has seen cleared marks nothing
+pub marks-nothing : StandsLaw → (key : ℕ) (old new : LaneOf) (marked : Bool) → IsPrefix old.book.seen new.book.seen → IsCleared old.book.seen key → (IsTrue marked → ClearedSince key old new)
+    → marked ≡ false
+marks-nothing stands key old new false goes cleared since = refl
+marks-nothing stands key old new true goes (position, (lane, at)) since =
+    let first = stands old.book.seen new.book.seen goes position (Clear lane key true) at in
+    let low = first.0 in
+    let then = since refl in
+    let behind = then.clear.behind in absurd (then.present.1 position (omega (arith, low, behind)) (lane, first.1))

@@ -1,5 +1,6 @@
 //! What the log's lanes do with entries: a worker publishes them, and the collector reads and clears them.
-ghost use Rattle.std.specs.Prelude.{◌≡◌, ◌<◌, ◌≤◌, ◌↔◌, ℕ, List, length, IfOk, IfSome, IsNone, IsErr, IsErrOf};
+ghost use Rattle.std.specs.Prelude.{◌≡◌, ◌<◌, ◌≤◌, ◌↔◌, ℕ, true, false, List, length, IfOk, IfErr, IfSome, IsNone, IsErrOf};
+ghost use Rattle.keybits.specs.Keys.{is_key};
 ghost use Rattle.shardpool.specs.Tokens.{LaneOf};
 ghost use Rattle.shardpool.specs.Lanes.{Made};
 ghost use Rattle.poollaws.specs.Words.{IsPublished, IsGone};
@@ -7,7 +8,7 @@ ghost use Rattle.poollaws.specs.Rooms.{KnowsRoom};
 ghost use Rattle.guards.specs.Seated.{GoesOn};
 ghost use Rattle.logsample.specs.declared.calls.LogFault.TheVariants as faults;
 ghost use Rattle.logsample.specs.Requests.{numbers_of, content_of, line_of};
-ghost use Rattle.logsample.specs.Histories.{LogsNothing, NobodyFinds, IsNext};
+ghost use Rattle.logsample.specs.Histories.{LogsNothing, NobodyFinds, IsNext, Looks, Collects};
 
 use crate::entries::{Entry, Line, Request};
 use guards::{PoolName, Seat, Told};
@@ -41,7 +42,7 @@ pub fn log<N: PoolName>(
     ensures room { IfOk result (λ key. KnowsRoom seat.new.lane key (length request.now.path.now)) }
     ensures reused { IfOk result (λ key. (last size : ℕ) → KnowsRoom seat.old.lane last size → IsNext key last → KnowsRoom seat.new.lane key size) }
     ensures no_status { IsErrOf result faults.NoStatus ↔ (request.now.status ≡ 0) }
-    ensures none { IsErr result → LogsNothing seat.old.lane seat.new.lane }
+    ensures none { IfErr result (λ fault. LogsNothing fault seat.old.lane seat.new.lane) }
     ensures number { seat.new.lane.number ≡ seat.old.lane.number }
     ensures goes { GoesOn seat.old.lane seat.new.lane }
 {
@@ -77,6 +78,8 @@ fn fill(mut filling: Filling<Entry>, request: &Request<'_>) -> Option<Filling<En
 /// Reads an entry. None where its key isn't published, or is cleared.
 pub fn read<N: PoolName>(seat: &mut Seat<'_, N, Entry>, key: u64) -> Option<Line>
     ensures shown { IfSome result (λ line. (content : List ℕ) → IsPublished seat.old.lane.book.seen key content → line ≡ line_of content) }
+    ensures looks { is_key N.pool.shape key ≡ true → Looks key result seat.old.lane seat.new.lane }
+    ensures outside { is_key N.pool.shape key ≡ false → IsNone result × (seat.new.lane ≡ seat.old.lane) }
     ensures missed { IsNone result → IsGone seat.old.lane.book.seen seat.new.lane.book.seen key }
     ensures number { seat.new.lane.number ≡ seat.old.lane.number }
     ensures goes { GoesOn seat.old.lane seat.new.lane }
@@ -85,12 +88,15 @@ pub fn read<N: PoolName>(seat: &mut Seat<'_, N, Entry>, key: u64) -> Option<Line
 }
 
 /// Hears of an entry, reads it and clears it. What it reads is what was published under the key, which nobody finds
-/// from then on.
+/// from then on. None where
+/// another cleared it before.
 pub fn collect<N: PoolName>(seat: &mut Seat<'_, N, Entry>, told: Told<N, Entry>) -> Option<Line>
     ensures published { IsPublished seat.new.lane.book.seen told.key told.content }
     ensures shown { IfSome result (λ line. line ≡ line_of told.content) }
     ensures unfound { NobodyFinds N.pool.shape seat.new.lane.book.seen told.key }
+    ensures collects { is_key N.pool.shape told.key ≡ true → Collects told.key result seat.old.lane seat.new.lane }
     ensures number { seat.new.lane.number ≡ seat.old.lane.number }
+    ensures goes { GoesOn seat.old.lane seat.new.lane }
 {
     let key = seat.hear(told);
     let line = read(seat, key);

@@ -2,12 +2,11 @@
 //! thread of its own. What a caller can conclude is in the contracts of `log`, `read`, `collect` and `close_log`.
 #![tactic(auto)]
 
-ghost use Rattle.std.specs.Prelude.{◌≡◌, ℕ, IfOk, List, map, Some, slice_get};
+ghost use Rattle.std.specs.Prelude.{◌≡◌, IfOk, List, map, Some};
 ghost use Rattle.shardpool.specs.Tokens.{LaneOf};
 ghost use Rattle.guards.specs.Here.{HoldNothing};
-ghost use Rattle.logsample.specs.declared.tasks.Report.{Report};
 ghost use Rattle.logsample.specs.Closed.{IsSettled};
-ghost use Rattle.logsample.specs.Tasks.{LogsAll};
+ghost use Rattle.logsample.specs.Tasks.{AreTasks, AreReports};
 
 mod calls;
 mod entries;
@@ -58,7 +57,9 @@ pub fn close_log(opened: Opened<Entry>) -> Result<Census, Missing<Entry>>
 /// # Errors
 ///
 /// Where memory was refused.
-fn all_tasks<N: PoolName>(alloc: Global) -> anyhow::Result<Vec<Task<N>>> {
+fn all_tasks<N: PoolName>(alloc: Global) -> anyhow::Result<Vec<Task<N>>>
+    ensures { IfOk result (λ tasks. AreTasks tasks.items) }
+{
     let (to, from) = bounded(alloc, WAITING)?;
     let mut tasks = Vec::new(alloc);
     for worker in 0..WORKERS {
@@ -80,7 +81,7 @@ fn run_all<N: PoolName + Send, R: Threads + Wait + Sync>(
 ) -> anyhow::Result<Vec<Report>>
     requires pool { opened.old.pool ≡ N.pool }
     requires nothing { HoldNothing opened.old.lanes }
-    ensures all { IfOk result (λ reports. (number : ℕ) (report : Report) → slice_get reports.items number ≡ Some report → LogsAll report) }
+    ensures reports { IfOk result (λ reports. AreReports reports.items) }
 {
     let tasks = all_tasks::<N>(alloc)?;
     match run_lanes::<N, Entry, Task<N>, R>(rt, alloc, opened, tasks) {

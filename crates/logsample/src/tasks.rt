@@ -1,6 +1,6 @@
 //! What each lane does in a thread of its own: workers log requests, and tell the collector of each through a channel.
 ghost use Rattle.std.specs.Prelude.{◌≡◌};
-ghost use Rattle.logsample.specs.Tasks.{LogsAll};
+ghost use Rattle.logsample.specs.Tasks.{IsOfWorker, IsOfCollector, Reports};
 
 use crate::calls::{LogFault, collect, log};
 use crate::entries::{Entry, Line, Request};
@@ -52,7 +52,7 @@ impl Totals {
 impl<N: PoolName + Send> Job<N, Entry> for Task<N> {
     type Answer = Report;
 
-    ghost does = { λ _ _ _ report. LogsAll report };
+    ghost does = { λ task _ _ report. Reports task report };
 
     fn run<R: Threads + Wait + Sync>(self, rt: &R, seat: &mut Seat<'_, N, Entry>) -> Report {
         match self {
@@ -110,7 +110,7 @@ fn work<N: PoolName, R: Wait>(
     worker: u32,
     to: Sender<Told<N, Entry>, Global>,
 ) -> Report
-    ensures all { LogsAll result }
+    ensures all { IsOfWorker result }
     ensures number { seat.new.lane.number ≡ seat.old.lane.number }
 {
     for round in 0..REQUESTS {
@@ -127,7 +127,7 @@ fn collect_all<N: PoolName, R: Wait>(
     seat: &mut Seat<'_, N, Entry>,
     from: Receiver<Told<N, Entry>, Global>,
 ) -> Report
-    ensures all { LogsAll result }
+    ensures all { IsOfCollector result }
     ensures number { seat.new.lane.number ≡ seat.old.lane.number }
 {
     let mut totals = Totals::default();

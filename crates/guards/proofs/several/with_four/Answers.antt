@@ -3,10 +3,16 @@ use Rattle.std.proofs.Common.{ℕ, ◌∷◌, [], refl, subst}
 use Rattle.std.proofs.lemmas.List.Elements.{Contains-append_right}
 use Rattle.poolsteps.proofs.ViewLemmas.{prefix-trans}
 use Rattle.guards.specs.Several.{Gave}
-use Rattle.guards.proofs.Lending.{lends-more, has-one, has-two, back-two, read-later, gone-around}
+use Rattle.guards.proofs.Lending.{lends-more, has-one, has-two, back-two, tries-sooner, tries-behind, read-later, gone-around}
 use Rattle.guards.proofs.several.with_four.Goals as goal
 
--- ---- the last two gets found none
+-- ---- one of the first two gets found none
+
+pub returns-in_err-one-clause-tries : goal.returns-in_err-one-clause-tries
+returns-in_err-one-clause-tries g c = λ none.
+    tries-sooner c.args.pool.now.shape (c.args.keys.0 ∷ c.args.keys.1 ∷ []) (c.args.keys.2 ∷ c.args.keys.3 ∷ []) c.args.lane.now c.get_two.new.lane (c.in_err-one.ensures.tries refl)
+
+-- ---- one of the last two found none
 
 pub release_two-requires-clause-held : goal.release_two-requires-clause-held
 release_two-requires-clause-held g c =
@@ -21,6 +27,12 @@ returns-in_default-clause-gone g c = λ none.
       gone-around c.args.lane.now.book.seen c.get_two.new.lane.book.seen c.get_two-2.new.lane.book.seen c.release_two.new.lane.book.seen gone.0 (c.in_ok-one.ensures.lends refl).goes.seen
           c.release_two.ensures.returns.goes.seen gone.2,
     )
+
+pub returns-in_default-clause-tries : goal.returns-in_default-clause-tries
+returns-in_default-clause-tries g c = λ none.
+    let both = c.in_ok-one.ensures.both in
+    tries-behind c.args.pool.now.shape c.args.keys.0 c.args.keys.1 c.in_ok-one.one.key c.in_ok-one.two.key (c.args.keys.2 ∷ c.args.keys.3 ∷ []) c.args.lane.now c.get_two.new.lane c.get_two-2.new.lane
+    c.release_two.new.lane both.0 both.1 (c.in_ok-one.ensures.got refl) (c.in_default.ensures.tries refl) c.release_two.ensures.gave
 
 pub returns-in_default-clause-owns : goal.returns-in_default-clause-owns
 returns-in_default-clause-owns g c =

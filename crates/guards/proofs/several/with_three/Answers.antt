@@ -1,12 +1,18 @@
 -- What was lent is given back, and was published.
-use Rattle.std.proofs.Common.{Some, None, ℕ, refl, subst, arith}
+use Rattle.std.proofs.Common.{Some, None, ℕ, [], ◌∷◌, refl, subst, inl, arith}
 use Rattle.poolsteps.proofs.ViewLemmas.{prefix-trans}
 use Rattle.shardpool.proofs.references.Holdings.{got-inside}
 use Rattle.poollaws.proofs.Ends.{missed-law}
 use Rattle.guards.specs.Several.{Gave}
-use Rattle.guards.proofs.Lending.{lends-more, lends-one, lends-missed, lends-back, returns-of, has-one, has-two, back-two, read-later, gone-around}
+use Rattle.guards.proofs.Lending.{lends-more, lends-one, lends-missed, lends-back, returns-of, has-one, has-two, back-two, tries-sooner, tries-behind, read-later, gone-around}
 use Rattle.guards.proofs.Seating.{get-goes, goes-on}
 use Rattle.guards.proofs.several.with_three.Goals as goal
+
+-- ---- one of the first two gets found none
+
+pub returns-in_err-one-clause-tries : goal.returns-in_err-one-clause-tries
+returns-in_err-one-clause-tries g c = λ none.
+    tries-sooner c.args.pool.now.shape (c.args.keys.0 ∷ c.args.keys.1 ∷ []) (c.args.keys.2 ∷ []) c.args.lane.now c.get_two.new.lane (c.in_err-one.ensures.tries refl)
 
 -- ---- the last get found none
 
@@ -24,6 +30,13 @@ returns-in_default-clause-gone g c = λ none. (
   gone-around c.args.lane.now.book.seen c.get_two.new.lane.book.seen c.get.new.lane.book.seen c.release_two.new.lane.book.seen c.args.keys.2 (c.in_ok-one.ensures.lends refl).goes.seen
       c.release_two.ensures.returns.goes.seen (missed-law c.args.keys.2 c.get_two.new.lane c.get.new.lane c.in_default.ensures.seen (c.in_default.ensures.missed refl)),
 )
+
+pub returns-in_default-clause-tries : goal.returns-in_default-clause-tries
+returns-in_default-clause-tries g c = λ none.
+    let both = c.in_ok-one.ensures.both in
+    let third = c.in_default.ensures in
+    tries-behind c.args.pool.now.shape c.args.keys.0 c.args.keys.1 c.in_ok-one.one.key c.in_ok-one.two.key (c.args.keys.2 ∷ []) c.args.lane.now c.get_two.new.lane c.get.new.lane c.release_two.new.lane
+    both.0 both.1 (c.in_ok-one.ensures.got refl) (inl (record { outside = λ out. (third.outside out).1; called = third.called; gets = third.gets })) c.release_two.ensures.gave
 
 pub returns-in_default-clause-owns : goal.returns-in_default-clause-owns
 returns-in_default-clause-owns g c =

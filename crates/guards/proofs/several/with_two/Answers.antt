@@ -1,8 +1,21 @@
 -- What was lent is given back, and was published.
 use Rattle.std.proofs.Common.{ℕ, refl, subst}
 use Rattle.guards.specs.Several.{Gave}
-use Rattle.guards.proofs.Lending.{back-two, read-later}
+use Rattle.guards.proofs.Lending.{has-one, has-two, back-two, read-later}
 use Rattle.guards.proofs.several.with_two.Goals as goal
+
+pub returns-in_err-one-clause-tries : goal.returns-in_err-one-clause-tries
+returns-in_err-one-clause-tries g c = λ none. c.in_err-one.ensures.tries refl
+
+pub read-requires : goal.read-requires
+read-requires g c = has-one (c.in_ok-one.ensures.lends refl) 1 c.args.keys.0 c.in_ok-one.one.key refl c.in_ok-one.ensures.both.0
+
+pub read-requires-2 : goal.read-requires-2
+read-requires-2 g c = has-one (c.in_ok-one.ensures.lends refl) 0 c.args.keys.1 c.in_ok-one.other.key refl c.in_ok-one.ensures.both.1
+
+pub release_two-requires-clause-held : goal.release_two-requires-clause-held
+release_two-requires-clause-held g c =
+    let both = c.in_ok-one.ensures.both in has-two c.args.keys.0 c.args.keys.1 c.in_ok-one.one.key c.in_ok-one.other.key both.0 both.1 (c.in_ok-one.ensures.lends refl)
 
 pub returns-clause-some : goal.returns-clause-some
 returns-clause-some g c =

@@ -1,6 +1,6 @@
 -- What was written into the created object is published.
 use Rattle.std.proofs.Common.{◌∙◌, ap, inl, inr, refl}
-use Rattle.std.proofs.lemmas.Result.{IfOk-from_err}
+use Rattle.std.proofs.lemmas.Result.{IfOk-from_err, err_from_is_err_and}
 use Rattle.guards.proofs.Seating.{goes-further, on-ok, puts}
 use Rattle.guards.proofs.seats.Seat.put.Goals as goal
 
@@ -33,3 +33,17 @@ returns-in_err-filling-clause-none g c = λ err. inl (c.in_err-filling.ensures.n
 
 pub returns-then-is_err-clause-none : goal.returns-then-is_err-clause-none
 returns-then-is_err-clause-none g c = λ err. inr (c.in_ok-filling.filling, c.in_ok-filling.ensures.gives)
+
+pub returns-in_err-filling-clause-full : goal.returns-in_err-filling-clause-full
+returns-in_err-filling-clause-full g c =
+    let left = err_from_is_err_and c.from_residual.result c.from_residual.ensures.1 in rw (left.1, left.2) (λ err. (c.in_err-filling.ensures.none refl, c.in_err-filling.ensures.full (cc err)))
+
+pub returns-in_err-filling-clause-memory : goal.returns-in_err-filling-clause-memory
+returns-in_err-filling-clause-memory g c =
+    let left = err_from_is_err_and c.from_residual.result c.from_residual.ensures.1 in rw (left.1, left.2) (λ err. inl (c.in_err-filling.ensures.none refl, c.in_err-filling.ensures.memory (cc err)))
+
+pub returns-then-is_err-clause-full : goal.returns-then-is_err-clause-full
+returns-then-is_err-clause-full g c = λ err. absurd (cc err)
+
+pub returns-then-is_err-clause-memory : goal.returns-then-is_err-clause-memory
+returns-then-is_err-clause-memory g c = λ err. inr (c.in_ok-filling.filling, c.in_ok-filling.ensures.gives)

@@ -1,12 +1,16 @@
 -- The seat's pool is the named one.
 use Rattle.std.proofs.Common.{◌∷◌, [], subst}
 use Rattle.shardpool.specs.Tokens.{PoolOf}
-use Rattle.guards.specs.Several.{UsesAll}
+use Rattle.guards.specs.Several.{UsesAll, TriesAll}
 use Rattle.guards.proofs.seats.Seat.with_four.Goals as goal
 
 pub returns-clause-uses : goal.returns-clause-uses
 returns-clause-uses g c = λ some.
     subst (λ (pool : PoolOf). UsesAll pool.shape (c.args.keys.0 ∷ c.args.keys.1 ∷ c.args.keys.2 ∷ c.args.keys.3 ∷ []) c.args.self.now.lane c.with_four.new.lane) c.args.self.now.pool_is (c.with_four.ensures.uses some)
+
+pub returns-clause-tries : goal.returns-clause-tries
+returns-clause-tries g c = λ none.
+    subst (λ (pool : PoolOf). TriesAll pool.shape (c.args.keys.0 ∷ c.args.keys.1 ∷ c.args.keys.2 ∷ c.args.keys.3 ∷ []) c.args.self.now.lane c.with_four.new.lane) c.args.self.now.pool_is (c.with_four.ensures.tries none)
 
 pub returns-clause-some : goal.returns-clause-some
 returns-clause-some g c = c.with_four.ensures.some
