@@ -1,5 +1,5 @@
 -- What a call of a lane leaves, put together from its call, its acts and its fillings.
-use Rattle.std.proofs.Common.{◌≡◌, ◌≢◌, ◌+◌, ◌≤◌, ◌<◌, ⊎_elim, ℕ, Bool, true, false, List, [], ◌∷◌, Ok, Err, Some, None, IsSome, refl, sym, ap, ◌∙◌, subst, arith}
+use Rattle.std.proofs.Common.{◌≡◌, ◌≢◌, ◌+◌, ◌≤◌, ◌<◌, ⊎_elim, ℕ, Bool, true, false, List, [], ◌∷◌, Ok, Err, Some, None, IsSome, refl, sym, ◌∙◌, subst, arith}
 use Rattle.std.proofs.lemmas.Bool.{false≢true}
 use Rattle.keybits.specs.declared.shape.Shape.{Shape}
 use Rattle.keybits.specs.Keys.{is_key, place_of}

@@ -8,9 +8,8 @@ use Rattle.keybits.specs.Keys.{place_of}
 use Rattle.poolcalls.specs.Called.{Called, EndsWithActs, IsReclaimed}
 use Rattle.poolcalls.proofs.Calling.{release-called, release-acts}
 use Rattle.poolcalls.proofs.Standing.{has-left, lawful}
-use Rattle.shardpool.specs.Tokens.{PoolOf, LaneOf}
+use Rattle.shardpool.specs.Tokens.{PoolOf}
 use Rattle.shardpool.specs.LaneStates.{Fits}
-use Rattle.shardpool.specs.Lanes.{Made}
 use Rattle.shardpool.proofs.calls.CallParts.{calls-more, calls-behind}
 use Rattle.shardpool.proofs.frame.SeenHistories.{same-directory}
 use Rattle.shardpool.proofs.calls.Ends.{keeper}
