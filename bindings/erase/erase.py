@@ -19,10 +19,10 @@ sys.dont_write_bytecode = True
 from forms import RUST_SIGNS, Parser, Refused, Source
 
 ROOT = os.path.dirname(os.path.dirname(os.path.dirname(os.path.abspath(__file__))))
-CRATES = ["keybits", "slotcell", "placecell", "placerows", "freelists", "poolsteps", "poolcalls", "shardpool"]
+CRATES = ["keybits", "slotcell", "freelists", "poolsteps", "shardpool"]
 
 # What proofs alone use: crates, a folder of std, and traits and types of the kit.
-GHOST_CRATES = {"seqpool", "steplaws", "sharelaws"}
+GHOST_CRATES = {"seqpool", "steplaws"}
 GHOST_NAMES = {
     ("std::marker", "Model"),
     ("std::marker", "Brand"),
@@ -34,6 +34,8 @@ GHOST_NAMES = {
 }
 # The kit's traits without a member at run time, by their names in an impl.
 GHOST_TRAITS = {"Model", "Play", "Split", "Join", "TableRule"}
+# Types of which no value is made, though they look as any other.
+PROOF_TYPES = {("poolsteps", "Status")}
 # What the shim stands for.
 SHIM = {
     "std::alloc": {"Global", "Allocator", "AllocError"},
@@ -57,11 +59,13 @@ IN_EACH_FILE = {("std::marker", "Send"), ("std::marker", "Sync")}
 TOLD_TYPES = {"Table": (5, 1), "Seat": (2, 1)}
 # Functions that are to be part of their callers even where they are called from several places, by file.
 ALWAYS_INLINE = {
-    "poolcalls/cells": {"spread_cell", "take_cell"},
-    "poolcalls/fills": {"publish"},
-    "poolcalls/homes": {"give_home"},
+    "shardpool/cell_moves": {"spread_cell", "take_cell"},
+    "shardpool/clear": {"clear"},
     "shardpool/create": {"fill", "pop"},
-    "shardpool/pool": {"clear", "get", "get_at", "publish", "release"},
+    "shardpool/get": {"get", "get_at"},
+    "shardpool/publish": {"publish"},
+    "shardpool/reclaim": {"give_home"},
+    "shardpool/release": {"release"},
     "shardpool/stores": {"give_out", "take_own"},
 }
 # The body of a function that takes value by value off a vector and puts it into a row.
@@ -188,6 +192,8 @@ class Eraser:
         if item.kind == "fn":
             nothing = item.parameters[0] == item.parameters[1] and not item.answer and item.body and item.body[0] == item.body[1]
             return "law" if nothing and item.clauses else None
+        if (source.crate, item.name) in PROOF_TYPES:
+            return "type"
         if item.generics and any(self.is_ghost(source, w) for w in source.words(item.generics[0], item.generics[1])):
             return "type"
         for _, a, b, ghost in item.fields:

@@ -452,8 +452,8 @@ impl Calls for Erased<'_> {
     fn leave(&mut self, register: Register<Self::Filling, Self::Ref>) {
         match register {
             Register::Empty => {}
-            Register::Filling(filling) => filling.leave(),
-            Register::Ref(reference) => reference.leave(),
+            Register::Filling(filling) => filling.forget(),
+            Register::Ref(reference) => reference.forget(),
         }
     }
 }
@@ -507,7 +507,7 @@ impl<'l> Calls for Crate<'l> {
     fn leave(&mut self, register: Register<Self::Filling, Self::Ref>) {
         match register {
             Register::Empty => {}
-            Register::Filling(filling) => filling.leave(),
+            Register::Filling(filling) => filling.forget(),
             Register::Ref(reference) => std::mem::forget(reference),
         }
     }

@@ -12,8 +12,8 @@ import re
 import sys
 
 ROOT = os.path.dirname(os.path.dirname(os.path.dirname(os.path.abspath(__file__))))
-POOL = {"keybits", "slotcell", "placecell", "placerows", "freelists", "poolsteps", "poolcalls", "shardpool"}
-PROOF_CRATES = {"seqpool", "steplaws", "sharelaws"}
+POOL = {"keybits", "slotcell", "freelists", "poolsteps", "shardpool"}
+PROOF_CRATES = {"seqpool", "steplaws"}
 PROOF_TRAITS = {"Model", "Play", "Split", "Join", "TableRule"}
 SHIM_NAMES = {"Box", "Vec", "impossible", "no_bytes", "Gapless"}
 SHIM_FROM = {"std::alloc", "std::snapshot", "core::slots", "core::mem", "atomic_table", "arrayvec"}
@@ -334,7 +334,7 @@ def gone_names(sources, kept):
         if (crate, module) not in kept:
             found[crate, module] = "module of proofs"
         joined = " ".join(tokens)
-        for m in re.finditer(r"fn (\w+) \( \) (?:ensures \w* ?{[^{}]*} )+{ }", joined):
+        for m in re.finditer(r"fn (\w+) (?:< \w+ : \w+ > )?\( \) (?:ensures \w* ?{[^{}]*} )+{ }", joined):
             found[crate, m.group(1)] = "law"
         for m in re.finditer(r"trait (\w+) { ((?:ghost [^{}]*(?:{[^{}]*})?[^{};]*; ?)+)}", joined):
             found[crate, m.group(1)] = "trait"

@@ -1478,13 +1478,14 @@ impl<'l, T: Clear> Filling<'l, T> {
     /// let pool = Pool::<String>::open(Shape { lanes: 1, first_page: 1, pages: 1, ..Shape::default() })?;
     /// let lane = pool.lane().expect("a lane");
     /// drop(lane.create()?);
-    /// lane.create()?.leave();
+    /// lane.create()?.forget();
     /// assert!(lane.create().is_err());
     /// drop(lane);
     /// assert_eq!(pool.close().filling, 1);
     /// # Ok::<(), Box<dyn std::error::Error>>(())
     /// ```
-    pub fn leave(self) {
+    #[doc(alias = "leave")]
+    pub fn forget(self) {
         let (lane, _, mut block) = self.into_parts();
         block.clear();
         lane.put_away(block);

@@ -274,7 +274,7 @@ fn a_filling_is_not_found() {
         let filling = lane.create().unwrap();
         let key = filling.key();
         if left {
-            filling.leave();
+            filling.forget();
         } else {
             drop(filling);
         }
@@ -599,7 +599,7 @@ fn a_close_counts_what_is_left() {
     std::mem::forget(other.get(held).unwrap());
     std::mem::forget(other.get(marked).unwrap());
     assert!(lane.clear(marked));
-    lane.create().unwrap().leave();
+    lane.create().unwrap().forget();
     std::mem::forget(lane.create().unwrap());
     std::mem::forget(other);
     drop(lane);

@@ -107,7 +107,7 @@ fn each_object_is_dropped_once() {
     keys.into_iter().for_each(|key| assert!(lane.clear(key)));
     assert_eq!(ALIVE.load(SeqCst), 6);
     drop(lane.create().unwrap());
-    lane.create().unwrap().leave();
+    lane.create().unwrap().forget();
     std::mem::forget(lane.create().unwrap().downgrade());
     drop(lane);
     let census = pool.close();
@@ -227,7 +227,7 @@ fn the_last_one_empties() {
     assert_eq!(here(), [3]);
     let mut filling = lane.create().unwrap();
     filling.0 = 4;
-    filling.leave();
+    filling.forget();
     assert_eq!(here(), [4]);
     let told = lane.create_with(|told| told.0 = 5).unwrap();
     let held = lane.get(told).unwrap();

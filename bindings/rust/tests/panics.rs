@@ -115,7 +115,7 @@ fn in_clear_of_a_filling() {
     }
     let mut filling = lane.create().unwrap();
     filling.set(&alive, When::Clear);
-    panics(|| filling.leave());
+    panics(|| filling.forget());
     assert_eq!(alive.load(SeqCst), 0);
     drop(lane);
     assert_eq!(pool.close().filling, 1);

@@ -186,7 +186,7 @@ fn buffers() {
     // Once more, in the rooms of the first, by a copy of the content.
     let key = again(CreateError::Memory, || one.put(&[9; 40]));
     let left = again(CreateError::Memory, || one.create());
-    takes_none(|| left.leave());
+    takes_none(|| left.forget());
     drop(again(CreateError::Memory, || one.create()));
     let mut held = again(CreateError::Memory, || one.create());
     again(MemoryRefused, || held.append(&[8; 90]));

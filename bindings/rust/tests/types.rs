@@ -190,7 +190,7 @@ fn what_is_leaked() {
     forget(lane.get(present).unwrap());
     assert!(lane.clear(marked));
     forget(lane.create().unwrap());
-    lane.create().unwrap().leave();
+    lane.create().unwrap().forget();
     assert_eq!(lane.create().err(), Some(CreateError::Full));
     assert_eq!((lane.references(), other.references()), (1, 2));
     forget(other);

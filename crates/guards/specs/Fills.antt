@@ -2,9 +2,9 @@
 use Rattle.std.specs.Prelude.{[]}
 use Rattle.std.specs.Borrow.{Lends, Fml, RattleType, MutBor}
 use mir.Syntax.{named}
-use Rattle.slotcell.specs.declared.clear.Clear.{Ghosts}
+use Rattle.slotcell.specs.declared.objects.Clear.{Ghosts}
 use Rattle.shardpool.specs.Tokens.{FillingOf}
-use Rattle.shardpool.specs.contracts.token.Filling as filling
+use Rattle.shardpool.specs.contracts.create.Filling as filling
 use Rattle.guards.specs.declared.filling.FillGuard.{FillGuard}
 use Rattle.guards.specs.contracts.filling.FillGuard.{the_row}
 

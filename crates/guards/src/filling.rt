@@ -1,11 +1,11 @@
 //! Fillings that are published by themselves.
 ghost use Rattle.std.specs.Prelude.{◌≡◌, ◌≢◌, ◌==◌, ◌+◌, ◌<◌, ◌⊎◌, ℕ, true, false, Some, [], ◌∷◌, IsOk, IsErr, IsErrOf, IfOk, IsSome, if◌then◌else◌};
 ghost use Rattle.std.specs.Borrow.{sem, RestsIfErr};
-ghost use Rattle.shardpool.specs.contracts.lane.Lane.{the_row};
+ghost use Rattle.shardpool.specs.contracts.pool.Lane.{the_row};
 ghost use mathlib.Core.List.{IsPrefix};
 ghost use Rattle.keybits.specs.Keys.{place_of};
 ghost use Rattle.seqpool.specs.declared.act.Act.TheVariants as acts;
-ghost use Rattle.sharelaws.specs.Shares.{room_of};
+ghost use Rattle.poolsteps.specs.Shares.{room_of};
 ghost use Rattle.steplaws.specs.Calls.Call.{Publishing};
 ghost use Rattle.steplaws.specs.Facts.{most_references};
 ghost use Rattle.shardpool.specs.Tokens.{FillingOf};

@@ -11,7 +11,7 @@ ghost use Rattle.shardpool.specs.Tokens.{FillingOf};
 ghost use Rattle.shardpool.specs.Lanes.{Owns, Made, SameLane, Calls, Did, Gets, holds, refs};
 ghost use Rattle.shardpool.specs.Seen.{FoundSince};
 ghost use Rattle.std.specs.Borrow.{sem, RestsIfNone};
-ghost use Rattle.shardpool.specs.contracts.lane.Lane.{the_row};
+ghost use Rattle.shardpool.specs.contracts.pool.Lane.{the_row};
 ghost use Rattle.guards.specs.Guarded.{MayRelease, Misses};
 
 use shardpool::{Lane, Pool, Ref};

@@ -2,8 +2,8 @@
 use Rattle.std.proofs.Common.{◌≡◌, ◌⊎◌, ℕ, ◌+◌, ◌*◌, ◌/◌, ◌%◌, ◌^◌, ◌<◌, refl, ap, ◌∙◌, ⊎_elim, arith}
 use Rattle.std.specs.Int.Bits.{bit_or, or_zero_r}
 use Rattle.std.proofs.lemmas.Nat.{or_block}
-use Rattle.keybits.specs.declared.life.State.{State}
-use Rattle.keybits.specs.declared.life.State.TheVariants.{Idle, Present, Retired, Marked}
+use Rattle.keybits.specs.declared.words.State.{State}
+use Rattle.keybits.specs.declared.words.State.TheVariants.{Idle, Present, Retired, Marked}
 use Rattle.keybits.specs.Words.{state_bits, word_with, state_in, count_in, generation_in}
 
 pub state_in-word_with : (state count generation : ℕ) → state < 4 → state_in (word_with state count generation) ≡ state

@@ -1,8 +1,8 @@
 -- Lifecycle words: state + 4 * count + 2^32 * generation.
 use Rattle.std.specs.Prelude.{◌==◌, ◌&&◌, ℕ, ◌+◌, ◌*◌, ◌/◌, ◌%◌, Bool}
-use Rattle.keybits.specs.declared.life.State.{State}
-use Rattle.keybits.specs.declared.life.State.TheVariants.{Idle, Present, Retired, Marked}
-use Rattle.keybits.specs.declared.life.Life.{Life}
+use Rattle.keybits.specs.declared.words.State.{State}
+use Rattle.keybits.specs.declared.words.State.TheVariants.{Idle, Present, Retired, Marked}
+use Rattle.keybits.specs.declared.words.Life.{Life}
 use Rattle.keybits.specs.Keys.{generation_of}
 
 -- the two lowest bits of a word in this state

@@ -2,7 +2,7 @@
 ghost use Rattle.std.specs.Prelude.{◌≡◌};
 ghost use Rattle.keybits.specs.Keys.{is_key};
 
-use crate::fields::{generation_of, place_of, tag_of};
+use crate::place::{generation_of, place_of, tag_of};
 use crate::shape::Shape;
 
 /// Whether this is the number of a key of the shape: the shape's tag, a place of the shape and a

@@ -1,5 +1,4 @@
 //! The laws of the home places of a shard, as calls that do nothing: whoever calls one may use its law in a proof.
-
 ghost use Rattle.keybits.specs.HomeLaws.{FunctionLaw, EmptyLaw, UnchangedLaw, PushLaw, TakeLaw};
 
 /// The stack words of a shard and the link words determine which places are home: returned to the shard and not taken

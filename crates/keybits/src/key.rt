@@ -1,8 +1,7 @@
 //! Keys of published objects.
-ghost use Rattle.std.specs.Prelude.{◌≡◌, ◌+◌, ◌*◌, ◌/◌, ◌%◌, ◌<◌, ◌≤◌, ◌↔◌, Some, IsSome, IfSome};
+ghost use Rattle.std.specs.Prelude.{◌≡◌, ◌+◌, ◌/◌, ◌%◌, ◌<◌, ◌≤◌, ◌↔◌, Some, IsSome, IfSome};
 
-use crate::fields::{generation_of, place_of, tag_of};
-use crate::place::Place;
+use crate::place::{Place, generation_of, place_of, tag_of};
 
 /// The key of a published object: its pool's tag, its place and its generation, packed into one number.
 ///

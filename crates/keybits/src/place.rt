@@ -1,6 +1,10 @@
-//! Places, and their numbers.
-ghost use Rattle.std.specs.Prelude.{◌≡◌};
+//! Places: their numbers, in keys too, and the words by which they are returned.
+ghost use Rattle.std.specs.Prelude.{◌≡◌, ◌≤◌, ◌<◌};
 ghost use Rattle.keybits.specs.Places.{shard_of, page_of, slot_of};
+ghost use Rattle.keybits.specs.Keys.{place_of, generation_of, tag_of};
+ghost use Rattle.keybits.specs.Links.{link_to, linked_place};
+
+use crate::shape::MOST_LANES;
 
 /// The greatest number of a place: of shard 255, page 15 and slot 4095.
 pub const GREATEST_PLACE: u32 = 16_777_215;
@@ -81,4 +85,54 @@ pub(crate) fn slot_of(number: u32) -> u32
     ensures { result ≡ slot_of number }
 {
     number & 0xfff
+}
+
+/// The number of the place that a key's number names.
+#[inline]
+pub fn place_of(key: u64) -> u32
+    ensures place { result ≡ place_of key }
+    ensures below { result ≤ GREATEST_PLACE }
+{
+    (key & u64::from(GREATEST_PLACE)) as u32
+}
+
+/// The generation that a key's number names.
+#[inline]
+pub fn generation_of(key: u64) -> u32
+    ensures { result ≡ generation_of key }
+{
+    (key >> 24 & 0xffff_ffff) as u32
+}
+
+/// The tag that a key's number names.
+#[inline]
+pub fn tag_of(key: u64) -> u8
+    ensures { result ≡ tag_of key }
+{
+    (key >> 56) as u8
+}
+
+/// The link or stack word that stands for a place: 1 more than the lowest 16 bits of its number, so
+/// that no place has the word 0, which is the end.
+#[inline]
+pub fn link_to(place: u32) -> u64
+    ensures word { result ≡ link_to place }
+    ensures in_range { (1 ≤ result) × (result ≤ SHARD_NUMBERS) }
+    ensures inverse { linked_place (shard_of place) result ≡ place }
+{
+    u64::from(place & 0xffff) + 1
+}
+
+/// The number of the place of a shard that a link or stack word from 1 to 65536 stands for. It is
+/// the inverse of `link_to`.
+#[inline]
+pub fn linked_place(shard: u32, word: u64) -> u32
+    requires shard { shard < MOST_LANES }
+    requires place { 1 ≤ word }
+    requires in_range { word ≤ SHARD_NUMBERS }
+    ensures place { result ≡ linked_place shard word }
+    ensures shard { shard_of result ≡ shard }
+    ensures inverse { link_to result ≡ word }
+{
+    (shard << 16) + (word - 1) as u32
 }

@@ -69,7 +69,7 @@ fn fill(mut filling: Filling<Entry>, request: &Request<'_>) -> Option<Filling<En
     ensures roomy { IfSome result (λ filled. length request.now.path.now ≤ filled.object.path.room) }
 {
     if filling.value_mut().write(request).is_err() {
-        filling.leave();
+        filling.forget();
         return None;
     }
     Some(filling)
@@ -88,8 +88,7 @@ pub fn read<N: PoolName>(seat: &mut Seat<'_, N, Entry>, key: u64) -> Option<Line
 }
 
 /// Hears of an entry, reads it and clears it. What it reads is what was published under the key, which nobody finds
-/// from then on. None where
-/// another cleared it before.
+/// from then on. None where another cleared it before.
 pub fn collect<N: PoolName>(seat: &mut Seat<'_, N, Entry>, told: Told<N, Entry>) -> Option<Line>
     ensures published { IsPublished seat.new.lane.book.seen told.key told.content }
     ensures shown { IfSome result (λ line. line ≡ line_of told.content) }

@@ -85,7 +85,7 @@ pub fn put(pool: &Pool<ByteBuf>, lane: &mut Lane<ByteBuf>) -> Option<u64>
         return None;
     };
     if filling.value_mut().append(&BYTES).is_err() {
-        filling.leave();
+        filling.forget();
         return None;
     }
     Some(pool.publish(lane, filling))

@@ -7,7 +7,7 @@ use Rattle.seqpool.specs.declared.act.Act.{Act}
 use Rattle.seqpool.specs.declared.act.Act.TheVariants as acts
 use Rattle.steplaws.specs.Calls.{Call}
 use Rattle.steplaws.specs.Calls.Call.{Publishing, Clearing}
-use Rattle.sharelaws.specs.Shares.{room_of}
+use Rattle.poolsteps.specs.Shares.{room_of}
 use Rattle.shardpool.specs.Tokens.{LaneOf}
 use Rattle.shardpool.specs.Lanes.{Calls, Did, SameLane, holds}
 use Rattle.shardpool.specs.Seen.{PublishedSince, MissedSince, ClearedSince}

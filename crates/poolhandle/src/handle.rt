@@ -122,7 +122,7 @@ impl Handle {
         }
         let filling = self.fillings.take(index).into_content();
         let reference = self.shared.pool.downgrade(&mut self.lane, filling);
-        reference.leave();
+        reference.forget();
         Ok(())
     }
 
@@ -133,7 +133,7 @@ impl Handle {
         let Some(index) = self.fillings.find(key) else {
             return Err(Refusal::NoFilling);
         };
-        self.fillings.take(index).into_content().leave();
+        self.fillings.take(index).into_content().forget();
         Ok(())
     }
 
@@ -199,7 +199,7 @@ impl Handle {
             return Err(Refusal::NoReference);
         };
         let bytes = self.lane.read(&reference).as_slice();
-        reference.leave();
+        reference.forget();
         Ok(bytes)
     }
 

@@ -14,7 +14,7 @@ pub struct Kept {
 
 impl Drop for Kept {
     fn drop(self) {
-        self.into_filling().leave();
+        self.into_filling().forget();
     }
 }
 

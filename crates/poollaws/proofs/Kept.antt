@@ -10,7 +10,7 @@ use Rattle.seqpool.specs.Pool.{Pool, with, lane_of, is_current, after, fresh, po
 use Rattle.seqpool.specs.Histories.{At, PublishedAt, acts_of}
 use Rattle.seqpool.proofs.Growth.{pool-append, legal-front, legal-rest, legal-take, legal-at}
 use Rattle.seqpool.proofs.Ranks.{rank, rank-rises, rank-after, published-ranks, current-key, level-with}
-use Rattle.sharelaws.specs.Shares.{room_of}
+use Rattle.poolsteps.specs.Shares.{room_of}
 use Rattle.poolsteps.specs.declared.view.View.{View}
 use Rattle.poolsteps.specs.Views.{the_lane}
 use Rattle.shardpool.specs.Tokens.{LaneOf, FillingOf}

@@ -10,7 +10,7 @@ use Rattle.seqpool.specs.Pool.{lane_of, IsLegal}
 use Rattle.seqpool.specs.Histories.{At, PublishedAt}
 use Rattle.poolsteps.specs.declared.view.View.{View}
 use Rattle.poolsteps.specs.Views.{the_lane}
-use Rattle.sharelaws.specs.Shares.{room_of}
+use Rattle.poolsteps.specs.Shares.{room_of}
 use Rattle.shardpool.specs.declared.census.Census.{Census}
 use Rattle.shardpool.specs.Tokens.{PoolOf, LaneOf, FillingOf}
 use Rattle.shardpool.specs.Lanes.{Made, SeesOn}

@@ -1,11 +1,11 @@
 -- OUT and BACK of all shares of a place: the look that takes the slots, and the look that gives them back.
-use Rattle.placecell.specs.Spot.{Spot as CellSpot}
+use Rattle.poolsteps.specs.Spot.{Spot as CellSpot}
 use Rattle.std.proofs.Common.{◌≡◌, ℕ, zero, suc, ◌+◌, ◌-◌, ◌<◌, List, Option, Some, ap, sym, ◌∙◌, subst, arith}
 use Rattle.keybits.specs.declared.shape.Shape.{Shape}
-use Rattle.placecell.specs.Share.{Share}
-use Rattle.sharelaws.specs.declared.stored.Stored.{Stored}
-use Rattle.sharelaws.specs.declared.stored.Status.{Status}
-use Rattle.sharelaws.specs.declared.stored.Status.TheVariants.{Untouched}
+use Rattle.poolsteps.specs.Share.{Share}
+use Rattle.poolsteps.specs.declared.view.Stored.{Stored}
+use Rattle.poolsteps.specs.declared.view.Status.{Status}
+use Rattle.poolsteps.specs.declared.view.Status.TheVariants.{Untouched}
 use Rattle.poolsteps.specs.declared.view.View.{View}
 use Rattle.poolsteps.specs.Views.{the_lane}
 use Rattle.poolsteps.specs.Told.{HasPlace}

@@ -1,12 +1,12 @@
 -- Several steps of a clear in one operation, through the table: each step where it may be made, one after another, and the exchange that is all of them.
-use Rattle.placecell.specs.Spot.{Spot as CellSpot}
+use Rattle.poolsteps.specs.Spot.{Spot as CellSpot}
 use mathlib.Core.Logic.{dite}
 use native.Mathlib.Decide.{ℕ_discrete}
 use prog.Atomic.{either}
 use Rattle.std.proofs.Common.{◌≡◌, ◌≢◌, ◌==◌, inl, inr, ⊎_elim, ℕ, ◌+◌, ◌-◌, ◌%◌, ◌^◌, ◌<◌, ◌≤◌, Bool, true, false, cond, eqb, ◌&&◌, List, [], ◌∷◌, length, Option, refl, ap, sym, ◌∙◌, subst, arith, bit_or, eq-eqb, ne_eqb, slice_index}
 use Rattle.std.proofs.lemmas.Bool.{and_parts, cases_Bool, eqb-true}
 use Rattle.atomic_table.specs.Table.{Me, State, Allows, carried_after, stepped}
-use Rattle.placecell.specs.Share.{Share}
+use Rattle.poolsteps.specs.Share.{Share}
 use Rattle.keybits.specs.declared.shape.Shape.{Shape}
 use Rattle.keybits.specs.declared.step.Word.TheVariants.{Life}
 use Rattle.keybits.specs.Shapes.{is_place}
@@ -19,7 +19,7 @@ use Rattle.seqpool.specs.declared.act.Act.{Act}
 use Rattle.steplaws.specs.declared.pending.Pending.TheVariants.{Nothing, Undo, Owes}
 use Rattle.steplaws.specs.StepLaws.{owed_after}
 use Rattle.steplaws.proofs.Enters.{clear-hits-law, clear-misses-law}
-use Rattle.poolsteps.specs.declared.plays.Purpose.TheVariants.{ToClear}
+use Rattle.poolsteps.specs.declared.steps.Purpose.TheVariants.{ToClear}
 use Rattle.poolsteps.specs.declared.view.LaneRecord.{LaneRecord}
 use Rattle.poolsteps.specs.declared.view.View.{View}
 use Rattle.poolsteps.specs.Layout.{index_in, words_in}

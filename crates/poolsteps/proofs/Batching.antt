@@ -1,5 +1,5 @@
 -- The two looks that move all shares of a place: each is a move of one slot after another, at one moment.
-use Rattle.placecell.specs.Spot.{Spot as CellSpot}
+use Rattle.poolsteps.specs.Spot.{Spot as CellSpot}
 use Rattle.std.proofs.Common.{◌≡◌, ◌≢◌, inl, inr, ⊎_elim, ◌⊎◌, ℕ, zero, suc, ◌<◌, ◌≤◌, Bool, true, cond, eqb, ◌&&◌, List, ◌∷◌, [], length, length-set, slice_index, slice_set, Option, None, refl, ap, sym, ◌∙◌, subst, arith, eq-eqb, ne_eqb}
 use Rattle.std.proofs.lemmas.Bool.{and_left}
 use mathlib.Core.Logic.{dite}
@@ -11,13 +11,13 @@ use Rattle.atomic_table.specs.Table.{Me, Act, Allows, Valid, homes_after, carrie
 use Rattle.atomic_table.proofs.Lists.{set_else}
 use Rattle.keybits.specs.declared.shape.Shape.{Shape}
 use Rattle.keybits.specs.Shapes.{is_place}
-use Rattle.placecell.specs.Share.{Share}
-use Rattle.sharelaws.specs.declared.stored.Stored.{Stored}
-use Rattle.sharelaws.specs.declared.stored.Status.{Status}
-use Rattle.sharelaws.specs.declared.stored.Status.TheVariants.{InHand}
-use Rattle.sharelaws.specs.Shares.{Slots, Stock, at_home, Shared, moved}
-use Rattle.sharelaws.specs.ShareLaws.{Leaves, MayMove}
-use Rattle.sharelaws.proofs.Moving.{move-law}
+use Rattle.poolsteps.specs.Share.{Share}
+use Rattle.poolsteps.specs.declared.view.Stored.{Stored}
+use Rattle.poolsteps.specs.declared.view.Status.{Status}
+use Rattle.poolsteps.specs.declared.view.Status.TheVariants.{InHand}
+use Rattle.poolsteps.specs.Shares.{Slots, Stock, at_home, Shared, moved}
+use Rattle.poolsteps.specs.ShareLaws.{Leaves, MayMove}
+use Rattle.poolsteps.proofs.shares.Moving.{move-law}
 use Rattle.poolsteps.specs.declared.view.LaneRecord.{LaneRecord}
 use Rattle.poolsteps.specs.declared.view.View.{View}
 use Rattle.poolsteps.specs.Layout.{slot_count, slot_index, slots_in}

@@ -1,16 +1,16 @@
 -- OUT and BACK: a look that takes a slot, an exchange of what it has, and a look that gives it back.
-use Rattle.placecell.specs.Spot.{Spot as CellSpot}
+use Rattle.poolsteps.specs.Spot.{Spot as CellSpot}
 use Rattle.std.proofs.Common.{◌≡◌, ◌≢◌, ◌==◌, ◌&&◌, inl, inr, ⊎_elim, ℕ, ◌+◌, Bool, true, cond, eqb, List, [], ◌∷◌, Option, IsSome, Some, None, refl, ap, sym, ◌∙◌, subst, arith, eq-eqb, ne_eqb}
 use Rattle.std.proofs.lemmas.Bool.{and_right}
 use Rattle.atomic_table.specs.Table.{Me, rest}
 use Rattle.keybits.specs.declared.shape.Shape.{Shape}
 use Rattle.seqpool.specs.Pool.{pool_after}
-use Rattle.placecell.specs.Share.{Share}
-use Rattle.sharelaws.specs.declared.stored.Stored.{Stored}
-use Rattle.sharelaws.specs.declared.stored.Status.{Status}
-use Rattle.sharelaws.specs.declared.stored.Status.TheVariants.{Untouched, Emptied, InHand, Whole}
-use Rattle.sharelaws.specs.Shares.{room_of, IsKept, IsShareOf, at_home, nothing_stored}
-use Rattle.sharelaws.specs.ShareLaws.{Leaves}
+use Rattle.poolsteps.specs.Share.{Share}
+use Rattle.poolsteps.specs.declared.view.Stored.{Stored}
+use Rattle.poolsteps.specs.declared.view.Status.{Status}
+use Rattle.poolsteps.specs.declared.view.Status.TheVariants.{Untouched, Emptied, InHand, Whole}
+use Rattle.poolsteps.specs.Shares.{room_of, IsKept, IsShareOf, at_home, nothing_stored}
+use Rattle.poolsteps.specs.ShareLaws.{Leaves}
 use Rattle.poolsteps.specs.declared.view.LaneRecord.{LaneRecord}
 use Rattle.poolsteps.specs.declared.view.View.{View}
 use Rattle.poolsteps.specs.Layout.{slot_index}

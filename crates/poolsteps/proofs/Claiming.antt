@@ -1,5 +1,5 @@
 -- CLAIM, through the table.
-use Rattle.placecell.specs.Spot.{Spot as CellSpot}
+use Rattle.poolsteps.specs.Spot.{Spot as CellSpot}
 use Rattle.std.proofs.Common.{◌≡◌, ◌≢◌, ℕ, ◌+◌, ◌<◌, ◌≤◌, Bool, true, false, cond, eqb, List, [], ◌∷◌, ◌++◌, Some, None, refl, ap, sym, ◌∙◌, subst, arith, eq-eqb, ne_eqb, if◌then◌else◌}
 use mathlib.Core.Logic.{dite}
 use native.Mathlib.Decide.{ℕ_discrete}
@@ -18,11 +18,11 @@ use Rattle.seqpool.specs.declared.act.Act.{Act}
 use Rattle.seqpool.specs.declared.act.Act.TheVariants as acts
 use Rattle.seqpool.specs.Pool.{with, retired, Spot, spot, Pool, changed, fresh, pool_after}
 use Rattle.seqpool.proofs.Growth.{pool-snoc, after-here}
-use Rattle.sharelaws.specs.declared.stored.Stored.{Stored}
-use Rattle.sharelaws.specs.declared.stored.Status.TheVariants.{Untouched}
-use Rattle.sharelaws.specs.Shares.{reclaimer, room_of, HasAll, Slots, Shared, restocked}
-use Rattle.sharelaws.proofs.Rooms.{reclaimers-behind, rooms-behind}
-use Rattle.sharelaws.proofs.Reclaiming.{reclaim-share-law}
+use Rattle.poolsteps.specs.declared.view.Stored.{Stored}
+use Rattle.poolsteps.specs.declared.view.Status.TheVariants.{Untouched}
+use Rattle.poolsteps.specs.Shares.{reclaimer, room_of, HasAll, Slots, Shared, restocked}
+use Rattle.poolsteps.proofs.shares.Rooms.{reclaimers-behind, rooms-behind}
+use Rattle.poolsteps.proofs.shares.Reclaiming.{reclaim-share-law}
 use Rattle.steplaws.specs.declared.pending.Pending.{Pending}
 use Rattle.steplaws.specs.declared.pending.Pending.TheVariants.{Nothing, Owes, Returns}
 use Rattle.steplaws.specs.Facts.{Words, Rule, with_under}

@@ -1,12 +1,12 @@
 -- A seat's first lane is dealt out, and the rule goes on; so each lane gets a hand.
-use Rattle.placecell.specs.Spot.{Spot as CellSpot}
+use Rattle.poolsteps.specs.Spot.{Spot as CellSpot}
 use Rattle.std.proofs.Common.{◌≡◌, inl, inr, ⊎_elim, ℕ, zero, suc, ◌+◌, ◌<◌, List, [], ◌∷◌, ◌++◌, length, slice_get, Option, Some, None}
 use Rattle.std.proofs.Common.{refl, ap, sym, ◌∙◌, subst, arith}
 use Rattle.std.proofs.lemmas.List.{length_push}
 use Rattle.atomic_table.specs.declared.shared.Seat.{Seat}
 use Rattle.atomic_table.specs.Table.{Me, Splits}
 use Rattle.keybits.specs.declared.shape.Shape.{Shape}
-use Rattle.placecell.specs.Share.{Share}
+use Rattle.poolsteps.specs.Share.{Share}
 use Rattle.poolsteps.specs.declared.grid.Grid.{Grid}
 use Rattle.poolsteps.specs.declared.view.View.{View}
 use Rattle.poolsteps.specs.Rule.{Kept, first_records, first_view}

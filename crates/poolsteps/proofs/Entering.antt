@@ -1,5 +1,5 @@
 -- ENTER, of a get or of a clear, as a step of the lane's seat.
-use Rattle.placecell.specs.Spot.{Spot as CellSpot}
+use Rattle.poolsteps.specs.Spot.{Spot as CellSpot}
 use Rattle.std.proofs.Common.{◌≡◌, ⊎_elim, ℕ, Bool, List, ◌+◌, ◌%◌, ◌^◌, ◌<◌, true, false, cond, Some, None, refl, sym, ◌∙◌, subst, arith}
 use Rattle.std.proofs.lemmas.Bool.{cases_Bool}
 use Rattle.atomic_table.specs.Table.{Me}
@@ -9,16 +9,16 @@ use Rattle.keybits.specs.Keys.{place_of, is_key}
 use Rattle.keybits.specs.Words.{count_in}
 use Rattle.seqpool.specs.declared.act.Act.TheVariants as acts
 use Rattle.seqpool.specs.Pool.{Phase, with, published, home, retired, Pool, references_in, content_in, is_current, found, pool_after}
-use Rattle.sharelaws.specs.declared.stored.Status.TheVariants.{Untouched}
-use Rattle.sharelaws.proofs.Cases.{untouched-is}
+use Rattle.poolsteps.specs.declared.view.Status.TheVariants.{Untouched}
+use Rattle.poolsteps.proofs.shares.Cases.{untouched-is}
 use Rattle.steplaws.specs.declared.pending.Pending.TheVariants.{Nothing, Undo}
 use Rattle.steplaws.specs.Calls.{is_hit}
-use Rattle.sharelaws.specs.Shares.{reclaimer, MayHave, Slots}
+use Rattle.poolsteps.specs.Shares.{reclaimer, MayHave, Slots}
 use Rattle.steplaws.specs.Facts.{Words, most_references}
 use Rattle.steplaws.specs.StepLaws.{HasUnderWay}
 use Rattle.steplaws.proofs.Enters.{get-hits-law, get-misses-law, clear-hits-law, clear-misses-law}
-use Rattle.poolsteps.specs.declared.plays.Purpose.{Purpose}
-use Rattle.poolsteps.specs.declared.plays.Purpose.TheVariants.{ToGet, ToClear}
+use Rattle.poolsteps.specs.declared.steps.Purpose.{Purpose}
+use Rattle.poolsteps.specs.declared.steps.Purpose.TheVariants.{ToGet, ToClear}
 use Rattle.poolsteps.specs.declared.view.View.{View}
 use Rattle.poolsteps.specs.Rule.{World}
 use Rattle.poolsteps.specs.Views.{the_lane, status_of}

@@ -1,11 +1,11 @@
 -- FOLLOW, through the table.
-use Rattle.placecell.specs.Spot.{Spot as CellSpot}
+use Rattle.poolsteps.specs.Spot.{Spot as CellSpot}
 use Rattle.std.proofs.Common.{◌≡◌, ℕ, ◌∷◌, List, None, refl, sym, ◌∙◌, append-nil}
 use Rattle.atomic_table.specs.Table.{Me}
 use Rattle.keybits.specs.declared.shape.Shape.{Shape}
 use Rattle.keybits.specs.declared.step.Kind.TheVariants as kinds
 use Rattle.keybits.specs.declared.step.Word.TheVariants.{Link}
-use Rattle.sharelaws.specs.Shares.{Slots}
+use Rattle.poolsteps.specs.Shares.{Slots}
 use Rattle.steplaws.specs.Facts.{Words, with_chain}
 use Rattle.steplaws.specs.StepLaws.{moment_after}
 use Rattle.steplaws.proofs.TakeLaws.{follow-law}

@@ -6,10 +6,10 @@ use Rattle.keybits.specs.Places.{shard_of}
 use Rattle.keybits.specs.Links.{linked_place}
 use Rattle.keybits.specs.Words.{claimable}
 use Rattle.seqpool.specs.Pool.{has}
-use Rattle.sharelaws.specs.declared.stored.Stored.{Stored}
-use Rattle.sharelaws.specs.declared.stored.Status.{Status}
-use Rattle.sharelaws.specs.declared.stored.Status.TheVariants.{Emptied, InHand, Whole}
-use Rattle.sharelaws.specs.Shares.{room_of, at_rest}
+use Rattle.poolsteps.specs.declared.view.Stored.{Stored}
+use Rattle.poolsteps.specs.declared.view.Status.{Status}
+use Rattle.poolsteps.specs.declared.view.Status.TheVariants.{Emptied, InHand, Whole}
+use Rattle.poolsteps.specs.Shares.{room_of, at_rest}
 use Rattle.poolsteps.specs.declared.view.LaneRecord.{LaneRecord}
 use Rattle.poolsteps.specs.declared.view.View.{View}
 use Rattle.poolsteps.specs.Views.{head_record, the_lane, status_of, known_of}

@@ -10,7 +10,7 @@ use Rattle.keybits.specs.Keys.{place_of}
 use Rattle.keybits.specs.Words.{generation_in}
 use Rattle.seqpool.specs.Pool.{references, lane_of, fresh, pool_after}
 use Rattle.seqpool.specs.Histories.{acts_of}
-use Rattle.sharelaws.specs.declared.stored.Status.TheVariants.{Untouched}
+use Rattle.poolsteps.specs.declared.view.Status.TheVariants.{Untouched}
 use Rattle.steplaws.specs.declared.pending.Pending.{Pending}
 use Rattle.steplaws.specs.declared.pending.Pending.TheVariants.{Nothing, Undo, Owes}
 use Rattle.steplaws.specs.Calls.{is_hit, owes_claim}

@@ -9,9 +9,9 @@ use Rattle.core.specs.declared.slots.Slots.{Slots}
 use Rattle.core.specs.Mem.Slots.{slots_items, slots_counts}
 use Rattle.keybits.specs.declared.shape.Shape.{Shape}
 use Rattle.keybits.specs.Shapes.{IsShape, is_place}
-use Rattle.placecell.specs.Share.{Share}
-use Rattle.placecell.specs.Spot.{Spot as CellSpot}
-use Rattle.placecell.specs.Rest.{Rest, lowest_share}
+use Rattle.poolsteps.specs.Share.{Share}
+use Rattle.poolsteps.specs.Spot.{Spot as CellSpot}
+use Rattle.poolsteps.specs.Rest.{Rest, lowest_share}
 use Rattle.poolsteps.specs.Layout.{slot_index, slot_count}
 use Rattle.poolsteps.proofs.SlotLemmas.{slot-apart, slot-below}
 use Rattle.poolsteps.specs.Joins.{IsSlotRow, HasAt, IsSet, HasPart, IsSpread, IsUnspread, Drains}

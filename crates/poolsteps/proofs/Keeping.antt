@@ -6,9 +6,9 @@ use Rattle.seqpool.specs.declared.act.Act.{Act}
 use Rattle.seqpool.specs.Pool.{Phase, with, published, home, retired, is_current, references_in, pool_after, IsLegal}
 use Rattle.seqpool.specs.Histories.{acts_of}
 use Rattle.seqpool.proofs.Growth.{acts-append}
-use Rattle.sharelaws.specs.declared.stored.Stored.{Stored}
-use Rattle.sharelaws.specs.Shares.{reclaimer, room_of, MayHave, HasAll, IsKept}
-use Rattle.sharelaws.proofs.Rights.{rights-law}
+use Rattle.poolsteps.specs.declared.view.Stored.{Stored}
+use Rattle.poolsteps.specs.Shares.{reclaimer, room_of, MayHave, HasAll, IsKept}
+use Rattle.poolsteps.proofs.shares.Rights.{rights-law}
 use Rattle.keybits.specs.Counts.{times}
 use Rattle.poolsteps.proofs.Staying.{place-stays}
 use Rattle.poolsteps.specs.declared.view.LaneRecord.{LaneRecord}

@@ -42,3 +42,6 @@ pub mod OwnShares
 pub mod HandSteps
 pub mod HandReturns
 pub mod Joining
+pub mod raw
+pub mod shares
+pub mod own_rows

@@ -1,5 +1,5 @@
 -- LINK, as a step of the lane's seat.
-use Rattle.placecell.specs.Spot.{Spot as CellSpot}
+use Rattle.poolsteps.specs.Spot.{Spot as CellSpot}
 use Rattle.std.proofs.Common.{◌≡◌, ℕ, List, Bool, Option, Some, None, refl, ap, sym, ◌∙◌, subst, append-nil}
 use Rattle.atomic_table.specs.Table.{Me}
 use Rattle.keybits.specs.declared.shape.Shape.{Shape}
@@ -9,7 +9,7 @@ use Rattle.keybits.specs.declared.step.Word.{Word}
 use Rattle.keybits.specs.declared.step.Word.TheVariants.{Link}
 use Rattle.steplaws.specs.declared.pending.Pending.{Pending}
 use Rattle.steplaws.specs.declared.pending.Pending.TheVariants.{Returns}
-use Rattle.sharelaws.specs.Shares.{Slots}
+use Rattle.poolsteps.specs.Shares.{Slots}
 use Rattle.steplaws.specs.Facts.{Words, with_under, value_of}
 use Rattle.steplaws.specs.StepLaws.{HasUnderWay, Keeps}
 use Rattle.steplaws.proofs.LinkLaws.{link-law}

@@ -1,5 +1,5 @@
 -- A step through the table: what has to be shown of it at a moment at which the rule holds.
-use Rattle.placecell.specs.Spot.{Spot as CellSpot}
+use Rattle.poolsteps.specs.Spot.{Spot as CellSpot}
 use Rattle.std.proofs.Common.{◌≡◌, ◌≢◌, ℕ, ◌<◌, true, List, [], ◌∷◌, ◌++◌, slice_index, slice_set, Option, Some, None, refl, sym, subst, append-nil}
 use Rattle.atomic_table.specs.Table as table
 use Rattle.atomic_table.specs.Table.{Me, Allows}
@@ -10,11 +10,11 @@ use Rattle.keybits.specs.declared.step.Word.TheVariants.{Life}
 use Rattle.keybits.specs.Shapes.{is_place}
 use Rattle.seqpool.specs.declared.act.Act.{Act}
 use Rattle.seqpool.specs.declared.act.Act.TheVariants as acts
-use Rattle.placecell.specs.Share.{Share}
-use Rattle.sharelaws.specs.declared.stored.Stored.{Stored}
-use Rattle.sharelaws.specs.Shares.{Slots, Stock, Shared}
-use Rattle.sharelaws.specs.ShareLaws.{IsQuiet}
-use Rattle.sharelaws.proofs.Acting.{acts-share-law}
+use Rattle.poolsteps.specs.Share.{Share}
+use Rattle.poolsteps.specs.declared.view.Stored.{Stored}
+use Rattle.poolsteps.specs.Shares.{Slots, Stock, Shared}
+use Rattle.poolsteps.specs.ShareLaws.{IsQuiet}
+use Rattle.poolsteps.proofs.shares.Acting.{acts-share-law}
 use Rattle.steplaws.specs.declared.pending.Pending.{Pending}
 use Rattle.steplaws.specs.Facts.{Words, Lanes, with_under, Moment, moment, value_of}
 use Rattle.steplaws.specs.StepLaws.{with_act, IsAllowed, Keeps}

@@ -1,11 +1,11 @@
 -- MARK, through the table.
-use Rattle.placecell.specs.Spot.{Spot as CellSpot}
+use Rattle.poolsteps.specs.Spot.{Spot as CellSpot}
 use mathlib.Core.Logic.{dite}
 use native.Mathlib.Decide.{ℕ_discrete}
 use prog.Atomic.{either}
 use Rattle.std.proofs.Common.{◌≡◌, ◌==◌, ◌⊎◌, ℕ, List, ◌+◌, ◌-◌, ◌/◌, ◌*◌, ◌%◌, Bool, true, eqb, Option, Some, refl, ap, sym, ◌∙◌, subst, arith, bit_or, eq-eqb, ne_eqb, slice_index}
 use Rattle.atomic_table.specs.Table.{Me, Allows, stepped}
-use Rattle.placecell.specs.Share.{Share}
+use Rattle.poolsteps.specs.Share.{Share}
 use Rattle.keybits.specs.declared.shape.Shape.{Shape}
 use Rattle.keybits.specs.declared.step.Kind.TheVariants as kinds
 use Rattle.keybits.specs.declared.step.Word.TheVariants.{Life}
@@ -15,7 +15,7 @@ use Rattle.keybits.specs.Words.{state_in}
 use Rattle.keybits.proofs.WordLemmas.{or_two}
 use Rattle.seqpool.specs.declared.act.Act.TheVariants as acts
 use Rattle.steplaws.specs.declared.pending.Pending.TheVariants.{Undo}
-use Rattle.sharelaws.specs.Shares.{Slots}
+use Rattle.poolsteps.specs.Shares.{Slots}
 use Rattle.steplaws.specs.Facts.{Words}
 use Rattle.steplaws.proofs.Marks.{mark-law}
 use Rattle.poolsteps.specs.declared.view.View.{View}

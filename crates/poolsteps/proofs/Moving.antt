@@ -1,5 +1,5 @@
 -- The two looks of a move, through the table: one takes a slot, and one gives it back.
-use Rattle.placecell.specs.Spot.{Spot as CellSpot}
+use Rattle.poolsteps.specs.Spot.{Spot as CellSpot}
 use Rattle.std.proofs.Common.{◌≡◌, ◌≢◌, inl, inr, ⊎_elim, ℕ, ◌<◌, Bool, true, false, cond, eqb, ◌&&◌, List, ◌∷◌, [], length-set, slice_index, slice_set, Option, Some, None, refl, ap, sym, ◌∙◌, subst, eq-eqb, ne_eqb}
 use Rattle.std.proofs.lemmas.Bool.{and_left}
 use mathlib.Core.Logic.{dite}
@@ -11,16 +11,16 @@ use Rattle.atomic_table.specs.Table.{Me, put_back, rest, Allows}
 use Rattle.keybits.specs.declared.shape.Shape.{Shape}
 use Rattle.keybits.specs.Shapes.{is_place}
 use Rattle.seqpool.specs.Pool.{Phase, pool_after}
-use Rattle.placecell.specs.Share.{Share}
+use Rattle.poolsteps.specs.Share.{Share}
 use Rattle.steplaws.specs.Facts.{is_home}
-use Rattle.sharelaws.specs.declared.stored.Stored.{Stored}
-use Rattle.sharelaws.specs.declared.stored.Status.{Status}
-use Rattle.sharelaws.specs.declared.stored.Status.TheVariants.{Untouched, Emptied, InHand, Whole}
-use Rattle.sharelaws.specs.Shares.{reclaimer, Slots, Stock, at_home, StandsAs, Shared, moved}
-use Rattle.sharelaws.specs.ShareLaws.{Leaves, MayMove}
-use Rattle.sharelaws.proofs.Cases.{untouched-is}
-use Rattle.sharelaws.proofs.Holders.{one-holder, may-away}
-use Rattle.sharelaws.proofs.Moving.{move-law}
+use Rattle.poolsteps.specs.declared.view.Stored.{Stored}
+use Rattle.poolsteps.specs.declared.view.Status.{Status}
+use Rattle.poolsteps.specs.declared.view.Status.TheVariants.{Untouched, Emptied, InHand, Whole}
+use Rattle.poolsteps.specs.Shares.{reclaimer, Slots, Stock, at_home, StandsAs, Shared, moved}
+use Rattle.poolsteps.specs.ShareLaws.{Leaves, MayMove}
+use Rattle.poolsteps.proofs.shares.Cases.{untouched-is}
+use Rattle.poolsteps.proofs.shares.Holders.{one-holder, may-away}
+use Rattle.poolsteps.proofs.shares.Moving.{move-law}
 use Rattle.poolsteps.specs.declared.view.LaneRecord.{LaneRecord}
 use Rattle.poolsteps.specs.declared.view.View.{View}
 use Rattle.poolsteps.specs.Layout.{slot_count, slot_index, slots_in}

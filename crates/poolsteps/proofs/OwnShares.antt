@@ -3,13 +3,13 @@ use Rattle.std.proofs.Common.{◌≡◌, inl, ℕ, Bool, ◌==◌, ◌&&◌, tru
 use Rattle.atomic_table.specs.Table.{Me}
 use Rattle.keybits.specs.declared.shape.Shape.{Shape}
 use Rattle.seqpool.specs.Pool.{pool_after}
-use Rattle.placecell.specs.Share.{Share}
-use Rattle.placecell.specs.Spot.{Spot as CellSpot}
-use Rattle.sharelaws.specs.declared.stored.Status.{Status}
-use Rattle.sharelaws.specs.declared.stored.Status.TheVariants.{InHand}
-use Rattle.sharelaws.specs.declared.stored.Stored.{Stored}
-use Rattle.sharelaws.specs.Shares.{reclaimer, room_of}
-use Rattle.sharelaws.proofs.Holders.{all-may}
+use Rattle.poolsteps.specs.Share.{Share}
+use Rattle.poolsteps.specs.Spot.{Spot as CellSpot}
+use Rattle.poolsteps.specs.declared.view.Status.{Status}
+use Rattle.poolsteps.specs.declared.view.Status.TheVariants.{InHand}
+use Rattle.poolsteps.specs.declared.view.Stored.{Stored}
+use Rattle.poolsteps.specs.Shares.{reclaimer, room_of}
+use Rattle.poolsteps.proofs.shares.Holders.{all-may}
 use Rattle.poolsteps.specs.declared.view.LaneRecord.{LaneRecord}
 use Rattle.poolsteps.specs.declared.view.View.{View}
 use Rattle.poolsteps.specs.declared.view.Deed.TheVariants.{Left}

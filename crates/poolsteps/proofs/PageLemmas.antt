@@ -10,7 +10,7 @@ use Rattle.keybits.specs.Shapes.{page_size, is_place}
 use Rattle.keybits.specs.declared.step.Word.TheVariants.{Life}
 use Rattle.keybits.proofs.ShapeLemmas.{is_place-parts, is_place-from_parts}
 use Rattle.poolsteps.specs.declared.layout.PageRow.{PageRow}
-use Rattle.poolsteps.specs.declared.layout.TheConstants.{LIVES_START}
+use Rattle.poolsteps.specs.declared.find.TheConstants.{LIVES_START}
 use Rattle.poolsteps.specs.declared.grid.Spot.{Spot}
 use Rattle.poolsteps.specs.Grids.{IsSpot}
 use Rattle.poolsteps.specs.Layout.{index_in, slot_start, page_row, page_rows}

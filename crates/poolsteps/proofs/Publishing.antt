@@ -1,5 +1,5 @@
 -- PUBLISH, through the table.
-use Rattle.placecell.specs.Spot.{Spot as CellSpot}
+use Rattle.poolsteps.specs.Spot.{Spot as CellSpot}
 use Rattle.std.proofs.Common.{◌≡◌, ◌≢◌, ◌⊎◌, inl, inr, ⊎_elim, ℕ, ◌+◌, ◌%◌, ◌^◌, ◌<◌, Bool, true, false, cond, eqb, ◌&&◌, List, [], ◌∷◌, ◌++◌, Some, refl, ap, sym, ◌∙◌, subst, arith, eq-eqb, ne_eqb, if◌then◌else◌}
 use Rattle.atomic_table.specs.Table.{Me}
 use Rattle.keybits.specs.declared.shape.Shape.{Shape}
@@ -11,12 +11,12 @@ use Rattle.keybits.specs.Words.{state_in, count_in}
 use Rattle.seqpool.specs.declared.act.Act.{Act}
 use Rattle.seqpool.specs.declared.act.Act.TheVariants as acts
 use Rattle.seqpool.specs.Pool.{with, pool_after, IsLegal}
-use Rattle.sharelaws.specs.declared.stored.Stored.{Stored}
-use Rattle.sharelaws.specs.declared.stored.Status.{Status}
-use Rattle.sharelaws.specs.declared.stored.Status.TheVariants.{Emptied, InHand}
-use Rattle.sharelaws.specs.Shares.{reclaimer, HasAll, Slots, Shared, with_known, restocked}
-use Rattle.sharelaws.specs.ShareLaws.{MayRestock}
-use Rattle.sharelaws.proofs.Publishing.{publish-share-law}
+use Rattle.poolsteps.specs.declared.view.Stored.{Stored}
+use Rattle.poolsteps.specs.declared.view.Status.{Status}
+use Rattle.poolsteps.specs.declared.view.Status.TheVariants.{Emptied, InHand}
+use Rattle.poolsteps.specs.Shares.{reclaimer, HasAll, Slots, Shared, with_known, restocked}
+use Rattle.poolsteps.specs.ShareLaws.{MayRestock}
+use Rattle.poolsteps.proofs.shares.Publishing.{publish-share-law}
 use Rattle.steplaws.specs.declared.pending.Pending.TheVariants.{Nothing}
 use Rattle.steplaws.specs.Facts.{Words, Rule}
 use Rattle.steplaws.specs.StepLaws.{HasUnderWay, IsFilling}

@@ -1,5 +1,5 @@
 -- PUSH, as a step of the lane's seat.
-use Rattle.placecell.specs.Spot.{Spot as CellSpot}
+use Rattle.poolsteps.specs.Spot.{Spot as CellSpot}
 use Rattle.std.proofs.Common.{◌≡◌, ◌≢◌, ⊎_elim, ℕ, Bool, true, false, ◌<◌, ◌≤◌, cond, eqb, nat_lt, List, [], ◌∷◌, ◌++◌, Some, None, refl, ap, sym, ◌∙◌, subst, eq-eqb, ne_eqb, lt-ltb}
 use Rattle.std.proofs.lemmas.Bool.{and_from}
 use mathlib.Core.Logic.{dite}
@@ -17,10 +17,10 @@ use Rattle.keybits.proofs.ShapeLemmas.{is_place-parts}
 use Rattle.seqpool.specs.declared.act.Act.{Act}
 use Rattle.seqpool.specs.declared.act.Act.TheVariants as acts
 use Rattle.seqpool.specs.Pool.{with, pool_after, IsLegal}
-use Rattle.sharelaws.specs.declared.stored.Stored.{Stored}
-use Rattle.sharelaws.specs.Shares.{Slots, Shared, room_of, after_home}
-use Rattle.sharelaws.proofs.Resting.{home-share-law}
-use Rattle.sharelaws.proofs.Rights.{rights-law}
+use Rattle.poolsteps.specs.declared.view.Stored.{Stored}
+use Rattle.poolsteps.specs.Shares.{Slots, Shared, room_of, after_home}
+use Rattle.poolsteps.proofs.shares.Resting.{home-share-law}
+use Rattle.poolsteps.proofs.shares.Rights.{rights-law}
 use Rattle.steplaws.specs.declared.pending.Pending.TheVariants.{Nothing, Returns}
 use Rattle.steplaws.specs.Facts.{Words, with_under, with_pushed}
 use Rattle.steplaws.specs.StepLaws.{IsAllowed, HasUnderWay, Keeps}

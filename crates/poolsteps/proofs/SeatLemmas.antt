@@ -1,5 +1,5 @@
 -- One lane's seat steps: the table's rule goes on, and what the seat is told.
-use Rattle.placecell.specs.Spot.{Spot as CellSpot}
+use Rattle.poolsteps.specs.Spot.{Spot as CellSpot}
 use Rattle.std.proofs.Common.{◌≡◌, ◌≢◌, inl, ⊎_elim, ℕ, zero, suc, ◌+◌, ◌<◌, true, cond, eqb, List, [], ◌∷◌, ◌++◌, length, length-append, length-set, take, drop, take-append-drop, Option, Some, None, slice_index, slice_index_or, slice_set, refl, ap, sym, ◌∙◌, subst, arith, append-nil}
 use Rattle.std.specs.List.{All}
 use Rattle.std.proofs.lemmas.List.{length-take-le}
@@ -18,8 +18,8 @@ use Rattle.seqpool.specs.declared.act.Act.{Act}
 use Rattle.seqpool.specs.Pool.{lane_of, fresh, IsLegal}
 use Rattle.seqpool.specs.Histories.{acts_of}
 use Rattle.seqpool.proofs.Growth.{legal-front, acts-mine, acts-others}
-use Rattle.placecell.specs.Share.{Share}
-use Rattle.sharelaws.specs.Shares.{Slots, Stock, Shared}
+use Rattle.poolsteps.specs.Share.{Share}
+use Rattle.poolsteps.specs.Shares.{Slots, Stock, Shared}
 use Rattle.steplaws.specs.Facts.{Words, Lanes, moment, Rule}
 use Rattle.steplaws.specs.StepLaws.{with_act, Keeps}
 use Rattle.poolsteps.specs.declared.view.LaneRecord.{LaneRecord}

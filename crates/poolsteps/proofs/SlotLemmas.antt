@@ -9,9 +9,9 @@ use Rattle.keybits.specs.declared.shape.Shape.{Shape}
 use Rattle.keybits.specs.Places.{shard_of}
 use Rattle.keybits.specs.Shapes.{IsShape, is_place, shard_places, index_of}
 use Rattle.keybits.proofs.ShapeLemmas.{is_place-parts, index_of-lt, index_of-injective, position_of-lt}
-use Rattle.placecell.specs.Share.{Share}
-use Rattle.sharelaws.specs.Shares.{with_slot}
-use Rattle.sharelaws.proofs.Cases.{each-slot}
+use Rattle.poolsteps.specs.Share.{Share}
+use Rattle.poolsteps.specs.Shares.{with_slot}
+use Rattle.poolsteps.proofs.shares.Cases.{each-slot}
 use Rattle.poolsteps.specs.declared.layout.TheConstants.{SHARDS_APART}
 use Rattle.poolsteps.specs.Layout.{slot_start, slot_row, slot_count, slot_index, slots_in}
 

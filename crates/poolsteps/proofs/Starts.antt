@@ -1,5 +1,5 @@
 -- What holds of the table at its start.
-use Rattle.placecell.specs.Spot.{Spot as CellSpot}
+use Rattle.poolsteps.specs.Spot.{Spot as CellSpot}
 use Rattle.std.proofs.Common.{◌≡◌, ⊎_elim, ℕ, zero, suc, ◌+◌, ◌^◌, ◌<◌, ◌≤◌, Bool, cond, List, [], ◌∷◌, map, length, Option, refl, ap, sym, ◌∙◌, subst, arith, eq-eqb, ne_eqb}
 use Rattle.std.proofs.lemmas.List.Elements.{All-nil}
 use mathlib.Core.Logic.{dite}
@@ -9,9 +9,9 @@ use lib.ListN.{get_elem?}
 use Rattle.atomic_table.specs.Table.{opening}
 use Rattle.keybits.specs.declared.shape.Shape.{Shape}
 use Rattle.keybits.specs.Shapes.{IsShape}
-use Rattle.placecell.specs.Share.{Share}
-use Rattle.sharelaws.specs.Shares.{first_stock}
-use Rattle.sharelaws.proofs.Starting.{first-share-law}
+use Rattle.poolsteps.specs.Share.{Share}
+use Rattle.poolsteps.specs.Shares.{first_stock}
+use Rattle.poolsteps.proofs.shares.Starting.{first-share-law}
 use Rattle.steplaws.specs.MomentLaws.{AreFirst, first_lanes}
 use Rattle.steplaws.proofs.Starts.{start-law}
 use Rattle.poolsteps.specs.declared.view.LaneRecord.{LaneRecord}

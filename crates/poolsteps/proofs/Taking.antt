@@ -1,5 +1,5 @@
 -- TAKE, through the table.
-use Rattle.placecell.specs.Spot.{Spot as CellSpot}
+use Rattle.poolsteps.specs.Spot.{Spot as CellSpot}
 use Rattle.std.proofs.Common.{◌≡◌, ◌≢◌, ℕ, ◌<◌, ◌≤◌, true, List, [], ◌∷◌, ◌++◌, length, Some, None, refl, sym, ap, ◌∙◌, subst, arith, append-nil}
 use mathlib.Core.Logic.{dite}
 use native.Mathlib.Decide.{ℕ_discrete}
@@ -12,10 +12,10 @@ use Rattle.seqpool.specs.declared.act.Act.{Act}
 use Rattle.seqpool.specs.declared.act.Act.TheVariants as acts
 use Rattle.seqpool.specs.Pool.{with, Spot, Pool, has, fresh, pool_after}
 use Rattle.seqpool.proofs.Growth.{pool-snoc, after-here}
-use Rattle.sharelaws.specs.declared.stored.Stored.{Stored}
-use Rattle.sharelaws.specs.Shares.{Slots, room_of, after_collect}
-use Rattle.sharelaws.proofs.Resting.{collect-share-law}
-use Rattle.sharelaws.proofs.Rooms.{rooms-behind}
+use Rattle.poolsteps.specs.declared.view.Stored.{Stored}
+use Rattle.poolsteps.specs.Shares.{Slots, room_of, after_collect}
+use Rattle.poolsteps.proofs.shares.Resting.{collect-share-law}
+use Rattle.poolsteps.proofs.shares.Rooms.{rooms-behind}
 use Rattle.steplaws.specs.Facts.{Words, with_chain}
 use Rattle.steplaws.specs.StepLaws.{moment_after}
 use Rattle.steplaws.proofs.Counts.{returner-law}

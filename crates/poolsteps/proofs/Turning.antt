@@ -1,14 +1,14 @@
 -- The slots that a seat has in hand: the first is exchanged and goes behind the others, one after another, until all are.
-use Rattle.placecell.specs.Spot.{Spot as CellSpot}
+use Rattle.poolsteps.specs.Spot.{Spot as CellSpot}
 use Rattle.std.proofs.Common.{◌≡◌, ℕ, zero, suc, ◌+◌, ◌-◌, ◌<◌, List, [], ◌∷◌, ◌++◌, Option, Some, refl, ap, sym, ◌∙◌, subst, arith, append_assoc, append-nil}
 use Rattle.atomic_table.specs.Table.{rest}
 use Rattle.keybits.specs.declared.shape.Shape.{Shape}
 use Rattle.poolsteps.specs.Layout.{slot_index}
-use Rattle.placecell.specs.Share.{Share, share_of}
-use Rattle.placecell.specs.Rest.{Rest}
-use Rattle.sharelaws.specs.declared.stored.Stored.{Stored}
-use Rattle.sharelaws.specs.declared.stored.Status.TheVariants.{Untouched}
-use Rattle.sharelaws.specs.Shares.{IsShareOf}
+use Rattle.poolsteps.specs.Share.{Share, share_of}
+use Rattle.poolsteps.specs.Rest.{Rest}
+use Rattle.poolsteps.specs.declared.view.Stored.{Stored}
+use Rattle.poolsteps.specs.declared.view.Status.TheVariants.{Untouched}
+use Rattle.poolsteps.specs.Shares.{IsShareOf}
 use Rattle.poolsteps.specs.Batches.{held_of, IsOrder, AreLeft, AreOf}
 use Rattle.poolsteps.proofs.Carrying.{first_value}
 

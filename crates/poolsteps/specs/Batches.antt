@@ -1,15 +1,15 @@
 -- What it is to move the shares of a place from all its slots or into them, between one look and another.
-use Rattle.placecell.specs.Spot.{Spot as CellSpot}
+use Rattle.poolsteps.specs.Spot.{Spot as CellSpot}
 use Rattle.std.specs.Prelude.{◌≡◌, ◌≢◌, ℕ, zero, suc, ◌+◌, ◌<◌, List, [], ◌∷◌, Option}
 use Rattle.atomic_table.specs.Table.{Me}
 use Rattle.keybits.specs.declared.shape.Shape.{Shape}
-use Rattle.placecell.specs.Share.{Share}
-use Rattle.placecell.specs.Rest.{Rest, lowest_share}
-use Rattle.sharelaws.specs.declared.stored.Stored.{Stored}
-use Rattle.sharelaws.specs.declared.stored.Status.{Status}
-use Rattle.sharelaws.specs.declared.stored.Status.TheVariants.{Untouched, Emptied, InHand}
-use Rattle.sharelaws.specs.Shares.{at_home}
-use Rattle.sharelaws.specs.ShareLaws.{Leaves}
+use Rattle.poolsteps.specs.Share.{Share}
+use Rattle.poolsteps.specs.Rest.{Rest, lowest_share}
+use Rattle.poolsteps.specs.declared.view.Stored.{Stored}
+use Rattle.poolsteps.specs.declared.view.Status.{Status}
+use Rattle.poolsteps.specs.declared.view.Status.TheVariants.{Untouched, Emptied, InHand}
+use Rattle.poolsteps.specs.Shares.{at_home}
+use Rattle.poolsteps.specs.ShareLaws.{Leaves}
 use Rattle.poolsteps.specs.declared.view.LaneRecord.{LaneRecord}
 use Rattle.poolsteps.specs.declared.view.View.{View}
 use Rattle.poolsteps.specs.Layout.{slot_index}

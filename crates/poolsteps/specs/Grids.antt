@@ -2,7 +2,7 @@
 use mathlib.Core.List.{IsPrefix}
 use mathlib.Core.Option as maybe
 use lib.ListN.{get_elem?}
-use Rattle.placecell.specs.Share.{Share}
+use Rattle.poolsteps.specs.Share.{Share}
 use Rattle.poolsteps.specs.Rule.{World, IsRecord, Stands}
 use Rattle.std.specs.Prelude.{◌≡◌, ◌<◌, ℕ, true, List, [], ◌∷◌, length, slice_get, Option, Some}
 use Rattle.atomic_table.specs.declared.shared.Seat.{Seat}

@@ -3,18 +3,19 @@ use Rattle.std.specs.Prelude.{◌&&◌, ℕ, zero, suc, ◌+◌, ◌*◌, ◌%�
 use mathlib.Core.Option as maybe
 use lib.ListN.{get_elem?}
 use denote.RawPtr.{Ptr}
-use Rattle.placecell.specs.Spot.{Spot as CellSpot}
+use Rattle.poolsteps.specs.Spot.{Spot as CellSpot}
 use Rattle.keybits.specs.declared.place.TheConstants.{PAGE_NUMBERS}
 use Rattle.keybits.specs.declared.shape.Shape.{Shape}
 use Rattle.keybits.specs.declared.step.Word.{Word}
 use Rattle.keybits.specs.declared.step.Word.TheVariants.{Life, Link, Stack}
 use Rattle.keybits.specs.Places.{shard_of}
 use Rattle.keybits.specs.Shapes.{page_size, shard_places, all_places, position_of, is_place}
-use Rattle.placecell.specs.Share.{Share}
-use Rattle.sharelaws.specs.Shares.{Slots}
+use Rattle.poolsteps.specs.Share.{Share}
+use Rattle.poolsteps.specs.Shares.{Slots}
 use Rattle.steplaws.specs.Facts.{Words}
 use Rattle.poolsteps.specs.declared.layout.PageRow.{PageRow}
-use Rattle.poolsteps.specs.declared.layout.TheConstants.{WORDS_APART, SHARDS_APART, LIVES_START, SHARD_PAGES}
+use Rattle.poolsteps.specs.declared.layout.TheConstants.{SHARDS_APART, SHARD_PAGES}
+use Rattle.poolsteps.specs.declared.find.TheConstants.{WORDS_APART, LIVES_START}
 
 -- a word of the lane's own, which no step changes
 abbrev pub look_word : ℕ → ℕ

@@ -1,15 +1,15 @@
 -- What the moves of shares ask, and what they tell.
-use Rattle.placecell.specs.Spot.{Spot as CellSpot}
+use Rattle.poolsteps.specs.Spot.{Spot as CellSpot}
 use Rattle.std.specs.Prelude.{◌≡◌, ◌≢◌, ◌⊎◌, ℕ, ◌+◌, ◌<◌, List, [], ◌∷◌, Option}
 use Rattle.atomic_table.specs.Table.{Me, rest}
 use Rattle.keybits.specs.declared.shape.Shape.{Shape}
 use Rattle.seqpool.specs.Pool.{pool_after}
-use Rattle.placecell.specs.Share.{Share}
-use Rattle.sharelaws.specs.declared.stored.Stored.{Stored}
-use Rattle.sharelaws.specs.declared.stored.Status.{Status}
-use Rattle.sharelaws.specs.declared.stored.Status.TheVariants.{Untouched, Emptied, InHand, Whole}
-use Rattle.sharelaws.specs.Shares.{room_of, IsKept, IsShareOf, at_home}
-use Rattle.sharelaws.specs.ShareLaws.{Leaves}
+use Rattle.poolsteps.specs.Share.{Share}
+use Rattle.poolsteps.specs.declared.view.Stored.{Stored}
+use Rattle.poolsteps.specs.declared.view.Status.{Status}
+use Rattle.poolsteps.specs.declared.view.Status.TheVariants.{Untouched, Emptied, InHand, Whole}
+use Rattle.poolsteps.specs.Shares.{room_of, IsKept, IsShareOf, at_home}
+use Rattle.poolsteps.specs.ShareLaws.{Leaves}
 use Rattle.poolsteps.specs.declared.view.Deed.TheVariants.{Left}
 use Rattle.poolsteps.specs.declared.view.LaneRecord.{LaneRecord}
 use Rattle.poolsteps.specs.declared.view.View.{View}

@@ -11,8 +11,8 @@ use Rattle.keybits.specs.Links.{link_to, linked_place}
 use Rattle.seqpool.specs.declared.act.Act.{Act}
 use Rattle.seqpool.specs.declared.act.Act.TheVariants as acts
 use Rattle.seqpool.specs.Pool.{has}
-use Rattle.sharelaws.specs.declared.stored.Stored.{Stored}
-use Rattle.sharelaws.specs.Shares.{room_of, at_rest}
+use Rattle.poolsteps.specs.declared.view.Stored.{Stored}
+use Rattle.poolsteps.specs.Shares.{room_of, at_rest}
 use Rattle.steplaws.specs.declared.pending.Pending.{Pending}
 use Rattle.steplaws.specs.declared.pending.Pending.TheVariants.{Nothing, Undo, Owes, Returns}
 use Rattle.steplaws.specs.Facts.{home_in, returner}

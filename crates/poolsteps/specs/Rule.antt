@@ -1,5 +1,5 @@
 -- What holds of a table between any two steps.
-use Rattle.placecell.specs.Spot.{Spot as CellSpot}
+use Rattle.poolsteps.specs.Spot.{Spot as CellSpot}
 use Rattle.std.specs.Prelude.{◌≡◌, ℕ, ◌<◌, ◌≤◌, zero, suc, ◌+◌, List, [], ◌∷◌, length, Option}
 use Rattle.std.specs.List.{All}
 use mathlib.Core.Option as maybe
@@ -11,8 +11,8 @@ use Rattle.keybits.specs.declared.shape.Shape.{Shape}
 use Rattle.seqpool.specs.declared.act.Act.{Act}
 use Rattle.seqpool.specs.Histories.{acts_of}
 use Rattle.steplaws.specs.Facts.{Lanes, moment, Rule}
-use Rattle.placecell.specs.Share.{Share}
-use Rattle.sharelaws.specs.Shares.{Stock, Shared}
+use Rattle.poolsteps.specs.Share.{Share}
+use Rattle.poolsteps.specs.Shares.{Stock, Shared}
 use Rattle.poolsteps.specs.declared.view.LaneRecord.{LaneRecord}
 use Rattle.poolsteps.specs.declared.view.Heard.{Heard}
 use Rattle.poolsteps.specs.declared.view.View.{View}

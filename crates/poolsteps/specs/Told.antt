@@ -14,15 +14,15 @@ use Rattle.seqpool.specs.declared.act.Act.{Act}
 use Rattle.seqpool.specs.declared.act.Act.TheVariants as acts
 use Rattle.seqpool.specs.Pool.{with, references, references_in, is_marked, is_current, pool_after, IsLegal}
 use Rattle.seqpool.specs.Histories.{acts_of}
-use Rattle.sharelaws.specs.declared.stored.Stored.{Stored}
-use Rattle.sharelaws.specs.declared.stored.Status.TheVariants.{Untouched, Emptied, InHand}
-use Rattle.sharelaws.specs.Shares.{reclaimer, room_of, MayHave, HasAll}
+use Rattle.poolsteps.specs.declared.view.Stored.{Stored}
+use Rattle.poolsteps.specs.declared.view.Status.TheVariants.{Untouched, Emptied, InHand}
+use Rattle.poolsteps.specs.Shares.{reclaimer, room_of, MayHave, HasAll}
 use Rattle.steplaws.specs.declared.pending.Pending.{Pending}
 use Rattle.steplaws.specs.declared.pending.Pending.TheVariants.{Nothing, Undo, Owes, Returns}
 use Rattle.steplaws.specs.Calls.{is_hit}
 use Rattle.steplaws.specs.StepLaws.{owed_after, reclaim}
-use Rattle.poolsteps.specs.declared.plays.Purpose.{Purpose}
-use Rattle.poolsteps.specs.declared.plays.Purpose.TheVariants.{ToGet, ToClear}
+use Rattle.poolsteps.specs.declared.steps.Purpose.{Purpose}
+use Rattle.poolsteps.specs.declared.steps.Purpose.TheVariants.{ToGet, ToClear}
 use Rattle.poolsteps.specs.declared.view.LaneRecord.{LaneRecord}
 use Rattle.poolsteps.specs.declared.view.View.{View}
 use Rattle.poolsteps.specs.Views.{the_lane, status_of, known_of, acts_in, rooms_in, after_step, with_cell}

@@ -3,7 +3,7 @@ use Rattle.std.specs.Prelude.{◌≡◌, ◌==◌, ℕ, ◌+◌, ◌-◌, ◌<�
 use mathlib.Core.List.{IsPrefix}
 use Rattle.keybits.specs.declared.shape.Shape.{Shape}
 use Rattle.keybits.specs.Keys.{place_of}
-use Rattle.sharelaws.specs.Shares.{room_of}
+use Rattle.poolsteps.specs.Shares.{room_of}
 use Rattle.seqpool.specs.declared.act.Act.{Act}
 use Rattle.seqpool.specs.declared.act.Act.TheVariants.{Publish, Get, Release, Clear, Reclaim, Home, Collect}
 use Rattle.seqpool.specs.Pool.{IsLegal}

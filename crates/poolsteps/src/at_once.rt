@@ -7,12 +7,36 @@ ghost use Rattle.poolsteps.specs.Grids.{IsSpot, IsOf, SameSeat};
 ghost use Rattle.poolsteps.specs.Told.{IsIdle};
 ghost use Rattle.poolsteps.specs.AtOnce.{Sweeps, Strikes};
 
+use crate::find::LIVES_START;
 use crate::grid::{Grid, Hand, Spot};
-use crate::layout::LIVES_START;
-use crate::plays::{Aim, Strike, Sweep};
+use crate::steps::Aim;
+use crate::view::View;
+use atomic_table::Play;
 use keybits::{MARK_BIT, claimable, claimed, generation_of};
 use slotcell::Clear;
-use std::marker::Brand;
+use std::marker::{Brand, PhantomData};
+
+/// SWEEP.
+pub(crate) struct Sweep<J: Aim> {
+    of: PhantomData<J>,
+}
+
+impl<S, J: Aim> Play<S, View> for Sweep<J> {
+    ghost use Rattle.poolsteps.specs.AtOnce.{Sweeps};
+
+    ghost then = { λ step before found after. Sweeps J.shape J.key before found after };
+}
+
+/// STRIKE from an expected word.
+pub(crate) struct Strike<J: Aim> {
+    of: PhantomData<J>,
+}
+
+impl<S, J: Aim> Play<S, View> for Strike<J> {
+    ghost use Rattle.poolsteps.specs.AtOnce.{Strikes};
+
+    ghost then = { λ step before found after. Strikes J.shape J.key step.first before found after };
+}
 
 impl<T: Clear> Grid<T> {
     /// SWEEP: where a key is published and unmarked and nobody refers to it, the ENTER, MARK, LEAVE and CLAIM of its

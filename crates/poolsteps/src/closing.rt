@@ -1,15 +1,15 @@
 //! How the cell of a place is dropped at a close.
 ghost use Rattle.std.specs.Prelude.{◌≡◌, ◌<◌, ◌⊎◌, true, Some, None, IsSome, IfSome, slice_get};
-ghost use Rattle.core.specs.Mem.Slots.{slots_items, slots_len, IsFull};
+ghost use Rattle.core.specs.Mem.Slots.{slots_items, IsFull};
 ghost use Rattle.keybits.specs.Shapes.{IsShape, is_place, position_of};
 ghost use Rattle.keybits.specs.Words.{state_in};
 ghost use Rattle.poolsteps.specs.Layout.{spots_at};
 ghost use Rattle.poolsteps.specs.Joins.{IsSlotRow, HasAt, IsSet, IsSpread, IsResting, HasCell, IsUnspread, IsUnrested, HasNoCell, Drains};
 
+use crate::cells::{Base, Rest, Share, Slot, Vacancy};
 use crate::layout::{slot_at, slot_start};
 use core::slots::Slots;
 use keybits::{Life, Shape, State, shard_of};
-use placecell::{Base, Rest, Share, Slot, Vacancy};
 use std::alloc::Global;
 
 /// The share in the slot at this index, which is then empty.

@@ -5,14 +5,25 @@ ghost use Rattle.keybits.specs.Shapes.{IsShape};
 ghost use Rattle.keybits.specs.SameShapes.{IsShape-prop};
 ghost use Rattle.poolsteps.specs.Layout.{word_count, page_count, page_rows, slot_count, slot_row, links_start};
 
+use crate::cells::{Address, Base, Slot};
 use crate::layout::PageRow;
-use crate::plays::PoolRule;
 use crate::view::View;
-use atomic_table::{Seat, Table};
+use atomic_table::{Seat, Table, TableRule};
 use keybits::Shape;
-use placecell::{Address, Base, Slot};
 use slotcell::Clear;
 use std::alloc::Global;
+
+/// The rule of a pool's table.
+pub struct PoolRule;
+
+impl<T: Clear> TableRule<Slot<T>, View, Board> for PoolRule {
+    ghost use Rattle.poolsteps.specs.Rule.{Kept, first_view};
+    ghost use Rattle.poolsteps.specs.Layout.{spots_at};
+
+    ghost holds = { λ board. Kept T.content T.room (spots_at board.directory.at board.shape) board.shape };
+
+    ghost first = { λ board. first_view board.shape };
+}
 
 /// A lane's seat at the table of its pool.
 pub type Hand<T> = Seat<Slot<T>, View>;

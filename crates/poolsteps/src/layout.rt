@@ -2,27 +2,22 @@
 //! lanes change by themselves stand 128 bytes apart, as a processor may fetch two lines of 64 together, and so do the
 //! words of neighbouring shards. No step changes the first words: the very first is read where seats are cut and
 //! joined, and behind it each lane has one that it looks at.
-ghost use Rattle.std.specs.Prelude.{◌≡◌, ◌<◌, ℕ, true, None, List, Option, length, slice_get, Some, IfSome};
+ghost use Rattle.std.specs.Prelude.{◌≡◌, ◌<◌, ℕ, true, None, Option, length, slice_get, Some, IfSome};
 ghost use Rattle.keybits.specs.Shapes.{IsShape, position_of, is_place};
 ghost use Rattle.keybits.specs.Places.{shard_of};
 ghost use Rattle.keybits.specs.declared.step.Word.TheVariants as words;
-ghost use Rattle.placecell.specs.Share.{Share};
-ghost use Rattle.poolsteps.specs.Layout.{index_in, look_word, links_start, word_count, words_in, page_count, page_row, page_rows, slot_start, slot_row, slot_count, slot_index, shard_start};
+ghost use Rattle.poolsteps.specs.Share.{Share};
+ghost use Rattle.poolsteps.specs.Layout.{index_in, links_start, word_count, words_in, page_count, page_row, page_rows, slot_start, slot_row, slot_count, slot_index, shard_start};
 ghost use Rattle.steplaws.specs.MomentLaws.{AreFirst};
 
-use keybits::{Life, MOST_LANES, PAGE_NUMBERS, SHARD_NUMBERS, Shape, State, shard_of};
-use placecell::Slot;
+use crate::cells::Slot;
+use crate::find::{LIVES_START, WORDS_APART};
+use keybits::{Life, PAGE_NUMBERS, SHARD_NUMBERS, Shape, State, shard_of};
 use std::alloc::Global;
-
-/// How many words stand between two that different lanes change by themselves.
-pub(crate) const WORDS_APART: usize = 16;
 
 /// How many places' words stand unused behind those of each shard in a row, so that those of neighbouring shards don't
 /// share two lines of a processor's cache.
 pub const SHARDS_APART: usize = 16;
-
-/// Where the lifecycle words begin: behind the very first word and, as far apart, one for each of the most lanes.
-pub(crate) const LIVES_START: usize = WORDS_APART * (1 + MOST_LANES as usize);
 
 /// How many pages the numbers of a shard's places have room for.
 pub(crate) const SHARD_PAGES: u32 = SHARD_NUMBERS / PAGE_NUMBERS;
@@ -99,14 +94,6 @@ pub fn stack_word(shape: &Shape, shard: u32, lane: u32) -> usize
 {
     let lanes = shape.lanes as usize;
     LIVES_START + 2 * slot_row(shape) + WORDS_APART * (shard as usize * lanes + lane as usize)
-}
-
-/// Where the word stands that a lane looks at.
-pub(crate) fn look_word(lane: u32) -> usize
-    requires { lane < 4294967295 }
-    ensures { result ≡ look_word lane }
-{
-    WORDS_APART * (1 + lane as usize)
 }
 
 /// How long each row is: of words, of the slots of one lane, and of what a lane has of each place.

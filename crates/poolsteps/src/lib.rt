@@ -1,28 +1,43 @@
-//! The atomic steps of a sharded object pool, and the moves of its shares, over the words and the slots of one table:
-//! each is one call that keeps what holds between any two steps. At the end the cells in the slots of a closed pool are
-//! made whole again and dropped.
+//! The table of a sharded object pool: its atomic words, the slots for shares, the cells in which the objects stand. Each step
+//! on a word and each move of shares is one call that keeps what holds between any two steps; who then has which share of which
+//! cell is told by laws. What a lane has of places is here too, and how the cells of a closed pool are dropped.
 #![tactic(auto)]
 
 mod at_once;
-mod batches;
+mod cells;
 mod closing;
+mod directory;
+mod directory_end;
+mod find;
 mod grid;
 mod laws;
 mod layout;
+mod memory;
 mod moves;
 mod notes;
+mod objects;
 mod opening;
-mod plays;
 mod returns;
+mod rows;
+mod share_laws;
 mod steps;
+mod threads;
 mod view;
 
+pub use cells::{Address, Base, Rest, Share, Slot, Vacancy, Whole};
 pub use closing::drop_cell;
-pub use grid::{Board, Grid, Hand, Spot};
+pub use directory::Directory;
+pub use directory_end::close_directory;
+pub use grid::{Board, Grid, Hand, PoolRule, Spot};
 pub use laws::{acts_law, references_law, shares_law};
 pub use layout::{
     PageRow, SHARDS_APART, life_word, link_word, page_rows, shard_start, slot_at, slot_row,
     slot_start, stack_word,
 };
-pub use plays::{PoolRule, Purpose};
-pub use view::{Deed, LaneRecord, View};
+pub use objects::Objects;
+pub use share_laws::{
+    acts_share_law, collect_share_law, first_share_law, held_content_law, home_share_law, move_law,
+    publish_share_law, reclaim_share_law, rights_law, with_law,
+};
+pub use steps::Purpose;
+pub use view::{Deed, LaneRecord, Status, Stored, View};

@@ -9,14 +9,92 @@ ghost use Rattle.poolsteps.specs.Grids.{IsOf, SameSeat, AreHands, EndsWith};
 ghost use Rattle.poolsteps.specs.Told.{Sees};
 ghost use Rattle.poolsteps.specs.Returned.{SeesTold, SeesNoFurther};
 
+use crate::cells::Slot;
+use crate::find::look_word;
 use crate::grid::{Grid, Hand};
-use crate::layout::look_word;
-use crate::plays::{Aim, Gather, Hear, SeeNoFurther, SeeTold, Tell};
-use atomic_table::Closed;
-use placecell::Slot;
+use crate::steps::Aim;
+use crate::view::View;
+use atomic_table::{Closed, Join, Play, Split};
 use slotcell::Clear;
 use std::alloc::Global;
-use std::marker::Brand;
+use std::marker::{Brand, PhantomData};
+
+/// SEE.
+pub(crate) struct See<J: Aim> {
+    of: PhantomData<J>,
+}
+
+impl<S, J: Aim> Play<S, View> for See<J> {
+    ghost use Rattle.poolsteps.specs.Told.{Sees};
+
+    ghost then = { λ step before found after. Sees J.shape before after };
+}
+
+/// SEE, after the seat was told of a history.
+pub(crate) struct SeeTold<J: Aim> {
+    of: PhantomData<J>,
+}
+
+impl<S, J: Aim> Play<S, View> for SeeTold<J> {
+    ghost use Rattle.poolsteps.specs.Returned.{SeesTold};
+
+    ghost then = { λ step before found after. SeesTold J.shape before after };
+}
+
+/// SEE of the lifecycle word of the place that is the aim's key.
+pub(crate) struct SeeLife<J: Aim> {
+    of: PhantomData<J>,
+}
+
+impl<S, J: Aim> Play<S, View> for SeeLife<J> {
+    ghost use Rattle.poolsteps.specs.Told.{SeesLife};
+
+    ghost then = { λ step before found after. SeesLife J.shape J.key before found after };
+}
+
+/// SEE, after the seat was told of a history, no further than that.
+pub(crate) struct SeeNoFurther<J: Aim> {
+    of: PhantomData<J>,
+}
+
+impl<S, J: Aim> Play<S, View> for SeeNoFurther<J> {
+    ghost use Rattle.poolsteps.specs.Returned.{SeesNoFurther};
+
+    ghost then = { λ step before found after. SeesNoFurther J.shape before after };
+}
+
+/// A note is cut from a seat.
+pub(crate) struct Tell;
+
+impl Split<View> for Tell {
+    ghost use Rattle.poolsteps.specs.Seats.{note_of};
+
+    ghost left = { λ v. v };
+
+    ghost right = { note_of };
+}
+
+/// A seat is told what a note has.
+pub(crate) struct Hear;
+
+impl Join<View> for Hear {
+    ghost use Rattle.poolsteps.specs.Seats.{told_by, spent};
+
+    ghost both = { told_by };
+
+    ghost spent = { spent };
+}
+
+/// The lanes of two seats come to one.
+pub(crate) struct Gather;
+
+impl Join<View> for Gather {
+    ghost use Rattle.poolsteps.specs.Seats.{both_of, spent};
+
+    ghost both = { both_of };
+
+    ghost spent = { spent };
+}
 
 impl<T: Clear> Grid<T> {
     /// A note of all that a lane saw. It costs a load.

@@ -1,22 +1,67 @@
 //! The steps by which a place of another shard is returned and returned places are taken, and the look. Each is one
 //! call of the table.
-ghost use Rattle.std.specs.Prelude.{◌≡◌, ◌≢◌, ◌<◌, ◌∷◌, Some};
+ghost use Rattle.std.specs.Prelude.{◌≡◌, ◌≢◌, ◌<◌, ◌∷◌, Some, Option, ℕ};
 ghost use Rattle.keybits.specs.declared.step.Word.TheVariants as words;
 ghost use Rattle.poolsteps.specs.Layout.{index_in, word_count};
-ghost use Rattle.steplaws.specs.declared.pending.Pending.{Pending};
-ghost use Rattle.std.specs.Prelude.{Option, ℕ};
 ghost use Rattle.poolsteps.specs.Views.{the_lane, IsOne};
 ghost use Rattle.poolsteps.specs.Grids.{IsSpot, IsOf, SameSeat};
 ghost use Rattle.poolsteps.specs.Told.{Sees, SeesLife};
 ghost use Rattle.seqpool.specs.Pool.{pool_after};
 ghost use Rattle.poolsteps.specs.Returned.{Links, Pushes, Takes, Follows, IsToReturn, AimsAt, IsAtRest, rest_of};
 
+use crate::find::{LIVES_START, WORDS_APART, look_word};
 use crate::grid::{Grid, Hand, Spot};
-use crate::layout::{LIVES_START, WORDS_APART, look_word};
-use crate::plays::{Aim, Follow, Link, Push, See, SeeLife, Take};
+use crate::notes::{See, SeeLife};
+use crate::steps::Aim;
+use crate::view::View;
+use atomic_table::Play;
 use keybits::{Life, link_to, shard_of};
 use slotcell::Clear;
-use std::marker::Brand;
+use std::marker::{Brand, PhantomData};
+
+/// LINK.
+pub(crate) struct Link<J: Aim> {
+    of: PhantomData<J>,
+}
+
+impl<S, J: Aim> Play<S, View> for Link<J> {
+    ghost use Rattle.poolsteps.specs.Returned.{Links};
+
+    ghost then = { λ step before stored after. Links J.shape stored before after };
+}
+
+/// PUSH from an expected top.
+pub(crate) struct Push<J: Aim> {
+    of: PhantomData<J>,
+}
+
+impl<S, J: Aim> Play<S, View> for Push<J> {
+    ghost use Rattle.poolsteps.specs.Returned.{Pushes};
+
+    ghost then = { λ step before found after. Pushes J.shape step.first before found after };
+}
+
+/// TAKE of the stack of the lane whose number is the aim's key.
+pub(crate) struct Take<J: Aim> {
+    of: PhantomData<J>,
+}
+
+impl<S, J: Aim> Play<S, View> for Take<J> {
+    ghost use Rattle.poolsteps.specs.Returned.{Takes};
+
+    ghost then = { λ step before found after. Takes J.shape J.key before found after };
+}
+
+/// FOLLOW.
+pub(crate) struct Follow<J: Aim> {
+    of: PhantomData<J>,
+}
+
+impl<S, J: Aim> Play<S, View> for Follow<J> {
+    ghost use Rattle.poolsteps.specs.Returned.{Follows};
+
+    ghost then = { λ step before found after. Follows J.shape before found after };
+}
 
 impl<T: Clear> Grid<T> {
     /// LINK: the link word of a place to return becomes the expected top.

@@ -3,19 +3,129 @@ ghost use Rattle.std.specs.Prelude.{◌≡◌, ◌<◌, true, false};
 ghost use Rattle.keybits.specs.Keys.{place_of, is_key};
 ghost use Rattle.steplaws.specs.declared.pending.Pending.TheVariants.{Undo, Owes};
 ghost use Rattle.steplaws.specs.Facts.{most_references};
-ghost use Rattle.poolsteps.specs.declared.plays.Purpose.TheVariants.{ToGet};
+ghost use Rattle.poolsteps.specs.declared.steps.Purpose.TheVariants.{ToGet};
 ghost use Rattle.poolsteps.specs.Views.{the_lane, known_of, IsOne};
 ghost use Rattle.poolsteps.specs.Grids.{IsSpot, IsOf, SameSeat};
 ghost use Rattle.poolsteps.specs.Told.{Enters, Leaves, Publishes, Marks, MarksFrom, Claims, IsIdle, references_seen, MayLeave, MayPublish, IsShared, MayRenew};
 ghost use Rattle.poolsteps.specs.Moved.{stored_of};
 
+use crate::cells::Share;
+use crate::find::LIVES_START;
 use crate::grid::{Grid, Hand, Spot};
-use crate::layout::LIVES_START;
-use crate::plays::{Aim, Claim, Enter, Leave, Mark, MarkFrom, Publish, Purpose};
+use crate::view::View;
+use atomic_table::Play;
 use keybits::{MARK_BIT, ONE_COUNT, PUBLISHED_BIT, claimable, claimed};
-use placecell::Share;
 use slotcell::Clear;
-use std::marker::Brand;
+use std::marker::{Brand, PhantomData};
+
+/// What an ENTER is for.
+#[derive(Clone, Copy, Debug, PartialEq, Eq)]
+pub enum Purpose {
+    /// A get.
+    ToGet,
+    /// A clear.
+    ToClear,
+}
+
+/// What a step is told by the call that makes it.
+pub(crate) trait Aim {
+    ghost use Rattle.std.specs.Prelude.{ℕ, Bool};
+    ghost use Rattle.keybits.specs.declared.shape.Shape.{Shape};
+    ghost use Rattle.poolsteps.specs.declared.view.Stored.{Stored};
+    ghost use Rattle.poolsteps.specs.declared.steps.Purpose.{Purpose};
+
+    ghost shape: { Shape };
+
+    ghost purpose: { Purpose };
+
+    ghost key: { ℕ };
+
+    ghost stored: { Stored };
+
+    ghost with_ref: { Bool };
+}
+
+impl Aim for Brand {
+    ghost use Rattle.std.specs.Prelude.{false};
+    ghost use Rattle.poolsteps.specs.Shares.{nothing_stored};
+    ghost use Rattle.poolsteps.specs.declared.steps.Purpose.TheVariants.{ToGet};
+
+    ghost shape = { record { lanes = 1; first_page = 1; pages = 1; last_generation = 1; tag = 0 } };
+
+    ghost purpose = { ToGet };
+
+    ghost key = { 0 };
+
+    ghost stored = { nothing_stored };
+
+    ghost with_ref = { false };
+}
+
+/// ENTER.
+pub(crate) struct Enter<J: Aim> {
+    of: PhantomData<J>,
+}
+
+impl<S, J: Aim> Play<S, View> for Enter<J> {
+    ghost use Rattle.poolsteps.specs.Told.{Enters};
+
+    ghost then = { λ step before found after. Enters J.shape J.purpose J.key before found after };
+}
+
+/// LEAVE.
+pub(crate) struct Leave<J: Aim> {
+    of: PhantomData<J>,
+}
+
+impl<S, J: Aim> Play<S, View> for Leave<J> {
+    ghost use Rattle.poolsteps.specs.Told.{Leaves};
+
+    ghost then = { λ step before found after. Leaves J.shape J.key before found after };
+}
+
+/// PUBLISH.
+pub(crate) struct Publish<J: Aim> {
+    of: PhantomData<J>,
+}
+
+impl<S, J: Aim> Play<S, View> for Publish<J> {
+    ghost use Rattle.poolsteps.specs.Told.{Publishes};
+
+    ghost then = { λ step before found after. Publishes J.shape J.key J.stored J.with_ref before found after };
+}
+
+/// MARK.
+pub(crate) struct Mark<J: Aim> {
+    of: PhantomData<J>,
+}
+
+impl<S, J: Aim> Play<S, View> for Mark<J> {
+    ghost use Rattle.poolsteps.specs.Told.{Marks};
+
+    ghost then = { λ step before found after. Marks J.shape J.key before found after };
+}
+
+/// MARK from an expected word.
+pub(crate) struct MarkFrom<J: Aim> {
+    of: PhantomData<J>,
+}
+
+impl<S, J: Aim> Play<S, View> for MarkFrom<J> {
+    ghost use Rattle.poolsteps.specs.Told.{MarksFrom};
+
+    ghost then = { λ step before found after. MarksFrom J.shape step.first J.key before found after };
+}
+
+/// CLAIM, of a place and generation that its lane owes.
+pub(crate) struct Claim<J: Aim> {
+    of: PhantomData<J>,
+}
+
+impl<S, J: Aim> Play<S, View> for Claim<J> {
+    ghost use Rattle.poolsteps.specs.Told.{Claims, owed_place, owed_generation};
+
+    ghost then = { λ step before found after. Claims J.shape (owed_place before.0) (owed_generation before.0) before found after };
+}
 
 impl<T: Clear> Grid<T> {
     /// ENTER of a get or of a clear of a key: one is added to the count of its place. Answers the word that was found;

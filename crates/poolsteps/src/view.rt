@@ -1,6 +1,6 @@
 //! What a seat of the table knows. No value of these types is made: contracts alone speak of them.
+
 use seqpool::Act;
-use sharelaws::{Status, Stored};
 use std::collections::LinkedList;
 use steplaws::Pending;
 
@@ -61,4 +61,26 @@ pub struct View {
     pub steps: u64,
     /// The number of looks that were made by the seat.
     pub looks: u64,
+}
+
+/// What is known of the cell at a place.
+pub struct Stored {
+    /// Which cell it is.
+    pub cell: u64,
+    /// The content of its object.
+    pub content: LinkedList<u64>,
+    /// The room of its object.
+    pub room: u64,
+}
+
+/// How a lane left a slot.
+pub enum Status {
+    /// It left the slot alone: the slot is as its place stands.
+    Untouched,
+    /// It emptied the slot.
+    Emptied,
+    /// It has the slot in its hands.
+    InHand,
+    /// It put the only share of a cell there.
+    Whole,
 }

@@ -4,8 +4,7 @@ ghost use Rattle.poolsteps.specs.Layout.{spots_at};
 ghost use Rattle.poolsteps.specs.Grids.{IsFirstHand};
 
 use keybits::Shape;
-use placecell::{Base, Directory, Whole};
-use poolsteps::{Grid, Hand};
+use poolsteps::{Base, Directory, Grid, Hand, Whole};
 use slotcell::{ByteBuf, Clear};
 use std::alloc::Global;
 use std::process::Abort;

@@ -18,7 +18,6 @@ mod test_guards;
 #[cfg(test)]
 mod test_halts;
 #[cfg(test)]
-mod test_hands;
 #[cfg(test)]
 mod test_lanes;
 #[cfg(test)]

@@ -185,7 +185,7 @@ pub(crate) fn finds_full<T: Clear + Drop, R: Abort>(rt: &R, pool: &Pool<T>, lane
 {
     match pool.create(lane) {
         Ok(filling) => {
-            filling.leave();
+            filling.forget();
             panic!(rt; "a place is free")
         }
         Err(fault) => {
@@ -312,7 +312,7 @@ pub(crate) fn misses<T: Clear + Drop, R: Abort>(
     ensures fillings { (filling : FillingOf T) → Made lane.old filling → Made lane.new filling }
 {
     if let Some(reference) = pool.get(lane, key) {
-        reference.leave();
+        reference.forget();
         panic!(rt; "{key} is found");
     }
 }

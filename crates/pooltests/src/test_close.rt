@@ -36,7 +36,7 @@ fn close_marked<T: Clear + Drop, R: Abort>(rt: &R, alloc: Global) -> Census {
     let (pool, mut first, second) = open_pair::<T, _>(rt, alloc, shape_of(2, 1, 1));
     let reference = hold(rt, &pool, &mut first);
     clear(rt, &pool, &mut first, reference.key(), true);
-    reference.leave();
+    reference.forget();
     close_two(rt, alloc, pool, first, second)
 }
 
@@ -51,7 +51,7 @@ fn close_returned<T: Clear + Drop, R: Abort>(rt: &R, alloc: Global) -> Census {
 /// A filling is left.
 fn close_filling<T: Clear + Drop, R: Abort>(rt: &R, alloc: Global) -> Census {
     let (pool, mut lane) = open_last::<T, _>(rt, alloc, shape_of(1, 1, 1));
-    create(rt, &pool, &mut lane).leave();
+    create(rt, &pool, &mut lane).forget();
     close_one(rt, alloc, pool, lane)
 }
 

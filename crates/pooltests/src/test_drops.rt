@@ -122,10 +122,10 @@ fn keep_some<R: Abort>(
     publish(rt, pool, first, drops);
     let present = publish(rt, pool, first, drops);
     let marked = publish(rt, pool, first, drops);
-    get(rt, pool, second, present).leave();
-    get(rt, pool, second, marked).leave();
+    get(rt, pool, second, present).forget();
+    get(rt, pool, second, marked).forget();
     clear(rt, pool, first, marked, true);
-    fill(rt, pool, first, drops).leave();
+    fill(rt, pool, first, drops).forget();
 }
 
 /// Objects wherever one can be in a pool of two lanes with 8 places each. The two fillings take theirs with them.
@@ -147,7 +147,7 @@ fn use_places<R: Abort>(
     give_back(rt, pool, first, second, drops);
     let last = publish(rt, pool, first, drops);
     keep_some(rt, pool, first, second, drops);
-    create(rt, pool, first).leave();
+    create(rt, pool, first).forget();
     clear(rt, pool, second, last, true);
 
     // Of the second lane's own one was used.

@@ -15,7 +15,7 @@ fn created_key<R: Abort>(rt: &R, pool: &Pool<ByteBuf>, lane: &mut Lane<ByteBuf>)
     match pool.create(lane) {
         Ok(filling) => {
             let key = filling.key();
-            filling.leave();
+            filling.forget();
             key
         }
         Err(fault) => {
@@ -70,7 +70,7 @@ fn create_after_get<R: Abort>(
     let reference = hold(rt, pool, first);
     same(rt, &reference.key(), &16777216);
     clear(rt, pool, first, 16777216, true);
-    pool.halt(second, LastCall::Get(16777216), limit).leave();
+    pool.halt(second, LastCall::Get(16777216), limit).forget();
     release(pool, first, reference);
     create_after_miss(rt, pool, first, 16777216)
 }
@@ -88,7 +88,7 @@ fn finds_after_clear<R: Abort>(
 {
     let reference = hold(rt, pool, first);
     pool.halt(second, LastCall::Clear(reference.key()), limit)
-        .leave();
+        .forget();
     let found = finds(rt, pool, first, reference.key());
     assert_eq!(rt; first.holds(reference.key()), 1);
     release(pool, first, reference);
@@ -110,7 +110,7 @@ fn create_after_release<R: Abort>(
     let other = get(rt, pool, &mut second, reference.key());
     release(pool, first, reference);
     clear(rt, pool, first, other.key(), true);
-    pool.halt(second, LastCall::Release(other), limit).leave();
+    pool.halt(second, LastCall::Release(other), limit).forget();
     created_key(rt, pool, first)
 }
 
@@ -133,7 +133,7 @@ fn stop_in_create<R: Abort>(
     let halted = pool.halt(second, LastCall::Create, limit);
     assert!(rt; !finds(rt, pool, first, key));
     same(rt, &created_key(rt, pool, first), &16777216);
-    halted.leave();
+    halted.forget();
 }
 
 #[test]

@@ -39,7 +39,7 @@ fn read_on<R: Abort>(
     reads(rt, second, &other, b"a");
     release(pool, second, other);
     let filling = fill(rt, pool, first, AGAIN, b"");
-    filling.leave();
+    filling.forget();
 }
 
 fn clear_under_two<R: Abort>(
@@ -89,7 +89,7 @@ fn clear_of_a_held_key<R: Abort>(
     clear(rt, pool, second, FIRST, true);
     misses(rt, pool, first, FIRST);
     reads(rt, first, &reference, b"z");
-    reference.leave();
+    reference.forget();
 }
 
 fn hear_and_get<R: Abort>(
@@ -105,7 +105,7 @@ fn hear_and_get<R: Abort>(
     tell(pool, first, second);
     let reference = get(rt, pool, second, FIRST);
     reads(rt, second, &reference, b"hi");
-    reference.leave();
+    reference.forget();
 }
 
 fn hear_and_create<R: Abort>(
@@ -123,7 +123,7 @@ fn hear_and_create<R: Abort>(
     release(pool, second, reference);
     tell(pool, second, first);
     let filling = fill(rt, pool, first, AGAIN, b"");
-    filling.leave();
+    filling.forget();
 }
 
 /// What two lanes of a pool do, one after the other.
@@ -181,7 +181,7 @@ fn refill<R: Abort>(rt: &R, pool: &Pool<ByteBuf>, lane: &mut Lane<ByteBuf>, byte
     assert!(rt; filling.value().room() >= bytes.len());
     write(rt, &mut filling, bytes);
     assert_eq!(rt; filling.value().as_slice(), bytes);
-    filling.leave();
+    filling.forget();
 }
 
 #[test]
@@ -204,7 +204,7 @@ fn fill_all<R: Abort>(rt: &R, pool: &Pool<ByteBuf>, lane: &mut Lane<ByteBuf>, ke
         if let Some(key) = key_at(keys, number) {
             same(rt, &filling.key(), &key);
         }
-        filling.leave();
+        filling.forget();
     }
     finds_full(rt, pool, lane);
 }

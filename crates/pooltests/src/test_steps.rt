@@ -2,8 +2,8 @@
 ghost use Rattle.std.specs.Prelude.{◌≡◌, ◌≤◌, true, [], None, IfSome};
 ghost use Rattle.std.specs.Mem.Slots.{IsFull};
 ghost use Rattle.keybits.specs.Keys.{place_of, is_key};
-ghost use Rattle.sharelaws.specs.declared.stored.Status.TheVariants.{Emptied};
-ghost use Rattle.sharelaws.specs.Shares.{room_of};
+ghost use Rattle.poolsteps.specs.declared.view.Status.TheVariants.{Emptied};
+ghost use Rattle.poolsteps.specs.Shares.{room_of};
 ghost use Rattle.poolsteps.specs.Layout.{spots_at};
 ghost use Rattle.poolsteps.specs.Views.{the_lane, status_of, known_of, IsOne};
 ghost use Rattle.poolsteps.specs.Grids.{IsSpot, IsOf, IsFirstHand};
@@ -14,8 +14,7 @@ use crate::grids::{KEY, TWO_LANES, directory_of_one, grid_of_two, grid_with_obje
 use crate::test_calls::{is_word, same};
 use atomic_table::Closed;
 use keybits::owes_claim;
-use placecell::{Rest, Slot, Whole};
-use poolsteps::{Grid, Hand, Purpose, Spot, shares_law};
+use poolsteps::{Grid, Hand, Purpose, Rest, Slot, Spot, Whole, shares_law};
 use slotcell::{ByteBuf, Clear};
 use std::alloc::Global;
 use std::process::Abort;

@@ -4,3 +4,4 @@ pub mod free
 pub mod calls
 pub mod at_close
 pub mod count
+pub mod parts

@@ -7,14 +7,14 @@ use Rattle.keybits.specs.Shapes.{page_size}
 use Rattle.keybits.specs.Keys.{place_of}
 use Rattle.seqpool.specs.declared.act.Act.{Act}
 use Rattle.seqpool.specs.declared.act.Act.TheVariants as acts
-use Rattle.sharelaws.specs.Shares.{room_of}
+use Rattle.poolsteps.specs.Shares.{room_of}
 use Rattle.steplaws.specs.Calls.{Call, next_step, AreSteps}
 use Rattle.steplaws.specs.Calls.Call.{Creating}
 use Rattle.poolsteps.specs.Views.{the_lane}
 use Rattle.poolsteps.specs.Told.{IsIdle, Sees}
-use Rattle.poolcalls.specs.Bounds.{most_create_steps, most_looks}
-use Rattle.poolcalls.specs.Called.{caller_of, Make}
-use Rattle.poolcalls.specs.Taken.{NoneHome, Collects, FollowsOut}
+use Rattle.shardpool.specs.Bounds.{most_create_steps, most_looks}
+use Rattle.shardpool.specs.Called.{caller_of, Make}
+use Rattle.shardpool.specs.Taken.{NoneHome, Collects, FollowsOut}
 use Rattle.shardpool.specs.declared.create.CreateFault.{CreateFault}
 use Rattle.shardpool.specs.declared.create.CreateFault.TheVariants.{Full, Memory}
 use Rattle.shardpool.specs.Tokens.{LaneOf, FillingOf}

@@ -2,7 +2,7 @@
 use Rattle.std.specs.Prelude.{◌≡◌, ◌<◌, ℕ, Bool, false, List, [], Option, Some, IfSome, length, slice_index}
 use denote.RawPtr.{Ptr}
 use Rattle.atomic_table.specs.Table.{Me}
-use Rattle.placecell.specs.Whole.{Whole}
+use Rattle.poolsteps.specs.Whole.{Whole}
 use Rattle.keybits.specs.declared.shape.Shape.{Shape}
 use Rattle.keybits.specs.Keys.{place_of}
 use Rattle.keybits.specs.Places.{shard_of}
@@ -14,11 +14,11 @@ use Rattle.poolsteps.specs.Views.{the_lane, pushed_in}
 use Rattle.poolsteps.specs.Layout.{slot_row, shard_start, spots_at}
 use Rattle.poolsteps.specs.Told.{Leaves}
 use Rattle.steplaws.specs.declared.pending.Pending.TheVariants.{Undo}
-use Rattle.poolcalls.specs.declared.reclaimed.Reclaimed.{Reclaimed}
-use Rattle.poolcalls.specs.declared.reclaimed.Reclaimed.TheVariants.{Own}
-use Rattle.poolcalls.specs.Called.{Ends, EndsWithActs, IsLawful, IsReclaimed}
-use Rattle.poolcalls.specs.Clears.{Clears}
-use Rattle.shardpool.specs.declared.state.LaneState.{LaneState}
+use Rattle.shardpool.specs.declared.reclaim.Reclaimed.{Reclaimed}
+use Rattle.shardpool.specs.declared.reclaim.Reclaimed.TheVariants.{Own}
+use Rattle.shardpool.specs.Called.{Ends, EndsWithActs, IsLawful, IsReclaimed}
+use Rattle.shardpool.specs.Clears.{Clears}
+use Rattle.shardpool.specs.declared.pool.LaneState.{LaneState}
 use Rattle.shardpool.specs.Stores.{Keeps}
 
 -- the lane, whose places stand in this directory, can keep what becomes of a place, and knows the word that it last pushed to the place's shard

@@ -9,17 +9,17 @@ use Rattle.freelists.specs.Shards.{ShardPages, shape_of}
 use Rattle.freelists.specs.Queues.{FreePlaces}
 use Rattle.seqpool.specs.Pool.{has, NoRepeats, IsLegal}
 use Rattle.seqpool.specs.Histories.{PublishedAt, acts_of}
-use Rattle.sharelaws.specs.declared.stored.Status.TheVariants.{Emptied}
-use Rattle.placecell.specs.Share.{Share}
+use Rattle.poolsteps.specs.declared.view.Status.TheVariants.{Emptied}
+use Rattle.poolsteps.specs.Share.{Share}
 use Rattle.poolsteps.specs.declared.view.View.{View}
 use Rattle.poolsteps.specs.Views.{the_lane, pushed_in, status_of, known_of, IsOne}
 use Rattle.poolsteps.specs.Told.{IsIdle, Quiet, references_seen}
 use Rattle.poolsteps.specs.Moved.{stored_of}
 use Rattle.poolsteps.specs.Returned.{rest_of}
 use Rattle.poolsteps.specs.Layout.{slot_start, slot_row, shard_start}
-use Rattle.placerows.specs.Objects.{ObjectsOf}
-use Rattle.shardpool.specs.declared.state.HeldKey.{HeldKey}
-use Rattle.shardpool.specs.declared.state.LaneState.{LaneState}
+use Rattle.poolsteps.specs.Objects.{ObjectsOf}
+use Rattle.shardpool.specs.declared.pool.HeldKey.{HeldKey}
+use Rattle.shardpool.specs.declared.pool.LaneState.{LaneState}
 use Rattle.shardpool.specs.Rows.{AreStanding}
 use Rattle.shardpool.specs.Places.{IsBlank, IsResting, held_after, left_with}
 

@@ -16,9 +16,9 @@ use Rattle.poolsteps.specs.Layout.{slot_start}
 use Rattle.poolsteps.specs.Views.{the_lane}
 use Rattle.poolsteps.specs.Told.{MayPublish, references_seen}
 use Rattle.poolsteps.specs.ViewLaws.{references_made}
-use Rattle.poolcalls.specs.Bounds.{most_looks}
-use Rattle.poolcalls.specs.Carried.{AreEmptied}
-use Rattle.poolcalls.specs.Called.{Called}
+use Rattle.shardpool.specs.Bounds.{most_looks}
+use Rattle.shardpool.specs.Carried.{AreEmptied}
+use Rattle.shardpool.specs.Called.{Called}
 use Rattle.shardpool.specs.Tokens.{PoolOf, LaneOf, FillingOf, RefOf, NoteOf}
 use Rattle.shardpool.specs.Places.{held_after}
 

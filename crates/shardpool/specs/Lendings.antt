@@ -4,14 +4,14 @@ use Rattle.atomic_table.specs.Table.{Me}
 use Rattle.keybits.specs.declared.shape.Shape.{Shape}
 use Rattle.poolsteps.specs.Layout.{slot_start}
 use Rattle.keybits.specs.Keys.{place_of}
-use Rattle.sharelaws.specs.declared.stored.Status.TheVariants.{Untouched}
-use Rattle.placecell.specs.Share.{Share}
+use Rattle.poolsteps.specs.declared.view.Status.TheVariants.{Untouched}
+use Rattle.poolsteps.specs.Share.{Share}
 use Rattle.poolsteps.specs.declared.view.View.{View}
 use Rattle.poolsteps.specs.Views.{the_lane, status_of}
 use Rattle.poolsteps.specs.Told.{IsIdle}
-use Rattle.poolcalls.specs.Called.{Did, IsUnmoved}
-use Rattle.shardpool.specs.declared.state.HeldKey.{HeldKey}
-use Rattle.shardpool.specs.declared.state.LaneState.{LaneState}
+use Rattle.shardpool.specs.Called.{Did, IsUnmoved}
+use Rattle.shardpool.specs.declared.pool.HeldKey.{HeldKey}
+use Rattle.shardpool.specs.declared.pool.LaneState.{LaneState}
 
 -- where the row of the key's place counts one reference, its share is back in the lane's slot, and where it counts more, nothing is moved; nothing else of the state is changed
 pub record LendsHome {T : Type 0} (z : Shape) (key : ℕ) (before after : Me (Option (Share T)) View) (old new : LaneState T) : Type 0 where

@@ -1,3 +1,11 @@
+pub mod AtPlace
+pub mod Bounds
+pub mod Acted
+pub mod Called
+pub mod Clears
+pub mod Carried
+pub mod Taken
+pub mod Halted
 pub mod Tokens
 pub mod Places
 pub mod Remains

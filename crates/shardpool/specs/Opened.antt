@@ -7,11 +7,11 @@ use denote.RawPtr.{Ptr}
 use Rattle.keybits.specs.declared.shape.Shape.{Shape as PoolShape}
 use Rattle.keybits.specs.Shapes.{shard_places}
 use Rattle.freelists.specs.Shards.{shape_of}
-use Rattle.slotcell.specs.declared.clear.Clear.{Ghosts}
+use Rattle.slotcell.specs.declared.objects.Clear.{Ghosts}
 use Rattle.poolsteps.specs.declared.grid.Grid.{Grid}
 use Rattle.poolsteps.specs.Grids.{IsFirstHand}
 use Rattle.poolsteps.specs.Layout.{slot_row, shard_start}
-use Rattle.shardpool.specs.declared.state.LaneState.{LaneState}
+use Rattle.shardpool.specs.declared.pool.LaneState.{LaneState}
 use Rattle.shardpool.specs.declared.opening.Unendowed.{Unendowed}
 use Rattle.shardpool.specs.declared.fault.OpenFault.{OpenFault}
 use Rattle.shardpool.specs.declared.fault.OpenFault.TheVariants.{Shape, Memory}

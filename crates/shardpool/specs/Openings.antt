@@ -2,7 +2,7 @@
 use Rattle.std.specs.Prelude.{◌≡◌, ℕ, ◌+◌, true, List, length, Some, slice_get}
 use Rattle.keybits.specs.Shapes.{page_size}
 use Rattle.poolsteps.specs.declared.view.View.{View}
-use Rattle.shardpool.specs.declared.state.LaneState.{LaneState}
+use Rattle.shardpool.specs.declared.pool.LaneState.{LaneState}
 use Rattle.shardpool.specs.LaneStates.{FitsStores}
 use Rattle.shardpool.specs.Stores.{SameRows}
 use Rattle.shardpool.specs.Creates.{page_slots}

@@ -7,10 +7,10 @@ use Rattle.keybits.specs.Keys.{place_of, generation_of}
 use Rattle.seqpool.specs.declared.act.Act.{Act}
 use Rattle.seqpool.specs.declared.act.Act.TheVariants as acts
 use Rattle.seqpool.specs.Pool.{with, has, pool_after}
-use Rattle.sharelaws.specs.Shares.{room_of}
+use Rattle.poolsteps.specs.Shares.{room_of}
 use Rattle.poolsteps.specs.declared.view.View.{View}
 use Rattle.poolsteps.specs.Views.{the_lane, known_of}
-use Rattle.poolcalls.specs.Carried.{AreEmptied, AreAtRest}
+use Rattle.shardpool.specs.Carried.{AreEmptied, AreAtRest}
 
 -- a place is with the lane, which has emptied its slots, and its room is at most this
 pub record IsBlank (z : Shape) (v : View) (place most : ℕ) : Type 0 where

@@ -1,12 +1,12 @@
 -- Where the shares stand that a lane's rows have, and where a reference's place stands.
 use Rattle.std.specs.Prelude.{◌≡◌, ℕ, ◌+◌, ◌*◌, List, Some, slice_get}
 use denote.RawPtr.{Ptr}
-use Rattle.placecell.specs.Share.{Share}
+use Rattle.poolsteps.specs.Share.{Share}
 use Rattle.keybits.specs.declared.shape.Shape.{Shape}
 use Rattle.keybits.specs.Shapes.{IsShape}
 use Rattle.keybits.specs.Keys.{place_of}
 use Rattle.poolsteps.specs.Layout.{slot_start}
-use Rattle.shardpool.specs.declared.state.HeldKey.{HeldKey}
+use Rattle.shardpool.specs.declared.pool.HeldKey.{HeldKey}
 
 -- the share of a row is of the cell whose word has the row's number
 abbrev pub AreStanding : {T : Type 0} → Ptr → List (HeldKey T) → Type 0

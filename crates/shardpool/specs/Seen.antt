@@ -4,7 +4,7 @@ use Rattle.keybits.specs.Keys.{place_of, is_key}
 use Rattle.seqpool.specs.declared.act.Act.{Act}
 use Rattle.seqpool.specs.declared.act.Act.TheVariants.{Publish, Get, Clear}
 use Rattle.seqpool.specs.Histories.{At, PublishedAt, ClearedAt, MissedAt, IsPresentAt}
-use Rattle.sharelaws.specs.Shares.{room_of}
+use Rattle.poolsteps.specs.Shares.{room_of}
 use Rattle.shardpool.specs.Tokens.{LaneOf}
 
 -- the act stands behind all that the lane had seen

@@ -6,10 +6,10 @@ use Rattle.keybits.specs.Shapes.{index_of}
 use Rattle.keybits.specs.Links.{link_to, linked_place}
 use Rattle.freelists.specs.Shards.{IsOwn, place_numbered}
 use Rattle.freelists.specs.Queues.{AreFree, IsAway}
-use Rattle.placerows.specs.Objects.{ObjectsOf}
-use Rattle.poolcalls.specs.declared.reclaimed.Reclaimed.{Reclaimed}
-use Rattle.poolcalls.specs.declared.reclaimed.Reclaimed.TheVariants.{Own, Returned, Retired}
-use Rattle.shardpool.specs.declared.state.LaneState.{LaneState}
+use Rattle.poolsteps.specs.Objects.{ObjectsOf}
+use Rattle.shardpool.specs.declared.reclaim.Reclaimed.{Reclaimed}
+use Rattle.shardpool.specs.declared.reclaim.Reclaimed.TheVariants.{Own, Returned, Retired}
+use Rattle.shardpool.specs.declared.pool.LaneState.{LaneState}
 
 -- these are rows of one directory, from the same word on
 abbrev pub SameRows : {T : Type 0} → ObjectsOf T → ObjectsOf T → Type 0

@@ -1,9 +1,8 @@
 //! What the places of a pool are when it is closed.
-ghost use Rattle.std.specs.Prelude.{◌≡◌, ◌≢◌, ◌+◌, ◌<◌, ◌≤◌, ℕ, true, List, [], ◌∷◌, map, length, All, Contains};
+ghost use Rattle.std.specs.Prelude.{◌≡◌, ◌+◌, ◌<◌, ◌≤◌, ℕ, true, List, [], ◌∷◌, map, length, All, Contains};
 ghost use Rattle.std.specs.Vec.{vec_capacity};
 ghost use Rattle.core.specs.Mem.Slots.{slots_items, slots_len, slots_ptr, IsFull};
 ghost use Rattle.keybits.specs.declared.place.Place.{Place as Shown};
-ghost use Rattle.keybits.specs.declared.shape.TheConstants.{MOST_LANES};
 ghost use Rattle.keybits.specs.Places.{shard_of, number_of};
 ghost use Rattle.keybits.specs.Shapes.{IsShape, is_place, shard_places, all_places};
 ghost use Rattle.freelists.specs.Queues.{AreFree};
@@ -15,13 +14,11 @@ ghost use Rattle.shardpool.specs.Tokens.{LaneOf};
 ghost use Rattle.shardpool.specs.Closings.{none_counted, counted, places_counted, IsCensus, AreLast};
 ghost use Rattle.shardpool.specs.Marks.{IsRow, Blanks, IsThread, AreThreads, stacked, AreFreePlaces, returned_places, part_in, Counts};
 
-use crate::state::LaneState;
+use crate::pool::LaneState;
 use core::slots::Slots;
 use freelists::LocalFree;
 use keybits::{Life, Place, Shape, State, link_to, linked_place};
-use placecell::{Base, Slot};
-use placerows::Objects;
-use poolsteps::{drop_cell, life_word, link_word, slot_start, stack_word};
+use poolsteps::{Base, Objects, Slot, drop_cell, life_word, link_word, slot_start, stack_word};
 use std::alloc::Global;
 
 /// How many places of a pool were what when it was closed. The six numbers add up to all its places.

@@ -8,15 +8,11 @@ ghost use Rattle.shardpool.specs.Closings.{AreLanes, Closes, places_counted};
 ghost use Rattle.shardpool.specs.Partings.{IsParted, AreParted};
 
 use crate::census::{Census, take_census};
-use crate::lane::Lane;
-use crate::pool::Pool;
+use crate::pool::{Lane, LaneState, Pool};
 use crate::returned_shares::hand_back;
-use crate::state::LaneState;
 use atomic_table::Closed;
 use keybits::MOST_LANES;
-use placecell::Slot;
-use placerows::close_directory;
-use poolsteps::Hand;
+use poolsteps::{Hand, Slot, close_directory};
 use slotcell::Clear;
 use std::alloc::Global;
 

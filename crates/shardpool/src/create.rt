@@ -1,24 +1,124 @@
 //! How a lane gets a place to fill: from its own list, from its taken chain, from the places that were returned to it,
 //! or from its next page.
-ghost use Rattle.std.specs.Prelude.{◌≡◌, ◌<◌, [], length, All, IfSome, IsNone, IsOk, IsErr, IsErrOf};
+ghost use Rattle.std.specs.Prelude.{◌≡◌, ◌<◌, [], length, All, IfSome, IsNone, IsOk, IsErr, IsErrOf, ℕ, ◌∷◌};
 ghost use Rattle.shardpool.specs.Tokens.{FillingOf};
 ghost use Rattle.shardpool.specs.Lanes.{Owns, Made};
-ghost use Rattle.poolsteps.specs.Grids.{IsSpot};
-ghost use Rattle.poolsteps.specs.Views.{the_lane};
+ghost use Rattle.poolsteps.specs.Grids.{IsSpot, IsOf, SameSeat};
+ghost use Rattle.poolsteps.specs.Views.{the_lane, known_of, IsOne};
 ghost use Rattle.shardpool.specs.Creates.{Pops, TakesReturned, FollowsChain, OpensPage, Fills, IsLoose};
 ghost use Rattle.shardpool.specs.AfterCalls.{AfterCreate};
 ghost use Rattle.shardpool.specs.declared.create.CreateFault.TheVariants.{Full, Memory};
+ghost use Rattle.keybits.specs.Counts.{times};
+ghost use Rattle.keybits.specs.Keys.{key_number};
+ghost use Rattle.seqpool.specs.Pool.{with, pool_after};
+ghost use Rattle.poolsteps.specs.Layout.{spots_at};
+ghost use Rattle.poolsteps.specs.Told.{Sees, IsIdle, MayPublish};
+ghost use Rattle.poolsteps.specs.Returned.{rest_of};
+ghost use Rattle.shardpool.specs.Carried.{AreAtRest, ShowsCell};
+ghost use Rattle.shardpool.specs.Called.{IsLawful};
+ghost use Rattle.shardpool.specs.Taken.{Collects, FollowsOut};
 
-use crate::lane::Lane;
-use crate::pool::Pool;
+use crate::cell_moves::take_resting;
+use crate::pool::{Lane, Pool};
 use crate::stores::{follow_on, hang, open_next, take_own};
-use crate::token::Filling;
-use poolcalls::{collect, follow, next_key};
-use poolsteps::Spot;
+use keybits::{Key, Place};
+use poolsteps::{Grid, Hand, Spot, Whole};
 use slotcell::Clear;
 use std::alloc::Global;
 use std::error::Error;
 use std::fmt;
+use std::marker::Model;
+use std::snapshot::Snapshot;
+use steplaws::home_law;
+
+/// A place that is to be filled, with its object. It must be spent, by a publish, a downgrade or `forget`.
+pub struct Filling<T> {
+    pub(crate) key: u64,
+    /// Where the key's place stands.
+    pub(crate) start: u32,
+    pub(crate) object: Box<T, Global>,
+    pub(crate) of: Snapshot<Hand<T>>,
+}
+
+impl<T> Model for Filling<T> {
+    ghost use Rattle.shardpool.specs.Tokens.{FillingOf, filling_code};
+
+    ghost Value = { FillingOf T };
+
+    ghost coded = { filling_code T.code };
+
+    ghost view = { λ f. record { table = f.of.value.table_id; key = f.key; start = f.start; object = f.object.value } };
+}
+
+impl<T> Filling<T> {
+    ghost use Rattle.std.specs.Prelude.{◌≡◌};
+    ghost use Rattle.std.specs.Borrow.{sem};
+    ghost use Rattle.shardpool.specs.Fillings.{LendsFilling};
+
+    /// The key under which the object will be published.
+    pub fn key(&self) -> u64
+        ensures { result ≡ self.now.key }
+    {
+        self.key
+    }
+
+    /// The object.
+    pub fn value(&self) -> &T
+        ensures { result.now ≡ self.now.object }
+    {
+        &self.object
+    }
+
+    /// The object, to be written.
+    pub fn value_mut(&mut self) -> &mut T
+        ensures* writes_back { sem 𝓛 (LendsFilling T.row self.old self.entry result) }
+        ensures object { result.now ≡ self.old.object }
+    {
+        &mut self.object
+    }
+
+    /// The filling of a key, whose place stands here, with this object, by a lane with this hand.
+    pub(crate) fn of(hand: &Hand<T>, key: u64, start: u32, object: Box<T, Global>) -> Filling<T>
+        ensures { result ≡ record { table = hand.now.table_id; key = key; start = start; object = object.value } }
+    {
+        Filling {
+            key,
+            start,
+            object,
+            of: Snapshot::of(hand),
+        }
+    }
+
+    /// The token's key, where its place stands, and the object.
+    pub(crate) fn spend(self) -> (u64, u32, Box<T, Global>)
+        ensures { (result.0 ≡ self.key) × (result.1 ≡ self.start) × (result.2.value ≡ self.object) }
+    {
+        let Filling {
+            key,
+            start,
+            object,
+            of,
+        } = self;
+        drop(of);
+        (key, start, object)
+    }
+
+    /// The token ends, and the pool isn't told: the place stays filling until the pool is closed. The object is
+    /// dropped.
+    pub fn forget(self)
+    where
+        T: Drop,
+    {
+        let Filling {
+            key: _,
+            start: _,
+            object,
+            of,
+        } = self;
+        drop(object);
+        drop(of);
+    }
+}
 
 /// Why no place was given.
 #[derive(Clone, Copy, Debug, PartialEq, Eq)]
@@ -186,4 +286,73 @@ fn fresh_objects<T: Clear + Drop>(alloc: Global, count: u32) -> Option<Vec<Box<T
         objects.push_reserved(object);
     }
     Some(objects)
+}
+
+/// TAKEs of the stacks of the lane's shard, by rising number of the lanes that return to it, up to the first that has
+/// places:
+/// they are then the lane's taken chain. Answers the word that was found there, which leads to the first of them; 0
+/// where
+/// none had places. It makes at most one step for each other lane and no look, and takes no memory.
+pub(crate) fn collect<T: Clear>(grid: &Grid<T>, hand: &mut Hand<T>, lane: u32) -> u64
+    requires hand { IsOf grid.now hand.old × IsOne hand.old.me.0 }
+    requires lane { (lane ≡ (the_lane hand.old.me.0).lane) × (lane < grid.now.shape.lanes) }
+    requires seen { IsLawful grid.now.shape hand.old.me.0 × (length hand.old.me.0.rooms ≡ length hand.old.me.0.seen) }
+    requires chain { (the_lane hand.old.me.0).chain ≡ [] }
+    ensures hand { SameSeat hand.old hand.new }
+    ensures collects { (opened : ℕ) → 0 < opened → Collects grid.now.shape opened result hand.old.me hand.new.me }
+{
+    home_law();
+    for from in 0..grid.shape.lanes {
+        if from != lane {
+            let found = grid.take(hand, lane, from);
+            if found != 0 {
+                return found;
+            }
+        }
+    }
+    0
+}
+
+/// FOLLOW of the first place of the taken chain, and OUT of its object, which rested there. Answers the place's link
+/// word, which leads to the next place, or is 0 at the chain's end; and the object. It takes no memory.
+pub(crate) fn follow<T: Clear + Drop>(
+    grid: &Grid<T>,
+    hand: &mut Hand<T>,
+    spot: Spot,
+    lane: u32,
+) -> (u64, Whole<T>)
+    requires hand { IsOf grid.now hand.old × IsOne hand.old.me.0 }
+    requires spot { IsSpot grid.now.shape spot spot.place }
+    requires lane { (lane ≡ (the_lane hand.old.me.0).lane) × (lane < grid.now.shape.lanes) }
+    requires chain { (the_lane hand.old.me.0).chain ≡ spot.place ∷ rest_of (the_lane hand.old.me.0).chain }
+    requires place { (pool_after grid.now.shape hand.old.me.0.seen spot.place).phase ≡ with lane }
+    requires rests { AreAtRest grid.now.shape (the_lane hand.old.me.0) spot.place }
+    ensures hand { SameSeat hand.old hand.new }
+    ensures follows { FollowsOut grid.now.shape spot.place result.0 hand.old.me hand.new.me }
+    ensures place { (pool_after grid.now.shape hand.new.me.0.seen spot.place).phase ≡ with lane }
+    ensures cell { ShowsCell T.content T.room (spots_at grid.now.objects.ptr grid.now.shape) spot.place (known_of (the_lane hand.old.me.0) spot.place) result.1 }
+{
+    let link = grid.follow(hand, spot);
+    (link, take_resting(grid, hand, spot, lane))
+}
+
+/// A look at the generation of a place that is with the lane: answers the key under which it may then be published. It
+/// takes no memory.
+pub(crate) fn next_key<T: Clear>(grid: &Grid<T>, hand: &mut Hand<T>, spot: Spot) -> u64
+    requires hand { IsOf grid.now hand.old × IsOne hand.old.me.0 }
+    requires spot { IsSpot grid.now.shape spot spot.place }
+    requires idle { IsIdle hand.old.me.0 }
+    requires place { (pool_after grid.now.shape hand.old.me.0.seen spot.place).phase ≡ with (the_lane hand.old.me.0).lane }
+    requires unchained { times spot.place (the_lane hand.old.me.0).chain ≡ 0 }
+    ensures hand { SameSeat hand.old hand.new }
+    ensures sees { Sees grid.now.shape hand.old.me hand.new.me }
+    ensures key { result ≡ key_number grid.now.shape.tag spot.place (pool_after grid.now.shape hand.new.me.0.seen spot.place).generation }
+    ensures may { MayPublish grid.now.shape hand.new.me.0 result }
+{
+    let generation = grid.generation(hand, spot);
+    let place = Place::of_number(spot.place);
+    match Key::pack_tagged(grid.shape.tag as u8, place, generation) {
+        Some(key) => key.number(),
+        None => unreachable!(),
+    }
 }

@@ -1,57 +1,22 @@
 //! Lanes: each owns a shard of a pool.
-use crate::apart::Apart;
-use crate::closing::HandRow;
-use crate::rows::count_to;
-use crate::state::LaneState;
-use crate::token::Ref;
+
+use crate::get::Ref;
+use crate::pool::{Lane, Places};
+use crate::release::count_to;
 use keybits::place_of;
-use poolsteps::Hand;
 use slotcell::Clear;
-use std::marker::Model;
 
 /// The most references of a lane.
 pub const MOST_REFERENCES: u32 = 1_048_575;
-
-/// The owner of a shard. A thread that has one calls the pool with it.
-#[derive(Drop)]
-pub struct Lane<T: Clear> {
-    pub(crate) hand: Hand<T>,
-    pub(crate) ahead: Apart,
-    pub(crate) state: LaneState<T>,
-    pub(crate) row: HandRow<T>,
-    pub(crate) behind: Apart,
-}
-
-impl<T: Clear> Model for Lane<T> {
-    ghost use Rattle.std.specs.Prelude.{◌≡◌, []};
-    ghost use Rattle.shardpool.specs.Tokens.{LaneOf};
-    ghost use Rattle.shardpool.specs.LaneStates.{Fits};
-
-    ghost Value = { LaneOf };
-
-    ghost view = { λ l. record {
-      table = l.hand.table_id;
-      directory = l.state.objects.directory;
-      shape = l.state.shape;
-      number = l.state.number;
-      book = l.hand.me.0;
-      free = l.state.free;
-      pages = l.state.pages;
-    } };
-
-    ghost invariant = { λ l. (l.hand.me.1 ≡ []) × Fits T.content T.room l.state.shape l.hand.me.0 l.state };
-}
 
 impl<T: Clear> Lane<T> {
     ghost use Rattle.std.specs.Prelude.{◌≡◌, ◌≢◌, ◌<◌, ◌≤◌, ◌⊎◌, ◌↔◌, ℕ, true, false, IsTrue, IsNone, IsSome, IfSome, [], length, Contains};
     ghost use Rattle.keybits.specs.declared.place.Place.{Place};
     ghost use Rattle.keybits.specs.Places.{shard_of, page_of, number_of};
-    ghost use Rattle.keybits.specs.Keys.{place_of};
     ghost use Rattle.keybits.specs.Shapes.{is_place};
-    ghost use Rattle.poolsteps.specs.Layout.{slot_start};
     ghost use Rattle.freelists.specs.Queues.{numbers};
     ghost use Rattle.seqpool.specs.Pool.{with, has, NoRepeats, pool_after, IsLegal};
-    ghost use Rattle.seqpool.specs.Histories.{PublishedAt, acts_of};
+    ghost use Rattle.seqpool.specs.Histories.{acts_of};
     ghost use Rattle.poolsteps.specs.Views.{the_lane};
     ghost use Rattle.poolsteps.specs.Told.{IsIdle};
     ghost use Rattle.shardpool.specs.Lanes.{AreHeld, IsKept, holds, refs, first_place};
@@ -136,24 +101,5 @@ impl<T: Clear> Lane<T> {
     {
         // A proof knows that the lane's free places are sound once their number is asked.
         let _ = self.state.free.len();
-    }
-
-    /// The object of a key to which the lane has a reference: its content is that with which the key was published.
-    pub fn read<'a>(&'a self, reference: &Ref<T>) -> &'a T
-        requires { 1 ≤ holds self.now reference.now.key }
-        ensures { (j : ℕ) × PublishedAt self.now.book.seen j reference.now.key (T.content result.now) }
-    {
-        self.read_at(self.state.start_of(reference), reference.key)
-    }
-
-    /// As `read`, of a key to which the lane has a reference, and whose place stands here, as `Pool::get_at` answers.
-    pub fn read_at(&self, start: u32, key: u64) -> &T
-        requires held { 1 ≤ holds self.now key }
-        requires start { start ≡ slot_start self.now.shape (place_of key) }
-        ensures { (j : ℕ) × PublishedAt self.now.book.seen j key (T.content result.now) }
-    {
-        self.state.rows[start as usize]
-            .share
-            .read(self.state.objects.base(), start as usize)
     }
 }

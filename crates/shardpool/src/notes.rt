@@ -5,10 +5,27 @@ ghost use Rattle.poolsteps.specs.Seats.{longer};
 ghost use Rattle.shardpool.specs.Tokens.{FillingOf};
 ghost use Rattle.shardpool.specs.Lanes.{Owns, Issued, Made, Did, holds, refs};
 
-use crate::lane::Lane;
-use crate::pool::Pool;
-use crate::token::Note;
+use crate::pool::{Lane, Pool};
+use poolsteps::Hand;
 use slotcell::Clear;
+use std::marker::Model;
+
+/// What a lane has seen, to be told to another.
+#[derive(Drop)]
+pub struct Note<T> {
+    pub(crate) hand: Hand<T>,
+}
+
+impl<T> Model for Note<T> {
+    ghost use Rattle.std.specs.Prelude.{◌≡◌, []};
+    ghost use Rattle.shardpool.specs.Tokens.{NoteOf};
+
+    ghost Value = { NoteOf };
+
+    ghost view = { λ n. record { table = n.hand.table_id; book = n.hand.me.0 } };
+
+    ghost invariant = { λ n. n.hand.me.1 ≡ [] };
+}
 
 impl<T: Clear + Drop> Pool<T> {
     /// A note of all that a lane has seen. It costs a load.

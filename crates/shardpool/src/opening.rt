@@ -8,18 +8,12 @@ ghost use Rattle.std.specs.Vec.{vec_capacity};
 ghost use Rattle.poolsteps.specs.Layout.{slot_row};
 ghost use Rattle.shardpool.specs.Opened.{first_book, AreFirstLanes, AreFirstParts, IsFirstState};
 
-use crate::apart::Apart;
 use crate::closing::HandRow;
 use crate::fault::OpenFault;
-use crate::lane::Lane;
-use crate::places::Places;
-use crate::pool::Pool;
-use crate::state::{HeldKey, LaneState};
+use crate::pool::{Apart, HeldKey, Lane, LaneState, Places, Pool};
 use freelists::{LocalFree, Pages};
 use keybits::Shape;
-use placecell::{Base, Directory, Slot};
-use placerows::Objects;
-use poolsteps::{Grid, Hand, SHARDS_APART, shard_start, slot_row};
+use poolsteps::{Base, Directory, Grid, Hand, Objects, SHARDS_APART, Slot, shard_start, slot_row};
 use slotcell::Clear;
 use std::alloc::Global;
 

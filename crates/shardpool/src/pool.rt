@@ -1,26 +1,16 @@
-//! The pool, and the calls of its lanes.
-ghost use Rattle.std.specs.Prelude.{◌≡◌, ◌<◌, ◌≤◌, ◌↔◌, true, option_map, IfSome, IsSome};
+//! A pool and its lanes: what each has.
+ghost use Rattle.std.specs.Prelude.{◌≡◌, ◌<◌, ◌≤◌, ◌↔◌, true, IfSome, IsSome};
 ghost use Rattle.keybits.specs.Keys.{is_key, place_of};
-ghost use Rattle.poolsteps.specs.Layout.{slot_start};
-ghost use Rattle.steplaws.specs.Facts.{most_references};
+ghost use Rattle.poolsteps.specs.Layout.{slot_start, page_count, page_rows};
 ghost use Rattle.poolsteps.specs.Grids.{IsSpot};
-ghost use Rattle.shardpool.specs.Lanes.{Owns, Made, holds, refs};
-ghost use Rattle.shardpool.specs.AfterCalls.{AfterGet, AfterRelease, AfterReleaseKey, AfterClear, AfterPublish, AfterDowngrade};
+ghost use Rattle.keybits.specs.Shapes.{IsShape};
+ghost use Rattle.keybits.specs.SameShapes.{IsShape-prop};
+ghost use Rattle.shardpool.specs.Rows.{pages_code};
 
-use crate::clears::clear_and_keep;
-use crate::ends::{end_miss, finish_if_owed};
-use crate::lane::Lane;
-use crate::rows::{
-    add_first_reference, add_reference, count_to, drop_reference, return_last_share,
-};
-use crate::state::LaneState;
-use crate::stores::give_out;
-use crate::token::{Filling, Ref};
-use keybits::{Shape, is_hit, place_of};
-use placecell::Directory;
-use placerows::Objects;
-use poolcalls::{At, downgrade, publish};
-use poolsteps::{Grid, Purpose, Spot, shares_law};
+use crate::closing::HandRow;
+use freelists::{LocalFree, Pages};
+use keybits::{PAGE_NUMBERS, Shape, place_of};
+use poolsteps::{Directory, Grid, Hand, Objects, PageRow, Slot, Spot, page_rows};
 use slotcell::Clear;
 use std::alloc::Global;
 use std::marker::Model;
@@ -59,143 +49,6 @@ impl<T: Clear + Drop> Pool<T> {
         self.grid.shape
     }
 
-    /// A reference to the object of a key, where it is published and not cleared. None otherwise, and for a number that
-    /// is no key of the pool, without a step.
-    #[inline(always)]
-    pub fn get(&self, lane: &mut Lane<T>, key: u64) -> Option<Ref<T>>
-        requires owns { Owns self.now lane.old }
-        requires room { refs lane.old < most_references }
-        ensures { AfterGet T self.now key lane.old lane.new result }
-    {
-        let start = self.get_at(lane, key)?;
-        Some(Ref::to(key, start, &lane.state.places))
-    }
-
-    /// A get whose reference stays with the lane, for who keeps keys in place of references: answers where
-    /// `Lane::read_at` finds the object without looking for the key's place again.
-    #[inline]
-    pub fn get_at(&self, lane: &mut Lane<T>, key: u64) -> Option<u32>
-        requires owns { Owns self.now lane.old }
-        requires room { refs lane.old < most_references }
-        ensures got { AfterGet T self.now key lane.old lane.new (option_map (λ at. record { key = key }) result) }
-        ensures stands { IfSome result (λ at. at ≡ slot_start self.now.shape (place_of key)) }
-    {
-        shares_law();
-        let number = lane.state.number;
-        let spot = self.find(key)?;
-        // Behind the ENTER a processor may make this load wait for the ENTER's store, where both stand alike in their
-        // pages.
-        let held = lane.state.rows[spot.start as usize].count;
-        let found = self.grid.enter(&mut lane.hand, spot, key, Purpose::ToGet);
-        if !is_hit(key, found) {
-            end_miss(&self.grid, &mut lane.hand, &mut lane.state, spot, key);
-            return None;
-        }
-        if held > 0 {
-            add_reference(&mut lane.state, spot.start as usize);
-            return Some(spot.start);
-        }
-        let share = self.grid.out(&mut lane.hand, spot, number, number);
-        add_first_reference(&mut lane.state, spot.start as usize, key, share);
-        Some(spot.start)
-    }
-
-    /// Gives a reference back. Where it was the last to a key that is cleared, the object is cleared in place.
-    #[inline(always)]
-    pub fn release(&self, lane: &mut Lane<T>, reference: Ref<T>)
-        requires owns { Owns self.now lane.old }
-        requires held { 1 ≤ holds lane.old reference.key }
-        ensures { AfterRelease T self.now reference.key lane.old lane.new }
-    {
-        let start = lane.state.start_of(&reference);
-        let key = reference.spend();
-        let spot = Spot {
-            place: place_of(key),
-            start,
-        };
-        self.release_at(lane, spot, key);
-    }
-
-    /// Gives back a reference to a key, for who keeps keys in place of references: true where the lane had one. False,
-    /// without a step, where it had none, and for a number that is no key of the pool.
-    pub fn release_key(&self, lane: &mut Lane<T>, key: u64) -> bool
-        requires owns { Owns self.now lane.old }
-        ensures { AfterReleaseKey T self.now key lane.old lane.new result }
-    {
-        let Some(spot) = self.find(key) else {
-            return false;
-        };
-        if count_to(&lane.state, spot.start as usize, key) == 0 {
-            return false;
-        }
-        self.release_at(lane, spot, key);
-        true
-    }
-
-    /// Gives back a reference to a key, whose place stands here.
-    #[inline(always)]
-    fn release_at(&self, lane: &mut Lane<T>, spot: Spot, key: u64)
-        requires owns { Owns self.now lane.old }
-        requires spot { IsSpot self.now.shape spot (place_of key) }
-        requires held { 1 ≤ holds lane.old key }
-        ensures { AfterRelease T self.now key lane.old lane.new }
-    {
-        return_last_share(&self.grid, &mut lane.hand, &mut lane.state, spot, key);
-        drop_reference(&mut lane.state, spot.start as usize);
-        let left = self.grid.leave(&mut lane.hand, spot, key);
-        finish_if_owed(&self.grid, &mut lane.hand, &mut lane.state, spot, key, left);
-    }
-
-    /// Clears the object of a key: true where it is this call that marked the key, which a get then finds no more. The
-    /// last that refers to the object clears it in place. False for a key that is marked or not published, and for a
-    /// number that is no key of the pool, without a step.
-    pub fn clear(&self, lane: &mut Lane<T>, key: u64) -> bool
-        requires owns { Owns self.now lane.old }
-        ensures { AfterClear T self.now key lane.old lane.new result }
-    {
-        let Some(spot) = self.find(key) else {
-            lane.seen_law();
-            return false;
-        };
-        clear_and_keep(&self.grid, &mut lane.hand, &mut lane.state, spot.start, key)
-    }
-
-    /// Publishes a filling: a get of its key finds the content that was written last. Answers the key.
-    pub fn publish(&self, lane: &mut Lane<T>, filling: Filling<T>) -> u64
-        requires owns { Owns self.now lane.old }
-        requires made { Made lane.old filling }
-        ensures { AfterPublish T.content T.room self.now filling lane.old lane.new result }
-    {
-        let (key, start, written) = filling.spend();
-        let spot = Spot {
-            place: place_of(key),
-            start,
-        };
-        let number = lane.state.number;
-        let whole = give_out(&mut lane.state, spot, written);
-        publish(&self.grid, &mut lane.hand, spot, number, key, whole);
-        key
-    }
-
-    /// Publishes a filling as `publish` does, and answers a reference to its key.
-    pub fn downgrade(&self, lane: &mut Lane<T>, filling: Filling<T>) -> Ref<T>
-        requires owns { Owns self.now lane.old }
-        requires made { Made lane.old filling }
-        requires room { refs lane.old < most_references }
-        ensures { AfterDowngrade T.content T.room self.now filling lane.old lane.new result }
-    {
-        let (key, start, object) = filling.spend();
-        let spot = Spot {
-            place: place_of(key),
-            start,
-        };
-        let number = lane.state.number;
-        let whole = give_out(&mut lane.state, spot, object);
-        let share = downgrade(&self.grid, &mut lane.hand, spot, number, key, whole);
-        add_first_reference(&mut lane.state, spot.start as usize, key, share);
-        Ref::to(key, start, &lane.state.places)
-    }
-
     /// Where a key's place stands. None for a number that is no key of the pool.
     #[inline]
     pub(crate) fn find(&self, key: u64) -> Option<Spot>
@@ -203,5 +56,130 @@ impl<T: Clear + Drop> Pool<T> {
         ensures spot { IfSome result (λ spot. IsSpot self.now.shape spot (place_of key)) }
     {
         self.grid.find_key(key)
+    }
+}
+
+/// What a lane has of a place: how many references to which of its keys, and the share under them.
+#[derive(Drop)]
+pub(crate) struct HeldKey<T> {
+    /// The generation of the last key of the place to which the lane had a reference; 0, which no key has, before the
+    /// first.
+    pub(crate) generation: u32,
+    pub(crate) count: u32,
+    pub(crate) share: Slot<T>,
+}
+
+/// What a lane keeps beside its seat.
+#[derive(Drop)]
+pub(crate) struct LaneState<T> {
+    /// The shape of the pool.
+    pub(crate) shape: Shape,
+    /// The lane's number.
+    pub(crate) number: u32,
+    /// How many references the lane has.
+    pub(crate) references: u32,
+    /// A row for each place of the pool, where the place stands.
+    pub(crate) rows: Vec<HeldKey<T>>,
+    /// For each shard the word that the lane last pushed there.
+    pub(crate) last_pushed: Vec<u64>,
+    /// The free places of the lane's own shard.
+    pub(crate) free: LocalFree,
+    /// The pages of the lane's own shard.
+    pub(crate) pages: Pages,
+    /// The lane's rights to places, and the objects of its own shard that wait with it.
+    pub(crate) objects: Objects<T>,
+    /// Where the places of the pool stand.
+    pub(crate) places: Places,
+    pub(crate) alloc: Global,
+}
+
+/// The owner of a shard. A thread that has one calls the pool with it.
+#[derive(Drop)]
+pub struct Lane<T: Clear> {
+    pub(crate) hand: Hand<T>,
+    pub(crate) ahead: Apart,
+    pub(crate) state: LaneState<T>,
+    pub(crate) row: HandRow<T>,
+    pub(crate) behind: Apart,
+}
+
+impl<T: Clear> Model for Lane<T> {
+    ghost use Rattle.std.specs.Prelude.{◌≡◌, []};
+    ghost use Rattle.shardpool.specs.Tokens.{LaneOf};
+    ghost use Rattle.shardpool.specs.LaneStates.{Fits};
+
+    ghost Value = { LaneOf };
+
+    ghost view = { λ l. record {
+      table = l.hand.table_id;
+      directory = l.state.objects.directory;
+      shape = l.state.shape;
+      number = l.state.number;
+      book = l.hand.me.0;
+      free = l.state.free;
+      pages = l.state.pages;
+    } };
+
+    ghost invariant = { λ l. (l.hand.me.1 ≡ []) × Fits T.content T.room l.state.shape l.hand.me.0 l.state };
+}
+
+/// Where the places of each page of a pool stand.
+#[derive(Drop)]
+pub(crate) struct Places {
+    /// The shape of the pool.
+    pub(crate) shape: Shape,
+    /// Which pools have each place at the same number: those of this code.
+    pub(crate) code: u32,
+    /// The rows of its pages.
+    pub(crate) rows: Vec<PageRow>,
+    ghost checked: { IsShape shape } by { IsShape-prop shape },
+    ghost code_is: { code ≡ pages_code shape },
+    ghost rows_are: { rows.items ≡ page_rows shape (page_count shape) },
+}
+
+impl Places {
+    ghost use Rattle.std.specs.Prelude.{◌≡◌, ◌<◌, true, IfSome};
+    ghost use Rattle.keybits.specs.Shapes.{is_place};
+    ghost use Rattle.poolsteps.specs.Layout.{slot_start, slot_row};
+
+    /// The places of a pool of this shape. None where memory was refused.
+    pub(crate) fn of(alloc: Global, shape: &Shape) -> Option<Places>
+        requires { IsShape shape.now }
+        ensures { IfSome result (λ places. places.shape ≡ shape.now) }
+    {
+        let rows = page_rows(alloc, shape)?;
+        Some(Places {
+            shape: *shape,
+            code: 8 * shape.first_page + shape.pages,
+            rows,
+        })
+    }
+
+    /// Where a place of the pool stands, by the row of its page.
+    #[inline]
+    pub(crate) fn start(&self, place: u32) -> u32
+        requires { is_place self.now.shape place ≡ true }
+        ensures start { result ≡ slot_start self.now.shape place }
+        ensures below { result < slot_row self.now.shape }
+    {
+        let page = &self.rows[(place / PAGE_NUMBERS) as usize];
+        page.start + place % PAGE_NUMBERS
+    }
+}
+
+/// How many bytes stand between what different lanes write: a processor may fetch two lines of 64 bytes together.
+const BYTES_APART: usize = 128;
+
+/// So many bytes, at an end of what a lane writes in each call.
+#[derive(Drop)]
+pub(crate) struct Apart {
+    unused: [u64; BYTES_APART / 8],
+}
+
+impl Apart {
+    pub(crate) fn new() -> Apart {
+        Apart {
+            unused: [0; BYTES_APART / 8],
+        }
     }
 }

@@ -3,18 +3,17 @@ ghost use Rattle.std.specs.Prelude.{◌≡◌, ◌+◌, ◌*◌, ◌<◌, List, 
 ghost use Rattle.core.specs.declared.slots.Slots.{Slots as SlotsOf};
 ghost use Rattle.core.specs.Mem.Slots.{slots_len, IsFull};
 ghost use Rattle.keybits.specs.Shapes.{IsShape, shard_places};
-ghost use Rattle.placecell.specs.Share.{Share};
+ghost use Rattle.poolsteps.specs.Share.{Share};
 ghost use Rattle.poolsteps.specs.Layout.{slot_row};
 ghost use Rattle.poolsteps.specs.Joins.{IsSlotRow};
-ghost use Rattle.shardpool.specs.declared.state.HeldKey.{HeldKey as Row};
-ghost use Rattle.shardpool.specs.declared.state.LaneState.{LaneState as Shown};
+ghost use Rattle.shardpool.specs.declared.pool.HeldKey.{HeldKey as Row};
+ghost use Rattle.shardpool.specs.declared.pool.LaneState.{LaneState as Shown};
 ghost use Rattle.shardpool.specs.Remains.{GivesRow, GivesTo, GivesBack, MayHandBack, IsStripped, HandsBack, AreStripped};
 
-use crate::state::{HeldKey, LaneState};
+use crate::pool::{HeldKey, LaneState};
 use core::slots::Slots;
 use keybits::Shape;
-use placecell::Slot;
-use poolsteps::{shard_start, slot_row};
+use poolsteps::{Slot, shard_start, slot_row};
 use std::mem;
 
 /// The shares under all references go back into their slots. The rows of the lanes then are gone.

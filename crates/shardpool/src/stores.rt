@@ -9,18 +9,13 @@ ghost use Rattle.keybits.specs.Links.{linked_place};
 ghost use Rattle.freelists.specs.Shards.{shape_of, place_numbered};
 ghost use Rattle.freelists.specs.Queues.{IsAway, GoesOnBy};
 ghost use Rattle.poolsteps.specs.Grids.{IsSpot};
-ghost use Rattle.placecell.specs.Whole.{Whole as Cell};
-ghost use Rattle.poolsteps.specs.Layout.{slot_start, slot_row, shard_start, spots_at};
-ghost use Rattle.poolcalls.specs.declared.reclaimed.Reclaimed.TheVariants.{Own};
-ghost use Rattle.poolcalls.specs.Called.{StandsAt};
-ghost use Rattle.shardpool.specs.Stores.{KeepsOwn, Keeps, TakesOwn, Hangs, FollowsOn, GivesOut};
+ghost use Rattle.poolsteps.specs.Layout.{slot_start, shard_start, spots_at};
+ghost use Rattle.shardpool.specs.Stores.{KeepsOwn, TakesOwn, Hangs, FollowsOn, GivesOut};
 ghost use Rattle.shardpool.specs.Openings.{OpensNext};
 
-use crate::state::LaneState;
-use keybits::{Place, link_to, linked_place, shard_of};
-use placecell::Whole;
-use poolcalls::Reclaimed;
-use poolsteps::Spot;
+use crate::pool::LaneState;
+use keybits::{Place, linked_place, shard_of};
+use poolsteps::{Spot, Whole};
 use slotcell::Clear;
 use std::alloc::Global;
 
@@ -55,37 +50,6 @@ fn list<T: Drop>(state: &mut LaneState<T>, place: u32, object: Box<T, Global>)
         .objects
         .fill(state.places.start(place) as usize, object);
     state.free.push(Place::of_number(place));
-}
-
-/// What became of a place that was reclaimed is kept: the object of an own place, and of a place that was returned its
-/// word.
-#[inline(always)]
-pub(crate) fn keep_reclaimed<T: Drop>(
-    state: &mut LaneState<T>,
-    spot: Spot,
-    reclaimed: Option<Reclaimed<T>>,
-)
-    requires shape { IsShape state.old.shape }
-    requires spot { IsSpot state.old.shape spot spot.place }
-    requires narrow { length state.old.objects.items ≡ shard_places state.old.shape }
-    requires wide { length state.old.last_pushed.items ≡ state.old.shape.lanes }
-    requires begins { (state.old.objects.first ≡ shard_start state.old.shape state.old.free.shard) × (state.old.objects.wide ≡ slot_row state.old.shape) }
-    requires at { StandsAt (spots_at state.old.objects.directory state.old.shape spot.place) reclaimed }
-    requires away { (whole : Cell T) → reclaimed ≡ Some (Own whole) → IsAway state.old.free (place_numbered spot.place) }
-    ensures { Keeps spot.place reclaimed state.old state.new }
-{
-    match reclaimed {
-        Some(Reclaimed::Own(whole)) => {
-            keep(state, spot, whole);
-        }
-        Some(Reclaimed::Returned) => {
-            state.last_pushed[shard_of(spot.place) as usize] = link_to(spot.place);
-        }
-        Some(Reclaimed::Retired(vacancy)) => {
-            state.objects.retire(spot.start as usize, vacancy);
-        }
-        None => {}
-    }
 }
 
 /// The first place of the lane's list, where it stands, and its object. None where the list is empty, which changes

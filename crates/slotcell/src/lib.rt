@@ -11,12 +11,12 @@
 //! is safe code over them.
 #![tactic(auto)]
 
-mod clear;
+mod objects;
 mod portion;
 mod share;
 mod unboxed;
 mod whole;
 
-pub use clear::{ByteBuf, Clear, Memory, Record};
+pub use objects::{ByteBuf, Clear, Memory, Record};
 pub use share::Share;
 pub use whole::{Whole, join};

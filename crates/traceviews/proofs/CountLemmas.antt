@@ -2,8 +2,8 @@
 use Rattle.std.proofs.Common.{◌≡◌, ℕ, ◌+◌, ◌<◌, ◌≤◌, max, Bool, true, false, cond, nat_eq, List, [], ◌∷◌, length, get_or, drop, refl, sym, ap, ◌∙◌, arith}
 use Rattle.std.proofs.lemmas.List.{at_drop_more}
 use Rattle.keybits.specs.Words.{state_bits}
-use Rattle.keybits.specs.declared.life.State.{State}
-use Rattle.keybits.specs.declared.life.State.TheVariants as states
+use Rattle.keybits.specs.declared.words.State.{State}
+use Rattle.keybits.specs.declared.words.State.TheVariants as states
 use Rattle.traceviews.specs.declared.line.Line.{Line}
 use Rattle.traceviews.specs.Counts.{is_step, unfinished_after, unfinished_from, steps_after, longest_from}
 use Rattle.traceviews.specs.Decoded.{state_with}

@@ -2,8 +2,8 @@
 use Rattle.std.specs.Prelude.{ℕ, ◌-◌, ◌==◌, nat_lt, Bool, true, false, List, ◌++◌, codes, decimal, if◌then◌else◌}
 use Rattle.keybits.specs.Places.{shard_of, page_of, slot_of}
 use Rattle.keybits.specs.Words.{state_in, count_in, generation_in}
-use Rattle.keybits.specs.declared.life.State.{State}
-use Rattle.keybits.specs.declared.life.State.TheVariants as states
+use Rattle.keybits.specs.declared.words.State.{State}
+use Rattle.keybits.specs.declared.words.State.TheVariants as states
 use Rattle.keybits.specs.declared.step.Word.{Word}
 use Rattle.keybits.specs.declared.step.Word.TheVariants as words
 use Rattle.traces.specs.Text.{kind_text}

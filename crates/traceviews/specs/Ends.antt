@@ -5,7 +5,7 @@ use Rattle.std.specs.List.Sorted.{IsStrictlySortedBy}
 use Rattle.std.specs.Map.{keys_of, lookup}
 use Rattle.std.specs.Ordering.{nat_cmp}
 use Rattle.keybits.specs.Words.{state_bits, state_in}
-use Rattle.keybits.specs.declared.life.State.{State}
+use Rattle.keybits.specs.declared.words.State.{State}
 use Rattle.keybits.specs.declared.step.Word.{Word}
 use Rattle.keybits.specs.declared.step.Word.TheVariants as words
 use Rattle.traceviews.specs.declared.line.Entry.{Entry}

@@ -4,8 +4,8 @@ use Rattle.std.specs.BTreeMap.{is_at}
 use Rattle.std.specs.List.{list_any}
 use Rattle.std.specs.List.Sorted.{IsStrictlySortedBy}
 use Rattle.std.specs.Ordering.{nat_cmp}
-use Rattle.keybits.specs.declared.life.State.{State}
-use Rattle.keybits.specs.declared.life.State.TheVariants as states
+use Rattle.keybits.specs.declared.words.State.{State}
+use Rattle.keybits.specs.declared.words.State.TheVariants as states
 use Rattle.traces.specs.Text.{kind_text}
 use Rattle.traceviews.specs.Lines.{kind_of}
 use Rattle.traceviews.specs.Counts.{is_step_of, is_failed_of, is_reply_of, is_unfinished, longest_call}

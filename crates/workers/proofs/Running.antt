@@ -9,7 +9,7 @@ use Rattle.seqpool.specs.declared.act.Act.TheVariants as acts
 use Rattle.seqpool.specs.Pool.{Phase, references_in, pool_after}
 use Rattle.seqpool.specs.Histories.{PublishedAt}
 use Rattle.seqpool.specs.Laws.{GetLaw, OnceLaw}
-use Rattle.sharelaws.specs.Shares.{room_of}
+use Rattle.poolsteps.specs.Shares.{room_of}
 use Rattle.steplaws.specs.Calls.{Call}
 use Rattle.steplaws.specs.Calls.Call.{Publishing, Getting, Releasing, Clearing}
 use Rattle.slotcell.specs.ByteBuf.{ByteBuf}

@@ -4,7 +4,7 @@ use Rattle.keybits.specs.Keys.{place_of, is_key}
 use Rattle.seqpool.specs.declared.act.Act.{Act}
 use Rattle.seqpool.specs.declared.act.Act.TheVariants as acts
 use Rattle.seqpool.specs.Histories.{PublishedAt}
-use Rattle.sharelaws.specs.Shares.{room_of}
+use Rattle.poolsteps.specs.Shares.{room_of}
 use Rattle.steplaws.specs.Calls.Call.{Publishing, Getting, Releasing, Clearing}
 use Rattle.traces.specs.declared.script.Command.{Command}
 use Rattle.traces.specs.declared.script.Command.TheVariants.{Create, Write, Publish, Downgrade, Get, Read, Release, Clear}

@@ -21,8 +21,8 @@ impl Drop for Held {
     fn drop(self) {
         match self {
             Held::Empty => {}
-            Held::Filling(filling) => filling.leave(),
-            Held::Reference(reference) => reference.leave(),
+            Held::Filling(filling) => filling.forget(),
+            Held::Reference(reference) => reference.forget(),
         }
     }
 }
@@ -69,7 +69,7 @@ impl Held {
             Held::Empty => None,
             Held::Filling(filling) => Some(filling),
             Held::Reference(reference) => {
-                reference.leave();
+                reference.forget();
                 None
             }
         }
@@ -82,7 +82,7 @@ impl Held {
         match self {
             Held::Empty => None,
             Held::Filling(filling) => {
-                filling.leave();
+                filling.forget();
                 None
             }
             Held::Reference(reference) => Some(reference),

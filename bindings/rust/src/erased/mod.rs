@@ -13,9 +13,6 @@
 
 pub(crate) mod freelists;
 pub(crate) mod keybits;
-pub(crate) mod placecell;
-pub(crate) mod placerows;
-pub(crate) mod poolcalls;
 pub(crate) mod poolsteps;
 pub(crate) mod shardpool;
 pub(crate) mod slotcell;

@@ -9,8 +9,8 @@ use Rattle.keybits.specs.declared.shape.Shape.{Shape}
 use Rattle.keybits.specs.Places.{shard_of}
 use Rattle.keybits.specs.Shapes.{IsShape, is_place, shard_places, index_of}
 use Rattle.keybits.proofs.ShapeLemmas.{is_place-parts, index_of-lt, position_of-injective}
-use Rattle.placecell.specs.Share.{Share}
-use Rattle.placecell.specs.Spot.{Spot as CellSpot}
+use Rattle.poolsteps.specs.Share.{Share}
+use Rattle.poolsteps.specs.Spot.{Spot as CellSpot}
 use Rattle.poolsteps.specs.Layout.{slot_index}
 use Rattle.poolsteps.proofs.SlotLemmas.{slot-apart}
 use Rattle.poolsteps.specs.Joins.{IsSlotRow, HasPart, IsSpread, IsResting, HasCell, HasNoCell, Drains}

@@ -10,13 +10,13 @@ use Rattle.core.specs.Mem.Slots.{slots_items}
 use Rattle.seqpool.specs.declared.act.Act.{Act}
 use Rattle.steplaws.specs.Facts.{Words}
 use Rattle.keybits.specs.declared.shape.Shape.{Shape}
-use Rattle.placecell.specs.Share.{Share}
+use Rattle.poolsteps.specs.Share.{Share}
 use Rattle.poolsteps.specs.declared.grid.Grid.{Grid}
 use Rattle.poolsteps.specs.declared.view.View.{View}
 use Rattle.poolsteps.specs.Layout.{words_in, slot_row, spots_at}
 use Rattle.poolsteps.specs.Rule.{World}
 use Rattle.poolsteps.specs.Grids.{AreHands, EndsWith}
-use Rattle.shardpool.specs.declared.state.LaneState.{LaneState}
+use Rattle.shardpool.specs.declared.pool.LaneState.{LaneState}
 use Rattle.shardpool.specs.Tokens.{LaneOf}
 use Rattle.shardpool.specs.LaneStates.{Fits}
 use Rattle.shardpool.specs.Closings.{AreLanes, IsLast, IsLastHistory, AreLast}

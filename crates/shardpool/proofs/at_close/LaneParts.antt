@@ -17,7 +17,7 @@ use Rattle.poolsteps.specs.Views.{the_lane}
 use Rattle.poolsteps.specs.Rule.{World, IsRecord}
 use Rattle.poolsteps.specs.Told.{references_seen}
 use Rattle.poolsteps.proofs.ViewLemmas.{none-behind}
-use Rattle.shardpool.specs.declared.state.LaneState.{LaneState}
+use Rattle.shardpool.specs.declared.pool.LaneState.{LaneState}
 use Rattle.shardpool.specs.LaneStates.{Fits}
 use Rattle.shardpool.specs.Lanes.{IsKept}
 use Rattle.shardpool.specs.Closings.{IsLast}

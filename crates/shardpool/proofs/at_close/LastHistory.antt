@@ -16,7 +16,7 @@ use Rattle.steplaws.specs.Facts.{Words, Rule, moment}
 use Rattle.steplaws.proofs.Counts.{quiet-law}
 use Rattle.poolsteps.specs.Views.{the_lane}
 use Rattle.poolsteps.specs.Rule.{World, IsRecord}
-use Rattle.shardpool.specs.declared.state.LaneState.{LaneState}
+use Rattle.shardpool.specs.declared.pool.LaneState.{LaneState}
 use Rattle.shardpool.specs.Tokens.{LaneOf}
 use Rattle.shardpool.specs.Places.{left_with}
 use Rattle.shardpool.specs.LaneStates.{Fits}

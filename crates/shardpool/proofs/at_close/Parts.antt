@@ -3,10 +3,10 @@ use Rattle.std.proofs.Common.{◌≡◌, ⊎_elim, ℕ, ◌+◌, ◌<◌, List, 
 use Rattle.std.proofs.lemmas.List.{length_push}
 use Rattle.std.proofs.lemmas.Option.{slice_get_within}
 use Rattle.atomic_table.specs.declared.shared.Seat.{Seat}
-use Rattle.placecell.specs.Share.{Share}
+use Rattle.poolsteps.specs.Share.{Share}
 use Rattle.poolsteps.specs.declared.view.View.{View}
 use Rattle.poolsteps.proofs.ViewLemmas.{entry-of}
-use Rattle.shardpool.specs.declared.state.LaneState.{LaneState}
+use Rattle.shardpool.specs.declared.pool.LaneState.{LaneState}
 use Rattle.shardpool.specs.Tokens.{LaneOf}
 use Rattle.shardpool.specs.Partings.{IsParted, AreParted}
 

@@ -19,20 +19,20 @@ use Rattle.seqpool.specs.Pool.{Phase, with, published, home, retired, has, refer
 use Rattle.seqpool.proofs.Ranks.{current-from}
 use Rattle.steplaws.specs.Facts.{Words, Rule, moment, is_home}
 use Rattle.steplaws.proofs.Generations.{key_now}
-use Rattle.sharelaws.specs.declared.stored.Stored.{Stored}
-use Rattle.sharelaws.specs.declared.stored.Status.TheVariants.{Untouched, Emptied, Whole}
-use Rattle.sharelaws.specs.Shares.{Slots as Cells, HasShare, StandsAs, RestsAs, MayHave, reclaimer, Shared}
-use Rattle.sharelaws.proofs.Cases.{untouched-is}
+use Rattle.poolsteps.specs.declared.view.Stored.{Stored}
+use Rattle.poolsteps.specs.declared.view.Status.TheVariants.{Untouched, Emptied, Whole}
+use Rattle.poolsteps.specs.Shares.{Slots as Cells, HasShare, StandsAs, RestsAs, MayHave, reclaimer, Shared}
+use Rattle.poolsteps.proofs.shares.Cases.{untouched-is}
 use denote.RawPtr.{Ptr}
-use Rattle.placecell.specs.Share.{Share}
-use Rattle.placecell.specs.Spot.{Spot as CellSpot}
+use Rattle.poolsteps.specs.Share.{Share}
+use Rattle.poolsteps.specs.Spot.{Spot as CellSpot}
 use Rattle.poolsteps.specs.Views.{the_lane, known_of}
 use Rattle.poolsteps.specs.Layout.{slot_start, slot_index, slots_in, spots_at}
 use Rattle.poolsteps.specs.Rule.{World}
 use Rattle.poolsteps.proofs.SlotLemmas.{in-row, slot-is, slot-apart}
 use Rattle.poolsteps.specs.Joins.{HasPart, IsSpread, IsResting}
-use Rattle.shardpool.specs.declared.state.HeldKey.{HeldKey}
-use Rattle.shardpool.specs.declared.state.LaneState.{LaneState}
+use Rattle.shardpool.specs.declared.pool.HeldKey.{HeldKey}
+use Rattle.shardpool.specs.declared.pool.LaneState.{LaneState}
 use Rattle.shardpool.specs.LaneStates.{FitsRow}
 use Rattle.shardpool.specs.Tokens.{LaneOf}
 use Rattle.shardpool.specs.Closings.{AreLanes}

@@ -10,13 +10,13 @@ use Rattle.core.specs.Mem.Slots.{slots_items, slots_ptr}
 use Rattle.keybits.specs.declared.shape.Shape.{Shape}
 use Rattle.keybits.specs.Shapes.{IsShape, is_place, all_places, position_of}
 use Rattle.keybits.proofs.ShapeLemmas.{position_of-lt, position_of-injective}
-use Rattle.placecell.specs.Share.{Share}
+use Rattle.poolsteps.specs.Share.{Share}
 use Rattle.poolsteps.specs.Layout.{slot_start, slot_index}
 use Rattle.poolsteps.proofs.SlotLemmas.{start-injective, slot-apart}
 use Rattle.poolsteps.specs.Joins.{IsSlotRow}
 use Rattle.poolsteps.proofs.Joining.{get-elsewhere}
-use Rattle.shardpool.specs.declared.state.HeldKey.{HeldKey}
-use Rattle.shardpool.specs.declared.state.LaneState.{LaneState}
+use Rattle.shardpool.specs.declared.pool.HeldKey.{HeldKey}
+use Rattle.shardpool.specs.declared.pool.LaneState.{LaneState}
 use Rattle.shardpool.specs.Remains.{GivesRow, GivesTo, IsBack, IsOff, GivesBack, MayHandBack, IsStripped, AreStripped, HandsBack}
 use Rattle.shardpool.proofs.free.Stores.{stands-here}
 

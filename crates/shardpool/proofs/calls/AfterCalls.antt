@@ -7,8 +7,8 @@ use Rattle.seqpool.specs.declared.act.Act.{Act}
 use Rattle.seqpool.specs.declared.act.Act.TheVariants as acts
 use Rattle.seqpool.specs.Pool.{Pool, pool_after, IsLegal}
 use Rattle.seqpool.proofs.Ranks.{current-key}
-use Rattle.sharelaws.proofs.HeldContents.{held-current}
-use Rattle.sharelaws.specs.Shares.{room_of}
+use Rattle.poolsteps.proofs.shares.HeldContents.{held-current}
+use Rattle.poolsteps.specs.Shares.{room_of}
 use Rattle.steplaws.specs.Calls.Call.{Publishing, Getting, Releasing, Clearing}
 use Rattle.poolsteps.specs.Views.{the_lane}
 use Rattle.poolsteps.proofs.ViewLemmas.{prefix-self}

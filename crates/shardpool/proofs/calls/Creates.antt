@@ -25,11 +25,11 @@ use Rattle.freelists.specs.Shards.{ShardPages}
 use Rattle.seqpool.specs.declared.act.Act.{Act}
 use Rattle.seqpool.specs.declared.act.Act.TheVariants as acts
 use Rattle.seqpool.specs.Pool.{with, has, Phase, pool_after}
-use Rattle.sharelaws.specs.Shares.{room_of}
+use Rattle.poolsteps.specs.Shares.{room_of}
 use Rattle.steplaws.specs.Facts.{home_in, is_home}
 use Rattle.steplaws.specs.Calls.{Call, Caller, Aim, aim, next_lane, first_lane, follow_next, take_next, next_step, AreSteps}
 use Rattle.steplaws.specs.Calls.Call.{Creating}
-use Rattle.sharelaws.specs.PlaceLaws.{gives_away, brings}
+use Rattle.poolsteps.specs.PlaceLaws.{gives_away, brings}
 use Rattle.poolsteps.specs.declared.view.LaneRecord.{LaneRecord}
 use Rattle.poolsteps.specs.declared.view.View.{View}
 use Rattle.poolsteps.specs.Views.{the_lane}
@@ -37,16 +37,16 @@ use Rattle.poolsteps.specs.Told.{Sees, references_seen}
 use Rattle.poolsteps.specs.ViewLaws.{references_made}
 use Rattle.poolsteps.proofs.ViewLemmas.{prefix-self, prefix-trans}
 use Rattle.poolsteps.specs.Returned.{LeadsTo}
-use Rattle.poolcalls.specs.Called.{caller_of, Make}
-use Rattle.poolcalls.proofs.Doing.{make-one, make-more}
-use Rattle.poolcalls.proofs.Calling.{no-links, steps-more}
-use Rattle.poolcalls.specs.Taken.{Went, Collects, FollowsOut, NoneHome}
-use Rattle.poolcalls.proofs.Going.{acted-goes, none-went, went-goes, went-more}
+use Rattle.shardpool.specs.Called.{caller_of, Make}
+use Rattle.shardpool.proofs.parts.Doing.{make-one, make-more}
+use Rattle.shardpool.proofs.parts.Calling.{no-links, steps-more}
+use Rattle.shardpool.specs.Taken.{Went, Collects, FollowsOut, NoneHome}
+use Rattle.shardpool.proofs.parts.Going.{acted-goes, none-went, went-goes, went-more}
 use Rattle.shardpool.specs.Tokens.{LaneOf, FillingOf}
 use Rattle.shardpool.specs.Lanes.{IsFilling, Made, SameLane, holds}
 use Rattle.shardpool.specs.Places.{IsBlank}
 use Rattle.shardpool.specs.LaneStates.{Fits, FitsSeat, IsFirst}
-use Rattle.shardpool.specs.declared.state.LaneState.{LaneState}
+use Rattle.shardpool.specs.declared.pool.LaneState.{LaneState}
 use Rattle.atomic_table.specs.Seated.{TableId}
 use Rattle.shardpool.proofs.frame.Standing.{sees-on}
 use Rattle.shardpool.proofs.frame.LaneFrames.{acted-refs}

@@ -20,25 +20,25 @@ use Rattle.seqpool.proofs.Growth.{legal-rest}
 use Rattle.seqpool.proofs.Ranks.{current-key}
 use Rattle.seqpool.specs.Histories.{acts_of}
 use Rattle.steplaws.specs.StepLaws.{reclaim}
-use Rattle.sharelaws.specs.PlaceLaws.{gives_away, brings}
+use Rattle.poolsteps.specs.PlaceLaws.{gives_away, brings}
 use Rattle.poolsteps.specs.declared.grid.Spot.{Spot}
 use Rattle.poolsteps.specs.Grids.{IsSpot}
 use Rattle.poolsteps.specs.declared.view.LaneRecord.{LaneRecord}
 use Rattle.poolsteps.specs.declared.view.View.{View}
 use Rattle.poolsteps.specs.Views.{the_lane, pushed_in, status_of}
 use Rattle.poolsteps.specs.ViewLaws.{references_with, references_made}
-use Rattle.sharelaws.specs.declared.stored.Status.TheVariants.{Untouched, Emptied}
-use Rattle.placecell.specs.Share.{Share}
-use Rattle.placecell.specs.Whole.{Whole}
+use Rattle.poolsteps.specs.declared.view.Status.TheVariants.{Untouched, Emptied}
+use Rattle.poolsteps.specs.Share.{Share}
+use Rattle.poolsteps.specs.Whole.{Whole}
 use Rattle.poolsteps.specs.Told.{IsIdle}
-use Rattle.poolcalls.specs.declared.reclaimed.Reclaimed.{Reclaimed}
-use Rattle.poolcalls.specs.declared.reclaimed.Reclaimed.TheVariants.{Own, Returned, Retired}
-use Rattle.poolcalls.specs.Acted.{Acted}
+use Rattle.shardpool.specs.declared.reclaim.Reclaimed.{Reclaimed}
+use Rattle.shardpool.specs.declared.reclaim.Reclaimed.TheVariants.{Own, Returned, Retired}
+use Rattle.shardpool.specs.Acted.{Acted}
 use Rattle.poolsteps.specs.Layout.{slot_row, shard_start, spots_at}
 use denote.RawPtr.{Ptr}
-use Rattle.placecell.specs.Spot.{Spot as CellSpot}
-use Rattle.poolcalls.specs.Called.{Did, IsReclaimed, StandsAt, EndsWithActs, FitsGeneration, MovedNothing, end_acts, end_pushed}
-use Rattle.shardpool.specs.declared.state.LaneState.{LaneState}
+use Rattle.poolsteps.specs.Spot.{Spot as CellSpot}
+use Rattle.shardpool.specs.Called.{Did, IsReclaimed, StandsAt, EndsWithActs, FitsGeneration, MovedNothing, end_acts, end_pushed}
+use Rattle.shardpool.specs.declared.pool.LaneState.{LaneState}
 use Rattle.shardpool.specs.Places.{held_after, left_with}
 use Rattle.shardpool.specs.LaneStates.{FitsSeat, FitsTops, FitsStores, FitsRights, IsHeld, FitsRows, Fits}
 use Rattle.shardpool.specs.Stores.{Keeps}

@@ -14,27 +14,27 @@ use Rattle.keybits.specs.Keys.{place_of, is_key, generation_of}
 use Rattle.seqpool.specs.declared.act.Act.{Act}
 use Rattle.seqpool.specs.declared.act.Act.TheVariants as acts
 use Rattle.seqpool.specs.Pool.{with, published, pool_after}
-use Rattle.sharelaws.specs.declared.stored.Status.TheVariants.{Untouched}
-use Rattle.sharelaws.specs.Shares.{room_of}
-use Rattle.placecell.specs.Share.{Share}
-use Rattle.placecell.specs.Spot.{Spot as CellSpot}
+use Rattle.poolsteps.specs.declared.view.Status.TheVariants.{Untouched}
+use Rattle.poolsteps.specs.Shares.{room_of}
+use Rattle.poolsteps.specs.Share.{Share}
+use Rattle.poolsteps.specs.Spot.{Spot as CellSpot}
 use Rattle.steplaws.specs.Calls.{Call, key_in}
 use Rattle.steplaws.specs.Calls.Call.{Getting}
-use Rattle.sharelaws.specs.PlaceLaws.{gives_away}
-use Rattle.sharelaws.proofs.HeldContents.{held-content-law}
+use Rattle.poolsteps.specs.PlaceLaws.{gives_away}
+use Rattle.poolsteps.proofs.shares.HeldContents.{held-content-law}
 use Rattle.poolsteps.specs.Layout.{slot_start}
 use Rattle.poolsteps.specs.declared.view.View.{View}
 use Rattle.poolsteps.specs.Views.{the_lane, status_of}
 use Rattle.poolsteps.specs.Told.{IsIdle, MayTouch, references_seen}
 use Rattle.poolsteps.specs.Moved.{Outs}
 use Rattle.poolsteps.specs.ViewLaws.{HeldLaw}
-use Rattle.poolcalls.specs.Carried.{Carries}
-use Rattle.poolcalls.proofs.Moves.{out-moves, carries-out, moves-here, moves-known}
-use Rattle.poolcalls.specs.declared.reclaimed.Reclaimed.{Reclaimed}
-use Rattle.poolcalls.specs.Called.{Did as DidSo, Called, MadeOne, IsUnmoved, GetMisses, IsReclaimed, EndsWithActs}
-use Rattle.poolcalls.proofs.Doing.{did-more, did-carries}
-use Rattle.shardpool.specs.declared.state.HeldKey.{HeldKey}
-use Rattle.shardpool.specs.declared.state.LaneState.{LaneState}
+use Rattle.shardpool.specs.Carried.{Carries}
+use Rattle.shardpool.proofs.parts.Moves.{out-moves, carries-out, moves-here, moves-known}
+use Rattle.shardpool.specs.declared.reclaim.Reclaimed.{Reclaimed}
+use Rattle.shardpool.specs.Called.{Did as DidSo, Called, MadeOne, IsUnmoved, GetMisses, IsReclaimed, EndsWithActs}
+use Rattle.shardpool.proofs.parts.Doing.{did-more, did-carries}
+use Rattle.shardpool.specs.declared.pool.HeldKey.{HeldKey}
+use Rattle.shardpool.specs.declared.pool.LaneState.{LaneState}
 use Rattle.shardpool.specs.Places.{held_after}
 use Rattle.shardpool.specs.Tokens.{FillingOf}
 use Rattle.shardpool.specs.Rows.{AreStanding}

@@ -2,7 +2,7 @@
 use Rattle.std.proofs.Common.{◌≡◌, ◌⊎◌, ℕ, ◌<◌, ◌≤◌, Bool, true, false, cond, eqb, List, [], ◌∷◌, map, length, Option, Some, None, refl, sym, ap, ◌∙◌, subst, arith}
 use Rattle.atomic_table.specs.Table.{Me}
 use Rattle.atomic_table.specs.declared.shared.Seat.{Seat}
-use Rattle.placecell.specs.Share.{Share}
+use Rattle.poolsteps.specs.Share.{Share}
 use Rattle.keybits.specs.declared.shape.Shape.{Shape}
 use Rattle.keybits.specs.declared.place.Place.{Place}
 use Rattle.keybits.specs.declared.step.Kind.TheVariants as kinds
@@ -16,12 +16,12 @@ use Rattle.poolsteps.specs.declared.view.View.{View}
 use Rattle.poolsteps.specs.Grids.{IsSpot}
 use Rattle.poolsteps.specs.Views.{the_lane, IsOne}
 use Rattle.poolsteps.specs.Told.{references_seen}
-use Rattle.poolcalls.specs.Called.{caller_of, Make, Did, IsLawful}
-use Rattle.poolcalls.proofs.Doing.{same-caller}
-use Rattle.poolcalls.proofs.Going.{none-acted, acted-more}
-use Rattle.poolcalls.specs.Halted.{CalledWithin}
-use Rattle.poolcalls.proofs.Within.{at-end}
-use Rattle.shardpool.specs.declared.state.LaneState.{LaneState}
+use Rattle.shardpool.specs.Called.{caller_of, Make, Did, IsLawful}
+use Rattle.shardpool.proofs.parts.Doing.{same-caller}
+use Rattle.shardpool.proofs.parts.Going.{none-acted, acted-more}
+use Rattle.shardpool.specs.Halted.{CalledWithin}
+use Rattle.shardpool.proofs.parts.Within.{at-end}
+use Rattle.shardpool.specs.declared.pool.LaneState.{LaneState}
 use Rattle.shardpool.specs.LaneStates.{Fits}
 use Rattle.shardpool.specs.Tokens.{PoolOf, LaneOf}
 use Rattle.shardpool.specs.declared.halt.LastCall.{LastCall}

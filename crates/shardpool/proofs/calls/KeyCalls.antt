@@ -1,7 +1,7 @@
 -- What a call of a key finds before it, and what it then leaves of its lane.
 use Rattle.std.proofs.Common.{◌≡◌, ◌==◌, ℕ, ◌+◌, ◌<◌, Bool, true, List, [], ◌∷◌, length, Option, Some, None, IfSome, refl, sym, ap, ◌∙◌, subst, slice_get, slice_index, slice_index_or, slice_set, if◌then◌else◌}
 use Rattle.atomic_table.specs.Table.{Me}
-use Rattle.placecell.specs.Share.{Share}
+use Rattle.poolsteps.specs.Share.{Share}
 use Rattle.keybits.specs.declared.shape.Shape.{Shape}
 use Rattle.keybits.specs.Places.{shard_of}
 use Rattle.keybits.proofs.ShapeLemmas.{is_place-parts}
@@ -9,11 +9,11 @@ use Rattle.keybits.specs.Keys.{place_of, is_key, generation_of}
 use Rattle.freelists.specs.Queues.{IsAway}
 use Rattle.freelists.specs.Shards.{place_numbered}
 use Rattle.seqpool.specs.declared.act.Act.TheVariants as acts
-use Rattle.sharelaws.specs.declared.stored.Status.TheVariants.{Untouched}
+use Rattle.poolsteps.specs.declared.view.Status.TheVariants.{Untouched}
 use Rattle.steplaws.specs.Calls.Call.{Getting, Clearing}
 use Rattle.poolsteps.specs.declared.grid.Spot.{Spot}
 use denote.RawPtr.{Ptr}
-use Rattle.placecell.specs.Whole.{Whole}
+use Rattle.poolsteps.specs.Whole.{Whole}
 use Rattle.poolsteps.specs.Layout.{slot_start, spots_at}
 use Rattle.poolsteps.specs.declared.view.View.{View}
 use Rattle.poolsteps.specs.Views.{the_lane, status_of}
@@ -21,14 +21,14 @@ use Rattle.poolsteps.specs.Grids.{IsSpot}
 use Rattle.poolsteps.specs.Told.{MayTouch, references_seen}
 use Rattle.poolsteps.specs.Moved.{Outs}
 use Rattle.poolsteps.specs.ViewLaws.{HeldLaw}
-use Rattle.poolcalls.specs.declared.reclaimed.Reclaimed.{Reclaimed}
-use Rattle.poolcalls.specs.declared.reclaimed.Reclaimed.TheVariants.{Own}
-use Rattle.poolcalls.specs.declared.at_place.At.{At}
-use Rattle.poolcalls.specs.AtPlace.{IsAt}
-use Rattle.poolcalls.specs.Called.{Called, GetHits, GetMisses, IsReclaimed, EndsWithActs}
-use Rattle.poolcalls.proofs.Moves.{carries-out}
-use Rattle.shardpool.specs.declared.state.HeldKey.{HeldKey}
-use Rattle.shardpool.specs.declared.state.LaneState.{LaneState}
+use Rattle.shardpool.specs.declared.reclaim.Reclaimed.{Reclaimed}
+use Rattle.shardpool.specs.declared.reclaim.Reclaimed.TheVariants.{Own}
+use Rattle.shardpool.specs.declared.reclaim.At.{At}
+use Rattle.shardpool.specs.AtPlace.{IsAt}
+use Rattle.shardpool.specs.Called.{Called, GetHits, GetMisses, IsReclaimed, EndsWithActs}
+use Rattle.shardpool.proofs.parts.Moves.{carries-out}
+use Rattle.shardpool.specs.declared.pool.HeldKey.{HeldKey}
+use Rattle.shardpool.specs.declared.pool.LaneState.{LaneState}
 use Rattle.shardpool.specs.Tokens.{PoolOf, LaneOf}
 use Rattle.shardpool.specs.Stores.{Keeps}
 use Rattle.shardpool.specs.LaneStates.{FitsRows, Fits}

@@ -12,23 +12,23 @@ use Rattle.keybits.specs.declared.shape.Shape.{Shape}
 use Rattle.keybits.specs.Places.{shard_of}
 use Rattle.keybits.specs.Shapes.{IsShape, shard_places, index_of}
 use Rattle.keybits.proofs.ShapeLemmas.{index_of-lt}
-use Rattle.placerows.specs.Objects.{ObjectsOf}
+use Rattle.poolsteps.specs.Objects.{ObjectsOf}
 use Rattle.poolsteps.specs.declared.layout.TheConstants.{SHARDS_APART}
 use Rattle.poolsteps.specs.Layout.{slot_row, shard_start}
 use Rattle.freelists.specs.Shards.{ShardPages, shape_of}
 use Rattle.freelists.specs.Queues.{FreePlaces}
 use Rattle.seqpool.specs.Pool.{fresh, with, is_current}
-use Rattle.sharelaws.specs.declared.stored.Status.TheVariants.{Untouched, Emptied}
+use Rattle.poolsteps.specs.declared.view.Status.TheVariants.{Untouched, Emptied}
 use Rattle.poolsteps.specs.declared.view.View.{View}
 use Rattle.poolsteps.specs.Told.{references_seen}
-use Rattle.shardpool.specs.declared.state.HeldKey.{HeldKey}
-use Rattle.shardpool.specs.declared.state.LaneState.{LaneState}
+use Rattle.shardpool.specs.declared.pool.HeldKey.{HeldKey}
+use Rattle.shardpool.specs.declared.pool.LaneState.{LaneState}
 use Rattle.shardpool.specs.declared.opening.Unendowed.{Unendowed}
-use Rattle.slotcell.specs.declared.clear.Clear.{Ghosts}
+use Rattle.slotcell.specs.declared.objects.Clear.{Ghosts}
 use Rattle.poolsteps.specs.declared.grid.Grid.{Grid}
 use Rattle.poolsteps.specs.Grids.{IsFirstHand, AreFirstHands}
 use Rattle.atomic_table.specs.declared.shared.Seat.{Seat}
-use Rattle.placecell.specs.Share.{Share}
+use Rattle.poolsteps.specs.Share.{Share}
 use Rattle.poolsteps.proofs.ViewLemmas.{entry-of}
 use Rattle.shardpool.specs.Tokens.{PoolOf, LaneOf}
 use Rattle.shardpool.specs.Opened.{first_book, IsFirstLane, AreFirstLanes, IsFirstState, AreFirstParts}

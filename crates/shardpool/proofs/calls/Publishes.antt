@@ -16,9 +16,9 @@ use Rattle.seqpool.specs.declared.act.Act.TheVariants as acts
 use Rattle.seqpool.specs.Pool.{Phase, with, pool_after, references_in}
 use Rattle.seqpool.specs.Histories.{At, PublishedAt, acts_of}
 use Rattle.seqpool.proofs.Ranks.{same-key, current-key}
-use Rattle.sharelaws.specs.declared.stored.Status.TheVariants.{Emptied}
-use Rattle.placecell.specs.Share.{Share}
-use Rattle.sharelaws.proofs.HeldContents.{held-current}
+use Rattle.poolsteps.specs.declared.view.Status.TheVariants.{Emptied}
+use Rattle.poolsteps.specs.Share.{Share}
+use Rattle.poolsteps.proofs.shares.HeldContents.{held-current}
 use Rattle.keybits.specs.Places.{shard_of}
 use Rattle.keybits.specs.Shapes.{is_place, index_of}
 use Rattle.poolsteps.specs.declared.grid.Spot.{Spot}
@@ -28,9 +28,9 @@ use Rattle.poolsteps.specs.declared.view.View.{View}
 use Rattle.poolsteps.specs.Views.{the_lane, status_of, known_of}
 use Rattle.poolsteps.specs.Told.{IsIdle, MayPublish, references_seen}
 use Rattle.poolsteps.specs.Moved.{stored_of}
-use Rattle.poolcalls.specs.Called.{Did as DidSo, MadeOne}
-use Rattle.shardpool.specs.declared.state.HeldKey.{HeldKey}
-use Rattle.shardpool.specs.declared.state.LaneState.{LaneState}
+use Rattle.shardpool.specs.Called.{Did as DidSo, MadeOne}
+use Rattle.shardpool.specs.declared.pool.HeldKey.{HeldKey}
+use Rattle.shardpool.specs.declared.pool.LaneState.{LaneState}
 use Rattle.shardpool.specs.Places.{held_after, left_with}
 use Rattle.shardpool.specs.Tokens.{LaneOf, FillingOf}
 use Rattle.shardpool.specs.Rows.{AreStanding}
@@ -41,7 +41,7 @@ use Rattle.shardpool.specs.LaneStates.{FitsSeat, FitsTops, FitsStores, FitsRight
 use Rattle.shardpool.specs.Lanes.{Made, Did}
 use Rattle.shardpool.proofs.frame.OtherShards.{abroad-one}
 use Rattle.shardpool.proofs.frame.Frames.{Passes, OnlyAt}
-use Rattle.poolcalls.proofs.Going.{all-acts}
+use Rattle.shardpool.proofs.parts.Going.{all-acts}
 use Rattle.shardpool.proofs.frame.LaneFrames.{passes-did, passes-refs, away-elsewhere, onlyat-publish}
 use Rattle.shardpool.proofs.frame.KeptPlaces.{seat-passes, last_pushed-same}
 use Rattle.shardpool.proofs.free.Stores.{IsApart, filling-apart, stores-apart, stores-changed}

@@ -9,15 +9,15 @@ use Rattle.keybits.specs.Shapes.{is_place}
 use Rattle.keybits.specs.Keys.{place_of}
 use Rattle.seqpool.specs.declared.act.Act.{Act}
 use Rattle.seqpool.specs.declared.act.Act.TheVariants as acts
-use Rattle.sharelaws.specs.PlaceLaws.{gives_away, brings}
+use Rattle.poolsteps.specs.PlaceLaws.{gives_away, brings}
 use Rattle.poolsteps.specs.declared.view.View.{View}
 use Rattle.poolsteps.specs.Views.{the_lane}
 use Rattle.poolsteps.specs.Told.{IsIdle}
 use Rattle.poolsteps.specs.ViewLaws.{references_made}
-use Rattle.poolcalls.specs.declared.reclaimed.Reclaimed.{Reclaimed}
-use Rattle.poolcalls.specs.Called.{Did as DidSo, IsReclaimed, EndsWithActs, MovedNothing, end_acts}
-use Rattle.shardpool.specs.declared.places.Places.{Places}
-use Rattle.shardpool.specs.declared.state.LaneState.{LaneState}
+use Rattle.shardpool.specs.declared.reclaim.Reclaimed.{Reclaimed}
+use Rattle.shardpool.specs.Called.{Did as DidSo, IsReclaimed, EndsWithActs, MovedNothing, end_acts}
+use Rattle.shardpool.specs.declared.pool.Places.{Places}
+use Rattle.shardpool.specs.declared.pool.LaneState.{LaneState}
 use Rattle.shardpool.specs.Places.{held_after}
 use Rattle.shardpool.specs.Tokens.{FillingOf}
 use Rattle.shardpool.specs.Stores.{Keeps}

@@ -18,29 +18,29 @@ use Rattle.freelists.specs.Shards.{place_numbered}
 use Rattle.seqpool.specs.declared.act.Act.{Act}
 use Rattle.seqpool.specs.declared.act.Act.TheVariants as acts
 use Rattle.seqpool.specs.Pool.{with, published, pool_after}
-use Rattle.sharelaws.specs.declared.stored.Status.TheVariants.{Untouched}
-use Rattle.placecell.specs.Share.{Share}
-use Rattle.placecell.specs.Spot.{Spot as CellSpot}
-use Rattle.placecell.specs.Whole.{Whole}
-use Rattle.sharelaws.specs.PlaceLaws.{gives_away}
-use Rattle.sharelaws.proofs.HeldContents.{held-content-law}
+use Rattle.poolsteps.specs.declared.view.Status.TheVariants.{Untouched}
+use Rattle.poolsteps.specs.Share.{Share}
+use Rattle.poolsteps.specs.Spot.{Spot as CellSpot}
+use Rattle.poolsteps.specs.Whole.{Whole}
+use Rattle.poolsteps.specs.PlaceLaws.{gives_away}
+use Rattle.poolsteps.proofs.shares.HeldContents.{held-content-law}
 use Rattle.poolsteps.specs.Layout.{slot_start}
 use Rattle.poolsteps.specs.declared.view.View.{View}
 use Rattle.poolsteps.specs.Grids.{IsSpot}
 use Rattle.poolsteps.specs.Views.{the_lane, status_of, pushed_in}
 use Rattle.poolsteps.specs.Told.{IsIdle, references_seen}
 use Rattle.poolsteps.specs.Moved.{Backs}
-use Rattle.poolcalls.proofs.Moves.{back-moves, carries-back, moves-here}
-use Rattle.poolcalls.specs.declared.at_place.At.{At}
-use Rattle.poolcalls.specs.AtPlace.{IsAt}
-use Rattle.poolcalls.specs.declared.reclaimed.Reclaimed.{Reclaimed}
-use Rattle.poolcalls.specs.declared.reclaimed.Reclaimed.TheVariants.{Own}
-use Rattle.poolcalls.specs.Called.{Did as DidSo, IsReclaimed, EndsWithActs, end_acts}
-use Rattle.poolcalls.proofs.Doing.{did-carries, did-most}
-use Rattle.poolcalls.proofs.Ending.{did-nothing}
-use Rattle.shardpool.specs.declared.state.HeldKey.{HeldKey}
-use Rattle.shardpool.specs.declared.places.Places.{Places}
-use Rattle.shardpool.specs.declared.state.LaneState.{LaneState}
+use Rattle.shardpool.proofs.parts.Moves.{back-moves, carries-back, moves-here}
+use Rattle.shardpool.specs.declared.reclaim.At.{At}
+use Rattle.shardpool.specs.AtPlace.{IsAt}
+use Rattle.shardpool.specs.declared.reclaim.Reclaimed.{Reclaimed}
+use Rattle.shardpool.specs.declared.reclaim.Reclaimed.TheVariants.{Own}
+use Rattle.shardpool.specs.Called.{Did as DidSo, IsReclaimed, EndsWithActs, end_acts}
+use Rattle.shardpool.proofs.parts.Doing.{did-carries, did-most}
+use Rattle.shardpool.proofs.parts.Ending.{did-nothing}
+use Rattle.shardpool.specs.declared.pool.HeldKey.{HeldKey}
+use Rattle.shardpool.specs.declared.pool.Places.{Places}
+use Rattle.shardpool.specs.declared.pool.LaneState.{LaneState}
 use Rattle.shardpool.specs.Places.{held_after}
 use Rattle.shardpool.specs.Tokens.{PoolOf, LaneOf, FillingOf}
 use Rattle.shardpool.specs.Stores.{Keeps}

@@ -22,14 +22,14 @@ use Rattle.seqpool.specs.declared.act.Act.{Act}
 use Rattle.seqpool.specs.Pool.{Phase, with, published, home, retired, has, pool_after}
 use Rattle.steplaws.specs.Facts.{bits_of}
 use Rattle.steplaws.proofs.HomePlaces.{has-some, has-none}
-use Rattle.placecell.specs.Share.{Share}
-use Rattle.placecell.specs.Spot.{Spot as CellSpot}
+use Rattle.poolsteps.specs.Share.{Share}
+use Rattle.poolsteps.specs.Spot.{Spot as CellSpot}
 use Rattle.poolsteps.specs.Joins.{IsSlotRow, IsSpread, IsResting, HasCell, HasNoCell}
 use Rattle.poolsteps.specs.Views.{the_lane}
 use Rattle.poolsteps.specs.Layout.{words_in}
 use Rattle.shardpool.specs.declared.census.Census.{Census}
 use Rattle.shardpool.specs.declared.census.Part.{Part}
-use Rattle.shardpool.specs.declared.state.LaneState.{LaneState}
+use Rattle.shardpool.specs.declared.pool.LaneState.{LaneState}
 use Rattle.shardpool.specs.Tokens.{LaneOf}
 use Rattle.shardpool.specs.Closings.{IsPart, none_counted, all_counted, places_counted, IsCensus, IsLast, AreLast}
 use Rattle.shardpool.specs.Marks.{IsRow, Blanks, stacked, AreFreePlaces, returned_places, free_places, part_in, Counts}

@@ -6,7 +6,7 @@ use Rattle.seqpool.specs.declared.act.Act.{Act}
 use Rattle.seqpool.specs.Pool.{touches}
 use Rattle.poolsteps.specs.declared.view.View.{View}
 use Rattle.poolsteps.specs.Views.{the_lane, status_of, known_of}
-use Rattle.poolcalls.specs.Acted.{Acted}
+use Rattle.shardpool.specs.Acted.{Acted}
 
 -- between two views the lane made these acts, and touched the slots of no places but these
 pub record Passes (z : Shape) (at : ℕ → Bool) (made : List Act) (v w : View) : Type 0 where

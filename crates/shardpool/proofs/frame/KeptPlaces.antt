@@ -14,15 +14,15 @@ use Rattle.seqpool.specs.declared.act.Act.TheVariants as acts
 use Rattle.seqpool.specs.Pool.{with, Spot, pool_after, IsLegal}
 use Rattle.seqpool.specs.Histories.{At, PublishedAt, acts_of}
 use Rattle.seqpool.proofs.Growth.{acts-append}
-use Rattle.sharelaws.specs.declared.stored.Stored.{Stored}
-use Rattle.sharelaws.specs.Shares.{room_of}
-use Rattle.sharelaws.specs.PlaceLaws.{gives_away, brings}
-use Rattle.sharelaws.proofs.WithPlaces.{with-law}
+use Rattle.poolsteps.specs.declared.view.Stored.{Stored}
+use Rattle.poolsteps.specs.Shares.{room_of}
+use Rattle.poolsteps.specs.PlaceLaws.{gives_away, brings}
+use Rattle.poolsteps.proofs.shares.WithPlaces.{with-law}
 use Rattle.poolsteps.specs.declared.view.View.{View}
 use Rattle.poolsteps.specs.Views.{the_lane, pushed_in, known_of}
 use Rattle.poolsteps.specs.Told.{MayPublish, IsIdle}
-use Rattle.poolcalls.specs.Acted.{Acted}
-use Rattle.poolcalls.proofs.Going.{all-acts}
+use Rattle.shardpool.specs.Acted.{Acted}
+use Rattle.shardpool.proofs.parts.Going.{all-acts}
 use Rattle.shardpool.specs.Places.{IsBlank, IsResting, left_with}
 use Rattle.shardpool.specs.LaneStates.{FitsSeat, FitsTops}
 use Rattle.shardpool.proofs.frame.OtherShards.{NoneAbroad, abroad-append}

@@ -17,17 +17,17 @@ use Rattle.seqpool.specs.declared.act.Act.{Act}
 use Rattle.seqpool.specs.declared.act.Act.TheVariants as acts
 use Rattle.seqpool.specs.Pool.{with, has, pool_after}
 use Rattle.seqpool.specs.Histories.{acts_of}
-use Rattle.sharelaws.specs.declared.stored.Status.TheVariants.{Untouched, Emptied}
-use Rattle.sharelaws.specs.PlaceLaws.{gives_away, brings}
+use Rattle.poolsteps.specs.declared.view.Status.TheVariants.{Untouched, Emptied}
+use Rattle.poolsteps.specs.PlaceLaws.{gives_away, brings}
 use Rattle.poolsteps.specs.declared.view.View.{View}
 use Rattle.poolsteps.specs.Layout.{slot_start}
 use Rattle.poolsteps.specs.Views.{the_lane, status_of}
 use Rattle.poolsteps.specs.Told.{IsIdle, references_seen, MayPublish}
 use Rattle.poolsteps.specs.ViewLaws.{references_made}
-use Rattle.poolcalls.specs.Carried.{AreEmptied}
-use Rattle.poolcalls.specs.declared.reclaimed.Reclaimed.{Reclaimed}
-use Rattle.poolcalls.specs.Called.{MovedNothing}
-use Rattle.shardpool.specs.declared.state.LaneState.{LaneState}
+use Rattle.shardpool.specs.Carried.{AreEmptied}
+use Rattle.shardpool.specs.declared.reclaim.Reclaimed.{Reclaimed}
+use Rattle.shardpool.specs.Called.{MovedNothing}
+use Rattle.shardpool.specs.declared.pool.LaneState.{LaneState}
 use Rattle.shardpool.specs.Tokens.{LaneOf, FillingOf}
 use Rattle.shardpool.specs.Lanes.{Made, Did, freed}
 use Rattle.shardpool.proofs.frame.Frames.{Passes}

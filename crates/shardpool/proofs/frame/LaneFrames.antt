@@ -6,8 +6,8 @@ use Rattle.std.proofs.lemmas.List.Elements.{All-nil, All-cons, All-head, All-tai
 use mathlib.Core.Logic.{dite}
 use native.Mathlib.Decide.{ℕ_discrete}
 use Rattle.atomic_table.specs.Table.{Me}
-use Rattle.placecell.specs.Share.{Share}
-use Rattle.placecell.specs.Spot.{Spot as CellSpot}
+use Rattle.poolsteps.specs.Share.{Share}
+use Rattle.poolsteps.specs.Spot.{Spot as CellSpot}
 use Rattle.keybits.specs.declared.shape.Shape.{Shape}
 use Rattle.keybits.specs.Keys.{key_number, place_of}
 use Rattle.keybits.specs.Shapes.{IsShape, is_place}
@@ -17,9 +17,9 @@ use Rattle.seqpool.specs.declared.act.Act.{Act}
 use Rattle.seqpool.specs.declared.act.Act.TheVariants as acts
 use Rattle.seqpool.specs.Pool.{touches}
 use Rattle.seqpool.specs.Histories.{acts_of}
-use Rattle.sharelaws.specs.declared.stored.Status.{Status}
+use Rattle.poolsteps.specs.declared.view.Status.{Status}
 use Rattle.steplaws.specs.StepLaws.{reclaim}
-use Rattle.sharelaws.specs.PlaceLaws.{gives_away}
+use Rattle.poolsteps.specs.PlaceLaws.{gives_away}
 use Rattle.poolsteps.specs.declared.view.LaneRecord.{LaneRecord}
 use Rattle.poolsteps.specs.declared.view.View.{View}
 use Rattle.poolsteps.specs.Views.{head_record, the_lane, status_of, known_of}
@@ -27,14 +27,14 @@ use Rattle.poolsteps.specs.Told.{GoesOn, Sees, references_seen}
 use Rattle.poolsteps.specs.Moved.{Outs, Backs}
 use Rattle.poolsteps.specs.ViewLaws.{references_with, references_made}
 use Rattle.poolsteps.proofs.Holding.{acts-law}
-use Rattle.poolcalls.specs.Acted.{Acted}
-use Rattle.poolcalls.specs.Carried.{Carries}
-use Rattle.poolcalls.proofs.Going.{acted-goes, acted-more, all-acts}
-use Rattle.poolcalls.proofs.Moves.{carries-out, carries-back}
-use Rattle.poolcalls.specs.declared.reclaimed.Reclaimed.{Reclaimed}
-use Rattle.poolcalls.specs.declared.reclaimed.Reclaimed.TheVariants.{Own, Returned, Retired}
-use Rattle.poolcalls.specs.Called.{IsUnmoved, Did, end_acts}
-use Rattle.poolcalls.proofs.Doing.{did-carries}
+use Rattle.shardpool.specs.Acted.{Acted}
+use Rattle.shardpool.specs.Carried.{Carries}
+use Rattle.shardpool.proofs.parts.Going.{acted-goes, acted-more, all-acts}
+use Rattle.shardpool.proofs.parts.Moves.{carries-out, carries-back}
+use Rattle.shardpool.specs.declared.reclaim.Reclaimed.{Reclaimed}
+use Rattle.shardpool.specs.declared.reclaim.Reclaimed.TheVariants.{Own, Returned, Retired}
+use Rattle.shardpool.specs.Called.{IsUnmoved, Did, end_acts}
+use Rattle.shardpool.proofs.parts.Doing.{did-carries}
 use Rattle.shardpool.proofs.frame.Frames.{Passes, OnlyAt}
 
 -- ---- from what the lane did to what is common

@@ -9,12 +9,12 @@ use Rattle.keybits.specs.Keys.{place_of}
 use Rattle.freelists.specs.Queues.{FreePlaces}
 use Rattle.freelists.specs.Shards.{ShardPages}
 use Rattle.seqpool.specs.Pool.{with, has, pool_after}
-use Rattle.sharelaws.specs.PlaceLaws.{gives_away}
+use Rattle.poolsteps.specs.PlaceLaws.{gives_away}
 use Rattle.poolsteps.specs.declared.view.View.{View}
 use Rattle.poolsteps.specs.Layout.{slot_start}
 use Rattle.poolsteps.specs.Views.{the_lane}
 use Rattle.poolsteps.specs.Told.{Sees, MayPublish}
-use Rattle.poolcalls.specs.Carried.{AreEmptied}
+use Rattle.shardpool.specs.Carried.{AreEmptied}
 use Rattle.shardpool.specs.Tokens.{LaneOf, FillingOf}
 use Rattle.shardpool.specs.Lanes.{IsFilling, SameLane}
 use Rattle.shardpool.specs.LaneStates.{FitsSeat}

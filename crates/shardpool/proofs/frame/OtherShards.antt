@@ -16,7 +16,7 @@ use Rattle.seqpool.proofs.Growth.{after-here, after-else}
 use Rattle.seqpool.proofs.Ranks.{current-key}
 use Rattle.seqpool.proofs.Owns.{with-stays}
 use Rattle.steplaws.proofs.HomePlaces.{with-one}
-use Rattle.sharelaws.specs.PlaceLaws.{brings}
+use Rattle.poolsteps.specs.PlaceLaws.{brings}
 use Rattle.shardpool.specs.Places.{left_by, left_with}
 
 -- ---- acts of a lane, one after another

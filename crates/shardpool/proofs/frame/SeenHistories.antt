@@ -7,7 +7,7 @@ use native.Mathlib.Decide.{ℕ_discrete}
 use Rattle.steplaws.proofs.HomePlaces.{has-some}
 use Rattle.keybits.specs.Counts.{times}
 use Rattle.atomic_table.specs.Table.{Me}
-use Rattle.placecell.specs.Share.{Share}
+use Rattle.poolsteps.specs.Share.{Share}
 use Rattle.keybits.specs.declared.shape.Shape.{Shape}
 use Rattle.keybits.specs.declared.place.Place.{Place}
 use Rattle.keybits.specs.Places.{number_of}
@@ -17,14 +17,14 @@ use Rattle.freelists.specs.Queues.{FreePlaces}
 use Rattle.freelists.specs.Shards.{ShardPages}
 use Rattle.seqpool.specs.declared.act.Act.{Act}
 use Rattle.seqpool.specs.Pool.{with, has, pool_after}
-use Rattle.sharelaws.specs.PlaceLaws.{gives_away}
+use Rattle.poolsteps.specs.PlaceLaws.{gives_away}
 use Rattle.poolsteps.specs.declared.view.LaneRecord.{LaneRecord}
 use Rattle.poolsteps.specs.declared.view.View.{View}
 use Rattle.poolsteps.specs.Layout.{slot_start}
 use Rattle.poolsteps.specs.Views.{head_record, the_lane}
 use Rattle.poolsteps.specs.Told.{Sees, IsIdle, MayPublish, references_seen}
-use Rattle.poolcalls.specs.Carried.{AreEmptied}
-use Rattle.shardpool.specs.declared.state.LaneState.{LaneState}
+use Rattle.shardpool.specs.Carried.{AreEmptied}
+use Rattle.shardpool.specs.declared.pool.LaneState.{LaneState}
 use Rattle.shardpool.specs.Tokens.{PoolOf, LaneOf, FillingOf}
 use Rattle.shardpool.specs.Lanes.{SameLane, Made, Did}
 use Rattle.shardpool.specs.LaneStates.{FitsSeat, Fits}

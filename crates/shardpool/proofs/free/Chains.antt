@@ -16,15 +16,15 @@ use Rattle.freelists.specs.Queues.{FreePlaces, IsAway, GoesOnBy}
 use Rattle.seqpool.specs.declared.act.Act.TheVariants as acts
 use Rattle.seqpool.specs.Pool.{with, has, NoRepeats, pool_after}
 use Rattle.seqpool.specs.Histories.{acts_of}
-use Rattle.sharelaws.specs.declared.stored.Status.TheVariants.{Emptied, Whole}
-use Rattle.sharelaws.specs.Shares.{room_of, at_rest}
-use Rattle.sharelaws.specs.PlaceLaws.{gives_away, brings}
-use Rattle.sharelaws.specs.declared.stored.Stored.{Stored}
+use Rattle.poolsteps.specs.declared.view.Status.TheVariants.{Emptied, Whole}
+use Rattle.poolsteps.specs.Shares.{room_of, at_rest}
+use Rattle.poolsteps.specs.PlaceLaws.{gives_away, brings}
+use Rattle.poolsteps.specs.declared.view.Stored.{Stored}
 use Rattle.poolsteps.specs.declared.view.LaneRecord.{LaneRecord}
 use Rattle.poolsteps.specs.declared.view.View.{View}
 use Rattle.poolsteps.specs.Views.{the_lane, known_in, status_of, known_of}
 use Rattle.poolsteps.specs.Returned.{rest_of, with_cells, taken_record, LeadsTo}
-use Rattle.poolcalls.specs.Carried.{AreEmptied}
+use Rattle.shardpool.specs.Carried.{AreEmptied}
 use Rattle.shardpool.specs.Places.{IsBlank, IsResting}
 use Rattle.shardpool.specs.LaneStates.{IsFirst, FitsStores}
 use Rattle.shardpool.proofs.frame.Frames.{Passes}

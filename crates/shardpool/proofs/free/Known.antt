@@ -13,7 +13,7 @@ use Rattle.freelists.proofs.ShardLemmas.{OwnNumber}
 use Rattle.seqpool.specs.Pool.{with, has}
 use Rattle.poolsteps.specs.declared.view.View.{View}
 use Rattle.poolsteps.specs.Views.{the_lane}
-use Rattle.shardpool.specs.declared.state.LaneState.{LaneState}
+use Rattle.shardpool.specs.declared.pool.LaneState.{LaneState}
 use Rattle.shardpool.specs.LaneStates.{IsFirst, Fits}
 use Rattle.shardpool.specs.Lanes.{IsKept, first_place}
 use Rattle.shardpool.proofs.frame.LaneFacts.{lane_of}

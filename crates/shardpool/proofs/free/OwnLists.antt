@@ -19,11 +19,11 @@ use Rattle.freelists.proofs.ShardLemmas.{OwnNumber, same_own, shard_of-number}
 use Rattle.seqpool.specs.Pool.{with, has}
 use Rattle.poolsteps.specs.declared.view.View.{View}
 use Rattle.poolsteps.specs.Views.{the_lane}
-use Rattle.shardpool.specs.declared.state.LaneState.{LaneState}
+use Rattle.shardpool.specs.declared.pool.LaneState.{LaneState}
 use Rattle.shardpool.specs.Tokens.{LaneOf, FillingOf}
 use Rattle.shardpool.specs.Lanes.{Made}
 use Rattle.shardpool.specs.Places.{IsBlank}
-use Rattle.placerows.specs.Objects.{ObjectsOf}
+use Rattle.poolsteps.specs.Objects.{ObjectsOf}
 use Rattle.shardpool.specs.LaneStates.{FitsStores, FitsRights, Fits}
 use Rattle.shardpool.proofs.free.Rights.{rights-items, rights-grow, left-with}
 use Rattle.shardpool.proofs.references.Standings.{standing-same}

@@ -17,7 +17,7 @@ use Rattle.freelists.specs.Queues.{FreePlaces, AreFree, IsAway}
 use Rattle.freelists.proofs.ShardLemmas.{own_from_number, own_in_shape}
 use Rattle.poolsteps.specs.declared.view.View.{View}
 use Rattle.poolsteps.specs.Views.{the_lane}
-use Rattle.shardpool.specs.declared.state.LaneState.{LaneState}
+use Rattle.shardpool.specs.declared.pool.LaneState.{LaneState}
 use Rattle.shardpool.specs.Places.{IsBlank}
 use Rattle.shardpool.specs.LaneStates.{FitsStores}
 use Rattle.shardpool.specs.Stores.{KeepsOwn, SameRows}

@@ -14,12 +14,12 @@ use Rattle.seqpool.specs.declared.act.Act.{Act}
 use Rattle.seqpool.specs.declared.act.Act.TheVariants as acts
 use Rattle.seqpool.specs.Pool.{with, has, touches, pool_after}
 use Rattle.seqpool.specs.Histories.{acts_of}
-use Rattle.sharelaws.specs.PlaceLaws.{brings}
-use Rattle.placerows.specs.Objects.{ObjectsOf}
+use Rattle.poolsteps.specs.PlaceLaws.{brings}
+use Rattle.poolsteps.specs.Objects.{ObjectsOf}
 use Rattle.poolsteps.specs.Layout.{shard_start}
 use Rattle.poolsteps.specs.declared.view.View.{View}
 use Rattle.poolsteps.specs.Views.{the_lane}
-use Rattle.poolcalls.specs.Acted.{Acted}
+use Rattle.shardpool.specs.Acted.{Acted}
 use Rattle.shardpool.specs.Places.{left_by, left_with}
 use Rattle.shardpool.specs.LaneStates.{FitsSeat, FitsRights}
 use Rattle.shardpool.proofs.frame.OtherShards.{left-append, with-own}

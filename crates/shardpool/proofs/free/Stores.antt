@@ -19,16 +19,16 @@ use Rattle.freelists.proofs.ShardLemmas.{OwnNumber, own_number, own_at_index, ow
 use Rattle.seqpool.specs.declared.act.Act.{Act}
 use Rattle.seqpool.specs.Pool.{with, has, NoRepeats, pool_after}
 use Rattle.seqpool.specs.Histories.{acts_of}
-use Rattle.sharelaws.specs.declared.stored.Status.TheVariants.{Untouched, Emptied, Whole}
-use Rattle.sharelaws.specs.Shares.{at_rest}
-use Rattle.sharelaws.specs.PlaceLaws.{gives_away}
+use Rattle.poolsteps.specs.declared.view.Status.TheVariants.{Untouched, Emptied, Whole}
+use Rattle.poolsteps.specs.Shares.{at_rest}
+use Rattle.poolsteps.specs.PlaceLaws.{gives_away}
 use Rattle.poolsteps.specs.declared.view.View.{View}
 use Rattle.poolsteps.specs.Views.{the_lane, status_of}
 use Rattle.poolsteps.specs.Told.{LeftAlone}
 use Rattle.poolsteps.specs.Returned.{rest_of}
-use Rattle.poolcalls.specs.declared.reclaimed.Reclaimed.{Reclaimed}
-use Rattle.poolcalls.specs.declared.reclaimed.Reclaimed.TheVariants.{Own, Returned, Retired}
-use Rattle.shardpool.specs.declared.state.LaneState.{LaneState}
+use Rattle.shardpool.specs.declared.reclaim.Reclaimed.{Reclaimed}
+use Rattle.shardpool.specs.declared.reclaim.Reclaimed.TheVariants.{Own, Returned, Retired}
+use Rattle.shardpool.specs.declared.pool.LaneState.{LaneState}
 use Rattle.shardpool.specs.Stores.{Keeps}
 use Rattle.shardpool.specs.Tokens.{LaneOf}
 use Rattle.shardpool.specs.Places.{IsBlank, IsResting}

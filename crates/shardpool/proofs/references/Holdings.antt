@@ -21,7 +21,7 @@ use Rattle.steplaws.specs.Calls.Call.{Getting, Releasing, Clearing}
 use Rattle.poolsteps.specs.declared.view.View.{View}
 use Rattle.poolsteps.specs.Views.{the_lane, acts_in}
 use Rattle.poolsteps.specs.ViewLaws.{references_made}
-use Rattle.poolcalls.specs.Called.{caller_of, Make}
+use Rattle.shardpool.specs.Called.{caller_of, Make}
 use Rattle.shardpool.specs.Tokens.{PoolOf, LaneOf, FillingOf, RefOf}
 use Rattle.shardpool.specs.Lanes.{Owns, Calls, Did, Gets, IsFilling, holds, refs}
 use Rattle.shardpool.specs.Opened.{IsFirstLane, AreFirstLanes}

@@ -13,18 +13,18 @@ use Rattle.seqpool.specs.declared.act.Act.TheVariants as acts
 use Rattle.seqpool.specs.Pool.{Pool, pool_after, references}
 use Rattle.seqpool.specs.Histories.{PublishedAt, acts_of}
 use Rattle.seqpool.proofs.Ranks.{current-key}
-use Rattle.placecell.specs.Share.{Share}
-use Rattle.sharelaws.proofs.HeldContents.{held-current}
-use Rattle.poolcalls.specs.declared.reclaimed.Reclaimed.{Reclaimed}
-use Rattle.poolcalls.specs.declared.reclaimed.Reclaimed.TheVariants.{Own, Returned, Retired}
-use Rattle.poolcalls.specs.Called.{end_acts}
+use Rattle.poolsteps.specs.Share.{Share}
+use Rattle.poolsteps.proofs.shares.HeldContents.{held-current}
+use Rattle.shardpool.specs.declared.reclaim.Reclaimed.{Reclaimed}
+use Rattle.shardpool.specs.declared.reclaim.Reclaimed.TheVariants.{Own, Returned, Retired}
+use Rattle.shardpool.specs.Called.{end_acts}
 use Rattle.poolsteps.specs.declared.view.View.{View}
 use Rattle.poolsteps.specs.Views.{the_lane}
 use Rattle.poolsteps.specs.Told.{references_seen}
 use Rattle.poolsteps.specs.Layout.{slot_start}
 use Rattle.poolsteps.proofs.SlotLemmas.{in-row}
 use Rattle.poolsteps.specs.ViewLaws.{references_made}
-use Rattle.shardpool.specs.declared.state.HeldKey.{HeldKey}
+use Rattle.shardpool.specs.declared.pool.HeldKey.{HeldKey}
 use Rattle.shardpool.specs.Places.{held_after}
 use Rattle.shardpool.specs.LaneStates.{IsHeld, FitsRow, FitsRows}
 use Rattle.shardpool.proofs.frame.Frames.{Passes, OnlyAt}

@@ -11,10 +11,10 @@ use Rattle.seqpool.specs.declared.act.Act.{Act}
 use Rattle.seqpool.specs.Pool.{Phase, pool_after, IsLegal}
 use Rattle.seqpool.specs.Histories.{PublishedAt, acts_of}
 use Rattle.seqpool.proofs.Ranks.{same-key, current-key}
-use Rattle.sharelaws.specs.declared.stored.Status.TheVariants.{Emptied}
-use Rattle.sharelaws.specs.Shares.{IsKept}
-use Rattle.placecell.specs.Share.{Share}
-use Rattle.sharelaws.proofs.HeldContents.{held-content-law, held-current}
+use Rattle.poolsteps.specs.declared.view.Status.TheVariants.{Emptied}
+use Rattle.poolsteps.specs.Shares.{IsKept}
+use Rattle.poolsteps.specs.Share.{Share}
+use Rattle.poolsteps.proofs.shares.HeldContents.{held-content-law, held-current}
 use Rattle.poolsteps.specs.declared.view.View.{View}
 use Rattle.poolsteps.specs.Views.{the_lane, status_of, known_of}
 use Rattle.poolsteps.specs.Told.{references_seen}
@@ -22,7 +22,7 @@ use Rattle.poolsteps.specs.ViewLaws.{references_made}
 use Rattle.poolsteps.specs.Moved.{stored_of}
 use Rattle.poolsteps.specs.Layout.{slot_start}
 use Rattle.poolsteps.proofs.SlotLemmas.{start-injective}
-use Rattle.shardpool.specs.declared.state.HeldKey.{HeldKey}
+use Rattle.shardpool.specs.declared.pool.HeldKey.{HeldKey}
 use Rattle.shardpool.specs.Places.{held_with, held_after}
 use Rattle.shardpool.specs.LaneStates.{IsHeld, FitsRow, FitsRows}
 use Rattle.shardpool.proofs.frame.Frames.{Passes, OnlyAt}

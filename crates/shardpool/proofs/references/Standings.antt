@@ -5,9 +5,9 @@ use Rattle.std.proofs.lemmas.Option.{slice_get_within, slice_get-get_or, get_or_
 use mathlib.Core.Logic.{dite}
 use native.Mathlib.Decide.{ℕ_discrete}
 use denote.RawPtr.{Ptr}
-use Rattle.placecell.specs.Share.{Share}
-use Rattle.placecell.specs.Spot.{Spot}
-use Rattle.shardpool.specs.declared.state.HeldKey.{HeldKey}
+use Rattle.poolsteps.specs.Share.{Share}
+use Rattle.poolsteps.specs.Spot.{Spot}
+use Rattle.shardpool.specs.declared.pool.HeldKey.{HeldKey}
 use Rattle.shardpool.specs.Rows.{AreStanding}
 use Rattle.shardpool.proofs.free.Stores.{stands-here}
 

@@ -1,14 +1,17 @@
 // Made from crates/freelists/src/local.rt by bindings/erase/erase.py: change that file, not this one.
 
+//! The free places of a lane.
+
+use crate::shim::{Global, Vec};
+
 use crate::erased::freelists::shard::{place_of_word, Shard};
 use crate::erased::keybits::Place;
-use crate::shim::{Global, Vec};
 
 /// The free places of a lane: its own list, first in first out, and beside it the first place of the chain that it took
 /// from its stacks.
 ///
-/// The own list stands in a ring with room for each place of the shard, so that nothing but `new` takes memory: a contract
-/// sees the room of the ring beside the places, and no call changes it. The order and the chain are this project's profile.
+/// The own list stands in a ring with room for each place of the shard, so that nothing but `new` takes memory: a
+/// contract sees the room of the ring beside the places, and no call changes it.
 pub struct LocalFree {
     shard: Shard,
     // The numbers of the list's places stand in a row from the first on, and behind the end at the start.
@@ -22,8 +25,8 @@ pub struct LocalFree {
 }
 
 impl LocalFree {
-    /// No free places of a shard from 0 to 15 and no chain, with room for all its places. The first page has 1, 2, 4, 8,
-    /// 16, 32 or 64 places, and there are 1 to 6 pages. None where memory was refused.
+    /// No free places of a shard from 0 to 15 and no chain, with room for all its places. The first page has 1, 2, 4,
+    /// 8, 16, 32 or 64 places, and there are 1 to 6 pages. None where memory was refused.
     #[inline]
     pub fn new(alloc: Global, shard: u8, first_page: u32, pages: u32) -> Option<LocalFree> {
         let shard = Shard::new(shard, first_page, pages);
@@ -46,8 +49,8 @@ impl LocalFree {
         self.count += 1;
     }
 
-    /// Takes the place off the own list that was pushed first, and answers it, which may be pushed again. None where the
-    /// list is empty, which changes nothing.
+    /// Takes the place off the own list that was pushed first, and answers it, which may be pushed again. None where
+    /// the list is empty, which changes nothing.
     #[inline]
     pub fn pop(&mut self) -> Option<Place> {
         if self.count == 0 {

@@ -1,5 +1,7 @@
 // Made from crates/freelists/src/pages.rt by bindings/erase/erase.py: change that file, not this one.
 
+//! The pages of a shard.
+
 use crate::erased::freelists::shard::Shard;
 use crate::erased::keybits::Place;
 
@@ -7,7 +9,7 @@ use crate::erased::keybits::Place;
 /// shard.
 ///
 /// A shard is a row of pages, each twice as large as the one before, which are opened from the lowest on, as in
-/// sharded-slab's documentation. The limits are this project's profile.
+/// sharded-slab's documentation.
 pub struct Pages {
     shard: Shard,
     opened: u32,

@@ -1,13 +1,15 @@
 // Made from crates/freelists/src/returns.rt by bindings/erase/erase.py: change that file, not this one.
 
+//! The words by which other lanes return places to a shard.
+
 use crate::erased::freelists::shard::place_of_word;
 use crate::erased::keybits::{link_to, Place, Word};
 
 /// The words by which other lanes return places to a shard: a stack word for each of these lanes, and a link word for
 /// each place. All are 0 at first.
 ///
-/// A returned place is the top of its lane's stack, and its link word leads to the place below. A link or stack word is 0
-/// for the end, else 1 more than the lowest 16 bits of the number of a place of the shard. This project's profile.
+/// A returned place is the top of its lane's stack, and its link word leads to the place below. A link or stack word is
+/// 0 for the end, else 1 more than the lowest 16 bits of the number of a place of the shard.
 #[derive(Clone, Copy, Debug, PartialEq, Eq)]
 pub struct Returns {
     /// The shard to which places are returned, 0 to 15.

@@ -1,5 +1,7 @@
 // Made from crates/freelists/src/shard.rt by bindings/erase/erase.py: change that file, not this one.
 
+//! A shard, and its places by their indexes.
+
 use crate::erased::keybits::{linked_place, Place, Shape, MOST_LANES};
 
 /// A shard, with a shape that tells the sizes of its pages.

@@ -1,11 +1,13 @@
 // Made from crates/keybits/src/fit.rt by bindings/erase/erase.py: change that file, not this one.
 
-use crate::erased::keybits::fields::{generation_of, place_of, tag_of};
+//! Which numbers are keys of a shape.
+
+use crate::erased::keybits::place::{generation_of, place_of, tag_of};
 use crate::erased::keybits::shape::Shape;
 
 /// Whether this is the number of a key of the shape: the shape's tag, a place of the shape and a
 /// generation from 1 to the last. Any other number is outside the shape. The shape need not be
-/// checked. This project's profile.
+/// checked.
 #[inline]
 pub fn fits(number: u64, shape: &Shape) -> bool {
     let generation = generation_of(number);

@@ -1,13 +1,14 @@
 // Made from crates/keybits/src/key.rt by bindings/erase/erase.py: change that file, not this one.
 
-use crate::erased::keybits::fields::{generation_of, place_of, tag_of};
-use crate::erased::keybits::place::Place;
+//! Keys of published objects.
+
+use crate::erased::keybits::place::{generation_of, place_of, tag_of, Place};
 
 /// The key of a published object: its pool's tag, its place and its generation, packed into one number.
 ///
 /// The slot has the bits 0 to 11, the page 12 to 15, the shard 16 to 23, the generation 24 to 55 and
 /// the tag 56 to 63. That a key packs its place and a generation is taken from sharded-slab's
-/// documentation; the packing and the tag are this project's profile.
+/// documentation.
 #[derive(Clone, Copy, Debug, PartialEq, Eq)]
 pub struct Key {
     number: u64,

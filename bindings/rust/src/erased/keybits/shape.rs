@@ -1,5 +1,7 @@
 // Made from crates/keybits/src/shape.rt by bindings/erase/erase.py: change that file, not this one.
 
+//! Shapes of pools: their limits, and the places that they have.
+
 use crate::erased::keybits::place::{page_of, shard_of, slot_of};
 use std::error::Error;
 use std::fmt;
@@ -16,7 +18,7 @@ pub const MOST_PAGES: u32 = 6;
 /// The greatest tag of a checked shape.
 pub const GREATEST_TAG: u32 = 255;
 
-/// How large a pool is. This project's profile: see `Shape::check` for the limits.
+/// How large a pool is. Its limits are those of `Shape::check`.
 #[derive(Clone, Copy, Debug, PartialEq, Eq)]
 pub struct Shape {
     /// How many lanes there are; lane i owns shard i.
@@ -90,7 +92,7 @@ impl Error for ShapeFault {}
 impl Shape {
     /// Tests the fields in this order: the lanes are from 1 to 16, the first page has 1, 2, 4, 8, 16,
     /// 32 or 64 places, the pages are from 1 to 6, the last generation is at least 1, the tag is at
-    /// most 255. The error names the first field that is outside its limits. This project's profile.
+    /// most 255. The error names the first field that is outside its limits.
     #[inline]
     pub fn check(&self) -> Result<(), ShapeFault> {
         if self.lanes == 0 || self.lanes > MOST_LANES {

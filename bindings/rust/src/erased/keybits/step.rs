@@ -1,5 +1,7 @@
 // Made from crates/keybits/src/step.rt by bindings/erase/erase.py: change that file, not this one.
 
+//! The pool's atomic words, and the steps on them.
+
 /// One of the pool's atomic words. Places go by their numbers.
 #[derive(Clone, Copy, Debug, PartialEq, Eq)]
 pub enum Word {
@@ -22,7 +24,8 @@ pub enum Kind {
     Publish { with_ref: bool },
     /// PRESENT or MARKED becomes MARKED.
     Mark,
-    /// From MARKED with count 0 at the generation to IDLE at the next one, or to RETIRED at the last; no change at any other word.
+    /// From MARKED with count 0 at the generation to IDLE at the next one, or to RETIRED at the last; no change at any
+    /// other word.
     Claim { generation: u32 },
     /// The place's link word becomes the expected top.
     Link { expected: u64 },

@@ -3,14 +3,15 @@
 //! Several steps of a clear, one after another with nothing between them, as one operation on the key's word.
 
 use crate::erased::keybits::{claimable, claimed, generation_of, MARK_BIT};
+use crate::erased::poolsteps::find::LIVES_START;
 use crate::erased::poolsteps::grid::{Grid, Hand, Spot};
-use crate::erased::poolsteps::layout::LIVES_START;
 use crate::erased::slotcell::Clear;
 
 impl<T: Clear> Grid<T> {
-    /// SWEEP: where a key is published and unmarked and nobody refers to it, the ENTER, MARK, LEAVE and CLAIM of its clear, by one
-    /// compare-exchange. Else it changes nothing: where the key misses and no claim is owed at the word that was found, it was the ENTER
-    /// and LEAVE of a clear that misses, and otherwise a look. Answers the word that was found.
+    /// SWEEP: where a key is published and unmarked and nobody refers to it, the ENTER, MARK, LEAVE and CLAIM of its
+    /// clear, by one compare-exchange. Else it changes nothing: where the key misses and no claim is owed at the word
+    /// that was found, it was the ENTER and LEAVE of a clear that misses, and otherwise a look. Answers the word that
+    /// was found.
     #[inline]
     pub fn sweep(&self, hand: &mut Hand<T>, spot: Spot, key: u64) -> u64 {
         self.sweep_as(hand, spot, key)
@@ -28,8 +29,9 @@ impl<T: Clear> Grid<T> {
         )
     }
 
-    /// STRIKE, from a word that hits the key: where its word is still the one that is expected, the ENTER, MARK and LEAVE of its clear, by
-    /// one compare-exchange. Where it finds another word, it changes nothing and was a look. Answers the word that was found.
+    /// STRIKE, from a word that hits the key: where its word is still the one that is expected, the ENTER, MARK and
+    /// LEAVE of its clear, by one compare-exchange. Where it finds another word, it changes nothing and was a look.
+    /// Answers the word that was found.
     #[inline]
     pub fn strike(&self, hand: &mut Hand<T>, spot: Spot, key: u64, expected: u64) -> u64 {
         self.strike_as(hand, spot, key, expected)

@@ -1,9 +1,12 @@
 // Made from crates/poolsteps/src/closing.rt by bindings/erase/erase.py: change that file, not this one.
 
-use crate::erased::keybits::{shard_of, Life, Shape, State};
-use crate::erased::placecell::{Base, Rest, Share, Slot, Vacancy};
-use crate::erased::poolsteps::layout::{slot_at, slot_start};
+//! How the cell of a place is dropped at a close.
+
 use crate::shim::{Box, Global, Slots};
+
+use crate::erased::keybits::{shard_of, Life, Shape, State};
+use crate::erased::poolsteps::cells::{Base, Rest, Share, Slot, Vacancy};
+use crate::erased::poolsteps::layout::{slot_at, slot_start};
 
 /// The share in the slot at this index, which is then empty.
 fn lift<T>(index: usize, slots: &mut Slots<Slot<T>>) -> Share<T> {
@@ -12,8 +15,9 @@ fn lift<T>(index: usize, slots: &mut Slots<Slot<T>>) -> Share<T> {
     slot.into_share()
 }
 
-/// Drops the cell that the slots of a place have, with its object, by the place's lifecycle word: where that is 0 the one that
-/// rests there, and where the place is published the one whose shares are all there. Of other places the slots have none.
+/// Drops the cell that the slots of a place have, with its object, by the place's lifecycle word: where that is 0 the
+/// one that rests there, and where the place is published the one whose shares are all there. Of other places the slots
+/// have none.
 pub fn drop_cell<T>(
     directory: Base<Box<T, Global>>,
     shape: &Shape,

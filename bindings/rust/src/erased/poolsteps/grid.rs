@@ -5,7 +5,7 @@
 use crate::shim::{Box, Global, Seat, Table, Vec};
 
 use crate::erased::keybits::Shape;
-use crate::erased::placecell::{Address, Base, Slot};
+use crate::erased::poolsteps::cells::{Address, Base, Slot};
 use crate::erased::poolsteps::layout::PageRow;
 use crate::erased::slotcell::Clear;
 

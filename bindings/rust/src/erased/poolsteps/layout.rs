@@ -1,25 +1,19 @@
 // Made from crates/poolsteps/src/layout.rt by bindings/erase/erase.py: change that file, not this one.
 
-//! Where each word of a pool stands among the words of its table, and each slot among its slots: words that different lanes
-//! change by themselves stand 128 bytes apart, as a processor may fetch two lines of 64 together, and so do the words of neighbouring shards. No step changes the first words: the
-//! very first is read where seats are cut and joined, and behind it each lane has one that it looks at.
+//! Where each word of a pool stands among the words of its table, and each slot among its slots: words that different
+//! lanes change by themselves stand 128 bytes apart, as a processor may fetch two lines of 64 together, and so do the
+//! words of neighbouring shards. No step changes the first words: the very first is read where seats are cut and
+//! joined, and behind it each lane has one that it looks at.
 
 use crate::shim::{Global, Vec};
 
-use crate::erased::keybits::{
-    shard_of, Life, Shape, State, MOST_LANES, PAGE_NUMBERS, SHARD_NUMBERS,
-};
-use crate::erased::placecell::Slot;
+use crate::erased::keybits::{shard_of, Life, Shape, State, PAGE_NUMBERS, SHARD_NUMBERS};
+use crate::erased::poolsteps::cells::Slot;
+use crate::erased::poolsteps::find::{LIVES_START, WORDS_APART};
 
-/// How many words stand between two that different lanes change by themselves.
-pub(crate) const WORDS_APART: usize = 16;
-
-/// How many places' words stand unused behind those of each shard in a row, so that those of neighbouring shards don't share two lines
-/// of a processor's cache.
+/// How many places' words stand unused behind those of each shard in a row, so that those of neighbouring shards don't
+/// share two lines of a processor's cache.
 pub const SHARDS_APART: usize = 16;
-
-/// Where the lifecycle words begin: behind the very first word and, as far apart, one for each of the most lanes.
-pub(crate) const LIVES_START: usize = WORDS_APART * (1 + MOST_LANES as usize);
 
 /// How many pages the numbers of a shard's places have room for.
 pub(crate) const SHARD_PAGES: u32 = SHARD_NUMBERS / PAGE_NUMBERS;
@@ -31,8 +25,8 @@ pub(crate) fn word_count(shape: &Shape) -> usize {
     LIVES_START + 2 * slot_row(shape) + WORDS_APART * (lanes * lanes)
 }
 
-/// Where a place stands in each row of words, of slots or of what a lane has of each place; the place has this position among the
-/// places of the pool.
+/// Where a place stands in each row of words, of slots or of what a lane has of each place; the place has this position
+/// among the places of the pool.
 #[inline]
 pub fn slot_start(shape: &Shape, place: u32, position: usize) -> usize {
     let _ = shape;
@@ -68,12 +62,6 @@ pub(crate) fn links_start(shape: &Shape) -> usize {
 pub fn stack_word(shape: &Shape, shard: u32, lane: u32) -> usize {
     let lanes = shape.lanes as usize;
     LIVES_START + 2 * slot_row(shape) + WORDS_APART * (shard as usize * lanes + lane as usize)
-}
-
-/// Where the word stands that a lane looks at.
-#[inline]
-pub(crate) fn look_word(lane: u32) -> usize {
-    WORDS_APART * (1 + lane as usize)
 }
 
 /// How long each row is: of words, of the slots of one lane, and of what a lane has of each place.
@@ -124,7 +112,8 @@ fn page_row(shape: &Shape, page: u32) -> PageRow {
     }
 }
 
-/// The words before the first step: each lifecycle word is that of generation 1, idle, with count 0, and every other is 0.
+/// The words before the first step: each lifecycle word is that of generation 1, idle, with count 0, and every other is
+/// 0.
 #[inline]
 pub(crate) fn first_words(alloc: Global, shape: &Shape) -> Option<Vec<u64>> {
     let fresh = Life {

@@ -1,25 +1,35 @@
 // Made from crates/poolsteps/src/lib.rt by bindings/erase/erase.py: change that file, not this one.
 
-//! The atomic steps of a sharded object pool, and the moves of its shares, over the words and the slots of one table: each is
-//! one call that keeps what holds between any two steps. At the end the cells in the slots of a closed pool are made whole again and
-//! dropped.
+//! The table of a sharded object pool: its atomic words, the slots for shares, the cells in which the objects stand. Each step
+//! on a word and each move of shares is one call that keeps what holds between any two steps; who then has which share of which
+//! cell is told by laws. What a lane has of places is here too, and how the cells of a closed pool are dropped.
 
 mod at_once;
-mod batches;
+mod cells;
 mod closing;
+mod directory;
+mod directory_end;
+mod find;
 mod grid;
 mod layout;
+mod memory;
 mod moves;
 mod notes;
+mod objects;
 mod opening;
-mod plays;
 mod returns;
+mod rows;
 mod steps;
+mod threads;
 
+pub use cells::{Address, Base, Rest, Share, Slot, Vacancy, Whole};
 pub use closing::drop_cell;
+pub use directory::Directory;
+pub use directory_end::close_directory;
 pub use grid::{Board, Grid, Hand, Spot};
 pub use layout::{
     life_word, link_word, page_rows, shard_start, slot_at, slot_row, slot_start, stack_word,
     PageRow, SHARDS_APART,
 };
-pub use plays::Purpose;
+pub use objects::Objects;
+pub use steps::Purpose;

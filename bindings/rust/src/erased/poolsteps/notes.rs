@@ -4,9 +4,9 @@
 
 use crate::shim::{impossible, Closed, Global, Vec};
 
-use crate::erased::placecell::Slot;
+use crate::erased::poolsteps::cells::Slot;
+use crate::erased::poolsteps::find::look_word;
 use crate::erased::poolsteps::grid::{Grid, Hand};
-use crate::erased::poolsteps::layout::look_word;
 use crate::erased::slotcell::Clear;
 
 impl<T: Clear> Grid<T> {
@@ -15,15 +15,17 @@ impl<T: Clear> Grid<T> {
         self.table.shared.split_seat(hand)
     }
 
-    /// Takes in a note: what the lane has then seen begins with what it saw, and with what the note has, and so do the rooms beside it.
+    /// Takes in a note: what the lane has then seen begins with what it saw, and with what the note has, and so do the
+    /// rooms beside it.
     /// It is one look, and a load before it.
     pub fn hear(&self, hand: &mut Hand<T>, lane: u32, note: Hand<T>) {
         self.join_note(hand, note);
         self.see_told(hand, lane);
     }
 
-    /// Takes in a note as `hear` does, and sees no further: what the lane has then seen is the longer of what it saw and what
-    /// the note has, and begins with both. So two lanes that take in a note of each other, one after the other, have seen one history.
+    /// Takes in a note as `hear` does, and sees no further: what the lane has then seen is the longer of what it saw
+    /// and what the note has, and begins with both. So two lanes that take in a note of each other, one after the
+    /// other, have seen one history.
     pub fn meet(&self, hand: &mut Hand<T>, lane: u32, note: Hand<T>) {
         self.join_note(hand, note);
         self.see_no_further(hand, lane);
@@ -38,8 +40,8 @@ impl<T: Clear> Grid<T> {
 
     fn see_told(&self, hand: &mut Hand<T>, lane: u32) {}
 
-    /// Ends the pool's table, with the hands of its lanes: its last words and slots, of which one history tells that begins
-    /// with what each lane saw and has just its acts.
+    /// Ends the pool's table, with the hands of its lanes: its last words and slots, of which one history tells that
+    /// begins with what each lane saw and has just its acts.
     pub fn end(self, hands: Vec<Hand<T>>) -> Closed<Slot<T>, Global> {
         let mut hands = hands;
         let Some(mut all) = hands.pop() else {

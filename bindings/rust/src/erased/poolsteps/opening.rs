@@ -4,11 +4,11 @@
 
 use crate::shim::{Box, Global, Table, Vec};
 
-use crate::erased::keybits::{place_of, Shape, PAGE_NUMBERS};
-use crate::erased::placecell::Base;
-use crate::erased::poolsteps::grid::{Board, Grid, Hand, Spot};
+use crate::erased::keybits::Shape;
+use crate::erased::poolsteps::cells::Base;
+use crate::erased::poolsteps::grid::{Board, Grid, Hand};
 use crate::erased::poolsteps::layout::{
-    first_slots, first_words, links_start, page_rows, slot_row, PageRow,
+    first_slots, first_words, links_start, page_rows, slot_row,
 };
 use crate::erased::slotcell::Clear;
 
@@ -56,54 +56,5 @@ impl<T: Clear> Grid<T> {
     /// The seat of the first lane of a seat of several.
     fn deal(&self, seat: &mut Hand<T>) -> Hand<T> {
         self.table.shared.split_seat(seat)
-    }
-
-    /// Where the words and the slots of a key's place stand. None for a number that is no key of the pool.
-    #[inline]
-    pub fn find_key(&self, key: u64) -> Option<Spot> {
-        // In front of the first key of its place a number's distance to it wraps, and is longer than any to a key.
-        let behind = (key >> 24).wrapping_sub(self.first_key);
-        if behind >= u64::from(self.last_generation()) {
-            return None;
-        }
-        self.find(place_of(key))
-    }
-
-    /// The last generation of each place. A call, since a proof knows of its answer that it fits 32 bits.
-    #[inline]
-    fn last_generation(&self) -> u32 {
-        self.shape.last_generation
-    }
-
-    /// Where the words and the slots of a place stand. None where the pool has no place of this number.
-    #[inline]
-    pub fn find(&self, place: u32) -> Option<Spot> {
-        let page = self.pages.get((place / PAGE_NUMBERS) as usize)?;
-        if place % PAGE_NUMBERS < page.places {
-            Some(self.spot_in(page, place))
-        } else {
-            None
-        }
-    }
-
-    /// Where the words and the slots of a place of the pool stand.
-    #[inline]
-    pub fn spot(&self, place: u32) -> Spot {
-        self.spot_in(&self.pages[(place / PAGE_NUMBERS) as usize], place)
-    }
-
-    /// Where the words and the slots of a place stand, by the row of its page.
-    #[inline]
-    fn spot_in(&self, page: &PageRow, place: u32) -> Spot {
-        Spot {
-            place,
-            start: page.start + place % PAGE_NUMBERS,
-        }
-    }
-
-    /// Where the link word of a place stands.
-    #[inline]
-    pub(crate) fn link_of(&self, spot: Spot) -> usize {
-        self.links + spot.start as usize
     }
 }

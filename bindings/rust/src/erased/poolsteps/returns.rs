@@ -1,11 +1,11 @@
 // Made from crates/poolsteps/src/returns.rt by bindings/erase/erase.py: change that file, not this one.
 
-//! The steps by which a place of another shard is returned and returned places are taken, and the look. Each is one call of
-//! the table.
+//! The steps by which a place of another shard is returned and returned places are taken, and the look. Each is one
+//! call of the table.
 
 use crate::erased::keybits::{link_to, shard_of, Life};
+use crate::erased::poolsteps::find::{look_word, LIVES_START, WORDS_APART};
 use crate::erased::poolsteps::grid::{Grid, Hand, Spot};
-use crate::erased::poolsteps::layout::{look_word, LIVES_START, WORDS_APART};
 use crate::erased::slotcell::Clear;
 
 impl<T: Clear> Grid<T> {
@@ -20,9 +20,9 @@ impl<T: Clear> Grid<T> {
         self.table.shared.store(hand, self.link_of(spot), top)
     }
 
-    /// PUSH of a place to return, which is at rest, on its lane's stack at the place's shard, from the top that was linked:
-    /// the place is home where that was found. Else 0 was found, and LINK and PUSH follow once more, from the top 0. Answers the word that was
-    /// found.
+    /// PUSH of a place to return, which is at rest, on its lane's stack at the place's shard, from the top that was
+    /// linked: the place is home where that was found. Else 0 was found, and LINK and PUSH follow once more, from the
+    /// top 0. Answers the word that was found.
     #[inline]
     pub fn push(&self, hand: &mut Hand<T>, spot: Spot, lane: u32, top: u64) -> u64 {
         self.push_as(hand, spot, lane, top)
@@ -43,8 +43,8 @@ impl<T: Clear> Grid<T> {
         stacks + WORDS_APART * (shard as usize * self.shape.lanes as usize + lane as usize)
     }
 
-    /// TAKE of all places that another lane has returned to the shard of this one: they are its taken chain. Answers the
-    /// word that was found, which leads to the first of them; 0 where there is none.
+    /// TAKE of all places that another lane has returned to the shard of this one: they are its taken chain. Answers
+    /// the word that was found, which leads to the first of them; 0 where there is none.
     #[inline]
     pub fn take(&self, hand: &mut Hand<T>, lane: u32, from: u32) -> u64 {
         self.take_as(hand, lane, from)
@@ -67,8 +67,8 @@ impl<T: Clear> Grid<T> {
         self.table.shared.load(hand, self.link_of(spot))
     }
 
-    /// SEE of a place's lifecycle word: answers the place's generation, as what the lane has then seen has it. Of a place that
-    /// is with the lane it is that of its next publish.
+    /// SEE of a place's lifecycle word: answers the place's generation, as what the lane has then seen has it. Of a
+    /// place that is with the lane it is that of its next publish.
     #[inline]
     pub fn generation(&self, hand: &mut Hand<T>, spot: Spot) -> u32 {
         Life::of_word(self.see_life(hand, spot)).generation

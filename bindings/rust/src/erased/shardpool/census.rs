@@ -6,10 +6,10 @@ use crate::shim::{Box, Global, Slots, Vec};
 
 use crate::erased::freelists::LocalFree;
 use crate::erased::keybits::{link_to, linked_place, Life, Place, Shape, State};
-use crate::erased::placecell::{Base, Slot};
-use crate::erased::placerows::Objects;
-use crate::erased::poolsteps::{drop_cell, life_word, link_word, slot_start, stack_word};
-use crate::erased::shardpool::state::LaneState;
+use crate::erased::poolsteps::{
+    drop_cell, life_word, link_word, slot_start, stack_word, Base, Objects, Slot,
+};
+use crate::erased::shardpool::pool::LaneState;
 
 /// How many places of a pool were what when it was closed. The six numbers add up to all its places.
 #[derive(Clone, Copy, Debug, PartialEq, Eq)]
@@ -66,8 +66,8 @@ impl Census {
     }
 }
 
-/// The census of a pool, by its last words and what its lanes keep. The cells in the slots are dropped, with their objects, and the rights
-/// to their places are with the lanes, whose rights are left.
+/// The census of a pool, by its last words and what its lanes keep. The cells in the slots are dropped, with their
+/// objects, and the rights to their places are with the lanes, whose rights are left.
 pub(crate) fn take_census<T>(
     directory: Base<Box<T, Global>>,
     shape: &Shape,
@@ -150,8 +150,8 @@ fn mark(shape: &Shape, place: u32, words: &mut Slots<u64>) {
     words.put(life_word(shape, place, shape.position(place)), 0);
 }
 
-/// The cells that the slots of a shard's places have are dropped, with their objects: of the places whose lifecycle word is 0, and
-/// of published places. The rights to these places are then the lane's.
+/// The cells that the slots of a shard's places have are dropped, with their objects: of the places whose lifecycle
+/// word is 0, and of published places. The rights to these places are then the lane's.
 fn drop_cells<T>(
     directory: Base<Box<T, Global>>,
     shape: &Shape,

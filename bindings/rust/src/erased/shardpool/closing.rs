@@ -5,18 +5,14 @@
 use crate::shim::{impossible, Closed, Global, Vec};
 
 use crate::erased::keybits::MOST_LANES;
-use crate::erased::placecell::Slot;
-use crate::erased::placerows::close_directory;
-use crate::erased::poolsteps::Hand;
+use crate::erased::poolsteps::{close_directory, Hand, Slot};
 use crate::erased::shardpool::census::{take_census, Census};
-use crate::erased::shardpool::lane::Lane;
-use crate::erased::shardpool::pool::Pool;
+use crate::erased::shardpool::pool::{Lane, LaneState, Pool};
 use crate::erased::shardpool::returned_shares::hand_back;
-use crate::erased::shardpool::state::LaneState;
 use crate::erased::slotcell::Clear;
 
-/// A row with room for the hands of all lanes of a pool. Each lane has one, for the call that closes the pool. A hand has no
-/// bytes, so the row takes none.
+/// A row with room for the hands of all lanes of a pool. Each lane has one, for the call that closes the pool. A hand
+/// has no bytes, so the row takes none.
 pub(crate) struct HandRow<T: Clear> {
     hands: Vec<Hand<T>>,
 }
@@ -31,8 +27,9 @@ impl<T: Clear> HandRow<T> {
 
 /// Closes a pool, with all its lanes, and answers what its places were. It takes no memory.
 ///
-/// Tokens that were left stay counted: the place of a filling as filling, and a key with a reference as present, or as marked
-/// where it was cleared. Each object is dropped that the pool has: with a lane, under a key, or with a returned place.
+/// Tokens that were left stay counted: the place of a filling as filling, and a key with a reference as present, or as
+/// marked where it was cleared. Each object is dropped that the pool has: with a lane, under a key, or with a returned
+/// place.
 pub fn close<T: Clear>(pool: Pool<T>, lanes: Vec<Lane<T>>) -> Census {
     let Pool {
         grid,

@@ -1,19 +1,79 @@
 // Made from crates/shardpool/src/create.rt by bindings/erase/erase.py: change that file, not this one.
 
-//! How a lane gets a place to fill: from its own list, from its taken chain, from the places that were returned to it, or from
-//! its next page.
+//! How a lane gets a place to fill: from its own list, from its taken chain, from the places that were returned to it,
+//! or from its next page.
 
-use crate::shim::{impossible, Box, Global, Vec};
+use crate::shim::{impossible, Box, Global, Snapshot, Vec};
 
-use crate::erased::poolcalls::{collect, follow, next_key};
-use crate::erased::poolsteps::Spot;
-use crate::erased::shardpool::lane::Lane;
-use crate::erased::shardpool::pool::Pool;
+use crate::erased::keybits::{Key, Place};
+use crate::erased::poolsteps::{Grid, Hand, Spot, Whole};
+use crate::erased::shardpool::cell_moves::take_resting;
+use crate::erased::shardpool::pool::{Lane, Pool};
 use crate::erased::shardpool::stores::{follow_on, hang, open_next, take_own};
-use crate::erased::shardpool::token::Filling;
 use crate::erased::slotcell::Clear;
 use std::error::Error;
 use std::fmt;
+
+/// A place that is to be filled, with its object. It must be spent, by a publish, a downgrade or `forget`.
+pub struct Filling<T> {
+    pub(crate) key: u64,
+    /// Where the key's place stands.
+    pub(crate) start: u32,
+    pub(crate) object: Box<T, Global>,
+    pub(crate) of: Snapshot<Hand<T>>,
+}
+
+impl<T> Filling<T> {
+    /// The key under which the object will be published.
+    pub fn key(&self) -> u64 {
+        self.key
+    }
+
+    /// The object.
+    pub fn value(&self) -> &T {
+        &self.object
+    }
+
+    /// The object, to be written.
+    pub fn value_mut(&mut self) -> &mut T {
+        &mut self.object
+    }
+
+    /// The filling of a key, whose place stands here, with this object, by a lane with this hand.
+    pub(crate) fn of(hand: &Hand<T>, key: u64, start: u32, object: Box<T, Global>) -> Filling<T> {
+        Filling {
+            key,
+            start,
+            object,
+            of: Snapshot::of(hand),
+        }
+    }
+
+    /// The token's key, where its place stands, and the object.
+    pub(crate) fn spend(self) -> (u64, u32, Box<T, Global>) {
+        let Filling {
+            key,
+            start,
+            object,
+            of,
+        } = self;
+        drop(of);
+        (key, start, object)
+    }
+
+    /// The token ends, and the pool isn't told: the place stays filling until the pool is closed. The object is
+    /// dropped.
+    pub fn forget(self) {
+        let Filling {
+            key: _,
+            start: _,
+            object,
+            of,
+        } = self;
+        drop(object);
+        drop(of);
+    }
+}
 
 /// Why no place was given.
 #[derive(Clone, Copy, Debug, PartialEq, Eq)]
@@ -49,9 +109,9 @@ impl Error for CreateFault {}
 impl<T: Clear> Pool<T> {
     /// A place to be filled, whose object is empty, with at least the room that it had when it was last published.
     ///
-    /// The places come from the lane's own list, first in first out; then from the taken chain; then from the places that other
-    /// lanes returned, which are taken from the first stack by rising lane that has some; then from the next page. It takes memory only to
-    /// open a page, and none where the lane has a free place.
+    /// The places come from the lane's own list, first in first out; then from the taken chain; then from the places
+    /// that other lanes returned, which are taken from the first stack by rising lane that has some; then from the next
+    /// page. It takes memory only to open a page, and none where the lane has a free place.
     #[inline(always)]
     pub fn create(&self, lane: &mut Lane<T>) -> Result<Filling<T>, CreateFault> {
         // A proof knows the invariant of a lane once a field of it is seen.
@@ -62,8 +122,8 @@ impl<T: Clear> Pool<T> {
         self.create_apart(lane)
     }
 
-    /// A create where the lane's own list is empty. Apart, so that the short way of a create stands where it is called; where that is one place
-    /// alone, the compiler may put this there too.
+    /// A create where the lane's own list is empty. Apart, so that the short way of a create stands where it is called;
+    /// where that is one place alone, the compiler may put this there too.
     fn create_apart(&self, lane: &mut Lane<T>) -> Result<Filling<T>, CreateFault> {
         // A proof knows the invariant of a lane once a field of it is seen.
         let _ = &lane.state;
@@ -140,4 +200,44 @@ fn fresh_objects<T: Clear>(alloc: Global, count: u32) -> Option<Vec<Box<T, Globa
         objects.push_reserved(object);
     }
     Some(objects)
+}
+
+/// TAKEs of the stacks of the lane's shard, by rising number of the lanes that return to it, up to the first that has
+/// places:
+/// they are then the lane's taken chain. Answers the word that was found there, which leads to the first of them; 0
+/// where
+/// none had places. It makes at most one step for each other lane and no look, and takes no memory.
+pub(crate) fn collect<T: Clear>(grid: &Grid<T>, hand: &mut Hand<T>, lane: u32) -> u64 {
+    for from in 0..grid.shape.lanes {
+        if from != lane {
+            let found = grid.take(hand, lane, from);
+            if found != 0 {
+                return found;
+            }
+        }
+    }
+    0
+}
+
+/// FOLLOW of the first place of the taken chain, and OUT of its object, which rested there. Answers the place's link
+/// word, which leads to the next place, or is 0 at the chain's end; and the object. It takes no memory.
+pub(crate) fn follow<T: Clear>(
+    grid: &Grid<T>,
+    hand: &mut Hand<T>,
+    spot: Spot,
+    lane: u32,
+) -> (u64, Whole<T>) {
+    let link = grid.follow(hand, spot);
+    (link, take_resting(grid, hand, spot, lane))
+}
+
+/// A look at the generation of a place that is with the lane: answers the key under which it may then be published. It
+/// takes no memory.
+pub(crate) fn next_key<T: Clear>(grid: &Grid<T>, hand: &mut Hand<T>, spot: Spot) -> u64 {
+    let generation = grid.generation(hand, spot);
+    let place = Place::of_number(spot.place);
+    match Key::pack_tagged(grid.shape.tag as u8, place, generation) {
+        Some(key) => key.number(),
+        None => impossible!(),
+    }
 }

@@ -3,25 +3,13 @@
 //! Lanes: each owns a shard of a pool.
 
 use crate::erased::keybits::place_of;
-use crate::erased::poolsteps::Hand;
-use crate::erased::shardpool::apart::Apart;
-use crate::erased::shardpool::closing::HandRow;
-use crate::erased::shardpool::rows::count_to;
-use crate::erased::shardpool::state::LaneState;
-use crate::erased::shardpool::token::Ref;
+use crate::erased::shardpool::get::Ref;
+use crate::erased::shardpool::pool::Lane;
+use crate::erased::shardpool::release::count_to;
 use crate::erased::slotcell::Clear;
 
 /// The most references of a lane.
 pub const MOST_REFERENCES: u32 = 1_048_575;
-
-/// The owner of a shard. A thread that has one calls the pool with it.
-pub struct Lane<T: Clear> {
-    pub(crate) hand: Hand<T>,
-    pub(crate) ahead: Apart,
-    pub(crate) state: LaneState<T>,
-    pub(crate) row: HandRow<T>,
-    pub(crate) behind: Apart,
-}
 
 impl<T: Clear> Lane<T> {
     /// The lane's number, which is that of its shard.
@@ -51,7 +39,8 @@ impl<T: Clear> Lane<T> {
         )
     }
 
-    /// A reference to a key to which the lane has one: so a program may keep keys in place of references. None where it has none.
+    /// A reference to a key to which the lane has one: so a program may keep keys in place of references. None where it
+    /// has none.
     pub fn reference(&self, key: u64) -> Option<Ref<T>> {
         if self.holds(key) == 0 {
             return None;
@@ -60,31 +49,20 @@ impl<T: Clear> Lane<T> {
         Some(Ref::to(key, places.start(place_of(key)), places))
     }
 
-    /// As a law: the lane has nothing under way, and what it has seen is a legal history of the pool, with a room beside each act, and with
-    /// just those of the lane's acts that it made. In a pool of one lane it has no other acts, so that each reply is that of a pool of one thread, and each key that was cleared and not yet reclaimed
+    /// As a law: the lane has nothing under way, and what it has seen is a legal history of the pool, with a room
+    /// beside each act, and with just those of the lane's acts that it made. In a pool of one lane it has no other
+    /// acts, so that each reply is that of a pool of one thread, and each key that was cleared and not yet reclaimed
     /// has a reference.
     pub fn seen_law(&self) {
         // A proof knows the invariant of a lane once a field of it is seen.
         let _ = &self.state;
     }
 
-    /// As a law: the places of the lane's own list and of its taken chain are of its shard, of opened pages and with the lane, and no place stands
-    /// there twice; the chain hangs by its first place; each place of an unopened page is with the lane; and the references to a key are
-    /// among all that the lane has.
+    /// As a law: the places of the lane's own list and of its taken chain are of its shard, of opened pages and with
+    /// the lane, and no place stands there twice; the chain hangs by its first place; each place of an unopened page is
+    /// with the lane; and the references to a key are among all that the lane has.
     pub fn places_law(&self) {
         // A proof knows that the lane's free places are sound once their number is asked.
         let _ = self.state.free.len();
-    }
-
-    /// The object of a key to which the lane has a reference: its content is that with which the key was published.
-    pub fn read<'a>(&'a self, reference: &Ref<T>) -> &'a T {
-        self.read_at(self.state.start_of(reference), reference.key)
-    }
-
-    /// As `read`, of a key to which the lane has a reference, and whose place stands here, as `Pool::get_at` answers.
-    pub fn read_at(&self, start: u32, key: u64) -> &T {
-        self.state.rows[start as usize]
-            .share
-            .read(self.state.objects.base(), start as usize)
     }
 }

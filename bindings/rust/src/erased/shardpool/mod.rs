@@ -1,33 +1,34 @@
 // Made from crates/shardpool/src/lib.rt by bindings/erase/erase.py: change that file, not this one.
 
-//! A sharded pool of objects that are cleared and used again in place: threads share the pool, each with a lane of its own,
-//! without a lock and in a stated number of steps.
+//! A sharded pool of objects that are cleared and used again in place: threads share the pool, each with a lane of its
+//! own, without a lock and in a stated number of steps. Each call has a file: `create`, `publish`, `get`, `release`,
+//! `clear`, `halt`; what two of them do at their end is in `reclaim`.
 
-mod apart;
+mod cell_moves;
 mod census;
-mod clears;
+mod clear;
 mod closing;
 mod create;
-mod ends;
 mod fault;
+mod get;
 mod halt;
 mod lane;
 mod notes;
 mod opening;
-mod places;
 mod pool;
+mod publish;
+mod reclaim;
+mod release;
 mod returned_shares;
-mod rows;
-mod state;
 mod stores;
-mod token;
 
 pub use census::{Census, Part};
 pub use closing::close;
-pub use create::CreateFault;
+pub use create::{CreateFault, Filling};
 pub use fault::OpenFault;
+pub use get::Ref;
 pub use halt::{Halted, LastCall};
-pub use lane::{Lane, MOST_REFERENCES};
+pub use lane::MOST_REFERENCES;
+pub use notes::Note;
 pub use opening::open;
-pub use pool::Pool;
-pub use token::{Filling, Note, Ref};
+pub use pool::{Lane, Pool};

@@ -2,10 +2,14 @@
 
 //! What lanes tell each other.
 
-use crate::erased::shardpool::lane::Lane;
-use crate::erased::shardpool::pool::Pool;
-use crate::erased::shardpool::token::Note;
+use crate::erased::poolsteps::Hand;
+use crate::erased::shardpool::pool::{Lane, Pool};
 use crate::erased::slotcell::Clear;
+
+/// What a lane has seen, to be told to another.
+pub struct Note<T> {
+    pub(crate) hand: Hand<T>,
+}
 
 impl<T: Clear> Pool<T> {
     /// A note of all that a lane has seen. It costs a load.
@@ -31,8 +35,8 @@ impl<T: Clear> Pool<T> {
         self.meet_by(other, note);
     }
 
-    /// Takes in a note as `hear` does, and sees no further: what the lane has then seen is the longer of what it saw and what
-    /// the note has.
+    /// Takes in a note as `hear` does, and sees no further: what the lane has then seen is the longer of what it saw
+    /// and what the note has.
     fn meet_by(&self, lane: &mut Lane<T>, note: Note<T>) {
         let number = lane.state.number;
         self.grid.meet(&mut lane.hand, number, note.hand);

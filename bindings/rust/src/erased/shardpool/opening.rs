@@ -6,16 +6,12 @@ use crate::shim::{Box, Global, Vec};
 
 use crate::erased::freelists::{LocalFree, Pages};
 use crate::erased::keybits::Shape;
-use crate::erased::placecell::{Base, Directory, Slot};
-use crate::erased::placerows::Objects;
-use crate::erased::poolsteps::{shard_start, slot_row, Grid, Hand, SHARDS_APART};
-use crate::erased::shardpool::apart::Apart;
+use crate::erased::poolsteps::{
+    shard_start, slot_row, Base, Directory, Grid, Hand, Objects, Slot, SHARDS_APART,
+};
 use crate::erased::shardpool::closing::HandRow;
 use crate::erased::shardpool::fault::OpenFault;
-use crate::erased::shardpool::lane::Lane;
-use crate::erased::shardpool::places::Places;
-use crate::erased::shardpool::pool::Pool;
-use crate::erased::shardpool::state::{HeldKey, LaneState};
+use crate::erased::shardpool::pool::{Apart, HeldKey, Lane, LaneState, Places, Pool};
 use crate::erased::slotcell::Clear;
 
 /// Opens a pool of this shape. Its lanes stand by rising number; none has a free place yet, and no page is opened.
@@ -57,8 +53,8 @@ fn try_open<T: Clear>(alloc: Global, shape: Shape) -> Option<(Pool<T>, Vec<Lane<
     Some((pool, lanes))
 }
 
-/// The table of a pool of this shape, whose objects stand in this directory, and its lanes without their rights. None where memory
-/// was refused.
+/// The table of a pool of this shape, whose objects stand in this directory, and its lanes without their rights. None
+/// where memory was refused.
 fn parts_of<T: Clear>(
     alloc: Global,
     shape: &Shape,

@@ -1,23 +1,13 @@
 // Made from crates/shardpool/src/pool.rt by bindings/erase/erase.py: change that file, not this one.
 
-//! The pool, and the calls of its lanes.
+//! A pool and its lanes: what each has.
 
-use crate::shim::{Global, Vec};
+use crate::shim::{no_bytes, Gapless, Global, Vec};
 
-use crate::erased::keybits::{is_hit, place_of, Shape};
-use crate::erased::placecell::Directory;
-use crate::erased::placerows::Objects;
-use crate::erased::poolcalls::{downgrade, publish, At};
-use crate::erased::poolsteps::{Grid, Purpose, Spot};
-use crate::erased::shardpool::clears::clear_and_keep;
-use crate::erased::shardpool::ends::{end_miss, finish_if_owed};
-use crate::erased::shardpool::lane::Lane;
-use crate::erased::shardpool::rows::{
-    add_first_reference, add_reference, count_to, drop_reference, return_last_share,
-};
-use crate::erased::shardpool::state::LaneState;
-use crate::erased::shardpool::stores::give_out;
-use crate::erased::shardpool::token::{Filling, Ref};
+use crate::erased::freelists::{LocalFree, Pages};
+use crate::erased::keybits::{Shape, PAGE_NUMBERS};
+use crate::erased::poolsteps::{page_rows, Directory, Grid, Hand, Objects, PageRow, Slot, Spot};
+use crate::erased::shardpool::closing::HandRow;
 use crate::erased::slotcell::Clear;
 
 /// A pool of objects that are cleared and used again in place. Its lanes call it, each from a thread of its own.
@@ -38,113 +28,103 @@ impl<T: Clear> Pool<T> {
         self.grid.shape
     }
 
-    /// A reference to the object of a key, where it is published and not cleared. None otherwise, and for a number that is no
-    /// key of the pool, without a step.
-    #[inline(always)]
-    pub fn get(&self, lane: &mut Lane<T>, key: u64) -> Option<Ref<T>> {
-        let start = self.get_at(lane, key)?;
-        Some(Ref::to(key, start, &lane.state.places))
-    }
-
-    /// A get whose reference stays with the lane, for who keeps keys in place of references: answers where `Lane::read_at` finds the
-    /// object without looking for the key's place again.
-    #[inline(always)]
-    pub fn get_at(&self, lane: &mut Lane<T>, key: u64) -> Option<u32> {
-        let number = lane.state.number;
-        let spot = self.find(key)?;
-        // Behind the ENTER a processor may make this load wait for the ENTER's store, where both stand alike in their pages.
-        let held = lane.state.rows[spot.start as usize].count;
-        let found = self.grid.enter(&mut lane.hand, spot, key, Purpose::ToGet);
-        if !is_hit(key, found) {
-            end_miss(&self.grid, &mut lane.hand, &mut lane.state, spot, key);
-            return None;
-        }
-        if held > 0 {
-            add_reference(&mut lane.state, spot.start as usize);
-            return Some(spot.start);
-        }
-        let share = self.grid.out(&mut lane.hand, spot, number, number);
-        add_first_reference(&mut lane.state, spot.start as usize, key, share);
-        Some(spot.start)
-    }
-
-    /// Gives a reference back. Where it was the last to a key that is cleared, the object is cleared in place.
-    #[inline(always)]
-    pub fn release(&self, lane: &mut Lane<T>, reference: Ref<T>) {
-        let start = lane.state.start_of(&reference);
-        let key = reference.spend();
-        let spot = Spot {
-            place: place_of(key),
-            start,
-        };
-        self.release_at(lane, spot, key);
-    }
-
-    /// Gives back a reference to a key, for who keeps keys in place of references: true where the lane had one. False, without a step,
-    /// where it had none, and for a number that is no key of the pool.
-    pub fn release_key(&self, lane: &mut Lane<T>, key: u64) -> bool {
-        let Some(spot) = self.find(key) else {
-            return false;
-        };
-        if count_to(&lane.state, spot.start as usize, key) == 0 {
-            return false;
-        }
-        self.release_at(lane, spot, key);
-        true
-    }
-
-    /// Gives back a reference to a key, whose place stands here.
-    #[inline(always)]
-    fn release_at(&self, lane: &mut Lane<T>, spot: Spot, key: u64) {
-        return_last_share(&self.grid, &mut lane.hand, &mut lane.state, spot, key);
-        drop_reference(&mut lane.state, spot.start as usize);
-        let left = self.grid.leave(&mut lane.hand, spot, key);
-        finish_if_owed(&self.grid, &mut lane.hand, &mut lane.state, spot, key, left);
-    }
-
-    /// Clears the object of a key: true where it is this call that marked the key, which a get then finds no more. The last
-    /// that refers to the object clears it in place. False for a key that is marked or not published, and for a number that is no key of the pool,
-    /// without a step.
-    #[inline(always)]
-    pub fn clear(&self, lane: &mut Lane<T>, key: u64) -> bool {
-        let Some(spot) = self.find(key) else {
-            lane.seen_law();
-            return false;
-        };
-        clear_and_keep(&self.grid, &mut lane.hand, &mut lane.state, spot.start, key)
-    }
-
-    /// Publishes a filling: a get of its key finds the content that was written last. Answers the key.
-    #[inline(always)]
-    pub fn publish(&self, lane: &mut Lane<T>, filling: Filling<T>) -> u64 {
-        let (key, start, written) = filling.spend();
-        let spot = Spot {
-            place: place_of(key),
-            start,
-        };
-        let number = lane.state.number;
-        let whole = give_out(&mut lane.state, spot, written);
-        publish(&self.grid, &mut lane.hand, spot, number, key, whole);
-        key
-    }
-
-    /// Publishes a filling as `publish` does, and answers a reference to its key.
-    pub fn downgrade(&self, lane: &mut Lane<T>, filling: Filling<T>) -> Ref<T> {
-        let (key, start, object) = filling.spend();
-        let spot = Spot {
-            place: place_of(key),
-            start,
-        };
-        let number = lane.state.number;
-        let whole = give_out(&mut lane.state, spot, object);
-        let share = downgrade(&self.grid, &mut lane.hand, spot, number, key, whole);
-        add_first_reference(&mut lane.state, spot.start as usize, key, share);
-        Ref::to(key, start, &lane.state.places)
-    }
-
     /// Where a key's place stands. None for a number that is no key of the pool.
     #[inline]
     pub(crate) fn find(&self, key: u64) -> Option<Spot> {
         self.grid.find_key(key)
+    }
+}
+
+/// What a lane has of a place: how many references to which of its keys, and the share under them.
+pub(crate) struct HeldKey<T> {
+    /// The generation of the last key of the place to which the lane had a reference; 0, which no key has, before the
+    /// first.
+    pub(crate) generation: u32,
+    pub(crate) count: u32,
+    pub(crate) share: Slot<T>,
+}
+
+// SAFETY: its fields fill it, at which the compiler looks.
+unsafe impl<T> Gapless for HeldKey<T> {
+    const FIELDS: usize =
+        std::mem::size_of::<u32>() + std::mem::size_of::<u32>() + no_bytes::<Slot<T>>();
+}
+
+/// What a lane keeps beside its seat.
+pub(crate) struct LaneState<T> {
+    /// The shape of the pool.
+    pub(crate) shape: Shape,
+    /// The lane's number.
+    pub(crate) number: u32,
+    /// How many references the lane has.
+    pub(crate) references: u32,
+    /// A row for each place of the pool, where the place stands.
+    pub(crate) rows: Vec<HeldKey<T>>,
+    /// For each shard the word that the lane last pushed there.
+    pub(crate) last_pushed: Vec<u64>,
+    /// The free places of the lane's own shard.
+    pub(crate) free: LocalFree,
+    /// The pages of the lane's own shard.
+    pub(crate) pages: Pages,
+    /// The lane's rights to places, and the objects of its own shard that wait with it.
+    pub(crate) objects: Objects<T>,
+    /// Where the places of the pool stand.
+    pub(crate) places: Places,
+    pub(crate) alloc: Global,
+}
+
+/// The owner of a shard. A thread that has one calls the pool with it.
+pub struct Lane<T: Clear> {
+    pub(crate) hand: Hand<T>,
+    pub(crate) ahead: Apart,
+    pub(crate) state: LaneState<T>,
+    pub(crate) row: HandRow<T>,
+    pub(crate) behind: Apart,
+}
+
+/// Where the places of each page of a pool stand.
+pub(crate) struct Places {
+    /// The shape of the pool.
+    pub(crate) shape: Shape,
+    /// Which pools have each place at the same number: those of this code.
+    pub(crate) code: u32,
+    /// The rows of its pages.
+    pub(crate) rows: Vec<PageRow>,
+}
+
+impl Places {
+    /// The places of a pool of this shape. None where memory was refused.
+    #[inline]
+    pub(crate) fn of(alloc: Global, shape: &Shape) -> Option<Places> {
+        let rows = page_rows(alloc, shape)?;
+        Some(Places {
+            shape: *shape,
+            code: 8 * shape.first_page + shape.pages,
+            rows,
+        })
+    }
+
+    /// Where a place of the pool stands, by the row of its page.
+    #[inline]
+    pub(crate) fn start(&self, place: u32) -> u32 {
+        let page = &self.rows[(place / PAGE_NUMBERS) as usize];
+        page.start + place % PAGE_NUMBERS
+    }
+}
+
+/// How many bytes stand between what different lanes write: a processor may fetch two lines of 64 bytes together.
+const BYTES_APART: usize = 128;
+
+/// So many bytes, at an end of what a lane writes in each call.
+pub(crate) struct Apart {
+    unused: [u64; BYTES_APART / 8],
+}
+
+impl Apart {
+    #[inline]
+    pub(crate) fn new() -> Apart {
+        Apart {
+            unused: [0; BYTES_APART / 8],
+        }
     }
 }

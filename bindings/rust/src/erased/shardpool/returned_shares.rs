@@ -5,9 +5,8 @@
 use crate::shim::{Slots, Vec};
 
 use crate::erased::keybits::Shape;
-use crate::erased::placecell::Slot;
-use crate::erased::poolsteps::{shard_start, slot_row};
-use crate::erased::shardpool::state::{HeldKey, LaneState};
+use crate::erased::poolsteps::{shard_start, slot_row, Slot};
+use crate::erased::shardpool::pool::{HeldKey, LaneState};
 use std::mem;
 
 /// The shares under all references go back into their slots. The rows of the lanes then are gone.

@@ -4,11 +4,9 @@
 
 use crate::shim::{impossible, Box, Global, Vec};
 
-use crate::erased::keybits::{link_to, linked_place, shard_of, Place};
-use crate::erased::placecell::Whole;
-use crate::erased::poolcalls::Reclaimed;
-use crate::erased::poolsteps::Spot;
-use crate::erased::shardpool::state::LaneState;
+use crate::erased::keybits::{linked_place, Place};
+use crate::erased::poolsteps::{Spot, Whole};
+use crate::erased::shardpool::pool::LaneState;
 use crate::erased::slotcell::Clear;
 
 /// An emptied object of an own place rests with the lane, and the place goes to the end of the lane's list.
@@ -18,7 +16,8 @@ pub(crate) fn keep<T>(state: &mut LaneState<T>, spot: Spot, whole: Whole<T>) {
     state.free.push(Place::of_number(spot.place));
 }
 
-/// An empty object of an own place, which never had one, rests with the lane, and the place goes to the end of the lane's list.
+/// An empty object of an own place, which never had one, rests with the lane, and the place goes to the end of the
+/// lane's list.
 fn list<T>(state: &mut LaneState<T>, place: u32, object: Box<T, Global>) {
     state
         .objects
@@ -26,28 +25,8 @@ fn list<T>(state: &mut LaneState<T>, place: u32, object: Box<T, Global>) {
     state.free.push(Place::of_number(place));
 }
 
-/// What became of a place that was reclaimed is kept: the object of an own place, and of a place that was returned its word.
-#[inline(always)]
-pub(crate) fn keep_reclaimed<T>(
-    state: &mut LaneState<T>,
-    spot: Spot,
-    reclaimed: Option<Reclaimed<T>>,
-) {
-    match reclaimed {
-        Some(Reclaimed::Own(whole)) => {
-            keep(state, spot, whole);
-        }
-        Some(Reclaimed::Returned) => {
-            state.last_pushed[shard_of(spot.place) as usize] = link_to(spot.place);
-        }
-        Some(Reclaimed::Retired(vacancy)) => {
-            state.objects.retire(spot.start as usize, vacancy);
-        }
-        None => {}
-    }
-}
-
-/// The first place of the lane's list, where it stands, and its object. None where the list is empty, which changes nothing.
+/// The first place of the lane's list, where it stands, and its object. None where the list is empty, which changes
+/// nothing.
 #[inline(always)]
 pub(crate) fn take_own<T>(state: &mut LaneState<T>) -> Option<(Place, u32, Box<T, Global>)> {
     let place = state.free.pop()?;

@@ -1,13 +1,13 @@
 // Made from crates/slotcell/src/portion.rt by bindings/erase/erase.py: change that file, not this one.
 
-// A cell that is lent to readers, in equal parts.
+//! A cell that is lent to readers, in equal parts.
 
 use crate::shim::Global;
 
 use crate::erased::slotcell::unboxed::Unboxed;
 
-// Some of the 2^63 equal parts of a cell that is lent, `parts` of them. Each part is a right to read. Whoever has all, with
-// the right of the one `owner` to the box, ends the loan. At run time there is only the pointer.
+// Some of the 2^63 equal parts of a cell that is lent, `parts` of them. Each part is a right to read. Whoever has all,
+// with the right of the one `owner` to the box, ends the loan. At run time there is only the pointer.
 pub(crate) struct Portion<T> {
     at: *mut T,
 }

@@ -6,8 +6,9 @@ use crate::erased::slotcell::portion::Portion;
 
 /// One of the shares of a cell: the right to read the object in it, which nobody writes meanwhile.
 ///
-/// A contract sees which cell the share is of, its number, of how many it is one, and the object, so the object's content
-/// and room. Shares that are of one cell show one object. Where `T` is `Send` and `Sync` a share crosses threads.
+/// A contract sees which cell the share is of, its number, of how many it is one, and the object, so the object's
+/// content and room. Shares that are of one cell show one object. Where `T` is `Send` and `Sync` a share crosses
+/// threads.
 ///
 /// A share that is dropped frees nothing: its cell can then never be whole again, and its memory is lost.
 pub struct Share<T> {
@@ -15,7 +16,7 @@ pub struct Share<T> {
 }
 
 impl<T> Share<T> {
-    /// Returns the object.
+    /// Answers the object.
     pub fn read(&self) -> &T {
         self.portion.read()
     }

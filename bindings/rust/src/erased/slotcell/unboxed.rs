@@ -1,6 +1,6 @@
 // Made from crates/slotcell/src/unboxed.rt by bindings/erase/erase.py: change that file, not this one.
 
-// A box, as its pointer and its allocator.
+//! A box, as its pointer and its allocator.
 
 use crate::shim::{Allocator, Box};
 

@@ -8,7 +8,8 @@ use crate::erased::slotcell::portion::Portion;
 use crate::erased::slotcell::share::Share;
 use crate::erased::slotcell::unboxed::Unboxed;
 
-/// A cell on the heap with its object, which nobody else can reach. A contract sees the object, so its content and room.
+/// A cell on the heap with its object, which nobody else can reach. A contract sees the object, so its content and
+/// room.
 ///
 /// A whole that is dropped drops its object and frees its cell. It crosses threads as `T` does.
 pub struct Whole<T> {
@@ -28,12 +29,12 @@ impl<T> Whole<T> {
         }
     }
 
-    /// Returns the object.
+    /// Answers the object.
     pub fn get(&self) -> &T {
         &self.boxed
     }
 
-    /// Returns the object for writing.
+    /// Answers the object for writing.
     pub fn get_mut(&mut self) -> &mut T {
         &mut self.boxed
     }
@@ -45,8 +46,8 @@ impl<T> Whole<T> {
 }
 
 impl<T> Whole<T> {
-    /// Splits the cell into `n` shares, from 1 to 16, which stand by rising number from 0. Each shows the object. It takes
-    /// no memory.
+    /// Splits the cell into `n` shares, from 1 to 16, which stand by rising number from 0. Each shows the object. It
+    /// takes no memory.
     ///
     /// The shares are `Some`s, since an `ArrayVec` holds blanks in its unused places and a share has none.
     pub fn split(self, n: usize) -> ArrayVec<Option<Share<T>>, 16> {
@@ -67,8 +68,8 @@ impl<T> Whole<T> {
     }
 }
 
-/// Joins all the shares of one cell, in any order, to the whole. Its object is the one that each of them showed. It takes
-/// no memory.
+/// Joins all the shares of one cell, in any order, to the whole. Its object is the one that each of them showed. It
+/// takes no memory.
 pub fn join<T>(alloc: Global, shares: ArrayVec<Option<Share<T>>, 16>) -> Whole<T> {
     let mut shares = shares;
     let count = shares.len();

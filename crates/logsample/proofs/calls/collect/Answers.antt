@@ -8,6 +8,14 @@ use Rattle.logsample.specs.Histories.{Collects}
 use Rattle.logsample.proofs.Going.{goes-on, marks-nothing}
 use Rattle.logsample.proofs.calls.collect.Goals as goal
 
+pub returns-clause-published : goal.returns-clause-published
+returns-clause-published g c =
+    let told = c.args.told in
+    let before = c.read-line.new.seat.lane.book.seen in
+    let published : IsPublished before told.key told.content =
+    c.going_law.ensures.published c.hear-key.new.self.lane.book.seen before c.read-line.ensures.goes.seen told.key told.content c.hear-key.ensures.published in
+    c.going_law.ensures.published before c.clear.new.self.lane.book.seen c.clear.ensures.goes.seen told.key told.content published
+
 pub returns-clause-unfound : goal.returns-clause-unfound
 returns-clause-unfound g c = λ history goes legal i lane reply at behind.
     let told = c.args.told in

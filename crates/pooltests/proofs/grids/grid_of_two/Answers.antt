@@ -1,6 +1,6 @@
 use Rattle.std.proofs.Common.{List, slice_get, ap, Option}
 use Rattle.atomic_table.specs.declared.shared.Seat.{Seat}
-use Rattle.placecell.specs.Share.{Share}
+use Rattle.poolsteps.specs.Share.{Share}
 use Rattle.poolsteps.specs.declared.view.View.{View}
 use Rattle.pooltests.proofs.grids.grid_of_two.Goals as goal
 

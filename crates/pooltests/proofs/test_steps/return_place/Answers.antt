@@ -1,7 +1,7 @@
 use Rattle.std.proofs.Common.{◌≡◌, ℕ, ◌<◌, ◌≤◌, [], sym, ap, ◌∙◌, subst, arith}
 use Rattle.keybits.specs.declared.shape.Shape.{Shape}
-use Rattle.sharelaws.specs.declared.stored.Status.TheVariants.{Emptied}
-use Rattle.sharelaws.specs.Shares.{room_of}
+use Rattle.poolsteps.specs.declared.view.Status.TheVariants.{Emptied}
+use Rattle.poolsteps.specs.Shares.{room_of}
 use Rattle.poolsteps.specs.declared.view.View.{View}
 use Rattle.poolsteps.specs.Views.{the_lane, status_of}
 use Rattle.poolsteps.specs.Told.{HasPlace}

@@ -1,7 +1,7 @@
 use Rattle.std.proofs.Common.{◌≡◌, ℕ, ap, sym, ◌∙◌, subst, arith}
 use Rattle.keybits.specs.declared.shape.Shape.{Shape}
-use Rattle.placecell.specs.Share.{Share}
-use Rattle.placecell.specs.Rest.{Rest}
+use Rattle.poolsteps.specs.Share.{Share}
+use Rattle.poolsteps.specs.Rest.{Rest}
 use Rattle.poolsteps.specs.Layout.{spots_at}
 use Rattle.poolsteps.specs.Told.{MayTouch, HasPlace}
 use Rattle.poolsteps.proofs.OwnShares.{may-touch, still-has, same-room, one-cell}

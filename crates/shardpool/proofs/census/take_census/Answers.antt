@@ -7,7 +7,7 @@ use Rattle.std.proofs.lemmas.List.{nil_from_length, length_push}
 use Rattle.std.proofs.lemmas.Option.{slice_get_within}
 use Rattle.core.specs.Mem.Slots.{slots_items}
 use Rattle.keybits.specs.Places.{number_of}
-use Rattle.placerows.specs.Objects.{ObjectsOf}
+use Rattle.poolsteps.specs.Objects.{ObjectsOf}
 use Rattle.poolsteps.specs.Layout.{slot_row}
 use Rattle.shardpool.specs.Marks.{AreFreePlaces, returned_places, Counts}
 use Rattle.shardpool.proofs.count.Marks.{blanks-then}

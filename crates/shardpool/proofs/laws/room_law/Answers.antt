@@ -4,8 +4,8 @@ use Rattle.keybits.specs.Keys.{place_of}
 use Rattle.seqpool.specs.declared.act.Act.{Act}
 use Rattle.seqpool.specs.declared.act.Act.TheVariants as acts
 use Rattle.seqpool.specs.Histories.{PublishedAt}
-use Rattle.sharelaws.specs.Shares.{room_after, rooms_after}
-use Rattle.sharelaws.proofs.Rooms.{rooms-append}
+use Rattle.poolsteps.specs.Shares.{room_after, rooms_after}
+use Rattle.poolsteps.proofs.shares.Rooms.{rooms-append}
 use Rattle.shardpool.proofs.laws.room_law.Goals as goal
 
 -- no key of the place is published in the history

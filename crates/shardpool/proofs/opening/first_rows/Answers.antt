@@ -1,8 +1,8 @@
 -- Each round adds the same row.
 use Rattle.std.proofs.Common.{◌≡◌, ◌++◌, ℕ, [], ◌∷◌, Option, None, replicate, ap, ◌∙◌, arith}
 use Rattle.std.proofs.lemmas.List.{replicate-append-replicate}
-use Rattle.placecell.specs.Share.{Share}
-use Rattle.shardpool.specs.declared.state.HeldKey.{HeldKey}
+use Rattle.poolsteps.specs.Share.{Share}
+use Rattle.shardpool.specs.declared.pool.HeldKey.{HeldKey}
 use Rattle.shardpool.proofs.opening.first_rows.Goals as goal
 
 pub loop-preserved : goal.loop-preserved

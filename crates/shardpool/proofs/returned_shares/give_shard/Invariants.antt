@@ -2,10 +2,10 @@
 use Rattle.std.proofs.Common.{◌≡◌, ◌+◌, ◌*◌, List, Option, length}
 use Rattle.core.specs.declared.slots.Slots.{Slots}
 use Rattle.keybits.specs.Shapes.{shard_places}
-use Rattle.placecell.specs.Share.{Share}
+use Rattle.poolsteps.specs.Share.{Share}
 use Rattle.poolsteps.specs.Layout.{slot_row}
 use Rattle.poolsteps.specs.Joins.{IsSlotRow}
-use Rattle.shardpool.specs.declared.state.HeldKey.{HeldKey}
+use Rattle.shardpool.specs.declared.pool.HeldKey.{HeldKey}
 use Rattle.shardpool.specs.Remains.{GivesTo}
 use Rattle.shardpool.proofs.returned_shares.give_shard.Given as goal
 

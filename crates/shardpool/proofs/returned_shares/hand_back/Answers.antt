@@ -1,7 +1,7 @@
 -- Each state gives back the shares of its rows.
 use Rattle.std.proofs.Common.{◌≡◌, ◌<◌, length, Some, sym, ap, ◌∙◌, subst, arith}
 use Rattle.std.specs.Prelude.{slice_get}
-use Rattle.shardpool.specs.declared.state.LaneState.{LaneState as Shown}
+use Rattle.shardpool.specs.declared.pool.LaneState.{LaneState as Shown}
 use Rattle.shardpool.specs.Remains.{GivesBack}
 use Rattle.shardpool.proofs.at_close.LastHistory.{entry-at}
 use Rattle.shardpool.proofs.at_close.ReturnedShares.{hands-none, hands-all, stands-now, hands-more}

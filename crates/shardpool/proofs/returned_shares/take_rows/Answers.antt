@@ -1,7 +1,7 @@
 -- The state is as before, but for its rows.
 use Rattle.std.proofs.Common.{◌≡◌, refl, ap, ◌∙◌}
 use Rattle.std.proofs.lemmas.Option.{get_or_from_slice_get}
-use Rattle.shardpool.specs.declared.state.LaneState.{LaneState as Shown}
+use Rattle.shardpool.specs.declared.pool.LaneState.{LaneState as Shown}
 use Rattle.shardpool.proofs.returned_shares.take_rows.Goals as goal
 
 pub returns-clause-left : goal.returns-clause-left

@@ -1,6 +1,6 @@
 -- The place is one of the lane's.
 use Rattle.std.proofs.Common.{sym, ap, ◌∙◌}
-use Rattle.placerows.specs.Objects.{spot_at}
+use Rattle.poolsteps.specs.Objects.{spot_at}
 use Rattle.shardpool.proofs.free.Words.{word-low, word-high}
 use Rattle.shardpool.proofs.stores.follow_on.Goals as goal
 

@@ -4,7 +4,7 @@ use Rattle.keybits.specs.declared.place.Place.{Place}
 use Rattle.keybits.specs.Places.{shard_of}
 use Rattle.keybits.specs.Shapes.{index_of}
 use Rattle.freelists.specs.Shards.{place_numbered}
-use Rattle.placerows.specs.Objects.{spot_at}
+use Rattle.poolsteps.specs.Objects.{spot_at}
 use Rattle.shardpool.proofs.free.Words.{word-low, word-high, word-index}
 use Rattle.shardpool.proofs.stores.keep.Goals as goal
 

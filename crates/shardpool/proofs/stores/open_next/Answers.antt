@@ -11,7 +11,7 @@ use Rattle.std_alloc.specs.declared.boxed.Box.{Box}
 use Rattle.freelists.specs.Queues.{IsAway}
 use Rattle.freelists.specs.Shards.{place_numbered}
 use Rattle.poolsteps.specs.Layout.{shard_start}
-use Rattle.shardpool.specs.declared.state.LaneState.{LaneState}
+use Rattle.shardpool.specs.declared.pool.LaneState.{LaneState}
 use Rattle.shardpool.specs.Stores.{KeepsOwn}
 use Rattle.shardpool.proofs.free.Pages.{MayOpen, OpensSlots, page-opened, none-on, all-on, one-on, same-number, same-shape, low-shard, small-slot, slot-is, inside, shard-is, page-is, slot-away}
 use Rattle.shardpool.proofs.stores.open_next.Goals as goal

@@ -11,11 +11,11 @@ use denote.Struct.Struct.{exits_of}
 use denote.Struct.Owning.{shape, fields, to}
 use Rattle.std.proofs.Crossing.{frees, crosses}
 use Rattle.std_alloc.proofs.SendSync.{quiet, lies}
-use Rattle.slotcell.specs.contracts.clear.ByteBuf as buffer
-use Rattle.slotcell.specs.contracts.clear.ByteBufClear.TheImpl as clears
-use Rattle.shardpool.specs.contracts.lane.Lane as lane
+use Rattle.slotcell.specs.contracts.objects.ByteBuf as buffer
+use Rattle.slotcell.specs.contracts.objects.ByteBufClear.TheImpl as clears
+use Rattle.shardpool.specs.contracts.pool.Lane as lane
 use Rattle.shardpool.specs.contracts.pool.Pool as pool
-use Rattle.shardpool.proofs.lane.Lane.TheSendSync as lane_crossing
+use Rattle.shardpool.proofs.pool.Lane.TheSendSync as lane_crossing
 use Rattle.shardpool.proofs.pool.Pool.TheSendSync as pool_crossing
 use Rattle.poolhandle.specs.contracts.kept.Kept as kept
 use Rattle.poolhandle.specs.contracts.fillings.Fillings as fillings

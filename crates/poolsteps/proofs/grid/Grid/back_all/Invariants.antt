@@ -1,6 +1,6 @@
-use Rattle.placecell.specs.Rest.{lowest_share}
-use Rattle.sharelaws.specs.declared.stored.Status.TheVariants.{Untouched, Emptied}
-use Rattle.sharelaws.specs.Shares.{nothing_stored}
+use Rattle.poolsteps.specs.Rest.{lowest_share}
+use Rattle.poolsteps.specs.declared.view.Status.TheVariants.{Untouched, Emptied}
+use Rattle.poolsteps.specs.Shares.{nothing_stored}
 use Rattle.poolsteps.specs.Moved.{stored_of}
 use Rattle.poolsteps.proofs.Carrying.{first_value, stored_held}
 use Rattle.poolsteps.proofs.Turning.{falling}

@@ -1,6 +1,6 @@
 use Rattle.poolsteps.specs.Layout.{spots_at}
 use Rattle.std.proofs.Common.{Some, refl, ◌∙◌}
-use Rattle.sharelaws.specs.declared.stored.Status.TheVariants.{Emptied}
+use Rattle.poolsteps.specs.declared.view.Status.TheVariants.{Emptied}
 use Rattle.poolsteps.specs.Layout.{slot_index}
 use Rattle.poolsteps.specs.Moved.{stored_of}
 use Rattle.poolsteps.proofs.Carrying.{first-held, one-lifted, hand-lifted, may-lifted, store-lifted, leaves-share, backs}

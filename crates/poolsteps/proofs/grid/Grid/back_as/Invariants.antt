@@ -1,5 +1,5 @@
-use Rattle.sharelaws.specs.declared.stored.Status.TheVariants.{Emptied}
-use Rattle.sharelaws.specs.Shares.{nothing_stored}
+use Rattle.poolsteps.specs.declared.view.Status.TheVariants.{Emptied}
+use Rattle.poolsteps.specs.Shares.{nothing_stored}
 use Rattle.poolsteps.proofs.Carrying.{first_value, stored_held}
 use Rattle.poolsteps.proofs.grid.Grid.back_as.Given as goal
 

@@ -1,6 +1,6 @@
 use Rattle.std.proofs.Common.{false}
-use Rattle.sharelaws.specs.Shares.{nothing_stored}
-use Rattle.poolsteps.specs.declared.plays.Purpose.TheVariants.{ToGet}
+use Rattle.poolsteps.specs.Shares.{nothing_stored}
+use Rattle.poolsteps.specs.declared.steps.Purpose.TheVariants.{ToGet}
 use Rattle.poolsteps.proofs.grid.Grid.claim.Given as goal
 
 -- the claim is of the grid's shape; its place and generation are in the view

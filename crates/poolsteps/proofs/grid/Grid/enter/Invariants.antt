@@ -1,5 +1,5 @@
 use Rattle.std.proofs.Common.{false}
-use Rattle.sharelaws.specs.Shares.{nothing_stored}
+use Rattle.poolsteps.specs.Shares.{nothing_stored}
 use Rattle.poolsteps.proofs.grid.Grid.enter.Given as goal
 
 -- what the caller asks for, at this table

@@ -1,7 +1,7 @@
 use Rattle.poolsteps.specs.Layout.{spots_at}
 use Rattle.std.proofs.Common.{None, refl, sym, ◌∙◌, subst}
 use Rattle.keybits.specs.declared.shape.Shape.{Shape}
-use Rattle.sharelaws.specs.declared.stored.Status.TheVariants.{Untouched, Emptied}
+use Rattle.poolsteps.specs.declared.view.Status.TheVariants.{Untouched, Emptied}
 use Rattle.poolsteps.specs.Batches.{AreLeft, AreOf, GoesAll}
 use Rattle.poolsteps.proofs.AllShares.{all-place, goes-again}
 use Rattle.poolsteps.proofs.Turning.{rising-order}

@@ -1,5 +1,5 @@
-use Rattle.sharelaws.specs.declared.stored.Status.TheVariants.{Emptied}
-use Rattle.sharelaws.specs.Shares.{nothing_stored}
+use Rattle.poolsteps.specs.declared.view.Status.TheVariants.{Emptied}
+use Rattle.poolsteps.specs.Shares.{nothing_stored}
 use Rattle.poolsteps.specs.Views.{the_lane, known_of}
 use Rattle.poolsteps.proofs.grid.Grid.out_as.Given as goal
 

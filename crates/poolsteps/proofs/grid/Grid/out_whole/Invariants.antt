@@ -1,5 +1,5 @@
-use Rattle.sharelaws.specs.declared.stored.Status.TheVariants.{Whole}
-use Rattle.sharelaws.specs.Shares.{nothing_stored}
+use Rattle.poolsteps.specs.declared.view.Status.TheVariants.{Whole}
+use Rattle.poolsteps.specs.Shares.{nothing_stored}
 use Rattle.poolsteps.proofs.grid.Grid.out_whole.Given as goal
 
 -- how the lane left the slot

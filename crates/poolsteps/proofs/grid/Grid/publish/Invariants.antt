@@ -1,6 +1,6 @@
 use Rattle.std.proofs.Common.{false}
 use Rattle.keybits.specs.Keys.{place_of}
-use Rattle.poolsteps.specs.declared.plays.Purpose.TheVariants.{ToGet}
+use Rattle.poolsteps.specs.declared.steps.Purpose.TheVariants.{ToGet}
 use Rattle.poolsteps.specs.Views.{the_lane, known_of}
 use Rattle.poolsteps.proofs.grid.Grid.publish.Given as goal
 

@@ -1,5 +1,5 @@
 use Rattle.std.proofs.Common.{true}
-use Rattle.poolsteps.specs.declared.plays.Purpose.TheVariants.{ToGet}
+use Rattle.poolsteps.specs.declared.steps.Purpose.TheVariants.{ToGet}
 use Rattle.poolsteps.specs.Moved.{stored_of}
 use Rattle.poolsteps.proofs.grid.Grid.publish_held.Given as goal
 

@@ -1,8 +1,8 @@
 use Rattle.poolsteps.specs.Layout.{spots_at}
 use Rattle.std.proofs.Common.{◌≡◌, ◌+◌, ◌-◌, ℕ, suc, Option, Some, refl, ap, sym, ◌∙◌, arith}
 use Rattle.keybits.specs.declared.shape.Shape.{Shape}
-use Rattle.placecell.specs.Share.{Share, share_of}
-use Rattle.placecell.specs.Rest.{Rest, lowest_share}
+use Rattle.poolsteps.specs.Share.{Share, share_of}
+use Rattle.poolsteps.specs.Rest.{Rest, lowest_share}
 use Rattle.poolsteps.proofs.Turning.{falling, turning, turning-none, turning-head, turning-next, turning-all, rest-left}
 use Rattle.poolsteps.proofs.grid.Grid.put_all.Goals as goal
 

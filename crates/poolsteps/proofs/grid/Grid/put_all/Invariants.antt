@@ -1,5 +1,5 @@
 use Rattle.std.proofs.Common.{◌≡◌, ◌-◌, ℕ, Option, Some}
-use Rattle.placecell.specs.Share.{Share, share_of}
+use Rattle.poolsteps.specs.Share.{Share, share_of}
 use Rattle.poolsteps.specs.Grids.{SameSeat}
 use Rattle.poolsteps.proofs.Turning.{falling, turning}
 use Rattle.poolsteps.proofs.grid.Grid.put_all.Given as goal

@@ -1,6 +1,6 @@
 use Rattle.std.proofs.Common.{false}
-use Rattle.sharelaws.specs.Shares.{nothing_stored}
-use Rattle.poolsteps.specs.declared.plays.Purpose.TheVariants.{ToGet}
+use Rattle.poolsteps.specs.Shares.{nothing_stored}
+use Rattle.poolsteps.specs.declared.steps.Purpose.TheVariants.{ToGet}
 use Rattle.poolsteps.proofs.grid.Grid.take.Given as goal
 
 -- the lane whose stack the caller takes, at this grid

@@ -1,7 +1,7 @@
 use Rattle.poolsteps.specs.Layout.{spots_at}
 use Rattle.std.proofs.Common.{◌≡◌, ◌-◌, ℕ, suc, Option, None, refl, ap, sym, ◌∙◌, arith}
 use Rattle.keybits.specs.declared.shape.Shape.{Shape}
-use Rattle.placecell.specs.Share.{Share}
+use Rattle.poolsteps.specs.Share.{Share}
 use Rattle.poolsteps.specs.Moved.{stored_of}
 use Rattle.poolsteps.proofs.Carrying.{stored-is}
 use Rattle.poolsteps.proofs.Turning.{rising, turning, turning-none, turning-head, turning-next, turning-all, found-share, some-share}

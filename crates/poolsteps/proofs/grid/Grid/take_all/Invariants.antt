@@ -1,8 +1,8 @@
 use Rattle.poolsteps.specs.Layout.{spots_at}
 use Rattle.std.proofs.Common.{◌≡◌, ◌-◌, ◌<◌, ℕ, Option, None}
-use Rattle.placecell.specs.Share.{Share}
-use Rattle.placecell.specs.Rest.{lowest_share}
-use Rattle.sharelaws.specs.declared.stored.Status.TheVariants.{Untouched}
+use Rattle.poolsteps.specs.Share.{Share}
+use Rattle.poolsteps.specs.Rest.{lowest_share}
+use Rattle.poolsteps.specs.declared.view.Status.TheVariants.{Untouched}
 use Rattle.poolsteps.specs.Grids.{SameSeat}
 use Rattle.poolsteps.specs.Moved.{stored_of}
 use Rattle.poolsteps.specs.Batches.{AreLeft}

@@ -5,12 +5,12 @@ use Rattle.keybits.specs.Keys.{is_key}
 use Rattle.seqpool.specs.declared.act.Act.TheVariants as acts
 use Rattle.seqpool.specs.Pool.{IsLegal}
 use Rattle.steplaws.specs.Calls.Call.{Getting}
-use Rattle.poolcalls.specs.Called.{Called, GetHits}
-use Rattle.sharelaws.specs.declared.stored.Status.TheVariants.{Untouched}
+use Rattle.shardpool.specs.Called.{Called, GetHits}
+use Rattle.poolsteps.specs.declared.view.Status.TheVariants.{Untouched}
 use Rattle.poolsteps.specs.Moved.{Outs}
-use Rattle.poolcalls.proofs.Moves.{carries-out}
-use Rattle.poolcalls.proofs.Standing.{has-left, lawful}
-use Rattle.poolcalls.proofs.Calling.{called-after, acts-behind, life-under, get-hits, hit-tells, get-misses}
+use Rattle.shardpool.proofs.parts.Moves.{carries-out}
+use Rattle.shardpool.proofs.parts.Standing.{has-left, lawful}
+use Rattle.shardpool.proofs.parts.Calling.{called-after, acts-behind, life-under, get-hits, hit-tells, get-misses}
 use Rattle.shardpool.specs.Tokens.{LaneOf}
 use Rattle.shardpool.proofs.calls.CallParts.{calls-more}
 use Rattle.shardpool.proofs.calls.Gets.{Gained, called-then, seen-within}

@@ -3,7 +3,7 @@ use Rattle.std.proofs.Common.{ℕ, sym, ap, ◌∙◌, subst}
 use Rattle.keybits.specs.declared.shape.Shape.{Shape}
 use Rattle.steplaws.specs.Calls.{Call}
 use Rattle.steplaws.specs.Calls.Call.{Releasing}
-use Rattle.poolcalls.specs.Halted.{CalledWithin}
+use Rattle.shardpool.specs.Halted.{CalledWithin}
 use Rattle.shardpool.specs.declared.halt.LastCall.{LastCall}
 use Rattle.shardpool.specs.declared.halt.LastCall.TheVariants.{Get, Clear, Release, Create}
 use Rattle.shardpool.specs.Creates.{creating}

@@ -7,8 +7,8 @@ use Rattle.keybits.specs.Places.{number_of}
 use Rattle.steplaws.specs.Calls.Call.{Creating}
 use Rattle.poolsteps.specs.Grids.{IsSpot}
 use Rattle.poolsteps.specs.Views.{the_lane}
-use Rattle.poolcalls.specs.Called.{caller_of}
-use Rattle.poolcalls.specs.Halted.{CalledWithin}
+use Rattle.shardpool.specs.Called.{caller_of}
+use Rattle.shardpool.specs.Halted.{CalledWithin}
 use Rattle.shardpool.specs.LaneStates.{IsFirst}
 use Rattle.shardpool.proofs.free.Takes.{hung-inside, hung-begins, hung-rests}
 use Rattle.shardpool.proofs.calls.Halts.{halts-none, listed-none, closed-none, fits-own, lawful-parts}

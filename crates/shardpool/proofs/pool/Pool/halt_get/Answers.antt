@@ -5,8 +5,8 @@ use Rattle.keybits.specs.declared.shape.Shape.{Shape}
 use Rattle.steplaws.specs.Calls.Call.{Getting}
 use Rattle.steplaws.specs.Facts.{most_references}
 use Rattle.poolsteps.specs.Told.{references_seen}
-use Rattle.poolcalls.specs.Called.{caller_of}
-use Rattle.poolcalls.specs.Halted.{CalledWithin}
+use Rattle.shardpool.specs.Called.{caller_of}
+use Rattle.shardpool.specs.Halted.{CalledWithin}
 use Rattle.shardpool.proofs.calls.Gets.{seen-within}
 use Rattle.shardpool.proofs.calls.KeyCalls.{ready-at}
 use Rattle.shardpool.proofs.calls.Halts.{halts-none, outside-none, ready-parts, lawful-parts}

@@ -3,8 +3,8 @@ use Rattle.std.proofs.Common.{ap, refl, sym, ◌∙◌, subst, arith}
 use Rattle.keybits.specs.declared.shape.Shape.{Shape}
 use Rattle.steplaws.specs.Calls.Call.{Releasing}
 use Rattle.poolsteps.specs.Grids.{IsSpot}
-use Rattle.poolcalls.specs.Halted.{CalledWithin}
-use Rattle.poolcalls.proofs.Within.{called-not}
+use Rattle.shardpool.specs.Halted.{CalledWithin}
+use Rattle.shardpool.proofs.parts.Within.{called-not}
 use Rattle.shardpool.proofs.calls.Releases.{lent-some, lent-share, lent-at}
 use Rattle.shardpool.proofs.calls.Halts.{halts-behind, refers-parts}
 use Rattle.shardpool.proofs.pool.Pool.halt_release.Goals as goal

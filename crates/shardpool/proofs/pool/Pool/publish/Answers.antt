@@ -1,7 +1,7 @@
 use Rattle.std.proofs.Common.{◌≡◌, ℕ, true, false, List, [], ◌∷◌, slice_get, Some, refl, sym, ap, ◌∙◌, subst, arith}
 use Rattle.keybits.specs.declared.shape.Shape.{Shape}
 use Rattle.keybits.specs.Keys.{place_of}
-use Rattle.sharelaws.specs.Shares.{room_of}
+use Rattle.poolsteps.specs.Shares.{room_of}
 use Rattle.poolsteps.specs.Layout.{spots_at}
 use Rattle.seqpool.specs.declared.act.Act.{Act}
 use Rattle.seqpool.specs.declared.act.Act.TheVariants as acts

@@ -5,9 +5,9 @@ use Rattle.seqpool.specs.declared.act.Act.TheVariants as acts
 use Rattle.steplaws.specs.Calls.Call.{Releasing}
 use Rattle.poolsteps.specs.Grids.{IsSpot}
 use Rattle.keybits.specs.Keys.{place_of}
-use Rattle.poolcalls.specs.Called.{Called, EndsWithActs, IsReclaimed}
-use Rattle.poolcalls.proofs.Calling.{release-called, release-acts}
-use Rattle.poolcalls.proofs.Standing.{has-left, lawful}
+use Rattle.shardpool.specs.Called.{Called, EndsWithActs, IsReclaimed}
+use Rattle.shardpool.proofs.parts.Calling.{release-called, release-acts}
+use Rattle.shardpool.proofs.parts.Standing.{has-left, lawful}
 use Rattle.shardpool.specs.Tokens.{PoolOf}
 use Rattle.shardpool.specs.LaneStates.{Fits}
 use Rattle.shardpool.proofs.calls.CallParts.{calls-more, calls-behind}

@@ -1,0 +1,159 @@
+// Made from crates/shardpool/src/get.rt by bindings/erase/erase.py: change that file, not this one.
+
+//! The get of a key.
+
+use crate::erased::keybits::{generation_of, is_hit, place_of};
+use crate::erased::poolsteps::{Grid, Hand, Purpose, Share, Slot, Spot};
+use crate::erased::shardpool::pool::{HeldKey, Lane, LaneState, Places, Pool};
+use crate::erased::shardpool::reclaim::finish_if_owed;
+use crate::erased::slotcell::Clear;
+use std::marker::PhantomData;
+
+/// A reference to a published object. It must be spent, by a release or `forget`.
+pub struct Ref<T> {
+    pub(crate) key: u64,
+    /// Where the key's place stands in the pool that answered the reference.
+    pub(crate) start: u32,
+    /// In which pools it stands there.
+    pub(crate) code: u32,
+    pub(crate) of: PhantomData<T>,
+}
+
+impl<T> Ref<T> {
+    /// A reference to this key, whose place stands here among these.
+    #[inline]
+    pub(crate) fn to(key: u64, start: u32, places: &Places) -> Ref<T> {
+        Ref {
+            key,
+            start,
+            code: places.code,
+            of: PhantomData,
+        }
+    }
+
+    /// The key of the object.
+    pub fn key(&self) -> u64 {
+        self.key
+    }
+
+    /// The token's key.
+    pub(crate) fn spend(self) -> u64 {
+        let Ref {
+            key,
+            start: _,
+            code: _,
+            of: _,
+        } = self;
+        key
+    }
+
+    /// The token ends, and the pool isn't told: the reference stays held by its lane until the pool is closed.
+    pub fn forget(self) {
+        self.spend();
+    }
+}
+
+impl<T: Clear> Pool<T> {
+    /// A reference to the object of a key, where it is published and not cleared. None otherwise, and for a number that
+    /// is no key of the pool, without a step.
+    #[inline(always)]
+    pub fn get(&self, lane: &mut Lane<T>, key: u64) -> Option<Ref<T>> {
+        let start = self.get_at(lane, key)?;
+        Some(Ref::to(key, start, &lane.state.places))
+    }
+
+    /// A get whose reference stays with the lane, for who keeps keys in place of references: answers where
+    /// `Lane::read_at` finds the object without looking for the key's place again.
+    #[inline(always)]
+    pub fn get_at(&self, lane: &mut Lane<T>, key: u64) -> Option<u32> {
+        let number = lane.state.number;
+        let spot = self.find(key)?;
+        // Behind the ENTER a processor may make this load wait for the ENTER's store, where both stand alike in their
+        // pages.
+        let held = lane.state.rows[spot.start as usize].count;
+        let found = self.grid.enter(&mut lane.hand, spot, key, Purpose::ToGet);
+        if !is_hit(key, found) {
+            end_miss(&self.grid, &mut lane.hand, &mut lane.state, spot, key);
+            return None;
+        }
+        if held > 0 {
+            add_reference(&mut lane.state, spot.start as usize);
+            return Some(spot.start);
+        }
+        let share = self.grid.out(&mut lane.hand, spot, number, number);
+        add_first_reference(&mut lane.state, spot.start as usize, key, share);
+        Some(spot.start)
+    }
+}
+
+/// The row has one reference more.
+#[inline]
+pub(crate) fn add_reference<T>(state: &mut LaneState<T>, at: usize) {
+    state.rows[at].count += 1;
+    state.references += 1;
+}
+
+/// The row has the first reference to a key, with the share under it.
+#[inline]
+pub(crate) fn add_first_reference<T>(
+    state: &mut LaneState<T>,
+    at: usize,
+    key: u64,
+    share: Share<T>,
+) {
+    state.rows[at] = HeldKey {
+        generation: generation_of(key),
+        count: 1,
+        share: Slot::filled(share),
+    };
+    state.references += 1;
+}
+
+/// The end of a call whose ENTER missed: its LEAVE, and what follows that. Apart from the call's own path, so that the
+/// hit is likely there.
+#[cold]
+#[inline(never)]
+pub(crate) fn end_miss<T: Clear>(
+    grid: &Grid<T>,
+    hand: &mut Hand<T>,
+    state: &mut LaneState<T>,
+    spot: Spot,
+    key: u64,
+) {
+    let left = grid.leave(hand, spot, key);
+    finish_if_owed(grid, hand, state, spot, key, left);
+}
+
+impl<T: Clear> Lane<T> {
+    /// The object of a key to which the lane has a reference: its content is that with which the key was published.
+    pub fn read<'a>(&'a self, reference: &Ref<T>) -> &'a T {
+        self.read_at(self.state.start_of(reference), reference.key)
+    }
+
+    /// As `read`, of a key to which the lane has a reference, and whose place stands here, as `Pool::get_at` answers.
+    pub fn read_at(&self, start: u32, key: u64) -> &T {
+        self.state.rows[start as usize]
+            .share
+            .read(self.state.objects.base(), start as usize)
+    }
+}
+
+impl<T> LaneState<T> {
+    /// Where the place of a reference's key stands, which is one of the pool: as the reference tells, unless it comes
+    /// from a pool whose places stand elsewhere.
+    #[inline]
+    pub(crate) fn start_of(&self, reference: &Ref<T>) -> u32 {
+        if reference.code == self.places.code {
+            reference.start
+        } else {
+            self.searched(reference.key)
+        }
+    }
+
+    /// Where the place of a key of the pool stands, by its page.
+    #[cold]
+    #[inline(never)]
+    fn searched(&self, key: u64) -> u32 {
+        self.places.start(place_of(key))
+    }
+}

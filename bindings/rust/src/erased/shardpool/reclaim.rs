@@ -1,0 +1,175 @@
+// Made from crates/shardpool/src/reclaim.rt by bindings/erase/erase.py: change that file, not this one.
+
+//! What follows the LEAVE of a place: its claim, and what becomes of it.
+
+use crate::shim::{Box, Global, Vec};
+
+use crate::erased::keybits::{claimable, link_to, owes_claim, place_of, shard_of, Life};
+use crate::erased::poolsteps::{Base, Grid, Hand, Spot, Vacancy, Whole};
+use crate::erased::shardpool::cell_moves::{rest_cell, take_cell};
+use crate::erased::shardpool::pool::LaneState;
+use crate::erased::shardpool::stores::keep;
+use crate::erased::slotcell::Clear;
+
+/// What follows the LEAVE of a key's place that found this word, and what the lane keeps of it: nothing, unless the
+/// call is the last to leave a marked place. Inlined, for what is seldom done stands apart.
+#[inline(always)]
+pub(crate) fn finish_if_owed<T: Clear>(
+    grid: &Grid<T>,
+    hand: &mut Hand<T>,
+    state: &mut LaneState<T>,
+    spot: Spot,
+    key: u64,
+    found: u64,
+) {
+    if owes_claim(found) {
+        finish(grid, hand, state, spot.start, key, found);
+    }
+}
+
+/// What the last to leave a marked place does. Away from the calls' own paths: few calls come here, so it takes what
+/// they have at hand, and answers nothing.
+#[cold]
+#[inline(never)]
+fn finish<T: Clear>(
+    grid: &Grid<T>,
+    hand: &mut Hand<T>,
+    state: &mut LaneState<T>,
+    start: u32,
+    key: u64,
+    found: u64,
+) {
+    let spot = Spot {
+        place: place_of(key),
+        start,
+    };
+    let at = At {
+        spot,
+        lane: state.number,
+        tops: &state.last_pushed,
+    };
+    let reclaimed = finish_leave(grid, hand, at, found);
+    keep_reclaimed(state, spot, reclaimed);
+}
+
+/// What became of a place that a call reclaimed.
+pub(crate) enum Reclaimed<T> {
+    /// It is of the lane's own shard: its object, which was cleared in place.
+    Own(Whole<T>),
+    /// It is of another shard, and was returned there.
+    Returned,
+    /// Its last generation was over: it is retired, its object was dropped, and it is vacant.
+    Retired(Vacancy<T>),
+}
+
+/// The place at which a call acts, and the lane that makes it.
+#[derive(Clone, Copy)]
+pub(crate) struct At<'a> {
+    /// Where the words and the slots of the place stand.
+    pub(crate) spot: Spot,
+    /// The lane's number.
+    pub(crate) lane: u32,
+    /// For each shard the word that the lane last pushed there; 0 where it pushed none.
+    pub(crate) tops: &'a Vec<u64>,
+}
+
+impl At<'_> {
+    /// The word that the lane last pushed to the place's shard. Only the return of a place reads it.
+    #[inline]
+    pub(crate) fn top(&self) -> u64 {
+        self.tops[shard_of(self.spot.place) as usize]
+    }
+}
+
+/// What follows a LEAVE that found this word: where it left (g, MARKED, 0), the CLAIM of g; and where that succeeded,
+/// the place's object is cleared in place, and a place of another shard returned. None where no place was reclaimed. It
+/// takes no memory.
+#[inline(always)]
+pub(crate) fn finish_leave<T: Clear>(
+    grid: &Grid<T>,
+    hand: &mut Hand<T>,
+    at: At,
+    found: u64,
+) -> Option<Reclaimed<T>> {
+    let generation = owed_by(found)?;
+    let word = grid.claim(hand, at.spot, generation);
+    if word != claimable(generation) {
+        return None;
+    }
+    Some(reclaim_place(grid, hand, at, generation))
+}
+
+/// The generation whose claim a LEAVE that found this word owes, where it owes one.
+#[inline(always)]
+pub(crate) fn owed_by(found: u64) -> Option<u32> {
+    if owes_claim(found) {
+        Some(Life::of_word(found).generation)
+    } else {
+        None
+    }
+}
+
+/// What follows a CLAIM of this generation that succeeded.
+#[inline(always)]
+pub(crate) fn reclaim_place<T: Clear>(
+    grid: &Grid<T>,
+    hand: &mut Hand<T>,
+    at: At,
+    generation: u32,
+) -> Reclaimed<T> {
+    let start = at.spot.start as usize;
+    let mut whole = take_cell(grid, hand, at.spot, at.lane);
+    if generation == grid.shape.last_generation {
+        return Reclaimed::Retired(vacate(grid.objects, start, whole));
+    }
+    whole.get_mut(grid.objects, start).clear();
+    if shard_of(at.spot.place) == at.lane {
+        return Reclaimed::Own(whole);
+    }
+    rest_cell(grid, hand, at.spot, at.lane, whole);
+    give_home(grid, hand, at);
+    Reclaimed::Returned
+}
+
+/// Drops the object of a place that gets none any more. Apart, for each place comes here once at most.
+#[cold]
+#[inline(never)]
+fn vacate<T>(objects: Base<Box<T, Global>>, start: usize, whole: Whole<T>) -> Vacancy<T> {
+    let (vacancy, object) = whole.take(objects, start);
+    drop(object);
+    vacancy
+}
+
+/// Returns a place of another shard, which is at rest: LINK and PUSH from the word that the lane last pushed there, and
+/// once more from an empty stack where that was taken. It takes no memory.
+#[inline(always)]
+pub(crate) fn give_home<T: Clear>(grid: &Grid<T>, hand: &mut Hand<T>, at: At) {
+    let top = at.top();
+    grid.link(hand, at.spot, top);
+    if grid.push(hand, at.spot, at.lane, top) != top {
+        grid.link(hand, at.spot, 0);
+        grid.push(hand, at.spot, at.lane, 0);
+    }
+}
+
+/// What became of a place that was reclaimed is kept: the object of an own place, and of a place that was returned its
+/// word.
+#[inline(always)]
+pub(crate) fn keep_reclaimed<T>(
+    state: &mut LaneState<T>,
+    spot: Spot,
+    reclaimed: Option<Reclaimed<T>>,
+) {
+    match reclaimed {
+        Some(Reclaimed::Own(whole)) => {
+            keep(state, spot, whole);
+        }
+        Some(Reclaimed::Returned) => {
+            state.last_pushed[shard_of(spot.place) as usize] = link_to(spot.place);
+        }
+        Some(Reclaimed::Retired(vacancy)) => {
+            state.objects.retire(spot.start as usize, vacancy);
+        }
+        None => {}
+    }
+}

@@ -1,9 +1,0 @@
--- The right says the same to every thread.
-use denote.RattleType.{RattleType}
-use denote.Param.Send.{IsSend, Frees}
-use Rattle.core.specs.declared.alloc.Allocator.{Ghosts}
-use Rattle.placecell.specs.contracts.deed.Deed.{the_row}
-use Rattle.placecell.proofs.Deeds.{deed_send}
-
-pub send : (T A : RattleType) (g : Ghosts A.Denot) → IsSend A → Frees g g.dealloc_token → IsSend (the_row T A g)
-send T A g s f = deed_send T A g f

@@ -1,3 +1,0 @@
--- What stands in a row after a write, and in a row of one value; and what is seen of the rows then.
-pub mod RowLemmas
-pub mod Shown

@@ -1,0 +1,31 @@
+-- The lease comes out of the struct.
+use Rattle.atomic_table.proofs.Names.{◌≡◌, ℕ, ◌^◌, ◌<◌, List, [], ◌∷◌, refl, a_type, dcons, dnil, Val, inst_fn, SProp, emp, ‵, raw, ◌⊛◌, ◌$◌, ◌∵◌, !, qed, by, move, keep, drop, split, fsplit, fsplit3, fjoin, fpick, use0, rewrite, stop, fld, of_opd, returns, enter, alloc_all, pass_all, free_all, look_at, get, get_in, sets, sub, whole, tables, no, RattleType, owns, types_at, plain, Ptr, nothing, param, bounded, alive, Stays, stay_dropped, walk_of, fact, fact_i, Is, shows, peeks}
+use Rattle.atomic_table.proofs.Walks.{proved, leaves}
+use Rattle.core.proofs.alloc.Calls.{Goes-blank}
+use Rattle.core.specs.Mem.Slots.{lease_ptr, lease_len}
+use Rattle.core.specs.contracts.slots.Lease as lease
+use Rattle.core.proofs.slots.Leases.{lease_val}
+use Rattle.poolsteps.specs.contracts.memory.HeldLease as right
+use Rattle.atomic_table.proofs.Rights.{right_val, lease_good, right_good, lease_told}
+use Rattle.poolsteps.proofs.raw.HeldLeases.{held_lease_told}
+use Rattle.poolsteps.specs.contracts.memory.HeldLease.into_lease.{ended, clauses}
+use Rattle.poolsteps.specs.contracts.memory.HeldLease.into_lease.Key.{name as #self}
+use Rattle.poolsteps.proofs.memory.HeldLease.into_lease.Statement.{statement}
+use Rattle.poolsteps.proofs.memory.HeldLease.into_lease.Code as code
+
+pub into_lease_spec : {M : Type 1} → statement M
+into_lease_spec 𝓤 𝓛 𝓜 𝓡 wired T A _ _ g d dd _ _ =
+    let H = 𝓛.H in let 𝓣 = tables 𝓤 H 𝓜 𝓡 𝓡.env in let R : RattleType = param 0 T in let Z : RattleType = param 1 A in let En = ended T A g d dd in let c = clauses T A g d dd 𝓛 𝓜.mem 𝓡.returns in
+    let inst = bounded (a_type ∷ a_type ∷ []) (T, (A, tt)) (dcons d (dcons dd dnil)) in let fn = inst_fn inst code.function in let Lr : RattleType = lease.the_row R Z g in let Rr : RattleType = right.the_row R Z g in
+    let hs : Stays En.signature.params En.kept = (stay_dropped (plain (λ _. Rr)) no, tt) in
+    proved 𝓛 En hs c 𝓜 𝓡 (Goes-blank 𝓛 2 (plain (λ _. Rr)) no (λ κs x f. tt), tt) (#self inst) fn (code.unfolded 𝓤 H 𝓜 𝓡 wired (T, (A, tt)) d dd)
+    (λ κs. ((λ x. right_val (lease_ptr x.lease) (lease_len x.lease) ∷ []), tt)) (λ κs. ((λ x vs so. (held_lease_told R Z g x vs so).0), tt)) (λ κs qs bounds a gh are.
+    let x : Lr.Denot = a.0.lease in let p : Ptr = lease_ptr x in let n : ℕ = lease_len x in let v : Val = lease_val p n in let u : Val = right_val p n in let fits : n < 2 ^ 64 = (held_lease_told R Z g a.0 (u ∷ []) are.0).1 in
+    let y : (walk_of 𝓛 En hs c).Ghost = ((κs, qs, bounds, a, (u ∷ [], tt)), gh) in let Post : Val → SProp 𝓤 = (walk_of 𝓛 En hs c).post y in
+    qed 𝓛 ((raw (alive 𝓛 En.signature κs qs) ⊛ ‵ (owns (types_at En.signature.params κs) a y.0.4)) ∷ raw ((c κs a).requires gh) ∷ []) ∵
+    split ! $ move ! (1 ∷ []) $ fsplit ! $ fsplit ! $ fpick ! (λ vss. fsplit3 ! $ drop ! $ peeks ! Lr (Is Lr) (shows 𝓛 Lr) x vss.0 (λ so.
+    rewrite ! 0 (λ (ws : List Val). ‵ (Lr.own_val x ws)) (lease_told R Z g x vss.0 so).0 refl $ keep ! (0 ∷ 4 ∷ []) $
+    enter ! 𝓣.C 𝓣.Λ fn (u ∷ []) Post $ alloc_all ! (λ l. pass_all ! refl (right_good p n fits, tt) $
+    sets ! (of_opd ! (get_in ! (fld ! refl (stop !)) (sub ! 0 refl (whole !)))) refl (lease_good p n fits) $ sets ! (of_opd ! (get ! refl)) refl (lease_good p n fits) $
+    use0 𝓛 (raw (fact 𝓤 (x ≡ x))) (fact_i 𝓤 (x ≡ x) (emp 𝓤) refl) $ nothing ! $ nothing ! $ fjoin ! $
+    returns ! (look_at ! 0 refl) $ free_all ! refl $ keep ! (3 ∷ 0 ∷ 2 ∷ 1 ∷ []) $ by ! (leaves 𝓛 En hs c y v x ((tt, tt), tt) (tt, tt))))))

@@ -1,0 +1,13 @@
+-- A loose value says the same to every thread.
+use denote.RattleType.{RattleType}
+use Rattle.std.specs.Ptr.{ptr_add}
+use denote.Param.Send.{IsSend, AllSend, owning_send, struct_send, sendable}
+use denote.Struct.Struct.{exits_of}
+use denote.Struct.Owning.{shape, fields, to}
+use Rattle.std_alloc.proofs.SendSync.{quiet, lies}
+use Rattle.poolsteps.specs.contracts.memory.Loose.{the_row, the_type}
+
+pub send : (T : RattleType) → IsSend T → IsSend (the_row T)
+send T s = let O = the_type T in let all : AllSend (fields O) = (search sendable, tt) in
+    owning_send O all (λ d. (tt, lies T s (ptr_add T d.index d.base) d.object))
+    (λ k. quiet (to O) (exits_of k (fields O)) ((struct_send (shape O) all).leaving k))

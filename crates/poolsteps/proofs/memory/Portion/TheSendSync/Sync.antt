@@ -1,0 +1,13 @@
+-- What a `&` to a portion gives says the same to every thread.
+use mathlib.Core.List.{[], ◌∷◌}
+use denote.RattleType.{RattleType}
+use Rattle.std.specs.Ptr.{ptr_add}
+use denote.Param.Send.{IsSend, IsSync, struct_sync, sendable}
+use denote.Struct.Owning.{shape, to}
+use Rattle.std_alloc.proofs.SendSync.{seen}
+use Rattle.poolsteps.specs.contracts.memory.Portion.{the_row, the_type}
+
+pub sync : (T : RattleType) → IsSend T → IsSync T → IsSync (the_row T)
+sync T s y = let O = the_type T in record {
+  shared = λ d b o κ. ((struct_sync (shape O) (search sendable, tt)).shared (to O d) b o κ, (tt, (((λ q. tt), seen T y (ptr_add T d.index d.base) d.object (d.lifetime ∷ [])), tt)));
+}

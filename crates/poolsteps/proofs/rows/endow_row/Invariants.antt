@@ -1,0 +1,16 @@
+-- The places so far are vacant, and out of the directory.
+use Rattle.std.proofs.Common.{◌≡◌, ◌+◌, ◌<◌, ◌≤◌, ℕ, length, Some}
+use Rattle.std.specs.Prelude.{slice_get}
+use Rattle.poolsteps.specs.declared.rows.Own.{Own}
+use Rattle.poolsteps.specs.declared.rows.Own.TheVariants.{Vacant}
+use Rattle.poolsteps.specs.Objects.{spot_at}
+use Rattle.poolsteps.specs.Rows.{AreOwn}
+use Rattle.poolsteps.proofs.rows.endow_row.Given as goal
+
+abbrev pub invariant-loop-index : goal.invariant-loop-index
+invariant-loop-index g l = record {
+  wide : length l.row.items ≡ length l.fn.row.items;
+  directory : l.directory ≡ record l.fn.directory { next = l.fn.directory.next + l.index };
+  own : AreOwn l.fn.directory.at l.row.items;
+  vacant : (start : ℕ) (own : Own g.row.T.Denot) → slice_get l.row.items start ≡ Some own → l.first ≤ start → start < l.first + l.index → own ≡ Vacant (spot_at l.fn.directory.at start);
+}

@@ -1,0 +1,41 @@
+-- What the row of a lane holds. No public clause cites this module.
+use Rattle.std.specs.Prelude.{◌≡◌, ℕ, ◌+◌, ◌≤◌, ⊤, Bool, true, false, List, length, take, drop, slice_get, Option, Some, None}
+use denote.RawPtr.{Ptr}
+use Rattle.poolsteps.specs.Objects.{spot_at}
+use Rattle.poolsteps.specs.declared.rows.Own.{Own}
+use Rattle.poolsteps.specs.declared.rows.Own.TheVariants.{Away, Vacant, Retired, Whole}
+
+module _ {T : Type 0} where
+  -- the object that waits at a place
+  abbrev pub object_in : Own T → Option T
+  object_in Away = None
+  object_in (Vacant _) = None
+  object_in (Retired _) = None
+  object_in (Whole whole) = Some whole.object
+
+  -- whether the right to it is here, and in use
+  abbrev pub is_here : Own T → Bool
+  is_here Away = false
+  is_here (Vacant _) = true
+  is_here (Retired _) = false
+  is_here (Whole _) = true
+
+  -- the right, if it is here, is that to this place
+  abbrev pub IsOwnOf : Ptr → ℕ → Own T → Type 0
+  IsOwnOf directory start Away = ⊤
+  IsOwnOf directory start (Vacant vacancy) = vacancy ≡ spot_at directory start
+  IsOwnOf directory start (Retired vacancy) = vacancy ≡ spot_at directory start
+  IsOwnOf directory start (Whole whole) = whole.spot ≡ spot_at directory start
+
+  -- each right of a row is that to the place whose word has its number
+  abbrev pub AreOwn : Ptr → List (Own T) → Type 0
+  AreOwn directory row = (start : ℕ) (own : Own T) → slice_get row start ≡ Some own → IsOwnOf directory start own
+
+-- so many entries of a list, from the first on
+abbrev pub part : {X : Type 0} → ℕ → ℕ → List X → List X
+part first places all = take places (drop first all)
+
+-- what holds of the row of a lane, whose own places stand from the first on
+pub record AreRows {T : Type 0} (directory : Ptr) (first places : ℕ) (row : List (Own T)) : Type 0 where
+  pub own : AreOwn directory row
+  pub room : first + places ≤ length row

@@ -1,0 +1,115 @@
+//! The words of places.
+ghost use Rattle.std.specs.Prelude.{◌≡◌, ◌+◌, ◌<◌, IfSome, length};
+ghost use Rattle.core.specs.Mem.Slots.{slots_items, slots_ptr, slots_len, IsFull};
+
+use crate::cells::{Base, Vacancy};
+use crate::memory::{Bare, HeldLease, Run, of_boxes};
+use core::slots::{Slots, release, reserve};
+use std::alloc::Global;
+use std::marker::Model;
+use std::mem::ManuallyDrop;
+use std::ptr::null_mut;
+
+/// The words of a directory, a place each, that are not taken out of it, and the right to its memory. Whoever reads an
+/// object needs its `Base` alone.
+pub struct Directory<T> {
+    run: Run<Bare<T>>,
+    held_lease: HeldLease<Bare<T>, Global>,
+    count: usize,
+}
+
+impl<T> Model for Directory<T> {
+    ghost use Rattle.poolsteps.specs.Directory.{Directory as Shown, directory_code};
+    ghost use Rattle.poolsteps.specs.DirectoryFields.{IsDirectory};
+
+    ghost Value = { Shown };
+
+    ghost coded = { directory_code };
+
+    ghost view = { λ d. record { at = d.run.ptr; next = d.run.first; count = d.count } };
+
+    ghost invariant = { λ d. IsDirectory d.run d.held_lease.lease d.count };
+}
+
+fn write_all<T: Drop>(row: &mut Slots<T>, mut words: Vec<T>)
+    requires { slots_len row.old ≡ length words.items }
+    ensures { IsFull row.new × (slots_items row.new ≡ words.items) × (slots_ptr row.new ≡ slots_ptr row.old) × (slots_len row.new ≡ slots_len row.old) }
+{
+    while let Some(word) = words.pop() {
+        row.put(words.len(), word);
+    }
+}
+
+/// A directory that is dropped is let go, with its places that aren't out of it: `close` alone frees its memory.
+impl<T> Drop for Directory<T> {
+    fn drop(self) {
+        let _leaked = unsafe { ManuallyDrop::new_unchecked(self) };
+    }
+}
+
+impl<T> Directory<T> {
+    /// A directory of so many places, all vacant. None where memory was refused.
+    pub fn new(alloc: Global, count: usize) -> Option<Directory<T>>
+        ensures { IfSome result (λ made. (made.next ≡ 0) × (made.count ≡ count)) }
+    {
+        let mut words = Vec::with_capacity(alloc, count).ok()?;
+        for _ in 0..count {
+            words.push_reserved(Bare {
+                at: null_mut(),
+                alloc,
+            });
+        }
+        let (mut row, lease) = (unsafe { reserve(&alloc, words.as_slice()) }).ok()?;
+        write_all(&mut row, words);
+        Some(Directory {
+            run: Run::of(row),
+            held_lease: HeldLease::new(lease),
+            count,
+        })
+    }
+
+    /// Where its words begin.
+    pub fn base(&mut self) -> Base<Box<T, Global>>
+        ensures { (result.ptr ≡ self.old.at) × (self.new ≡ self.old) }
+    {
+        of_boxes(self.run.base())
+    }
+
+    /// How many places it has.
+    pub fn count(&self) -> usize
+        ensures { result ≡ self.now.count }
+    {
+        self.count
+    }
+
+    /// Takes the place of the lowest number out.
+    pub fn next(&mut self) -> Vacancy<T>
+        requires { self.old.next < self.old.count }
+        ensures { (result.directory ≡ self.old.at) × (result.index ≡ self.old.next) × (self.new ≡ record self.old { next = self.old.next + 1 }) }
+    {
+        Vacancy {
+            word: self.run.cut(),
+        }
+    }
+
+    /// Puts the place below the lowest number back.
+    pub fn put_back(&mut self, vacancy: Vacancy<T>)
+        requires { (vacancy.directory ≡ self.old.at) × (vacancy.index + 1 ≡ self.old.next) }
+        ensures { self.new ≡ record self.old { next = vacancy.index } }
+    {
+        let Vacancy { word } = vacancy;
+        self.run.merge(word);
+    }
+
+    /// Frees a directory whose places are all back in it.
+    pub fn close(self, alloc: Global)
+        requires { self.next ≡ 0 }
+    {
+        let Directory {
+            run,
+            held_lease,
+            count,
+        } = self;
+        release(&alloc, run.into_slots(count), held_lease.into_lease());
+    }
+}

@@ -1,0 +1,103 @@
+//! The row of a lane: of each word of a directory, what the lane has of its place.
+ghost use Rattle.std.specs.Prelude.{◌≡◌, ℕ, ◌+◌, ◌<◌, ◌≤◌, Some, length, replicate, slice_get, slice_set, IfSome, IsNone};
+ghost use Rattle.poolsteps.specs.declared.rows.Own.TheVariants as owns;
+ghost use Rattle.poolsteps.specs.Objects.{spot_at};
+ghost use Rattle.poolsteps.specs.Rows.{IsOwnOf, AreOwn, is_here};
+
+use crate::cells::{Base, Vacancy, Whole};
+use crate::directory::Directory;
+use std::alloc::Global;
+use std::mem;
+
+// What a lane has of a place.
+#[derive(Drop)]
+pub(crate) enum Own<T> {
+    // Nothing.
+    Away,
+    // The right to it, and no object.
+    Vacant(Vacancy<T>),
+    // The right to it, which is kept until the close.
+    Retired(Vacancy<T>),
+    // The right to it, with the object that waits there.
+    Whole(Whole<T>),
+}
+
+impl<T> Own<T> {
+    // Whether the right is here, and in use.
+    pub(crate) fn is_here(&self) -> bool
+        ensures { result ≡ is_here self.now }
+    {
+        match self {
+            Own::Away | Own::Retired(_) => false,
+            Own::Vacant(_) | Own::Whole(_) => true,
+        }
+    }
+}
+
+// How many bytes of room stand behind a row, so that what follows it in memory isn't on two lines of a processor's
+// cache with it.
+const BYTES_APART: usize = 128;
+
+// A row for so many words, with nothing. None where memory was refused.
+pub(crate) fn none_own<T>(alloc: Global, count: usize) -> Option<Vec<Own<T>>>
+    ensures { IfSome result (λ row. row.items ≡ replicate count owns.Away) }
+{
+    let mut row = Vec::with_capacity(alloc, count.saturating_add(BYTES_APART)).ok()?;
+    for _ in 0..count {
+        row.push_reserved(Own::Away);
+    }
+    Some(row)
+}
+
+// Takes the rights to the next places out of the directory.
+pub(crate) fn endow_row<T: Drop>(
+    row: &mut Vec<Own<T>>,
+    directory: &mut Directory<T>,
+    first: usize,
+    count: usize,
+)
+    requires first { first ≡ directory.old.next }
+    requires count { directory.old.next + count ≤ directory.old.count }
+    requires room { directory.old.next + count ≤ length row.old.items }
+    requires own { AreOwn directory.old.at row.old.items }
+    ensures own { AreOwn directory.old.at row.new.items }
+    ensures here { (start : ℕ) (own : Own T) → slice_get row.new.items start ≡ Some own → first ≤ start → start < first + count → own ≡ owns.Vacant (spot_at directory.old.at start) }
+    ensures room { length row.new.items ≡ length row.old.items }
+    ensures directory { directory.new ≡ record directory.old { next = directory.old.next + count } }
+{
+    for index in 0..count {
+        row[first + index] = Own::Vacant(directory.next());
+    }
+}
+
+// Takes the right to a place out of the row. None where it is away. An object that waits there is dropped.
+#[inline]
+pub(crate) fn claim<T: Drop>(
+    row: &mut Vec<Own<T>>,
+    directory: Base<Box<T, Global>>,
+    start: usize,
+) -> Option<Vacancy<T>>
+    requires start { start < length row.old.items }
+    requires own { (own : Own T) → slice_get row.old.items start ≡ Some own → IsOwnOf directory.ptr start own }
+    ensures some { IfSome result (λ vacancy. vacancy ≡ spot_at directory.ptr start) }
+    ensures none { IsNone result → slice_get row.old.items start ≡ Some owns.Away }
+    ensures row { row.new.items ≡ slice_set row.old.items start owns.Away }
+{
+    match mem::replace(&mut row[start], Own::Away) {
+        Own::Away => None,
+        Own::Vacant(vacancy) => Some(vacancy),
+        Own::Retired(vacancy) => Some(vacancy),
+        Own::Whole(whole) => Some(emptied(whole, directory, start)),
+    }
+}
+
+// The right to a place, whose object is dropped. Away from the calls' own paths, as none finds an object here.
+#[cold]
+#[inline(never)]
+fn emptied<T: Drop>(whole: Whole<T>, directory: Base<Box<T, Global>>, start: usize) -> Vacancy<T>
+    requires { whole.spot ≡ spot_at directory.ptr start }
+    ensures { result ≡ spot_at directory.ptr start }
+{
+    let (vacancy, _object) = whole.take(directory, start);
+    vacancy
+}

@@ -1,0 +1,29 @@
+use Rattle.std.proofs.Common.{◌∙◌}
+use Rattle.keybits.proofs.ShapeLemmas.{is_place-parts}
+use Rattle.keybits.specs.Places.{shard_of}
+use Rattle.poolsteps.proofs.OwnShares.{may-touch}
+use Rattle.shardpool.proofs.parts.Moves.{carries-out, carried-place, out-moves, one-after}
+use Rattle.shardpool.proofs.parts.Standing.{rests-own, rests-no-more}
+use Rattle.shardpool.proofs.cell_moves.take_resting.Goals as goal
+
+pub out_whole-requires : goal.out_whole-requires
+out_whole-requires g c =
+    let place = c.args.spot.place in record {
+      hand = c.requires.hand;
+      spot = c.requires.spot;
+      lane = c.requires.lane;
+      may = may-touch c.args.grid.now.shape c.args.hand.now.me.0 place (shard_of place) c.requires.place;
+      left = c.requires.slots (shard_of place) (is_place-parts c.args.grid.now.shape place c.requires.spot.inside).0 ∙ rests-own place;
+    }
+
+pub returns-clause-hand : goal.returns-clause-hand
+returns-clause-hand g c = (c.out_whole.ensures.hand, one-after (carries-out c.out_whole.ensures.outs))
+
+pub returns-clause-place : goal.returns-clause-place
+returns-clause-place g c = carried-place (carries-out c.out_whole.ensures.outs) c.shares_law.ensures.stays c.args.spot.place c.requires.place
+
+pub returns-clause-carries : goal.returns-clause-carries
+returns-clause-carries g c = carries-out c.out_whole.ensures.outs
+
+pub returns-clause-slots : goal.returns-clause-slots
+returns-clause-slots g c = rests-no-more (out-moves c.out_whole.ensures.outs) c.requires.slots

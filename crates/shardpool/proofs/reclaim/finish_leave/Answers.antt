@@ -1,0 +1,61 @@
+use Rattle.std.proofs.Common.{refl, sym, ◌∙◌}
+use Rattle.shardpool.proofs.parts.Ending.{owes-none, owes-some, ends-none, ends-lost, ends-won, still-acts, lost-acts, won-acts}
+use Rattle.shardpool.proofs.parts.Standing.{HasClaimed, has-claimed, at-same, owes-now}
+use Rattle.shardpool.proofs.reclaim.finish_leave.Goals as goal
+
+pub returns-in_err-generation-clause-ends : goal.returns-in_err-generation-clause-ends
+returns-in_err-generation-clause-ends g c =
+    ends-none c.requires.hand.1 c.requires.seen c.requires.owes (owes-none c.args.found c.owed_by.ensures c.in_err-generation.was)
+
+pub returns-in_err-generation-clause-acts : goal.returns-in_err-generation-clause-acts
+returns-in_err-generation-clause-acts g c = rw c.from_residual.ensures (still-acts g.row.T.Denot c.args.grid.now.shape c.args.at.spot.place c.args.hand.now.me.0)
+
+pub returns-then-word-claimable-clause-ends : goal.returns-then-word-claimable-clause-ends
+returns-then-word-claimable-clause-ends g c =
+    let owed = owes-some c.args.found c.owed_by.ensures c.in_ok-generation.generation c.in_ok-generation.was in
+    ends-lost owed.0 owed.1 c.claim-word.ensures.claims (λ same. c.if-word-claimable.true (same ∙ sym c.claimable.ensures))
+
+pub returns-then-word-claimable-clause-acts : goal.returns-then-word-claimable-clause-acts
+returns-then-word-claimable-clause-acts g c = lost-acts g.row.T.Denot c.claim-word.ensures.claims (λ same. c.if-word-claimable.true (same ∙ sym c.claimable.ensures))
+
+pub returns-clause-ends : goal.returns-clause-ends
+returns-clause-ends g c =
+    let owed = owes-some c.args.found c.owed_by.ensures c.in_ok-generation.generation c.in_ok-generation.was in
+    ends-won owed.0 owed.1 c.claim-word.ensures.claims (c.if-word-claimable.false ∙ c.claimable.ensures) c.reclaim_place.ensures.tails
+
+pub returns-clause-acts : goal.returns-clause-acts
+returns-clause-acts g c =
+    let told = c.claim-word.ensures.claims.0 (c.if-word-claimable.false ∙ c.claimable.ensures) in
+    let won = told.4 in
+    won-acts c.args.grid.now.shape c.args.at.spot.place c.in_ok-generation.generation c.args.hand.now.me.0 c.claim-word.new.hand.me.0 c.reclaim_place.new.hand.me.0 _
+    c.reclaim_place.result won.goes.lanes refl refl refl c.reclaim_place.ensures.acts told.3
+
+pub returns-in_err-generation-clause-hand : goal.returns-in_err-generation-clause-hand
+returns-in_err-generation-clause-hand g c = (refl, refl)
+
+pub claim-word-requires : goal.claim-word-requires
+claim-word-requires g c =
+    let owed = owes-some c.args.found c.owed_by.ensures c.in_ok-generation.generation c.in_ok-generation.was in
+    record { hand = c.requires.hand; spot = c.requires.at.spot; owes = owes-now c.args.hand.now.me.0 c.args.at.spot.place c.args.found c.in_ok-generation.generation c.requires.owes owed.0 owed.1 }
+
+pub returns-then-word-claimable-clause-hand : goal.returns-then-word-claimable-clause-hand
+returns-then-word-claimable-clause-hand g c = c.claim-word.ensures.hand
+
+pub reclaim_place-requires : goal.reclaim_place-requires
+reclaim_place-requires g c =
+    let claimed : HasClaimed c.args.grid.now.shape c.args.at.spot.place c.in_ok-generation.generation c.args.hand.now.me c.claim-word.new.hand.me
+    = has-claimed c.claim-word.ensures.claims (c.if-word-claimable.false ∙ c.claimable.ensures) in
+    record {
+      hand = (c.claim-word.ensures.hand.0 ∙ c.requires.hand.0, claimed.acted.one);
+      bare = claimed.held ∙ c.requires.bare;
+      at = at-same claimed.acted.lane claimed.pushed c.requires.at;
+      under = rw c.requires.at.lane claimed.under;
+      place = claimed.place_has;
+      room = claimed.room;
+    }
+
+pub returns-clause-hand : goal.returns-clause-hand
+returns-clause-hand g c = let first = c.claim-word.ensures.hand in let last = c.reclaim_place.ensures.hand in (last.0 ∙ first.0, last.1 ∙ first.1)
+
+pub returns-clause-reclaimed : goal.returns-clause-reclaimed
+returns-clause-reclaimed g c = c.reclaim_place.ensures.reclaimed

@@ -1,0 +1,53 @@
+-- What moves of one place's shares leave of a lane's view.
+use Rattle.std.specs.Prelude.{◌≡◌, ◌≢◌, ◌⊎◌, ℕ, ◌+◌, ◌-◌, ◌*◌, ◌<◌, ◌≤◌, List, []}
+use Rattle.atomic_table.specs.Table.{Me}
+use Rattle.poolsteps.specs.Spot.{Spot as CellSpot}
+use Rattle.poolsteps.specs.Whole.{Whole}
+use Rattle.keybits.specs.declared.shape.Shape.{Shape}
+use Rattle.poolsteps.specs.declared.view.Stored.{Stored}
+use Rattle.poolsteps.specs.declared.view.Status.TheVariants.{Untouched, Emptied}
+use Rattle.poolsteps.specs.Shares.{at_rest}
+use Rattle.poolsteps.specs.declared.view.LaneRecord.{LaneRecord}
+use Rattle.poolsteps.specs.declared.view.View.{View}
+use Rattle.poolsteps.specs.Views.{the_lane, status_of, known_of}
+use Rattle.poolsteps.specs.Told.{GoesOn}
+
+-- of the lane's record no more is changed than what it did with the slots of one place, and what it knows of its cell
+pub record IsElsewhere (place : ℕ) (r s : LaneRecord) : Type 0 where
+  pub lane : s.lane ≡ r.lane
+  pub mine : s.mine ≡ r.mine
+  pub under : s.under ≡ r.under
+  pub pushed : s.pushed ≡ r.pushed
+  pub chain : s.chain ≡ r.chain
+  pub deeds : (p number : ℕ) → p ≢ place → status_of s p number ≡ status_of r p number
+  pub cells : (p : ℕ) → p ≢ place → known_of s p ≡ known_of r p
+
+-- by so many looks the lane moved shares of the place, and did nothing else
+pub record Carries {S : Type 0} (z : Shape) (place looks : ℕ) (before after : Me S View) : Type 0 where
+  pub goes : GoesOn z before.0 after.0 [] [] (the_lane after.0)
+  pub elsewhere : IsElsewhere place (the_lane before.0) (the_lane after.0)
+  pub held : after.1 ≡ before.1
+  pub steps : after.0.steps ≡ before.0.steps
+  pub looked : after.0.looks ≡ before.0.looks + looks
+
+-- so it is, or by no look the lane did nothing
+abbrev pub MayCarry : {S : Type 0} → Shape → ℕ → ℕ → Me S View → Me S View → Type 0
+MayCarry z place looks before after = ((looks ≡ 0) × (after ≡ before)) ⊎ Carries z place looks before after
+
+-- the lane put the shares of the place from one number up to another into its slots
+pub record Spreads {S : Type 0} (z : Shape) (place from to : ℕ) (before after : Me S View) : Type 0 where
+  pub carries : MayCarry z place (2 * (to - from)) before after
+  pub filled : (number : ℕ) → from ≤ number → number < to → status_of (the_lane after.0) place number ≡ Untouched
+  pub others : (number : ℕ) → (number < from) ⊎ (to ≤ number) → status_of (the_lane after.0) place number ≡ status_of (the_lane before.0) place number
+
+-- the lane emptied each slot of the place
+abbrev pub AreEmptied : Shape → LaneRecord → ℕ → Type 0
+AreEmptied z r place = (number : ℕ) → number < z.lanes → status_of r place number ≡ Emptied
+
+-- the lane left the slots of the place as those of a place at rest
+abbrev pub AreAtRest : Shape → LaneRecord → ℕ → Type 0
+AreAtRest z r place = (number : ℕ) → number < z.lanes → status_of r place number ≡ at_rest place number
+
+-- the cell has the content and the room of the whole's object, which stands where the place does
+abbrev pub ShowsCell : {T : Type 0} → (T → List ℕ) → (T → ℕ) → (ℕ → CellSpot) → ℕ → Stored → Whole T → Type 0
+ShowsCell content room spots place c whole = (content whole.object ≡ c.content) × (room whole.object ≡ c.room) × (whole.spot ≡ spots place)

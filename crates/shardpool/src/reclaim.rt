@@ -1,0 +1,269 @@
+//! What follows the LEAVE of a place: its claim, and what becomes of it.
+ghost use Rattle.std.specs.Prelude.{◌≡◌, ◌<◌, [], Some, None, IfSome, if◌then◌else◌, false, true, ◌+◌, length};
+ghost use Rattle.keybits.specs.Words.{generation_in, owes_claim};
+ghost use Rattle.steplaws.specs.StepLaws.{owed_after};
+ghost use Rattle.poolsteps.specs.Shares.{room_of};
+ghost use Rattle.poolsteps.specs.Layout.{spots_at, slot_start, slot_row, shard_start};
+ghost use Rattle.poolsteps.specs.Views.{the_lane, known_of, IsOne};
+ghost use Rattle.poolsteps.specs.Grids.{IsOf, SameSeat, IsSpot};
+ghost use Rattle.poolsteps.specs.Told.{HasPlace, LeftAlone, claimed_under};
+ghost use Rattle.poolsteps.specs.Spot.{IsAt as StandsIn};
+ghost use Rattle.shardpool.specs.AtPlace.{IsAt};
+ghost use Rattle.shardpool.specs.Called.{EndsWithActs, TailActs, IsLawful, Ends, Tails, IsReclaimed, StandsAt, GivesHome, MadeHome};
+ghost use Rattle.steplaws.specs.declared.pending.Pending.TheVariants.{Returns};
+ghost use Rattle.poolsteps.specs.Returned.{IsAtRest};
+ghost use Rattle.keybits.specs.Keys.{place_of};
+ghost use Rattle.keybits.specs.Shapes.{is_place, IsShape, shard_places};
+ghost use Rattle.shardpool.specs.Finishes.{IsKeeper, MayFinish, Finishes};
+ghost use Rattle.keybits.specs.Places.{shard_of};
+ghost use Rattle.freelists.specs.Shards.{place_numbered};
+ghost use Rattle.freelists.specs.Queues.{IsAway};
+ghost use Rattle.poolsteps.specs.Whole.{Whole as Cell};
+ghost use Rattle.shardpool.specs.declared.reclaim.Reclaimed.TheVariants.{Own};
+ghost use Rattle.shardpool.specs.Stores.{Keeps};
+
+use crate::cell_moves::{rest_cell, take_cell};
+use crate::pool::LaneState;
+use crate::stores::keep;
+use keybits::{Life, claimable, link_to, owes_claim, place_of, shard_of};
+use poolsteps::{Base, Grid, Hand, Spot, Vacancy, Whole, shares_law};
+use slotcell::Clear;
+use std::alloc::Global;
+
+/// What follows the LEAVE of a key's place that found this word, and what the lane keeps of it: nothing, unless the
+/// call is the last to leave a marked place. Inlined, for what is seldom done stands apart.
+#[inline(always)]
+pub(crate) fn finish_if_owed<T: Clear + Drop>(
+    grid: &Grid<T>,
+    hand: &mut Hand<T>,
+    state: &mut LaneState<T>,
+    spot: Spot,
+    key: u64,
+    found: u64,
+)
+    requires hand { IsOf grid.now hand.old × IsOne hand.old.me.0 }
+    requires bare { hand.old.me.1 ≡ [] }
+    requires seen { IsLawful grid.now.shape hand.old.me.0 }
+    requires owes { (the_lane hand.old.me.0).under ≡ owed_after (place_of key) found }
+    requires spot { IsSpot grid.now.shape spot (place_of key) }
+    requires keeper { IsKeeper grid.now.shape grid.now.objects.ptr (place_of key) hand.old.me.0 state.old }
+    requires may { MayFinish T.content T.room grid.now.shape (place_of key) found hand.old.me state.old }
+    ensures hand { SameSeat hand.old hand.new }
+    ensures finishes { Finishes T.content T.room grid.now.shape (place_of key) found hand.old.me hand.new.me state.old state.new }
+{
+    if owes_claim(found) {
+        finish(grid, hand, state, spot.start, key, found);
+    }
+}
+
+/// What the last to leave a marked place does. Away from the calls' own paths: few calls come here, so it takes what
+/// they have at hand, and answers nothing.
+#[cold]
+#[inline(never)]
+fn finish<T: Clear + Drop>(
+    grid: &Grid<T>,
+    hand: &mut Hand<T>,
+    state: &mut LaneState<T>,
+    start: u32,
+    key: u64,
+    found: u64,
+)
+    requires hand { IsOf grid.now hand.old × IsOne hand.old.me.0 }
+    requires bare { hand.old.me.1 ≡ [] }
+    requires seen { IsLawful grid.now.shape hand.old.me.0 }
+    requires owes { (the_lane hand.old.me.0).under ≡ owed_after (place_of key) found }
+    requires inside { is_place grid.now.shape (place_of key) ≡ true }
+    requires start { start ≡ slot_start grid.now.shape (place_of key) }
+    requires keeper { IsKeeper grid.now.shape grid.now.objects.ptr (place_of key) hand.old.me.0 state.old }
+    requires may { MayFinish T.content T.room grid.now.shape (place_of key) found hand.old.me state.old }
+    ensures hand { SameSeat hand.old hand.new }
+    ensures finishes { Finishes T.content T.room grid.now.shape (place_of key) found hand.old.me hand.new.me state.old state.new }
+{
+    let spot = Spot {
+        place: place_of(key),
+        start,
+    };
+    let at = At {
+        spot,
+        lane: state.number,
+        tops: &state.last_pushed,
+    };
+    let reclaimed = finish_leave(grid, hand, at, found);
+    keep_reclaimed(state, spot, reclaimed);
+}
+
+/// What became of a place that a call reclaimed.
+#[derive(Drop)]
+pub(crate) enum Reclaimed<T> {
+    /// It is of the lane's own shard: its object, which was cleared in place.
+    Own(Whole<T>),
+    /// It is of another shard, and was returned there.
+    Returned,
+    /// Its last generation was over: it is retired, its object was dropped, and it is vacant.
+    Retired(Vacancy<T>),
+}
+
+/// The place at which a call acts, and the lane that makes it.
+#[derive(Clone, Copy)]
+pub(crate) struct At<'a> {
+    /// Where the words and the slots of the place stand.
+    pub(crate) spot: Spot,
+    /// The lane's number.
+    pub(crate) lane: u32,
+    /// For each shard the word that the lane last pushed there; 0 where it pushed none.
+    pub(crate) tops: &'a Vec<u64>,
+}
+
+impl At<'_> {
+    ghost use Rattle.std.specs.Prelude.{◌≡◌, ◌<◌, length, slice_index};
+    ghost use Rattle.keybits.specs.Places.{shard_of as shard_number};
+
+    /// The word that the lane last pushed to the place's shard. Only the return of a place reads it.
+    #[inline]
+    pub(crate) fn top(&self) -> u64
+        requires { shard_number self.now.spot.place < length self.now.tops.now.items }
+        ensures { result ≡ slice_index self.now.tops.now.items (shard_number self.now.spot.place) }
+    {
+        self.tops[shard_of(self.spot.place) as usize]
+    }
+}
+
+/// What follows a LEAVE that found this word: where it left (g, MARKED, 0), the CLAIM of g; and where that succeeded,
+/// the place's object is cleared in place, and a place of another shard returned. None where no place was reclaimed. It
+/// takes no memory.
+#[inline(always)]
+pub(crate) fn finish_leave<T: Clear + Drop>(
+    grid: &Grid<T>,
+    hand: &mut Hand<T>,
+    at: At,
+    found: u64,
+) -> Option<Reclaimed<T>>
+    requires hand { IsOf grid.now hand.old × IsOne hand.old.me.0 }
+    requires bare { hand.old.me.1 ≡ [] }
+    requires at { IsAt grid.now.shape hand.old.me.0 at.spot.place at }
+    requires seen { IsLawful grid.now.shape hand.old.me.0 }
+    requires owes { (the_lane hand.old.me.0).under ≡ owed_after at.spot.place found }
+    ensures hand { SameSeat hand.old hand.new }
+    ensures ends { Ends grid.now.shape at.entry.spot.place found hand.old.me hand.new.me }
+    ensures acts { EndsWithActs grid.now.shape at.entry.spot.place [] hand.old.me.0 hand.new.me.0 result }
+    ensures reclaimed { IfSome result (IsReclaimed T.content T.room grid.now.shape at.entry.spot.place at.entry.lane hand.new.me.0) }
+    ensures at { StandsAt (spots_at grid.now.objects.ptr grid.now.shape at.entry.spot.place) result }
+{
+    let generation = owed_by(found)?;
+    let word = grid.claim(hand, at.spot, generation);
+    if word != claimable(generation) {
+        return None;
+    }
+    Some(reclaim_place(grid, hand, at, generation))
+}
+
+/// The generation whose claim a LEAVE that found this word owes, where it owes one.
+#[inline(always)]
+pub(crate) fn owed_by(found: u64) -> Option<u32>
+    ensures { result ≡ (if owes_claim found then Some (generation_in found) else None) }
+{
+    if owes_claim(found) {
+        Some(Life::of_word(found).generation)
+    } else {
+        None
+    }
+}
+
+/// What follows a CLAIM of this generation that succeeded.
+#[inline(always)]
+pub(crate) fn reclaim_place<T: Clear + Drop>(
+    grid: &Grid<T>,
+    hand: &mut Hand<T>,
+    at: At,
+    generation: u32,
+) -> Reclaimed<T>
+    requires hand { IsOf grid.now hand.old × IsOne hand.old.me.0 }
+    requires bare { hand.old.me.1 ≡ [] }
+    requires at { IsAt grid.now.shape hand.old.me.0 at.spot.place at }
+    requires under { (the_lane hand.old.me.0).under ≡ claimed_under grid.now.shape at.lane at.spot.place generation }
+    requires place { HasPlace grid.now.shape hand.old.me.0 at.spot.place × LeftAlone grid.now.shape (the_lane hand.old.me.0) at.spot.place }
+    requires room { (known_of (the_lane hand.old.me.0) at.spot.place).room ≡ room_of hand.old.me.0.seen hand.old.me.0.rooms at.spot.place }
+    ensures hand { SameSeat hand.old hand.new }
+    ensures tails { Tails grid.now.shape at.entry.spot.place generation hand.old.me hand.new.me }
+    ensures acts { TailActs grid.now.shape at.entry.spot.place generation hand.old.me.0 hand.new.me.0 result }
+    ensures reclaimed { IsReclaimed T.content T.room grid.now.shape at.entry.spot.place at.entry.lane hand.new.me.0 result }
+    ensures at { StandsAt (spots_at grid.now.objects.ptr grid.now.shape at.entry.spot.place) (Some result) }
+{
+    shares_law();
+    let start = at.spot.start as usize;
+    let mut whole = take_cell(grid, hand, at.spot, at.lane);
+    if generation == grid.shape.last_generation {
+        return Reclaimed::Retired(vacate(grid.objects, start, whole));
+    }
+    whole.get_mut(grid.objects, start).clear();
+    if shard_of(at.spot.place) == at.lane {
+        return Reclaimed::Own(whole);
+    }
+    rest_cell(grid, hand, at.spot, at.lane, whole);
+    give_home(grid, hand, at);
+    Reclaimed::Returned
+}
+
+/// Drops the object of a place that gets none any more. Apart, for each place comes here once at most.
+#[cold]
+#[inline(never)]
+fn vacate<T: Drop>(objects: Base<Box<T, Global>>, start: usize, whole: Whole<T>) -> Vacancy<T>
+    requires { StandsIn whole.spot objects.ptr start }
+    ensures { result ≡ whole.spot }
+{
+    let (vacancy, object) = whole.take(objects, start);
+    drop(object);
+    vacancy
+}
+
+/// Returns a place of another shard, which is at rest: LINK and PUSH from the word that the lane last pushed there, and
+/// once more from an empty stack where that was taken. It takes no memory.
+pub(crate) fn give_home<T: Clear>(grid: &Grid<T>, hand: &mut Hand<T>, at: At)
+    requires hand { IsOf grid.now hand.old × IsOne hand.old.me.0 }
+    requires at { IsAt grid.now.shape hand.old.me.0 at.spot.place at }
+    requires returns { (the_lane hand.old.me.0).under ≡ Returns at.spot.place None false }
+    requires place { HasPlace grid.now.shape hand.old.me.0 at.spot.place }
+    requires rests { IsAtRest grid.now.shape hand.old.me.0 at.spot.place }
+    ensures hand { SameSeat hand.old hand.new }
+    ensures acts { MadeHome at.entry.spot.place hand.old.me.0 hand.new.me.0 }
+    ensures gives { GivesHome grid.now.shape at.entry.spot.place hand.old.me hand.new.me }
+{
+    shares_law();
+    let top = at.top();
+    grid.link(hand, at.spot, top);
+    if grid.push(hand, at.spot, at.lane, top) != top {
+        grid.link(hand, at.spot, 0);
+        grid.push(hand, at.spot, at.lane, 0);
+    }
+}
+
+/// What became of a place that was reclaimed is kept: the object of an own place, and of a place that was returned its
+/// word.
+#[inline(always)]
+pub(crate) fn keep_reclaimed<T: Drop>(
+    state: &mut LaneState<T>,
+    spot: Spot,
+    reclaimed: Option<Reclaimed<T>>,
+)
+    requires shape { IsShape state.old.shape }
+    requires spot { IsSpot state.old.shape spot spot.place }
+    requires narrow { length state.old.objects.items ≡ shard_places state.old.shape }
+    requires wide { length state.old.last_pushed.items ≡ state.old.shape.lanes }
+    requires begins { (state.old.objects.first ≡ shard_start state.old.shape state.old.free.shard) × (state.old.objects.wide ≡ slot_row state.old.shape) }
+    requires at { StandsAt (spots_at state.old.objects.directory state.old.shape spot.place) reclaimed }
+    requires away { (whole : Cell T) → reclaimed ≡ Some (Own whole) → IsAway state.old.free (place_numbered spot.place) }
+    ensures { Keeps spot.place reclaimed state.old state.new }
+{
+    match reclaimed {
+        Some(Reclaimed::Own(whole)) => {
+            keep(state, spot, whole);
+        }
+        Some(Reclaimed::Returned) => {
+            state.last_pushed[shard_of(spot.place) as usize] = link_to(spot.place);
+        }
+        Some(Reclaimed::Retired(vacancy)) => {
+            state.objects.retire(spot.start as usize, vacancy);
+        }
+        None => {}
+    }
+}
