@@ -299,7 +299,25 @@ check|a.acts
 shape 3 1 2 4294967295
 0 collect 0
 =illegal 0 17 NotHome
-=act 0 (line 2): \"0 collect 0\": the places aren't returned ones of the lane's shard, or one stands twice
+=act 0 (line 2): \"0 collect 0\": a place that is collected isn't returned
+~
+check|a.acts
+shape 3 1 2 4294967295
+1 collect 0
+=illegal 0 17 NotHome
+=act 0 (line 2): \"1 collect 0\": place 0 isn't of the lane's shard
+~
+check|a.acts
+shape 3 1 2 4294967295
+0 collect 0,5
+=illegal 0 17 NotHome
+=act 0 (line 2): \"0 collect 0,5\": place 5 is none of the shape's
+~
+check|a.acts
+shape 3 1 2 4294967295
+0 collect 0,0
+=illegal 0 17 NotHome
+=act 0 (line 2): \"0 collect 0,0\": place 0 stands twice
 ~
 key|5
 =no key

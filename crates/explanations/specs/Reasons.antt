@@ -1,5 +1,5 @@
 -- Why an act isn't allowed: what of it is outside of the shape, or what would have been allowed in its place.
-use Rattle.std.specs.Prelude.{◌≡◌, ◌≢◌, ◌≤◌, ◌⊎◌, ◌==◌, ℕ, List, [], ◌++◌, length, if◌then◌else◌, Bool, true, false, Some, None, decimal, codes}
+use Rattle.std.specs.Prelude.{◌≡◌, ◌≢◌, ◌≤◌, ◌⊎◌, ◌==◌, ℕ, List, [], ◌++◌, length, take, Contains, slice_get, if◌then◌else◌, Bool, true, false, Some, None, decimal, codes}
 use Rattle.keybits.specs.declared.shape.Shape.{Shape}
 use Rattle.keybits.specs.Keys.{place_of, tag_of}
 use Rattle.keybits.specs.Places.{shard_of}
@@ -12,7 +12,7 @@ use Rattle.seqpool.specs.declared.fault.ApplyFault.{ApplyFault}
 use Rattle.seqpool.specs.declared.fault.ApplyFault.TheVariants as faults
 use Rattle.streams.specs.Shown.{cut_text}
 use Rattle.explanations.specs.declared.reasons.Outside.{Outside}
-use Rattle.explanations.specs.declared.reasons.Outside.TheVariants.{NoLane, OtherPool, NoPlace, OwnShard}
+use Rattle.explanations.specs.declared.reasons.Outside.TheVariants.{NoLane, OtherPool, NoPlace, OwnShard, CollectsNoPlace, OtherShard, Twice}
 use Rattle.explanations.specs.declared.reasons.Due.{Due}
 use Rattle.explanations.specs.declared.reasons.Due.TheVariants.{NextKey, Found, Missing, Cleared, HeldBy, Unmarked, General}
 
@@ -28,11 +28,19 @@ IsPlaceOutside z lane place NoPlace = is_place z place ≡ false
 IsPlaceOutside z lane place OwnShard = shard_of place ≡ lane
 IsPlaceOutside z lane place reason = ⊥
 
--- an act is outside of the shape: its lane is none of so many, or its key is, or its place
+-- places can't be collected: one of them is none of the shape, or isn't of the lane's shard, or stands twice
+abbrev pub IsCollectOutside : Shape → ℕ → List ℕ → Outside → Type 0
+IsCollectOutside z lane places (CollectsNoPlace place) = Contains places place × (is_place z place ≡ false)
+IsCollectOutside z lane places (OtherShard place) = Contains places place × (shard_of place ≢ lane)
+IsCollectOutside z lane places (Twice place) = (index : ℕ) × (slice_get places index ≡ Some place) × Contains (take index places) place
+IsCollectOutside z lane places reason = ⊥
+
+-- an act is outside of the shape: its lane is none of so many, or its key is, or its place, or its places are
 abbrev pub IsOutside : Shape → Act → Outside → Type 0
 IsOutside z act (NoLane lanes) = (lanes ≡ z.lanes) × (z.lanes ≤ lane_of act)
 IsOutside z (Publish lane key content with_ref) reason = IsKeyOutside z key reason
 IsOutside z (Home lane place) reason = IsPlaceOutside z lane place reason
+IsOutside z (Collect lane places) reason = IsCollectOutside z lane places reason
 IsOutside z act reason = ⊥
 
 -- what would have been allowed in place of a publish: one of this key
@@ -76,6 +84,9 @@ outside_text (NoLane lanes) = codes "the lane is none of the shape's, which are 
 outside_text (OtherPool tag) = codes "the key is of another pool: the shape's tag is " ++ decimal tag
 outside_text NoPlace = codes "the place is none of the shape's"
 outside_text OwnShard = codes "the place is of the lane's own shard"
+outside_text (CollectsNoPlace place) = codes "place " ++ decimal place ++ codes " is none of the shape's"
+outside_text (OtherShard place) = codes "place " ++ decimal place ++ codes " isn't of the lane's shard"
+outside_text (Twice place) = codes "place " ++ decimal place ++ codes " stands twice"
 
 -- why an act is refused, if no more is known
 abbrev pub general_text : ApplyFault → List ℕ
@@ -85,7 +96,7 @@ general_text faults.WrongReply = codes "the reply isn't the pool's"
 general_text faults.NotHeld = codes "the lane has no reference to the key"
 general_text faults.StillHeld = codes "a lane still refers to the key"
 general_text faults.NotMarked = codes "the key isn't published"
-general_text faults.NotHome = codes "the places aren't returned ones of the lane's shard, or one stands twice"
+general_text faults.NotHome = codes "a place that is collected isn't returned"
 general_text faults.Memory = codes "memory was refused"
 
 -- that a get finds this content

@@ -5,7 +5,7 @@ ghost use Rattle.seqpool.specs.Pool.{Allowed, pool_after};
 ghost use Rattle.seqpool.specs.declared.act.Act.TheVariants.{Release};
 ghost use Rattle.seqpool.specs.Rows.{pool_in};
 ghost use Rattle.seqpool.specs.ActsText.{hex};
-ghost use Rattle.explanations.specs.Reasons.{IsKeyOutside, IsPlaceOutside, IsOutside, IsPublishDue, IsGetDue, IsClearDue, IsReclaimDue, IsDue, outside_text, general_text, found_text, due_text, TellsReason};
+ghost use Rattle.explanations.specs.Reasons.{IsKeyOutside, IsPlaceOutside, IsCollectOutside, IsOutside, IsPublishDue, IsGetDue, IsClearDue, IsReclaimDue, IsDue, outside_text, general_text, found_text, due_text, TellsReason};
 
 use crate::found::cut_of;
 use keybits::{GREATEST_PLACE, Key, Place, Shape, place_of, shard_of, tag_of};
@@ -23,6 +23,12 @@ pub enum Outside {
     NoPlace,
     /// It returns a place of its lane's own shard.
     OwnShard,
+    /// It collects this place, which is none of the shape's.
+    CollectsNoPlace(u32),
+    /// It collects this place, which isn't of its lane's shard.
+    OtherShard(u32),
+    /// It collects this place twice.
+    Twice(u32),
 }
 
 /// What would have been allowed in place of an act.
@@ -70,6 +76,24 @@ fn place_outside(shape: &Shape, lane: u32, place: u32) -> Option<Outside>
     None
 }
 
+/// What is outside of the shape of places that a lane collects, at the first of them where something is.
+fn collect_outside(shape: &Shape, lane: u32, places: &[u32]) -> Option<Outside>
+    ensures { IfSome result (IsCollectOutside shape.now lane places.now) }
+{
+    for (index, place) in places.iter().enumerate() {
+        if !shape.is_place(*place) {
+            return Some(Outside::CollectsNoPlace(*place));
+        }
+        if shard_of(*place) != lane {
+            return Some(Outside::OtherShard(*place));
+        }
+        if places[..index].contains(place) {
+            return Some(Outside::Twice(*place));
+        }
+    }
+    None
+}
+
 /// What of an act is outside of the shape.
 fn outside_of(shape: &Shape, act: &Act) -> Option<Outside>
     ensures { IfSome result (IsOutside shape.now act.now) }
@@ -80,6 +104,7 @@ fn outside_of(shape: &Shape, act: &Act) -> Option<Outside>
     match act {
         Act::Publish { key, .. } => key_outside(shape, *key),
         Act::Home { lane, place } => place_outside(shape, *lane, *place),
+        Act::Collect { lane, places } => collect_outside(shape, *lane, places.as_slice()),
         _ => None,
     }
 }
@@ -291,6 +316,13 @@ fn outside_told(alloc: Global, outside: Outside) -> Result<String, AllocError>
         }
         Outside::NoPlace => String::from_str(alloc, "the place is none of the shape's"),
         Outside::OwnShard => String::from_str(alloc, "the place is of the lane's own shard"),
+        Outside::CollectsNoPlace(place) => {
+            format!(in alloc; "place {place} is none of the shape's")
+        }
+        Outside::OtherShard(place) => {
+            format!(in alloc; "place {place} isn't of the lane's shard")
+        }
+        Outside::Twice(place) => format!(in alloc; "place {place} stands twice"),
     }
 }
 
@@ -305,8 +337,7 @@ fn general_text(fault: ApplyFault) -> &'static str
         ApplyFault::NotHeld => "the lane has no reference to the key",
         ApplyFault::StillHeld => "a lane still refers to the key",
         ApplyFault::NotMarked => "the key isn't published",
-        ApplyFault::NotHome =>
-            "the places aren't returned ones of the lane's shard, or one stands twice",
+        ApplyFault::NotHome => "a place that is collected isn't returned",
         ApplyFault::Memory => "memory was refused",
     }
 }
@@ -396,7 +427,7 @@ pub(crate) fn reason_told(
     ensures { IfOk result (λ text. TellsReason shape (pool_after shape history.now) act.now fault (string_bytes text)) }
 {
     let outside = match fault {
-        ApplyFault::NotWithLane => outside_of(&shape, act),
+        ApplyFault::NotWithLane | ApplyFault::NotHome => outside_of(&shape, act),
         _ => None,
     };
     match outside {
