@@ -12,7 +12,7 @@ ghost use Rattle.logsample.specs.Histories.{LogsNothing, NobodyFinds, IsNext, Lo
 
 use crate::entries::{Entry, Line, Request};
 use guards::{PoolName, Seat, Told};
-use poollaws::{going_law, gone_law};
+use poollaws::{going_law, gone_law, key_law};
 use shardpool::{CreateFault, Filling};
 
 /// Why a request wasn't logged.
@@ -93,13 +93,15 @@ pub fn collect<N: PoolName>(seat: &mut Seat<'_, N, Entry>, told: Told<N, Entry>)
     ensures published { IsPublished seat.new.lane.book.seen told.key told.content }
     ensures shown { IfSome result (λ line. line ≡ line_of told.content) }
     ensures unfound { NobodyFinds N.pool.shape seat.new.lane.book.seen told.key }
-    ensures collects { is_key N.pool.shape told.key ≡ true → Collects told.key result seat.old.lane seat.new.lane }
+    ensures collects { Collects told.key result seat.old.lane seat.new.lane }
     ensures number { seat.new.lane.number ≡ seat.old.lane.number }
     ensures goes { GoesOn seat.old.lane seat.new.lane }
 {
     let key = seat.hear(told);
     let line = read(seat, key);
     seat.clear(key);
+    seat.seen_law();
+    key_law();
     going_law();
     gone_law();
     line

@@ -4,7 +4,7 @@ use Rattle.std.proofs.lemmas.Bool.{and_parts, cases_Bool}
 use Rattle.std.proofs.lemmas.List.{take_all}
 use mathlib.Core.List.{IsPrefix}
 use Rattle.keybits.specs.declared.shape.Shape.{Shape}
-use Rattle.keybits.specs.Keys.{place_of}
+use Rattle.keybits.specs.Keys.{place_of, is_key}
 use Rattle.seqpool.specs.declared.act.Act.{Act}
 use Rattle.seqpool.specs.declared.act.Act.TheVariants.{Publish, Get, Clear}
 use Rattle.seqpool.specs.Pool.{Phase, with, published, home, retired, content_in, is_current, found, fresh, pool_from, pool_after, IsLegal}
@@ -17,7 +17,7 @@ use Rattle.shardpool.specs.Tokens.{LaneOf}
 use Rattle.shardpool.specs.Seen.{FoundSince}
 use Rattle.shardpool.proofs.frame.Standing.{missed-cleared}
 use Rattle.poollaws.specs.Words.{IsPublished, IsCleared, IsPresent}
-use Rattle.poollaws.specs.Laws.{StandsLaw, StaysPublishedLaw, StaysClearedLaw, GoneLaw, UnfoundLaw, MissedLaw, EndLaw}
+use Rattle.poollaws.specs.Laws.{StandsLaw, StaysPublishedLaw, StaysClearedLaw, KeyLaw, GoneLaw, UnfoundLaw, MissedLaw, EndLaw}
 
 pub stands-law : StandsLaw
 stands-law beginning history (more, is) i act at =
@@ -29,6 +29,9 @@ stays-published beginning history goes key content (i, (lane, with_ref, at)) =
 
 pub stays-cleared : StaysClearedLaw
 stays-cleared beginning history goes key (i, (lane, at)) = (i, (lane, (stands-law beginning history goes i (Clear lane key true) at).1))
+
+pub key-law : KeyLaw
+key-law z history key content legal (i, (lane, with_ref, at)) = (and_parts (is_key z key) _ (legal-at z _ history i (Publish lane key content with_ref) legal at).1.0).0
 
 -- a get that finds the key has no clear of it before
 none-found : (z : Shape) (beginning history : List Act) (key i lane : ℕ) (content : List ℕ) → IsPrefix beginning history → IsLegal z history → IsCleared beginning key

@@ -1,9 +1,9 @@
 -- Laws of histories, of closed pools and of rooms, each as a client cites it.
-use Rattle.std.specs.Prelude.{◌≡◌, ◌⊎◌, ℕ, ◌+◌, ◌<◌, ◌≤◌, List, Option, None, length, Contains}
+use Rattle.std.specs.Prelude.{◌≡◌, ◌⊎◌, ℕ, ◌+◌, ◌<◌, ◌≤◌, true, List, Option, None, length, Contains}
 use mathlib.Core.List.{IsPrefix}
 use Rattle.keybits.specs.declared.shape.Shape.{Shape}
 use Rattle.keybits.specs.Places.{shard_of}
-use Rattle.keybits.specs.Keys.{place_of, generation_of}
+use Rattle.keybits.specs.Keys.{place_of, generation_of, is_key}
 use Rattle.seqpool.specs.declared.act.Act.{Act}
 use Rattle.seqpool.specs.declared.act.Act.TheVariants.{Get}
 use Rattle.seqpool.specs.Pool.{lane_of, IsLegal}
@@ -39,6 +39,10 @@ StaysClearedLaw = (beginning history : List Act) → IsPrefix beginning history 
 abbrev pub OwnActsLaw : Type 0
 OwnActsLaw = (made : List Act) (old new : LaneOf) → SeesOn made old new
     → (i : ℕ) (act : Act) → length old.book.seen ≤ i → At new.book.seen i act → lane_of act ≡ (the_lane old.book).lane → Contains made act
+
+-- what is published is a key of the shape
+abbrev pub KeyLaw : Type 0
+KeyLaw = (z : Shape) (history : List Act) (key : ℕ) (content : List ℕ) → IsLegal z history → IsPublished history key content → is_key z key ≡ true
 
 -- ---- keys that are gone
 

@@ -1,5 +1,5 @@
 //! The laws, as calls that do nothing: whoever calls one may use its law in a proof.
-ghost use Rattle.poollaws.specs.Laws.{StandsLaw, StaysPublishedLaw, StaysClearedLaw, OwnActsLaw, GoneLaw, UnfoundLaw, MissedLaw, EndLaw, LastLaw, CountedLaw, NoneLeftLaw, FirstRoomLaw, KeptRoomLaw, ToldRoomLaw, HeardRoomLaw, ReusedRoomLaw, OwnerLaw};
+ghost use Rattle.poollaws.specs.Laws.{StandsLaw, StaysPublishedLaw, StaysClearedLaw, KeyLaw, OwnActsLaw, GoneLaw, UnfoundLaw, MissedLaw, EndLaw, LastLaw, CountedLaw, NoneLeftLaw, FirstRoomLaw, KeptRoomLaw, ToldRoomLaw, HeardRoomLaw, ReusedRoomLaw, OwnerLaw};
 
 use shardpool::room_law;
 use slotcell::Clear;
@@ -10,6 +10,11 @@ pub fn going_law()
     ensures acts { StandsLaw }
     ensures published { StaysPublishedLaw }
     ensures cleared { StaysClearedLaw }
+{}
+
+/// What is published in a legal history, as each is that a lane has seen, is a key of the shape.
+pub fn key_law()
+    ensures { KeyLaw }
 {}
 
 /// Of the acts that a lane has seen since, its own are those that it made.
