@@ -46,8 +46,7 @@ fn release_two<T: Clear + Drop>(pool: &Pool<T>, lane: &mut Lane<T>, one: Ref<T>,
 }
 
 /// Gets two keys, calls `f` on their objects, and gives the references back. None, and `f` is not called, where a get
-/// finds none: the keys
-/// behind it are then not tried.
+/// finds none: the keys behind it are then not tried.
 pub fn with_two<T: Clear + Drop, R, F: FnOnce(&T, &T) -> R>(
     pool: &Pool<T>,
     lane: &mut Lane<T>,

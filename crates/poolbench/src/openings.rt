@@ -26,8 +26,7 @@ pub const ONE_LANE: Shape = Shape {
 };
 
 /// How many objects a lane of these shapes puts till its last page is opened: one for each place of the pages before
-/// it, and one
-/// more.
+/// it, and one more.
 pub const TILL_LAST_PAGE: u32 = LARGEST_FIRST_PAGE * ((1 << (MOST_PAGES - 1)) - 1) + 1;
 
 /// Opens a pool of this shape, puts so many objects by its last lane, and closes it. Answers how many places it then

@@ -155,6 +155,7 @@ module _ {S T : Type 0} (content : T → List ℕ) (room : T → ℕ) (spots : �
         keeps = keeps;
         shared = law.2;
         by = refl;
+        owned = tt;
         deeds_are = at.record_is.deeds;
         cells_are = knows-more r.cells w.stock.knows r.lane place c at.record_is.cells;
         statuses = λ l other p k. refl;

@@ -40,6 +40,7 @@ follow-makes content room spots z words w slots point me place at first =
       keeps = keeps;
       shared = shared-still content room spots z words w slots point None (followed_record r) keeps.allowed tt;
       by = tt;
+      owned = tt;
       lane_is = refl;
       mine = sym (append-nil r.mine);
       agrees = record {

@@ -61,6 +61,7 @@ reseated content room spots z s after kept sound times = let stands = kept.1 in 
     deep = stands.deep;
     paired = stands.paired;
     rule = stands.rule;
+    owners = stands.owners;
     shared = stands.shared;
     seats = all-sound z kept.0 after (sound kept.0 (each-sound z kept.0 s.views stands.seats))
         (λ lane. omega (arith, times lane, stands.seats.once lane));

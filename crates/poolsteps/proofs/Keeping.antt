@@ -77,6 +77,7 @@ goes-two z a b c r s same first second = record {
   );
   others = rw (acts-append s.lane first.between second.between, second.others, same, first.others) refl;
   legal = second.legal;
+  owners = second.owners;
   mine = second.mine;
   quiet = second.quiet;
 }
@@ -90,6 +91,7 @@ filling-law z before after r key goes same under chain may =
     let stays = place-stays z (the_lane before).lane place before.seen goes.between (subst (IsLegal z) seen goes.legal)
     (ap (λ (l : ℕ). acts_of l goes.between) (sym same) ∙ goes.others) may.with_lane in record {
       idle = ap (λ (x : LaneRecord). x.under) now ∙ (under ∙ may.idle);
+      own = may.own ∙ (sym same ∙ sym (ap (λ (x : LaneRecord). x.lane) now));
       current = ap (λ (g : ℕ). is_key z key && eqb g (generation_of key)) (ap (λ (acts : List Act). (pool_after z acts place).generation) seen ∙ stays.1) ∙ may.current;
       with_lane = ap (λ (acts : List Act). (pool_after z acts place).phase) seen ∙ (stays.0 ∙ ap with (sym same ∙ sym (ap (λ (x : LaneRecord). x.lane) now)));
       unchained = ap (λ (x : LaneRecord). times place x.chain) now ∙ (ap (times place) chain ∙ may.unchained);

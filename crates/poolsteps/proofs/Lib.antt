@@ -1,5 +1,6 @@
 pub mod LayoutLemmas
 pub mod ViewLemmas
+pub mod Owning
 pub mod PageLemmas
 mod KeyRanges
 pub mod FirstWords

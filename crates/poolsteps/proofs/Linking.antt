@@ -53,6 +53,7 @@ module _ {S T : Type 0} (content : T → List ℕ) (room : T → ℕ) (spots : �
         keeps = keeps;
         shared = shared-still content room spots z words w slots point None (with_return r place linked failed) keeps.allowed tt;
         by = tt;
+        owned = tt;
         lane_is = refl;
         mine = sym (append-nil r.mine);
         agrees = record {

@@ -26,6 +26,7 @@ use Rattle.poolsteps.specs.Views.{the_lane, IsOne, status_of, known_in, acts_in,
 use Rattle.poolsteps.specs.Rule.{World, Stands, Kept}
 use Rattle.poolsteps.specs.Told.{Steps, LifeSteps}
 use Rattle.poolsteps.proofs.LayoutLemmas.{value-is}
+use Rattle.poolsteps.proofs.Owning.{IsOwned}
 use Rattle.poolsteps.proofs.SeatLemmas.{step_view, world_after, IsBy, IsAt, IsPoint, Agrees, OthersStay, is-at, is-point, step-stands}
 
 -- the words, the history and the lanes of a world
@@ -40,6 +41,17 @@ SawAll w act r v = (v.seen ≡ with_act w.history act) × (v.rooms ≡ w.kept ++
 abbrev pub IsStill : Shape → World → Option Act → Type 0
 IsStill z w None = Unit {0}
 IsStill z w (Some act) = IsQuiet z w.history w.stock act
+
+-- which is then no publish
+still-owned : (z : Shape) (w : World) (act : Option Act) → IsStill z w act → IsOwned act
+still-owned z w None still = tt
+still-owned z w (Some (acts.Publish lane key bytes with_ref)) still = absurd still
+still-owned z w (Some (acts.Get lane key reply)) still = tt
+still-owned z w (Some (acts.Release lane key)) still = tt
+still-owned z w (Some (acts.Clear lane key reply)) still = tt
+still-owned z w (Some (acts.Reclaim lane key)) still = tt
+still-owned z w (Some (acts.Home lane place)) still = tt
+still-owned z w (Some (acts.Collect lane places)) still = tt
 
 module _ {T : Type 0} (content : T → List ℕ) (room : T → ℕ) (spots : ℕ → CellSpot) (z : Shape) (words : Words) (w : World) (slots : Slots T) where
   -- the shares stay where an act moves none
@@ -73,6 +85,7 @@ module _ {S T : Type 0} (content : T → List ℕ) (room : T → ℕ) (spots : �
     pub keeps : Keeps z (moment_of words w) kind word left act after
     pub shared : Shared content room spots z (with_act w.history act) (w.kept ++ rooms_in r act) slots stock
     pub by : IsBy (the_lane me.0).lane act
+    pub owned : IsOwned act
     pub lane_is : r.lane ≡ (the_lane me.0).lane
     pub mine : r.mine ≡ (the_lane me.0).mine ++ acts_in act
     pub agrees : Agrees r after stock
@@ -91,6 +104,7 @@ module _ {S T : Type 0} (content : T → List ℕ) (room : T → ℕ) (spots : �
     pub keeps : Keeps z (moment_of words w) kind (Life place) left act (with_under w.lanes (the_lane me.0).lane under)
     pub shared : Shared content room spots z (with_act w.history act) (w.kept ++ rooms_in (record (after_step (the_lane me.0) act under) { cells = cells }) act) slots stock
     pub by : IsBy (the_lane me.0).lane act
+    pub owned : IsOwned act
     pub deeds_are : (p k : ℕ) → status_of (the_lane me.0) p k ≡ stock.status (the_lane me.0).lane p k
     pub cells_are : (p : ℕ) → known_in cells p ≡ stock.knows (the_lane me.0).lane p
     pub statuses : (l : ℕ) → l ≢ (the_lane me.0).lane → (p k : ℕ) → stock.status l p k ≡ w.stock.status l p k
@@ -120,6 +134,7 @@ module _ {S T : Type 0} (content : T → List ℕ) (room : T → ℕ) (spots : �
     keeps = made.keeps;
     shared = shared-still content room spots z words w slots point made.act (after_step (the_lane me.0) made.act made.under) made.keeps.allowed made.quiet;
     by = made.by;
+    owned = still-owned z w made.act made.quiet;
     deeds_are = at.record_is.deeds;
     cells_are = at.record_is.cells;
     statuses = λ l other p k. refl;
@@ -147,7 +162,7 @@ module _ {T : Type 0} (content : T → List ℕ) (room : T → ℕ) (spots : ℕ
       let n : World = world_after w made.act made.after made.stock made.r in
       let view : View = step_view me.0 made.r n in
       let e = step-stands content room spots z id me one w s.homes s.words s.views st at made.kind word left made.act made.after made.stock made.r inside
-      made.keeps made.shared made.by made.lane_is made.mine made.agrees made.others in
+      made.keeps made.shared made.by made.owned made.lane_is made.mine made.agrees made.others in
       let told = made.told (view, me.1) (refl, refl) (subst (λ (x : ℕ). Steps z made.kind x left me (view, me.1) made.act made.r) (sym is) e.1) in (
         view,
         table.keeps,
@@ -172,6 +187,7 @@ module _ {T : Type 0} (content : T → List ℕ) (room : T → ℕ) (spots : ℕ
         keeps = made.keeps;
         shared = made.shared;
         by = made.by;
+        owned = made.owned;
         lane_is = refl;
         mine = refl;
         agrees = record {

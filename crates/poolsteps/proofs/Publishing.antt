@@ -105,6 +105,7 @@ module _ {S T : Type 0} (content : T → List ℕ) (room : T → ℕ) (spots : �
         shared = subst (λ (n : ℕ). Shared content room spots z (w.history ++ acts.Publish r.lane key c.content with_ref ∷ []) (w.kept ++ n ∷ []) slots (restocked w.stock r.lane place c))
             (sym (ap (λ (b : Bool). (cond b c (known_of r place)).room) (eq-eqb place place refl))) shared;
         by = refl;
+        owned = may.own;
         deeds_are = at.record_is.deeds;
         cells_are = knows-more r.cells w.stock.knows r.lane place c at.record_is.cells;
         statuses = λ l other p k. refl;

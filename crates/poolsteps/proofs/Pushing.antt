@@ -131,6 +131,7 @@ module _ {S T : Type 0} (content : T → List ℕ) (room : T → ℕ) (spots : �
       keeps = keeps;
       shared = shared-home keeps.allowed rests;
       by = refl;
+      owned = tt;
       lane_is = refl;
       mine = refl;
       agrees = pushed-agrees z w r at.record_is place;

@@ -29,8 +29,10 @@ use Rattle.poolsteps.specs.Layout.{has_word, index_in, words_in, slot_count, slo
 use Rattle.poolsteps.specs.Views.{the_lane, IsOne, pushed_in, status_of, known_of, In, times_in, acts_in, rooms_in}
 use Rattle.poolsteps.specs.Rule.{World, IsRecord, IsBeginning, HasSeen, AreSeats, Stands}
 use Rattle.poolsteps.specs.Seats.{heard_of}
+use Rattle.poolsteps.specs.Owners.{ArePublishedByOwners}
 use Rattle.poolsteps.specs.Told.{GoesOn, Steps}
 use Rattle.poolsteps.proofs.LayoutLemmas.{value-is, set-word}
+use Rattle.poolsteps.proofs.Owning.{IsOwned, owners-with, owners-front}
 use Rattle.poolsteps.proofs.Solo.{only-lane, quiet-now}
 use Rattle.poolsteps.proofs.ViewLemmas.{times-some, in-one, among-set, among-two, prefix-self, prefix-trans, act-behind, none-behind, acts-between, shorter-begins}
 
@@ -169,8 +171,9 @@ module _ (z : Shape) (w : World) (views : List View) (seats : AreSeats z w views
     u = view_of r n steps looks
 
     -- what the seat is told of its acts
-    goes-on : length w.kept ≡ length w.history → (words : Words) → Rule z (moment words n.history n.lanes) → GoesOn z v u made rooms_made r
-    goes-on paired words rule = let here = seat-at paired in record {
+    goes-on : length w.kept ≡ length w.history → (words : Words) → Rule z (moment words n.history n.lanes) → ArePublishedByOwners n.history
+        → GoesOn z v u made rooms_made r
+    goes-on paired words rule owners = let here = seat-at paired in record {
       lanes = refl;
       between = here.between;
       seen = grows ∙ ap (λ (acts : List Act). acts ++ made) here.seen;
@@ -179,6 +182,7 @@ module _ (z : Shape) (w : World) (views : List View) (seats : AreSeats z w views
       paired = here.paired;
       others = ap (λ (lane : ℕ). acts_of lane here.between) same ∙ here.others;
       legal = rule.legal;
+      owners = owners;
       mine = is.mine;
       quiet = quiet-now z words n.history n.lanes r n.history n.kept steps looks rule is.inside is.under (λ one. refl);
     }
@@ -253,13 +257,13 @@ module _ {T : Type 0} (content : T → List ℕ) (room : T → ℕ) (spots : ℕ
   -- a step on a word of the pool that keeps the rule, after which the seat's lane has this record
   pub step-stands : (kind : Kind) (word : Word) (value : ℕ) (act : Option Act) (after : Lanes) (stock : Stock) (r : LaneRecord) → has_word z word ≡ true
       → Keeps z (moment (words_in z words) w.history w.lanes) kind word value act after
-      → Shared content room spots z (with_act w.history act) (w.kept ++ rooms_in r act) (slots_in z homes) stock → IsBy (the_lane me.0).lane act
+      → Shared content room spots z (with_act w.history act) (w.kept ++ rooms_in r act) (slots_in z homes) stock → IsBy (the_lane me.0).lane act → IsOwned act
       → r.lane ≡ (the_lane me.0).lane → r.mine ≡ (the_lane me.0).mine ++ acts_in act → Agrees r after stock
       → OthersStay (the_lane me.0).lane w.lanes after w.stock stock
       → Stands content room spots z (world_after w act after stock r) homes (slice_set words (index_in z word) value)
       (slice_set views id (step_view me.0 r (world_after w act after stock r)))
       × Steps z kind (slice_index words (index_in z word)) value me (step_view me.0 r (world_after w act after stock r), me.1) act r
-  step-stands kind word value act after stock r inside keeps shared by same mine agrees stay =
+  step-stands kind word value act after stock r inside keeps shared by owned same mine agrees stay =
       let lane : ℕ = (the_lane me.0).lane in
       let n : World = world_after w act after stock r in
       let own = own-record z w views st.seats id me.0 at one in
@@ -274,12 +278,14 @@ module _ {T : Type 0} (content : T → List ℕ) (room : T → ℕ) (spots : ℕ
         cells = agrees.cells;
       } in
       let grows = act-behind w.history act in
-      let paired = still-paired w.kept w.history act r st.paired in (
+      let paired = still-paired w.kept w.history act r st.paired in
+      let owners = owners-with w.history act st.owners owned in (
         record {
           count = length-set words (index_in z word) value ∙ st.count;
           deep = st.deep;
           paired = paired;
           rule = subst (λ (ws : Words). Rule z (moment ws n.history after)) (sym (set-word z st.rule.limits words st.count word inside value)) keeps.rule;
+          owners = owners;
           shared = shared;
           seats = seats-after z w views st.seats id me.0 at one n (acts_in act) (rooms_in r act) grows refl r is same (me.0.steps + 1) me.0.looks
               paired (acts-stay lane w.history act by) stay;
@@ -287,7 +293,7 @@ module _ {T : Type 0} (content : T → List ℕ) (room : T → ℕ) (spots : ℕ
         record {
           changes = subst (λ (found : ℕ). Changes z.last_generation kind found value) (value-is z words word inside) keeps.changes;
           goes = goes-on z w views st.seats id me.0 at one n (acts_in act) (rooms_in r act) grows refl r is same (me.0.steps + 1) me.0.looks
-              st.paired _ keeps.rule;
+              st.paired _ keeps.rule owners;
           held = refl;
           steps = refl;
           looks = refl;
@@ -321,11 +327,12 @@ module _ {T : Type 0} (content : T → List ℕ) (room : T → ℕ) (spots : ℕ
           deep = deep;
           paired = st.paired;
           rule = subst (λ (ws : List ℕ). Rule z (moment (words_in z ws) w.history w.lanes)) (sym (still words index)) st.rule;
+          owners = st.owners;
           shared = shared;
           seats = seats-after z w views st.seats id me.0 at one n [] [] grows more r is same me.0.steps (me.0.looks + 1)
               st.paired (λ l other. refl) stay;
         },
-        goes-on z w views st.seats id me.0 at one n [] [] grows more r is same me.0.steps (me.0.looks + 1) st.paired (words_in z words) st.rule,
+        goes-on z w views st.seats id me.0 at one n [] [] grows more r is same me.0.steps (me.0.looks + 1) st.paired (words_in z words) st.rule st.owners,
       )
 
   -- a look at any word that moves nothing, after which the seat saw this beginning of the history, which begins with what it saw before
@@ -356,6 +363,7 @@ module _ {T : Type 0} (content : T → List ℕ) (room : T → ℕ) (spots : ℕ
           deep = st.deep;
           paired = st.paired;
           rule = subst (λ (ws : List ℕ). Rule z (moment (words_in z ws) w.history w.lanes)) (sym (still words index)) st.rule;
+          owners = st.owners;
           shared = st.shared;
           seats = seats-with z w views st.seats id v at one w [] [] (sym (append-nil w.history)) (sym (append-nil w.kept)) r own refl v.steps (v.looks + 1)
               u refl record { acts = begins; rooms = rooms_begin; paired = many } refl (mine ∙ all_seen) (λ l other. refl) (λ l other. stays-same l w.lanes w.stock);
@@ -369,6 +377,7 @@ module _ {T : Type 0} (content : T → List ℕ) (room : T → ℕ) (spots : ℕ
           paired = (old.paired, omega (arith, old.paired));
           others = none;
           legal = legal;
+          owners = owners-front seen begins.0 (subst ArePublishedByOwners (sym begins.1) st.owners);
           mine = mine ∙ all_seen;
           quiet = quiet-now z (words_in z words) w.history w.lanes r seen u.rooms v.steps (v.looks + 1) st.rule own.inside own.under (λ one.
               sym (only-lane z r.lane seen one own.inside legal) ∙ (sym (mine ∙ all_seen) ∙ (own.mine ∙ only-lane z r.lane w.history one own.inside st.rule.legal)));

@@ -20,6 +20,7 @@ use Rattle.poolsteps.specs.Layout.{word_count, words_in, slot_count, slots_in}
 use Rattle.poolsteps.specs.Views.{first_record, In, times_in}
 use Rattle.poolsteps.specs.Rule.{World, IsRecord, IsBeginning, AreSeats, Kept, first_records, first_view}
 use Rattle.poolsteps.proofs.FirstSlots.{AreNone, slots-empty}
+use Rattle.poolsteps.proofs.Owning.{owners-none}
 use Rattle.poolsteps.proofs.Joints.{IsSound, all-sound}
 
 -- ---- the first records
@@ -98,6 +99,7 @@ starts content room spots z words slots limits wide count first deep none = (
     deep = length-homes slots ∙ deep;
     paired = refl;
     rule = start-law z (words_in z words) limits wide first;
+    owners = owners-none;
     shared = first-share-law content room spots z (slots_in z (map some slots)) limits (slots-empty content room spots z slots deep none);
     seats = first-seats z;
   },

@@ -79,6 +79,7 @@ module _ {S T : Type 0} (content : T → List ℕ) (room : T → ℕ) (spots : �
         keeps = law.0;
         shared = shared-still content room spots z words w slots point None r tt tt;
         by = tt;
+        owned = tt;
         lane_is = refl;
         mine = sym (append-nil r.mine);
         agrees = agrees-now z w r at.record_is;
@@ -110,6 +111,7 @@ module _ {S T : Type 0} (content : T → List ℕ) (room : T → ℕ) (spots : �
         keeps = keeps;
         shared = shares.1;
         by = refl;
+        owned = tt;
         lane_is = refl;
         mine = refl;
         agrees = record {

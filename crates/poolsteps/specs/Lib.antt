@@ -18,6 +18,7 @@ pub mod Whole
 pub mod WholeLends
 pub mod Layout
 pub mod Views
+pub mod Owners
 pub mod Rule
 pub mod Told
 pub mod Seats

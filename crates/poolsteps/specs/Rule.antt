@@ -18,6 +18,7 @@ use Rattle.poolsteps.specs.declared.view.Heard.{Heard}
 use Rattle.poolsteps.specs.declared.view.View.{View}
 use Rattle.poolsteps.specs.Layout.{word_count, words_in, slot_count, slots_in}
 use Rattle.poolsteps.specs.Seats.{heard_of}
+use Rattle.poolsteps.specs.Owners.{ArePublishedByOwners}
 use Rattle.poolsteps.specs.Views.{first_record, pushed_in, status_of, known_of, In, HasRecord, times_among}
 
 -- what the words, the slots and the views of a table tell of: a history, the rooms kept beside its acts, the lanes, and the shares
@@ -64,6 +65,7 @@ module _ {T : Type 0} (content : T → List ℕ) (room : T → ℕ) (spots : ℕ
     pub deep : length homes ≡ slot_count z
     pub paired : length w.kept ≡ length w.history
     pub rule : Rule z (moment (words_in z words) w.history w.lanes)
+    pub owners : ArePublishedByOwners w.history
     pub shared : Shared content room spots z w.history w.kept (slots_in z homes) w.stock
     pub seats : AreSeats z w views
 

@@ -25,6 +25,7 @@ use Rattle.poolsteps.specs.declared.steps.Purpose.{Purpose}
 use Rattle.poolsteps.specs.declared.steps.Purpose.TheVariants.{ToGet, ToClear}
 use Rattle.poolsteps.specs.declared.view.LaneRecord.{LaneRecord}
 use Rattle.poolsteps.specs.declared.view.View.{View}
+use Rattle.poolsteps.specs.Owners.{ArePublishedByOwners}
 use Rattle.poolsteps.specs.Views.{the_lane, status_of, known_of, acts_in, rooms_in, after_step, with_cell}
 
 -- a pool's only lane, which has nothing under way, has a reference to each marked key
@@ -42,6 +43,7 @@ pub record GoesOn (z : Shape) (before after : View) (made : List Act) (rooms_mad
   pub paired : (length before.rooms ≡ length before.seen) × (length rooms_between ≡ length between)
   pub others : acts_of r.lane between ≡ []
   pub legal : IsLegal z after.seen
+  pub owners : ArePublishedByOwners after.seen
   pub mine : r.mine ≡ acts_of r.lane after.seen
   pub quiet : Quiet z after
 
@@ -180,9 +182,10 @@ MayRenew z v place c = (c ≡ known_of (the_lane v) place)
 abbrev pub IsShared : Shape → View → ℕ → Bool → Type 0
 IsShared z v place with_ref = (number : ℕ) → number < z.lanes → status_of (the_lane v) place number ≢ Untouched → (number ≡ (the_lane v).lane) × (with_ref ≡ true)
 
--- the key is one that the lane may publish: its place is with the lane, at this generation, and is not on its taken chain
+-- the key is one that the lane may publish: its place is of the lane's shard and with the lane, at this generation, and is not on its taken chain
 pub record MayPublish (z : Shape) (v : View) (key : ℕ) : Type 0 where
   pub idle : IsIdle v
+  pub own : shard_of (place_of key) ≡ (the_lane v).lane
   pub current : is_current z (pool_after z v.seen) key ≡ true
   pub with_lane : (pool_after z v.seen (place_of key)).phase ≡ with (the_lane v).lane
   pub unchained : times (place_of key) (the_lane v).chain ≡ 0

@@ -35,6 +35,7 @@ pub use layout::{
     slot_start, stack_word,
 };
 pub use objects::Objects;
+pub use rows::BYTES_APART;
 pub use share_laws::{
     acts_share_law, collect_share_law, first_share_law, held_content_law, home_share_law, move_law,
     publish_share_law, reclaim_share_law, rights_law, with_law,

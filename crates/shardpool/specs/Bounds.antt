@@ -18,9 +18,9 @@ most_steps = most_end_steps + 3
 abbrev pub most_takes : ℕ
 most_takes = MOST_LANES - 1
 
--- the most steps of a create
+-- the most steps of a create: TAKEs, and a FOLLOW
 abbrev pub most_create_steps : ℕ
-most_create_steps = 64
+most_create_steps = most_takes + 1
 
 -- the most looks of what follows a LEAVE: no more than two for each lane's slot, and one
 abbrev pub most_end_looks : ℕ

@@ -19,6 +19,7 @@ use Rattle.steplaws.specs.Calls.{Call, Caller, aim, end_next, next_step, key_in,
 use Rattle.poolsteps.specs.Shares.{room_of}
 use Rattle.poolsteps.specs.declared.view.LaneRecord.{LaneRecord}
 use Rattle.poolsteps.specs.declared.view.View.{View}
+use Rattle.poolsteps.specs.Owners.{ArePublishedByOwners}
 use Rattle.poolsteps.specs.Views.{the_lane, pushed_in, status_of, known_of, acts_in}
 use Rattle.poolsteps.specs.Told.{Sees, Marks, IsIdle, Quiet, HasPlace, LeftAlone, references_seen}
 use Rattle.shardpool.specs.Acted.{Acted}
@@ -52,9 +53,9 @@ pub record Did {S : Type 0} (z : Shape) (place : ℕ) (made : List Act) (steps l
   pub deeds : (p number : ℕ) → p ≢ place → status_of (the_lane after.0) p number ≡ status_of (the_lane before.0) p number
   pub cells : (p : ℕ) → p ≢ place → known_of (the_lane after.0) p ≡ known_of (the_lane before.0) p
 
--- what the seat saw is a legal history, with just its lane's own acts; a pool's only lane, with nothing under way, has a reference to each marked key
+-- what the seat saw is a legal history, with just its lane's own acts, in which owners alone publish; a pool's only lane, with nothing under way, has a reference to each marked key
 abbrev pub IsLawful : Shape → View → Type 0
-IsLawful z v = IsLegal z v.seen × ((the_lane v).mine ≡ acts_of (the_lane v).lane v.seen) × Quiet z v
+IsLawful z v = IsLegal z v.seen × ((the_lane v).mine ≡ acts_of (the_lane v).lane v.seen) × Quiet z v × ArePublishedByOwners v.seen
 
 -- these steps of an END, one after another, are those that it makes after the ones made so far
 abbrev pub AreEnd : Caller → ℕ → List Step → List Step → Type 0

@@ -11,6 +11,7 @@ use Rattle.seqpool.specs.declared.act.Act.{Act}
 use Rattle.seqpool.specs.Pool.{Phase, with, published, home, retired, has, pool_after, IsLegal}
 use Rattle.seqpool.specs.Histories.{acts_of}
 use Rattle.steplaws.specs.Facts.{Words, State, home_in}
+use Rattle.poolsteps.specs.Owners.{ArePublishedByOwners}
 use Rattle.poolsteps.specs.Views.{the_lane}
 use Rattle.shardpool.specs.declared.census.Census.{Census}
 use Rattle.shardpool.specs.declared.census.Part.{Part}
@@ -80,9 +81,10 @@ pub record IsCensus (z : Shape) (history : List Act) (lanes : List LaneOf) (cens
       → slice_get parts (index * shard_places z + index_of z place) ≡ Some part → IsPart history lane place part
   pub counts : census ≡ all_counted none_counted parts
 
--- the history of a closed pool: legal, it begins with what each lane saw, and has of each lane just its acts
+-- the history of a closed pool: legal, in it owners alone publish, it begins with what each lane saw, and has of each lane just its acts
 pub record IsLastHistory (pool : PoolOf) (lanes : List LaneOf) (history : List Act) : Type 0 where
   pub legal : IsLegal pool.shape history
+  pub owners : ArePublishedByOwners history
   pub begins : (index : ℕ) (lane : LaneOf) → slice_get lanes index ≡ Some lane → IsPrefix lane.book.seen history
   pub own : (index : ℕ) (lane : LaneOf) → slice_get lanes index ≡ Some lane → (the_lane lane.book).mine ≡ acts_of lane.number history
   -- every marked key has a reference

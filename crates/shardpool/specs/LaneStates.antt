@@ -12,6 +12,7 @@ use Rattle.seqpool.specs.Histories.{PublishedAt, acts_of}
 use Rattle.poolsteps.specs.declared.view.Status.TheVariants.{Emptied}
 use Rattle.poolsteps.specs.Share.{Share}
 use Rattle.poolsteps.specs.declared.view.View.{View}
+use Rattle.poolsteps.specs.Owners.{ArePublishedByOwners}
 use Rattle.poolsteps.specs.Views.{the_lane, pushed_in, status_of, known_of, IsOne}
 use Rattle.poolsteps.specs.Told.{IsIdle, Quiet, references_seen}
 use Rattle.poolsteps.specs.Moved.{stored_of}
@@ -23,7 +24,7 @@ use Rattle.shardpool.specs.declared.pool.LaneState.{LaneState}
 use Rattle.shardpool.specs.Rows.{AreStanding}
 use Rattle.shardpool.specs.Places.{IsBlank, IsResting, held_after, left_with}
 
--- the seat is that of one lane of the pool, which saw a legal history with just its own acts, has nothing under way, and whose acts left it no place of another lane's shard
+-- the seat is that of one lane of the pool, which saw a legal history with just its own acts, in which owners alone publish, has nothing under way, and whose acts left it no place of another lane's shard
 pub record FitsSeat (z : Shape) (v : View) (number : ℕ) : Type 0 where
   pub shape : IsShape z
   pub one : IsOne v
@@ -31,6 +32,7 @@ pub record FitsSeat (z : Shape) (v : View) (number : ℕ) : Type 0 where
   pub below : number < z.lanes
   pub idle : IsIdle v
   pub legal : IsLegal z v.seen
+  pub owners : ArePublishedByOwners v.seen
   pub quiet : Quiet z v
   pub own : (the_lane v).mine ≡ acts_of (the_lane v).lane v.seen
   pub paired : length v.rooms ≡ length v.seen

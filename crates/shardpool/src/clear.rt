@@ -8,7 +8,7 @@ ghost use Rattle.poolsteps.specs.Views.{the_lane, IsOne};
 ghost use Rattle.poolsteps.specs.Grids.{IsSpot, IsOf, SameSeat};
 ghost use Rattle.poolsteps.specs.Told.{IsIdle};
 ghost use Rattle.poolsteps.specs.AtOnce.{unreferred};
-ghost use Rattle.shardpool.specs.AtPlace.{IsAt};
+ghost use Rattle.shardpool.specs.AtPlace.{MayCall};
 ghost use Rattle.shardpool.specs.Bounds.{most_call_looks};
 ghost use Rattle.shardpool.specs.Called.{MarksAtLast};
 ghost use Rattle.shardpool.specs.Clears.{Clears, LooksTwice};
@@ -122,11 +122,8 @@ pub(crate) fn try_clear<T: Clear + Drop>(
     at: At,
     key: u64,
 ) -> Option<(bool, Option<Reclaimed<T>>)>
-    requires hand { IsOf grid.now hand.old × IsOne hand.old.me.0 }
-    requires bare { hand.old.me.1 ≡ [] }
-    requires at { IsAt grid.now.shape hand.old.me.0 (place_of key) at }
+    requires call { MayCall grid.now hand.old key at }
     requires key { is_key grid.now.shape key ≡ true }
-    requires idle { IsIdle hand.old.me.0 }
     ensures hand { SameSeat hand.old hand.new }
     ensures clears { IfSome result (λ answer. Clears T.content T.room grid.now.shape (spots_at grid.now.objects.ptr grid.now.shape (place_of key)) key at.entry.lane (most_call_looks + 1)
         hand.old.me hand.new.me answer.0 answer.1) }
@@ -159,11 +156,8 @@ pub(crate) fn clear_by_steps<T: Clear + Drop>(
     at: At,
     key: u64,
 ) -> (bool, Option<Reclaimed<T>>)
-    requires hand { IsOf grid.now hand.old × IsOne hand.old.me.0 }
-    requires bare { hand.old.me.1 ≡ [] }
-    requires at { IsAt grid.now.shape hand.old.me.0 (place_of key) at }
+    requires call { MayCall grid.now hand.old key at }
     requires key { is_key grid.now.shape key ≡ true }
-    requires idle { IsIdle hand.old.me.0 }
     ensures hand { SameSeat hand.old hand.new }
     ensures clears { Clears T.content T.room grid.now.shape (spots_at grid.now.objects.ptr grid.now.shape (place_of key)) key at.entry.lane most_call_looks
         hand.old.me hand.new.me result.0 result.1 }

@@ -10,6 +10,7 @@ ghost use Rattle.shardpool.specs.AfterCalls.{AfterCreate};
 ghost use Rattle.shardpool.specs.declared.create.CreateFault.TheVariants.{Full, Memory};
 ghost use Rattle.keybits.specs.Counts.{times};
 ghost use Rattle.keybits.specs.Keys.{key_number};
+ghost use Rattle.keybits.specs.Places.{shard_of};
 ghost use Rattle.seqpool.specs.Pool.{with, pool_after};
 ghost use Rattle.poolsteps.specs.Layout.{spots_at};
 ghost use Rattle.poolsteps.specs.Told.{Sees, IsIdle, MayPublish};
@@ -289,10 +290,8 @@ fn fresh_objects<T: Clear + Drop>(alloc: Global, count: u32) -> Option<Vec<Box<T
 }
 
 /// TAKEs of the stacks of the lane's shard, by rising number of the lanes that return to it, up to the first that has
-/// places:
-/// they are then the lane's taken chain. Answers the word that was found there, which leads to the first of them; 0
-/// where
-/// none had places. It makes at most one step for each other lane and no look, and takes no memory.
+/// places: they are then the lane's taken chain. Answers the word that was found there, which leads to the first of
+/// them; 0 where none had places. It makes at most one step for each other lane and no look, and takes no memory.
 pub(crate) fn collect<T: Clear>(grid: &Grid<T>, hand: &mut Hand<T>, lane: u32) -> u64
     requires hand { IsOf grid.now hand.old × IsOne hand.old.me.0 }
     requires lane { (lane ≡ (the_lane hand.old.me.0).lane) × (lane < grid.now.shape.lanes) }
@@ -336,12 +335,13 @@ pub(crate) fn follow<T: Clear + Drop>(
     (link, take_resting(grid, hand, spot, lane))
 }
 
-/// A look at the generation of a place that is with the lane: answers the key under which it may then be published. It
-/// takes no memory.
+/// A look at the generation of a place of the lane's shard that is with it: answers the key under which it may then
+/// be published. It takes no memory.
 pub(crate) fn next_key<T: Clear>(grid: &Grid<T>, hand: &mut Hand<T>, spot: Spot) -> u64
     requires hand { IsOf grid.now hand.old × IsOne hand.old.me.0 }
     requires spot { IsSpot grid.now.shape spot spot.place }
     requires idle { IsIdle hand.old.me.0 }
+    requires own { shard_of spot.place ≡ (the_lane hand.old.me.0).lane }
     requires place { (pool_after grid.now.shape hand.old.me.0.seen spot.place).phase ≡ with (the_lane hand.old.me.0).lane }
     requires unchained { times spot.place (the_lane hand.old.me.0).chain ≡ 0 }
     ensures hand { SameSeat hand.old hand.new }

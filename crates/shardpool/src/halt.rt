@@ -5,7 +5,7 @@ ghost use Rattle.keybits.specs.Keys.{is_key, place_of};
 ghost use Rattle.steplaws.specs.Calls.Call.{Getting, Releasing, Clearing, Creating};
 ghost use Rattle.steplaws.specs.Facts.{most_references};
 ghost use Rattle.poolsteps.specs.Views.{the_lane, status_of, known_of, IsOne};
-ghost use Rattle.poolsteps.specs.Told.{references_seen, IsIdle, HasPlace, LeftAlone, MayLeave, claimed_under};
+ghost use Rattle.poolsteps.specs.Told.{references_seen, HasPlace, LeftAlone, MayLeave, claimed_under};
 ghost use Rattle.shardpool.specs.Halted.{CalledWithin, LeavesWithin, EndsWithin, TailsWithin, GivesWithin, FollowsWithin};
 ghost use Rattle.shardpool.specs.Lanes.{Owns};
 ghost use Rattle.shardpool.specs.Halts.{MayMakeLast, HaltsIn, AreParts};
@@ -15,7 +15,7 @@ ghost use Rattle.steplaws.specs.declared.pending.Pending.TheVariants.{Returns};
 ghost use Rattle.steplaws.specs.StepLaws.{owed_after};
 ghost use Rattle.poolsteps.specs.Grids.{IsSpot, IsOf, SameSeat};
 ghost use Rattle.poolsteps.specs.Returned.{IsAtRest, rest_of};
-ghost use Rattle.shardpool.specs.AtPlace.{IsAt};
+ghost use Rattle.shardpool.specs.AtPlace.{IsAt, MayAct, MayCall};
 ghost use Rattle.shardpool.specs.Called.{IsLawful};
 
 use crate::cell_moves::{rest_cell, take_cell};
@@ -182,11 +182,8 @@ pub(crate) fn get_within<T: Clear + Drop>(
     key: u64,
     limit: u32,
 )
-    requires hand { IsOf grid.now hand.old × IsOne hand.old.me.0 }
-    requires bare { hand.old.me.1 ≡ [] }
-    requires at { IsAt grid.now.shape hand.old.me.0 (place_of key) at }
+    requires call { MayCall grid.now hand.old key at }
     requires key { is_key grid.now.shape key ≡ true }
-    requires idle { IsIdle hand.old.me.0 }
     requires seen { IsLawful grid.now.shape hand.old.me.0 }
     requires room { references_seen grid.now.shape hand.old.me.0 key < most_references }
     ensures hand { SameSeat hand.old hand.new }
@@ -210,10 +207,7 @@ pub(crate) fn release_within<T: Clear + Drop>(
     key: u64,
     limit: u32,
 )
-    requires hand { IsOf grid.now hand.old × IsOne hand.old.me.0 }
-    requires bare { hand.old.me.1 ≡ [] }
-    requires at { IsAt grid.now.shape hand.old.me.0 (place_of key) at }
-    requires idle { IsIdle hand.old.me.0 }
+    requires call { MayCall grid.now hand.old key at }
     requires seen { IsLawful grid.now.shape hand.old.me.0 }
     requires held { 0 < references_seen grid.now.shape hand.old.me.0 key }
     requires share { 0 < limit → status_of (the_lane hand.old.me.0) (place_of key) at.lane ≢ Untouched → 1 < references_seen grid.now.shape hand.old.me.0 key }
@@ -231,11 +225,8 @@ pub(crate) fn clear_within<T: Clear + Drop>(
     key: u64,
     limit: u32,
 )
-    requires hand { IsOf grid.now hand.old × IsOne hand.old.me.0 }
-    requires bare { hand.old.me.1 ≡ [] }
-    requires at { IsAt grid.now.shape hand.old.me.0 (place_of key) at }
+    requires call { MayCall grid.now hand.old key at }
     requires key { is_key grid.now.shape key ≡ true }
-    requires idle { IsIdle hand.old.me.0 }
     requires seen { IsLawful grid.now.shape hand.old.me.0 }
     ensures hand { SameSeat hand.old hand.new }
     ensures called { CalledWithin grid.now.shape (Clearing key) limit hand.old.me hand.new.me }
@@ -299,9 +290,7 @@ pub(crate) fn follow_within<T: Clear>(grid: &Grid<T>, hand: &mut Hand<T>, spot: 
 
 /// LEAVE of a key's place and what follows it, up to so many steps.
 fn leave_within<T: Clear + Drop>(grid: &Grid<T>, hand: &mut Hand<T>, at: At, key: u64, limit: u32)
-    requires hand { IsOf grid.now hand.old × IsOne hand.old.me.0 }
-    requires bare { hand.old.me.1 ≡ [] }
-    requires at { IsAt grid.now.shape hand.old.me.0 (place_of key) at }
+    requires act { MayAct grid.now hand.old (place_of key) at }
     requires may { 0 < limit → MayLeave grid.now.shape hand.old.me.0 key }
     ensures hand { SameSeat hand.old hand.new }
     ensures leaves { LeavesWithin grid.now.shape key limit hand.old.me hand.new.me }
@@ -321,9 +310,7 @@ fn finish_leave_within<T: Clear + Drop>(
     found: u64,
     limit: u32,
 )
-    requires hand { IsOf grid.now hand.old × IsOne hand.old.me.0 }
-    requires bare { hand.old.me.1 ≡ [] }
-    requires at { IsAt grid.now.shape hand.old.me.0 at.spot.place at }
+    requires act { MayAct grid.now hand.old at.spot.place at }
     requires seen { IsLawful grid.now.shape hand.old.me.0 }
     requires owes { (the_lane hand.old.me.0).under ≡ owed_after at.spot.place found }
     ensures hand { SameSeat hand.old hand.new }
@@ -353,9 +340,7 @@ fn reclaim_place_within<T: Clear + Drop>(
     generation: u32,
     limit: u32,
 )
-    requires hand { IsOf grid.now hand.old × IsOne hand.old.me.0 }
-    requires bare { hand.old.me.1 ≡ [] }
-    requires at { IsAt grid.now.shape hand.old.me.0 at.spot.place at }
+    requires act { MayAct grid.now hand.old at.spot.place at }
     requires seen { IsLawful grid.now.shape hand.old.me.0 }
     requires under { (the_lane hand.old.me.0).under ≡ claimed_under grid.now.shape at.lane at.spot.place generation }
     requires place { HasPlace grid.now.shape hand.old.me.0 at.spot.place × LeftAlone grid.now.shape (the_lane hand.old.me.0) at.spot.place }

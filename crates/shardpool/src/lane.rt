@@ -17,6 +17,7 @@ impl<T: Clear> Lane<T> {
     ghost use Rattle.freelists.specs.Queues.{numbers};
     ghost use Rattle.seqpool.specs.Pool.{with, has, NoRepeats, pool_after, IsLegal};
     ghost use Rattle.seqpool.specs.Histories.{acts_of};
+    ghost use Rattle.poolsteps.specs.Owners.{ArePublishedByOwners};
     ghost use Rattle.poolsteps.specs.Views.{the_lane};
     ghost use Rattle.poolsteps.specs.Told.{IsIdle};
     ghost use Rattle.shardpool.specs.Lanes.{AreHeld, IsKept, holds, refs, first_place};
@@ -70,11 +71,12 @@ impl<T: Clear> Lane<T> {
     }
 
     /// As a law: the lane has nothing under way, and what it has seen is a legal history of the pool, with a room
-    /// beside each act, and with just those of the lane's acts that it made. In a pool of one lane it has no other
-    /// acts, so that each reply is that of a pool of one thread, and each key that was cleared and not yet reclaimed
-    /// has a reference.
+    /// beside each act, and with just those of the lane's acts that it made; each publish in it, by any lane, is by the
+    /// owner of the key's shard. In a pool of one lane it has no other acts, so that each reply is that of a pool of one
+    /// thread, and each key that was cleared and not yet reclaimed has a reference.
     pub fn seen_law(&self)
         ensures legal { IsLegal self.now.shape self.now.book.seen }
+        ensures owners { ArePublishedByOwners self.now.book.seen }
         ensures own { (the_lane self.now.book).mine ≡ acts_of self.now.number self.now.book.seen }
         ensures number { ((the_lane self.now.book).lane ≡ self.now.number) × (self.now.number < self.now.shape.lanes) }
         ensures idle { IsIdle self.now.book }

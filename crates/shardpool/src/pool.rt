@@ -10,7 +10,7 @@ ghost use Rattle.shardpool.specs.Rows.{pages_code};
 use crate::closing::HandRow;
 use freelists::{LocalFree, Pages};
 use keybits::{PAGE_NUMBERS, Shape, place_of};
-use poolsteps::{Directory, Grid, Hand, Objects, PageRow, Slot, Spot, page_rows};
+use poolsteps::{BYTES_APART, Directory, Grid, Hand, Objects, PageRow, Slot, Spot, page_rows};
 use slotcell::Clear;
 use std::alloc::Global;
 use std::marker::Model;
@@ -166,9 +166,6 @@ impl Places {
         page.start + place % PAGE_NUMBERS
     }
 }
-
-/// How many bytes stand between what different lanes write: a processor may fetch two lines of 64 bytes together.
-const BYTES_APART: usize = 128;
 
 /// So many bytes, at an end of what a lane writes in each call.
 #[derive(Drop)]

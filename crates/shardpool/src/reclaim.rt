@@ -8,7 +8,7 @@ ghost use Rattle.poolsteps.specs.Views.{the_lane, known_of, IsOne};
 ghost use Rattle.poolsteps.specs.Grids.{IsOf, SameSeat, IsSpot};
 ghost use Rattle.poolsteps.specs.Told.{HasPlace, LeftAlone, claimed_under};
 ghost use Rattle.poolsteps.specs.Spot.{IsAt as StandsIn};
-ghost use Rattle.shardpool.specs.AtPlace.{IsAt};
+ghost use Rattle.shardpool.specs.AtPlace.{IsAt, MayAct};
 ghost use Rattle.shardpool.specs.Called.{EndsWithActs, TailActs, IsLawful, Ends, Tails, IsReclaimed, StandsAt, GivesHome, MadeHome};
 ghost use Rattle.steplaws.specs.declared.pending.Pending.TheVariants.{Returns};
 ghost use Rattle.poolsteps.specs.Returned.{IsAtRest};
@@ -138,9 +138,7 @@ pub(crate) fn finish_leave<T: Clear + Drop>(
     at: At,
     found: u64,
 ) -> Option<Reclaimed<T>>
-    requires hand { IsOf grid.now hand.old × IsOne hand.old.me.0 }
-    requires bare { hand.old.me.1 ≡ [] }
-    requires at { IsAt grid.now.shape hand.old.me.0 at.spot.place at }
+    requires act { MayAct grid.now hand.old at.spot.place at }
     requires seen { IsLawful grid.now.shape hand.old.me.0 }
     requires owes { (the_lane hand.old.me.0).under ≡ owed_after at.spot.place found }
     ensures hand { SameSeat hand.old hand.new }
@@ -177,9 +175,7 @@ pub(crate) fn reclaim_place<T: Clear + Drop>(
     at: At,
     generation: u32,
 ) -> Reclaimed<T>
-    requires hand { IsOf grid.now hand.old × IsOne hand.old.me.0 }
-    requires bare { hand.old.me.1 ≡ [] }
-    requires at { IsAt grid.now.shape hand.old.me.0 at.spot.place at }
+    requires act { MayAct grid.now hand.old at.spot.place at }
     requires under { (the_lane hand.old.me.0).under ≡ claimed_under grid.now.shape at.lane at.spot.place generation }
     requires place { HasPlace grid.now.shape hand.old.me.0 at.spot.place × LeftAlone grid.now.shape (the_lane hand.old.me.0) at.spot.place }
     requires room { (known_of (the_lane hand.old.me.0) at.spot.place).room ≡ room_of hand.old.me.0.seen hand.old.me.0.rooms at.spot.place }

@@ -139,4 +139,4 @@ module _ {T : Type 0} {content : T → List ℕ} {room : T → ℕ} (grid : Grid
 
     -- and the history is the last
     pub ends-history : IsLastHistory (record { table = grid.table.shared.table_id; directory = grid.objects.ptr; shape = grid.shape }) lanes w.history
-    ends-history = last-history ends.stands.rule grid.table.shared.table_id grid.objects.ptr lanes states are parted.count.1 all-ended
+    ends-history = last-history ends.stands.rule grid.table.shared.table_id grid.objects.ptr lanes states are parted.count.1 all-ended ends.stands.owners

@@ -14,6 +14,7 @@ use Rattle.seqpool.specs.Histories.{acts_of}
 use Rattle.steplaws.specs.declared.pending.Pending.TheVariants.{Nothing}
 use Rattle.steplaws.specs.Facts.{Words, Rule, moment}
 use Rattle.steplaws.proofs.Counts.{quiet-law}
+use Rattle.poolsteps.specs.Owners.{ArePublishedByOwners}
 use Rattle.poolsteps.specs.Views.{the_lane}
 use Rattle.poolsteps.specs.Rule.{World, IsRecord}
 use Rattle.shardpool.specs.declared.pool.LaneState.{LaneState}
@@ -86,9 +87,10 @@ module _ {T : Type 0} {content : T → List ℕ} {room : T → ℕ} {z : Shape} 
   }
 
   -- and the history is the last
-  pub last-history : IsLastHistory (record { table = table; directory = directory; shape = z }) lanes w.history
-  last-history = record {
+  pub last-history : ArePublishedByOwners w.history → IsLastHistory (record { table = table; directory = directory; shape = z }) lanes w.history
+  last-history owners = record {
     legal = rule.legal;
+    owners = owners;
     begins = λ index lane at. (state-of index lane at).1.seen;
     own = λ index lane at.
         let e = (state-of index lane at).1 in

@@ -84,7 +84,7 @@ none-yet : (z : Shape) (call : Call) (v : View) {number : ℕ} → FitsSeat z v 
 none-yet z call v seat = record {
   are = tt;
   make = refl;
-  went = none-went z v seat.one (seat.legal, seat.own, seat.quiet);
+  went = none-went z v seat.one (seat.legal, seat.own, seat.quiet, seat.owners);
   stepped = omega arith;
   looked = omega arith;
 }
@@ -141,7 +141,7 @@ same-then u v w first second = (second.0 ∙ first.0, second.1 ∙ first.1, seco
 
 module _ (old new : LaneOf) (seat : FitsSeat old.shape old.book old.number) {call : Call} {steps : List Step} {made : List Act} {looks : ℕ} where
   created : call ≡ creating old → Part old.shape call steps made looks old.book new.book → next_step (caller_of old.shape old.book) call steps ≡ None
-      → SameLane old new → KeepsReferences made → length steps ≤ 64 → looks ≤ 64 → Created made old new
+      → SameLane old new → KeepsReferences made → length steps ≤ 16 → looks ≤ 64 → Created made old new
   created is part all same keeps few least =
       let c : Caller = caller_of old.shape old.book in
       let went = part.went in record {
@@ -229,7 +229,7 @@ module _ {T : Type 0} (content : T → List ℕ) (room : T → ℕ) where
   -- with a look at the generation of a place that nobody has, a create gives it
   gives : (old mid new : LaneOf) {place looks : ℕ} {object : T} {filling : FillingOf T} {call : Call} {steps : List Step} {made : List Act} → FitsSeat old.shape old.book old.number
       → call ≡ creating old → Part old.shape call steps made looks old.book mid.book → next_step (caller_of old.shape old.book) call steps ≡ None
-      → SameLane old mid → KeepsReferences made → length steps ≤ 64 → looks < 64 → IsLoose content room mid place object → Fills mid new place object filling
+      → SameLane old mid → KeepsReferences made → length steps ≤ 16 → looks < 64 → IsLoose content room mid place object → Fills mid new place object filling
       → HandsOut place made old new → (IsFilling old place → ⊥) → Gives content room old new filling
   gives old mid new {place = place} {object = object} {filling = filling} {made = made} seat is part all same keeps few least loose fills hands unfilled =
       let sees : Sees {S = Unit {0}} old.shape (mid.book, []) (new.book, [])

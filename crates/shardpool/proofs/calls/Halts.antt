@@ -127,7 +127,7 @@ ready-parts {content = content} {room = room} {hand = hand} {s = s} {key = key} 
 pub lawful-parts : {T : Type 0} {content : T → List ℕ} {room : T → ℕ} {view pool : PoolOf} {hand : Seat (Option (Share T)) View} {s : LaneState T} → view ≡ pool
     → AreParts content room pool hand s → IsLawful view.shape hand.me.0
 lawful-parts {hand = hand} of_pool parts =
-    let seat = parts.fits.seat in subst (λ (p : PoolOf). IsLawful p.shape hand.me.0) (sym of_pool) (seat.legal, seat.own, seat.quiet)
+    let seat = parts.fits.seat in subst (λ (p : PoolOf). IsLawful p.shape hand.me.0) (sym of_pool) (seat.legal, seat.own, seat.quiet, seat.owners)
 
 -- the parts of a lane that refers to a key
 pub refers-parts : {T : Type 0} {content : T → List ℕ} {room : T → ℕ} {view pool : PoolOf} {hand : Seat (Option (Share T)) View} {s : LaneState T} {key : ℕ} → view ≡ pool

@@ -30,6 +30,7 @@ use Rattle.poolsteps.specs.Grids.{IsFirstHand, AreFirstHands}
 use Rattle.atomic_table.specs.declared.shared.Seat.{Seat}
 use Rattle.poolsteps.specs.Share.{Share}
 use Rattle.poolsteps.proofs.ViewLemmas.{entry-of}
+use Rattle.poolsteps.proofs.Owning.{owners-none}
 use Rattle.shardpool.specs.Tokens.{PoolOf, LaneOf}
 use Rattle.shardpool.specs.Opened.{first_book, IsFirstLane, AreFirstLanes, IsFirstState, AreFirstParts}
 use Rattle.shardpool.specs.Rows.{AreStanding}
@@ -56,7 +57,7 @@ repeated-at n at a low =
 
 -- the seat, the last_pushed, the rows and the stores of the first view
 first-seat : (z : Shape) (lane : ℕ) → IsShape z → lane < z.lanes → FitsSeat z (first_book lane) lane
-first-seat z lane shape below = record { shape = shape; one = refl; number_is = refl; below = below; idle = refl; legal = tt; quiet = λ one idle place inside marked. absurd (cc marked); own = refl; paired = refl; alone = λ place inside other. refl }
+first-seat z lane shape below = record { shape = shape; one = refl; number_is = refl; below = below; idle = refl; legal = tt; owners = owners-none; quiet = λ one idle place inside marked. absurd (cc marked); own = refl; paired = refl; alone = λ place inside other. refl }
 
 first-last_pushed : (z : Shape) (lane : ℕ) → FitsTops z (first_book lane) (replicate z.lanes 0)
 first-last_pushed z lane = record { wide = length-replicate z.lanes 0; each = λ shard below. get_or-replicate z.lanes shard 0 0 below }

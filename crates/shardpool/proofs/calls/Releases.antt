@@ -63,7 +63,7 @@ use Rattle.shardpool.proofs.frame.LaneFacts.{lane_of, made-passes, did-lane}
 
 -- a lane that did nothing
 seat-nothing : {S : Type 0} {z : Shape} {a : Me S View} {n : ℕ} (place looks : ℕ) → FitsSeat z a.0 n → DidSo z place [] 0 looks a a
-seat-nothing place looks seat = did-most (did-nothing seat.one (seat.legal, seat.own, seat.quiet)) (omega arith)
+seat-nothing place looks seat = did-most (did-nothing seat.one (seat.legal, seat.own, seat.quiet, seat.owners)) (omega arith)
 
 -- the places of the touched slots
 touched-else : {T : Type 0} (place : ℕ) (reclaimed : Option (Reclaimed T)) (p : ℕ) → p ≢ place → touched_by place reclaimed p ≡ false

@@ -38,6 +38,7 @@ seat-passes {z = z} {made = made} {v = v} {n = n} seat passes idle alone = recor
   below = seat.below;
   idle = idle;
   legal = passes.acted.legal;
+  owners = passes.acted.owners;
   quiet = passes.acted.quiet;
   own = passes.acted.own;
   paired = let rooms = passes.acted.rooms in ap (λ (xs : List ℕ). length xs) rooms.1
@@ -133,6 +134,7 @@ module _ {z : Shape} {at : ℕ → Bool} {made : List Act} {v w : View} (passes 
       → times (place_of key) (the_lane w).chain ≡ 0 → MayPublish z w key
   may-passes {key} may kept idle unchained = record {
     idle = idle;
+    own = may.own ∙ sym passes.acted.lane;
     current = ap (λ (s : Spot). is_key z key && (s.generation == generation_of key)) (spot-passes passes.acted paired own (place_of key) may.with_lane kept).0 ∙ may.current;
     with_lane = still-with passes.acted paired own (place_of key) may.with_lane kept;
     unchained = unchained;

@@ -26,6 +26,7 @@ none-acted {v = v} one seen = record {
   seen = prefix-self v.seen;
   rooms = ([], sym (append-nil v.rooms), omega arith);
   legal = seen.0;
+  owners = seen.3;
   quiet = seen.2;
   own = seen.1;
 }
@@ -45,6 +46,7 @@ acted-goes {a = a} {b = b} {made = made} {rooms = rooms} {r = r} goes even lane 
       seen = (goes.between ++ made, sym (goes.seen ∙ append_assoc a.seen goes.between made));
       rooms = (goes.rooms_between ++ rooms, goes.rooms ∙ append_assoc a.rooms goes.rooms_between rooms, omega arith);
       legal = goes.legal;
+      owners = goes.owners;
       quiet = goes.quiet;
       own = subst (λ (x : LaneRecord). x.mine ≡ acts_of x.lane b.seen) (sym now) goes.mine;
     }
@@ -65,6 +67,7 @@ acted-more {made = made} {more = more} {a = a} {b = b} {c = c} first second =
         omega arith,
       );
       legal = second.legal;
+      owners = second.owners;
       quiet = second.quiet;
       own = second.own;
     }

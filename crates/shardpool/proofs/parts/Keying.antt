@@ -3,6 +3,7 @@ use Rattle.std.proofs.Common.{◌≡◌, ⊎_elim, ℕ, ◌<◌, ◌≤◌, true
 use Rattle.std.proofs.lemmas.Bool.{cases_Bool, ltb-true, ltb-false}
 use Rattle.atomic_table.specs.Table.{Me}
 use Rattle.keybits.specs.declared.shape.Shape.{Shape}
+use Rattle.keybits.specs.Places.{shard_of}
 use Rattle.keybits.specs.Shapes.{IsShape, is_place}
 use Rattle.keybits.specs.Keys.{key_number, place_of, generation_of, tag_of, is_key}
 use Rattle.keybits.specs.Counts.{times}
@@ -36,8 +37,8 @@ seen-high z ok v place inside fits = ⊎_elim
 -- after the look the lane may publish the place under that key
 pub look-may : {S : Type 0} {z : Shape} {a b : Me S View} → Sees z a b → IsShape z → (place generation key : ℕ) → is_place z place ≡ true
     → generation ≡ (pool_after z b.0.seen place).generation → generation < 4294967296 → key ≡ key_number z.tag place generation
-    → IsIdle a.0 → (pool_after z a.0.seen place).phase ≡ with (the_lane a.0).lane → times place (the_lane a.0).chain ≡ 0 → MayPublish z b.0 key
-look-may {z = z} {a = a} {b = b} sees ok place generation key inside is fits number idle is_with unchained =
+    → IsIdle a.0 → shard_of place ≡ (the_lane a.0).lane → (pool_after z a.0.seen place).phase ≡ with (the_lane a.0).lane → times place (the_lane a.0).chain ≡ 0 → MayPublish z b.0 key
+look-may {z = z} {a = a} {b = b} sees ok place generation key inside is fits number idle own is_with unchained =
     let now : the_lane b.0 ≡ the_lane a.0 = ap head_record sees.goes.lanes in
     let small : place < 16777216 = (place_bounds z ok place inside).number in
     let low : 1 ≤ generation = subst (λ (g : ℕ). 1 ≤ g) (sym is) (seen-low z b.0 place sees.goes.legal) in
@@ -49,6 +50,7 @@ look-may {z = z} {a = a} {b = b} sees ok place generation key inside is fits num
     let is_one : is_key z key ≡ true = is_key-from_parts z key of_tag (ap (is_place z) at ∙ inside)
     (subst (λ (g : ℕ). 1 ≤ g) (sym of) low) (subst (λ (g : ℕ). g ≤ z.last_generation) (sym of) high) in record {
       idle = ap (λ (r : LaneRecord). r.under) now ∙ idle;
+      own = ap shard_of at ∙ (own ∙ ap (λ (r : LaneRecord). r.lane) (sym now));
       current = current-from z (pool_after z b.0.seen) key is_one (ap (λ (p : ℕ). (pool_after z b.0.seen p).generation) at ∙ (sym is ∙ sym of));
       with_lane = ap (λ (p : ℕ). (pool_after z b.0.seen p).phase) at ∙ ((still-with sees.goes refl place is_with).0 ∙ ap (λ (r : LaneRecord). with r.lane) (sym now));
       unchained = ap (λ (p : ℕ). times p (the_lane b.0).chain) at ∙ (ap (λ (r : LaneRecord). times place r.chain) now ∙ unchained);

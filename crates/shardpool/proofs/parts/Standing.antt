@@ -66,7 +66,7 @@ at-same {place = place} lane pushed is = record {
 
 -- what the lane saw after its acts is lawful
 pub lawful : {z : Shape} {made : List Act} {v w : View} → Acted z made v w → IsLawful z w
-lawful acted = (acted.legal, acted.own, acted.quiet)
+lawful acted = (acted.legal, acted.own, acted.quiet, acted.owners)
 
 -- the lane left a key's place: it pushed nothing, and owes what the word says that it found
 pub record HasLeft {S : Type 0} (z : Shape) (key found : ℕ) (a b : Me S View) : Type 0 where

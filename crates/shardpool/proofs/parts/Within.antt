@@ -53,7 +53,7 @@ within-none {z = z} {place = place} {a = a} done limit one seen last = record {
 -- nor is one made after others, where the limit is 0
 pub within-after : {S : Type 0} {z : Shape} {place other s l : ℕ} {made : List Act} {a b : Me S View} (done : List Step) → Did z other made s l a b
     → GoesWithin z place done 0 b b
-within-after done did = within-stop done did.acted.one (did.acted.legal, did.acted.own, did.acted.quiet)
+within-after done did = within-stop done did.acted.one (did.acted.legal, did.acted.own, did.acted.quiet, did.acted.owners)
 
 module _ {S : Type 0} {z : Shape} {place more l : ℕ} {a b c : Me S View} (done : List Step) where
   -- steps in front

@@ -22,6 +22,6 @@ publish-found-requires-clause-may g c =
     let before : View = c.args.hand.now.me.0 in
     let between : View = c.back.new.hand.me.0 in
     let first : MayPublish z before KEY = subst (λ (me : Me (Option (Share g.row.T.Denot)) View). MayPublish z me.0 KEY) (sym c.requires.hand.1)
-    (subst (λ (z : Shape). MayPublish z _ KEY) (sym c.requires.shape) record { idle = refl; current = refl; with_lane = refl; unchained = refl }) in
+    (subst (λ (z : Shape). MayPublish z _ KEY) (sym c.requires.shape) record { idle = refl; own = refl; current = refl; with_lane = refl; unchained = refl }) in
     c.shares_law.ensures.fills z between c.back-2.new.hand.me.0 _ KEY c.back-2.ensures.backs.goes refl refl refl
     (c.shares_law.ensures.fills z before between _ KEY c.back.ensures.backs.goes refl refl refl first)

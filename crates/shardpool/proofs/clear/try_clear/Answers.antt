@@ -4,34 +4,33 @@ use Rattle.poolsteps.specs.AtOnce.{unreferred}
 use Rattle.poolsteps.specs.Layout.{spots_at}
 use Rattle.shardpool.specs.Called.{Tails, TailActs, IsReclaimed, StandsAt}
 use Rattle.shardpool.proofs.parts.Standing.{at-own, at-same}
-use Rattle.shardpool.proofs.parts.AtOnce.{called-most, called-looked, owes-low, referred-so, missed-called, missed-acts, struck-called, struck-looked, swept-held, swept-lane, swept-under, swept-pushed, swept-called, swept-acts}
+use Rattle.shardpool.proofs.parts.AtOnce.{called-most, called-looked, owes-low, referred-so, missed-called, missed-acts, struck-called, struck-looked, swept, swept-held, swept-lane, swept-under, swept-pushed, swept-called, swept-acts}
 use Rattle.shardpool.proofs.clear.try_clear.Goals as goal
 
 -- ---- the SWEEP found what it expects
 
-pub reclaim_place-reclaimed-requires-clause-bare : goal.reclaim_place-reclaimed-requires-clause-bare
-reclaim_place-reclaimed-requires-clause-bare g c =
-    let first = c.unreferred.ensures ∙ ap unreferred c.generation_of-generation.ensures in
-    swept-held c.requires.key (c.sweep-found.ensures.sweeps.0 (c.if-found-unreferred.true ∙ first)) ∙ c.requires.bare
-
-pub reclaim_place-reclaimed-requires-clause-at : goal.reclaim_place-reclaimed-requires-clause-at
-reclaim_place-reclaimed-requires-clause-at g c =
+pub reclaim_place-reclaimed-requires-clause-act : goal.reclaim_place-reclaimed-requires-clause-act
+reclaim_place-reclaimed-requires-clause-act g c =
     let first = c.unreferred.ensures ∙ ap unreferred c.generation_of-generation.ensures in
     let sweeps = c.sweep-found.ensures.sweeps.0 (c.if-found-unreferred.true ∙ first) in
-    at-own (at-same (swept-lane c.requires.key sweeps) (swept-pushed c.requires.key sweeps) c.requires.at)
+    record {
+      hand = (c.sweep-found.ensures.hand.0 ∙ c.requires.call.act.hand.0, (swept c.requires.key sweeps).acted.one);
+      bare = swept-held c.requires.key sweeps ∙ c.requires.call.act.bare;
+      at = at-own (at-same (swept-lane c.requires.key sweeps) (swept-pushed c.requires.key sweeps) c.requires.call.act.at);
+    }
 
 pub reclaim_place-reclaimed-requires-clause-under : goal.reclaim_place-reclaimed-requires-clause-under
 reclaim_place-reclaimed-requires-clause-under g c =
     let first = c.unreferred.ensures ∙ ap unreferred c.generation_of-generation.ensures in
     let sweeps = c.sweep-found.ensures.sweeps.0 (c.if-found-unreferred.true ∙ first) in
-    rw (c.requires.at.lane, c.requires.at.spot.place_is, c.generation_of-generation.ensures) (swept-under c.requires.key sweeps)
+    rw (c.requires.call.act.at.lane, c.requires.call.act.at.spot.place_is, c.generation_of-generation.ensures) (swept-under c.requires.key sweeps)
 
 pub returns-then-found-unreferred-clause-clears : goal.returns-then-found-unreferred-clause-clears
 returns-then-found-unreferred-clause-clears g c =
     let z = c.args.grid.now.shape in
     let b = c.sweep-found.new.hand.me in
     let d = c.reclaim_place-reclaimed.new.hand.me in
-    let place_is = c.requires.at.spot.place_is in
+    let place_is = c.requires.call.act.at.spot.place_is in
     let of = c.generation_of-generation.ensures in
     let ends = c.reclaim_place-reclaimed.ensures in
     let sweeps = c.sweep-found.ensures.sweeps.0 (c.if-found-unreferred.true ∙ (c.unreferred.ensures ∙ ap unreferred of)) in
@@ -42,7 +41,7 @@ returns-then-found-unreferred-clause-clears g c =
     (subst (λ (n : ℕ). TailActs z c.args.at.spot.place n b.0 d.0 c.reclaim_place-reclaimed.result) of ends.acts) in
     record {
       called = called-most (swept-called c.requires.key sweeps tails) (omega arith);
-      acts = rw c.requires.at.lane (swept-acts c.requires.key sweeps c.reclaim_place-reclaimed.result tails made);
+      acts = rw c.requires.call.act.at.lane (swept-acts c.requires.key sweeps c.reclaim_place-reclaimed.result tails made);
       told = subst (λ (p : ℕ). IsReclaimed g.T.Clear.content g.T.Clear.room z p c.args.at.lane d.0 c.reclaim_place-reclaimed.result) place_is ends.reclaimed;
       at = subst (λ (p : ℕ). StandsAt (spots_at c.args.grid.now.objects.ptr z p) (Some c.reclaim_place-reclaimed.result)) place_is ends.at;
     }
@@ -59,7 +58,7 @@ returns-then-strike-found-clause-clears g c =
     let strikes = c.strike.ensures.strikes.0 c.if-strike-found.true in
     record {
       called = called-looked looked (struck-called c.requires.key hit some strikes) (omega arith);
-      acts = rw c.requires.at.lane (struck-looked c.requires.key hit some strikes looked g.row.T.Denot);
+      acts = rw c.requires.call.act.at.lane (struck-looked c.requires.key hit some strikes looked g.row.T.Denot);
       told = tt;
       at = tt;
     }
@@ -73,7 +72,7 @@ returns-clause-clears g c =
     let misses = c.sweep-found.ensures.sweeps.1 miss none in
     record {
       called = called-most (missed-called c.requires.key miss none misses) (omega arith);
-      acts = rw c.requires.at.lane (missed-acts c.requires.key miss none misses g.row.T.Denot);
+      acts = rw c.requires.call.act.at.lane (missed-acts c.requires.key miss none misses g.row.T.Denot);
       told = tt;
       at = tt;
     }

@@ -20,4 +20,4 @@ returns-clause-may g c =
     look-may c.generation-generation.ensures.sees c.args.grid.now.checked c.args.spot.place c.generation-generation.result c.number.result c.requires.spot.inside
     c.generation-generation.ensures.generation c.generation-generation.type_inv
     (c.number.ensures.number ∙ (c.in-Some.ensures.number ∙ ap (λ (p : ℕ). key_number c.args.grid.now.shape.tag p c.generation-generation.result) c.of_number-place.ensures.numbered))
-    c.requires.idle c.requires.place c.requires.unchained
+    c.requires.idle c.requires.own c.requires.place c.requires.unchained

@@ -12,7 +12,7 @@ use Rattle.shardpool.proofs.parts.Standing.{at-same}
 use Rattle.shardpool.proofs.halt.clear_within.Goals as goal
 
 pub returns-then-limit-eq0-clause-called : goal.returns-then-limit-eq0-clause-called
-returns-then-limit-eq0-clause-called g c = called-not (Clearing c.args.key) c.args.limit c.if-limit-eq0.true c.requires.hand.1 c.requires.seen
+returns-then-limit-eq0-clause-called g c = called-not (Clearing c.args.key) c.args.limit c.if-limit-eq0.true c.requires.call.act.hand.1 c.requires.seen
 
 pub returns-then-not-is_hit-clause-called : goal.returns-then-not-is_hit-clause-called
 returns-then-not-is_hit-clause-called g c =
@@ -44,7 +44,7 @@ returns-then-limit-eq0-clause-hand g c = (refl, refl)
 
 pub enter-found-requires : goal.enter-found-requires
 enter-found-requires g c =
-    record { hand = c.requires.hand; spot = c.requires.at.spot; key = c.requires.key; idle = c.requires.idle; room = λ get. absurd (cc get) }
+    record { hand = c.requires.call.act.hand; spot = c.requires.call.act.at.spot; key = c.requires.key; idle = c.requires.call.idle; room = λ get. absurd (cc get) }
 
 pub leave_within-requires : goal.leave_within-requires
 leave_within-requires g c =
@@ -54,9 +54,11 @@ leave_within-requires g c =
     (acts.Clear (the_lane c.args.hand.now.me.0).lane c.args.key false ∷ []) c.args.hand.now.me c.enter-found.new.hand.me
     = clear-missed c.requires.key enters miss in
     record {
-      hand = (c.enter-found.ensures.hand.0 ∙ c.requires.hand.0, missed.did.acted.one);
-      bare = missed.did.held ∙ c.requires.bare;
-      at = at-same missed.did.acted.lane missed.pushed c.requires.at;
+      act = record {
+        hand = (c.enter-found.ensures.hand.0 ∙ c.requires.call.act.hand.0, missed.did.acted.one);
+        bare = missed.did.held ∙ c.requires.call.act.bare;
+        at = at-same missed.did.acted.lane missed.pushed c.requires.call.act.at;
+      };
       may = λ _. inr (false, life-under (enters.1 miss));
     }
 
@@ -73,8 +75,8 @@ mark-requires g c =
     let entered : Opens c.args.grid.now.shape (Clearing c.args.key) (enter-step c.args.key c.enter-found.result ∷ []) [] c.args.hand.now.me c.enter-found.new.hand.me
     = clear-entered c.requires.key c.enter-found.ensures.enters hit in
     record {
-      hand = (c.enter-found.ensures.hand.0 ∙ c.requires.hand.0, entered.did.acted.one);
-      spot = c.requires.at.spot;
+      hand = (c.enter-found.ensures.hand.0 ∙ c.requires.call.act.hand.0, entered.did.acted.one);
+      spot = c.requires.call.act.at.spot;
       under = life-under (c.enter-found.ensures.enters.0 hit);
     }
 
@@ -86,9 +88,11 @@ leave_within-requires-2 g c =
     (acts.Clear (the_lane c.args.hand.now.me.0).lane key (state_in c.mark.result == 1) ∷ []) c.args.hand.now.me c.mark.new.hand.me
     = clear-marked (clear-entered c.requires.key c.enter-found.ensures.enters hit) hit c.mark.ensures.marks in
     record {
-      hand = (c.mark.ensures.hand.0 ∙ (c.enter-found.ensures.hand.0 ∙ c.requires.hand.0), marked.did.acted.one);
-      bare = marked.did.held ∙ c.requires.bare;
-      at = at-same marked.did.acted.lane marked.pushed c.requires.at;
+      act = record {
+        hand = (c.mark.ensures.hand.0 ∙ (c.enter-found.ensures.hand.0 ∙ c.requires.call.act.hand.0), marked.did.acted.one);
+        bare = marked.did.held ∙ c.requires.call.act.bare;
+        at = at-same marked.did.acted.lane marked.pushed c.requires.call.act.at;
+      };
       may = λ _. inr (true, life-under c.mark.ensures.marks);
     }
 

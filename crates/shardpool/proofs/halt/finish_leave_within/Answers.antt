@@ -5,10 +5,10 @@ use Rattle.shardpool.proofs.parts.Standing.{HasClaimed, has-claimed, at-same, la
 use Rattle.shardpool.proofs.halt.finish_leave_within.Goals as goal
 
 pub returns-then-limit-eq0-clause-ends : goal.returns-then-limit-eq0-clause-ends
-returns-then-limit-eq0-clause-ends g c = settles-not c.args.limit c.requires.hand.1 c.requires.seen c.if-limit-eq0.true
+returns-then-limit-eq0-clause-ends g c = settles-not c.args.limit c.requires.act.hand.1 c.requires.seen c.if-limit-eq0.true
 
 pub returns-in_default-clause-ends : goal.returns-in_default-clause-ends
-returns-in_default-clause-ends g c = settles-none c.args.limit c.requires.hand.1 c.requires.seen (owes-none c.args.found c.owed_by.ensures c.in_default.is)
+returns-in_default-clause-ends g c = settles-none c.args.limit c.requires.act.hand.1 c.requires.seen (owes-none c.args.found c.owed_by.ensures c.in_default.is)
 
 pub returns-then-word-claimable-clause-ends : goal.returns-then-word-claimable-clause-ends
 returns-then-word-claimable-clause-ends g c =
@@ -38,7 +38,7 @@ returns-in_default-clause-hand g c = (refl, refl)
 pub claim-word-requires : goal.claim-word-requires
 claim-word-requires g c =
     let owed = owes-some c.args.found c.owed_by.ensures c.in-Some.generation c.in-Some.is in
-    record { hand = c.requires.hand; spot = c.requires.at.spot; owes = owes-now c.args.hand.now.me.0 c.args.at.spot.place c.args.found c.in-Some.generation c.requires.owes owed.0 owed.1 }
+    record { hand = c.requires.act.hand; spot = c.requires.act.at.spot; owes = owes-now c.args.hand.now.me.0 c.args.at.spot.place c.args.found c.in-Some.generation c.requires.owes owed.0 owed.1 }
 
 pub returns-then-word-claimable-clause-hand : goal.returns-then-word-claimable-clause-hand
 returns-then-word-claimable-clause-hand g c = c.claim-word.ensures.hand
@@ -49,11 +49,13 @@ reclaim_place_within-requires g c =
     = has-claimed c.claim-word.ensures.claims (c.if-word-claimable.false ∙ c.claimable.ensures) in
     let more = c.if-limit-gt1.true in
     record {
-      hand = (c.claim-word.ensures.hand.0 ∙ c.requires.hand.0, claimed.acted.one);
-      bare = claimed.held ∙ c.requires.bare;
-      at = at-same claimed.acted.lane claimed.pushed c.requires.at;
+      act = record {
+        hand = (c.claim-word.ensures.hand.0 ∙ c.requires.act.hand.0, claimed.acted.one);
+        bare = claimed.held ∙ c.requires.act.bare;
+        at = at-same claimed.acted.lane claimed.pushed c.requires.act.at;
+      };
       seen = lawful {made = claimed.made} claimed.acted;
-      under = rw c.requires.at.lane claimed.under;
+      under = rw c.requires.act.at.lane claimed.under;
       place = claimed.place_has;
       room = claimed.room;
       some = omega (arith, more);

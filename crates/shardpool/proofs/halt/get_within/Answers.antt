@@ -10,7 +10,7 @@ use Rattle.shardpool.proofs.parts.Standing.{at-same}
 use Rattle.shardpool.proofs.halt.get_within.Goals as goal
 
 pub returns-then-limit-eq0-clause-called : goal.returns-then-limit-eq0-clause-called
-returns-then-limit-eq0-clause-called g c = called-not (Getting c.args.key) c.args.limit c.if-limit-eq0.true c.requires.hand.1 c.requires.seen
+returns-then-limit-eq0-clause-called g c = called-not (Getting c.args.key) c.args.limit c.if-limit-eq0.true c.requires.call.act.hand.1 c.requires.seen
 
 pub returns-then-not-is_hit-clause-called : goal.returns-then-not-is_hit-clause-called
 returns-then-not-is_hit-clause-called g c =
@@ -33,7 +33,7 @@ returns-then-limit-eq0-clause-hand g c = (refl, refl)
 
 pub enter-found-requires : goal.enter-found-requires
 enter-found-requires g c =
-    record { hand = c.requires.hand; spot = c.requires.at.spot; key = c.requires.key; idle = c.requires.idle; room = λ _. c.requires.room }
+    record { hand = c.requires.call.act.hand; spot = c.requires.call.act.at.spot; key = c.requires.key; idle = c.requires.call.idle; room = λ _. c.requires.room }
 
 pub leave_within-requires : goal.leave_within-requires
 leave_within-requires g c =
@@ -43,9 +43,11 @@ leave_within-requires g c =
     (acts.Get (the_lane c.args.hand.now.me.0).lane c.args.key None ∷ []) c.args.hand.now.me c.enter-found.new.hand.me
     = get-missed c.requires.key enters miss in
     record {
-      hand = (c.enter-found.ensures.hand.0 ∙ c.requires.hand.0, missed.did.acted.one);
-      bare = missed.did.held ∙ c.requires.bare;
-      at = at-same missed.did.acted.lane missed.pushed c.requires.at;
+      act = record {
+        hand = (c.enter-found.ensures.hand.0 ∙ c.requires.call.act.hand.0, missed.did.acted.one);
+        bare = missed.did.held ∙ c.requires.call.act.bare;
+        at = at-same missed.did.acted.lane missed.pushed c.requires.call.act.at;
+      };
       may = λ _. inr (false, life-under (enters.1 miss));
     }
 

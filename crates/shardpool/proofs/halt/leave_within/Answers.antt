@@ -7,7 +7,7 @@ pub returns-then-limit-eq0-clause-leaves : goal.returns-then-limit-eq0-clause-le
 returns-then-limit-eq0-clause-leaves g c = inl (c.if-limit-eq0.true, refl)
 
 pub leave-found-requires : goal.leave-found-requires
-leave-found-requires g c = let some = c.if-limit-eq0.false in record { hand = c.requires.hand; spot = c.requires.at.spot; may = c.requires.may (omega (arith, some)) }
+leave-found-requires g c = let some = c.if-limit-eq0.false in record { hand = c.requires.act.hand; spot = c.requires.act.at.spot; may = c.requires.may (omega (arith, some)) }
 
 pub finish_leave_within-requires : goal.finish_leave_within-requires
 finish_leave_within-requires g c =
@@ -16,11 +16,13 @@ finish_leave_within-requires g c =
     let left : HasLeft c.args.grid.now.shape c.args.key c.leave-found.result c.args.hand.now.me c.leave-found.new.hand.me
     = has-left (c.requires.may (omega (arith, some))) leave.leaves in
     record {
-      hand = (leave.hand.0 ∙ c.requires.hand.0, left.acted.one);
-      bare = left.held ∙ c.requires.bare;
-      at = left-at left c.requires.at;
+      act = record {
+        hand = (leave.hand.0 ∙ c.requires.act.hand.0, left.acted.one);
+        bare = left.held ∙ c.requires.act.bare;
+        at = left-at left c.requires.act.at;
+      };
       seen = lawful {made = left.made} left.acted;
-      owes = left-owes left c.requires.at;
+      owes = left-owes left c.requires.act.at;
     }
 
 pub returns-clause-hand : goal.returns-clause-hand
@@ -35,5 +37,5 @@ returns-clause-leaves g c =
       omega (arith, some),
       c.leave-found.ensures.leaves,
       subst (λ (place : ℕ). EndsWithin c.args.grid.now.shape place c.leave-found.result (c.args.limit - 1) c.leave-found.new.hand.me c.finish_leave_within.new.hand.me)
-          c.requires.at.spot.place_is c.finish_leave_within.ensures.ends,
+          c.requires.act.at.spot.place_is c.finish_leave_within.ensures.ends,
     )

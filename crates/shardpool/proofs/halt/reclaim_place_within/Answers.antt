@@ -14,11 +14,11 @@ pub returns-then-generation-grid-clause-tails : goal.returns-then-generation-gri
 returns-then-generation-grid-clause-tails g c leave claim is claimed =
     let caller = caller_of c.args.grid.now.shape c.args.hand.now.me.0 in
     let place : ℕ = c.args.at.spot.place in
-    within-none (leave ∷ claim ∷ []) c.args.limit c.requires.hand.1 c.requires.seen
+    within-none (leave ∷ claim ∷ []) c.args.limit c.requires.act.hand.1 c.requires.seen
     (elim c.then-generation-grid.branch [
       | then-generation-grid-via-then-generation-grid w ↦ ends-at-last caller place leave claim (is ∙ w.if-generation-grid.true)
       | then-generation-grid-via-else-generation-grid+then-shard_of-at w ↦
-          ends-at-own caller place leave claim (sym w.shard_of.ensures ∙ (w.if-shard_of-at.true ∙ c.requires.at.lane))
+          ends-at-own caller place leave claim (sym w.shard_of.ensures ∙ (w.if-shard_of-at.true ∙ c.requires.act.at.lane))
     ])
 
 pub give_home_within-requires-clause-rests : goal.give_home_within-requires-clause-rests
@@ -45,21 +45,21 @@ returns-clause-tails g c leave claim is claimed =
     let lane_is = rests.elsewhere.lane ∙ took.elsewhere.lane in
     within-moves (leave ∷ claim ∷ []) (caller-still rests ∙ caller-still took) (did-carries (carries-more took rests) few)
     (c.give_home_within.ensures.gives leave claim (ap (λ n. is_claimed n claim.before) is ∙ claimed) (λ last. c.if-generation-grid.false (sym is ∙ last))
-    (λ own. c.if-shard_of-at.false (c.shard_of.ensures ∙ (own ∙ (lane_is ∙ sym c.requires.at.lane)))))
+    (λ own. c.if-shard_of-at.false (c.shard_of.ensures ∙ (own ∙ (lane_is ∙ sym c.requires.act.at.lane)))))
 
 pub returns-then-generation-grid-clause-hand : goal.returns-then-generation-grid-clause-hand
 returns-then-generation-grid-clause-hand g c = (refl, refl)
 
 pub take_cell-whole-requires : goal.take_cell-whole-requires
 take_cell-whole-requires g c =
-    record { hand = c.requires.hand; bare = c.requires.bare; spot = c.requires.at.spot; lane = c.requires.at.below; place = c.requires.place.0; slots = c.requires.place.1 }
+    record { hand = c.requires.act.hand; bare = c.requires.act.bare; spot = c.requires.act.at.spot; lane = c.requires.act.at.below; place = c.requires.place.0; slots = c.requires.place.1 }
 
 pub rest_cell-requires : goal.rest_cell-requires
 rest_cell-requires g c =
     let took = c.take_cell-whole.ensures in record {
-      hand = (took.hand.0.0 ∙ c.requires.hand.0, took.hand.1);
-      spot = c.requires.at.spot;
-      lane = c.requires.at.below;
+      hand = (took.hand.0.0 ∙ c.requires.act.hand.0, took.hand.1);
+      spot = c.requires.act.at.spot;
+      lane = c.requires.act.at.below;
       place = carried-place took.carries c.shares_law.ensures.stays c.args.at.spot.place c.requires.place.0;
       slots = took.slots;
       at = took.cell.2;
@@ -67,12 +67,12 @@ rest_cell-requires g c =
 
 pub give_home_within-requires-clause-hand : goal.give_home_within-requires-clause-hand
 give_home_within-requires-clause-hand g c =
-    let took = c.take_cell-whole.ensures.hand in let rests = c.rest_cell.ensures.hand in (rests.0.0 ∙ (took.0.0 ∙ c.requires.hand.0), rests.1)
+    let took = c.take_cell-whole.ensures.hand in let rests = c.rest_cell.ensures.hand in (rests.0.0 ∙ (took.0.0 ∙ c.requires.act.hand.0), rests.1)
 
 pub give_home_within-requires-clause-at : goal.give_home_within-requires-clause-at
 give_home_within-requires-clause-at g c =
     let took = c.take_cell-whole.ensures.carries.elsewhere in
-    let rests = c.rest_cell.ensures.carries.elsewhere in at-same (rests.lane ∙ took.lane) (rests.pushed ∙ took.pushed) c.requires.at
+    let rests = c.rest_cell.ensures.carries.elsewhere in at-same (rests.lane ∙ took.lane) (rests.pushed ∙ took.pushed) c.requires.act.at
 
 pub give_home_within-requires-clause-returns : goal.give_home_within-requires-clause-returns
 give_home_within-requires-clause-returns g c =
@@ -97,4 +97,4 @@ returns-clause-hand g c =
     let last = c.give_home_within.ensures.hand in (last.0 ∙ (rests.0 ∙ took.0), last.1 ∙ (rests.1 ∙ took.1))
 
 pub get_mut-requires : goal.get_mut-requires
-get_mut-requires g c = stands-in c.requires.at.spot c.take_cell-whole.ensures.cell.2
+get_mut-requires g c = stands-in c.requires.act.at.spot c.take_cell-whole.ensures.cell.2

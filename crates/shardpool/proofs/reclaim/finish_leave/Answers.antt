@@ -5,7 +5,7 @@ use Rattle.shardpool.proofs.reclaim.finish_leave.Goals as goal
 
 pub returns-in_err-generation-clause-ends : goal.returns-in_err-generation-clause-ends
 returns-in_err-generation-clause-ends g c =
-    ends-none c.requires.hand.1 c.requires.seen c.requires.owes (owes-none c.args.found c.owed_by.ensures c.in_err-generation.was)
+    ends-none c.requires.act.hand.1 c.requires.seen c.requires.owes (owes-none c.args.found c.owed_by.ensures c.in_err-generation.was)
 
 pub returns-in_err-generation-clause-acts : goal.returns-in_err-generation-clause-acts
 returns-in_err-generation-clause-acts g c = rw c.from_residual.ensures (still-acts g.row.T.Denot c.args.grid.now.shape c.args.at.spot.place c.args.hand.now.me.0)
@@ -36,7 +36,7 @@ returns-in_err-generation-clause-hand g c = (refl, refl)
 pub claim-word-requires : goal.claim-word-requires
 claim-word-requires g c =
     let owed = owes-some c.args.found c.owed_by.ensures c.in_ok-generation.generation c.in_ok-generation.was in
-    record { hand = c.requires.hand; spot = c.requires.at.spot; owes = owes-now c.args.hand.now.me.0 c.args.at.spot.place c.args.found c.in_ok-generation.generation c.requires.owes owed.0 owed.1 }
+    record { hand = c.requires.act.hand; spot = c.requires.act.at.spot; owes = owes-now c.args.hand.now.me.0 c.args.at.spot.place c.args.found c.in_ok-generation.generation c.requires.owes owed.0 owed.1 }
 
 pub returns-then-word-claimable-clause-hand : goal.returns-then-word-claimable-clause-hand
 returns-then-word-claimable-clause-hand g c = c.claim-word.ensures.hand
@@ -46,10 +46,12 @@ reclaim_place-requires g c =
     let claimed : HasClaimed c.args.grid.now.shape c.args.at.spot.place c.in_ok-generation.generation c.args.hand.now.me c.claim-word.new.hand.me
     = has-claimed c.claim-word.ensures.claims (c.if-word-claimable.false ∙ c.claimable.ensures) in
     record {
-      hand = (c.claim-word.ensures.hand.0 ∙ c.requires.hand.0, claimed.acted.one);
-      bare = claimed.held ∙ c.requires.bare;
-      at = at-same claimed.acted.lane claimed.pushed c.requires.at;
-      under = rw c.requires.at.lane claimed.under;
+      act = record {
+        hand = (c.claim-word.ensures.hand.0 ∙ c.requires.act.hand.0, claimed.acted.one);
+        bare = claimed.held ∙ c.requires.act.bare;
+        at = at-same claimed.acted.lane claimed.pushed c.requires.act.at;
+      };
+      under = rw c.requires.act.at.lane claimed.under;
       place = claimed.place_has;
       room = claimed.room;
     }

@@ -27,7 +27,7 @@ returns-then-shard_of-at-clause-tails g c leave claim is claimed =
     let own = sym c.shard_of.ensures ∙ c.if-shard_of-at.true in
     let few : 2 ≤ 33 = omega arith in
     goes-most
-    (goes-none (leave ∷ claim ∷ []) (did-carries carries few) (ends-at-own (caller_of z c.args.hand.now.me.0) place leave claim (own ∙ c.requires.at.lane))
+    (goes-none (leave ∷ claim ∷ []) (did-carries carries few) (ends-at-own (caller_of z c.args.hand.now.me.0) place leave claim (own ∙ c.requires.act.at.lane))
     (carries.elsewhere.under ∙ (c.requires.under ∙ none-at-own z c.args.at.lane place c.args.generation own))) (omega arith) (omega arith)
 
 pub returns-then-shard_of-at-clause-reclaimed : goal.returns-then-shard_of-at-clause-reclaimed
@@ -45,7 +45,7 @@ returns-then-shard_of-at-clause-reclaimed g c =
 
 pub take_cell-whole-requires : goal.take_cell-whole-requires
 take_cell-whole-requires g c =
-    record { hand = c.requires.hand; bare = c.requires.bare; spot = c.requires.at.spot; lane = c.requires.at.below; place = c.requires.place.0; slots = c.requires.place.1 }
+    record { hand = c.requires.act.hand; bare = c.requires.act.bare; spot = c.requires.act.at.spot; lane = c.requires.act.at.below; place = c.requires.place.0; slots = c.requires.place.1 }
 
 pub returns-then-generation-grid-clause-hand : goal.returns-then-generation-grid-clause-hand
 returns-then-generation-grid-clause-hand g c = c.take_cell-whole.ensures.hand.0
@@ -56,9 +56,9 @@ returns-then-shard_of-at-clause-hand g c = c.take_cell-whole.ensures.hand.0
 pub rest_cell-requires : goal.rest_cell-requires
 rest_cell-requires g c =
     let took = c.take_cell-whole.ensures in record {
-      hand = (took.hand.0.0 ∙ c.requires.hand.0, took.hand.1);
-      spot = c.requires.at.spot;
-      lane = c.requires.at.below;
+      hand = (took.hand.0.0 ∙ c.requires.act.hand.0, took.hand.1);
+      spot = c.requires.act.at.spot;
+      lane = c.requires.act.at.below;
       place = carried-place took.carries c.shares_law.ensures.stays c.args.at.spot.place c.requires.place.0;
       slots = took.slots;
       at = took.cell.2;
@@ -94,16 +94,16 @@ returns-clause-tails g c leave claim is claimed =
     let lane_is = rests.elsewhere.lane ∙ took.elsewhere.lane in
     goes-moves (leave ∷ claim ∷ []) (caller-still rests ∙ caller-still took) (did-carries (carries-more took rests) few)
     (c.give_home.ensures.gives leave claim (ap (λ n. is_claimed n claim.before) is ∙ claimed) (λ last. c.if-generation-grid.false (sym is ∙ last))
-    (λ own. c.if-shard_of-at.false (c.shard_of.ensures ∙ (own ∙ (lane_is ∙ sym c.requires.at.lane)))))
+    (λ own. c.if-shard_of-at.false (c.shard_of.ensures ∙ (own ∙ (lane_is ∙ sym c.requires.act.at.lane)))))
 
 pub give_home-requires-clause-hand : goal.give_home-requires-clause-hand
 give_home-requires-clause-hand g c =
-    let took = c.take_cell-whole.ensures.hand in let rests = c.rest_cell.ensures.hand in (rests.0.0 ∙ (took.0.0 ∙ c.requires.hand.0), rests.1)
+    let took = c.take_cell-whole.ensures.hand in let rests = c.rest_cell.ensures.hand in (rests.0.0 ∙ (took.0.0 ∙ c.requires.act.hand.0), rests.1)
 
 pub give_home-requires-clause-at : goal.give_home-requires-clause-at
 give_home-requires-clause-at g c =
     let took = c.take_cell-whole.ensures.carries.elsewhere in
-    let rests = c.rest_cell.ensures.carries.elsewhere in at-same (rests.lane ∙ took.lane) (rests.pushed ∙ took.pushed) c.requires.at
+    let rests = c.rest_cell.ensures.carries.elsewhere in at-same (rests.lane ∙ took.lane) (rests.pushed ∙ took.pushed) c.requires.act.at
 
 pub give_home-requires-clause-returns : goal.give_home-requires-clause-returns
 give_home-requires-clause-returns g c =
@@ -119,10 +119,10 @@ returns-clause-hand g c =
     let last = c.give_home.ensures.hand in (last.0 ∙ (rests.0 ∙ took.0), last.1 ∙ (rests.1 ∙ took.1))
 
 pub get_mut-requires : goal.get_mut-requires
-get_mut-requires g c = stands-in c.requires.at.spot c.take_cell-whole.ensures.cell.2
+get_mut-requires g c = stands-in c.requires.act.at.spot c.take_cell-whole.ensures.cell.2
 
 pub vacate-requires : goal.vacate-requires
-vacate-requires g c = stands-in c.requires.at.spot c.take_cell-whole.ensures.cell.2
+vacate-requires g c = stands-in c.requires.act.at.spot c.take_cell-whole.ensures.cell.2
 
 pub returns-then-generation-grid-clause-at : goal.returns-then-generation-grid-clause-at
 returns-then-generation-grid-clause-at g c = c.vacate.ensures ∙ c.take_cell-whole.ensures.cell.2

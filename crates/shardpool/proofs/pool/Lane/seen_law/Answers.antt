@@ -7,6 +7,9 @@ use Rattle.shardpool.proofs.pool.Lane.seen_law.Goals as goal
 pub returns-clause-legal : goal.returns-clause-legal
 returns-clause-legal g c = rw (← c.self.view_is) c.self.invariant.1.seat.legal
 
+pub returns-clause-owners : goal.returns-clause-owners
+returns-clause-owners g c = rw (← c.self.view_is) c.self.invariant.1.seat.owners
+
 pub returns-clause-own : goal.returns-clause-own
 returns-clause-own g c =
     let seat = c.self.invariant.1.seat in

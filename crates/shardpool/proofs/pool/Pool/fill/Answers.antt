@@ -16,6 +16,11 @@ use Rattle.shardpool.proofs.frame.SeenHistories.{has-not, made-still, same-shape
 use Rattle.shardpool.proofs.frame.Looks.{bare-sees, filled}
 use Rattle.shardpool.proofs.pool.Pool.fill.Goals as goal
 
+pub next_key-key-requires-clause-own : goal.next_key-key-requires-clause-own
+next_key-key-requires-clause-own g c =
+    let loose = subst (λ (lane : LaneOf). IsLoose g.T.Clear.content g.T.Clear.room lane c.args.spot.place c.args.object.value) (sym c.lane.view_is) c.requires.loose in
+    loose.filling.own ∙ c.lane.invariant.1.seat.number_is
+
 pub next_key-key-requires-clause-unchained : goal.next_key-key-requires-clause-unchained
 next_key-key-requires-clause-unchained g c =
     let chain : List ℕ = (the_lane c.lane.inside.hand.me.0).chain in

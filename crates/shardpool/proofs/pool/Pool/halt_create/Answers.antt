@@ -21,7 +21,7 @@ returns-then-len-gt0-clause-called g c =
     let count = c.len.ensures.len in
     let more = c.if-len-gt0.true in
     let some : 0 < length free.own = omega (arith, count, more) in
-    halts-none _ c.args.limit seat.one (seat.legal, seat.own, seat.quiet)
+    halts-none _ c.args.limit seat.one (seat.legal, seat.own, seat.quiet, seat.owners)
     (listed-none (caller_of c.args.self.now.shape c.args.hand.now.me.0) free.own (the_lane c.args.hand.now.me.0).chain c.args.state.now.pages.opened some)
 
 pub number-requires-clause-page : goal.number-requires-clause-page
@@ -105,5 +105,5 @@ returns-else-opened-gt0-clause-called g c =
     let opened = c.opened.ensures.opened in
     let isnt = c.if-opened-gt0.false in
     let closed : c.args.state.now.pages.opened ≡ 0 = omega (arith, opened, isnt) in
-    halts-none _ c.args.limit fits.seat.one (fits.seat.legal, fits.seat.own, fits.seat.quiet)
+    halts-none _ c.args.limit fits.seat.one (fits.seat.legal, fits.seat.own, fits.seat.quiet, fits.seat.owners)
     (closed-none (caller_of c.args.self.now.shape c.args.hand.now.me.0) free.own (the_lane c.args.hand.now.me.0).chain c.args.state.now.pages.opened none bare closed)

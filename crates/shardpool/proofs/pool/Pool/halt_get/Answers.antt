@@ -15,7 +15,7 @@ use Rattle.shardpool.proofs.pool.Pool.halt_get.Goals as goal
 pub returns-in_default-clause-called : goal.returns-in_default-clause-called
 returns-in_default-clause-called g c =
     let seat = c.requires.parts.fits.seat in
-    halts-none (Getting c.args.key) c.args.limit seat.one (seat.legal, seat.own, seat.quiet)
+    halts-none (Getting c.args.key) c.args.limit seat.one (seat.legal, seat.own, seat.quiet, seat.owners)
     (outside-none (caller_of c.args.self.now.shape c.args.hand.now.me.0) c.args.key
     (λ inside. let bad : false ≡ true = c.in_default.ensures.some.1 inside in cc bad)).0
 
@@ -37,8 +37,13 @@ get_within-requires-clause-key g c = ap (λ p. is_key p.shape c.args.key) c.self
 pub returns-clause-outside : goal.returns-clause-outside
 returns-clause-outside g c out = let bad : true ≡ false = sym (c.in-Some.ensures.some.0 refl) ∙ out in absurd (cc bad)
 
-pub get_within-requires-clause-at : goal.get_within-requires-clause-at
-get_within-requires-clause-at g c = ready-at (ready-parts c.self.view_is c.requires.parts c.in-Some.ensures.spot) _ refl refl refl
+pub get_within-requires-clause-call : goal.get_within-requires-clause-call
+get_within-requires-clause-call g c =
+    let seat = c.requires.parts.fits.seat in
+    record {
+      act = record { hand = (c.requires.parts.table ∙ sym (ap (λ p. p.table) c.self.view_is), seat.one); bare = c.requires.parts.bare; at = ready-at (ready-parts c.self.view_is c.requires.parts c.in-Some.ensures.spot) _ refl refl refl };
+      idle = seat.idle;
+    }
 
 pub get_within-requires-clause-seen : goal.get_within-requires-clause-seen
 get_within-requires-clause-seen g c = lawful-parts c.self.view_is c.requires.parts

@@ -11,7 +11,7 @@ use Rattle.shardpool.proofs.pool.Pool.halt_release.Goals as goal
 
 pub returns-then-limit-eq0-clause-called : goal.returns-then-limit-eq0-clause-called
 returns-then-limit-eq0-clause-called g c =
-    let seat = c.requires.parts.fits.seat in called-not (Releasing c.args.key) c.args.limit c.if-limit-eq0.true seat.one (seat.legal, seat.own, seat.quiet)
+    let seat = c.requires.parts.fits.seat in called-not (Releasing c.args.key) c.args.limit c.if-limit-eq0.true seat.one (seat.legal, seat.own, seat.quiet, seat.owners)
 
 pub return_last_share-requires-clause-fits : goal.return_last_share-requires-clause-fits
 return_last_share-requires-clause-fits g c = (refers-parts c.self.view_is c.requires.parts c.requires.held).fits
@@ -29,11 +29,19 @@ pub release_within-requires-clause-share : goal.release_within-requires-clause-s
 release_within-requires-clause-share g c below =
     lent-share (refers-parts c.self.view_is c.requires.parts c.requires.held) c.return_last_share.ensures.lends
 
-pub release_within-requires-clause-at : goal.release_within-requires-clause-at
-release_within-requires-clause-at g c =
+pub release_within-requires-clause-call : goal.release_within-requires-clause-call
+release_within-requires-clause-call g c =
     let refers = refers-parts c.self.view_is c.requires.parts c.requires.held in
+    let lends = c.return_last_share.ensures.lends in
     let spot = subst (IsSpot c.self.inside.grid.shape c.spot-spot.result) c.place_of.ensures.place c.spot-spot.ensures in
-    lent-at refers c.return_last_share.ensures.lends _ spot refl refl
+    record {
+      act = record {
+        hand = (c.return_last_share.ensures.hand.0 ∙ (c.requires.parts.table ∙ sym (ap (λ p. p.table) c.self.view_is)), lends.did.acted.one);
+        bare = lends.did.held ∙ c.requires.parts.bare;
+        at = lent-at refers lends _ spot refl refl;
+      };
+      idle = lends.idle;
+    }
 
 pub returns-clause-called : goal.returns-clause-called
 returns-clause-called g c =

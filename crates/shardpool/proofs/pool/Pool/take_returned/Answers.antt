@@ -60,7 +60,7 @@ collect-found-requires-clause-lane g c =
 pub collect-found-requires-clause-seen : goal.collect-found-requires-clause-seen
 collect-found-requires-clause-seen g c =
     let seat = c.lane.invariant.1.seat in
-    (subst (λ (z : Shape). IsLawful z c.lane.inside.hand.me.0) (sym (same-shape c.lane.view_is c.requires.owns.1 c.self.view_is)) (seat.legal, seat.own, seat.quiet), seat.paired)
+    (subst (λ (z : Shape). IsLawful z c.lane.inside.hand.me.0) (sym (same-shape c.lane.view_is c.requires.owns.1 c.self.view_is)) (seat.legal, seat.own, seat.quiet, seat.owners), seat.paired)
 
 pub collect-found-requires-clause-chain : goal.collect-found-requires-clause-chain
 collect-found-requires-clause-chain g c =
