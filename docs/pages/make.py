@@ -108,7 +108,7 @@ def table_of(program):
         "source": PROGRAMS[program],
         "help": constants["PROGRAM_HELP"],
         "version": constants.get("VERSION"),
-        "lines": constants["LINES"],
+        "lines": [value for value in constants.values() if isinstance(value, dict) and "arguments" in value],
     }
 
 

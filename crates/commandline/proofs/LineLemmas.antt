@@ -1,5 +1,6 @@
 -- Commands that grow by an argument or a subcommand, and one less is left.
-use Rattle.std.proofs.Common.{◌≡◌, ◌∙◌, ◌+◌, ◌<◌, ℕ, List, length, drop, get_or, false, refl, sym, ap}
+use Rattle.std.proofs.Common.{◌≡◌, ◌∙◌, ◌+◌, ◌<◌, ℕ, List, length, map, drop, get_or, false, refl, sym, ap}
+use Rattle.std.specs.Borrow.{Bor}
 use Rattle.std.proofs.lemmas.List.{at_drop_more}
 use Rattle.clap.specs.Words.{App, AddsArg, AddsSubcommand, app_of, rule_of, with_rule, with_subcommand}
 use Rattle.clap.specs.declared.builder.arg.Arg.{Arg}
@@ -25,9 +26,9 @@ argument-next arguments at other old new arg whole adds is local within so_far =
 }
 
 -- one subcommand more
-pub line-next : (lines : List Line) (at : ℕ) (other : Line) (old sub new : Command) (whole : App) → AddsSubcommand old sub new
-    → app_of sub ≡ line_for (get_or lines at other) → (fields_of sub).has_globals ≡ false → at < length lines
-    → with_lines (app_of old) (drop at lines) ≡ whole → with_lines (app_of new) (drop (at + 1) lines) ≡ whole
+pub line-next : (lines : List (Bor Line)) (at : ℕ) (other : Bor Line) (old sub new : Command) (whole : App) → AddsSubcommand old sub new
+    → app_of sub ≡ line_for (get_or lines at other).now → (fields_of sub).has_globals ≡ false → at < length lines
+    → with_lines (app_of old) (map (λ line. line.now) (drop at lines)) ≡ whole → with_lines (app_of new) (map (λ line. line.now) (drop (at + 1) lines)) ≡ whole
 line-next lines at other old sub new whole adds is local within so_far =
-    ap (λ (app : App). with_lines app (drop (at + 1) lines)) (adds.shape local ∙ ap (λ (line : App). with_subcommand (app_of old) line.top) is)
-    ∙ sym (at_drop_more (with_lines (app_of old)) lines at other within) ∙ so_far
+    ap (λ (app : App). with_lines app (map (λ line. line.now) (drop (at + 1) lines))) (adds.shape local ∙ ap (λ (line : App). with_subcommand (app_of old) line.top) is)
+    ∙ sym (at_drop_more (λ (left : List (Bor Line)). with_lines (app_of old) (map (λ line. line.now) left)) lines at other within) ∙ so_far

@@ -54,9 +54,13 @@ abbrev pub key_line : App
 key_line = line_of (codes "key")
     (positional (codes "number") ∷ flag_named (codes "hex") ∷ flag_named (codes "word") ∷ flag_named (codes "explain") ∷ [])
 
--- the program, before its subcommands; it has a version
+-- a program of this name, before its subcommands; it has a version
+abbrev pub program_named : List ℕ → App
+program_named name = record { top = record (new_shape name) { subcommand_required = true; has_version = true }; subs = [] }
+
+-- the program, before its subcommands
 abbrev pub program : App
-program = record { top = record (new_shape (codes "poolrun")) { subcommand_required = true; has_version = true }; subs = [] }
+program = program_named (codes "poolrun")
 
 -- the program's command line
 abbrev pub command_line : App

@@ -1,9 +1,8 @@
 -- What the words of `poolview` stand for, by what `clap` matches.
-use Rattle.std.specs.Prelude.{◌≡◌, ℕ, List, [], ◌∷◌, Option, Some, None, true, codes}
-use Rattle.clap.specs.Simple.{new_shape}
+use Rattle.std.specs.Prelude.{◌≡◌, ℕ, List, [], ◌∷◌, Option, Some, None, codes}
 use Rattle.clap.specs.Words.{App, Row, first_of, subcommand_of, with_subcommand}
 use Rattle.schedules.specs.Numbers.{number_of}
-use Rattle.commandline.specs.CommandLines.{positional, option_named, flag_named, line_of}
+use Rattle.commandline.specs.CommandLines.{positional, option_named, flag_named, line_of, program_named}
 use Rattle.commandline.specs.Readings.{flag_of}
 use Rattle.commandline.specs.declared.views.View.{View}
 use Rattle.commandline.specs.declared.views.View.TheVariants as views
@@ -22,9 +21,9 @@ words_line = line_of (codes "words") (positional (codes "file") ∷ flag_named (
 abbrev pub plain_line : List ℕ → App
 plain_line name = line_of name (positional (codes "file") ∷ flag_named (codes "explain") ∷ [])
 
--- the program, before its subcommands; it has a version
+-- the program, before its subcommands
 abbrev pub view_program : App
-view_program = record { top = record (new_shape (codes "poolview")) { subcommand_required = true; has_version = true }; subs = [] }
+view_program = program_named (codes "poolview")
 
 -- the program with its subcommands of words
 abbrev pub worded_program : App

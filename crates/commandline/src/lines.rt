@@ -1,10 +1,11 @@
 //! Commands for `clap`, from tables of what each takes.
-ghost use Rattle.std.specs.Prelude.{◌≡◌, IfOk, false};
-ghost use Rattle.clap.specs.Words.{app_of, rule_of, new_app};
+ghost use Rattle.std.specs.Prelude.{◌≡◌, IfOk, false, true, map, string_bytes};
+ghost use Rattle.clap.specs.Words.{app_of, rule_of, new_app, is_simple, subcommand_of, subcommand_rows_of};
 ghost use Rattle.clap.specs.declared.builder.command.Command.TheViews.{out-Command as fields_of};
+ghost use Rattle.commandline.specs.CommandLines.{program_named};
 ghost use Rattle.commandline.specs.Lines.{rule_for, line_for, with_lines};
 
-use clap::{Arg, ArgAction, Command};
+use clap::{Arg, ArgAction, ArgMatches, Command, Error as ClapError};
 use std::alloc::{AllocError, Global};
 
 /// How an argument is given, with the name that help has for its value.
@@ -35,6 +36,14 @@ pub(crate) struct Help<'a> {
     pub(crate) more: &'a str,
 }
 
+/// A program: its name, its version, and what help says of it.
+#[derive(Clone, Copy)]
+pub(crate) struct Program<'a> {
+    pub(crate) name: &'a str,
+    pub(crate) version: &'a str,
+    pub(crate) help: Help<'a>,
+}
+
 /// A subcommand: its name, what help says of it, and its arguments.
 pub(crate) struct Line<'a> {
     pub(crate) name: &'a str,
@@ -60,7 +69,7 @@ fn argument_of<'a>(alloc: Global, argument: &Argument<'a>) -> Arg<'a>
 }
 
 /// A command without arguments: its name, and what help says of it.
-pub(crate) fn command_named<'a>(alloc: Global, name: &'a str, help: Help<'a>) -> Command<'a>
+fn command_named<'a>(alloc: Global, name: &'a str, help: Help<'a>) -> Command<'a>
     ensures app { app_of result ≡ new_app name.now }
     ensures local { (fields_of result).has_globals ≡ false }
 {
@@ -84,13 +93,13 @@ fn subcommand_of<'a>(alloc: Global, line: &Line<'a>) -> Result<Command<'a>, Allo
     Ok(command)
 }
 
-/// A program's command with these subcommands.
-pub(crate) fn with_subcommands<'a>(
+/// A command with these subcommands.
+fn with_subcommands<'a>(
     alloc: Global,
     program: Command<'a>,
-    lines: &'a [Line<'a>],
+    lines: &[&Line<'a>],
 ) -> Result<Command<'a>, AllocError>
-    ensures { IfOk result (λ c. app_of c ≡ with_lines (app_of program.entry) lines.now) }
+    ensures { IfOk result (λ c. app_of c ≡ with_lines (app_of program.entry) (map (λ line. line.now) lines.now)) }
 {
     let mut command = program;
     for line in lines {
@@ -98,4 +107,27 @@ pub(crate) fn with_subcommands<'a>(
         command = command.subcommand(subcommand)?;
     }
     Ok(command)
+}
+
+/// What `clap` reads in the words of a program that has these subcommands, one of which must be there.
+pub(crate) fn read_by_lines<'a>(
+    alloc: Global,
+    program: Program<'a>,
+    lines: &[&Line<'a>],
+    words: &'a [String],
+) -> Result<ArgMatches<'a>, ClapError>
+    requires { is_simple (with_lines (program_named program.name.now) (map (λ line. line.now) lines.now)) ≡ true }
+    ensures { IfOk result (λ m. subcommand_rows_of m
+        ≡ subcommand_of (with_lines (program_named program.entry.name.now) (map (λ line. line.now) lines.now)) (map string_bytes words.now)) }
+{
+    let Program {
+        name,
+        version,
+        help,
+    } = program;
+    let program = command_named(alloc, name, help)
+        .version(version)
+        .subcommand_required(true);
+    let command = with_subcommands(alloc, program, lines)?;
+    command.try_get_matches_from(words)
 }

@@ -59,62 +59,68 @@ pub struct Mistake {
     pub found: Vec<u8>,
 }
 
-/// What is said of a reason before the text that it is about.
-fn before(reason: Reason) -> &'static str
-    ensures { result.now ≡ before_of reason }
+/// What is said of a reason before the text that it is about, and behind it: what is wanted.
+fn wording(reason: Reason) -> (&'static str, &'static str)
+    ensures before { result.0.now ≡ before_of reason }
+    ensures after { result.1.now ≡ after_of reason }
 {
     match reason {
-        Reason::NoTurns => "no turns are given",
-        Reason::SeedAlone => "--seed ",
-        Reason::TurnsAlone => "--turns ",
-        Reason::ScheduleAndMore => "--schedule ",
-        Reason::BadSchedule => "--schedule \"",
-        Reason::BadFile => "the file of --schedule: \"",
-        Reason::InputTwice => "FILE and --schedule are both standard input",
-        Reason::TwoTexts => "--acts stands beside --print-schedule",
-        Reason::BadSeed => "--seed \"",
-        Reason::BadTurns => "--turns \"",
-        Reason::BadStop => "--stop \"",
-        Reason::BadNumber => "N \"",
-        Reason::BadHexadecimal => "N \"",
-        Reason::BadFrom => "--from \"",
-        Reason::BadCount => "--turns \"",
-        Reason::NoText => "a word is no text",
-        Reason::Missing => "a word is missing",
-    }
-}
-
-/// What is said of a reason behind the text that it is about: what is wanted.
-fn after(reason: Reason) -> &'static str
-    ensures { result.now ≡ after_of reason }
-{
-    match reason {
-        Reason::NoTurns => ": give --schedule, or --seed and --turns",
-        Reason::SeedAlone => " needs --turns",
-        Reason::TurnsAlone => " needs --seed",
-        Reason::ScheduleAndMore =>
+        Reason::NoTurns => (
+            "no turns are given",
+            ": give --schedule, or --seed and --turns",
+        ),
+        Reason::SeedAlone => ("--seed ", " needs --turns"),
+        Reason::TurnsAlone => ("--turns ", " needs --seed"),
+        Reason::ScheduleAndMore => (
+            "--schedule ",
             " stands beside --seed or --turns: give --schedule alone, or --seed and --turns",
-        Reason::BadSchedule =>
+        ),
+        Reason::BadSchedule => (
+            "--schedule \"",
             "\" is no schedule: numbers of one to three digits, at most 255, with single commas between them",
-        Reason::BadFile =>
+        ),
+        Reason::BadFile => (
+            "the file of --schedule: \"",
             "\" is no schedule: numbers of one to three digits, at most 255, with single commas or line feeds between them",
-        Reason::InputTwice => ": give one of them by its path",
-        Reason::TwoTexts => ": one text alone is printed",
-        Reason::BadSeed =>
+        ),
+        Reason::InputTwice => (
+            "FILE and --schedule are both standard input",
+            ": give one of them by its path",
+        ),
+        Reason::TwoTexts => (
+            "--acts stands beside --print-schedule",
+            ": one text alone is printed",
+        ),
+        Reason::BadSeed => (
+            "--seed \"",
             "\" is no seed: one to twenty decimal digits, at most 18446744073709551615",
-        Reason::BadTurns =>
+        ),
+        Reason::BadTurns => (
+            "--turns \"",
             "\" is no number of turns: one to twenty decimal digits, at most 1000000",
-        Reason::BadStop =>
+        ),
+        Reason::BadStop => (
+            "--stop \"",
             "\" is no stop: a lane, a colon and a number of turns, each of one to twenty decimal digits and at most 4294967295",
-        Reason::BadNumber =>
+        ),
+        Reason::BadNumber => (
+            "N \"",
             "\" is no number: one to twenty decimal digits, at most 18446744073709551615; with --hex hexadecimal digits",
-        Reason::BadHexadecimal =>
+        ),
+        Reason::BadHexadecimal => (
+            "N \"",
             "\" is no hexadecimal number: one to sixteen hexadecimal digits, with or without 0x before them",
-        Reason::BadFrom => "\" is no turn: one to twenty decimal digits, at most 4294967295",
-        Reason::BadCount =>
+        ),
+        Reason::BadFrom => (
+            "--from \"",
+            "\" is no turn: one to twenty decimal digits, at most 4294967295",
+        ),
+        Reason::BadCount => (
+            "--turns \"",
             "\" is no number of turns: one to twenty decimal digits, at most 4294967295",
-        Reason::NoText => ": words are texts in UTF-8",
-        Reason::Missing => ": --help says which words there are",
+        ),
+        Reason::NoText => ("a word is no text", ": words are texts in UTF-8"),
+        Reason::Missing => ("a word is missing", ": --help says which words there are"),
     }
 }
 
@@ -150,9 +156,10 @@ pub fn write_mistake<W: Write>(mistake: &Mistake, out: &mut Watched<W>)
     ensures says { Says W.contents out.old out.new (mistake_text mistake.now) }
     ensures safe { IsSafeLine (mistake_text mistake.now) }
 {
-    write_bytes(before(mistake.reason).as_bytes(), out);
+    let (before, after) = wording(mistake.reason);
+    write_bytes(before.as_bytes(), out);
     write_cut(mistake.found.as_slice(), out);
-    write_bytes(after(mistake.reason).as_bytes(), out);
+    write_bytes(after.as_bytes(), out);
     write_where(mistake, out);
     write_text(b"\n", out);
 }

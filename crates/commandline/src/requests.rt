@@ -9,8 +9,9 @@ ghost use Rattle.commandline.specs.Mistakes.{AsksFor, RefusesWords, IsExplained}
 use crate::fault::{TaskFault, mistaken_without};
 use crate::mistakes::Reason;
 use crate::reports::read_args;
+use crate::run_lines::read_words;
 use crate::tasks::Task;
-use crate::words::{is_used, read_words, task_of};
+use crate::words::{is_used, task_of};
 use clap::ArgMatches;
 use std::alloc::Global;
 use std::env::Args;

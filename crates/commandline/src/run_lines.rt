@@ -1,12 +1,11 @@
 //! The command line of `poolrun`.
-ghost use Rattle.std.specs.Prelude.{◌≡◌, IfOk};
-ghost use Rattle.clap.specs.Words.{app_of};
-ghost use Rattle.commandline.specs.CommandLines.{program, command_line};
-ghost use Rattle.commandline.specs.Lines.{with_lines};
+ghost use Rattle.std.specs.Prelude.{◌≡◌, IfOk, map, string_bytes};
+ghost use Rattle.clap.specs.Words.{subcommand_of, subcommand_rows_of};
+ghost use Rattle.commandline.specs.CommandLines.{command_line};
 
-use crate::lines::{Argument, Help, Kind, Line, command_named, with_subcommands};
-use clap::Command;
-use std::alloc::{AllocError, Global};
+use crate::lines::{Argument, Help, Kind, Line, Program, read_by_lines};
+use clap::{ArgMatches, Error as ClapError};
+use std::alloc::Global;
 
 /// The version of the programs.
 pub(crate) const VERSION: &str = "0.1.0";
@@ -64,16 +63,15 @@ const STOP: Argument<'static> = Argument {
     help: "Lane L has no turn after its K-th",
 };
 
-/// The subcommands of the program.
-static LINES: [Line<'static>; 5] = [
-    Line {
-        name: "replay",
-        help: Help {
-            about: "Replays the scripts of a file over a schedule, step by step, and prints what each step did",
-            usage: Some(
-                "poolrun replay <FILE> --schedule <LANES> [--stop <L:K>] [--acts | --print-schedule] [--explain]\n       poolrun replay <FILE> --seed <N> --turns <M> [--stop <L:K>] [--acts | --print-schedule] [--explain]",
-            ),
-            more: "\
+/// The subcommand `replay`.
+static REPLAY: Line<'static> = Line {
+    name: "replay",
+    help: Help {
+        about: "Replays the scripts of a file over a schedule, step by step, and prints what each step did",
+        usage: Some(
+            "poolrun replay <FILE> --schedule <LANES> [--stop <L:K>] [--acts | --print-schedule] [--explain]\n       poolrun replay <FILE> --seed <N> --turns <M> [--stop <L:K>] [--acts | --print-schedule] [--explain]",
+        ),
+        more: "\
 Give either --schedule, or both --seed and --turns. The same words print the same text each time.
 
 Prints a line for each reply of a command and for each atomic step, in the order of the turns; with
@@ -84,42 +82,44 @@ error, and nothing on standard output.
 Exit status: 0 where it is done, 1 after a fault, 2 after a mistake in these words.
 
 Example: poolrun replay first.json --schedule 0,0",
-        },
-        arguments: &[
-            Argument {
-                kind: Kind::Positional("FILE"),
-                name: "file",
-                help: "The script file, or - for standard input",
-            },
-            SCHEDULE,
-            SEED,
-            TURNS,
-            STOP,
-            Argument {
-                kind: Kind::Flag,
-                name: "acts",
-                help: "Prints the acts in place of the trace",
-            },
-            Argument {
-                kind: Kind::Flag,
-                name: "print-schedule",
-                help: "Prints the schedule in place of the trace",
-            },
-            Argument {
-                kind: Kind::Flag,
-                name: "explain",
-                help: EXPLAIN,
-            },
-        ],
     },
-    Line {
-        name: "shorten",
-        help: Help {
-            about: "Leaves entries out of a schedule for as long as a word stands in its replay, and prints what is left",
-            usage: Some(
-                "poolrun shorten <FILE> --schedule <LANES> [--stop <L:K>] --until <WORD> [--explain]\n       poolrun shorten <FILE> --seed <N> --turns <M> [--stop <L:K>] --until <WORD> [--explain]",
-            ),
-            more: "\
+    arguments: &[
+        Argument {
+            kind: Kind::Positional("FILE"),
+            name: "file",
+            help: "The script file, or - for standard input",
+        },
+        SCHEDULE,
+        SEED,
+        TURNS,
+        STOP,
+        Argument {
+            kind: Kind::Flag,
+            name: "acts",
+            help: "Prints the acts in place of the trace",
+        },
+        Argument {
+            kind: Kind::Flag,
+            name: "print-schedule",
+            help: "Prints the schedule in place of the trace",
+        },
+        Argument {
+            kind: Kind::Flag,
+            name: "explain",
+            help: EXPLAIN,
+        },
+    ],
+};
+
+/// The subcommand `shorten`.
+static SHORTEN: Line<'static> = Line {
+    name: "shorten",
+    help: Help {
+        about: "Leaves entries out of a schedule for as long as a word stands in its replay, and prints what is left",
+        usage: Some(
+            "poolrun shorten <FILE> --schedule <LANES> [--stop <L:K>] --until <WORD> [--explain]\n       poolrun shorten <FILE> --seed <N> --turns <M> [--stop <L:K>] --until <WORD> [--explain]",
+        ),
+        more: "\
 WORD is one or more fields of a line of the trace or of the acts, as full, CLAIM or 'clear 16777216 true':
 it stands between spaces, or at an end of the line. No single entry of what is printed can be left out.
 
@@ -129,35 +129,37 @@ Exit status: 0 where it is done; 1 after a fault, as where WORD stands nowhere; 
 these words.
 
 Example: poolrun shorten first.json --seed 1 --turns 100 --until PUBLISH",
-        },
-        arguments: &[
-            Argument {
-                kind: Kind::Positional("FILE"),
-                name: "file",
-                help: "The script file, or - for standard input",
-            },
-            Argument {
-                kind: Kind::Needed("WORD"),
-                name: "until",
-                help: "What is to stand in the replay still",
-            },
-            SCHEDULE,
-            SEED,
-            TURNS,
-            STOP,
-            Argument {
-                kind: Kind::Flag,
-                name: "explain",
-                help: EXPLAIN,
-            },
-        ],
     },
-    Line {
-        name: "check",
-        help: Help {
-            about: "Checks that acts are a legal history of a pool, and prints its summary",
-            usage: Some("poolrun check <ACTS> [--explain]"),
-            more: "\
+    arguments: &[
+        Argument {
+            kind: Kind::Positional("FILE"),
+            name: "file",
+            help: "The script file, or - for standard input",
+        },
+        Argument {
+            kind: Kind::Needed("WORD"),
+            name: "until",
+            help: "What is to stand in the replay still",
+        },
+        SCHEDULE,
+        SEED,
+        TURNS,
+        STOP,
+        Argument {
+            kind: Kind::Flag,
+            name: "explain",
+            help: EXPLAIN,
+        },
+    ],
+};
+
+/// The subcommand `check`.
+static CHECK: Line<'static> = Line {
+    name: "check",
+    help: Help {
+        about: "Checks that acts are a legal history of a pool, and prints its summary",
+        usage: Some("poolrun check <ACTS> [--explain]"),
+        more: "\
 Reads the acts that `poolrun replay --acts` prints: a line `shape LANES FIRST_PAGE PAGES
 LAST_GENERATION`, and a line for each act. Prints the counts of a legal history, or `illegal I N NAME`:
 the first act that is refused, counted from 0, and why.
@@ -166,52 +168,56 @@ Exit status: 0 for a legal history; 1 for an illegal one, and after a fault, as 
 act; 2 after a mistake in these words.
 
 Example: poolrun check first.acts",
-        },
-        arguments: &[
-            Argument {
-                kind: Kind::Positional("ACTS"),
-                name: "acts",
-                help: "The file of acts, or - for standard input",
-            },
-            Argument {
-                kind: Kind::Flag,
-                name: "explain",
-                help: EXPLAIN,
-            },
-        ],
     },
-    Line {
-        name: "run",
-        help: Help {
-            about: "Runs each script of a file on a thread of its own, on one pool, and prints the replies",
-            usage: Some("poolrun run <FILE> [--explain]"),
-            more: "\
+    arguments: &[
+        Argument {
+            kind: Kind::Positional("ACTS"),
+            name: "acts",
+            help: "The file of acts, or - for standard input",
+        },
+        Argument {
+            kind: Kind::Flag,
+            name: "explain",
+            help: EXPLAIN,
+        },
+    ],
+};
+
+/// The subcommand `run`.
+static RUN: Line<'static> = Line {
+    name: "run",
+    help: Help {
+        about: "Runs each script of a file on a thread of its own, on one pool, and prints the replies",
+        usage: Some("poolrun run <FILE> [--explain]"),
+        more: "\
 Prints the replies of lane 0, then those of lane 1, and so on; then what each place of the pool was
 when it was closed. What lanes find of one another may differ from run to run.
 
 Exit status: 0 where it is done, 1 after a fault, 2 after a mistake in these words.
 
 Example: poolrun run first.json",
-        },
-        arguments: &[
-            Argument {
-                kind: Kind::Positional("FILE"),
-                name: "file",
-                help: "The script file, or - for standard input",
-            },
-            Argument {
-                kind: Kind::Flag,
-                name: "explain",
-                help: EXPLAIN,
-            },
-        ],
     },
-    Line {
-        name: "key",
-        help: Help {
-            about: "Prints what a number says as a key, or as a lifecycle word of a trace",
-            usage: Some("poolrun key <N> [--hex] [--word] [--explain]"),
-            more: "\
+    arguments: &[
+        Argument {
+            kind: Kind::Positional("FILE"),
+            name: "file",
+            help: "The script file, or - for standard input",
+        },
+        Argument {
+            kind: Kind::Flag,
+            name: "explain",
+            help: EXPLAIN,
+        },
+    ],
+};
+
+/// The subcommand `key`.
+static KEY: Line<'static> = Line {
+    name: "key",
+    help: Help {
+        about: "Prints what a number says as a key, or as a lifecycle word of a trace",
+        usage: Some("poolrun key <N> [--hex] [--word] [--explain]"),
+        more: "\
 Prints the shard, the page, the slot and the generation of a key, and its tag where that isn't 0; or
 `no key`. With --word the state, the count and the generation of a lifecycle word, as the lines of a
 trace have them behind ENTER, LEAVE, PUBLISH, MARK and CLAIM.
@@ -221,45 +227,43 @@ words.
 
 Example: poolrun key 16777216
 Example: poolrun key --word 4294967301",
-        },
-        arguments: &[
-            Argument {
-                kind: Kind::Positional("N"),
-                name: "number",
-                help: "The number: one to twenty decimal digits, at most 18446744073709551615",
-            },
-            Argument {
-                kind: Kind::Flag,
-                name: "hex",
-                help: "N is one to sixteen hexadecimal digits, with or without 0x before them",
-            },
-            Argument {
-                kind: Kind::Flag,
-                name: "word",
-                help: "N is a lifecycle word",
-            },
-            Argument {
-                kind: Kind::Flag,
-                name: "explain",
-                help: EXPLAIN,
-            },
-        ],
     },
-];
+    arguments: &[
+        Argument {
+            kind: Kind::Positional("N"),
+            name: "number",
+            help: "The number: one to twenty decimal digits, at most 18446744073709551615",
+        },
+        Argument {
+            kind: Kind::Flag,
+            name: "hex",
+            help: "N is one to sixteen hexadecimal digits, with or without 0x before them",
+        },
+        Argument {
+            kind: Kind::Flag,
+            name: "word",
+            help: "N is a lifecycle word",
+        },
+        Argument {
+            kind: Kind::Flag,
+            name: "explain",
+            help: EXPLAIN,
+        },
+    ],
+};
 
-/// The subcommands, one after the other.
-fn subcommands<'a>() -> &'a [Line<'a>]
-    ensures { with_lines program result.now ≡ command_line }
+/// What `clap` reads in the words of `poolrun`.
+pub(crate) fn read_words<'a>(
+    alloc: Global,
+    words: &'a [String],
+) -> Result<ArgMatches<'a>, ClapError>
+    ensures { IfOk result (λ m. subcommand_rows_of m ≡ subcommand_of command_line (map string_bytes words.now)) }
 {
-    &LINES
-}
-
-/// The program's command line.
-pub(crate) fn program_command<'a>(alloc: Global) -> Result<Command<'a>, AllocError>
-    ensures { IfOk result (λ c. app_of c ≡ command_line) }
-{
-    let program = command_named(alloc, "poolrun", PROGRAM_HELP)
-        .version(VERSION)
-        .subcommand_required(true);
-    with_subcommands(alloc, program, subcommands())
+    let program = Program {
+        name: "poolrun",
+        version: VERSION,
+        help: PROGRAM_HELP,
+    };
+    let lines = [&REPLAY, &SHORTEN, &CHECK, &RUN, &KEY];
+    read_by_lines(alloc, program, &lines, words)
 }

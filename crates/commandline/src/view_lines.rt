@@ -1,13 +1,12 @@
 //! The command line of `poolview`.
-ghost use Rattle.std.specs.Prelude.{◌≡◌, IfOk};
-ghost use Rattle.clap.specs.Words.{app_of};
-ghost use Rattle.commandline.specs.ViewLines.{view_program, view_line};
-ghost use Rattle.commandline.specs.Lines.{with_lines};
+ghost use Rattle.std.specs.Prelude.{◌≡◌, IfOk, map, string_bytes};
+ghost use Rattle.clap.specs.Words.{subcommand_of, subcommand_rows_of};
+ghost use Rattle.commandline.specs.ViewLines.{view_line};
 
-use crate::lines::{Argument, Help, Kind, Line, command_named, with_subcommands};
+use crate::lines::{Argument, Help, Kind, Line, Program, read_by_lines};
 use crate::run_lines::VERSION;
-use clap::Command;
-use std::alloc::{AllocError, Global};
+use clap::{ArgMatches, Error as ClapError};
+use std::alloc::Global;
 
 /// What help says of the program.
 static PROGRAM_HELP: Help<'static> = Help {
@@ -36,108 +35,115 @@ const EXPLAIN: Argument<'static> = Argument {
     help: "Says on standard error where a mistake is, and what is wanted there",
 };
 
-/// The subcommands of the program.
-static LINES: [Line<'static>; 6] = [
-    Line {
-        name: "picture",
-        help: Help {
-            about: "Draws turns of a trace as an SVG",
-            usage: None,
-            more: "Example: poolview picture trace --from 10 --turns 20",
-        },
-        arguments: &[
-            FILE,
-            Argument {
-                kind: Kind::Valued("N"),
-                name: "from",
-                help: "The first turn, counted from 0, as `words --numbers` has them",
-            },
-            Argument {
-                kind: Kind::Valued("M"),
-                name: "turns",
-                help: "How many turns at most",
-            },
-            Argument {
-                kind: Kind::Flag,
-                name: "fit",
-                help: "Ends before 32767 pixels, says where, names the command of each reply, and draws arrows in front",
-            },
-            EXPLAIN,
-        ],
+/// The subcommand `picture`.
+static PICTURE: Line<'static> = Line {
+    name: "picture",
+    help: Help {
+        about: "Draws turns of a trace as an SVG",
+        usage: None,
+        more: "Example: poolview picture trace --from 10 --turns 20",
     },
-    Line {
-        name: "words",
-        help: Help {
-            about: "Prints a trace with its words decoded",
-            usage: None,
-            more: "Example: poolview words trace",
+    arguments: &[
+        FILE,
+        Argument {
+            kind: Kind::Valued("N"),
+            name: "from",
+            help: "The first turn, counted from 0, as `words --numbers` has them",
         },
-        arguments: &[
-            FILE,
-            Argument {
-                kind: Kind::Flag,
-                name: "keys",
-                help: "Decodes the keys of replies too",
-            },
-            Argument {
-                kind: Kind::Flag,
-                name: "numbers",
-                help: "Prints each line behind the number of its turn, counted from 0",
-            },
-            EXPLAIN,
-        ],
-    },
-    Line {
-        name: "summary",
-        help: Help {
-            about: "Prints what a trace has in sum",
-            usage: None,
-            more: "Example: poolview summary trace",
+        Argument {
+            kind: Kind::Valued("M"),
+            name: "turns",
+            help: "How many turns at most",
         },
-        arguments: &[FILE, EXPLAIN],
-    },
-    Line {
-        name: "json",
-        help: Help {
-            about: "Prints a trace as JSON, an object for each turn",
-            usage: None,
-            more: "Example: poolview json trace",
+        Argument {
+            kind: Kind::Flag,
+            name: "fit",
+            help: "Ends before 32767 pixels, says where, names the command of each reply, and draws arrows in front",
         },
-        arguments: &[FILE, EXPLAIN],
-    },
-    Line {
-        name: "events",
-        help: Help {
-            about: "Prints a trace in the trace-event form, which Perfetto opens",
-            usage: None,
-            more: "Example: poolview events trace > trace.json",
-        },
-        arguments: &[FILE, EXPLAIN],
-    },
-    Line {
-        name: "page",
-        help: Help {
-            about: "Prints an HTML page that shows a trace turn by turn",
-            usage: None,
-            more: "Example: poolview page trace > trace.html",
-        },
-        arguments: &[FILE, EXPLAIN],
-    },
-];
+        EXPLAIN,
+    ],
+};
 
-/// The subcommands, one after the other.
-fn subcommands<'a>() -> &'a [Line<'a>]
-    ensures { with_lines view_program result.now ≡ view_line }
-{
-    &LINES
-}
+/// The subcommand `words`.
+static WORDS: Line<'static> = Line {
+    name: "words",
+    help: Help {
+        about: "Prints a trace with its words decoded",
+        usage: None,
+        more: "Example: poolview words trace",
+    },
+    arguments: &[
+        FILE,
+        Argument {
+            kind: Kind::Flag,
+            name: "keys",
+            help: "Decodes the keys of replies too",
+        },
+        Argument {
+            kind: Kind::Flag,
+            name: "numbers",
+            help: "Prints each line behind the number of its turn, counted from 0",
+        },
+        EXPLAIN,
+    ],
+};
 
-/// The program's command line.
-pub(crate) fn view_command<'a>(alloc: Global) -> Result<Command<'a>, AllocError>
-    ensures { IfOk result (λ c. app_of c ≡ view_line) }
+/// The subcommand `summary`.
+static SUMMARY: Line<'static> = Line {
+    name: "summary",
+    help: Help {
+        about: "Prints what a trace has in sum",
+        usage: None,
+        more: "Example: poolview summary trace",
+    },
+    arguments: &[FILE, EXPLAIN],
+};
+
+/// The subcommand `json`.
+static JSON: Line<'static> = Line {
+    name: "json",
+    help: Help {
+        about: "Prints a trace as JSON, an object for each turn",
+        usage: None,
+        more: "Example: poolview json trace",
+    },
+    arguments: &[FILE, EXPLAIN],
+};
+
+/// The subcommand `events`.
+static EVENTS: Line<'static> = Line {
+    name: "events",
+    help: Help {
+        about: "Prints a trace in the trace-event form, which Perfetto opens",
+        usage: None,
+        more: "Example: poolview events trace > trace.json",
+    },
+    arguments: &[FILE, EXPLAIN],
+};
+
+/// The subcommand `page`.
+static PAGE: Line<'static> = Line {
+    name: "page",
+    help: Help {
+        about: "Prints an HTML page that shows a trace turn by turn",
+        usage: None,
+        more: "Example: poolview page trace > trace.html",
+    },
+    arguments: &[FILE, EXPLAIN],
+};
+
+/// What `clap` reads in the words of `poolview`.
+pub(crate) fn read_view_words<'a>(
+    alloc: Global,
+    words: &'a [String],
+) -> Result<ArgMatches<'a>, ClapError>
+    ensures { IfOk result (λ m. subcommand_rows_of m ≡ subcommand_of view_line (map string_bytes words.now)) }
 {
-    let program = command_named(alloc, "poolview", PROGRAM_HELP)
-        .version(VERSION)
-        .subcommand_required(true);
-    with_subcommands(alloc, program, subcommands())
+    let program = Program {
+        name: "poolview",
+        version: VERSION,
+        help: PROGRAM_HELP,
+    };
+    let lines = [&PICTURE, &WORDS, &SUMMARY, &JSON, &EVENTS, &PAGE];
+    read_by_lines(alloc, program, &lines, words)
 }

@@ -1,16 +1,16 @@
 //! What `poolview` is told to show.
 ghost use Rattle.std.specs.Prelude.{◌≡◌, map, codes, IfOk, IfErr, string_bytes};
-ghost use Rattle.clap.specs.Words.{found_of, rows_of, subcommand_of, subcommand_rows_of};
+ghost use Rattle.clap.specs.Words.{found_of, rows_of, subcommand_rows_of};
 ghost use Rattle.commandline.specs.Readings.{text_of};
 ghost use Rattle.commandline.specs.Mistakes.{Tells, wants_explanation};
-ghost use Rattle.commandline.specs.ViewLines.{view_line, IsNumber, IsView, AreViewWordsOf, IsViewing};
+ghost use Rattle.commandline.specs.ViewLines.{IsNumber, IsView, AreViewWordsOf, IsViewing};
 ghost use Rattle.commandline.specs.ViewMistakes.{wrong_if_given, wrong_picture, RefusesView, RefusesViewing, RefusesViewWords, IsViewExplained};
 
 use crate::fault::{TaskFault, mistaken, mistaken_without};
 use crate::mistakes::Reason;
-use crate::view_lines::view_command;
+use crate::view_lines::read_view_words;
 use crate::words::{given, is_used};
-use clap::{ArgMatches, Error as ClapError};
+use clap::ArgMatches;
 use schedules::read_number;
 use std::alloc::Global;
 
@@ -136,15 +136,6 @@ fn is_explained(matches: &ArgMatches) -> bool
         Some((_, matches)) => is_used(matches, "explain"),
         None => false,
     }
-}
-
-/// What `clap` reads in the words.
-fn read_view_words<'a>(alloc: Global, words: &'a [String]) -> Result<ArgMatches<'a>, ClapError>
-    ensures { IfOk result (λ m.
-        subcommand_rows_of m ≡ subcommand_of view_line (map string_bytes words.now)) }
-{
-    let command = view_command(alloc)?;
-    command.try_get_matches_from(words)
 }
 
 /// Reads the command line of `poolview`, the program's name first: what is to be shown, of which file, and whether

@@ -1,29 +1,16 @@
 //! The tasks of the words that `clap` took.
-ghost use Rattle.std.specs.Prelude.{◌≡◌, map, codes, IfOk, IfErr, string_bytes};
-ghost use Rattle.clap.specs.Words.{first_of, found_of, rows_of, subcommand_of, subcommand_rows_of};
+ghost use Rattle.std.specs.Prelude.{◌≡◌, codes, IfOk, IfErr, string_bytes};
+ghost use Rattle.clap.specs.Words.{first_of, found_of, rows_of};
 ghost use Rattle.commandline.specs.Readings.{text_of, flag_of};
-ghost use Rattle.commandline.specs.CommandLines.{command_line, AreMatchesOf, HasTurns};
+ghost use Rattle.commandline.specs.CommandLines.{AreMatchesOf, HasTurns};
 ghost use Rattle.commandline.specs.Mistakes.{Tells, RefusesMatches, wrong_given, wrong_replay, wrong_shorten, wrong_file, wrong_key};
 
 use crate::fault::{TaskFault, mistaken_without};
 use crate::mistakes::Reason;
-use crate::run_lines::program_command;
 use crate::tasks::{Stop, Task, Turns};
 use crate::turns::{are_both_input, read_key_number, read_turns, stop_given};
-use clap::{ArgMatches, Error as ClapError};
+use clap::ArgMatches;
 use std::alloc::Global;
-
-/// What `clap` reads in the words.
-pub(crate) fn read_words<'a>(
-    alloc: Global,
-    words: &'a [String],
-) -> Result<ArgMatches<'a>, ClapError>
-    ensures { IfOk result (λ m.
-        subcommand_rows_of m ≡ subcommand_of command_line (map string_bytes words.now)) }
-{
-    let command = program_command(alloc)?;
-    command.try_get_matches_from(words)
-}
 
 /// The text that is given under an id, if there is one.
 pub(crate) fn given<'a>(matches: &ArgMatches<'a>, id: &str) -> Option<&'a str>
@@ -67,15 +54,18 @@ fn turns_given(alloc: Global, matches: &ArgMatches) -> Result<GivenTurns, TaskFa
     ensures ok { IfOk result (λ given. HasTurns (rows_of (found_of matches.now)) (string_bytes given.file) given.turns given.stop) }
     ensures err { IfErr result (Tells (wrong_given (rows_of (found_of matches.now)))) }
 {
-    let file = file_given(alloc, matches, "file")?;
+    let Some(file) = given(matches, "file") else {
+        return Err(mistaken_without(alloc, Reason::Missing));
+    };
     let schedule = given(matches, "schedule");
     let seed = given(matches, "seed");
     let count = given(matches, "turns");
     let turns = read_turns(alloc, schedule, seed, count)?;
     let stop = stop_given(alloc, given(matches, "stop"))?;
-    if are_both_input(file.as_str(), schedule) {
+    if are_both_input(file, schedule) {
         return Err(mistaken_without(alloc, Reason::InputTwice));
     }
+    let file = String::from_str(alloc, file)?;
     Ok(GivenTurns { file, turns, stop })
 }
 

@@ -43,6 +43,10 @@ IsOutside z (Home lane place) reason = IsPlaceOutside z lane place reason
 IsOutside z (Collect lane places) reason = IsCollectOutside z lane places reason
 IsOutside z act reason = ⊥
 
+-- this is due, where what it wants is so, or no more is known
+abbrev pub IsDueIf : Type 0 → Due → Due → Type 0
+IsDueIf allowed due found = (found ≡ General) ⊎ ((found ≡ due) × allowed)
+
 -- what would have been allowed in place of a publish: one of this key
 abbrev pub IsPublishDue : Shape → Pool → ℕ → Due → Type 0
 IsPublishDue z pool lane (NextKey next) = Allowed z pool (Publish lane next [] false)

@@ -5,7 +5,7 @@ ghost use Rattle.seqpool.specs.Pool.{Allowed, pool_after};
 ghost use Rattle.seqpool.specs.declared.act.Act.TheVariants.{Release};
 ghost use Rattle.seqpool.specs.Rows.{pool_in};
 ghost use Rattle.seqpool.specs.ActsText.{hex};
-ghost use Rattle.explanations.specs.Reasons.{IsKeyOutside, IsPlaceOutside, IsCollectOutside, IsOutside, IsPublishDue, IsGetDue, IsClearDue, IsReclaimDue, IsDue, outside_text, general_text, found_text, due_text, TellsReason};
+ghost use Rattle.explanations.specs.Reasons.{IsKeyOutside, IsPlaceOutside, IsCollectOutside, IsOutside, IsDueIf, IsPublishDue, IsGetDue, IsClearDue, IsReclaimDue, IsDue, outside_text, general_text, found_text, due_text, TellsReason};
 
 use crate::found::cut_of;
 use keybits::{GREATEST_PLACE, Key, Place, Shape, place_of, shard_of, tag_of};
@@ -110,15 +110,25 @@ fn outside_of(shape: &Shape, act: &Act) -> Option<Outside>
 }
 
 /// Whether the pool allows an act, which is then made.
-fn allows(pool: &mut SeqPool, act: &Act) -> Result<bool, AllocError>
-    ensures yes { IfOk result (λ yes. yes ≡ true → Allowed pool.old.shape (pool_in pool.old) act.now) }
+fn allows(pool: &mut SeqPool, act: Act) -> Result<bool, AllocError>
+    ensures yes { IfOk result (λ yes. yes ≡ true → Allowed pool.old.shape (pool_in pool.old) act) }
     ensures no { IfOk result (λ yes. yes ≡ false → pool.new ≡ pool.old) }
 {
-    match pool.apply(act) {
+    match pool.apply(&act) {
         Ok(()) => Ok(true),
         Err(ApplyFault::Memory) => Err(AllocError),
         Err(_) => Ok(false),
     }
+}
+
+/// This, where the pool allows an act, which is then made.
+fn due_if(pool: &mut SeqPool, act: Act, due: Due) -> Result<Due, AllocError>
+    ensures { IfOk result (IsDueIf (Allowed pool.old.shape (pool_in pool.old) act) due) }
+{
+    if allows(pool, act)? {
+        return Ok(due);
+    }
+    Ok(Due::General)
 }
 
 /// How many of some acts reclaim a key of a place.
@@ -162,10 +172,7 @@ fn publish_due(
         content: Bytes::empty(alloc),
         with_ref: false,
     };
-    if allows(pool, &act)? {
-        return Ok(Due::NextKey(next));
-    }
-    Ok(Due::General)
+    due_if(pool, act, Due::NextKey(next))
 }
 
 /// The content of the last publish of a key.
@@ -196,15 +203,13 @@ fn found_due(
     ensures { IfOk result (IsGetDue pool.old.shape (pool_in pool.old) lane key) }
 {
     let reply = content.copy(alloc)?;
+    let due = Due::Found(content.copy(alloc)?);
     let act = Act::Get {
         lane,
         key,
         reply: Some(reply),
     };
-    if allows(pool, &act)? {
-        return Ok(Due::Found(content.copy(alloc)?));
-    }
-    Ok(Due::General)
+    due_if(pool, act, due)
 }
 
 /// What would have been allowed in place of a get.
@@ -222,7 +227,7 @@ fn get_due(
         key,
         reply: None,
     };
-    if allows(pool, &act)? {
+    if allows(pool, act)? {
         return Ok(Due::Missing);
     }
     match last_content(history, key) {
@@ -236,11 +241,7 @@ fn clear_due(pool: &mut SeqPool, lane: u32, key: u64, reply: bool) -> Result<Due
     ensures { IfOk result (IsClearDue pool.old.shape (pool_in pool.old) lane key) }
 {
     let reply = !reply;
-    let act = Act::Clear { lane, key, reply };
-    if allows(pool, &act)? {
-        return Ok(Due::Cleared(reply));
-    }
-    Ok(Due::General)
+    due_if(pool, Act::Clear { lane, key, reply }, Due::Cleared(reply))
 }
 
 /// The first lane that refers to a key, if one does.
@@ -249,7 +250,7 @@ fn holder_of(pool: &mut SeqPool, lanes: u32, key: u64) -> Result<Option<u32>, Al
     ensures none { IfOk result (λ found. found ≡ None → pool.new ≡ pool.old) }
 {
     for lane in 0..lanes {
-        if allows(pool, &Act::Release { lane, key })? {
+        if allows(pool, Act::Release { lane, key })? {
             return Ok(Some(lane));
         }
     }
@@ -277,10 +278,7 @@ fn reclaim_due(
         key,
         reply: true,
     };
-    if allows(pool, &act)? {
-        return Ok(Due::Unmarked);
-    }
-    Ok(Due::General)
+    due_if(pool, act, Due::Unmarked)
 }
 
 /// What would have been allowed in an act's place, behind these acts.

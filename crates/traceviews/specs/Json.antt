@@ -20,21 +20,14 @@ use Rattle.traceviews.specs.declared.line.Line.{Line}
 use Rattle.traceviews.specs.declared.line.NamedStep.{NamedStep}
 
 -- a lifecycle word: as it is, and its state, its count and its generation
-abbrev pub life_numbers : ℕ → List ℕ
-life_numbers word = codes "\",\"count\":" ++ decimal (count_in word) ++ (codes ",\"generation\":" ++ decimal (generation_in word)) ++ codes "}"
-
-abbrev pub life_fields : ℕ → List ℕ
-life_fields word = codes "\",\"state\":\"" ++ state_text (state_with (state_in word)) ++ life_numbers word
-
 abbrev pub life_object : ℕ → List ℕ
-life_object word = codes "{\"word\":\"" ++ decimal word ++ life_fields word
+life_object word =
+    codes "{\"word\":\"" ++ decimal word ++ codes "\",\"state\":\"" ++ state_text (state_with (state_in word))
+    ++ (codes "\",\"count\":" ++ decimal (count_in word)) ++ (codes ",\"generation\":" ++ decimal (generation_in word)) ++ codes "}"
 
 -- a link or stack word of a shard: as it is, and what it stands for
-abbrev pub link_fields : ℕ → ℕ → List ℕ
-link_fields shard word = codes "\",\"link\":\"" ++ link_text shard word ++ codes "\"}"
-
 abbrev pub link_object : ℕ → ℕ → List ℕ
-link_object shard word = codes "{\"word\":\"" ++ decimal word ++ link_fields shard word
+link_object shard word = codes "{\"word\":\"" ++ decimal word ++ codes "\",\"link\":\"" ++ link_text shard word ++ codes "\"}"
 
 -- a value of a word
 abbrev pub value_object : Word → ℕ → List ℕ
@@ -47,40 +40,25 @@ abbrev pub failed_field : Bool → List ℕ
 failed_field true = codes ",\"failed\":true}"
 failed_field false = codes ",\"failed\":false}"
 
--- what a step found and left, and whether it failed
-abbrev pub left_fields : NamedStep → List ℕ
-left_fields s = codes ",\"left\":" ++ value_object s.word s.after ++ failed_field (is_failed s)
-
-abbrev pub value_fields : NamedStep → List ℕ
-value_fields s = codes "\",\"found\":" ++ value_object s.word s.before ++ left_fields s
-
--- a step: its kind, on which word, and its values
-abbrev pub aim_fields : NamedStep → List ℕ
-aim_fields s = codes "\",\"at\":\"" ++ aim_text s.word ++ value_fields s
-
+-- a step: its kind, on which word, what it found and left, and whether it failed
 abbrev pub step_object : NamedStep → List ℕ
-step_object s = codes "{\"kind\":\"" ++ kind_text (kind_of s.name) ++ aim_fields s
+step_object s =
+    codes "{\"kind\":\"" ++ kind_text (kind_of s.name) ++ codes "\",\"at\":\"" ++ aim_text s.word ++ codes "\",\"found\":" ++ value_object s.word s.before
+    ++ codes ",\"left\":" ++ value_object s.word s.after ++ failed_field (is_failed s)
 
 -- a reply without more
 abbrev pub plain_object : List ℕ → List ℕ
 plain_object name = codes "{\"reply\":\"" ++ name ++ codes "\"}"
 
 -- a reply with a key: as it is, and its place, its generation and its tag
-abbrev pub key_numbers : ℕ → List ℕ
-key_numbers key = codes "\",\"generation\":" ++ decimal (generation_of key) ++ (codes ",\"tag\":" ++ decimal (tag_of key)) ++ codes "}"
-
-abbrev pub key_fields : ℕ → List ℕ
-key_fields key = codes "\",\"place\":\"" ++ place_text (place_of key) ++ key_numbers key
-
 abbrev pub key_object : List ℕ → ℕ → List ℕ
-key_object name key = codes "{\"reply\":\"" ++ name ++ (codes "\",\"key\":\"" ++ decimal key) ++ key_fields key
+key_object name key =
+    codes "{\"reply\":\"" ++ name ++ (codes "\",\"key\":\"" ++ decimal key) ++ codes "\",\"place\":\"" ++ place_text (place_of key)
+    ++ (codes "\",\"generation\":" ++ decimal (generation_of key)) ++ (codes ",\"tag\":" ++ decimal (tag_of key)) ++ codes "}"
 
 -- a reply with a content
-abbrev pub content_field : List ℕ → List ℕ
-content_field content = codes "\",\"content\":\"" ++ hex content ++ codes "\"}"
-
 abbrev pub content_object : List ℕ → List ℕ → List ℕ
-content_object name content = codes "{\"reply\":\"" ++ name ++ content_field content
+content_object name content = codes "{\"reply\":\"" ++ name ++ codes "\",\"content\":\"" ++ hex content ++ codes "\"}"
 
 -- a reply
 abbrev pub reply_object : Reply → List ℕ

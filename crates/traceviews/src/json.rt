@@ -1,7 +1,7 @@
 //! A trace as JSON: an object for each turn.
 
 ghost use Rattle.std.specs.Prelude.{◌≡◌, ◌++◌, IfOk, codes};
-ghost use Rattle.traceviews.specs.Json.{life_numbers, life_fields, life_object, link_fields, link_object, value_object, failed_field, left_fields, value_fields, aim_fields, step_object, plain_object, key_numbers, key_fields, key_object, content_field, content_object, reply_object, entry_object, comma_before, item_text, items_text, step_fields, turn_names, turn_object, turn_line, json_text};
+ghost use Rattle.traceviews.specs.Json.{life_object, link_object, value_object, failed_field, step_object, plain_object, key_object, content_object, reply_object, entry_object, comma_before, item_text, items_text, step_fields, turn_names, turn_object, turn_line, json_text};
 ghost use Rattle.traceviews.specs.Numbered.{numbered};
 ghost use Rattle.traceviews.specs.Pages.{Grows};
 ghost use Rattle.traceviews.specs.Turns.{turns_of};
@@ -14,40 +14,17 @@ use keybits::{Life, Word, generation_of, place_of, tag_of};
 use std::alloc::{AllocError, Global};
 use traces::Reply;
 
-/// Appends the count and the generation of a lifecycle word, and the end of its object.
-fn push_life_numbers(word: u64, out: &mut Page)
-    ensures { Grows out.old out.new (life_numbers word) }
-{
-    let life = Life::of_word(word);
-    out.named("\",\"count\":", u64::from(life.count));
-    out.named(",\"generation\":", u64::from(life.generation));
-    out.text("}");
-}
-
-/// Appends what a lifecycle word says.
-fn push_life_fields(word: u64, out: &mut Page)
-    ensures { Grows out.old out.new (life_fields word) }
-{
-    out.text("\",\"state\":\"");
-    out.text(state_name(state_of(word)));
-    push_life_numbers(word, out);
-}
-
 /// Appends a lifecycle word.
 fn push_life(word: u64, out: &mut Page)
     ensures { Grows out.old out.new (life_object word) }
 {
+    let life = Life::of_word(word);
     out.named("{\"word\":\"", word);
-    push_life_fields(word, out);
-}
-
-/// Appends what a link or stack word of a shard stands for.
-fn push_link_fields(shard: u32, word: u64, out: &mut Page)
-    ensures { Grows out.old out.new (link_fields shard word) }
-{
-    out.text("\",\"link\":\"");
-    out.link(shard, word);
-    out.text("\"}");
+    out.text("\",\"state\":\"");
+    out.text(state_name(state_of(word)));
+    out.named("\",\"count\":", u64::from(life.count));
+    out.named(",\"generation\":", u64::from(life.generation));
+    out.text("}");
 }
 
 /// Appends a link or stack word of a shard.
@@ -55,7 +32,9 @@ fn push_link(shard: u32, word: u64, out: &mut Page)
     ensures { Grows out.old out.new (link_object shard word) }
 {
     out.named("{\"word\":\"", word);
-    push_link_fields(shard, word, out);
+    out.text("\",\"link\":\"");
+    out.link(shard, word);
+    out.text("\"}");
 }
 
 /// Appends a value of a word.
@@ -80,40 +59,19 @@ fn failed_words(failed: bool) -> &'static str
     }
 }
 
-/// Appends what a step left, and whether it failed.
-fn push_left(step: &NamedStep, out: &mut Page)
-    ensures { Grows out.old out.new (left_fields step.now) }
-{
-    out.text(",\"left\":");
-    push_value(step.word, step.after, out);
-    out.text(failed_words(is_failed(step)));
-}
-
-/// Appends what a step found, what it left, and whether it failed.
-fn push_values(step: &NamedStep, out: &mut Page)
-    ensures { Grows out.old out.new (value_fields step.now) }
-{
-    out.text("\",\"found\":");
-    push_value(step.word, step.before, out);
-    push_left(step, out);
-}
-
-/// Appends on which word a step is made, and its values.
-fn push_aim(step: &NamedStep, out: &mut Page)
-    ensures { Grows out.old out.new (aim_fields step.now) }
-{
-    out.text("\",\"at\":\"");
-    out.aim(step.word);
-    push_values(step, out);
-}
-
 /// Appends a step.
 fn push_step(step: &NamedStep, out: &mut Page)
     ensures { Grows out.old out.new (step_object step.now) }
 {
     out.text("{\"kind\":\"");
     out.text(step_name(step.name));
-    push_aim(step, out);
+    out.text("\",\"at\":\"");
+    out.aim(step.word);
+    out.text("\",\"found\":");
+    push_value(step.word, step.before, out);
+    out.text(",\"left\":");
+    push_value(step.word, step.after, out);
+    out.text(failed_words(is_failed(step)));
 }
 
 /// Appends a reply that is its name alone.
@@ -125,24 +83,6 @@ fn push_plain(name: &str, out: &mut Page)
     out.text("\"}");
 }
 
-/// Appends the generation and the tag of a key, and the end of its object.
-fn push_key_numbers(key: u64, out: &mut Page)
-    ensures { Grows out.old out.new (key_numbers key) }
-{
-    out.named("\",\"generation\":", u64::from(generation_of(key)));
-    out.named(",\"tag\":", u64::from(tag_of(key)));
-    out.text("}");
-}
-
-/// Appends what a key says.
-fn push_key_fields(key: u64, out: &mut Page)
-    ensures { Grows out.old out.new (key_fields key) }
-{
-    out.text("\",\"place\":\"");
-    out.place(place_of(key));
-    push_key_numbers(key, out);
-}
-
 /// Appends a reply with a key.
 fn push_key(name: &str, key: u64, out: &mut Page)
     ensures { Grows out.old out.new (key_object name.now key) }
@@ -150,16 +90,11 @@ fn push_key(name: &str, key: u64, out: &mut Page)
     out.text("{\"reply\":\"");
     out.text(name);
     out.named("\",\"key\":\"", key);
-    push_key_fields(key, out);
-}
-
-/// Appends a content, and the end of its object.
-fn push_content_field(content: &[u8], out: &mut Page)
-    ensures { Grows out.old out.new (content_field content.now) }
-{
-    out.text("\",\"content\":\"");
-    out.hex(content);
-    out.text("\"}");
+    out.text("\",\"place\":\"");
+    out.place(place_of(key));
+    out.named("\",\"generation\":", u64::from(generation_of(key)));
+    out.named(",\"tag\":", u64::from(tag_of(key)));
+    out.text("}");
 }
 
 /// Appends a reply with a content.
@@ -168,7 +103,9 @@ fn push_content(name: &str, content: &[u8], out: &mut Page)
 {
     out.text("{\"reply\":\"");
     out.text(name);
-    push_content_field(content, out);
+    out.text("\",\"content\":\"");
+    out.hex(content);
+    out.text("\"}");
 }
 
 /// Appends a reply.

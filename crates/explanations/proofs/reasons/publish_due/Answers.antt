@@ -1,0 +1,8 @@
+use Rattle.std.proofs.Common.{rules}
+use Rattle.seqpool.specs.Rows.{pool_in}
+use Rattle.explanations.specs.Reasons.{IsPublishDue}
+use Rattle.explanations.proofs.Dues.{due-if}
+use Rattle.explanations.proofs.reasons.publish_due.Goals as goal
+
+pub returns : goal.returns
+returns c = due-if (IsPublishDue c.args.pool.now.shape (pool_in c.args.pool.now) c.args.lane) _ _ c.due_if.result c.due_if.ensures tt (λ is. search rules)
