@@ -32,4 +32,5 @@ pub use layout::{
     PageRow, SHARDS_APART,
 };
 pub use objects::Objects;
+pub use rows::BYTES_APART;
 pub use steps::Purpose;

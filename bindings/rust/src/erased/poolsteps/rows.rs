@@ -36,9 +36,8 @@ impl<T> Own<T> {
     }
 }
 
-// How many bytes of room stand behind a row, so that what follows it in memory isn't on two lines of a processor's
-// cache with it.
-const BYTES_APART: usize = 128;
+/// How many bytes stand between what different lanes write: a processor may fetch two lines of 64 bytes together.
+pub const BYTES_APART: usize = 128;
 
 // A row for so many words, with nothing. None where memory was refused.
 pub(crate) fn none_own<T>(alloc: Global, count: usize) -> Option<Vec<Own<T>>> {

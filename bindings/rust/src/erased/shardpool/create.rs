@@ -203,10 +203,8 @@ fn fresh_objects<T: Clear>(alloc: Global, count: u32) -> Option<Vec<Box<T, Globa
 }
 
 /// TAKEs of the stacks of the lane's shard, by rising number of the lanes that return to it, up to the first that has
-/// places:
-/// they are then the lane's taken chain. Answers the word that was found there, which leads to the first of them; 0
-/// where
-/// none had places. It makes at most one step for each other lane and no look, and takes no memory.
+/// places: they are then the lane's taken chain. Answers the word that was found there, which leads to the first of
+/// them; 0 where none had places. It makes at most one step for each other lane and no look, and takes no memory.
 pub(crate) fn collect<T: Clear>(grid: &Grid<T>, hand: &mut Hand<T>, lane: u32) -> u64 {
     for from in 0..grid.shape.lanes {
         if from != lane {
@@ -231,8 +229,8 @@ pub(crate) fn follow<T: Clear>(
     (link, take_resting(grid, hand, spot, lane))
 }
 
-/// A look at the generation of a place that is with the lane: answers the key under which it may then be published. It
-/// takes no memory.
+/// A look at the generation of a place of the lane's shard that is with it: answers the key under which it may then
+/// be published. It takes no memory.
 pub(crate) fn next_key<T: Clear>(grid: &Grid<T>, hand: &mut Hand<T>, spot: Spot) -> u64 {
     let generation = grid.generation(hand, spot);
     let place = Place::of_number(spot.place);

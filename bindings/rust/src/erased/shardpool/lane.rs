@@ -50,9 +50,9 @@ impl<T: Clear> Lane<T> {
     }
 
     /// As a law: the lane has nothing under way, and what it has seen is a legal history of the pool, with a room
-    /// beside each act, and with just those of the lane's acts that it made. In a pool of one lane it has no other
-    /// acts, so that each reply is that of a pool of one thread, and each key that was cleared and not yet reclaimed
-    /// has a reference.
+    /// beside each act, and with just those of the lane's acts that it made; each publish in it, by any lane, is by the
+    /// owner of the key's shard. In a pool of one lane it has no other acts, so that each reply is that of a pool of one
+    /// thread, and each key that was cleared and not yet reclaimed has a reference.
     pub fn seen_law(&self) {
         // A proof knows the invariant of a lane once a field of it is seen.
         let _ = &self.state;

@@ -6,7 +6,9 @@ use crate::shim::{no_bytes, Gapless, Global, Vec};
 
 use crate::erased::freelists::{LocalFree, Pages};
 use crate::erased::keybits::{Shape, PAGE_NUMBERS};
-use crate::erased::poolsteps::{page_rows, Directory, Grid, Hand, Objects, PageRow, Slot, Spot};
+use crate::erased::poolsteps::{
+    page_rows, Directory, Grid, Hand, Objects, PageRow, Slot, Spot, BYTES_APART,
+};
 use crate::erased::shardpool::closing::HandRow;
 use crate::erased::slotcell::Clear;
 
@@ -111,9 +113,6 @@ impl Places {
         page.start + place % PAGE_NUMBERS
     }
 }
-
-/// How many bytes stand between what different lanes write: a processor may fetch two lines of 64 bytes together.
-const BYTES_APART: usize = 128;
 
 /// So many bytes, at an end of what a lane writes in each call.
 pub(crate) struct Apart {
