@@ -102,7 +102,7 @@
 //! clear of the pool panics.
 //!
 //! A growing pool has up to 256 segments, each a pool of the proved kind with a tag of its own, by which a key tells its segment. The
-//! first has 16 * 32 places and takes less than 256 KiB; from the eighth on each has 16 * 4,032. All ways of calling find keys of
+//! first has 16 * 32 places and takes less than 256 KiB; from the seventh on each has 16 * 4,032. All ways of calling find keys of
 //! all segments.
 //!
 //! # A pool for the whole program

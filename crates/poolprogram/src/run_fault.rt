@@ -13,8 +13,8 @@ use thiserror::Error;
 /// Why the program could not do what it was told.
 #[derive(Debug, Drop, Error)]
 pub enum RunFault {
-    /// The script file is no plan (1, 2, 3, 4, 6, 31 to 36), with the place of its first fault; or memory
-    /// was refused for a schedule or a worker's report (36).
+    /// The script file is no plan, with the place of its first fault; or memory was refused for a schedule or a
+    /// worker's report.
     #[error(transparent)]
     Read(ScriptRefusal),
     /// The text of acts stands for none, with the place of its first fault: a line is wrong (19), the shape
