@@ -1,16 +1,17 @@
-//! The core, turn by turn and over whole schedules.
+//! The core, turn by turn.
 ghost use Rattle.std.specs.Prelude.{◌≡◌, length};
 ghost use Rattle.keybits.specs.Shapes.{IsShape};
 
-use crate::test_programs::around;
-use crate::test_replays::{ROW, TRACE};
 use crate::test_texts::{reads, same};
-use coresteps::{Core, Script, Trace, Turn, run, write_trace};
+use coresteps::{Core, Script, Trace, Turn, write_trace};
 use keybits::Shape;
 use scripts::{Plan, parse};
-use seqpool::Act;
 use std::alloc::{AllocGlobal, Global};
 use std::process::Abort;
+
+// One lane publishes, gets and reads.
+const ROW: &str =
+    "{\"shape\":{\"lanes\":1,\"first_page\":2,\"pages\":1,\"last_generation\":4294967295},\"scripts\":[[[\"create\",0],[\"write\",0,\"6869\"],[\"publish\",0],[\"get\",1,16777216],[\"read\",1]]]}";
 
 // A TAKE between a LINK and its PUSH.
 const RETURNS: &str =
@@ -37,12 +38,6 @@ fn core_of<R: Abort + AllocGlobal>(rt: &R, file: &str) -> Core {
     Core::new(rt.alloc(), shape, scripts).expect(rt, "memory for a core")
 }
 
-/// The trace of a script file by a schedule.
-fn trace_of<R: Abort + AllocGlobal>(rt: &R, file: &str, schedule: &[u32]) -> Trace {
-    let (shape, scripts) = plan_of(rt, file);
-    run(rt.alloc(), shape, scripts, schedule).expect(rt, "memory for a trace")
-}
-
 /// The text of the trace is this.
 fn is_text<R: Abort>(rt: &R, alloc: Global, trace: &Trace, text: &str) {
     let mut out = Vec::new(alloc);
@@ -52,13 +47,6 @@ fn is_text<R: Abort>(rt: &R, alloc: Global, trace: &Trace, text: &str) {
 
 fn turn_of<R: Abort>(rt: &R, core: &mut Core, lane: u32) -> Turn {
     core.turn(lane).expect(rt, "memory for a turn")
-}
-
-/// So many turns of a lane.
-fn take_turns<R: Abort>(rt: &R, core: &mut Core, lane: u32, count: u32) {
-    for _ in 0..count {
-        drop(turn_of(rt, core, lane));
-    }
 }
 
 /// The next turn of lane 0 has these lines, and the lane is finished by it or not.
@@ -81,25 +69,6 @@ fn steps_a_core(rt: HostRuntime) {
     steps(&rt, rt.alloc(), &mut core, lines, true);
 }
 
-/// The text of the trace of the first row by a schedule is this.
-fn runs<R: Abort + AllocGlobal>(rt: &R, schedule: &[u32], text: &str) {
-    let trace = trace_of(rt, ROW, schedule);
-    is_text(rt, rt.alloc(), &trace, text);
-}
-
-#[test]
-fn runs_a_thousand_entries(rt: HostRuntime) {
-    let mut late = [1; 1000];
-    late[998] = 0;
-    late[999] = 0;
-    let mut mixed = [0; 1000];
-    for entry in 0..1000u32 {
-        mixed[entry as usize] = entry % 3;
-    }
-    runs(&rt, &late, TRACE);
-    runs(&rt, &mixed, TRACE);
-}
-
 /// The turns of a schedule.
 fn take_all<R: Abort>(rt: &R, core: &mut Core, schedule: &[u32]) {
     for lane in schedule {
@@ -119,37 +88,4 @@ fn tells_the_most_steps(rt: HostRuntime) {
         core.most(4294967295),
     ];
     same(&rt, &most, &[(2, 3), (0, 6), (0, 0), (0, 0)]);
-}
-
-/// Lane 15 publishes at the first of its places and at each other, and creates once more. Lane 0 clears the first.
-fn largest_file<R: Abort + AllocGlobal>(rt: &R) -> String {
-    around(
-        rt,
-        "{\"shape\":{\"lanes\":16,\"first_page\":64,\"pages\":6,\"last_generation\":4294967295,\"tag\":255},\"scripts\":[[[\"clear\",18374686479689383936]],[],[],[],[],[],[],[],[],[],[],[],[],[],[],[[\"create\",0],[\"publish\",0]",
-        ",[\"create\",1],[\"publish\",1]",
-        4031,
-        ",[\"create\",2]]]}",
-    )
-}
-
-/// How often lane 15 collects.
-fn collects(acts: &[Act]) -> usize {
-    acts.iter()
-        .filter(|act| matches!(act, Act::Collect { lane: 15, .. }))
-        .count()
-}
-
-// Lane 15 of the largest shape publishes, lane 0 clears and returns the place, and lane 15 takes it before it opens a
-// page.
-#[test]
-fn runs_the_largest_shape(rt: HostRuntime) {
-    let file = largest_file(&rt);
-    let mut core = core_of(&rt, file.as_str());
-    take_turns(&rt, &mut core, 15, 1);
-    take_turns(&rt, &mut core, 0, 6);
-    assert!(rt; core.finished(0));
-    take_turns(&rt, &mut core, 15, 5000);
-    assert!(rt; core.finished(15));
-    same(&rt, &(core.most(15), core.most(0)), &((15, 1), (0, 6)));
-    same(&rt, &collects(core.acts()), &1);
 }

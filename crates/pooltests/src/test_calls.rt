@@ -1,19 +1,18 @@
 //! Calls of a pool as tests make them: with what they ask of a lane, and what they leave of it.
-ghost use Rattle.std.specs.Prelude.{◌≡◌, ◌+◌, ◌<◌, ◌≤◌, ℕ, All};
+ghost use Rattle.std.specs.Prelude.{◌≡◌, ◌+◌, ◌<◌, ◌≤◌, ℕ};
 ghost use Rattle.steplaws.specs.Facts.{most_references};
-ghost use Rattle.shardpool.specs.Tokens.{LaneOf, FillingOf};
+ghost use Rattle.shardpool.specs.Tokens.{LaneOf};
 ghost use Rattle.shardpool.specs.Lanes.{Owns, Made, holds, refs};
+ghost use Rattle.guards.specs.Here.{HoldNothing};
 
 use crate::contents::shows;
+use guards::{Opened, open_lanes};
 use keybits::Shape;
-use shardpool::{Census, CreateFault, Filling, Lane, Pool, Ref, close, open};
+use shardpool::{Census, CreateFault, Filling, Lane, Pool, Ref};
 use slotcell::{ByteBuf, Clear};
 use std::alloc::Global;
 use std::fmt::Debug;
 use std::process::Abort;
-
-/// The largest generation of a place.
-pub(crate) const LAST: u32 = 4294967295;
 
 pub(crate) const NO_PLACE: Census = Census {
     free: 0,
@@ -30,42 +29,47 @@ pub(crate) const fn shape_of(lanes: u32, first_page: u32, pages: u32) -> Shape {
         lanes,
         first_page,
         pages,
-        last_generation: LAST,
+        last_generation: u32::MAX,
         tag: 0,
     }
 }
 
-/// A pool of this shape, and its lanes.
-pub(crate) fn open_all<T: Clear + Drop, R: Abort>(
-    rt: &R,
-    alloc: Global,
-    shape: Shape,
-) -> (Pool<T>, Vec<Lane<T>>)
-    ensures { All (λ lane. Owns result.0 lane × (refs lane ≡ 0)) result.1.items }
+/// A pool of this shape, with its lanes.
+pub(crate) fn open_of<T: Clear + Drop, R: Abort>(rt: &R, alloc: Global, shape: Shape) -> Opened<T>
+    ensures { HoldNothing result.lanes }
 {
-    let Ok(made) = open(alloc, shape) else {
+    let Ok(opened) = open_lanes(alloc, shape) else {
         panic!(rt; "no pool")
     };
-    made
+    opened
 }
 
-/// The last of the lanes.
-pub(crate) fn last_of<T: Clear + Drop, R: Abort>(
+/// The lane of this number, which is here.
+pub(crate) fn take<T: Clear + Drop, R: Abort>(
     rt: &R,
-    pool: &Pool<T>,
-    lanes: &mut Vec<Lane<T>>,
+    opened: &mut Opened<T>,
+    number: u32,
 ) -> Lane<T>
-    requires { All (λ lane. Owns pool.now lane × (refs lane ≡ 0)) lanes.old.items }
-    ensures rest { All (λ lane. Owns pool.now lane × (refs lane ≡ 0)) lanes.new.items }
-    ensures last { Owns pool.now result × (refs result ≡ 0) }
+    requires { HoldNothing opened.old.lanes }
+    ensures pool { opened.new.pool ≡ opened.old.pool }
+    ensures nothing { HoldNothing opened.new.lanes }
+    ensures lane { Owns opened.new.pool result × (refs result ≡ 0) }
 {
-    let Some(lane) = lanes.pop() else {
-        panic!(rt; "no lane")
+    let Some(lane) = opened.lanes.take(number) else {
+        panic!(rt; "lane {number} is missing")
     };
     lane
 }
 
-/// A pool of this shape, and the last of its lanes.
+/// What a close counts, of which no lane is missing.
+pub(crate) fn close_all<T: Clear + Drop, R: Abort>(rt: &R, opened: Opened<T>) -> Census {
+    let Ok(census) = opened.close() else {
+        panic!(rt; "a lane is missing")
+    };
+    census
+}
+
+/// A pool of so many lanes of this shape, and the last of them.
 pub(crate) fn open_last<T: Clear + Drop, R: Abort>(
     rt: &R,
     alloc: Global,
@@ -73,89 +77,26 @@ pub(crate) fn open_last<T: Clear + Drop, R: Abort>(
 ) -> (Pool<T>, Lane<T>)
     ensures { Owns result.0 result.1 × (refs result.1 ≡ 0) }
 {
-    let (pool, mut lanes) = open_all(rt, alloc, shape);
-    let lane = last_of(rt, &pool, &mut lanes);
-    (pool, lane)
+    let mut opened = open_of(rt, alloc, shape);
+    let lane = take(rt, &mut opened, shape.lanes.saturating_sub(1));
+    (opened.pool, lane)
 }
 
-/// A pool of this shape, and the last two of its lanes.
-pub(crate) fn open_pair<T: Clear + Drop, R: Abort>(
+/// A pool of two lanes with a place each, and the lanes.
+pub(crate) fn open_pair<R: Abort>(
     rt: &R,
     alloc: Global,
-    shape: Shape,
-) -> (Pool<T>, Lane<T>, Lane<T>)
+) -> (Pool<ByteBuf>, Lane<ByteBuf>, Lane<ByteBuf>)
     ensures first { Owns result.0 result.1 × (refs result.1 ≡ 0) }
     ensures second { Owns result.0 result.2 × (refs result.2 ≡ 0) }
 {
-    let (pool, mut lanes) = open_all(rt, alloc, shape);
-    let second = last_of(rt, &pool, &mut lanes);
-    let first = last_of(rt, &pool, &mut lanes);
-    (pool, first, second)
-}
-
-/// Closes a pool with its lanes, of which the last comes first.
-pub(crate) fn close_all<T: Clear + Drop, R: Abort>(
-    rt: &R,
-    pool: Pool<T>,
-    lanes: Vec<Lane<T>>,
-) -> Census
-    requires { All (λ lane. Owns pool lane) lanes.items }
-{
-    let count = lanes.len();
-    assert_eq!(rt; count, pool.shape().lanes as usize);
-    for index in 0..count {
-        assert_eq!(rt; lanes[index].number() as usize, count - 1 - index);
-    }
-    close(pool, lanes)
-}
-
-/// Closes a pool of one lane.
-pub(crate) fn close_one<T: Clear + Drop, R: Abort>(
-    rt: &R,
-    alloc: Global,
-    pool: Pool<T>,
-    lane: Lane<T>,
-) -> Census
-    requires { Owns pool lane }
-{
-    let mut lanes = Vec::with_capacity(alloc, 1).expect(rt, "memory for a lane");
-    lanes.push_reserved(lane);
-    close_all(rt, pool, lanes)
-}
-
-/// Closes a pool of two lanes.
-pub(crate) fn close_two<T: Clear + Drop, R: Abort>(
-    rt: &R,
-    alloc: Global,
-    pool: Pool<T>,
-    first: Lane<T>,
-    second: Lane<T>,
-) -> Census
-    requires first { Owns pool first }
-    requires second { Owns pool second }
-{
-    let mut lanes = Vec::with_capacity(alloc, 2).expect(rt, "memory for two lanes");
-    lanes.push_reserved(second);
-    lanes.push_reserved(first);
-    close_all(rt, pool, lanes)
+    let mut opened = open_of(rt, alloc, shape_of(2, 1, 1));
+    let first = take(rt, &mut opened, 0);
+    let second = take(rt, &mut opened, 1);
+    (opened.pool, first, second)
 }
 
 /// A filling of a pool that gives one.
-fn create_again<T: Clear + Drop, R: Abort>(rt: &R, pool: &Pool<T>, lane: &mut Lane<T>) -> Filling<T>
-    requires { Owns pool.now lane.old }
-    ensures owns { Owns pool.now lane.new }
-    ensures refs { refs lane.new ≡ refs lane.old }
-    ensures held { (key : ℕ) → holds lane.new key ≡ holds lane.old key }
-    ensures made { Made lane.new result }
-    ensures fillings { (filling : FillingOf T) → Made lane.old filling → Made lane.new filling }
-{
-    let Ok(filling) = pool.create(lane) else {
-        panic!(rt; "no filling")
-    };
-    filling
-}
-
-/// A filling. Where the memory of a page is refused, the page stays unopened, and the call is made again.
 pub(crate) fn create<T: Clear + Drop, R: Abort>(
     rt: &R,
     pool: &Pool<T>,
@@ -164,18 +105,12 @@ pub(crate) fn create<T: Clear + Drop, R: Abort>(
     requires { Owns pool.now lane.old }
     ensures owns { Owns pool.now lane.new }
     ensures refs { refs lane.new ≡ refs lane.old }
-    ensures held { (key : ℕ) → holds lane.new key ≡ holds lane.old key }
     ensures made { Made lane.new result }
-    ensures fillings { (filling : FillingOf T) → Made lane.old filling → Made lane.new filling }
 {
-    match pool.create(lane) {
-        Ok(filling) => filling,
-        Err(fault) => {
-            same(rt, &fault, &CreateFault::Memory);
-            same(rt, &fault.number(), &22);
-            create_again(rt, pool, lane)
-        }
-    }
+    let Ok(filling) = pool.create(lane) else {
+        panic!(rt; "no filling")
+    };
+    filling
 }
 
 /// A create that finds no place.
@@ -217,13 +152,11 @@ pub(crate) fn fill<R: Abort>(
     requires { Owns pool.now lane.old }
     ensures owns { Owns pool.now lane.new }
     ensures refs { refs lane.new ≡ refs lane.old }
-    ensures held { (key : ℕ) → holds lane.new key ≡ holds lane.old key }
     ensures made { Made lane.new result }
-    ensures key { result.key ≡ key }
 {
     let mut filling = create(rt, pool, lane);
-    assert_eq!(rt; filling.key(), key);
-    assert!(rt; filling.value().is_empty());
+    same(rt, &filling.key(), &key);
+    same(rt, &filling.value().len(), &0);
     write(rt, &mut filling, bytes);
     filling
 }
@@ -242,16 +175,6 @@ pub(crate) fn publish<R: Abort>(
 {
     let filling = fill(rt, pool, lane, key, bytes);
     same(rt, &pool.publish(lane, filling), &key);
-}
-
-/// An object that is left empty is published. Answers its key.
-pub(crate) fn put<T: Clear + Drop, R: Abort>(rt: &R, pool: &Pool<T>, lane: &mut Lane<T>) -> u64
-    requires { Owns pool.now lane.old }
-    ensures owns { Owns pool.now lane.new }
-    ensures refs { refs lane.new ≡ refs lane.old }
-{
-    let filling = create(rt, pool, lane);
-    pool.publish(lane, filling)
 }
 
 /// An object that is left empty is published with a reference.
@@ -309,7 +232,6 @@ pub(crate) fn misses<T: Clear + Drop, R: Abort>(
     ensures owns { Owns pool.now lane.new }
     ensures refs { refs lane.new ≡ refs lane.old }
     ensures held { (k : ℕ) → holds lane.new k ≡ holds lane.old k }
-    ensures fillings { (filling : FillingOf T) → Made lane.old filling → Made lane.new filling }
 {
     if let Some(reference) = pool.get(lane, key) {
         reference.forget();
@@ -328,8 +250,7 @@ pub(crate) fn clear<T: Clear + Drop, R: Abort>(
     requires { Owns pool.now lane.old }
     ensures owns { Owns pool.now lane.new }
     ensures refs { refs lane.new ≡ refs lane.old }
-    ensures held { (key : ℕ) → holds lane.new key ≡ holds lane.old key }
-    ensures fillings { (filling : FillingOf T) → Made lane.old filling → Made lane.new filling }
+    ensures held { (k : ℕ) → holds lane.new k ≡ holds lane.old k }
 {
     same(rt, &pool.clear(lane, key), &marks);
 }
@@ -360,11 +281,4 @@ pub(crate) fn tell<T: Clear + Drop>(pool: &Pool<T>, teller: &mut Lane<T>, hearer
 /// Stops the test unless these are equal. A call of this is proved much faster than the comparison written out.
 pub(crate) fn same<T: PartialEq + Debug, R: Abort>(rt: &R, left: &T, right: &T) {
     assert_eq!(rt; *left, *right);
-}
-
-/// Stops the test unless a word is this. Conditions further down may rest on it.
-pub(crate) fn is_word<R: Abort>(rt: &R, word: u64, wanted: u64)
-    ensures { word ≡ wanted }
-{
-    assert_eq!(rt; word, wanted);
 }

@@ -3,9 +3,7 @@ ghost use Rattle.std.specs.Prelude.{◌≡◌, []};
 ghost use Rattle.shardpool.specs.Tokens.{LaneOf};
 ghost use Rattle.shardpool.specs.Lanes.{Owns, Made, refs};
 
-use crate::test_calls::{
-    NO_PLACE, clear, close_one, close_two, create, get, open_last, open_pair, same, shape_of,
-};
+use crate::test_calls::{NO_PLACE, clear, close_all, create, get, open_of, same, shape_of, take};
 use keybits::Shape;
 use shardpool::{Census, Filling, Lane, Pool};
 use slotcell::Clear;
@@ -158,10 +156,14 @@ fn use_places<R: Abort>(
 #[test]
 fn drops_each_object_once(rt: HostRuntime) {
     let drops = new_count(&rt, rt.alloc());
-    let (pool, mut first, mut second) = open_pair(&rt, rt.alloc(), shape_of(2, 8, 1));
-    use_places(&rt, &pool, &mut first, &mut second, &drops);
+    let mut opened = open_of(&rt, rt.alloc(), shape_of(2, 8, 1));
+    let mut first = take(&rt, &mut opened, 0);
+    let mut second = take(&rt, &mut opened, 1);
+    use_places(&rt, &opened.pool, &mut first, &mut second, &drops);
     same(&rt, &drops.load(Ordering::SeqCst), &2);
-    let census = close_two(&rt, rt.alloc(), pool, first, second);
+    opened.lanes.give(first);
+    opened.lanes.give(second);
+    let census = close_all(&rt, opened);
     same(&rt, &drops.load(Ordering::SeqCst), &9);
     same(
         &rt,
@@ -183,9 +185,11 @@ fn drops_a_retired_object_once(rt: HostRuntime) {
         last_generation: 1,
         ..shape_of(1, 1, 1)
     };
-    let (pool, mut lane) = open_last(&rt, rt.alloc(), shape);
-    let key = publish(&rt, &pool, &mut lane, &drops);
-    clear(&rt, &pool, &mut lane, key, true);
-    close_one(&rt, rt.alloc(), pool, lane);
+    let mut opened = open_of(&rt, rt.alloc(), shape);
+    let mut lane = take(&rt, &mut opened, 0);
+    let key = publish(&rt, &opened.pool, &mut lane, &drops);
+    clear(&rt, &opened.pool, &mut lane, key, true);
+    opened.lanes.give(lane);
+    close_all(&rt, opened);
     same(&rt, &drops.load(Ordering::SeqCst), &1);
 }

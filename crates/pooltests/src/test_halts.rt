@@ -2,7 +2,7 @@
 ghost use Rattle.std.specs.Prelude.{◌≡◌};
 ghost use Rattle.shardpool.specs.Lanes.{Owns, holds, refs};
 
-use crate::test_calls::{clear, get, hold, open_pair, release, same, shape_of};
+use crate::test_calls::{clear, get, hold, open_pair, release, same};
 use shardpool::{CreateFault, Lane, LastCall, Pool};
 use slotcell::ByteBuf;
 use std::process::Abort;
@@ -139,7 +139,7 @@ fn stop_in_create<R: Abort>(
 #[test]
 fn a_halted_get_keeps_its_enter(rt: HostRuntime) {
     for (limit, created) in [(0, 33554432), (1, 0), (100, 33554432)] {
-        let (pool, mut first, second) = open_pair(&rt, rt.alloc(), shape_of(2, 1, 1));
+        let (pool, mut first, second) = open_pair(&rt, rt.alloc());
         same(
             &rt,
             &create_after_get(&rt, &pool, &mut first, second, limit),
@@ -151,7 +151,7 @@ fn a_halted_get_keeps_its_enter(rt: HostRuntime) {
 #[test]
 fn a_halted_clear_marks_or_not(rt: HostRuntime) {
     for (limit, found) in [(0, true), (100, false)] {
-        let (pool, mut first, second) = open_pair(&rt, rt.alloc(), shape_of(2, 1, 1));
+        let (pool, mut first, second) = open_pair(&rt, rt.alloc());
         same(
             &rt,
             &finds_after_clear(&rt, &pool, &mut first, second, limit),
@@ -163,7 +163,7 @@ fn a_halted_clear_marks_or_not(rt: HostRuntime) {
 #[test]
 fn a_halted_release_keeps_its_reference_or_not(rt: HostRuntime) {
     for (limit, created) in [(0, 0), (100, 33554432)] {
-        let (pool, mut first, second) = open_pair(&rt, rt.alloc(), shape_of(2, 1, 1));
+        let (pool, mut first, second) = open_pair(&rt, rt.alloc());
         same(
             &rt,
             &create_after_release(&rt, &pool, &mut first, second, limit),
@@ -175,7 +175,7 @@ fn a_halted_release_keeps_its_reference_or_not(rt: HostRuntime) {
 #[test]
 fn a_halted_create_stops(rt: HostRuntime) {
     for limit in [0, 100] {
-        let (pool, mut first, second) = open_pair(&rt, rt.alloc(), shape_of(2, 1, 1));
+        let (pool, mut first, second) = open_pair(&rt, rt.alloc());
         stop_in_create(&rt, &pool, &mut first, second, limit);
     }
 }

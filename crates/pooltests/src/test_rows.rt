@@ -4,10 +4,10 @@ ghost use Rattle.shardpool.specs.Lanes.{Owns, holds, refs};
 
 use crate::test_calls::{
     clear, create, fill, finds_full, get, misses, open_last, open_pair, publish, reads, release,
-    same, shape_of, tell, write,
+    same, shape_of, tell,
 };
 use shardpool::{Lane, Pool, Ref};
-use slotcell::{ByteBuf, Clear};
+use slotcell::ByteBuf;
 use std::alloc::Global;
 use std::process::Abort;
 
@@ -42,170 +42,80 @@ fn read_on<R: Abort>(
     filling.forget();
 }
 
-fn clear_under_two<R: Abort>(
-    rt: &R,
-    pool: &Pool<ByteBuf>,
-    first: &mut Lane<ByteBuf>,
-    second: &mut Lane<ByteBuf>,
-)
-    requires first { Owns pool.now first.old × (refs first.old < 1000) }
-    requires second { Owns pool.now second.old × (refs second.old < 1000) }
-{
-    publish(rt, pool, first, FIRST, b"a");
-    let one = get(rt, pool, first, FIRST);
-    let other = get(rt, pool, second, FIRST);
-    reads(rt, first, &one, b"a");
-    reads(rt, second, &other, b"a");
-    read_on(rt, pool, first, second, one, other);
+fn clear_under_two<R: Abort>(rt: &R, alloc: Global) {
+    let (pool, mut first, mut second) = open_pair(rt, alloc);
+    publish(rt, &pool, &mut first, FIRST, b"a");
+    let one = get(rt, &pool, &mut first, FIRST);
+    let other = get(rt, &pool, &mut second, FIRST);
+    reads(rt, &first, &one, b"a");
+    reads(rt, &second, &other, b"a");
+    read_on(rt, &pool, &mut first, &mut second, one, other);
 }
 
-fn return_and_publish<R: Abort>(
-    rt: &R,
-    pool: &Pool<ByteBuf>,
-    first: &mut Lane<ByteBuf>,
-    second: &mut Lane<ByteBuf>,
-)
-    requires first { Owns pool.now first.old × (refs first.old < 1000) }
-    requires second { Owns pool.now second.old × (refs second.old < 1000) }
-{
-    publish(rt, pool, first, FIRST, b"");
-    let reference = get(rt, pool, second, FIRST);
-    clear(rt, pool, first, FIRST, true);
-    release(pool, second, reference);
-    publish(rt, pool, first, AGAIN, b"");
+fn return_and_publish<R: Abort>(rt: &R, alloc: Global) {
+    let (pool, mut first, mut second) = open_pair(rt, alloc);
+    publish(rt, &pool, &mut first, FIRST, b"");
+    let reference = get(rt, &pool, &mut second, FIRST);
+    clear(rt, &pool, &mut first, FIRST, true);
+    release(&pool, &mut second, reference);
+    publish(rt, &pool, &mut first, AGAIN, b"");
 }
 
-fn clear_of_a_held_key<R: Abort>(
-    rt: &R,
-    pool: &Pool<ByteBuf>,
-    first: &mut Lane<ByteBuf>,
-    second: &mut Lane<ByteBuf>,
-)
-    requires first { Owns pool.now first.old × (refs first.old < 1000) }
-    requires second { Owns pool.now second.old }
-{
-    let filling = fill(rt, pool, first, FIRST, b"z");
-    let reference = pool.downgrade(first, filling);
-    clear(rt, pool, second, FIRST, true);
-    misses(rt, pool, first, FIRST);
-    reads(rt, first, &reference, b"z");
+fn clear_of_a_held_key<R: Abort>(rt: &R, alloc: Global) {
+    let (pool, mut first, mut second) = open_pair(rt, alloc);
+    let filling = fill(rt, &pool, &mut first, FIRST, b"z");
+    let reference = pool.downgrade(&mut first, filling);
+    clear(rt, &pool, &mut second, FIRST, true);
+    misses(rt, &pool, &mut first, FIRST);
+    reads(rt, &first, &reference, b"z");
     reference.forget();
 }
 
-fn hear_and_get<R: Abort>(
-    rt: &R,
-    pool: &Pool<ByteBuf>,
-    first: &mut Lane<ByteBuf>,
-    second: &mut Lane<ByteBuf>,
-)
-    requires first { Owns pool.now first.old }
-    requires second { Owns pool.now second.old × (refs second.old < 1000) }
-{
-    publish(rt, pool, first, FIRST, b"hi");
-    tell(pool, first, second);
-    let reference = get(rt, pool, second, FIRST);
-    reads(rt, second, &reference, b"hi");
+fn hear_and_get<R: Abort>(rt: &R, alloc: Global) {
+    let (pool, mut first, mut second) = open_pair(rt, alloc);
+    publish(rt, &pool, &mut first, FIRST, b"hi");
+    tell(&pool, &mut first, &mut second);
+    let reference = get(rt, &pool, &mut second, FIRST);
+    reads(rt, &second, &reference, b"hi");
     reference.forget();
 }
 
-fn hear_and_create<R: Abort>(
-    rt: &R,
-    pool: &Pool<ByteBuf>,
-    first: &mut Lane<ByteBuf>,
-    second: &mut Lane<ByteBuf>,
-)
-    requires first { Owns pool.now first.old }
-    requires second { Owns pool.now second.old × (refs second.old < 1000) }
-{
-    publish(rt, pool, first, FIRST, b"");
-    let reference = get(rt, pool, second, FIRST);
-    clear(rt, pool, first, FIRST, true);
-    release(pool, second, reference);
-    tell(pool, second, first);
-    let filling = fill(rt, pool, first, AGAIN, b"");
+fn hear_and_create<R: Abort>(rt: &R, alloc: Global) {
+    let (pool, mut first, mut second) = open_pair(rt, alloc);
+    publish(rt, &pool, &mut first, FIRST, b"");
+    let reference = get(rt, &pool, &mut second, FIRST);
+    clear(rt, &pool, &mut first, FIRST, true);
+    release(&pool, &mut second, reference);
+    tell(&pool, &mut second, &mut first);
+    let filling = fill(rt, &pool, &mut first, AGAIN, b"");
     filling.forget();
-}
-
-/// What two lanes of a pool do, one after the other.
-#[derive(Clone, Copy)]
-enum Calls {
-    ReadOnAfterAClear,
-    PublishAReturnedPlace,
-    ReadWhatAnotherCleared,
-    FindAKeyHeardOf,
-    CreateWhatWasReturned,
-}
-
-/// These calls of two lanes with a place each.
-fn call_in_turn<R: Abort>(
-    rt: &R,
-    pool: &Pool<ByteBuf>,
-    first: &mut Lane<ByteBuf>,
-    second: &mut Lane<ByteBuf>,
-    calls: Calls,
-)
-    requires first { Owns pool.now first.old × (refs first.old < 1000) }
-    requires second { Owns pool.now second.old × (refs second.old < 1000) }
-{
-    match calls {
-        Calls::ReadOnAfterAClear => clear_under_two(rt, pool, first, second),
-        Calls::PublishAReturnedPlace => return_and_publish(rt, pool, first, second),
-        Calls::ReadWhatAnotherCleared => clear_of_a_held_key(rt, pool, first, second),
-        Calls::FindAKeyHeardOf => hear_and_get(rt, pool, first, second),
-        Calls::CreateWhatWasReturned => hear_and_create(rt, pool, first, second),
-    }
-}
-
-/// Two lanes of a pool with a place each make these calls.
-fn call<R: Abort>(rt: &R, alloc: Global, calls: Calls) {
-    let (pool, mut first, mut second) = open_pair(rt, alloc, shape_of(2, 1, 1));
-    call_in_turn(rt, &pool, &mut first, &mut second, calls);
 }
 
 #[test]
 fn two_lanes_call_in_turn(rt: HostRuntime) {
-    call(&rt, rt.alloc(), Calls::ReadOnAfterAClear);
-    call(&rt, rt.alloc(), Calls::PublishAReturnedPlace);
-    call(&rt, rt.alloc(), Calls::ReadWhatAnotherCleared);
-    call(&rt, rt.alloc(), Calls::FindAKeyHeardOf);
-    call(&rt, rt.alloc(), Calls::CreateWhatWasReturned);
-}
-
-fn refill<R: Abort>(rt: &R, pool: &Pool<ByteBuf>, lane: &mut Lane<ByteBuf>, bytes: &[u8])
-    requires { Owns pool.now lane.old }
-{
-    publish(rt, pool, lane, FIRST, bytes);
-    clear(rt, pool, lane, FIRST, true);
-    assert!(rt; lane.has_free());
-    let mut filling = fill(rt, pool, lane, AGAIN, b"");
-    assert!(rt; filling.value().room() >= bytes.len());
-    write(rt, &mut filling, bytes);
-    assert_eq!(rt; filling.value().as_slice(), bytes);
-    filling.forget();
-}
-
-#[test]
-fn keeps_the_memory_of_an_object(rt: HostRuntime) {
-    let (pool, mut lane) = open_last(&rt, rt.alloc(), shape_of(1, 1, 1));
-    refill(&rt, &pool, &mut lane, [7; 4096].as_slice());
-}
-
-/// The key at this number, where one stands there.
-fn key_at(keys: &[(u32, u64)], number: u32) -> Option<u64> {
-    keys.iter().find(|pair| pair.0 == number).map(|pair| pair.1)
+    clear_under_two(&rt, rt.alloc());
+    return_and_publish(&rt, rt.alloc());
+    clear_of_a_held_key(&rt, rt.alloc());
+    hear_and_get(&rt, rt.alloc());
+    hear_and_create(&rt, rt.alloc());
 }
 
 /// A filling of each place of a lane, those of these numbers with these keys; then no place is free.
 fn fill_all<R: Abort>(rt: &R, pool: &Pool<ByteBuf>, lane: &mut Lane<ByteBuf>, keys: &[(u32, u64)])
     requires { Owns pool.now lane.old }
 {
+    let mut rest = keys;
     for number in 1..=PLACES {
         let filling = create(rt, pool, lane);
-        if let Some(key) = key_at(keys, number) {
-            same(rt, &filling.key(), &key);
+        if let [(next, key), others @ ..] = rest
+            && *next == number
+        {
+            same(rt, &filling.key(), key);
+            rest = others;
         }
         filling.forget();
     }
+    same(rt, &rest.len(), &0);
     finds_full(rt, pool, lane);
 }
 
@@ -273,6 +183,6 @@ fn call_by_key<R: Abort>(
 
 #[test]
 fn calls_by_key(rt: HostRuntime) {
-    let (pool, mut first, mut second) = open_pair(&rt, rt.alloc(), shape_of(2, 1, 1));
+    let (pool, mut first, mut second) = open_pair(&rt, rt.alloc());
     call_by_key(&rt, &pool, &mut first, &mut second);
 }

@@ -1,157 +1,206 @@
 //! Threads that call one pool, each with a lane of its own.
-ghost use Rattle.std.specs.Prelude.{◌≡◌, ◌==◌, ◌+◌, ◌-◌, ◌<◌, ◌≤◌, ℕ, if◌then◌else◌};
-ghost use Rattle.steplaws.specs.Facts.{most_references};
-ghost use Rattle.shardpool.specs.Lanes.{Owns, holds, refs};
+ghost use Rattle.std.specs.Prelude.{◌≡◌};
+ghost use Rattle.guards.specs.Here.{HoldNothing};
 
-use crate::test_calls::{
-    NO_PLACE, clear, close_all, close_two, create, get, last_of, misses, open_all, open_pair,
-    reads, same, shape_of, write,
-};
-use shardpool::{Census, Lane, Pool, Ref};
+use crate::test_calls::{NO_PLACE, close_all, open_of, same, shape_of};
+use guards::{Job, Opened, PoolName, Seat, run_lanes};
+use shardpool::Census;
 use slotcell::ByteBuf;
 use std::alloc::Global;
+use std::marker::Brand;
 use std::process::Abort;
+use std::sync::Wait;
 use std::sync::atomic::{AtomicU64, Ordering};
-use std::thread;
 use std::thread::Threads;
 
-const ROUNDS: u32 = 10_000;
+/// How many threads there are, each with a lane.
+const THREADS: usize = 4;
 
-const TURNS: u32 = 3_000_000;
+/// How often each passes a key on.
+const PASSES: u32 = 3_000_000;
 
-/// An object is published with the bytes of its key, the lowest first.
-pub(crate) fn publish_key<R: Abort>(rt: &R, pool: &Pool<ByteBuf>, lane: &mut Lane<ByteBuf>) -> u64
-    requires { Owns pool.now lane.old }
-    ensures owns { Owns pool.now lane.new }
-    ensures refs { refs lane.new ≡ refs lane.old }
+/// How often each does something with the keys over which all fight.
+const TURNS: u32 = 200_000;
+
+/// How many such keys there are.
+const KEYS: usize = 8;
+
+/// Words for the keys that lanes pass round: each lane leaves keys in its own.
+type Ring = [AtomicU64; THREADS];
+
+/// Keys over which threads fight, and how many were published and marked.
+#[derive(Drop)]
+struct Brawl {
+    keys: [AtomicU64; KEYS],
+    published: AtomicU64,
+    marked: AtomicU64,
+}
+
+/// An object is published with the bytes of its key, the lowest first. Answers the key, or 0 where there is no place.
+fn publish_key<N: PoolName>(seat: &mut Seat<'_, N, ByteBuf>) -> u64
+    ensures { seat.new.lane.number ≡ seat.old.lane.number }
 {
-    let mut filling = create(rt, pool, lane);
+    let Ok(mut filling) = seat.create() else {
+        return 0;
+    };
     let key = filling.key();
-    write(rt, &mut filling, key.to_le_bytes().as_slice());
-    pool.publish(lane, filling)
+    let _ = filling.value_mut().append(key.to_le_bytes().as_slice());
+    seat.publish(filling)
 }
 
-/// It is published with a reference.
-fn downgrade_key<R: Abort>(rt: &R, pool: &Pool<ByteBuf>, lane: &mut Lane<ByteBuf>) -> Ref<ByteBuf>
-    requires owns { Owns pool.now lane.old }
-    requires room { refs lane.old < 1000 }
-    ensures owns { Owns pool.now lane.new }
-    ensures refs { refs lane.new ≡ refs lane.old + 1 }
-    ensures held { 1 ≤ holds lane.new result.key }
+/// Whether a key shows its own bytes. None where it isn't found.
+fn shows_key<N: PoolName>(seat: &mut Seat<'_, N, ByteBuf>, key: u64) -> Option<bool>
+    ensures { seat.new.lane.number ≡ seat.old.lane.number }
 {
-    let mut filling = create(rt, pool, lane);
-    let key = filling.key();
-    write(rt, &mut filling, key.to_le_bytes().as_slice());
-    pool.downgrade(lane, filling)
-}
-
-/// A reference reads the bytes of its key.
-fn reads_key<R: Abort>(rt: &R, lane: &Lane<ByteBuf>, reference: &Ref<ByteBuf>)
-    requires { 1 ≤ holds lane.now reference.now.key }
-{
-    reads(
-        rt,
-        lane,
-        reference,
-        reference.key().to_le_bytes().as_slice(),
-    );
-}
-
-/// A reference reads the bytes of its key, and is given back.
-pub(crate) fn read_and_release<R: Abort>(
-    rt: &R,
-    pool: &Pool<ByteBuf>,
-    lane: &mut Lane<ByteBuf>,
-    reference: Ref<ByteBuf>,
-)
-    requires owns { Owns pool.now lane.old }
-    requires held { 1 ≤ holds lane.old reference.key }
-    ensures owns { Owns pool.now lane.new }
-    ensures refs { refs lane.new + 1 ≡ refs lane.old }
-    ensures held { (key : ℕ) → holds lane.new key ≡ (if reference.key == key then holds lane.old key - 1 else holds lane.old key) }
-{
-    reads_key(rt, lane, &reference);
-    pool.release(lane, reference);
-}
-
-/// A key of another lane is got, which may be cleared at any moment, and read where it is found.
-pub(crate) fn look<R: Abort>(rt: &R, pool: &Pool<ByteBuf>, lane: &mut Lane<ByteBuf>, key: u64)
-    requires owns { Owns pool.now lane.old }
-    requires room { refs lane.old < most_references }
-    ensures owns { Owns pool.now lane.new }
-    ensures refs { refs lane.new ≡ refs lane.old }
-    ensures held { (k : ℕ) → holds lane.new k ≡ holds lane.old k }
-{
-    if let Some(reference) = pool.get(lane, key) {
-        same(rt, &reference.key(), &key);
-        read_and_release(rt, pool, lane, reference);
-    }
-}
-
-/// A key of the lane is published and cleared, and found before its clear and not after it; meanwhile the key in the
-/// other lane's word is looked at.
-fn round<R: Abort>(
-    rt: &R,
-    pool: &Pool<ByteBuf>,
-    lane: &mut Lane<ByteBuf>,
-    own: &AtomicU64,
-    other: &AtomicU64,
-)
-    requires owns { Owns pool.now lane.old }
-    requires room { refs lane.old < 1000 }
-    ensures owns { Owns pool.now lane.new }
-    ensures refs { refs lane.new ≡ refs lane.old }
-{
-    let key = publish_key(rt, pool, lane);
-    own.store(key, Ordering::SeqCst);
-    let reference = get(rt, pool, lane, key);
-    look(rt, pool, lane, other.load(Ordering::SeqCst));
-    reads_key(rt, lane, &reference);
-    clear(rt, pool, lane, key, true);
-    misses(rt, pool, lane, key);
-    read_and_release(rt, pool, lane, reference);
-}
-
-fn rounds<R: Abort>(
-    rt: &R,
-    pool: &Pool<ByteBuf>,
-    mut lane: Lane<ByteBuf>,
-    own: &AtomicU64,
-    other: &AtomicU64,
-) -> Lane<ByteBuf>
-    requires owns { Owns pool.now lane }
-    requires none { refs lane ≡ 0 }
-    ensures owns { Owns pool.now result }
-    ensures none { refs result ≡ 0 }
-{
-    for _ in 0..ROUNDS {
-        round(rt, pool, &mut lane, own, other);
-    }
-    lane
-}
-
-fn on_two_threads<R: Threads + Abort + Sync>(
-    rt: &R,
-    pool: &Pool<ByteBuf>,
-    first: Lane<ByteBuf>,
-    second: Lane<ByteBuf>,
-) -> (Lane<ByteBuf>, Lane<ByteBuf>)
-    requires first { Owns pool.now first × (refs first ≡ 0) }
-    requires second { Owns pool.now second × (refs second ≡ 0) }
-    ensures first { Owns pool.now result.0 × (refs result.0 ≡ 0) }
-    ensures second { Owns pool.now result.1 × (refs result.1 ≡ 0) }
-{
-    let one = AtomicU64::new(0);
-    let other = AtomicU64::new(0);
-    thread::join(
-        rt,
-        || rounds(rt, pool, first, &one, &other),
-        || rounds(rt, pool, second, &other, &one),
+    seat.with(
+        key,
+        |bytes: &ByteBuf| bytes.as_slice() == key.to_le_bytes().as_slice(),
     )
 }
 
-/// The census of a pool of which nothing is in use: each of its places is free, or of a page that was never opened.
-pub(crate) fn counts_free<R: Abort>(rt: &R, census: Census, places: u64) {
+/// A key that no other lane clears is cleared: whether it is found before, with its bytes, and not behind.
+fn take<N: PoolName>(seat: &mut Seat<'_, N, ByteBuf>, key: u64) -> bool
+    ensures { seat.new.lane.number ≡ seat.old.lane.number }
+{
+    let shown = shows_key(seat, key);
+    let marked = seat.clear(key);
+    let behind = shows_key(seat, key);
+    shown == Some(true) && marked && behind.is_none()
+}
+
+/// A lane leaves a key in its own word, and clears the one that still stood there; and takes the key out of another
+/// lane's word, if one stands there. So each key is cleared once, by whoever took it out of its word: whether it was.
+fn pass_on<N: PoolName>(seat: &mut Seat<'_, N, ByteBuf>, own: &AtomicU64, other: &AtomicU64) -> bool
+    ensures { seat.new.lane.number ≡ seat.old.lane.number }
+{
+    let key = publish_key(seat);
+    let left = own.swap(key, Ordering::SeqCst);
+    let cleared = left == 0 || seat.clear(left);
+    let passed = other.swap(0, Ordering::SeqCst);
+    let taken = passed == 0 || take(seat, passed);
+    key != 0 && cleared && taken
+}
+
+/// A key is cleared that anybody may clear, and may have cleared.
+fn clear_any<N: PoolName>(seat: &mut Seat<'_, N, ByteBuf>, key: u64, brawl: &Brawl)
+    ensures { seat.new.lane.number ≡ seat.old.lane.number }
+{
+    let marked = seat.clear(key);
+    brawl.marked.fetch_add(u64::from(marked), Ordering::SeqCst);
+}
+
+/// A key is published in the place of another, which is cleared. Whether there was a place.
+fn replace<N: PoolName>(seat: &mut Seat<'_, N, ByteBuf>, word: &AtomicU64, brawl: &Brawl) -> bool
+    ensures { seat.new.lane.number ≡ seat.old.lane.number }
+{
+    let key = publish_key(seat);
+    brawl.published.fetch_add(1, Ordering::SeqCst);
+    clear_any(seat, word.swap(key, Ordering::SeqCst), brawl);
+    key != 0
+}
+
+/// One thing of three is done with a key: whether all was well.
+fn fight<N: PoolName>(seat: &mut Seat<'_, N, ByteBuf>, random: u64, brawl: &Brawl) -> bool
+    ensures { seat.new.lane.number ≡ seat.old.lane.number }
+{
+    let word = &brawl.keys[(random >> 32) as usize % KEYS];
+    let key = word.load(Ordering::SeqCst);
+    match random >> 8 & 3 {
+        0 => replace(seat, word, brawl),
+        1 => {
+            clear_any(seat, key, brawl);
+            true
+        }
+        _ => shows_key(seat, key) != Some(false),
+    }
+}
+
+/// The next number of a linear congruential generator.
+fn next(random: u64) -> u64 {
+    random
+        .wrapping_mul(6364136223846793005)
+        .wrapping_add(1442695040888963407)
+}
+
+/// What a lane does in a thread of its own: whether each turn went well.
+#[derive(Clone, Copy)]
+enum Play<'a> {
+    Pass(&'a Ring),
+    Fight(&'a Brawl),
+}
+
+/// Passes keys on.
+fn pass_all<N: PoolName>(seat: &mut Seat<'_, N, ByteBuf>, ring: &Ring) -> bool
+    ensures { seat.new.lane.number ≡ seat.old.lane.number }
+{
+    let number = seat.number() as usize % THREADS;
+    for _ in 0..PASSES {
+        if !pass_on(seat, &ring[number], &ring[(number + 1) % THREADS]) {
+            return false;
+        }
+    }
+    true
+}
+
+/// Fights over keys.
+fn fight_all<N: PoolName>(seat: &mut Seat<'_, N, ByteBuf>, brawl: &Brawl) -> bool
+    ensures { seat.new.lane.number ≡ seat.old.lane.number }
+{
+    let mut random = next(u64::from(seat.number()));
+    for _ in 0..TURNS {
+        random = next(random);
+        if !fight(seat, random, brawl) {
+            return false;
+        }
+    }
+    true
+}
+
+impl<N: PoolName> Job<N, ByteBuf> for Play<'_> {
+    type Answer = bool;
+
+    ghost does = { λ play before after answer. Unit {0} };
+
+    fn run<R: Threads + Wait + Sync>(self, _rt: &R, seat: &mut Seat<'_, N, ByteBuf>) -> bool {
+        match self {
+            Play::Pass(ring) => pass_all(seat, ring),
+            Play::Fight(brawl) => fight_all(seat, brawl),
+        }
+    }
+}
+
+/// Each lane plays in a thread of its own, and each turn goes well.
+fn play_all<N: PoolName + Send, R: Threads + Wait + Abort + Sync>(
+    rt: &R,
+    alloc: Global,
+    opened: &mut Opened<ByteBuf>,
+    play: Play<'_>,
+)
+    requires pool { opened.old.pool ≡ N.pool }
+    requires nothing { HoldNothing opened.old.lanes }
+{
+    let plays = vec![in alloc; play, play, play, play].expect(rt, "memory for the plays");
+    let Ok(answers) = run_lanes::<N, ByteBuf, Play<'_>, R>(rt, alloc, opened, plays) else {
+        panic!(rt; "all lanes are here")
+    };
+    let well = [true; THREADS];
+    same(rt, &answers.as_slice(), &well.as_slice());
+}
+
+/// What is counted when four lanes of this shape have played.
+fn census_of<R: Threads + Wait + Abort + Sync>(
+    rt: &R,
+    alloc: Global,
+    pages: u32,
+    play: Play<'_>,
+) -> Census {
+    let mut opened = open_of(rt, alloc, shape_of(THREADS as u32, 4, pages));
+    play_all::<Brand, R>(rt, alloc, &mut opened, play);
+    close_all(rt, opened)
+}
+
+/// So many keys are left, and each other place is free, or of a page that was never opened.
+fn has_left<R: Abort>(rt: &R, census: Census, present: u32) {
     let Census { free, unopened, .. } = census;
     same(
         rt,
@@ -159,163 +208,51 @@ pub(crate) fn counts_free<R: Abort>(rt: &R, census: Census, places: u64) {
         &Census {
             free,
             unopened,
+            present,
             ..NO_PLACE
         },
     );
-    same(rt, &(u64::from(free) + u64::from(unopened)), &places);
 }
 
-#[test]
-fn rounds_on_two_threads(rt: HostRuntime) {
-    let (pool, first, second) = open_pair(&rt, rt.alloc(), shape_of(2, 64, 6));
-    let (first, second) = on_two_threads(&rt, &pool, first, second);
-    counts_free(&rt, close_two(&rt, rt.alloc(), pool, first, second), 8064);
-}
-
-/// A key is cleared, if there is one.
-fn clear_left<R: Abort>(rt: &R, pool: &Pool<ByteBuf>, lane: &mut Lane<ByteBuf>, key: u64)
-    requires { Owns pool.now lane.old }
-    ensures owns { Owns pool.now lane.new }
-    ensures refs { refs lane.new ≡ refs lane.old }
-    ensures held { (k : ℕ) → holds lane.new k ≡ holds lane.old k }
-{
-    if key != 0 {
-        clear(rt, pool, lane, key, true);
-    }
-}
-
-/// A key that no other lane clears is read, and cleared.
-fn take<R: Abort>(rt: &R, pool: &Pool<ByteBuf>, lane: &mut Lane<ByteBuf>, key: u64)
-    requires owns { Owns pool.now lane.old }
-    requires room { refs lane.old < 1000 }
-    ensures owns { Owns pool.now lane.new }
-    ensures refs { refs lane.new ≡ refs lane.old }
-{
-    let reference = get(rt, pool, lane, key);
-    clear(rt, pool, lane, key, true);
-    misses(rt, pool, lane, key);
-    read_and_release(rt, pool, lane, reference);
-}
-
-/// A lane leaves a key in its own word, and clears the one that still stood there; and takes the key out of the word of
-/// the lane before it, if one stands there. So each key is cleared once, by whoever took it out of its word.
-fn pass_on<R: Abort>(
-    rt: &R,
-    pool: &Pool<ByteBuf>,
-    lane: &mut Lane<ByteBuf>,
-    own: &AtomicU64,
-    before: &AtomicU64,
-)
-    requires owns { Owns pool.now lane.old }
-    requires room { refs lane.old < 1000 }
-    ensures owns { Owns pool.now lane.new }
-    ensures refs { refs lane.new ≡ refs lane.old }
-{
-    let reference = downgrade_key(rt, pool, lane);
-    clear_left(rt, pool, lane, own.swap(reference.key(), Ordering::SeqCst));
-    read_and_release(rt, pool, lane, reference);
-    let taken = before.swap(0, Ordering::SeqCst);
-    if taken != 0 {
-        take(rt, pool, lane, taken);
-    }
-}
-
-fn turns<R: Abort>(
-    rt: &R,
-    pool: &Pool<ByteBuf>,
-    mut lane: Lane<ByteBuf>,
-    own: &AtomicU64,
-    before: &AtomicU64,
-) -> Lane<ByteBuf>
-    requires owns { Owns pool.now lane }
-    requires none { refs lane ≡ 0 }
-    ensures owns { Owns pool.now result }
-    ensures none { refs result ≡ 0 }
-{
-    for _ in 0..TURNS {
-        pass_on(rt, pool, &mut lane, own, before);
-    }
-    lane
-}
-
-/// The keys that stand in the words are cleared.
-fn clear_all<R: Abort>(rt: &R, pool: &Pool<ByteBuf>, lane: &mut Lane<ByteBuf>, words: &[AtomicU64])
-    requires { Owns pool.now lane.old }
-    ensures { Owns pool.now lane.new }
-{
+/// In how many words a key stands.
+fn standing(words: &[AtomicU64]) -> u32 {
+    let mut count = 0u32;
     for word in words {
-        clear_left(rt, pool, lane, word.load(Ordering::SeqCst));
+        count = count.saturating_add(u32::from(word.load(Ordering::SeqCst) != 0));
     }
-}
-
-/// Two lanes, each in a thread of its own, between the words of the lane before them and of the second.
-fn two_turns<R: Threads + Abort + Sync>(
-    rt: &R,
-    pool: &Pool<ByteBuf>,
-    first: Lane<ByteBuf>,
-    second: Lane<ByteBuf>,
-    words: [&AtomicU64; 3],
-) -> (Lane<ByteBuf>, Lane<ByteBuf>)
-    requires first { Owns pool.now first × (refs first ≡ 0) }
-    requires second { Owns pool.now second × (refs second ≡ 0) }
-    ensures first { Owns pool.now result.0 × (refs result.0 ≡ 0) }
-    ensures second { Owns pool.now result.1 × (refs result.1 ≡ 0) }
-{
-    let [before, between, last] = words;
-    thread::join(
-        rt,
-        move || turns(rt, pool, first, between, before),
-        move || turns(rt, pool, second, last, between),
-    )
-}
-
-/// Closes a pool of four lanes.
-pub(crate) fn close_pairs<R: Abort>(
-    rt: &R,
-    alloc: Global,
-    pool: Pool<ByteBuf>,
-    front: (Lane<ByteBuf>, Lane<ByteBuf>),
-    back: (Lane<ByteBuf>, Lane<ByteBuf>),
-) -> Census
-    requires front { Owns pool front.0 × Owns pool front.1 }
-    requires back { Owns pool back.0 × Owns pool back.1 }
-{
-    let (first, second) = front;
-    let (third, fourth) = back;
-    let Ok(mut lanes) = Vec::with_capacity(alloc, 4) else {
-        panic!(rt; "no memory for four lanes")
-    };
-    lanes.push_reserved(fourth);
-    lanes.push_reserved(third);
-    lanes.push_reserved(second);
-    lanes.push_reserved(first);
-    close_all(rt, pool, lanes)
+    count
 }
 
 #[test]
 fn passes_keys_round_four_threads(rt: HostRuntime) {
-    let (pool, mut lanes) = open_all(&rt, rt.alloc(), shape_of(4, 4, 1));
-    let fourth = last_of(&rt, &pool, &mut lanes);
-    let third = last_of(&rt, &pool, &mut lanes);
-    let second = last_of(&rt, &pool, &mut lanes);
-    let first = last_of(&rt, &pool, &mut lanes);
-    let words = [
+    let ring = [
         AtomicU64::new(0),
         AtomicU64::new(0),
         AtomicU64::new(0),
         AtomicU64::new(0),
     ];
-    let [one, two, three, four] = &words;
-    let (front, back) = thread::join(
-        &rt,
-        || two_turns(&rt, &pool, first, second, [four, one, two]),
-        || two_turns(&rt, &pool, third, fourth, [two, three, four]),
-    );
-    let (mut first, second) = front;
-    clear_all(&rt, &pool, &mut first, &words);
-    counts_free(
-        &rt,
-        close_pairs(&rt, rt.alloc(), pool, (first, second), back),
-        16,
-    );
+    let census = census_of(&rt, rt.alloc(), 1, Play::Pass(&ring));
+    has_left(&rt, census, standing(&ring));
+}
+
+#[test]
+fn each_key_is_marked_once(rt: HostRuntime) {
+    let brawl = Brawl {
+        keys: [
+            AtomicU64::new(0),
+            AtomicU64::new(0),
+            AtomicU64::new(0),
+            AtomicU64::new(0),
+            AtomicU64::new(0),
+            AtomicU64::new(0),
+            AtomicU64::new(0),
+            AtomicU64::new(0),
+        ],
+        published: AtomicU64::new(0),
+        marked: AtomicU64::new(0),
+    };
+    let census = census_of(&rt, rt.alloc(), 2, Play::Fight(&brawl));
+    let published = brawl.published.load(Ordering::SeqCst);
+    let left = published.wrapping_sub(brawl.marked.load(Ordering::SeqCst));
+    has_left(&rt, census, left as u32);
 }

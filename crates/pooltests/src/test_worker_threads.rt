@@ -1,8 +1,7 @@
-//! Workers on threads.
+//! Workers on threads, each with lines of a round. What scripts of other lines reply is tested by runs of script files.
 ghost use Rattle.std.specs.Prelude.{◌≡◌, vec_len};
 
 use crate::test_calls::{NO_PLACE, same, shape_of};
-use crate::test_workers::{script_of, tells};
 use keybits::Shape;
 use seqpool::Bytes;
 use shardpool::{Census, close, open};
@@ -11,22 +10,23 @@ use std::process::Abort;
 use std::sync::Wait;
 use std::sync::atomic::{AtomicBool, Ordering};
 use std::thread::Threads;
-use traces::{Reply, Script};
+use traces::{Command, Operand, Register, Reply, Script};
 use workers::{Gate, Report, jobs_of, parts_of, run_workers};
 
-const LINES: usize = 1000;
-
-/// Lets every line pass.
+/// Stops a worker before this line, and lets all others pass.
 #[derive(Drop)]
-struct Open;
+struct StopsAt {
+    worker: u32,
+    line: u32,
+}
 
-impl Gate for Open {
-    ghost use Rattle.std.specs.Prelude.{◌≡◌, true};
+impl Gate for StopsAt {
+    ghost use Rattle.std.specs.Prelude.{◌≡◌, ◌↔◌, ◌⊎◌, ◌≢◌, ◌<◌, true};
 
-    ghost says = { λ gate worker line answer. answer ≡ true };
+    ghost says = { λ gate worker line answer. answer ≡ true ↔ (worker ≢ gate.worker) ⊎ (line < gate.line) };
 
-    fn pass(&self, _worker: u32, _line: u32) -> bool {
-        true
+    fn pass(&self, worker: u32, line: u32) -> bool {
+        worker != self.worker || line < self.line
     }
 }
 
@@ -61,6 +61,36 @@ fn sees(flag: &AtomicBool) -> bool {
     false
 }
 
+/// The write of a round.
+fn write_line<R: Abort>(rt: &R, alloc: Global) -> Command {
+    let bytes = Vec::from_slice(alloc, b"ab").expect(rt, "memory for the bytes");
+    Command::Write(Register { number: 0 }, Bytes::from_vec(bytes))
+}
+
+/// The line of this number, of rounds of seven lines.
+fn line_at<R: Abort>(rt: &R, alloc: Global, number: usize) -> Command {
+    let (object, reference) = (Register { number: 0 }, Register { number: 1 });
+    match number % 7 {
+        0 => Command::Create(object),
+        1 => write_line(rt, alloc),
+        2 => Command::Publish(object),
+        3 => Command::Get(reference, Operand::LastOf(object)),
+        4 => Command::Read(reference),
+        5 => Command::Release(reference),
+        _ => Command::Clear(Operand::LastOf(object)),
+    }
+}
+
+/// The first so many lines of rounds.
+fn script_of<R: Abort>(rt: &R, alloc: Global, lines: usize) -> Script {
+    let mut commands = Vec::new(alloc);
+    for number in 0..lines {
+        let command = line_at(rt, alloc, number);
+        commands.push(command).expect(rt, "memory for a command");
+    }
+    Script::from_vec(commands)
+}
+
 /// So many scripts, each of so many lines.
 fn scripts_of<R: Abort>(rt: &R, alloc: Global, count: usize, lines: usize) -> Vec<Script>
     ensures { vec_len result ≡ count }
@@ -73,21 +103,7 @@ fn scripts_of<R: Abort>(rt: &R, alloc: Global, count: usize, lines: usize) -> Ve
     scripts
 }
 
-/// The reports, of which none was refused.
-fn all_told<R: Abort>(
-    rt: &R,
-    alloc: Global,
-    reports: Vec<Result<Report, AllocError>>,
-) -> Vec<Report> {
-    let mut told = Vec::new(alloc);
-    for report in reports {
-        let report = report.expect(rt, "memory for the replies");
-        told.push(report).expect(rt, "memory for a report");
-    }
-    told
-}
-
-/// What workers reported, one on each lane of a pool of this shape, which all had so many lines; and what the places of
+/// The reports of workers, one on each lane of a pool of this shape, which all had so many lines; and what the places of
 /// the pool were in the end.
 fn run_all<R: Threads + Wait + Abort + Sync, G: Gate + Sync>(
     rt: &R,
@@ -95,7 +111,7 @@ fn run_all<R: Threads + Wait + Abort + Sync, G: Gate + Sync>(
     shape: Shape,
     lines: usize,
     gate: &G,
-) -> (Vec<Report>, Census) {
+) -> (Vec<Result<Report, AllocError>>, Census) {
     let Ok((pool, lanes)) = open(alloc, shape) else {
         panic!(rt; "no pool")
     };
@@ -109,42 +125,20 @@ fn run_all<R: Threads + Wait + Abort + Sync, G: Gate + Sync>(
     let Ok((lanes, reports)) = parts_of(alloc, dones) else {
         panic!(rt; "no memory for the parts")
     };
-    let census = close(pool, lanes);
-    (all_told(rt, alloc, reports), census)
+    (reports, close(pool, lanes))
 }
 
-/// Whether the content of a reply is that of a round.
-fn is_content(content: &Bytes) -> bool {
-    content.as_slice() == b"ab".as_slice()
-}
-
-/// Whether the reply is that of the line of this number, where each line of a round does what it says.
-fn is_reply_of(number: usize, reply: &Reply) -> bool {
-    match reply {
-        Reply::Filling(_) => number % 7 == 0,
-        Reply::Done => number % 7 == 1 || number % 7 == 5,
-        Reply::Key(_) => number % 7 == 2,
-        Reply::Found(content) => number % 7 == 3 && is_content(content),
-        Reply::Content(content) => number % 7 == 4 && is_content(content),
-        Reply::Cleared(marked) => number % 7 == 6 && *marked,
-        _ => false,
-    }
-}
-
-/// Each line has the reply of its place in the round.
-fn has_rounds<R: Abort>(rt: &R, report: &Report) {
-    same(rt, &report.stopped_at, &None);
-    same(rt, &report.replies.len(), &LINES);
-    for (number, reply) in report.replies.iter().enumerate() {
-        assert!(rt; is_reply_of(number, reply));
-    }
-}
-
-/// The two reports have these texts.
-fn tell<R: Abort>(rt: &R, alloc: Global, reports: &[Report], first: &str, second: &str) {
-    same(rt, &reports.len(), &2);
-    tells(rt, alloc, reports.first().expect(rt, "a report"), first);
-    tells(rt, alloc, reports.last().expect(rt, "a report"), second);
+/// The reports of two workers on a pool of a place for each, with their lines, have this text.
+fn tell<R: Threads + Wait + Abort + Sync, G: Gate + Sync>(
+    rt: &R,
+    alloc: Global,
+    lines: usize,
+    gate: &G,
+    text: &str,
+) {
+    let (reports, _) = run_all(rt, alloc, shape_of(2, 1, 1), lines, gate);
+    let told = format!(in alloc; "{reports:?}").expect(rt, "memory for a text");
+    same(rt, &told.as_str(), &text);
 }
 
 #[test]
@@ -153,60 +147,44 @@ fn workers_run_one_beside_another(rt: HostRuntime) {
         first: AtomicBool::new(false),
         second: AtomicBool::new(false),
     };
-    let (reports, _) = run_all(&rt, rt.alloc(), shape_of(2, 1, 1), 1, &gate);
-    tell(
-        &rt,
-        rt.alloc(),
-        reports.as_slice(),
-        "Report { replies: [Filling(16777216)], stopped_at: None }",
-        "Report { replies: [Filling(16842752)], stopped_at: None }",
-    );
+    let text =
+        "[Ok(Report { replies: [Filling(16777216)], stopped_at: None }), Ok(Report { replies: [Filling(16842752)], stopped_at: None })]";
+    tell(&rt, rt.alloc(), 1, &gate, text);
 }
 
 #[test]
 fn workers_answer_in_the_order_of_their_jobs(rt: HostRuntime) {
-    let (reports, census) = run_all(&rt, rt.alloc(), shape_of(2, 1, 1), 3, &Open);
-    tell(
-        &rt,
-        rt.alloc(),
-        reports.as_slice(),
-        "Report { replies: [Filling(16777216), Done, Key(16777216)], stopped_at: None }",
-        "Report { replies: [Filling(16842752), Done, Key(16842752)], stopped_at: None }",
-    );
-    same(
-        &rt,
-        &census,
-        &Census {
-            present: 2,
-            ..NO_PLACE
-        },
-    );
+    let gate = StopsAt { worker: 1, line: 2 };
+    let text =
+        "[Ok(Report { replies: [Filling(16777216), Done, Key(16777216)], stopped_at: None }), Ok(Report { replies: [Filling(16842752), Done], stopped_at: Some(2) })]";
+    tell(&rt, rt.alloc(), 3, &gate, text);
 }
 
-/// How many places a census counts.
-fn places_of(census: Census) -> u64 {
-    let Census {
-        free,
-        unopened,
-        filling,
-        present,
-        marked,
-        retired,
-    } = census;
-    u64::from(free)
-        + u64::from(unopened)
-        + u64::from(filling)
-        + u64::from(present)
-        + u64::from(marked)
-        + u64::from(retired)
+/// All 1,000 lines were run, of which the last is a release.
+fn ran_to_the_end<R: Abort>(rt: &R, report: &Result<Report, AllocError>) {
+    let Ok(report) = report else {
+        panic!(rt; "no memory for the replies")
+    };
+    same(rt, &report.stopped_at, &None);
+    same(rt, &report.replies.len(), &1000);
+    assert!(rt; matches!(report.replies.last(), Some(Reply::Done)));
 }
 
 #[test]
 fn sixteen_workers_run_a_thousand_lines(rt: HostRuntime) {
-    let (reports, census) = run_all(&rt, rt.alloc(), shape_of(16, 64, 6), LINES, &Open);
-    same(&rt, &reports.len(), &16);
-    for report in reports.as_slice() {
-        has_rounds(&rt, report);
+    let gate = StopsAt {
+        worker: 16,
+        line: 0,
+    };
+    let (reports, census) = run_all(&rt, rt.alloc(), shape_of(16, 64, 6), 1000, &gate);
+    for report in &reports {
+        ran_to_the_end(&rt, report);
     }
-    same(&rt, &places_of(census), &(16 * 4032));
+    let left = Census {
+        free: 1008,
+        unopened: 63488,
+        present: 16,
+        ..NO_PLACE
+    };
+    same(&rt, &census, &left);
 }

@@ -1,7 +1,0 @@
-use Rattle.std.proofs.Common.{◌≡◌, ◌-◌, ◌<◌, ℕ, Some, slice_get}
-use Rattle.shardpool.specs.Tokens.{LaneOf}
-use Rattle.pooltests.proofs.test_calls.close_all.Given as goal
-
--- the lanes before this one have their numbers
-abbrev pub invariant-loop-index : goal.invariant-loop-index
-invariant-loop-index g l = (i : ℕ) (lane : LaneOf) → i < l.index → slice_get l.lanes.items i ≡ Some lane → lane.number ≡ l.count - 1 - i
