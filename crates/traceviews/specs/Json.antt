@@ -93,7 +93,7 @@ items_text lines = codes "[" ++ numbered item_text 0 lines ++ codes "]"
 -- the step of a turn, by its lines from there on, and the replies behind it
 abbrev pub step_fields : List Line → List ℕ
 step_fields [] = codes ",\"step\":null,\"after\":[]"
-step_fields (line ∷ more) = codes ",\"step\":" ++ entry_object line.entry ++ (codes ",\"after\":" ++ items_text more)
+step_fields (line ∷ more) = codes ",\"step\":" ++ entry_object line.entry ++ codes ",\"after\":" ++ items_text more
 
 -- a turn: its number, its lane, the replies before its step, the step, and the replies behind it
 abbrev pub turn_object : ℕ → List Line → List ℕ

@@ -174,17 +174,10 @@ fn push_items(lines: &[Line], out: &mut Page)
 
 /// Appends a step, and the replies behind it.
 fn push_step_and_more(line: &Line, more: &[Line], out: &mut Page)
-    ensures { Grows out.old out.new (codes ",\"step\":" ++ entry_object line.now.entry ++ (codes ",\"after\":" ++ items_text more.now)) }
+    ensures { Grows out.old out.new (codes ",\"step\":" ++ entry_object line.now.entry ++ codes ",\"after\":" ++ items_text more.now) }
 {
     out.text(",\"step\":");
     push_entry(&line.entry, out);
-    push_after(more, out);
-}
-
-/// Appends the replies behind a step.
-fn push_after(more: &[Line], out: &mut Page)
-    ensures { Grows out.old out.new (codes ",\"after\":" ++ items_text more.now) }
-{
     out.text(",\"after\":");
     push_items(more, out);
 }
