@@ -1,7 +1,7 @@
 //! Script files, as they are read.
-ghost use Rattle.std.specs.Prelude.{◌≡◌, map, IfOk, IfErr};
+ghost use Rattle.std.specs.Prelude.{◌≡◌, ◌||◌, ◌&&◌, map, IfOk, IfErr};
 ghost use Rattle.serde_json.specs.View.{view};
-ghost use Rattle.scripts.specs.ScriptFiles.{shape_fields_of, tag_of, shape_of, fields_of, file_of};
+ghost use Rattle.scripts.specs.ScriptFiles.{has_fields, has_field, shape_fields_of, tag_of, shape_of, fields_of, file_of};
 ghost use Rattle.scripts.specs.Readings.{seen_by, IsJson, IsPlanOf, RefusesPlan, RefusesBytes, Parses};
 
 use crate::commands::read_scripts;
@@ -14,18 +14,24 @@ use keybits::Shape;
 use serde_json::Value;
 use std::alloc::Global;
 
+/// Whether a value has as many fields as a shape, with or without the tag.
+fn has_shape_fields(value: &Value) -> bool
+    ensures { result ≡ (has_fields 4 (view value.now) || (has_fields 5 (view value.now) && has_field FieldName.Tag (view value.now))) }
+{
+    has_fields(value, 4) || (has_fields(value, 5) && has_field(value, FieldName::Tag))
+}
+
 /// Nothing, where a value is an object with exactly the fields of a shape, with or without the tag.
 fn expect_shape_fields(value: &Value) -> Result<(), ScriptRefusal>
     ensures { result ≡ shape_fields_of (view value.now) }
 {
     let shape = ScriptPlace::Field(FieldName::Shape);
-    expect(value.is_object(), shape)?;
-    field(value, FieldName::Lanes)?;
-    field(value, FieldName::FirstPage)?;
-    field(value, FieldName::Pages)?;
-    field(value, FieldName::LastGeneration)?;
-    let tagged = has_fields(value, 5) && has_field(value, FieldName::Tag);
-    expect(has_fields(value, 4) || tagged, shape)
+    expect(value.is_object(), shape)
+        .and(field(value, FieldName::Lanes))
+        .and(field(value, FieldName::FirstPage))
+        .and(field(value, FieldName::Pages))
+        .and(field(value, FieldName::LastGeneration))
+        .and(expect(has_shape_fields(value), shape))
 }
 
 /// The tag of a shape, which is 0 where it has no such field.

@@ -48,11 +48,9 @@ turn_title [] = codes "replies"
 turn_title (line ∷ more) = entry_title line.entry
 
 -- the slice of a turn, with the turn's object as its arguments
-abbrev pub slice_head : ℕ → List Line → List ℕ
-slice_head number turn = codes ",\n{\"ph\":\"X\",\"dur\":1" ++ track_fields (lane_of turn) number ++ codes ",\"name\":\""
-
 abbrev pub slice_event : ℕ → List Line → List ℕ
-slice_event number turn = slice_head number turn ++ turn_title (behind turn) ++ codes "\",\"args\":" ++ turn_object number turn ++ codes "}"
+slice_event number turn =
+    codes ",\n{\"ph\":\"X\",\"dur\":1" ++ track_fields (lane_of turn) number ++ codes ",\"name\":\"" ++ turn_title (behind turn) ++ codes "\",\"args\":" ++ turn_object number turn ++ codes "}"
 
 -- an end of a flow, on the track of a lane at a turn: that of the object that has this number
 abbrev pub flow_event : List ℕ → ℕ → ℕ → ℕ → List ℕ

@@ -93,14 +93,13 @@ items_text lines = codes "[" ++ numbered item_text 0 lines ++ codes "]"
 -- the step of a turn, by its lines from there on, and the replies behind it
 abbrev pub step_fields : List Line → List ℕ
 step_fields [] = codes ",\"step\":null,\"after\":[]"
-step_fields (line ∷ more) = codes ",\"step\":" ++ entry_object line.entry ++ (codes ",\"after\":" ++ items_text more)
+step_fields (line ∷ more) = codes ",\"step\":" ++ entry_object line.entry ++ codes ",\"after\":" ++ items_text more
 
 -- a turn: its number, its lane, the replies before its step, the step, and the replies behind it
-abbrev pub turn_names : ℕ → List Line → List ℕ
-turn_names number turn = codes "{\"turn\":" ++ decimal number ++ (codes ",\"lane\":" ++ decimal (lane_of turn)) ++ codes ",\"before\":"
-
 abbrev pub turn_object : ℕ → List Line → List ℕ
-turn_object number turn = turn_names number turn ++ items_text (front turn) ++ step_fields (behind turn) ++ codes "}"
+turn_object number turn =
+    codes "{\"turn\":" ++ decimal number ++ (codes ",\"lane\":" ++ decimal (lane_of turn)) ++ codes ",\"before\":" ++ items_text (front turn)
+    ++ step_fields (behind turn) ++ codes "}"
 
 -- each turn on a line of its own, with a comma behind the line before
 abbrev pub turn_line : ℕ → List Line → List ℕ

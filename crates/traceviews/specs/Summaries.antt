@@ -38,7 +38,7 @@ abbrev pub lane_text : List Line → ℕ → List ℕ
 lane_text lines lane =
     named_text (codes "lane ") lane ++ named_text (codes " replies ") (count_by (is_reply_of lane) lines)
     ++ named_text (codes " failed ") (count_by (is_failed_of lane) lines) ++ named_text (codes " longest call ") (longest_call lane lines)
-    ++ unfinished_text (is_unfinished lane lines) ++ (flat_map (steps_text lines lane) step_names ++ codes "\n")
+    ++ unfinished_text (is_unfinished lane lines) ++ flat_map (steps_text lines lane) step_names ++ codes "\n"
 
 -- the states of places, in the order of the summary
 abbrev pub state_names : List State

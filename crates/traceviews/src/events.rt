@@ -1,7 +1,7 @@
 //! A trace in the trace-event form, which Chrome's viewer and Perfetto open.
 
 ghost use Rattle.std.specs.Prelude.{◌≡◌, ◌++◌, IfOk, flat_map};
-ghost use Rattle.traceviews.specs.Events.{track_fields, lane_event, failed_end, step_title, entry_title, turn_title, slice_head, slice_event, flow_event, object_of, flow_at, flow_on, flow_of, turn_flow, turn_events, AreEvents};
+ghost use Rattle.traceviews.specs.Events.{track_fields, lane_event, failed_end, step_title, entry_title, turn_title, slice_event, flow_event, object_of, flow_at, flow_on, flow_of, turn_flow, turn_events, AreEvents};
 ghost use Rattle.traceviews.specs.Numbered.{numbered};
 ghost use Rattle.traceviews.specs.Pages.{Grows};
 ghost use Rattle.traceviews.specs.Turns.{turns_of};
@@ -81,21 +81,14 @@ fn push_turn_title(lines: &[Line], out: &mut Page)
     }
 }
 
-/// Appends the slice of a turn, up to its name.
-fn push_slice_head(number: usize, turn: &[Line], out: &mut Page)
-    ensures { Grows out.old out.new (slice_head number turn.now) }
-{
-    out.text(",\n{\"ph\":\"X\",\"dur\":1");
-    push_track(lane_of(turn), number, out);
-    out.text(",\"name\":\"");
-}
-
 /// Appends the slice of a turn, with its lines from its step on.
 fn push_slice(number: usize, turn: &[Line], out: &mut Page)
     ensures { Grows out.old out.new (slice_event number turn.now) }
 {
     let (_, behind) = split_step(turn);
-    push_slice_head(number, turn, out);
+    out.text(",\n{\"ph\":\"X\",\"dur\":1");
+    push_track(lane_of(turn), number, out);
+    out.text(",\"name\":\"");
     push_turn_title(behind, out);
     out.text("\",\"args\":");
     push_turn(number, turn, out);

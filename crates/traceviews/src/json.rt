@@ -1,7 +1,7 @@
 //! A trace as JSON: an object for each turn.
 
 ghost use Rattle.std.specs.Prelude.{◌≡◌, ◌++◌, IfOk, codes};
-ghost use Rattle.traceviews.specs.Json.{life_object, link_object, value_object, failed_field, step_object, plain_object, key_object, content_object, reply_object, entry_object, comma_before, item_text, items_text, step_fields, turn_names, turn_object, turn_line, json_text};
+ghost use Rattle.traceviews.specs.Json.{life_object, link_object, value_object, failed_field, step_object, plain_object, key_object, content_object, reply_object, entry_object, comma_before, item_text, items_text, step_fields, turn_object, turn_line, json_text};
 ghost use Rattle.traceviews.specs.Numbered.{numbered};
 ghost use Rattle.traceviews.specs.Pages.{Grows};
 ghost use Rattle.traceviews.specs.Turns.{turns_of};
@@ -174,17 +174,10 @@ fn push_items(lines: &[Line], out: &mut Page)
 
 /// Appends a step, and the replies behind it.
 fn push_step_and_more(line: &Line, more: &[Line], out: &mut Page)
-    ensures { Grows out.old out.new (codes ",\"step\":" ++ entry_object line.now.entry ++ (codes ",\"after\":" ++ items_text more.now)) }
+    ensures { Grows out.old out.new (codes ",\"step\":" ++ entry_object line.now.entry ++ codes ",\"after\":" ++ items_text more.now) }
 {
     out.text(",\"step\":");
     push_entry(&line.entry, out);
-    push_after(more, out);
-}
-
-/// Appends the replies behind a step.
-fn push_after(more: &[Line], out: &mut Page)
-    ensures { Grows out.old out.new (codes ",\"after\":" ++ items_text more.now) }
-{
     out.text(",\"after\":");
     push_items(more, out);
 }
@@ -199,21 +192,14 @@ fn push_step_fields(lines: &[Line], out: &mut Page)
     }
 }
 
-/// Appends the number and the lane of a turn.
-fn push_turn_names(number: usize, turn: &[Line], out: &mut Page)
-    ensures { Grows out.old out.new (turn_names number turn.now) }
-{
-    out.named("{\"turn\":", number as u64);
-    out.named(",\"lane\":", u64::from(lane_of(turn)));
-    out.text(",\"before\":");
-}
-
 /// Appends a turn.
 pub(crate) fn push_turn(number: usize, turn: &[Line], out: &mut Page)
     ensures { Grows out.old out.new (turn_object number turn.now) }
 {
     let (front, behind) = split_step(turn);
-    push_turn_names(number, turn, out);
+    out.named("{\"turn\":", number as u64);
+    out.named(",\"lane\":", u64::from(lane_of(turn)));
+    out.text(",\"before\":");
     push_items(front, out);
     push_step_fields(behind, out);
     out.text("}");

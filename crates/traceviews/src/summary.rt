@@ -43,14 +43,6 @@ fn push_step_count(lines: &[Line], lane: u32, name: StepName, out: &mut Page)
     out.named(" ", steps_of(lines, lane, name) as u64);
 }
 
-/// Appends how many steps of each name a lane makes, in a line.
-fn push_steps(lines: &[Line], lane: u32, out: &mut Page)
-    ensures { Grows out.old out.new (flat_map (steps_text lines.now lane) step_names ++ codes "\n") }
-{
-    push_step_counts(lines, lane, names(), out);
-    out.text("\n");
-}
-
 /// Appends how many steps of each of these names a lane makes.
 fn push_step_counts(lines: &[Line], lane: u32, names: &[StepName], out: &mut Page)
     ensures { Grows out.old out.new (flat_map (steps_text lines.now lane) names.now) }
@@ -76,7 +68,8 @@ fn push_lane(lines: &[Line], lane: u32, out: &mut Page)
     out.named(" failed ", failed_steps(lines, lane) as u64);
     out.named(" longest call ", longest_call(lines, lane) as u64);
     out.text(unfinished_words(is_unfinished(lines, lane)));
-    push_steps(lines, lane, out);
+    push_step_counts(lines, lane, names(), out);
+    out.text("\n");
 }
 
 /// Appends a line for each lane.

@@ -4,7 +4,7 @@ ghost use Rattle.std.specs.Prelude.{◌≡◌, ◌++◌, false, IfOk, codes, fla
 ghost use Rattle.traceviews.specs.Decoded.{failed_text, step_words, value_text};
 ghost use Rattle.traceviews.specs.Numbered.{numbered};
 ghost use Rattle.traceviews.specs.Pages.{Grows};
-ghost use Rattle.traceviews.specs.Styles.{tag_words, key_words, key_line, reply_words, styled_words, numbered_words, turn_words, words_of};
+ghost use Rattle.traceviews.specs.Styles.{tag_words, key_line, reply_words, styled_words, numbered_words, turn_words, words_of};
 ghost use Rattle.traceviews.specs.Turns.{turns_of};
 
 use crate::decoded::{is_failed, step_name};
@@ -58,22 +58,15 @@ fn push_tag(tag: u8, out: &mut Page)
     out.text("\n");
 }
 
-/// Appends a key, decoded, and the end of the line.
-fn push_key(key: u64, out: &mut Page)
-    ensures { Grows out.old out.new (key_words key) }
-{
-    out.place(place_of(key));
-    out.named(" generation ", u64::from(generation_of(key)));
-    push_tag(tag_of(key), out);
-}
-
 /// Appends the line of a reply with a key, decoded.
 fn push_key_line(lane: u32, name: &str, key: u64, out: &mut Page)
     ensures { Grows out.old out.new (key_line lane name.now key) }
 {
     out.number(u64::from(lane));
     out.text(name);
-    push_key(key, out);
+    out.place(place_of(key));
+    out.named(" generation ", u64::from(generation_of(key)));
+    push_tag(tag_of(key), out);
 }
 
 /// Appends the line of a reply, with its key decoded or as it is.
