@@ -42,62 +42,133 @@ fn read_on<R: Abort>(
     filling.forget();
 }
 
-fn clear_under_two<R: Abort>(rt: &R, alloc: Global) {
-    let (pool, mut first, mut second) = open_pair(rt, alloc);
-    publish(rt, &pool, &mut first, FIRST, b"a");
-    let one = get(rt, &pool, &mut first, FIRST);
-    let other = get(rt, &pool, &mut second, FIRST);
-    reads(rt, &first, &one, b"a");
-    reads(rt, &second, &other, b"a");
-    read_on(rt, &pool, &mut first, &mut second, one, other);
+fn clear_under_two<R: Abort>(
+    rt: &R,
+    pool: &Pool<ByteBuf>,
+    first: &mut Lane<ByteBuf>,
+    second: &mut Lane<ByteBuf>,
+)
+    requires first { Owns pool.now first.old × (refs first.old < 1000) }
+    requires second { Owns pool.now second.old × (refs second.old < 1000) }
+{
+    publish(rt, pool, first, FIRST, b"a");
+    let one = get(rt, pool, first, FIRST);
+    let other = get(rt, pool, second, FIRST);
+    reads(rt, first, &one, b"a");
+    reads(rt, second, &other, b"a");
+    read_on(rt, pool, first, second, one, other);
 }
 
-fn return_and_publish<R: Abort>(rt: &R, alloc: Global) {
-    let (pool, mut first, mut second) = open_pair(rt, alloc);
-    publish(rt, &pool, &mut first, FIRST, b"");
-    let reference = get(rt, &pool, &mut second, FIRST);
-    clear(rt, &pool, &mut first, FIRST, true);
-    release(&pool, &mut second, reference);
-    publish(rt, &pool, &mut first, AGAIN, b"");
+fn return_and_publish<R: Abort>(
+    rt: &R,
+    pool: &Pool<ByteBuf>,
+    first: &mut Lane<ByteBuf>,
+    second: &mut Lane<ByteBuf>,
+)
+    requires first { Owns pool.now first.old × (refs first.old < 1000) }
+    requires second { Owns pool.now second.old × (refs second.old < 1000) }
+{
+    publish(rt, pool, first, FIRST, b"");
+    let reference = get(rt, pool, second, FIRST);
+    clear(rt, pool, first, FIRST, true);
+    release(pool, second, reference);
+    publish(rt, pool, first, AGAIN, b"");
 }
 
-fn clear_of_a_held_key<R: Abort>(rt: &R, alloc: Global) {
-    let (pool, mut first, mut second) = open_pair(rt, alloc);
-    let filling = fill(rt, &pool, &mut first, FIRST, b"z");
-    let reference = pool.downgrade(&mut first, filling);
-    clear(rt, &pool, &mut second, FIRST, true);
-    misses(rt, &pool, &mut first, FIRST);
-    reads(rt, &first, &reference, b"z");
+fn clear_of_a_held_key<R: Abort>(
+    rt: &R,
+    pool: &Pool<ByteBuf>,
+    first: &mut Lane<ByteBuf>,
+    second: &mut Lane<ByteBuf>,
+)
+    requires first { Owns pool.now first.old × (refs first.old < 1000) }
+    requires second { Owns pool.now second.old }
+{
+    let filling = fill(rt, pool, first, FIRST, b"z");
+    let reference = pool.downgrade(first, filling);
+    clear(rt, pool, second, FIRST, true);
+    misses(rt, pool, first, FIRST);
+    reads(rt, first, &reference, b"z");
     reference.forget();
 }
 
-fn hear_and_get<R: Abort>(rt: &R, alloc: Global) {
-    let (pool, mut first, mut second) = open_pair(rt, alloc);
-    publish(rt, &pool, &mut first, FIRST, b"hi");
-    tell(&pool, &mut first, &mut second);
-    let reference = get(rt, &pool, &mut second, FIRST);
-    reads(rt, &second, &reference, b"hi");
+fn hear_and_get<R: Abort>(
+    rt: &R,
+    pool: &Pool<ByteBuf>,
+    first: &mut Lane<ByteBuf>,
+    second: &mut Lane<ByteBuf>,
+)
+    requires first { Owns pool.now first.old }
+    requires second { Owns pool.now second.old × (refs second.old < 1000) }
+{
+    publish(rt, pool, first, FIRST, b"hi");
+    tell(pool, first, second);
+    let reference = get(rt, pool, second, FIRST);
+    reads(rt, second, &reference, b"hi");
     reference.forget();
 }
 
-fn hear_and_create<R: Abort>(rt: &R, alloc: Global) {
-    let (pool, mut first, mut second) = open_pair(rt, alloc);
-    publish(rt, &pool, &mut first, FIRST, b"");
-    let reference = get(rt, &pool, &mut second, FIRST);
-    clear(rt, &pool, &mut first, FIRST, true);
-    release(&pool, &mut second, reference);
-    tell(&pool, &mut second, &mut first);
-    let filling = fill(rt, &pool, &mut first, AGAIN, b"");
+fn hear_and_create<R: Abort>(
+    rt: &R,
+    pool: &Pool<ByteBuf>,
+    first: &mut Lane<ByteBuf>,
+    second: &mut Lane<ByteBuf>,
+)
+    requires first { Owns pool.now first.old }
+    requires second { Owns pool.now second.old × (refs second.old < 1000) }
+{
+    publish(rt, pool, first, FIRST, b"");
+    let reference = get(rt, pool, second, FIRST);
+    clear(rt, pool, first, FIRST, true);
+    release(pool, second, reference);
+    tell(pool, second, first);
+    let filling = fill(rt, pool, first, AGAIN, b"");
     filling.forget();
+}
+
+/// What two lanes of a pool do, one after the other.
+#[derive(Clone, Copy)]
+enum Calls {
+    ReadOnAfterAClear,
+    PublishAReturnedPlace,
+    ReadWhatAnotherCleared,
+    FindAKeyHeardOf,
+    CreateWhatWasReturned,
+}
+
+/// These calls of two lanes with a place each.
+fn call_in_turn<R: Abort>(
+    rt: &R,
+    pool: &Pool<ByteBuf>,
+    first: &mut Lane<ByteBuf>,
+    second: &mut Lane<ByteBuf>,
+    calls: Calls,
+)
+    requires first { Owns pool.now first.old × (refs first.old < 1000) }
+    requires second { Owns pool.now second.old × (refs second.old < 1000) }
+{
+    match calls {
+        Calls::ReadOnAfterAClear => clear_under_two(rt, pool, first, second),
+        Calls::PublishAReturnedPlace => return_and_publish(rt, pool, first, second),
+        Calls::ReadWhatAnotherCleared => clear_of_a_held_key(rt, pool, first, second),
+        Calls::FindAKeyHeardOf => hear_and_get(rt, pool, first, second),
+        Calls::CreateWhatWasReturned => hear_and_create(rt, pool, first, second),
+    }
+}
+
+/// Two lanes of a pool with a place each make these calls.
+fn call<R: Abort>(rt: &R, alloc: Global, calls: Calls) {
+    let (pool, mut first, mut second) = open_pair(rt, alloc);
+    call_in_turn(rt, &pool, &mut first, &mut second, calls);
 }
 
 #[test]
 fn two_lanes_call_in_turn(rt: HostRuntime) {
-    clear_under_two(&rt, rt.alloc());
-    return_and_publish(&rt, rt.alloc());
-    clear_of_a_held_key(&rt, rt.alloc());
-    hear_and_get(&rt, rt.alloc());
-    hear_and_create(&rt, rt.alloc());
+    call(&rt, rt.alloc(), Calls::ReadOnAfterAClear);
+    call(&rt, rt.alloc(), Calls::PublishAReturnedPlace);
+    call(&rt, rt.alloc(), Calls::ReadWhatAnotherCleared);
+    call(&rt, rt.alloc(), Calls::FindAKeyHeardOf);
+    call(&rt, rt.alloc(), Calls::CreateWhatWasReturned);
 }
 
 /// A filling of each place of a lane, those of these numbers with these keys; then no place is free.

@@ -125,7 +125,8 @@ fn run_all<R: Threads + Wait + Abort + Sync, G: Gate + Sync>(
     let Ok((lanes, reports)) = parts_of(alloc, dones) else {
         panic!(rt; "no memory for the parts")
     };
-    (reports, close(pool, lanes))
+    let census = close(pool, lanes);
+    (reports, census)
 }
 
 /// The reports of two workers on a pool of a place for each, with their lines, have this text.
