@@ -5,6 +5,7 @@ ghost use Rattle.keybits.specs.Keys.{is_key};
 ghost use Rattle.seqpool.specs.declared.act.Act.{Act};
 ghost use Rattle.seqpool.specs.declared.act.Act.TheVariants as acts;
 ghost use Rattle.seqpool.specs.Pool.{IsLegal};
+ghost use Rattle.poolsteps.specs.Owners.{ArePublishedByOwners};
 ghost use Rattle.shardpool.specs.Tokens.{FillingOf};
 ghost use Rattle.shardpool.specs.Lanes.{Owns, Made, Did, Gets, refs};
 ghost use Rattle.shardpool.specs.Seen.{ClearedSince};
@@ -71,9 +72,11 @@ impl<'p, N: PoolName, T: Clear + Drop> Seat<'p, N, T> {
         self.lane.number()
     }
 
-    /// As a law: what the lane has seen is a legal history of the pool.
+    /// As a law: what the lane has seen is a legal history of the pool, and each publish in it is by the owner of its
+    /// place's shard.
     pub fn seen_law(&self)
-        ensures { IsLegal N.pool.shape self.now.lane.book.seen }
+        ensures legal { IsLegal N.pool.shape self.now.lane.book.seen }
+        ensures owners { ArePublishedByOwners self.now.lane.book.seen }
     {
         self.lane.seen_law();
     }

@@ -37,7 +37,7 @@ returns-clause-collects g c =
     let key = c.hear-key.result in
     let told_of : IsPublished looked.book.seen told.key told.content =
     c.going_law.ensures.published heard.book.seen looked.book.seen c.read-line.ensures.goes.seen told.key told.content c.hear-key.ensures.published in
-    let inside : is_key g.N.PoolName.pool.shape told.key ≡ true = c.key_law.ensures g.N.PoolName.pool.shape new.book.seen told.key told.content c.seen_law.ensures
+    let inside : is_key g.N.PoolName.pool.shape told.key ≡ true = c.key_law.ensures g.N.PoolName.pool.shape new.book.seen told.key told.content c.seen_law.ensures.legal
     (c.going_law.ensures.published looked.book.seen new.book.seen c.clear.ensures.goes.seen told.key told.content told_of) in
     let within : is_key g.N.PoolName.pool.shape key ≡ true = subst (λ (k : ℕ). is_key g.N.PoolName.pool.shape k ≡ true) (sym is) inside in
     let published : IsPublished heard.book.seen key told.content = subst (λ (k : ℕ). IsPublished heard.book.seen k told.content) (sym is) c.hear-key.ensures.published in
