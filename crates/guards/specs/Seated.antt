@@ -14,6 +14,10 @@ pub record GoesOn (old new : LaneOf) : Type 0 where
   pub seen : IsPrefix old.book.seen new.book.seen
   pub rooms : (key size : ℕ) → KnowsRoom old key size → KnowsRoom new key size
 
+-- what goes on twice goes on
+abbrev pub GoesOnLaw : Type 0
+GoesOnLaw = (first second third : LaneOf) → GoesOn first second → GoesOn second third → GoesOn first third
+
 -- the filling is of the place of a key, under the next generation
 abbrev pub IsNextOf : {T : Type 0} → FillingOf T → ℕ → Type 0
 IsNextOf filling key = (place_of filling.key ≡ place_of key) × (generation_of filling.key ≡ generation_of key + 1)

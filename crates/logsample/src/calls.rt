@@ -11,8 +11,8 @@ ghost use Rattle.logsample.specs.Requests.{numbers_of, content_of, line_of};
 ghost use Rattle.logsample.specs.Histories.{LogsNothing, NobodyFinds, IsNext, Looks, Collects};
 
 use crate::entries::{Entry, Line, Request};
-use guards::{PoolName, Seat, Told};
-use poollaws::{going_law, gone_law, key_law};
+use guards::{PoolName, Seat, Told, goes_on_law};
+use poollaws::{going_law, gone_law, key_law, room_kept_law};
 use shardpool::{CreateFault, Filling};
 
 /// Why a request wasn't logged.
@@ -49,6 +49,8 @@ pub fn log<N: PoolName>(
     if request.status == 0 {
         return Err(LogFault::NoStatus);
     }
+    goes_on_law();
+    room_kept_law::<Entry>();
     match seat.create() {
         Ok(filling) => match fill(filling, request) {
             Some(filled) => Ok(seat.publish(filled)),
@@ -103,6 +105,7 @@ pub fn collect<N: PoolName>(seat: &mut Seat<'_, N, Entry>, told: Told<N, Entry>)
     seat.seen_law();
     key_law();
     going_law();
+    goes_on_law();
     gone_law();
     line
 }

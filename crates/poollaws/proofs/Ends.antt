@@ -17,7 +17,7 @@ use Rattle.shardpool.specs.Tokens.{LaneOf}
 use Rattle.shardpool.specs.Seen.{FoundSince}
 use Rattle.shardpool.proofs.frame.Standing.{missed-cleared}
 use Rattle.poollaws.specs.Words.{IsPublished, IsCleared, IsPresent}
-use Rattle.poollaws.specs.Laws.{StandsLaw, StaysPublishedLaw, StaysClearedLaw, KeyLaw, GoneLaw, UnfoundLaw, MissedLaw, EndLaw}
+use Rattle.poollaws.specs.Laws.{StandsLaw, StaysPublishedLaw, StaysClearedLaw, KeyLaw, GoneLaw, UnfoundLaw, MissedLaw, MarksOnceLaw, EndLaw}
 
 pub stands-law : StandsLaw
 stands-law beginning history (more, is) i act at =
@@ -52,6 +52,14 @@ unfound-law key old new goes (k, (by, cleared)) found =
     let low = there.0 in
     let behind = found.get.behind in
     found.present.1 k (omega (arith, low, behind)) (by, there.1)
+
+pub marks-once : MarksOnceLaw
+marks-once key old new false goes cleared since = refl
+marks-once key old new true goes (position, (lane, at)) since =
+    let first = stands-law old.book.seen new.book.seen goes position (Clear lane key true) at in
+    let low = first.0 in
+    let then = since refl in
+    let behind = then.clear.behind in absurd (then.present.1 position (omega (arith, low, behind)) (lane, first.1))
 
 pub missed-law : MissedLaw
 missed-law key old new goes missed content was = missed-cleared goes missed was.0 content was.1

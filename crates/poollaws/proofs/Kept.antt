@@ -19,7 +19,7 @@ use Rattle.shardpool.specs.Seen.{RoomLaw}
 use Rattle.shardpool.specs.Creates.{Gives}
 use Rattle.poollaws.specs.Words.{IsPublished}
 use Rattle.poollaws.specs.Rooms.{SawRoom}
-use Rattle.poollaws.specs.Laws.{OwnActsLaw, FirstRoomLaw, KeptRoomLaw, ToldRoomLaw, HeardRoomLaw, ReusedRoomLaw, OwnerLaw}
+use Rattle.poollaws.specs.Laws.{OwnActsLaw, FirstRoomLaw, LessRoomLaw, KeptRoomLaw, ToldRoomLaw, HeardRoomLaw, ReusedRoomLaw, OwnerLaw}
 
 -- ---- a lane's own acts
 
@@ -78,6 +78,23 @@ none-since z front more key next lane content legal (i, (by, with_ref, at)) curr
     let high : rank (end (place_of next)) ≡ 3 * generation_of next = omega (arith, now.1, none) in
     let here : rank (end (place_of key)) ≡ 3 * generation_of next = subst (λ (p : ℕ). rank (end p) ≡ 3 * generation_of next) place high in
     omega (arith, least, up, before, last, here, generation)
+
+-- what has room for some has room for less
+pub less-room : LessRoomLaw
+less-room lane key size less knows low =
+    let roomy = knows.roomy in record {
+      front = knows.front;
+      more = knows.more;
+      seen = knows.seen;
+      rooms = knows.rooms;
+      kept = knows.kept;
+      rooms_are = knows.rooms_are;
+      beside = knows.beside;
+      paired = knows.paired;
+      content = knows.content;
+      published = knows.published;
+      roomy = omega (arith, roomy, low);
+    }
 
 pub first-room : FirstRoomLaw
 first-room lane key size content is beside roomy = record {

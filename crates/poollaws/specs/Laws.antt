@@ -1,5 +1,5 @@
 -- Laws of histories, of closed pools and of rooms, each as a client cites it.
-use Rattle.std.specs.Prelude.{◌≡◌, ◌⊎◌, ℕ, ◌+◌, ◌<◌, ◌≤◌, true, List, Option, None, length, Contains}
+use Rattle.std.specs.Prelude.{◌≡◌, ◌⊎◌, ℕ, ◌+◌, ◌<◌, ◌≤◌, Bool, true, false, IsTrue, List, Option, None, length, Contains}
 use mathlib.Core.List.{IsPrefix}
 use Rattle.keybits.specs.declared.shape.Shape.{Shape}
 use Rattle.keybits.specs.Places.{shard_of}
@@ -14,7 +14,7 @@ use Rattle.poolsteps.specs.Shares.{room_of}
 use Rattle.shardpool.specs.declared.census.Census.{Census}
 use Rattle.shardpool.specs.Tokens.{PoolOf, LaneOf, FillingOf}
 use Rattle.shardpool.specs.Lanes.{Made, SeesOn}
-use Rattle.shardpool.specs.Seen.{FoundSince, MissedSince}
+use Rattle.shardpool.specs.Seen.{FoundSince, MissedSince, ClearedSince}
 use Rattle.shardpool.specs.Creates.{Gives}
 use Rattle.shardpool.specs.Closings.{AreLanes, Closes}
 use Rattle.poollaws.specs.Words.{IsPublished, IsCleared, IsGone, IsPresent, HasAll}
@@ -59,6 +59,10 @@ UnfoundLaw = (key : ℕ) (old new : LaneOf) → IsPrefix old.book.seen new.book.
 abbrev pub MissedLaw : Type 0
 MissedLaw = (key : ℕ) (old new : LaneOf) → IsPrefix old.book.seen new.book.seen → MissedSince key old new → IsGone old.book.seen new.book.seen key
 
+-- a clear of a key that the lane has seen cleared marks nothing
+abbrev pub MarksOnceLaw : Type 0
+MarksOnceLaw = (key : ℕ) (old new : LaneOf) (marked : Bool) → IsPrefix old.book.seen new.book.seen → IsCleared old.book.seen key → (IsTrue marked → ClearedSince key old new) → marked ≡ false
+
 -- ---- the end of a history, and the close
 
 -- a published key is cleared, or present at the end, and not both
@@ -86,6 +90,10 @@ NoneLeftLaw = (pool : PoolOf) (lanes : List LaneOf) (census : Census) → AreLan
 abbrev pub FirstRoomLaw : Type 0
 FirstRoomLaw = (lane : LaneOf) (key size : ℕ) (content : List ℕ) → IsPublished lane.book.seen key content → length lane.book.rooms ≡ length lane.book.seen
     → size ≤ room_of lane.book.seen lane.book.rooms (place_of key) → KnowsRoom lane key size
+
+-- what has room for some has room for less
+abbrev pub LessRoomLaw : Type 0
+LessRoomLaw = (lane : LaneOf) (key size less : ℕ) → KnowsRoom lane key size → less ≤ size → KnowsRoom lane key less
 
 -- what it knows it goes on to know
 abbrev pub KeptRoomLaw : Type 0

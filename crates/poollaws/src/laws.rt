@@ -1,5 +1,5 @@
 //! The laws, as calls that do nothing: whoever calls one may use its law in a proof.
-ghost use Rattle.poollaws.specs.Laws.{StandsLaw, StaysPublishedLaw, StaysClearedLaw, KeyLaw, OwnActsLaw, GoneLaw, UnfoundLaw, MissedLaw, EndLaw, LastLaw, CountedLaw, NoneLeftLaw, FirstRoomLaw, KeptRoomLaw, ToldRoomLaw, HeardRoomLaw, ReusedRoomLaw, OwnerLaw};
+ghost use Rattle.poollaws.specs.Laws.{StandsLaw, StaysPublishedLaw, StaysClearedLaw, KeyLaw, OwnActsLaw, GoneLaw, UnfoundLaw, MissedLaw, MarksOnceLaw, EndLaw, LastLaw, CountedLaw, NoneLeftLaw, FirstRoomLaw, LessRoomLaw, KeptRoomLaw, ToldRoomLaw, HeardRoomLaw, ReusedRoomLaw, OwnerLaw};
 
 use shardpool::room_law;
 use slotcell::Clear;
@@ -23,11 +23,13 @@ pub fn own_acts_law()
 {}
 
 /// No get behind a clear of its key finds it: neither in a longer history, nor by a lane that has seen the clear. And a
-/// call of a lane that finds nothing comes behind a clear of the key, if the lane saw it published.
+/// call of a lane that finds nothing comes behind a clear of the key, if the lane saw it published. A second clear marks
+/// nothing.
 pub fn gone_law()
     ensures gone { GoneLaw }
     ensures unfound { UnfoundLaw }
     ensures missed { MissedLaw }
+    ensures marks { MarksOnceLaw }
 {}
 
 /// A published key is cleared, or present at the end of its history, and not both.
@@ -47,6 +49,7 @@ pub fn close_law()
 /// lane. And the object of a filling has at least the room that its place had under the key before.
 pub fn room_kept_law<T: Clear>()
     ensures first { FirstRoomLaw }
+    ensures less { LessRoomLaw }
     ensures kept { KeptRoomLaw }
     ensures told { ToldRoomLaw }
     ensures heard { HeardRoomLaw }

@@ -19,12 +19,11 @@ loop-worker-preserved g c =
 
 pub returns : goal.returns
 returns g c =
-    let was = c.loop-worker.invariant in
     let pushed = c.in_ok-push-2.ensures in
     let end : c.loop-worker.worker ≡ WORKERS = omega arith in
-    let long : length c.loop-worker.tasks.items ≡ WORKERS = was.count ∙ end in record {
+    let long : length c.loop-worker.tasks.items ≡ WORKERS = c.loop-worker.invariant.count ∙ end in record {
       count = ap length pushed.items ∙ (length_push c.loop-worker.tasks.items _ ∙ ap (λ (n : ℕ). n + 1) long);
       workers = λ worker low.
-          let found = was.each worker (subst (λ (n : ℕ). worker < n) (sym end) low) in (found.0, rw pushed.items (at-front c.loop-worker.tasks.items _ worker (Work worker found.0) found.1));
+          let found = c.loop-worker.invariant.each worker (subst (λ (n : ℕ). worker < n) (sym end) low) in (found.0, rw pushed.items (at-front c.loop-worker.tasks.items _ worker (Work worker found.0) found.1));
       collector = (tt, rw pushed.items (at-count c.loop-worker.tasks.items _ WORKERS long));
     }

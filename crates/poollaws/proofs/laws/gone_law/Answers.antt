@@ -1,4 +1,4 @@
-use Rattle.poollaws.proofs.Ends.{gone-law, unfound-law, missed-law}
+use Rattle.poollaws.proofs.Ends.{gone-law, unfound-law, missed-law, marks-once}
 use Rattle.poollaws.proofs.laws.gone_law.Goals as goal
 
 pub returns-clause-gone : goal.returns-clause-gone
@@ -9,3 +9,6 @@ returns-clause-unfound c = unfound-law
 
 pub returns-clause-missed : goal.returns-clause-missed
 returns-clause-missed c = missed-law
+
+pub returns-clause-marks : goal.returns-clause-marks
+returns-clause-marks c = marks-once

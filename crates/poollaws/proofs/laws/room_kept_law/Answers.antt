@@ -1,8 +1,11 @@
-use Rattle.poollaws.proofs.Kept.{first-room, kept-room, told-room, heard-room, reused-room}
+use Rattle.poollaws.proofs.Kept.{first-room, less-room, kept-room, told-room, heard-room, reused-room}
 use Rattle.poollaws.proofs.laws.room_kept_law.Goals as goal
 
 pub returns-clause-first : goal.returns-clause-first
 returns-clause-first g c = first-room
+
+pub returns-clause-less : goal.returns-clause-less
+returns-clause-less g c = less-room
 
 pub returns-clause-kept : goal.returns-clause-kept
 returns-clause-kept g c = kept-room
