@@ -254,5 +254,5 @@ fn each_key_is_marked_once(rt: HostRuntime) {
     let census = census_of(&rt, rt.alloc(), 2, Play::Fight(&brawl));
     let published = brawl.published.load(Ordering::SeqCst);
     let left = published.wrapping_sub(brawl.marked.load(Ordering::SeqCst));
-    has_left(&rt, census, left as u32);
+    has_left(&rt, census, u32::try_from(left).unwrap_or(u32::MAX));
 }
