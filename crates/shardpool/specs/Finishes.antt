@@ -1,18 +1,23 @@
 -- What a lane does behind a LEAVE, or in a clear, and keeps of it.
-use Rattle.std.specs.Prelude.{◌≡◌, ◌<◌, ℕ, Bool, false, List, [], Option, Some, IfSome, length, slice_index}
+use Rattle.std.specs.Prelude.{◌≡◌, ◌<◌, ℕ, Bool, true, false, List, [], Option, Some, IfSome, length, slice_index}
 use denote.RawPtr.{Ptr}
 use Rattle.atomic_table.specs.Table.{Me}
+use Rattle.atomic_table.specs.declared.shared.Seat.{Seat}
 use Rattle.poolsteps.specs.Whole.{Whole}
 use Rattle.keybits.specs.declared.shape.Shape.{Shape}
-use Rattle.keybits.specs.Keys.{place_of}
+use Rattle.keybits.specs.Keys.{place_of, is_key}
 use Rattle.keybits.specs.Places.{shard_of}
-use Rattle.keybits.specs.Shapes.{IsShape, shard_places}
+use Rattle.keybits.specs.Shapes.{IsShape, is_place, shard_places}
 use Rattle.freelists.specs.Shards.{place_numbered}
 use Rattle.freelists.specs.Queues.{IsAway}
 use Rattle.poolsteps.specs.declared.view.View.{View}
-use Rattle.poolsteps.specs.Views.{the_lane, pushed_in}
-use Rattle.poolsteps.specs.Layout.{slot_row, shard_start, spots_at}
-use Rattle.poolsteps.specs.Told.{Leaves}
+use Rattle.poolsteps.specs.Views.{the_lane, pushed_in, IsOne}
+use Rattle.poolsteps.specs.declared.grid.Grid.{Grid}
+use Rattle.poolsteps.specs.Share.{Share}
+use Rattle.poolsteps.specs.Grids.{IsOf}
+use Rattle.poolsteps.specs.Layout.{slot_row, slot_start, shard_start, spots_at}
+use Rattle.poolsteps.specs.Told.{IsIdle, Leaves}
+use Rattle.steplaws.specs.StepLaws.{owed_after}
 use Rattle.steplaws.specs.declared.pending.Pending.TheVariants.{Undo}
 use Rattle.shardpool.specs.declared.reclaim.Reclaimed.{Reclaimed}
 use Rattle.shardpool.specs.declared.reclaim.Reclaimed.TheVariants.{Own}
@@ -73,3 +78,26 @@ module _ {S T : Type 0} (content : T → List ℕ) (room : T → ℕ) (z : Shape
     pub reclaimed : Option (Reclaimed T)
     pub clears : Clears content room z (spots_at directory z (place_of key)) key s.number looks before after marked reclaimed
     pub kept : Keeps (place_of key) reclaimed s t
+
+module _ {T : Type 0} (content : T → List ℕ) (room : T → ℕ) (grid : Grid T) (seat : Seat (Option (Share T)) View) (s : LaneState T) (here key : ℕ) where
+  -- the hand is one lane's of the grid, with no share in it; the key's place stands here, and the lane can keep what becomes of it
+  pub record MayKeep : Type 0 where
+    pub hand : IsOf grid seat × IsOne seat.me.0
+    pub bare : seat.me.1 ≡ []
+    pub inside : is_place grid.shape (place_of key) ≡ true
+    pub start : here ≡ slot_start grid.shape (place_of key)
+    pub keeper : IsKeeper grid.shape grid.objects.ptr (place_of key) seat.me.0 s
+
+  -- and its next call may be a clear of the key
+  pub record MayClearAndKeep : Type 0 where
+    pub keeps : MayKeep
+    pub valid : is_key grid.shape key ≡ true
+    pub idle : IsIdle seat.me.0
+    pub may : MayClear content room grid.shape key grid.objects.ptr seat.me s
+
+  -- and it left the place, and found this word there
+  pub record MayFinishAndKeep (found : ℕ) : Type 0 where
+    pub keeps : MayKeep
+    pub seen : IsLawful grid.shape seat.me.0
+    pub owes : (the_lane seat.me.0).under ≡ owed_after (place_of key) found
+    pub may : MayFinish content room grid.shape (place_of key) found seat.me s

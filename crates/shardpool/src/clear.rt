@@ -3,17 +3,15 @@ ghost use Rattle.std.specs.Prelude.{[], ◌≡◌, ◌==◌, ◌+◌, ℕ, IsNon
 ghost use Rattle.keybits.specs.Keys.{place_of, is_key};
 ghost use Rattle.keybits.specs.Words.{state_in};
 ghost use Rattle.steplaws.specs.declared.pending.Pending.TheVariants.{Undo};
-ghost use Rattle.poolsteps.specs.Layout.{spots_at, slot_start};
+ghost use Rattle.poolsteps.specs.Layout.{spots_at};
 ghost use Rattle.poolsteps.specs.Views.{the_lane, IsOne};
 ghost use Rattle.poolsteps.specs.Grids.{IsSpot, IsOf, SameSeat};
-ghost use Rattle.poolsteps.specs.Told.{IsIdle};
 ghost use Rattle.poolsteps.specs.AtOnce.{unreferred};
 ghost use Rattle.shardpool.specs.AtPlace.{MayCall};
 ghost use Rattle.shardpool.specs.Bounds.{most_call_looks};
 ghost use Rattle.shardpool.specs.Called.{MarksAtLast};
 ghost use Rattle.shardpool.specs.Clears.{Clears, LooksTwice};
-ghost use Rattle.keybits.specs.Shapes.{is_place};
-ghost use Rattle.shardpool.specs.Finishes.{IsKeeper, MayClear, ClearsAndKeeps};
+ghost use Rattle.shardpool.specs.Finishes.{MayClearAndKeep, ClearsAndKeeps};
 ghost use Rattle.shardpool.specs.Lanes.{Owns};
 ghost use Rattle.shardpool.specs.AfterCalls.{AfterClear};
 
@@ -49,14 +47,7 @@ pub(crate) fn clear_and_keep<T: Clear + Drop>(
     start: u32,
     key: u64,
 ) -> bool
-    requires hand { IsOf grid.now hand.old × IsOne hand.old.me.0 }
-    requires bare { hand.old.me.1 ≡ [] }
-    requires key { is_key grid.now.shape key ≡ true }
-    requires idle { IsIdle hand.old.me.0 }
-    requires inside { is_place grid.now.shape (place_of key) ≡ true }
-    requires start { start ≡ slot_start grid.now.shape (place_of key) }
-    requires keeper { IsKeeper grid.now.shape grid.now.objects.ptr (place_of key) hand.old.me.0 state.old }
-    requires may { MayClear T.content T.room grid.now.shape key grid.now.objects.ptr hand.old.me state.old }
+    requires call { MayClearAndKeep T.content T.room grid.now hand.old state.old start key }
     ensures hand { SameSeat hand.old hand.new }
     ensures clears { ClearsAndKeeps T.content T.room grid.now.shape key grid.now.objects.ptr (most_call_looks + 2) hand.old.me hand.new.me state.old state.new result }
 {
@@ -87,14 +78,7 @@ fn clear_by_steps_and_keep<T: Clear + Drop>(
     start: u32,
     key: u64,
 ) -> bool
-    requires hand { IsOf grid.now hand.old × IsOne hand.old.me.0 }
-    requires bare { hand.old.me.1 ≡ [] }
-    requires key { is_key grid.now.shape key ≡ true }
-    requires idle { IsIdle hand.old.me.0 }
-    requires inside { is_place grid.now.shape (place_of key) ≡ true }
-    requires start { start ≡ slot_start grid.now.shape (place_of key) }
-    requires keeper { IsKeeper grid.now.shape grid.now.objects.ptr (place_of key) hand.old.me.0 state.old }
-    requires may { MayClear T.content T.room grid.now.shape key grid.now.objects.ptr hand.old.me state.old }
+    requires call { MayClearAndKeep T.content T.room grid.now hand.old state.old start key }
     ensures hand { SameSeat hand.old hand.new }
     ensures clears { ClearsAndKeeps T.content T.room grid.now.shape key grid.now.objects.ptr most_call_looks hand.old.me hand.new.me state.old state.new result }
 {

@@ -3,7 +3,7 @@ ghost use Rattle.std.specs.Prelude.{◌≡◌, ◌<◌, [], Some, None, IfSome, 
 ghost use Rattle.keybits.specs.Words.{generation_in, owes_claim};
 ghost use Rattle.steplaws.specs.StepLaws.{owed_after};
 ghost use Rattle.poolsteps.specs.Shares.{room_of};
-ghost use Rattle.poolsteps.specs.Layout.{spots_at, slot_start, slot_row, shard_start};
+ghost use Rattle.poolsteps.specs.Layout.{spots_at, slot_row, shard_start};
 ghost use Rattle.poolsteps.specs.Views.{the_lane, known_of, IsOne};
 ghost use Rattle.poolsteps.specs.Grids.{IsOf, SameSeat, IsSpot};
 ghost use Rattle.poolsteps.specs.Told.{HasPlace, LeftAlone, claimed_under};
@@ -13,8 +13,8 @@ ghost use Rattle.shardpool.specs.Called.{EndsWithActs, TailActs, IsLawful, Ends,
 ghost use Rattle.steplaws.specs.declared.pending.Pending.TheVariants.{Returns};
 ghost use Rattle.poolsteps.specs.Returned.{IsAtRest};
 ghost use Rattle.keybits.specs.Keys.{place_of};
-ghost use Rattle.keybits.specs.Shapes.{is_place, IsShape, shard_places};
-ghost use Rattle.shardpool.specs.Finishes.{IsKeeper, MayFinish, Finishes};
+ghost use Rattle.keybits.specs.Shapes.{IsShape, shard_places};
+ghost use Rattle.shardpool.specs.Finishes.{MayFinishAndKeep, Finishes};
 ghost use Rattle.keybits.specs.Places.{shard_of};
 ghost use Rattle.freelists.specs.Shards.{place_numbered};
 ghost use Rattle.freelists.specs.Queues.{IsAway};
@@ -41,13 +41,7 @@ pub(crate) fn finish_if_owed<T: Clear + Drop>(
     key: u64,
     found: u64,
 )
-    requires hand { IsOf grid.now hand.old × IsOne hand.old.me.0 }
-    requires bare { hand.old.me.1 ≡ [] }
-    requires seen { IsLawful grid.now.shape hand.old.me.0 }
-    requires owes { (the_lane hand.old.me.0).under ≡ owed_after (place_of key) found }
-    requires spot { IsSpot grid.now.shape spot (place_of key) }
-    requires keeper { IsKeeper grid.now.shape grid.now.objects.ptr (place_of key) hand.old.me.0 state.old }
-    requires may { MayFinish T.content T.room grid.now.shape (place_of key) found hand.old.me state.old }
+    requires call { MayFinishAndKeep T.content T.room grid.now hand.old state.old spot.start key found }
     ensures hand { SameSeat hand.old hand.new }
     ensures finishes { Finishes T.content T.room grid.now.shape (place_of key) found hand.old.me hand.new.me state.old state.new }
 {
@@ -68,14 +62,7 @@ fn finish<T: Clear + Drop>(
     key: u64,
     found: u64,
 )
-    requires hand { IsOf grid.now hand.old × IsOne hand.old.me.0 }
-    requires bare { hand.old.me.1 ≡ [] }
-    requires seen { IsLawful grid.now.shape hand.old.me.0 }
-    requires owes { (the_lane hand.old.me.0).under ≡ owed_after (place_of key) found }
-    requires inside { is_place grid.now.shape (place_of key) ≡ true }
-    requires start { start ≡ slot_start grid.now.shape (place_of key) }
-    requires keeper { IsKeeper grid.now.shape grid.now.objects.ptr (place_of key) hand.old.me.0 state.old }
-    requires may { MayFinish T.content T.room grid.now.shape (place_of key) found hand.old.me state.old }
+    requires call { MayFinishAndKeep T.content T.room grid.now hand.old state.old start key found }
     ensures hand { SameSeat hand.old hand.new }
     ensures finishes { Finishes T.content T.room grid.now.shape (place_of key) found hand.old.me hand.new.me state.old state.new }
 {

@@ -1,20 +1,29 @@
-use Rattle.std.proofs.Common.{◌+◌, refl, ◌∙◌, arith}
+use Rattle.std.proofs.Common.{◌+◌, refl, ap, ◌∙◌, arith}
+use Rattle.poolsteps.specs.declared.view.LaneRecord.{LaneRecord}
 use Rattle.shardpool.proofs.parts.AtOnce.{clears-most, clears-behind, looks-still}
 use Rattle.shardpool.proofs.calls.Ends.{keeper-still}
 use Rattle.shardpool.proofs.clear.clear_and_keep.Goals as goal
 
 -- ---- another lane stepped meanwhile: the lane looked, and is as it was
 
-pub clear_by_steps_and_keep-requires-clause-hand : goal.clear_by_steps_and_keep-requires-clause-hand
-clear_by_steps_and_keep-requires-clause-hand g c =
-    (c.in_default.ensures.hand.0 ∙ c.requires.hand.0, (looks-still (c.in_default.ensures.looks refl)).one)
-
-pub clear_by_steps_and_keep-requires-clause-keeper : goal.clear_by_steps_and_keep-requires-clause-keeper
-clear_by_steps_and_keep-requires-clause-keeper g c = keeper-still (looks-still (c.in_default.ensures.looks refl)).lane c.requires.keeper
-
-pub clear_by_steps_and_keep-requires-clause-may : goal.clear_by_steps_and_keep-requires-clause-may
-clear_by_steps_and_keep-requires-clause-may g c looks after marked reclaimed clears whole is =
-    c.requires.may (2 + looks) after marked reclaimed (clears-behind (c.in_default.ensures.looks refl) clears) whole is
+pub clear_by_steps_and_keep-requires : goal.clear_by_steps_and_keep-requires
+clear_by_steps_and_keep-requires g c =
+    let call = c.requires.call in
+    let still = looks-still (c.in_default.ensures.looks refl) in
+    record {
+      call = record {
+        keeps = record {
+          hand = (c.in_default.ensures.hand.0 ∙ call.keeps.hand.0, still.one);
+          bare = still.held ∙ call.keeps.bare;
+          inside = call.keeps.inside;
+          start = call.keeps.start;
+          keeper = keeper-still still.lane call.keeps.keeper;
+        };
+        valid = call.valid;
+        idle = ap (λ (r : LaneRecord). r.under) still.lane ∙ call.idle;
+        may = λ looks after marked reclaimed clears whole is. call.may (2 + looks) after marked reclaimed (clears-behind (c.in_default.ensures.looks refl) clears) whole is;
+      };
+    }
 
 pub returns-in_default-clause-clears : goal.returns-in_default-clause-clears
 returns-in_default-clause-clears g c =
@@ -25,7 +34,7 @@ returns-in_default-clause-clears g c =
 
 pub keep_reclaimed-requires-clause-away : goal.keep_reclaimed-requires-clause-away
 keep_reclaimed-requires-clause-away g c whole is =
-    rw c.place_of.ensures.place (c.requires.may 35 c.try_clear.new.hand.me c.in-Some.marked c.in-Some.reclaimed c.in-Some.ensures.clears whole is)
+    rw c.place_of.ensures.place (c.requires.call.may 35 c.try_clear.new.hand.me c.in-Some.marked c.in-Some.reclaimed c.in-Some.ensures.clears whole is)
 
 pub returns-clause-clears : goal.returns-clause-clears
 returns-clause-clears g c = record {

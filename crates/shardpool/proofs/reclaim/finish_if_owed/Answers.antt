@@ -6,7 +6,7 @@ use Rattle.shardpool.proofs.reclaim.finish_if_owed.Goals as goal
 pub returns-else-owes_claim-clause-finishes : goal.returns-else-owes_claim-clause-finishes
 returns-else-owes_claim-clause-finishes g c = record {
   reclaimed = None;
-  ends = ends-none c.requires.hand.1 c.requires.seen c.requires.owes (sym c.owes_claim.ensures ∙ c.if-owes_claim.false);
+  ends = ends-none c.requires.call.keeps.hand.1 c.requires.call.seen c.requires.call.owes (sym c.owes_claim.ensures ∙ c.if-owes_claim.false);
   acts = still-acts g.row.T.Denot c.args.grid.now.shape (place_of c.args.key) c.args.hand.now.me.0;
   told = tt;
   kept = refl;

@@ -1,5 +1,5 @@
 -- A clear: what it leaves of the lane.
-use Rattle.std.proofs.Common.{refl, ap, ◌∙◌, arith}
+use Rattle.std.proofs.Common.{refl, sym, ap, ◌∙◌, arith}
 use Rattle.std.proofs.lemmas.Bool.{false≢true}
 use Rattle.keybits.specs.Keys.{is_key}
 use Rattle.shardpool.proofs.calls.CallParts.{calls-more}
@@ -13,26 +13,23 @@ use Rattle.shardpool.proofs.pool.Pool.clear.Goals as goal
 
 -- ---- the call may be made
 
-pub clear_and_keep-requires-clause-key : goal.clear_and_keep-requires-clause-key
-clear_and_keep-requires-clause-key g c = ap (λ p. is_key p.shape c.args.key) c.self.view_is ∙ c.in-Some.ensures.some.0 refl
-
-pub clear_and_keep-requires-clause-inside : goal.clear_and_keep-requires-clause-inside
-clear_and_keep-requires-clause-inside g c =
-    let before = ready c.lane.view_is c.requires.owns.1 c.self.view_is c.lane.invariant.1 c.in-Some.ensures.spot in before.there.inside
-
-pub clear_and_keep-requires-clause-start : goal.clear_and_keep-requires-clause-start
-clear_and_keep-requires-clause-start g c =
-    let before = ready c.lane.view_is c.requires.owns.1 c.self.view_is c.lane.invariant.1 c.in-Some.ensures.spot in before.there.start
-
-pub clear_and_keep-requires-clause-keeper : goal.clear_and_keep-requires-clause-keeper
-clear_and_keep-requires-clause-keeper g c =
+pub clear_and_keep-requires : goal.clear_and_keep-requires
+clear_and_keep-requires g c =
     let before = ready c.lane.view_is c.requires.owns.1 c.self.view_is c.lane.invariant.1 c.in-Some.ensures.spot in
-    keeper (fits-beside before.fits) (same-directory c.lane.view_is c.requires.owns.2 c.self.view_is) before.there.inside refl refl
-
-pub clear_and_keep-requires-clause-may : goal.clear_and_keep-requires-clause-may
-clear_and_keep-requires-clause-may g c looks after marked reclaimed clears =
-    let before = ready c.lane.view_is c.requires.owns.1 c.self.view_is c.lane.invariant.1 c.in-Some.ensures.spot in
-    cleared-away before reclaimed marked clears.called clears.acts clears.told
+    record {
+      call = record {
+        keeps = record {
+          hand = (ap (λ l. l.table) c.lane.view_is ∙ (c.requires.owns.0 ∙ sym (ap (λ p. p.table) c.self.view_is)), before.fits.seat.one);
+          bare = c.lane.invariant.0;
+          inside = before.there.inside;
+          start = before.there.start;
+          keeper = keeper (fits-beside before.fits) (same-directory c.lane.view_is c.requires.owns.2 c.self.view_is) before.there.inside refl refl;
+        };
+        valid = ap (λ p. is_key p.shape c.args.key) c.self.view_is ∙ c.in-Some.ensures.some.0 refl;
+        idle = before.fits.seat.idle;
+        may = λ looks after marked reclaimed clears. cleared-away before reclaimed marked clears.called clears.acts clears.told;
+      };
+    }
 
 -- ---- what it leaves
 

@@ -57,43 +57,41 @@ leave-left-requires-clause-may g c =
       rw (refers.fits.seat.number_is ∙ sym c.return_last_share.ensures.lends.did.acted.lane) at (lent-share refers c.return_last_share.ensures.lends),
     )
 
-pub finish_if_owed-requires-clause-bare : goal.finish_if_owed-requires-clause-bare
-finish_if_owed-requires-clause-bare g c = (c.leave-left.ensures.leaves.0 c.return_last_share.ensures.lends.idle).held ∙ (c.return_last_share.ensures.lends.did.held ∙ c.lane.invariant.0)
-
-pub finish_if_owed-requires-clause-seen : goal.finish_if_owed-requires-clause-seen
-finish_if_owed-requires-clause-seen g c =
-    let refers = refers-held c.lane.view_is c.requires.owns.1 c.self.view_is c.lane.invariant.1 c.requires.held refl in
-    let left = has-left (inl (
-      c.return_last_share.ensures.lends.idle,
-      (let some = refers.some in let same = lent-some refers c.return_last_share.ensures.lends in omega (arith, same, some)),
-      rw (refers.fits.seat.number_is ∙ sym c.return_last_share.ensures.lends.did.acted.lane) at (lent-share refers c.return_last_share.ensures.lends),
-    )) c.leave-left.ensures.leaves in
-    lawful {made = left.made} left.acted
-
-pub finish_if_owed-requires-clause-keeper : goal.finish_if_owed-requires-clause-keeper
-finish_if_owed-requires-clause-keeper g c =
+pub finish_if_owed-requires : goal.finish_if_owed-requires
+finish_if_owed-requires g c =
+    let lends = c.return_last_share.ensures.lends in
     let refers = refers-held c.lane.view_is c.requires.owns.1 c.self.view_is c.lane.invariant.1 c.requires.held refl in
     let spot = subst (λ (p : PoolOf). IsSpot p.shape c.args.spot (place_of c.args.key)) (sym c.self.view_is) c.requires.spot in
     let ends = subst (λ (n : ℕ). EndsAt n c.return_last_share.new.state c.drop_reference.new.state) spot.start (c.drop_reference.ensures.rows, c.drop_reference.ensures.rest) in
+    let number = ap (λ x. x.number) c.drop_reference.ensures.rest ∙ ap (λ x. x.number) lends.rest in
     let left = has-left (inl (
-      c.return_last_share.ensures.lends.idle,
-      (let some = refers.some in let same = lent-some refers c.return_last_share.ensures.lends in omega (arith, same, some)),
-      rw (refers.fits.seat.number_is ∙ sym c.return_last_share.ensures.lends.did.acted.lane) at (lent-share refers c.return_last_share.ensures.lends),
+      lends.idle,
+      (let some = refers.some in let same = lent-some refers lends in omega (arith, same, some)),
+      rw (refers.fits.seat.number_is ∙ sym lends.did.acted.lane) at (lent-share refers lends),
     )) c.leave-left.ensures.leaves in
-    keeper (beside refers c.return_last_share.ensures.lends c.drop_reference.new.state ends)
-    (ap (λ x. x.objects.directory) c.drop_reference.ensures.rest ∙ (ap (λ x. x.objects.directory) c.return_last_share.ensures.lends.rest ∙ same-directory c.lane.view_is c.requires.owns.2 c.self.view_is))
-    spot.inside left.acted.lane left.pushed
-
-pub finish_if_owed-requires-clause-may : goal.finish_if_owed-requires-clause-may
-finish_if_owed-requires-clause-may g c after reclaimed finished acts_so told =
-    let refers = refers-held c.lane.view_is c.requires.owns.1 c.self.view_is c.lane.invariant.1 c.requires.held refl in
-    let spot = subst (λ (p : PoolOf). IsSpot p.shape c.args.spot (place_of c.args.key)) (sym c.self.view_is) c.requires.spot in
-    let ends = subst (λ (n : ℕ). EndsAt n c.return_last_share.new.state c.drop_reference.new.state) spot.start (c.drop_reference.ensures.rows, c.drop_reference.ensures.rest) in
-    let number = ap (λ x. x.number) c.drop_reference.ensures.rest ∙ ap (λ x. x.number) c.return_last_share.ensures.lends.rest in
-    released-away refers c.return_last_share.ensures.lends c.drop_reference.new.state ends reclaimed (release-called c.return_last_share.ensures.lends.idle c.leave-left.ensures.leaves refl finished).did
-    (subst (λ (n : ℕ). EndsWithActs c.self.inside.grid.shape (place_of c.args.key) (acts.Release n c.args.key ∷ []) c.return_last_share.new.hand.me.0 after.0 reclaimed)
-    (sym (refers.fits.seat.number_is ∙ sym c.return_last_share.ensures.lends.did.acted.lane)) (release-acts (place_of c.args.key) after.0 reclaimed c.return_last_share.ensures.lends.idle c.leave-left.ensures.leaves acts_so))
-    (subst (λ (n : ℕ). IfSome reclaimed (IsReclaimed g.T.Clear.content g.T.Clear.room c.self.inside.grid.shape (place_of c.args.key) n after.0)) number told)
+    record {
+      call = record {
+        keeps = record {
+          hand = (
+            c.leave-left.ensures.hand.0 ∙ (c.return_last_share.ensures.hand.0 ∙ (ap (λ l. l.table) c.lane.view_is ∙ (c.requires.owns.0 ∙ sym (ap (λ p. p.table) c.self.view_is)))),
+            left.acted.one,
+          );
+          bare = left.held ∙ (lends.did.held ∙ c.lane.invariant.0);
+          inside = spot.inside;
+          start = spot.start;
+          keeper = keeper (beside refers lends c.drop_reference.new.state ends)
+              (ap (λ x. x.objects.directory) c.drop_reference.ensures.rest ∙ (ap (λ x. x.objects.directory) lends.rest ∙ same-directory c.lane.view_is c.requires.owns.2 c.self.view_is))
+              spot.inside left.acted.lane left.pushed;
+        };
+        seen = lawful {made = left.made} left.acted;
+        owes = left.owes;
+        may = λ after reclaimed finished acts_so told.
+            released-away refers lends c.drop_reference.new.state ends reclaimed (release-called lends.idle c.leave-left.ensures.leaves refl finished).did
+            (subst (λ (n : ℕ). EndsWithActs c.self.inside.grid.shape (place_of c.args.key) (acts.Release n c.args.key ∷ []) c.return_last_share.new.hand.me.0 after.0 reclaimed)
+            (sym (refers.fits.seat.number_is ∙ sym lends.did.acted.lane)) (release-acts (place_of c.args.key) after.0 reclaimed lends.idle c.leave-left.ensures.leaves acts_so))
+            (subst (λ (n : ℕ). IfSome reclaimed (IsReclaimed g.T.Clear.content g.T.Clear.room c.self.inside.grid.shape (place_of c.args.key) n after.0)) number told);
+      };
+    }
 
 module _ (g : Over) (c : goal.After-finish_if_owed g) where
   -- the release, and nothing more
