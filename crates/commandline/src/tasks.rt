@@ -1,7 +1,7 @@
 //! What the program is told to do, and over which turns.
 
 /// What the program is told to do.
-#[derive(Drop, Debug)]
+#[derive(Drop)]
 pub enum Task {
     /// Replay the script file at this path over these turns, of which a stopped lane has no more after
     /// its stop. The acts are wanted where `acts` holds, and otherwise the trace.
@@ -111,7 +111,7 @@ impl Task {
 }
 
 /// The turns of a replay.
-#[derive(Drop, Debug)]
+#[derive(Drop)]
 pub enum Turns {
     /// Those of this schedule, whose entries are numbers of lanes.
     Listed(Vec<u32>),
@@ -138,7 +138,7 @@ impl Turns {
 }
 
 /// Where a lane stops: after so many of its entries in the schedule.
-#[derive(Clone, Copy, Debug)]
+#[derive(Clone, Copy)]
 pub struct Stop {
     /// The number of the lane.
     pub lane: u32,

@@ -1,7 +1,7 @@
 //! The pool's atomic words, and the steps on them.
 
 /// One of the pool's atomic words. Places go by their numbers.
-#[derive(Clone, Copy, Debug, PartialEq, Eq)]
+#[derive(Clone, Copy)]
 pub enum Word {
     /// The lifecycle word of a place.
     Life { place: u32 },
@@ -12,7 +12,7 @@ pub enum Word {
 }
 
 /// The kinds of atomic step, with their operands.
-#[derive(Clone, Copy, Debug, PartialEq, Eq)]
+#[derive(Clone, Copy)]
 pub enum Kind {
     /// Adds one to the count.
     Enter,
@@ -36,7 +36,7 @@ pub enum Kind {
 }
 
 /// An atomic step that was made: what was done to which word, and the word before and after it.
-#[derive(Clone, Copy, Debug, PartialEq, Eq)]
+#[derive(Clone, Copy)]
 pub struct Step {
     pub kind: Kind,
     pub word: Word,

@@ -5,7 +5,7 @@ use crate::contents::{Bytes, Places};
 use std::alloc::{AllocError, Global};
 
 /// An act of a lane on the pool, with its reply. Keys and places go by their numbers.
-#[derive(Drop, Debug)]
+#[derive(Drop)]
 pub enum Act {
     /// The lane publishes the filling of the key's place, and keeps a reference where `with_ref` holds.
     Publish {

@@ -70,7 +70,7 @@ impl Bytes {
 }
 
 /// Some places, by their numbers.
-#[derive(Drop, Debug)]
+#[derive(Drop)]
 pub struct Places {
     places: Vec<u32>,
 }

@@ -2,7 +2,7 @@
 use seqpool::Bytes;
 
 /// What a register holds.
-#[derive(Drop, Debug)]
+#[derive(Drop)]
 pub enum Holding {
     Empty,
     /// A filling that will have this key, with the bytes written so far.
@@ -12,7 +12,7 @@ pub enum Holding {
 }
 
 /// A register: what it holds, and the last key that it had.
-#[derive(Drop, Debug)]
+#[derive(Drop)]
 pub struct RegisterState {
     pub holding: Holding,
     pub last_key: Option<u64>,

@@ -5,21 +5,21 @@ use seqpool::Bytes;
 use std::marker::Model;
 
 /// A register of a lane: one of sixteen.
-#[derive(Clone, Copy, Debug, PartialEq, Eq)]
+#[derive(Clone, Copy)]
 pub struct Register {
     pub number: u8,
     ghost small: { number < 16 },
 }
 
 /// The key of a `get` or a `clear`: a number, or the last key that a register had.
-#[derive(Clone, Copy, Debug, PartialEq, Eq)]
+#[derive(Clone, Copy)]
 pub enum Operand {
     Number(u64),
     LastOf(Register),
 }
 
 /// A command of a script.
-#[derive(Drop, Debug)]
+#[derive(Drop)]
 pub enum Command {
     Create(Register),
     Write(Register, Bytes),
@@ -32,7 +32,7 @@ pub enum Command {
 }
 
 /// The commands of one lane, in order.
-#[derive(Drop, Debug)]
+#[derive(Drop)]
 pub struct Script {
     commands: Vec<Command>,
 }

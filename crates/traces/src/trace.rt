@@ -9,7 +9,7 @@ use std::marker::Model;
 
 /// What a lane did in one turn: the replies before its step, the step with the act that it makes, and the replies after
 /// it. A turn without a step has its replies before it.
-#[derive(Drop, Debug)]
+#[derive(Drop)]
 pub struct Turn {
     pub lane: u32,
     pub before: Replies,
@@ -34,7 +34,7 @@ impl Turn {
 }
 
 /// The turns of a run, in order.
-#[derive(Drop, Debug)]
+#[derive(Drop)]
 pub struct Trace {
     turns: Vec<Turn>,
 }
