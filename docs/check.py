@@ -7,7 +7,7 @@ usage: python3 docs/check.py
 - snippets: each fenced block of README, USING and FOREIGN stands in a source, but for lines of `...` (or `// ...`) between its parts
 - figures: where a figure stands on two pages, or follows from the repository, it is the same; a number of edits, minutes of the gate,
   instructions or ns stands on the page where it is at home, if it stands on another
-- names: the edits of WRONG_BODIES are those of the crates; the files that pages name are there
+- names: the edits of WRONG_BODIES are those of the crates; the files that pages name are there; what PROVED names stands in a source
 - sentences: none beyond 40 words, and 22 on average, on the pages that are read first; words of all pages
 - DEFINITIONS is what definitions.py writes, and the picture of the crates what crates_picture.py does
 - what docs/begin makes is the sample under another name
@@ -109,7 +109,7 @@ def links():
 def sources():
     """The lines of all files from which snippets are, without their indentation."""
     found = []
-    for pattern in ("crates/*/src/**/*.rt", "crates/*/specs/*.antt", "crates/*/proofs/**/*.antt", "bindings/c/**/*.[ch]", "bindings/rust/examples/*.rs", "bindings/rust/src/*.rs", "bindings/rust/README.md", "docs/template/**/*"):
+    for pattern in ("crates/*/src/**/*.rt", "crates/*/specs/*.antt", "crates/*/proofs/**/*.antt", "bindings/c/**/*.[ch]", "bindings/rust/examples/*.rs", "bindings/rust/src/*.rs", "bindings/rust/README.md"):
         for path in ROOT.glob(pattern):
             if path.is_file():
                 found.append("\n" + "\n".join(line.strip() for line in text_of(path).splitlines()) + "\n")
@@ -183,6 +183,23 @@ def paths():
             folder = ROOT / "crates" / crate / path
             if (ROOT / "crates" / crate).is_dir() and not (folder.exists() or folder.with_suffix(".antt").exists()):
                 yield f"{named(page)}: {crate}/{path}"
+
+
+def words_of_sources():
+    """All words of the sources, of the definitions and of the header for C."""
+    found = set()
+    for pattern in ("crates/*/src/**/*.rt", "crates/*/specs/*.antt", "bindings/c/*.h"):
+        for path in ROOT.glob(pattern):
+            found |= set(re.findall(r"\w+", text_of(path)))
+    return found
+
+
+def names():
+    """Names that PROVED tells and that no source has."""
+    page, known = ROOT / "docs/PROVED.md", words_of_sources()
+    for name in sorted(set(re.findall(r"`(\w+(?:::\w+)*)`", text_of(page)))):
+        if any(word not in known for word in name.split("::")):
+            yield f"{named(page)}: {name}"
 
 
 def sentences(path):
@@ -259,7 +276,7 @@ def begun():
 
 def main():
     bad = 0
-    tests = (("links", links), ("snippets", snippets), ("figures", figures), ("figures at home", strays), ("the edits' rows", wrong_bodies), ("names of files", paths), ("sentences and words", long_sentences), ("pages that scripts write", made), ("the crate that docs/begin makes", begun))
+    tests = (("links", links), ("snippets", snippets), ("figures", figures), ("figures at home", strays), ("the edits' rows", wrong_bodies), ("names of files", paths), ("names of definitions", names), ("sentences and words", long_sentences), ("pages that scripts write", made), ("the crate that docs/begin makes", begun))
     for name, test in tests:
         faults = list(test())
         bad += bool(faults)
