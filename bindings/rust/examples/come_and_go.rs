@@ -125,13 +125,16 @@ fn come_and_go(way: &str, threads: u64, requests: u64) -> Option<bool> {
         is_owned: way == "owned",
     };
     thread::scope(|scope| {
-        for _ in 0..threads {
-            scope.spawn(|| {
-                while board.next.load(Relaxed) < requests {
-                    let visit = scope.spawn(|| work(&caller(), &board));
-                    visit.join().expect("no panic");
-                }
-            });
+        let visits = || {
+            while board.next.load(Relaxed) < requests {
+                let visit = scope.spawn(|| work(&caller(), &board));
+                visit.join().expect("no panic");
+            }
+        };
+        let running: Vec<_> = (0..threads).map(|_| scope.spawn(visits)).collect();
+        // (Each is joined: a thread sanitizer doesn't see what the end of the scope waits for.)
+        for visits in running {
+            visits.join().expect("no panic");
         }
     });
     let last = caller();
