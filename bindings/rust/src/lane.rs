@@ -52,7 +52,7 @@ pub(crate) struct Shards<T: Clear> {
     home: AtomicU32,
     /// How many lanes are of the pool's shape: all, or all but the last, which threads share.
     told: u32,
-    /// Where the proved lanes go for the close, which takes no memory.
+    /// Where the proved lanes go for the close, which takes no memory: the row in which they came.
     row: ManuallyDrop<shim::Vec<ProvedLane<T>>>,
     /// The pool of which it is a segment, once it stands there.
     room: AtomicPtr<Room<T>>,
@@ -152,7 +152,6 @@ impl<T: Clear> Shards<T> {
         let lanes = told + u32::from(one_more);
         let checked = Shape { lanes, ..shape }.checked()?;
         let count = lanes as usize;
-        let row = shim::Vec::with_capacity(Global, count).map_err(|_| OpenError::Memory)?;
         let mut seats = row_for(count)?;
         let mut all_returned = row_for(count)?;
         for _ in 0..count {
@@ -163,8 +162,8 @@ impl<T: Clear> Shards<T> {
         let call = Call;
         let opened = shardpool::open(Global, checked);
         call.end();
-        let (proved, lanes) = opened?;
-        for (lane, returned) in lanes.into_iter().zip(all_returned) {
+        let (proved, mut lanes) = opened?;
+        while let (Some(lane), Some(returned)) = (lanes.pop(), all_returned.pop()) {
             seats.push(Seat {
                 number: lane.number(),
                 lane: UnsafeCell::new(ManuallyDrop::new(lane)),
@@ -181,12 +180,13 @@ impl<T: Clear> Shards<T> {
                 post: UnsafeCell::new(None),
             });
         }
+        seats.reverse();
         Ok(Shards {
             proved: ManuallyDrop::new(proved),
             seats: ManuallyDrop::new(seats),
             home: AtomicU32::new((1 << told) - 1),
             told,
-            row: ManuallyDrop::new(row),
+            row: ManuallyDrop::new(lanes),
             room: AtomicPtr::new(ptr::null_mut()),
         })
     }
