@@ -1,5 +1,5 @@
 -- What the words of `poolview` stand for, by what `clap` matches.
-use Rattle.std.specs.Prelude.{◌≡◌, ℕ, List, [], ◌∷◌, Option, Some, None, codes}
+use Rattle.std.specs.Prelude.{◌≡◌, ℕ, List, [], ◌∷◌, Option, Some, None, codes, not}
 use Rattle.clap.specs.Words.{App, Row, first_of, subcommand_of, with_subcommand}
 use Rattle.schedules.specs.Numbers.{number_of}
 use Rattle.commandline.specs.CommandLines.{positional, option_named, flag_named, line_of, program_named}
@@ -11,7 +11,8 @@ use Rattle.commandline.specs.declared.views.Viewing.{Viewing}
 -- the subcommand `picture`
 abbrev pub picture_line : App
 picture_line = line_of (codes "picture")
-    (positional (codes "file") ∷ option_named (codes "from") ∷ option_named (codes "turns") ∷ flag_named (codes "fit") ∷ flag_named (codes "explain") ∷ [])
+    (positional (codes "file") ∷ option_named (codes "from") ∷ option_named (codes "turns") ∷ flag_named (codes "fit") ∷ flag_named (codes "whole")
+    ∷ flag_named (codes "explain") ∷ [])
 
 -- the subcommand `words`
 abbrev pub words_line : App
@@ -29,9 +30,13 @@ view_program = program_named (codes "poolview")
 abbrev pub worded_program : App
 worded_program = with_subcommand (with_subcommand (with_subcommand view_program picture_line.top) words_line.top) (plain_line (codes "summary")).top
 
+-- the program with those and its subcommands for other tools
+abbrev pub paged_program : App
+paged_program = with_subcommand (with_subcommand (with_subcommand worded_program (plain_line (codes "json")).top) (plain_line (codes "events")).top) (plain_line (codes "page")).top
+
 -- the program's command line
 abbrev pub view_line : App
-view_line = with_subcommand (with_subcommand (with_subcommand worded_program (plain_line (codes "json")).top) (plain_line (codes "events")).top) (plain_line (codes "page")).top
+view_line = with_subcommand paged_program (plain_line (codes "check")).top
 
 -- a number of turns, or of a turn: of one to twenty digits, at most 4294967295
 abbrev pub turn_number : List ℕ → Option ℕ
@@ -42,17 +47,19 @@ abbrev pub IsNumber : ℕ → Option (List ℕ) → ℕ → Type 0
 IsNumber default None number = number ≡ default
 IsNumber default (Some text) number = turn_number text ≡ Some number
 
--- what the subcommand of this name asks for, by its matches: a picture from the first turn on and of all turns, unless others are given
+-- what the subcommand of this name asks for, by its matches: a picture from the first turn on and of all turns, unless others are given, which fits
+-- unless it is to be whole
 abbrev pub IsView : List ℕ → List Row → View → Type 0
 IsView name rows (views.Picture first count fit) =
     (name ≡ codes "picture") × IsNumber 0 (first_of (codes "from") rows) first
-    × IsNumber 18446744073709551615 (first_of (codes "turns") rows) count × (fit ≡ flag_of (first_of (codes "fit") rows))
+    × IsNumber 18446744073709551615 (first_of (codes "turns") rows) count × (fit ≡ not (flag_of (first_of (codes "whole") rows)))
 IsView name rows (views.Words keys numbers) =
     (name ≡ codes "words") × (keys ≡ flag_of (first_of (codes "keys") rows)) × (numbers ≡ flag_of (first_of (codes "numbers") rows))
 IsView name rows views.Summary = name ≡ codes "summary"
 IsView name rows views.Json = name ≡ codes "json"
 IsView name rows views.Events = name ≡ codes "events"
 IsView name rows views.Page = name ≡ codes "page"
+IsView name rows views.Check = name ≡ codes "check"
 
 -- what clap matched, a subcommand's name and its matches, asks for this
 pub record IsViewing (matched : Option (List ℕ × List Row)) (viewing : Viewing) : Type 0 where

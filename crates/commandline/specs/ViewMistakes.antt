@@ -26,6 +26,7 @@ pub record IsWrongView (name : List ℕ) (rows : List Row) (wrong : Wrong) : Typ
   pub json : name ≡ codes "json" → ⊥
   pub events : name ≡ codes "events" → ⊥
   pub page : name ≡ codes "page" → ⊥
+  pub check : name ≡ codes "check" → ⊥
 
 -- a mistake says what is wrong with the matches of the subcommand with this name; another fault says nothing of it
 abbrev pub RefusesView : List ℕ → List Row → TaskFault → Type 0

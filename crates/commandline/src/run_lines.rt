@@ -8,7 +8,7 @@ use clap::{ArgMatches, Error as ClapError};
 use std::alloc::Global;
 
 /// The version of the programs.
-pub(crate) const VERSION: &str = "0.1.0";
+pub(crate) const VERSION: &str = "0.2.0";
 
 /// What help says of the program.
 static PROGRAM_HELP: Help<'static> = Help {

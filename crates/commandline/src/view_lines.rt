@@ -58,7 +58,12 @@ static PICTURE: Line<'static> = Line {
         Argument {
             kind: Kind::Flag,
             name: "fit",
-            help: "Ends before 32767 pixels, says where, names the command of each reply, and draws arrows in front",
+            help: "Ends before 32767 pixels, and says where: so it is without --whole",
+        },
+        Argument {
+            kind: Kind::Flag,
+            name: "whole",
+            help: "Draws all turns, unless they need more than 32767 pixels, which no viewer opens",
         },
         EXPLAIN,
     ],
@@ -132,6 +137,17 @@ static PAGE: Line<'static> = Line {
     arguments: &[FILE, EXPLAIN],
 };
 
+/// The subcommand `check`.
+static CHECK: Line<'static> = Line {
+    name: "check",
+    help: Help {
+        about: "Says whether the steps of a trace follow from one another",
+        usage: None,
+        more: "Example: poolview check trace",
+    },
+    arguments: &[FILE, EXPLAIN],
+};
+
 /// What `clap` reads in the words of `poolview`.
 pub(crate) fn read_view_words<'a>(
     alloc: Global,
@@ -144,6 +160,6 @@ pub(crate) fn read_view_words<'a>(
         version: VERSION,
         help: PROGRAM_HELP,
     };
-    let lines = [&PICTURE, &WORDS, &SUMMARY, &JSON, &EVENTS, &PAGE];
+    let lines = [&PICTURE, &WORDS, &SUMMARY, &JSON, &EVENTS, &PAGE, &CHECK];
     read_by_lines(alloc, program, &lines, words)
 }

@@ -17,8 +17,8 @@ use std::alloc::Global;
 /// What is to be shown of a trace.
 #[derive(Clone, Copy)]
 pub enum View {
-    /// The picture of its turns from the first of these on, and of so many at most; where `fit` holds, one that fits
-    /// into 32767 pixels, and says more.
+    /// The picture of its turns from the first of these on, and of so many at most: as many as fit into 32767 pixels; or
+    /// all of them, where `fit` doesn't hold.
     Picture {
         first: usize,
         count: usize,
@@ -38,6 +38,8 @@ pub enum View {
     Events,
     /// A page that shows it turn by turn.
     Page,
+    /// Whether its steps follow from one another.
+    Check,
 }
 
 /// What `poolview` is told to do.
@@ -83,7 +85,7 @@ fn picture_of(alloc: Global, matches: &ArgMatches) -> Result<View, TaskFault>
 {
     let first = number_or(alloc, Reason::BadFrom, given(matches, "from"), 0)?;
     let count = number_or(alloc, Reason::BadCount, given(matches, "turns"), usize::MAX)?;
-    let fit = is_used(matches, "fit");
+    let fit = !is_used(matches, "whole");
     Ok(View::Picture { first, count, fit })
 }
 
@@ -109,6 +111,7 @@ fn view_of(alloc: Global, name: &str, matches: &ArgMatches) -> Result<View, Task
         "json" => Ok(View::Json),
         "events" => Ok(View::Events),
         "page" => Ok(View::Page),
+        "check" => Ok(View::Check),
         _ => Err(mistaken_without(alloc, Reason::Missing)),
     }
 }

@@ -811,7 +811,7 @@ module _ (shared : Shared) (w : World) (made : Option Made) (number : ℕ) (lane
     last_is = sym at.last ∙ is_last
 
     -- its place is of a shard of the shape
-    pub the_place : shard_of (place_of (key_in the_call)) < 16
+    pub the_place : shard_of (place_of (key_in the_call)) < 64
     the_place =
         let most = (shape_bounds z draft.kept.holds.rule.limits).lanes in
         let inside = called_place z (pool_after z w.history) number book owned the_call book.steps last (omega arith)
@@ -823,7 +823,7 @@ module _ (shared : Shared) (w : World) (made : Option Made) (number : ℕ) (lane
         ((draft.kept.holds.rule.home.chained number below).each place (omega arith)).own
 
     -- a TAKE was of the stack of a lane, and found a word in range
-    pub the_take : (shard from : ℕ) → last.kind ≡ kinds.Take → last.word ≡ Stack shard from → (from < 16) × (last.before ≤ 65536)
+    pub the_take : (shard from : ℕ) → last.kind ≡ kinds.Take → last.word ≡ Stack shard from → (from < 64) × (last.before ≤ 65536)
     the_take shard from takes word =
         let most = (shape_bounds z draft.kept.holds.rule.limits).lanes in
         let t = take_bounds (caller z number book) book.steps book.acts last own_taken last_is takes the_call has_made.0 has_made.1 shard from word in
@@ -833,7 +833,7 @@ module _ (shared : Shared) (w : World) (made : Option Made) (number : ℕ) (lane
     pub by_last : (pushed : List ℕ) (aimed : Option OwnAim) → p.pushed ≡ pushed
         → ((script : List Command) (done : ℕ) (b : Book) (is : Call) → IsCall script done b (Some own) (Some is)
         → AreSteps (caller z number b) is [] b.steps → AreFound b.steps → last_step b.steps ≡ Some last
-        → ((shard : ℕ) → shard < 16 → slice_index pushed shard ≡ pushed_after b.steps b.pushed shard)
+        → ((shard : ℕ) → shard < 64 → slice_index pushed shard ≡ pushed_after b.steps b.pushed shard)
         → IsAim aimed (next_step (caller z number b) is b.steps))
         → IsAim aimed (next_aim z number book)
     by_last pushed aimed same told = next_by_call aimed (told lane.script p.done book the_call is_call has_made.0

@@ -23,6 +23,8 @@ use Rattle.traces.specs.declared.script.Command.TheVariants as commands
 use Rattle.traces.specs.declared.reply.Reply.{Reply}
 use Rattle.traces.specs.declared.trace.Turn.{Turn}
 use Rattle.traces.specs.Registers.{operand_key, empty_register, register_at}
+use Rattle.traces.specs.declared.registers.Holding.{Holding}
+use Rattle.traces.specs.declared.registers.Holding.TheVariants as holdings
 use Rattle.traces.specs.Books.{Book, first_book, caller, publishing, releasing, getting, clearing, creating, holding_at, call_of_first, call_under_way, next_in, next_aim, shown, all_answered, act_list, stepped}
 use Rattle.traces.specs.Following.{AreReplies}
 use Rattle.traces.specs.Lawful.{World, words_after, book_before, book_after, with_book, world_after, world_from, first_words, first_world, script_or_none, at_end, is_finished, IsStep, IsAtRest, StepAndReplies, IsNextTurn, AreTurns}
@@ -45,7 +47,7 @@ use Rattle.coresteps.specs.Lanes.{IsSlot, slot_at, empty_slot, first_progress, n
 use Rattle.coresteps.specs.Kept.{IsTable, IsDraft, IsLaneAt, IsWorked, IsCoreAt, CoreState, SameShared, IsCore, IsEmptyTurn, MakesTurn, Turns, IsRun}
 use Rattle.coresteps.proofs.TableLemmas.{same_draft}
 use Rattle.coresteps.proofs.NoteLemmas.{draft_step, chained_front}
-use Rattle.coresteps.proofs.CountLemmas.{few_steps, few_other}
+use Rattle.coresteps.proofs.CountLemmas.{create_few, few_other}
 use Rattle.coresteps.proofs.CreateLemmas.{drop_within}
 use Rattle.coresteps.proofs.RegisterLemmas.{no_create}
 
@@ -282,12 +284,14 @@ few_more : (c : Caller) (call : Call) (steps : List Step) (made : List Act) (ste
 few_more c call steps made step has next = steps-snoc c call [] steps step has.0 next
 
 -- a step more of a call is counted within the bounds
-module _ (c : Caller) (steps : List Step) (made : List Act) (step : Step) (lanes : c.shape.lanes ≤ 16) (below : c.lane < c.shape.lanes) where
-  any_few : (o : Option Call) → HasMade c o steps made → next_in c steps o ≡ Some (aim step.kind step.word) → length steps + 1 ≤ 16
-  any_few None has next = absurd (cc next)
-  any_few (Some call) has next =
-      let few = few_steps c call (steps ++ step ∷ []) (few_more c call steps made step has next) lanes below in
+module _ (c : Caller) (steps : List Step) (made : List Act) (step : Step) (below : c.lane < c.shape.lanes) where
+  creates_few : (b : Book) (h : Holding) → HasMade c (creating b h) steps made → next_in c steps (creating b h) ≡ Some (aim step.kind step.word)
+      → length steps + 1 ≤ c.shape.lanes
+  creates_few b holdings.Empty has next =
+      let few = create_few c b.own b.chain b.opened (steps ++ step ∷ []) (few_more c (Creating b.own b.chain b.opened) steps made step has next) below in
       omega (arith, length-append steps (step ∷ []))
+  creates_few b (holdings.Filling key content) has next = absurd (cc next)
+  creates_few b (holdings.Reference key content) has next = absurd (cc next)
 
   other_few : (o : Option Call) → NoCreate o → HasMade c o steps made → next_in c steps o ≡ Some (aim step.kind step.word) → length steps + 1 ≤ 8
   other_few None other has next = absurd (cc next)
@@ -306,37 +310,37 @@ module _ (c : Caller) (steps : List Step) (made : List Act) (step : Step) (lanes
   other_few (Some (Creating own chain opened)) other has next = absurd other
 
 -- the greatest numbers of steps are within the bounds of the calls
-abbrev IsBounded : Most → Type 0
-IsBounded most = (most.create ≤ 16) × (most.other ≤ 8)
+abbrev IsBounded : ℕ → Most → Type 0
+IsBounded lanes most = (most.create ≤ lanes) × (most.other ≤ 8)
 
-bounded_create : (most : Most) (n : ℕ) → IsBounded most → n ≤ 16 → IsBounded (record { create = max most.create n; other = most.other })
-bounded_create most n b few = (omega (arith, b.0), b.1)
+bounded_create : (lanes : ℕ) (most : Most) (n : ℕ) → IsBounded lanes most → n ≤ lanes → IsBounded lanes (record { create = max most.create n; other = most.other })
+bounded_create lanes most n b few = (omega (arith, b.0), b.1)
 
-bounded_other : (most : Most) (n : ℕ) → IsBounded most → n ≤ 8 → IsBounded (record { create = most.create; other = max most.other n })
-bounded_other most n b few = (b.0, omega (arith, b.1))
+bounded_other : (lanes : ℕ) (most : Most) (n : ℕ) → IsBounded lanes most → n ≤ 8 → IsBounded lanes (record { create = most.create; other = max most.other n })
+bounded_other lanes most n b few = (b.0, omega (arith, b.1))
 
-module _ (c : Caller) (b : Book) (step : Step) (lanes : c.shape.lanes ≤ 16) (below : c.lane < c.shape.lanes) (most : Most) (bounded : IsBounded most) where
+module _ (c : Caller) (b : Book) (step : Step) (below : c.lane < c.shape.lanes) (most : Most) (bounded : IsBounded c.shape.lanes most) where
   counted_few : (left : List Command) → HasMade c (call_of_first b left) b.steps b.acts
-      → next_in c b.steps (call_of_first b left) ≡ Some (aim step.kind step.word) → IsBounded (counted left (length b.steps + 1) most)
+      → next_in c b.steps (call_of_first b left) ≡ Some (aim step.kind step.word) → IsBounded c.shape.lanes (counted left (length b.steps + 1) most)
   counted_few [] has next = absurd (cc next)
   counted_few (commands.Create r ∷ more) has next =
-      bounded_create most (length b.steps + 1) bounded (any_few c b.steps b.acts step lanes below (creating b (holding_at b r.number)) has next)
+      bounded_create c.shape.lanes most (length b.steps + 1) bounded (creates_few c b.steps b.acts step below b (holding_at b r.number) has next)
   counted_few (commands.Write r bytes ∷ more) has next = absurd (cc next)
   counted_few (commands.Publish r ∷ more) has next =
-      bounded_other most (length b.steps + 1) bounded (other_few c b.steps b.acts step lanes below (publishing false (holding_at b r.number)) (no_create b (commands.Publish r) tt) has next)
+      bounded_other c.shape.lanes most (length b.steps + 1) bounded (other_few c b.steps b.acts step below (publishing false (holding_at b r.number)) (no_create b (commands.Publish r) tt) has next)
   counted_few (commands.Downgrade r ∷ more) has next =
-      bounded_other most (length b.steps + 1) bounded (other_few c b.steps b.acts step lanes below (publishing true (holding_at b r.number)) (no_create b (commands.Downgrade r) tt) has next)
+      bounded_other c.shape.lanes most (length b.steps + 1) bounded (other_few c b.steps b.acts step below (publishing true (holding_at b r.number)) (no_create b (commands.Downgrade r) tt) has next)
   counted_few (commands.Get r key ∷ more) has next =
-      bounded_other most (length b.steps + 1) bounded (other_few c b.steps b.acts step lanes below (getting (operand_key b.registers key) (holding_at b r.number)) (no_create b (commands.Get r key) tt) has next)
+      bounded_other c.shape.lanes most (length b.steps + 1) bounded (other_few c b.steps b.acts step below (getting (operand_key b.registers key) (holding_at b r.number)) (no_create b (commands.Get r key) tt) has next)
   counted_few (commands.Read r ∷ more) has next = absurd (cc next)
   counted_few (commands.Release r ∷ more) has next =
-      bounded_other most (length b.steps + 1) bounded (other_few c b.steps b.acts step lanes below (releasing (holding_at b r.number)) (no_create b (commands.Release r) tt) has next)
+      bounded_other c.shape.lanes most (length b.steps + 1) bounded (other_few c b.steps b.acts step below (releasing (holding_at b r.number)) (no_create b (commands.Release r) tt) has next)
   counted_few (commands.Clear key ∷ more) has next =
-      bounded_other most (length b.steps + 1) bounded (other_few c b.steps b.acts step lanes below (clearing (operand_key b.registers key)) (no_create b (commands.Clear key) tt) has next)
+      bounded_other c.shape.lanes most (length b.steps + 1) bounded (other_few c b.steps b.acts step below (clearing (operand_key b.registers key)) (no_create b (commands.Clear key) tt) has next)
 
 -- so is that of a turn
-turn_bounded : (z : Shape) (w : World) (t : Turn) (most : Most) → IsKept z w → IsNextTurn z w t → IsBounded most
-    → IsBounded (counted_step (book_before z w t) t.step most)
+turn_bounded : (z : Shape) (w : World) (t : Turn) (most : Most) → IsKept z w → IsNextTurn z w t → IsBounded z.lanes most
+    → IsBounded z.lanes (counted_step (book_before z w t) t.step most)
 turn_bounded z w t most kept next bounded = go t.step t.act t.after next.step
   where
     below : t.lane < z.lanes
@@ -350,10 +354,10 @@ turn_bounded z w t most kept next bounded = go t.step t.act t.after next.step
         (here.holds.owned t.lane below).call
 
     go : (step : Option Step) (act : Option Act) (after : List Reply) → StepAndReplies z w t.lane (book_before z w t) step act after
-        → IsBounded (counted_step (book_before z w t) step most)
+        → IsBounded z.lanes (counted_step (book_before z w t) step most)
     go None act after is = bounded
     go (Some step) act after is =
-        counted_few (caller z t.lane (book_before z w t)) (book_before z w t) step kept.holds.rule.limits.lanes.1 below most bounded (book_before z w t).left has is.0.next
+        counted_few (caller z t.lane (book_before z w t)) (book_before z w t) step below most bounded (book_before z w t).left has is.0.next
 
 -- ---- the core after a turn
 
@@ -406,7 +410,7 @@ module _ (old new : Shared) (w : World) (most : ℕ → Most) (lanes : List Lane
         (λ n l other e. k.most_is n l e
         ∙ sym (ap (λ (b : Bool). cond b (counted_step (book_before old.shape w t) t.step (most n)) (most n)) (ne_eqb n t.lane other)))
 
-    either : (b : Bool) (x y : Most) → IsBounded x → IsBounded y → IsBounded (cond b x y)
+    either : (b : Bool) (x y : Most) → IsBounded old.shape.lanes x → IsBounded old.shape.lanes y → IsBounded old.shape.lanes (cond b x y)
     either true x y p q = p
     either false x y p q = q
 
@@ -418,8 +422,9 @@ module _ (old new : Shared) (w : World) (most : ℕ → Most) (lanes : List Lane
       lane = λ n l e. subst (λ (z : Shape). IsLaneAt z (world_after old.shape w t).history n l l.progress ((world_after old.shape w t).books n)) (sym shape) (each_lane n l e);
       settled = each (λ n l. l.progress.own.added ≡ None) settled (λ n l other e. k.settled n l e);
       most_is = each_most;
-      bounded = λ n. either (eqb n t.lane) (counted_step (book_before old.shape w t) t.step (most n)) (most n)
-          (turn_bounded old.shape w t (most n) k.draft.kept is (k.bounded n)) (k.bounded n);
+      bounded = λ n. subst (λ (z : Shape). IsBounded z.lanes (most_after old.shape w t most n)) (sym shape)
+          (either (eqb n t.lane) (counted_step (book_before old.shape w t) t.step (most n)) (most n)
+          (turn_bounded old.shape w t (most n) k.draft.kept is (k.bounded n)) (k.bounded n));
       resting = subst (λ (z : Shape). AreResting z (world_after old.shape w t)) (sym shape) turn_rest;
     }
 
@@ -432,7 +437,7 @@ same_core old new w most lanes k shape draft = record {
   lane = λ n l e. subst (λ (z : Shape). IsLaneAt z w.history n l l.progress (w.books n)) (sym shape) (k.lane n l e);
   settled = k.settled;
   most_is = k.most_is;
-  bounded = k.bounded;
+  bounded = λ n. subst (λ (z : Shape). IsBounded z.lanes (most n)) (sym shape) (k.bounded n);
   resting = subst (λ (z : Shape). AreResting z w) (sym shape) k.resting;
 }
 
@@ -569,7 +574,7 @@ first_lane_at z number lane shape ring =
       chain = refl;
       opened = refl;
       pushed_count = refl;
-      pushed = λ shard below. got_or-replicate 16 shard 0;
+      pushed = λ shard below. got_or-replicate 64 shard 0;
       last = refl;
       made = refl;
       cleared = refl;

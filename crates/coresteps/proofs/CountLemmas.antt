@@ -1,5 +1,5 @@
--- No call makes more than sixteen steps, and none but create more than eight.
-use Rattle.std.proofs.Common.{◌≡◌, ℕ, zero, suc, ◌+◌, ◌<◌, ◌≤◌, Bool, true, false, cond, eqb, ltb, List, [], ◌∷◌, length, Some, None, refl, sym, ap, ◌∙◌, arith}
+-- A create makes no more steps than there are lanes, and no other call more than eight.
+use Rattle.std.proofs.Common.{◌≡◌, ℕ, zero, suc, ◌+◌, ◌-◌, ◌<◌, ◌≤◌, Bool, true, false, cond, eqb, ltb, List, [], ◌∷◌, length, Some, None, refl, sym, ap, ◌∙◌, arith}
 use Rattle.std.proofs.lemmas.Bool.{eqb-false, ltb-true, eqb-true}
 use Rattle.keybits.specs.declared.step.Step.{Step}
 use Rattle.keybits.specs.Keys.{place_of}
@@ -95,27 +95,27 @@ take_few c (take ∷ more) lane (suc n) within some past are =
     let far = next_far c.lane lane c.shape.lanes n (eqb (lane + 1) c.lane) refl some past in
     take_more c lane take more n (eqb take.before 0) refl are.1 (take_few c more (next_lane c.lane lane) n within far.0 far.1)
 
--- fifteen other lanes are left from the first on
-first_far : (own lanes : ℕ) (t : Bool) → eqb own 0 ≡ t → lanes ≤ 16 → (lanes ≤ cond t 1 0 + 15 + 1) × (own ≤ cond t 1 0 → lanes ≤ cond t 1 0 + 15)
-first_far own lanes true e few = (omega arith, λ le. omega arith)
-first_far own lanes false e few = let apart = eqb-false own 0 e in (omega arith, λ le. absurd (omega arith))
+-- all other lanes are left from the first on
+first_far : (own lanes : ℕ) (t : Bool) → eqb own 0 ≡ t → own < lanes → (lanes ≤ cond t 1 0 + (lanes - 1) + 1) × (own ≤ cond t 1 0 → lanes ≤ cond t 1 0 + (lanes - 1))
+first_far own lanes true e below = (omega arith, λ le. omega arith)
+first_far own lanes false e below = let apart = eqb-false own 0 e in (omega arith, λ le. absurd (omega arith))
 
--- a create makes at most sixteen steps
-create_few : (c : Caller) (own chain : List ℕ) (opened : ℕ) (steps : List Step) → AreSteps c (Creating own chain opened) [] steps
-    → c.shape.lanes ≤ 16 → c.lane < c.shape.lanes → length steps ≤ 16
-create_few c own chain opened [] are lanes below = omega arith
-create_few c (place ∷ own) chain opened (step ∷ more) are lanes below = let bad = are.0 in absurd (cc bad)
-create_few c [] (place ∷ chain) opened (follow ∷ []) are lanes below = omega arith
-create_few c [] (place ∷ chain) opened (follow ∷ step ∷ more) are lanes below = let bad = are.1.0 in absurd (cc bad)
-create_few c [] [] opened (step ∷ more) are lanes below =
+-- a create makes at most as many steps as there are lanes
+pub create_few : (c : Caller) (own chain : List ℕ) (opened : ℕ) (steps : List Step) → AreSteps c (Creating own chain opened) [] steps
+    → c.lane < c.shape.lanes → length steps ≤ c.shape.lanes
+create_few c own chain opened [] are below = omega arith
+create_few c (place ∷ own) chain opened (step ∷ more) are below = let bad = are.0 in absurd (cc bad)
+create_few c [] (place ∷ chain) opened (follow ∷ []) are below = omega arith
+create_few c [] (place ∷ chain) opened (follow ∷ step ∷ more) are below = let bad = are.1.0 in absurd (cc bad)
+create_few c [] [] opened (step ∷ more) are below =
     let some_page = else_some (eqb opened 0) None _ _ refl are.0 in
-    let far = first_far c.lane c.shape.lanes (eqb c.lane 0) refl lanes in
-    let few = take_few c (step ∷ more) (first_lane c.lane) 15 below far.0 far.1 (create_steps c opened some_page.0 [] (step ∷ more) are) in omega arith
+    let far = first_far c.lane c.shape.lanes (eqb c.lane 0) refl below in
+    let few = take_few c (step ∷ more) (first_lane c.lane) (c.shape.lanes - 1) below far.0 far.1 (create_steps c opened some_page.0 [] (step ∷ more) are) in omega arith
 
--- no call makes more than sixteen steps
-pub few_steps : (c : Caller) (call : Call) (steps : List Step) → AreSteps c call [] steps → c.shape.lanes ≤ 16 → c.lane < c.shape.lanes
-    → length steps ≤ 16
-few_steps c (Creating own chain opened) steps are lanes below = create_few c own chain opened steps are lanes below
+-- no call makes more steps than the most lanes
+pub few_steps : (c : Caller) (call : Call) (steps : List Step) → AreSteps c call [] steps → c.shape.lanes ≤ 64 → c.lane < c.shape.lanes
+    → length steps ≤ 64
+few_steps c (Creating own chain opened) steps are lanes below = let few = create_few c own chain opened steps are below in omega arith
 few_steps c (Publishing key content with_ref) steps are lanes below = let few = few_other c (Publishing key content with_ref) steps are tt in omega arith
 few_steps c (Getting key) steps are lanes below = let few = few_other c (Getting key) steps are tt in omega arith
 few_steps c (Releasing key) steps are lanes below = let few = few_other c (Releasing key) steps are tt in omega arith

@@ -385,7 +385,7 @@ module _ (z : Shape) (shape : IsShape z) (lane : ℕ) where
   -- the places of a page are of the lane's shard
   page_shard : (opened p : ℕ) → opened < z.pages → 0 < times p (drop 1 (page_places z lane opened)) → shard_of p ≡ lane
   page_shard opened p unopened some =
-      let top = (shape_bounds z shape).pages in let size = page_size-le z shape opened unopened in
+      let top = (shape_bounds z shape).pages in let size = page_size-le z opened in
       let le = drop_times p (page_places z lane opened) in
       (slots_only lane opened 0 (page_size z opened) p (omega arith) (omega arith) (omega arith)).0
 

@@ -565,8 +565,8 @@ module _ (c : Caller) (links : ℕ → ℕ) (steps : List Step) (made : List Act
       sym (subst (IsCalled b) t.call_is (called b call b.left e))
 
 -- a call under way has made few steps
-few_made : (c : Caller) (o : Option Call) (steps : List Step) (made : List Act) → HasMade c o steps made → c.shape.lanes ≤ 16
-    → c.lane < c.shape.lanes → length steps ≤ 16
+few_made : (c : Caller) (o : Option Call) (steps : List Step) (made : List Act) → HasMade c o steps made → c.shape.lanes ≤ 64
+    → c.lane < c.shape.lanes → length steps ≤ 64
 few_made c None steps made has lanes below = let none : length steps ≡ 0 = ap length has.0 in omega arith
 few_made c (Some call) steps made has lanes below = few_steps c call steps has.0 lanes below
 
@@ -574,21 +574,21 @@ few_made c (Some call) steps made has lanes below = few_steps c call steps has.0
 
 module _ (z : Shape) (w : World) (number : ℕ) (k : IsKept z w) (below : number < z.lanes) where
   -- the steps of the call under way are few
-  pub few_under_way : length (w.books number).steps ≤ 16
+  pub few_under_way : length (w.books number).steps ≤ 64
   few_under_way =
       let b = w.books number in
       few_made (caller z number b) (call_under_way b) b.steps b.acts (k.holds.owned number below).call k.holds.rule.limits.lanes.1 below
 
   module _ (step : Step) (act : Option Act) (is : IsStep z number w.words (w.books number) step act) where
     -- a PUSH is onto a stack of a lane of the shape
-    pub push_shard : (shard lane : ℕ) → step.word ≡ Stack shard lane → shard < 16
+    pub push_shard : (shard lane : ℕ) → step.word ≡ Stack shard lane → shard < 64
     push_shard shard lane on =
         let inside = subst (IsWordOf z) on (word_inside z w number (aim step.kind step.word) k below is.next) in
         let lanes = k.holds.rule.limits.lanes in omega arith
 
     module _ (lane : Lane) (old : Progress) (l : IsLaneAt z w.history number lane old (w.books number))
         (legal : IsLegal z (w.history ++ act_list act)) (settled : old.own.added ≡ None) (most : Most) (pushed : List ℕ)
-        (pushed_count : length pushed ≡ 16)
+        (pushed_count : length pushed ≡ 64)
         (puts : (shard : ℕ) → slice_index pushed shard ≡ pushed_by step step.kind step.word (λ (n : ℕ). slice_index old.pushed n) shard) where
       abbrev before : Book
       before = w.books number
@@ -600,7 +600,7 @@ module _ (z : Shape) (w : World) (number : ℕ) (k : IsKept z w) (below : number
       has : HasMade (caller z number before) (call_under_way before) before.steps before.acts
       has = (k.holds.owned number below).call
 
-      pushed_is : (shard : ℕ) → shard < 16 → slice_index pushed shard ≡ pushed_after (before.steps ++ step ∷ []) before.pushed shard
+      pushed_is : (shard : ℕ) → shard < 64 → slice_index pushed shard ≡ pushed_after (before.steps ++ step ∷ []) before.pushed shard
       pushed_is shard less =
           puts shard
           ∙ (pushed_by-same step step.kind step.word (λ (n : ℕ). slice_index old.pushed n) (pushed_after before.steps before.pushed) shard (l.pushed shard less)
@@ -738,17 +738,17 @@ module _ (shared : Shared) (w : World) (z : Shape) (number : ℕ) (lane : Lane) 
   kept_at = subst (λ (s : Shape). IsKept s w) same d.kept
 
   -- the count of the steps has room for one more
-  pub made_fits : old.made ≤ 16
+  pub made_fits : old.made ≤ 64
   made_fits = let few = few_under_way z w number kept_at below in let count = l.made in omega arith
 
-  pub shard_fits : (shard at : ℕ) → step.word ≡ Stack shard at → shard < 16
+  pub shard_fits : (shard at : ℕ) → step.word ≡ Stack shard at → shard < 64
   shard_fits = push_shard z w number kept_at below step act is
 
   -- where the step was counted, and then its PUSH and its act were noted, the lane tells of the book after the step
   pub note_tells : (legal : IsLegal z (w.history ++ act_list act)) (index : ℕ) (command : Command) (more : List Command)
       (counts pushes new : Progress) → index ≡ length w.history → old.own.added ≡ None
       → counts ≡ record old { last = Some step; made = old.made + 1; most = counted (command ∷ more) (old.made + 1) old.most }
-      → pushes ≡ record counts { pushed = pushes.pushed } → length pushes.pushed ≡ 16
+      → pushes ≡ record counts { pushed = pushes.pushed } → length pushes.pushed ≡ 64
       → ((shard : ℕ) → slice_index pushes.pushed shard ≡ pushed_by step step.kind step.word (λ (n : ℕ). slice_index counts.pushed n) shard)
       → new ≡ noted z number act index pushes
       → IsLaneAt z (w.history ++ act_list act) number lane new (stepped (w.books number) step act)

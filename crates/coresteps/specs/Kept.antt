@@ -29,7 +29,7 @@ use Rattle.coresteps.specs.declared.progress.Most.{Most}
 use Rattle.coresteps.specs.declared.shared.Made.{Made}
 use Rattle.coresteps.specs.declared.shared.Shared.{Shared}
 use Rattle.coresteps.specs.OwnLists.{IsOwnList, own_places}
-use Rattle.coresteps.specs.Lanes.{AreSlots, last_step, IsChained, most_after, most_create_steps, most_other_steps}
+use Rattle.coresteps.specs.Lanes.{AreSlots, last_step, IsChained, most_after, most_other_steps}
 
 -- ---- words
 
@@ -141,7 +141,7 @@ pub record IsCoreAt (w : World) (most : ℕ → Most) (shared : Shared) (lanes :
   pub lane : (number : ℕ) (lane : Lane) → slice_get lanes number ≡ Some lane → IsLaneAt shared.shape w.history number lane lane.progress (w.books number)
   pub settled : (number : ℕ) (lane : Lane) → slice_get lanes number ≡ Some lane → lane.progress.own.added ≡ None
   pub most_is : (number : ℕ) (lane : Lane) → slice_get lanes number ≡ Some lane → lane.progress.most ≡ most number
-  pub bounded : (number : ℕ) → ((most number).create ≤ most_create_steps) × ((most number).other ≤ most_other_steps)
+  pub bounded : (number : ℕ) → ((most number).create ≤ shared.shape.lanes) × ((most number).other ≤ most_other_steps)
   pub resting : AreResting shared.shape w
 
 -- what all lanes share is as before, but for the room of what grows

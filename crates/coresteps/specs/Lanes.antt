@@ -109,11 +109,7 @@ IsChained history chain places = AreChained history chain.collect chain.followed
 
 -- ---- how many steps calls have made
 
--- the most steps of a create: a TAKE for each other lane, and a FOLLOW
-abbrev pub most_create_steps : ℕ
-most_create_steps = MOST_LANES
-
--- the most steps of another call: ENTER, MARK, LEAVE and CLAIM, and LINK and PUSH twice
+-- the most steps of a call that is no create: ENTER, MARK, LEAVE and CLAIM, and LINK and PUSH twice
 abbrev pub most_other_steps : ℕ
 most_other_steps = 8
 

@@ -9,7 +9,7 @@ ghost use Rattle.traces.specs.Books.{act_list, stepped, pushed_by};
 ghost use Rattle.traces.specs.Lawful.{World, IsStep};
 ghost use Rattle.coresteps.specs.declared.lane.Lane.{Lane};
 ghost use Rattle.coresteps.specs.declared.shared.Shared.{Shared};
-ghost use Rattle.coresteps.specs.Lanes.{counted, most_create_steps};
+ghost use Rattle.coresteps.specs.Lanes.{counted};
 ghost use Rattle.coresteps.specs.Kept.{IsDraft, IsLaneAt};
 ghost use Rattle.coresteps.specs.Notes.{returns_own, act_noted};
 
@@ -50,7 +50,7 @@ impl Progress {
 
     /// Counts a step, which is now the last of its call.
     fn count(&mut self, command: &Command, step: Step)
-        requires { self.old.made ≤ most_create_steps }
+        requires { self.old.made ≤ MOST_LANES }
         ensures { (more : List Command) → self.new ≡ record self.old {
           last = Some step;
           made = self.old.made + 1;

@@ -10,7 +10,7 @@ ghost use Rattle.traces.specs.Books.{Book};
 ghost use Rattle.traces.specs.Lawful.{IsLawful, World, first_world, is_finished, world_after, book_before, book_after, IsNextTurn};
 ghost use Rattle.traces.specs.Parts.{StandsThroughout};
 ghost use Rattle.coresteps.specs.declared.progress.Most.{Most};
-ghost use Rattle.coresteps.specs.Lanes.{first_progress, no_most, counted_step, most_create_steps, most_other_steps};
+ghost use Rattle.coresteps.specs.Lanes.{first_progress, no_most, counted_step, most_other_steps};
 ghost use Rattle.coresteps.specs.Kept.{IsCore, IsCoreAt, IsDraft, IsLaneAt, IsRun, IsWordOf, IsWorked, MakesTurn, SameShared, Turns, index_of_publish};
 
 use crate::commands::Commands;
@@ -100,12 +100,13 @@ impl Core {
     }
 
     /// The greatest number of steps of one create of a lane so far, and of one other call. A call under way counts with
-    /// its steps so far. It is (0, 0) for a number that is no lane. It takes no memory.
+    /// its steps so far. A create has at most as many as there are lanes: a TAKE for each other one, and a FOLLOW. It is
+    /// (0, 0) for a number that is no lane. It takes no memory.
     pub fn most(&self, lane: u32) -> (u32, u32)
         ensures lane { (w : World) (most : ℕ → Most) → IsCore w most self.now → lane < self.now.shared.shape.lanes
             → result ≡ ((most lane).create, (most lane).other) }
         ensures none { self.now.shared.shape.lanes ≤ lane → result ≡ (0, 0) }
-        ensures create { result.0 ≤ most_create_steps }
+        ensures create { result.0 ≤ self.now.shared.shape.lanes }
         ensures other { result.1 ≤ most_other_steps }
     {
         match self.lanes.get(lane as usize) {

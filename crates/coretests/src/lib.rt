@@ -1,9 +1,11 @@
-//! Tests of keys, cells, the texts of faults, the core, schedules and watched writers: they stand in a crate of their
+//! Tests of keys, acts, cells, the texts of faults, the core, schedules and watched writers: they stand in a crate of their
 //! own, which proves no function of these libraries again.
 #![tactic(auto)]
 
 #[cfg(test)]
 mod fake_writers;
+#[cfg(test)]
+mod test_acts;
 #[cfg(test)]
 mod test_cells;
 #[cfg(test)]

@@ -9,7 +9,7 @@ use Rattle.scripts.specs.declared.script_place.FieldName.{FieldName}
 use Rattle.scripts.specs.declared.script_place.FieldName.TheVariants as names
 use Rattle.scripts.specs.declared.script_place.ScriptPlace.{ScriptPlace}
 use Rattle.scripts.specs.declared.script_place.ScriptPlace.TheVariants.{File, Field, Scripts, Script, Line, Item}
-use Rattle.explanations.specs.Found.{script_at, command_at, item_at, in_shape, field_at, value_of}
+use Rattle.explanations.specs.Found.{script_at, command_at, in_shape, field_at, value_of}
 
 -- what is found of a value whose numbers can be written has such numbers
 abbrev KeepsNumbers : (Json → Option Json) → Type 0

@@ -1,6 +1,7 @@
 -- Where bytes stop being a JSON text, and why, in words.
-use Rattle.std.specs.Prelude.{◌≡◌, ◌≤◌, ℕ, ◌==◌, ◌&&◌, ◌||◌, Bool, true, false, List, [], ◌∷◌, ◌++◌, length, take, drop, Option, Some, None, if◌then◌else◌, nat_eq, fold, decimal, codes}
+use Rattle.std.specs.Prelude.{◌≡◌, ◌≤◌, ℕ, ◌==◌, ◌&&◌, ◌||◌, Bool, false, List, [], ◌∷◌, ◌++◌, length, take, drop, Option, Some, None, if◌then◌else◌, nat_eq, fold, decimal, codes}
 use Rattle.std.specs.List.{starts_with, list_all}
+use Rattle.std.specs.Str.{IsUtf8, IsValidUpTo}
 use Rattle.streams.specs.Shown.{cut_text, line_text}
 use Rattle.explanations.specs.Places.{line_number, column_number}
 use Rattle.explanations.specs.declared.json_fault.Opened.{Opened}
@@ -96,9 +97,23 @@ abbrev pub json_told : Halt → ℕ → List ℕ → List ℕ
 json_told halt at file =
     codes "the file, line " ++ decimal (line_number at file) ++ codes ", column " ++ decimal (column_number at file) ++ codes ": " ++ halt_told halt at file
 
--- the text explains why bytes are no JSON text: it names some place of theirs, and why the text ends there
+-- a text stops being JSON for this
+abbrev pub IsOfText : Halt → Type 0
+IsOfText NoText = ⊥
+IsOfText (Token opened) = Unit {0}
+IsOfText Large = Unit {0}
+IsOfText Deep = Unit {0}
+
+-- bytes stop being a JSON text at this place: where they are no text it is the first at which they aren't; of a text it is some place of its
+abbrev pub HaltsAt : Halt → ℕ → List ℕ → Type 0
+HaltsAt NoText at file = (IsUtf8 file → ⊥) × IsValidUpTo file at
+HaltsAt (Token opened) at file = IsUtf8 file × (at ≤ length file)
+HaltsAt Large at file = IsUtf8 file × (at ≤ length file)
+HaltsAt Deep at file = IsUtf8 file × (at ≤ length file)
+
+-- the text explains why bytes are no JSON text: it names the place where they stop being one, and why they do there
 pub record ExplainsJson (file text : List ℕ) : Type 0 where
   pub at : ℕ
-  pub within : at ≤ length file
   pub halt : Halt
+  pub halts : HaltsAt halt at file
   pub is : text ≡ line_text (json_told halt at file)

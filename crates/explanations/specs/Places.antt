@@ -1,5 +1,5 @@
 -- Places of a text, and of a script file, in words.
-use Rattle.std.specs.Prelude.{ℕ, ◌+◌, ◌==◌, List, [], ◌∷◌, ◌++◌, count_by, fold, take, if◌then◌else◌, decimal, codes}
+use Rattle.std.specs.Prelude.{ℕ, ◌+◌, ◌==◌, List, [], ◌++◌, count_by, fold, take, if◌then◌else◌, decimal, codes}
 use Rattle.scripts.specs.ScriptPlaces.{field_text}
 use Rattle.scripts.specs.declared.script_place.ScriptPlace.{ScriptPlace}
 use Rattle.scripts.specs.declared.script_place.ScriptPlace.TheVariants.{File, Field, Scripts, Script, Line, Item}

@@ -1,11 +1,12 @@
 -- Why an act isn't allowed: what of it is outside of the shape, or what would have been allowed in its place.
-use Rattle.std.specs.Prelude.{◌≡◌, ◌≢◌, ◌≤◌, ◌⊎◌, ◌==◌, ℕ, List, [], ◌++◌, length, take, Contains, slice_get, if◌then◌else◌, Bool, true, false, Some, None, decimal, codes}
+use Rattle.std.specs.Prelude.{◌≡◌, ◌≢◌, ◌<◌, ◌≤◌, ◌⊎◌, ◌==◌, ℕ, List, [], ◌++◌, length, take, Contains, slice_get, if◌then◌else◌, Bool, true, false, not, Some, None, decimal, codes}
 use Rattle.keybits.specs.declared.shape.Shape.{Shape}
 use Rattle.keybits.specs.Keys.{place_of, tag_of}
 use Rattle.keybits.specs.Places.{shard_of}
 use Rattle.keybits.specs.Shapes.{is_place}
 use Rattle.seqpool.specs.ActsText.{hex}
 use Rattle.seqpool.specs.Pool.{Pool, Allowed, lane_of}
+use Rattle.seqpool.specs.Refusals.{Refused}
 use Rattle.seqpool.specs.declared.act.Act.{Act}
 use Rattle.seqpool.specs.declared.act.Act.TheVariants.{Publish, Get, Release, Clear, Reclaim, Home, Collect}
 use Rattle.seqpool.specs.declared.fault.ApplyFault.{ApplyFault}
@@ -43,9 +44,13 @@ IsOutside z (Home lane place) reason = IsPlaceOutside z lane place reason
 IsOutside z (Collect lane places) reason = IsCollectOutside z lane places reason
 IsOutside z act reason = ⊥
 
--- this is due, where what it wants is so, or no more is known
-abbrev pub IsDueIf : Type 0 → Due → Due → Type 0
-IsDueIf allowed due found = (found ≡ General) ⊎ ((found ≡ due) × allowed)
+-- the pool refuses an act
+abbrev pub IsRefused : Shape → Pool → Act → Type 0
+IsRefused z pool act = (fault : ApplyFault) × Refused z pool act fault
+
+-- this is due, where the pool allows an act; where it refuses it, no more is known
+abbrev pub IsDueIf : Shape → Pool → Act → Due → Due → Type 0
+IsDueIf z pool act due found = ((found ≡ General) × IsRefused z pool act) ⊎ ((found ≡ due) × Allowed z pool act)
 
 -- what would have been allowed in place of a publish: one of this key
 abbrev pub IsPublishDue : Shape → Pool → ℕ → Due → Type 0
@@ -53,31 +58,31 @@ IsPublishDue z pool lane (NextKey next) = Allowed z pool (Publish lane next [] f
 IsPublishDue z pool lane General = Unit {0}
 IsPublishDue z pool lane due = ⊥
 
--- in place of a get: one with this reply
+-- in place of a get: one with this reply; no more is known only where one without a content is refused
 abbrev pub IsGetDue : Shape → Pool → ℕ → ℕ → Due → Type 0
 IsGetDue z pool lane key (Found content) = Allowed z pool (Get lane key (Some content))
 IsGetDue z pool lane key Missing = Allowed z pool (Get lane key None)
-IsGetDue z pool lane key General = Unit {0}
+IsGetDue z pool lane key General = IsRefused z pool (Get lane key None)
 IsGetDue z pool lane key due = ⊥
 
--- in place of a clear: one with this reply
-abbrev pub IsClearDue : Shape → Pool → ℕ → ℕ → Due → Type 0
-IsClearDue z pool lane key (Cleared reply) = Allowed z pool (Clear lane key reply)
-IsClearDue z pool lane key General = Unit {0}
-IsClearDue z pool lane key due = ⊥
+-- in place of a clear with a reply: one with this reply; no more is known only where one with the other reply is refused
+abbrev pub IsClearDue : Shape → Pool → ℕ → ℕ → Bool → Due → Type 0
+IsClearDue z pool lane key wrong (Cleared reply) = Allowed z pool (Clear lane key reply)
+IsClearDue z pool lane key wrong General = IsRefused z pool (Clear lane key (not wrong))
+IsClearDue z pool lane key wrong due = ⊥
 
--- in place of a reclaim: a release of the key by this lane, or a clear of it
+-- in place of a reclaim: a release of the key by this lane, or a clear of it; no more is known only where the clear is refused, or each lane's release
 abbrev pub IsReclaimDue : Shape → Pool → ℕ → ℕ → Due → Type 0
 IsReclaimDue z pool lane key (HeldBy other) = Allowed z pool (Release other key)
 IsReclaimDue z pool lane key Unmarked = Allowed z pool (Clear lane key true)
-IsReclaimDue z pool lane key General = Unit {0}
+IsReclaimDue z pool lane key General = IsRefused z pool (Clear lane key true) ⊎ ((other : ℕ) → other < z.lanes → IsRefused z pool (Release other key))
 IsReclaimDue z pool lane key due = ⊥
 
 -- what would have been allowed in an act's place
 abbrev pub IsDue : Shape → Pool → Act → Due → Type 0
 IsDue z pool (Publish lane key content with_ref) due = IsPublishDue z pool lane due
 IsDue z pool (Get lane key reply) due = IsGetDue z pool lane key due
-IsDue z pool (Clear lane key reply) due = IsClearDue z pool lane key due
+IsDue z pool (Clear lane key reply) due = IsClearDue z pool lane key reply due
 IsDue z pool (Reclaim lane key) due = IsReclaimDue z pool lane key due
 IsDue z pool act due = due ≡ General
 

@@ -1,5 +1,5 @@
 -- What is wanted at a place of a script file.
-use Rattle.std.specs.Prelude.{ℕ, ◌==◌, Bool, true, false, List, [], ◌++◌, Option, Some, None, if◌then◌else◌, option_and_then, option_map, unwrap_or, decimal, codes, suc}
+use Rattle.std.specs.Prelude.{ℕ, ◌==◌, Bool, true, false, List, ◌++◌, Option, Some, None, if◌then◌else◌, option_and_then, option_map, unwrap_or, decimal, codes, suc}
 use Rattle.std.specs.Str.{bytes_eq}
 use Rattle.json.specs.Json.{Json}
 use Rattle.json.specs.Json as json

@@ -1,8 +1,8 @@
 //! Where bytes stop being a JSON text, and why, in words.
-ghost use Rattle.std.specs.Prelude.{◌≡◌, ◌≤◌, length, IfOk, option_map, string_bytes};
+ghost use Rattle.std.specs.Prelude.{◌≡◌, ◌≤◌, length, IfOk, IfSome, option_map, string_bytes};
 ghost use Rattle.std.specs.List.{list_all};
 ghost use Rattle.streams.specs.Shown.{IsSafeLine};
-ghost use Rattle.explanations.specs.JsonFaults.{is_space, last_with, last_of, is_comma, wanted_behind, wanted_next, wanted_by, has_mark, has_comment, has_end, found_told, named_told, token_told, halt_told, json_told, ExplainsJson};
+ghost use Rattle.explanations.specs.JsonFaults.{is_space, last_with, last_of, is_comma, wanted_behind, wanted_next, wanted_by, has_mark, has_comment, has_end, found_told, named_told, token_told, halt_told, json_told, IsOfText, HaltsAt, ExplainsJson};
 
 use crate::found::cut_of;
 use crate::places::{column_number, line_number};
@@ -70,7 +70,9 @@ impl Nesting {
     }
 
     /// Notes that a list or an object begins. Answers why it may not.
-    fn opens(&mut self, opened: Opened, next: Next) -> Result<Option<Halt>, AllocError> {
+    fn opens(&mut self, opened: Opened, next: Next) -> Result<Option<Halt>, AllocError>
+        ensures { IfOk result (λ found. IfSome found IsOfText) }
+    {
         if self.open.len() >= MOST_OPEN {
             return Ok(Some(Halt::Deep));
         }
@@ -86,7 +88,9 @@ impl Nesting {
     }
 
     /// Notes a token where a value may come. Answers why it may not.
-    fn takes_value(&mut self, token: &Token<'_>) -> Result<Option<Halt>, AllocError> {
+    fn takes_value(&mut self, token: &Token<'_>) -> Result<Option<Halt>, AllocError>
+        ensures { IfOk result (λ found. IfSome found IsOfText) }
+    {
         match token {
             Token::BeginArray => self.opens(Opened::Array, Next::ItemOrEnd),
             Token::BeginObject => self.opens(Opened::Object, Next::NameOrEnd),
@@ -100,7 +104,9 @@ impl Nesting {
     }
 
     /// Notes the next token. Answers why it may not come.
-    fn takes(&mut self, token: &Token<'_>) -> Result<Option<Halt>, AllocError> {
+    fn takes(&mut self, token: &Token<'_>) -> Result<Option<Halt>, AllocError>
+        ensures { IfOk result (λ found. IfSome found IsOfText) }
+    {
         match (self.next, token) {
             (Next::ItemOrEnd, Token::EndArray) | (Next::NameOrEnd, Token::EndObject) => {
                 self.closes();
@@ -125,7 +131,9 @@ fn is_large(text: &str) -> bool {
 }
 
 /// Where a text stops being JSON, and why. Where it is whole, its end.
-fn halt_of(alloc: Global, text: &str) -> Result<(usize, Halt), AllocError> {
+fn halt_of(alloc: Global, text: &str) -> Result<(usize, Halt), AllocError>
+    ensures { IfOk result (λ found. IsOfText found.1) }
+{
     let mut scratch = Scratch::new(alloc);
     let mut reader = Reader::new(text, &mut scratch)?;
     let mut nesting = Nesting {
@@ -144,13 +152,16 @@ fn halt_of(alloc: Global, text: &str) -> Result<(usize, Halt), AllocError> {
 
 /// Where bytes stop being a JSON text, and why.
 fn halt_in(alloc: Global, file: &[u8]) -> Result<(usize, Halt), AllocError>
-    ensures { IfOk result (λ found. found.0 ≤ length file.now) }
+    ensures within { IfOk result (λ found. found.0 ≤ length file.now) }
+    ensures halts { IfOk result (λ found. HaltsAt found.1 found.0 file.now) }
 {
-    let (at, halt) = match from_utf8(file) {
-        Ok(text) => halt_of(alloc, text)?,
-        Err(error) => (error.valid_up_to(), Halt::NoText),
-    };
-    Ok((at.min(file.len()), halt))
+    match from_utf8(file) {
+        Ok(text) => {
+            let (at, halt) = halt_of(alloc, text)?;
+            Ok((at.min(file.len()), halt))
+        }
+        Err(error) => Ok((error.valid_up_to(), Halt::NoText)),
+    }
 }
 
 /// Whether JSON passes over a byte.

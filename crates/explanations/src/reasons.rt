@@ -1,11 +1,11 @@
 //! Why an act isn't allowed: what of it is outside of the shape, or what would have been allowed in its place.
-ghost use Rattle.std.specs.Prelude.{◌≡◌, ◌≤◌, true, false, None, IfOk, IfSome, string_bytes};
-ghost use Rattle.keybits.specs.Shapes.{IsShape};
+ghost use Rattle.std.specs.Prelude.{◌≡◌, ◌<◌, ◌≤◌, ℕ, true, false, None, IfOk, IfSome, string_bytes};
+ghost use Rattle.keybits.specs.Shapes.{IsNarrow};
 ghost use Rattle.seqpool.specs.Pool.{Allowed, pool_after};
-ghost use Rattle.seqpool.specs.declared.act.Act.TheVariants.{Release};
+ghost use Rattle.seqpool.specs.declared.act.Act.TheVariants.{Get, Release};
 ghost use Rattle.seqpool.specs.Rows.{pool_in};
 ghost use Rattle.seqpool.specs.ActsText.{hex};
-ghost use Rattle.explanations.specs.Reasons.{IsKeyOutside, IsPlaceOutside, IsCollectOutside, IsOutside, IsDueIf, IsPublishDue, IsGetDue, IsClearDue, IsReclaimDue, IsDue, outside_text, general_text, found_text, due_text, TellsReason};
+ghost use Rattle.explanations.specs.Reasons.{IsKeyOutside, IsPlaceOutside, IsCollectOutside, IsOutside, IsRefused, IsDueIf, IsPublishDue, IsGetDue, IsClearDue, IsReclaimDue, IsDue, outside_text, general_text, found_text, due_text, TellsReason};
 
 use crate::found::cut_of;
 use keybits::{GREATEST_PLACE, Key, Place, Shape, place_of, shard_of, tag_of};
@@ -110,11 +110,11 @@ fn outside_of(shape: &Shape, act: &Act) -> Option<Outside>
 }
 
 /// Whether the pool allows an act, which is then made.
-fn allows(pool: &mut SeqPool, act: Act) -> Result<bool, AllocError>
-    ensures yes { IfOk result (λ yes. yes ≡ true → Allowed pool.old.shape (pool_in pool.old) act) }
-    ensures no { IfOk result (λ yes. yes ≡ false → pool.new ≡ pool.old) }
+fn allows(pool: &mut SeqPool, act: &Act) -> Result<bool, AllocError>
+    ensures yes { IfOk result (λ yes. yes ≡ true → Allowed pool.old.shape (pool_in pool.old) act.now) }
+    ensures no { IfOk result (λ yes. yes ≡ false → (pool.new ≡ pool.old) × IsRefused pool.old.shape (pool_in pool.old) act.now) }
 {
-    match pool.apply(&act) {
+    match pool.apply(act) {
         Ok(()) => Ok(true),
         Err(ApplyFault::Memory) => Err(AllocError),
         Err(_) => Ok(false),
@@ -123,9 +123,9 @@ fn allows(pool: &mut SeqPool, act: Act) -> Result<bool, AllocError>
 
 /// This, where the pool allows an act, which is then made.
 fn due_if(pool: &mut SeqPool, act: Act, due: Due) -> Result<Due, AllocError>
-    ensures { IfOk result (IsDueIf (Allowed pool.old.shape (pool_in pool.old) act) due) }
+    ensures { IfOk result (IsDueIf pool.old.shape (pool_in pool.old) act due) }
 {
-    if allows(pool, act)? {
+    if allows(pool, &act)? {
         return Ok(due);
     }
     Ok(Due::General)
@@ -200,6 +200,7 @@ fn found_due(
     lane: u32,
     key: u64,
 ) -> Result<Due, AllocError>
+    requires { IsRefused pool.old.shape (pool_in pool.old) (Get lane key None) }
     ensures { IfOk result (IsGetDue pool.old.shape (pool_in pool.old) lane key) }
 {
     let reply = content.copy(alloc)?;
@@ -227,7 +228,7 @@ fn get_due(
         key,
         reply: None,
     };
-    if allows(pool, act)? {
+    if allows(pool, &act)? {
         return Ok(Due::Missing);
     }
     match last_content(history, key) {
@@ -238,7 +239,7 @@ fn get_due(
 
 /// What would have been allowed in place of a clear with this reply.
 fn clear_due(pool: &mut SeqPool, lane: u32, key: u64, reply: bool) -> Result<Due, AllocError>
-    ensures { IfOk result (IsClearDue pool.old.shape (pool_in pool.old) lane key) }
+    ensures { IfOk result (IsClearDue pool.old.shape (pool_in pool.old) lane key reply) }
 {
     let reply = !reply;
     due_if(pool, Act::Clear { lane, key, reply }, Due::Cleared(reply))
@@ -247,10 +248,10 @@ fn clear_due(pool: &mut SeqPool, lane: u32, key: u64, reply: bool) -> Result<Due
 /// The first lane that refers to a key, if one does.
 fn holder_of(pool: &mut SeqPool, lanes: u32, key: u64) -> Result<Option<u32>, AllocError>
     ensures held { IfOk result (λ found. IfSome found (λ lane. Allowed pool.old.shape (pool_in pool.old) (Release lane key))) }
-    ensures none { IfOk result (λ found. found ≡ None → pool.new ≡ pool.old) }
+    ensures none { IfOk result (λ found. found ≡ None → (pool.new ≡ pool.old) × ((lane : ℕ) → lane < lanes → IsRefused pool.old.shape (pool_in pool.old) (Release lane key))) }
 {
     for lane in 0..lanes {
-        if allows(pool, Act::Release { lane, key })? {
+        if allows(pool, &Act::Release { lane, key })? {
             return Ok(Some(lane));
         }
     }
@@ -265,6 +266,7 @@ fn reclaim_due(
     key: u64,
     fault: ApplyFault,
 ) -> Result<Due, AllocError>
+    requires { lanes ≡ pool.old.shape.lanes }
     ensures { IfOk result (IsReclaimDue pool.old.shape (pool_in pool.old) lane key) }
 {
     if let ApplyFault::StillHeld = fault {
@@ -290,6 +292,7 @@ fn due_of(
     act: &Act,
     fault: ApplyFault,
 ) -> Result<Due, AllocError>
+    requires { lanes ≡ pool.old.shape.lanes }
     ensures { IfOk result (IsDue pool.old.shape (pool_in pool.old) act.now) }
 {
     match act {
@@ -381,7 +384,7 @@ fn due_told(alloc: Global, fault: ApplyFault, due: &Due) -> Result<String, Alloc
 
 /// The pool behind some acts that are legal. The error is want of memory.
 fn pool_behind(alloc: Global, shape: Shape, acts: &[Act]) -> Result<SeqPool, AllocError>
-    requires { IsShape shape }
+    requires { IsNarrow shape }
     ensures shape { IfOk result (λ pool. pool.shape ≡ shape) }
     ensures pool { IfOk result (λ pool. pool_in pool ≡ pool_after shape acts.now) }
 {
@@ -404,7 +407,7 @@ fn due_behind(
     act: &Act,
     fault: ApplyFault,
 ) -> Result<String, AllocError>
-    requires { IsShape shape }
+    requires { IsNarrow shape }
     ensures { IfOk result (λ text. TellsReason shape (pool_after shape history.now) act.now fault (string_bytes text)) }
 {
     let mut pool = pool_behind(alloc, shape, history)?;
@@ -421,7 +424,7 @@ pub(crate) fn reason_told(
     act: &Act,
     fault: ApplyFault,
 ) -> Result<String, AllocError>
-    requires { IsShape shape }
+    requires { IsNarrow shape }
     ensures { IfOk result (λ text. TellsReason shape (pool_after shape history.now) act.now fault (string_bytes text)) }
 {
     let outside = match fault {

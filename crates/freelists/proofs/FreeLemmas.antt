@@ -116,7 +116,7 @@ module _ (i : Inside) (free : FreePlaces) (place : Place) (view : shown i ≡ fr
       let long = length-append (own_of i) (place ∷ []) in
       let same = length-listed i.ring.items i.count i.first in omega (arith, few, long, same, k.1)
 
-  pub ring-small : length i.ring.items ≤ 4032
+  pub ring-small : length i.ring.items ≤ 44992
   ring-small = let bound = (shape_bounds i.shard.shape k.0.shape).shard.1 in omega (arith, bound, k.1)
 
   module _ (end number : ℕ) (is : number ≡ number_of place) (at : IsEnd (length i.ring.items) i.first i.count end) (high : end < length i.ring.items) where
@@ -162,7 +162,7 @@ module _ (i : Inside) (k : Keeps i) (some : i.count ≡ 0 → ⊥) where
       let low = k.0.shard_below in
       let lanes = (shape_bounds i.shard.shape k.0.shape).lanes in
       let n : ℕ = slice_index i.ring.items i.first in
-      let few : n / 65536 < 16 = omega (arith, shard, low, lanes) in
+      let few : n / 65536 < 64 = omega (arith, shard, low, lanes) in
       omega (arith, few)
 
   module _ (at : ℕ) (is : at ≡ next_in_ring (length i.ring.items) i.first) where

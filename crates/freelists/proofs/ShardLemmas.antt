@@ -4,7 +4,7 @@ use Rattle.std.proofs.lemmas.Nat.{same_from_place, mul-add-lt}
 use Rattle.keybits.specs.declared.shape.Shape.{Shape}
 use Rattle.keybits.specs.declared.place.Place.{Place}
 use Rattle.keybits.specs.Places.{number_of, shard_of, page_of, slot_of}
-use Rattle.keybits.specs.Shapes.{page_size, shard_places, all_places, is_place, index_of, position_of}
+use Rattle.keybits.specs.Shapes.{places_of_page, places_before, page_size, shard_places, all_places, is_place, index_of, position_of}
 use Rattle.keybits.specs.Links.{link_to, linked_place}
 use Rattle.keybits.proofs.LinkLemmas.{linked_place-link_to}
 use Rattle.keybits.proofs.ShapeLemmas.{is_place-parts, is_place-place_at, page_size-le, index_of-lt, index_of-injective}
@@ -25,8 +25,8 @@ same_parts place shard page slot a b c = λ i. record { shard = a i; page = b i;
 pub own_number : (z : Shape) (shard : ℕ) (place : Place) → IsShardOf shard z → IsOwn shard z place → OwnNumber z (number_of place) place
 own_number z shard place ok own =
     let few : place.page < z.pages = own.in_pages in
-    let pages : z.pages ≤ 6 = ok.shape.pages.1 in
-    let small : page_size z place.page ≤ 2048 = page_size-le z ok.shape place.page few in
+    let pages : z.pages ≤ 16 = ok.shape.pages.1 in
+    let small : page_size z place.page ≤ 4096 = page_size-le z place.page in
     let inside : place.slot < page_size z place.page = own.in_page in
     let shard_small : place.shard < z.lanes = subst (λ n. n < z.lanes) (sym own.of_shard) ok.shard_below in
     let is_one : is_place z (number_of place) ≡ true = is_place-place_at z ok.shape place.shard place.page place.slot shard_small few inside in
@@ -98,9 +98,9 @@ pub own_in_shape : (z other : Shape) (shard : ℕ) (place : Place) → other.fir
 own_in_shape z other shard place first pages own = record {
   of_shard = own.of_shard;
   in_pages = subst (λ n. place.page < n) (sym pages) own.in_pages;
-  in_page = subst (λ n. place.slot < n * 2 ^ place.page) (sym first) own.in_page;
+  in_page = subst (λ n. place.slot < places_of_page n place.page) (sym first) own.in_page;
 }
 
 -- and it has the same index there
 pub index_in_shape : (z other : Shape) (number : ℕ) → other.first_page ≡ z.first_page → index_of other number ≡ index_of z number
-index_in_shape z other number first = ap (λ n. n * (2 ^ page_of number - 1) + slot_of number) first
+index_in_shape z other number first = ap (λ n. places_before n (page_of number) + slot_of number) first

@@ -1,14 +1,14 @@
 -- The places and the pages of one shard.
-use Rattle.std.specs.Prelude.{◌≡◌, ℕ, ◌-◌, ◌*◌, ◌^◌, ◌<◌}
+use Rattle.std.specs.Prelude.{◌≡◌, ℕ, ◌<◌}
 use Rattle.keybits.specs.declared.shape.Shape.{Shape}
-use Rattle.keybits.specs.declared.shape.TheConstants.{MOST_LANES, LARGEST_FIRST_PAGE, MOST_PAGES}
+use Rattle.keybits.specs.declared.shape.TheConstants.{MOST_LANES}
 use Rattle.keybits.specs.declared.place.Place.{Place}
 use Rattle.keybits.specs.Places.{shard_of, page_of, slot_of}
 use Rattle.keybits.specs.Shapes.{IsShape, page_size}
 
--- the most places of a shard
+-- the most places of a shard: of sixteen pages, of which the first has 64
 abbrev pub most_places : ℕ
-most_places = LARGEST_FIRST_PAGE * (2 ^ MOST_PAGES - 1)
+most_places = 44992
 
 -- a shape whose shards have these pages; there are as many shards as there can be
 abbrev pub shape_of : ℕ → ℕ → Shape

@@ -59,8 +59,8 @@ impl LocalFree {
     ghost use Rattle.freelists.specs.Shards.{shape_of, IsOwn};
     ghost use Rattle.freelists.specs.Queues.{AreFree, IsAway, GoesOnBy};
 
-    /// No free places of a shard from 0 to 15 and no chain, with room for all its places. The first page has 1, 2, 4,
-    /// 8, 16, 32 or 64 places, and there are 1 to 6 pages. None where memory was refused.
+    /// No free places of a shard from 0 to 63 and no chain, with room for all its places. The first page has 1, 2, 4,
+    /// 8, 16, 32 or 64 places, and there are 1 to 16 pages. None where memory was refused.
     pub fn new(alloc: Global, shard: u8, first_page: u32, pages: u32) -> Option<LocalFree>
         requires shard { shard < MOST_LANES }
         requires shape { IsShape (shape_of first_page pages) }

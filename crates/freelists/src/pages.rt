@@ -32,8 +32,8 @@ impl Pages {
     ghost use Rattle.keybits.specs.Shapes.{IsShape, page_size, shard_places, index_of};
     ghost use Rattle.freelists.specs.Shards.{shape_of, IsShardOf, IsOwn};
 
-    /// The pages of a shard from 0 to 15, none of them opened. The first page has 1, 2, 4, 8, 16, 32 or 64 places, and
-    /// there are 1 to 6 pages.
+    /// The pages of a shard from 0 to 63, none of them opened. The first page has 1, 2, 4, 8, 16, 32 or 64 places, and
+    /// there are 1 to 16 pages.
     pub fn new(shard: u8, first_page: u32, pages: u32) -> Pages
         requires shard { shard < MOST_LANES }
         requires shape { IsShape (shape_of first_page pages) }

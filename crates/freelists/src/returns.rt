@@ -13,7 +13,7 @@ use keybits::{Place, Word, link_to};
 /// 0 for the end, else 1 more than the lowest 16 bits of the number of a place of the shard.
 #[derive(Clone, Copy, Debug, PartialEq, Eq)]
 pub struct Returns {
-    /// The shard to which places are returned, 0 to 15.
+    /// The shard to which places are returned, 0 to 63.
     pub shard: u8,
 
     pub ghost in_range: { shard < MOST_LANES },

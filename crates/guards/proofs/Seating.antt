@@ -1,6 +1,6 @@
 -- What the calls of a seat leave of its lane, and what a message tells.
 use Rattle.std.proofs.Common.{◌≡◌, ℕ, zero, suc, ◌==◌, Bool, true, false, cond, List, [], ◌∷◌, Option, Some, None, refl, sym, ap, subst, inl, inr, eqb-true, eq-eqb, append-nil}
-use Rattle.std.specs.Prelude.{MatchOption, IsNone, IsSome, IsTrue, IsFalse, IsErr, IfOk, OnOk, is_err, Result, Ok, Err}
+use Rattle.std.specs.Prelude.{MatchOption, IsNone, IsSome, IsTrue, IsFalse, IsErr, IfOk, OnOk, OnErr, is_err, Result, Ok, Err}
 use Rattle.std.proofs.lemmas.Bool.{cases_Bool}
 use mathlib.Core.List.{IsPrefix}
 use Rattle.keybits.specs.declared.shape.Shape.{Shape}
@@ -11,15 +11,19 @@ use Rattle.seqpool.specs.Pool.{IsLegal}
 use Rattle.seqpool.specs.Laws.{ContentLaw}
 use Rattle.poolsteps.proofs.ViewLemmas.{prefix-trans}
 use Rattle.shardpool.specs.declared.create.CreateFault.{CreateFault}
+use Rattle.steplaws.specs.Calls.Call.{Publishing, Getting}
+use Rattle.poolsteps.specs.declared.view.View.{View}
+use Rattle.poolsteps.specs.Seats.{looked_once}
 use Rattle.shardpool.specs.Tokens.{LaneOf, FillingOf, RefOf}
-use Rattle.shardpool.specs.Lanes.{SeesOn, Did, Gets}
+use Rattle.shardpool.specs.Lanes.{SeesOn, Calls, Did, Gets}
 use Rattle.shardpool.specs.Seen.{MissedSince, ClearedSince}
 use Rattle.shardpool.specs.Creates.{Gives, GivesNone}
 use Rattle.shardpool.proofs.frame.Standing.{missed-cleared}
 use Rattle.poollaws.specs.Words.{IsPublished, IsGone}
-use Rattle.poollaws.specs.Rooms.{KnowsRoom}
+use Rattle.poollaws.specs.Rooms.{SawRoom, KnowsRoom}
 use Rattle.poollaws.proofs.Kept.{kept-room}
 use Rattle.guards.specs.Guarded.{Uses}
+use Rattle.guards.specs.Several.{Missed}
 use Rattle.guards.specs.Seated.{GoesOn, Puts, content_in}
 
 -- ---- what the lane has seen goes on
@@ -36,6 +40,26 @@ goes-further {old} {between} {new} first then = record {
   rooms = λ key size knows. then.rooms key size (first.rooms key size knows);
 }
 
+-- what is known of a room by a view is known by it after a look
+told-room : {v : View} {key size : ℕ} → SawRoom v key size → SawRoom (looked_once v) key size
+told-room knows = record {
+  front = knows.front;
+  more = knows.more;
+  seen = knows.seen;
+  rooms = knows.rooms;
+  kept = knows.kept;
+  rooms_are = knows.rooms_are;
+  beside = knows.beside;
+  paired = knows.paired;
+  content = knows.content;
+  published = knows.published;
+  roomy = knows.roomy;
+}
+
+-- it told what it has seen
+pub tells-on : {old new : LaneOf} → new ≡ record old { book = looked_once old.book } → GoesOn old new
+tells-on {old} {new} is = subst (λ (lane : LaneOf). GoesOn old lane) (sym is) (record { seen = ([], append-nil old.book.seen); rooms = λ key size knows. told-room knows })
+
 -- a get that found nothing, or a use of an object
 module _ {R : Type 0} (key : ℕ) (old new : LaneOf) where
   looked : (answer : Option R) → MatchOption answer (Gets key old new None) (λ _. Uses key old new) → GoesOn old new
@@ -48,6 +72,27 @@ module _ {R : Type 0} (key : ℕ) (old new : LaneOf) where
     | inl is ↦ looked answer (inside is)
     | inr not_one ↦ goes-nowhere (outside not_one).1
   ]
+
+-- what such a look did, by its answer
+module _ {R : Type 0} (key : ℕ) (old new : LaneOf) where
+  used : (answer : Option R) → MatchOption answer (Gets key old new None) (λ _. Uses key old new) → IsSome answer → Uses key old new
+  used None did some = absurd (cc some)
+  used (Some r) did some = did
+
+  missed : (answer : Option R) → MatchOption answer (Gets key old new None) (λ _. Uses key old new) → IsNone answer → Gets key old new None
+  missed None did none = did
+  missed (Some r) did none = absurd (cc none)
+
+  module _ (z : Shape) (answer : Option R) (outside : is_key z key ≡ false → IsNone answer × (new ≡ old))
+      (inside : is_key z key ≡ true → MatchOption answer (Gets key old new None) (λ _. Uses key old new)) where
+    pub look-uses : IsSome answer → Uses key old new
+    look-uses some = elim (cases_Bool (is_key z key)) [
+      | inl is ↦ used answer (inside is) some
+      | inr not_one ↦ let none = (outside not_one).0 in absurd (cc (some, none))
+    ]
+
+    pub look-misses : (IsNone answer → is_key z key ≡ true → Calls z (Getting key) old.book new.book) → IsNone answer → Missed z key old new
+    look-misses called none = record { outside = λ out. (outside out).1; called = called none; gets = λ is. missed answer (inside is) none }
 
 got-goes : (key : ℕ) (old new : LaneOf) (answer : Option RefOf) → Gets key old new answer → GoesOn old new
 got-goes key old new None did = goes-on did.1.goes
@@ -122,21 +167,28 @@ pub cleared-then : {key : ℕ} {old new : LaneOf} (reply : Bool) → IsPrefix ol
 cleared-then true seen cleared missed content published = let is = cleared refl in (is.clear.position, is.cleared)
 cleared-then false seen cleared missed content published = missed-cleared seen (missed refl) published.0 content published.1
 
+pub on-err : {A E : Type 0} (answer : Result A E) (P : Type 0) → true ≡ is_err answer → OnErr answer P → P
+on-err (Ok x) P is holds = absurd (cc is)
+on-err (Err e) P is holds = holds
+
 pub on-ok : {A E : Type 0} (answer : Result A E) (P : Type 0) → false ≡ is_err answer → OnOk answer P → P
 on-ok (Ok x) P is holds = holds
 on-ok (Err e) P is holds = absurd (cc is)
 
 -- a create, what was written, and a publish
 module _ {T : Type 0} (content : T → List ℕ) (room : T → ℕ) (old between new : LaneOf) (filling : FillingOf T) (object : T) (key : ℕ) (written : List ℕ) where
-  pub puts : Gives content room old between filling → between.number ≡ old.number → key ≡ filling.key → content object ≡ written
-      → Did (Publish between.number filling.key (content object) false ∷ []) between new → KnowsRoom new filling.key (room object) → Puts content room written old new key
-  puts gives same is holds did knows = record {
+  pub puts : {z : Shape} → Gives content room old between filling → between.number ≡ old.number → key ≡ filling.key → content object ≡ written
+      → Calls z (Publishing filling.key (content object) false) between.book new.book
+      → Did (Publish between.number filling.key (content object) false ∷ []) between new → KnowsRoom new filling.key (room object) → Puts content room z written old new key
+  puts {z} gives same is holds called did knows = record {
     between = between;
     filling = filling;
     gives = gives;
     key_is = is;
     object = object;
     holds = holds;
+    called = subst (λ (k : ℕ). Calls z (Publishing k written false) between.book new.book) (sym is)
+        (subst (λ (c : List ℕ). Calls z (Publishing filling.key c false) between.book new.book) holds called);
     publishes = subst (λ (n : ℕ). Did (Publish n key written false ∷ []) between new) same
         (subst (λ (k : ℕ). Did (Publish between.number k written false ∷ []) between new) (sym is)
         (subst (λ (c : List ℕ). Did (Publish between.number filling.key c false ∷ []) between new) holds did));

@@ -1,5 +1,5 @@
 //! What is written into an object.
-ghost use Rattle.std.specs.Prelude.{◌≡◌, OnOk, []};
+ghost use Rattle.std.specs.Prelude.{◌≡◌, OnOk, OnErr, []};
 
 use slotcell::{Clear, Memory};
 
@@ -9,6 +9,9 @@ pub trait Contents<T: Clear> {
 
     ghost content: { Self → List ℕ };
 
+    /// Into which objects it may not be written: those for which memory may be refused.
+    ghost may_refuse: { Self → T → Type 0 } = { λ _ _. Unit {0} };
+
     /// Writes it into an empty object.
     ///
     /// # Errors
@@ -16,5 +19,6 @@ pub trait Contents<T: Clear> {
     /// `Memory` where it was refused.
     fn write(&self, object: &mut T) -> Result<(), Memory>
         requires { T.content object.old ≡ [] }
-        ensures { OnOk result (T.content object.new ≡ content self.now) };
+        ensures ok { OnOk result (T.content object.new ≡ content self.now) }
+        ensures err { OnErr result (may_refuse self.now object.old) };
 }

@@ -2,8 +2,8 @@
 ghost use Rattle.std.specs.Prelude.{◌≡◌, ◌<◌, ◌≤◌, ◌↔◌, ℕ, List, length, map, Some, None, [], IfOk, IfErr, IsErrOf, IsOk, IfSome, IfNone};
 ghost use Rattle.std.specs.Vec.{vec_capacity};
 ghost use Rattle.keybits.specs.declared.shape.ShapeFault.{ShapeFault as Fault};
-ghost use Rattle.keybits.specs.Shapes.{IsShape, all_places};
-ghost use Rattle.keybits.specs.ShapeFaults.{IsFirstFault};
+ghost use Rattle.keybits.specs.Shapes.{IsShape, IsNarrow, all_places};
+ghost use Rattle.keybits.specs.ShapeFaults.{IsFirstFault, IsFirstWideFault};
 ghost use Rattle.shardpool.specs.declared.fault.OpenFault.TheVariants as faults;
 ghost use Rattle.shardpool.specs.Tokens.{LaneOf};
 ghost use Rattle.shardpool.specs.Lanes.{Owns, refs};
@@ -11,7 +11,7 @@ ghost use Rattle.shardpool.specs.Closings.{AreLanes, Closes, places_counted};
 ghost use Rattle.guards.specs.Here.{lane_at, AreFirstHere, HoldNothing, SameOthers, AreHereBelow, IsFirstMissing};
 
 use keybits::Shape;
-use shardpool::{Census, Lane, OpenFault, Pool, close, open};
+use shardpool::{Census, Lane, OpenFault, Pool, close, open_wide};
 use slotcell::Clear;
 use std::alloc::Global;
 use std::marker::Model;
@@ -70,12 +70,28 @@ pub struct Missing<T: Clear> {
 /// The first fault of the shape; and the want of memory, for a shape within its limits alone.
 pub fn open_lanes<T: Clear + Drop>(alloc: Global, shape: Shape) -> Result<Opened<T>, OpenFault>
     ensures faults { (fault : Fault) → IsErrOf result (faults.Shape fault) ↔ IsFirstFault shape fault }
-    ensures memory { IsErrOf result faults.Memory → IsShape shape }
+    ensures memory { IsErrOf result faults.Memory → IsNarrow shape }
     ensures shape { IfOk result (λ opened. (opened.pool.shape ≡ shape) × (opened.lanes.pool ≡ opened.pool)) }
     ensures first { IfOk result (λ opened. AreFirstHere opened.lanes) }
     ensures nothing { IfOk result (λ opened. HoldNothing opened.lanes) }
 {
     shape.check()?;
+    try_open(alloc, shape).ok_or(OpenFault::Memory)
+}
+
+/// Opens a pool of this shape, as `shardpool::open_wide` does, with all its lanes.
+///
+/// # Errors
+///
+/// The first fault of the shape, by the wide limits; and the want of memory, for a shape within them alone.
+pub fn open_lanes_wide<T: Clear + Drop>(alloc: Global, shape: Shape) -> Result<Opened<T>, OpenFault>
+    ensures faults { (fault : Fault) → IsErrOf result (faults.Shape fault) ↔ IsFirstWideFault shape fault }
+    ensures memory { IsErrOf result faults.Memory → IsShape shape }
+    ensures shape { IfOk result (λ opened. (opened.pool.shape ≡ shape) × (opened.lanes.pool ≡ opened.pool)) }
+    ensures first { IfOk result (λ opened. AreFirstHere opened.lanes) }
+    ensures nothing { IfOk result (λ opened. HoldNothing opened.lanes) }
+{
+    shape.check_wide()?;
     try_open(alloc, shape).ok_or(OpenFault::Memory)
 }
 
@@ -89,7 +105,7 @@ fn try_open<T: Clear + Drop>(alloc: Global, shape: Shape) -> Option<Opened<T>>
     let count = shape.lanes as usize;
     let slots = Vec::with_capacity(alloc, count).ok()?;
     let row = Vec::with_capacity(alloc, count).ok()?;
-    let Ok((pool, lanes)) = open(alloc, shape) else {
+    let Ok((pool, lanes)) = open_wide(alloc, shape) else {
         return None;
     };
     let lanes = Lanes {

@@ -20,7 +20,7 @@ pub use closures::{create_with, with};
 pub use contents::Contents;
 pub use filling::FillGuard;
 pub use jobs::Job;
-pub use lanes::{Lanes, Missing, Opened, open_lanes};
+pub use lanes::{Lanes, Missing, Opened, open_lanes, open_lanes_wide};
 pub use laws::goes_on_law;
 pub use named::PoolName;
 pub use reading::ReadGuard;

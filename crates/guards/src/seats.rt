@@ -1,21 +1,22 @@
 //! A lane together with its pool, for a thread that does its work with that lane alone.
-ghost use Rattle.std.specs.Prelude.{◌≡◌, ◌≢◌, ◌⊎◌, ◌<◌, ◌≤◌, ℕ, List, [], ◌∷◌, true, false, None, MatchOption, IfOk, IsErr, IsErrOf, IfSome, IsSome, IsNone, IsTrue, Contains};
+ghost use Rattle.std.specs.Prelude.{◌≡◌, ◌≢◌, ◌⊎◌, ◌<◌, ◌≤◌, ℕ, List, [], ◌∷◌, true, false, IfOk, IsErr, IsErrOf, IfSome, IsSome, IsNone, IsTrue, Contains};
 ghost use Rattle.std.specs.Fn.{FnOnceReturnsAt};
 ghost use Rattle.keybits.specs.Keys.{is_key};
-ghost use Rattle.seqpool.specs.declared.act.Act.{Act};
 ghost use Rattle.seqpool.specs.declared.act.Act.TheVariants as acts;
 ghost use Rattle.seqpool.specs.Pool.{IsLegal};
+ghost use Rattle.steplaws.specs.Calls.Call.{Publishing};
 ghost use Rattle.poolsteps.specs.Owners.{ArePublishedByOwners};
+ghost use Rattle.poolsteps.specs.Seats.{looked_once};
 ghost use Rattle.shardpool.specs.Tokens.{FillingOf};
-ghost use Rattle.shardpool.specs.Lanes.{Owns, Made, Did, Gets, refs};
+ghost use Rattle.shardpool.specs.Lanes.{Owns, Made, Calls, Did, holds, refs};
 ghost use Rattle.shardpool.specs.Seen.{ClearedSince};
 ghost use Rattle.shardpool.specs.Creates.{Gives, GivesNone};
 ghost use Rattle.shardpool.specs.declared.create.CreateFault.TheVariants.{Full, Memory};
 ghost use Rattle.poollaws.specs.Words.{IsPublished, IsCleared, IsGone};
 ghost use Rattle.poollaws.specs.Rooms.{KnowsRoom};
 ghost use Rattle.guards.specs.Guarded.{Uses};
-ghost use Rattle.guards.specs.Several.{UsesAll, TriesAll};
-ghost use Rattle.guards.specs.Seated.{GoesOn, IsNextOf, Puts, CreatesOne, CreatesAtMost};
+ghost use Rattle.guards.specs.Several.{Missed, UsesAll, TriesAll};
+ghost use Rattle.guards.specs.Seated.{GoesOn, Keeps, IsNextOf, Puts, CreatesSuch, CreatesAtMost, Clears, Hears};
 
 use crate::closures::with;
 use crate::contents::Contents;
@@ -95,6 +96,8 @@ impl<'p, N: PoolName, T: Clear + Drop> Seat<'p, N, T> {
         ensures none { IsErr result → GivesNone self.old.lane self.new.lane }
         ensures full { IsErrOf result Full → self.old.lane.pages.opened ≡ N.pool.shape.pages }
         ensures memory { IsErrOf result Memory → self.old.lane.pages.opened < N.pool.shape.pages }
+        ensures apart { IfOk result (λ filling. (other : FillingOf T) → Made self.old.lane other → other.key ≢ filling.key) }
+        ensures keeps { Keeps T self.old.lane self.new.lane }
         ensures number { self.new.lane.number ≡ self.old.lane.number }
         ensures goes { GoesOn self.old.lane self.new.lane }
     {
@@ -106,10 +109,12 @@ impl<'p, N: PoolName, T: Clear + Drop> Seat<'p, N, T> {
     pub fn publish(&mut self, filling: Filling<T>) -> u64
         requires made { Made self.old.lane filling }
         ensures key { result ≡ filling.key }
+        ensures called { Calls N.pool.shape (Publishing filling.key (T.content filling.object) false) self.old.lane.book self.new.lane.book }
         ensures publishes { Did (acts.Publish self.old.lane.number filling.key (T.content filling.object) false ∷ []) self.old.lane self.new.lane }
         ensures published { IsPublished self.new.lane.book.seen filling.key (T.content filling.object) }
         ensures room { KnowsRoom self.new.lane filling.key (T.room filling.object) }
         ensures fillings { (other : FillingOf T) → other.key ≢ filling.key → Made self.old.lane other → Made self.new.lane other }
+        ensures held { (key : ℕ) → holds self.new.lane key ≡ holds self.old.lane key }
         ensures number { self.new.lane.number ≡ self.old.lane.number }
         ensures goes { GoesOn self.old.lane self.new.lane }
     {
@@ -125,12 +130,13 @@ impl<'p, N: PoolName, T: Clear + Drop> Seat<'p, N, T> {
     /// As `Pool::create`; `Memory`, too, where it was refused for the content. Nothing is then published; and where it
     /// was refused for the content, the place is lost until the pool is closed.
     pub fn put<C: Contents<T>>(&mut self, contents: &C) -> Result<u64, CreateFault>
-        ensures puts { IfOk result (Puts T.content T.room (C.content contents.now) self.old.lane self.new.lane) }
+        ensures puts { IfOk result (Puts T.content T.room N.pool.shape (C.content contents.now) self.old.lane self.new.lane) }
         ensures published { IfOk result (λ key. IsPublished self.new.lane.book.seen key (C.content contents.now)) }
         ensures none { IsErr result → CreatesAtMost T.content T.room self.old.lane self.new.lane }
         ensures full { IsErrOf result Full → GivesNone self.old.lane self.new.lane × (self.old.lane.pages.opened ≡ N.pool.shape.pages) }
         ensures memory { IsErrOf result Memory → (GivesNone self.old.lane self.new.lane × (self.old.lane.pages.opened < N.pool.shape.pages))
-            ⊎ CreatesOne T.content T.room self.old.lane self.new.lane }
+            ⊎ CreatesSuch (C.may_refuse contents.now) T.content T.room self.old.lane self.new.lane }
+        ensures keeps { Keeps T self.old.lane self.new.lane }
         ensures number { self.new.lane.number ≡ self.old.lane.number }
         ensures goes { GoesOn self.old.lane self.new.lane }
     {
@@ -148,10 +154,12 @@ impl<'p, N: PoolName, T: Clear + Drop> Seat<'p, N, T> {
         ensures some { IfSome result (λ answer. (object : T) × FnOnceReturnsAt F.FnOnce look object answer
             × IsPublished self.new.lane.book.seen key (T.content object)
             × ((content : List ℕ) → IsPublished self.old.lane.book.seen key content → T.content object ≡ content)) }
-        ensures gets { is_key N.pool.shape key ≡ true → MatchOption result (Gets key self.old.lane self.new.lane None) (λ _. Uses key self.old.lane self.new.lane) }
-        ensures outside { is_key N.pool.shape key ≡ false → IsNone result × (self.new.lane ≡ self.old.lane) }
+        ensures uses { IsSome result → Uses key self.old.lane self.new.lane }
+        ensures misses { IsNone result → Missed N.pool.shape key self.old.lane self.new.lane }
+        ensures outside { is_key N.pool.shape key ≡ false → IsNone result }
         ensures missed { IsNone result → IsGone self.old.lane.book.seen self.new.lane.book.seen key }
         ensures cleared { IsCleared self.old.lane.book.seen key → IsNone result }
+        ensures keeps { Keeps T self.old.lane self.new.lane }
         ensures number { self.new.lane.number ≡ self.old.lane.number }
         ensures goes { GoesOn self.old.lane self.new.lane }
     {
@@ -171,6 +179,7 @@ impl<'p, N: PoolName, T: Clear + Drop> Seat<'p, N, T> {
         ensures uses { IsSome result → UsesAll N.pool.shape (keys.0 ∷ keys.1 ∷ []) self.old.lane self.new.lane }
         ensures tries { IsNone result → TriesAll N.pool.shape (keys.0 ∷ keys.1 ∷ []) self.old.lane self.new.lane }
         ensures gone { IsNone result → (key : ℕ) × Contains (keys.0 ∷ keys.1 ∷ []) key × IsGone self.old.lane.book.seen self.new.lane.book.seen key }
+        ensures keeps { Keeps T self.old.lane self.new.lane }
         ensures number { self.new.lane.number ≡ self.old.lane.number }
         ensures goes { GoesOn self.old.lane self.new.lane }
     {
@@ -191,6 +200,7 @@ impl<'p, N: PoolName, T: Clear + Drop> Seat<'p, N, T> {
         ensures uses { IsSome result → UsesAll N.pool.shape (keys.0 ∷ keys.1 ∷ keys.2 ∷ []) self.old.lane self.new.lane }
         ensures tries { IsNone result → TriesAll N.pool.shape (keys.0 ∷ keys.1 ∷ keys.2 ∷ []) self.old.lane self.new.lane }
         ensures gone { IsNone result → (key : ℕ) × Contains (keys.0 ∷ keys.1 ∷ keys.2 ∷ []) key × IsGone self.old.lane.book.seen self.new.lane.book.seen key }
+        ensures keeps { Keeps T self.old.lane self.new.lane }
         ensures number { self.new.lane.number ≡ self.old.lane.number }
         ensures goes { GoesOn self.old.lane self.new.lane }
     {
@@ -212,6 +222,7 @@ impl<'p, N: PoolName, T: Clear + Drop> Seat<'p, N, T> {
         ensures uses { IsSome result → UsesAll N.pool.shape (keys.0 ∷ keys.1 ∷ keys.2 ∷ keys.3 ∷ []) self.old.lane self.new.lane }
         ensures tries { IsNone result → TriesAll N.pool.shape (keys.0 ∷ keys.1 ∷ keys.2 ∷ keys.3 ∷ []) self.old.lane self.new.lane }
         ensures gone { IsNone result → (key : ℕ) × Contains (keys.0 ∷ keys.1 ∷ keys.2 ∷ keys.3 ∷ []) key × IsGone self.old.lane.book.seen self.new.lane.book.seen key }
+        ensures keeps { Keeps T self.old.lane self.new.lane }
         ensures number { self.new.lane.number ≡ self.old.lane.number }
         ensures goes { GoesOn self.old.lane self.new.lane }
     {
@@ -221,10 +232,11 @@ impl<'p, N: PoolName, T: Clear + Drop> Seat<'p, N, T> {
     /// Clears a key: true where it is this call that marked it. After it the key is cleared, if it was published
     /// before.
     pub fn clear(&mut self, key: u64) -> bool
-        ensures clears { is_key N.pool.shape key ≡ true → (rest : List Act) × Did (acts.Clear self.old.lane.number key result ∷ rest) self.old.lane self.new.lane }
+        ensures clears { is_key N.pool.shape key ≡ true → Clears N.pool.shape key result self.old.lane self.new.lane }
         ensures outside { is_key N.pool.shape key ≡ false → (result ≡ false) × (self.new.lane ≡ self.old.lane) }
         ensures cleared { IsTrue result → ClearedSince key self.old.lane self.new.lane }
         ensures gone { IsGone self.old.lane.book.seen self.new.lane.book.seen key }
+        ensures keeps { Keeps T self.old.lane self.new.lane }
         ensures number { self.new.lane.number ≡ self.old.lane.number }
         ensures goes { GoesOn self.old.lane self.new.lane }
     {
@@ -236,7 +248,10 @@ impl<'p, N: PoolName, T: Clear + Drop> Seat<'p, N, T> {
         requires published { (content : List ℕ) × IsPublished self.old.lane.book.seen key content }
         ensures key { result.key ≡ key }
         ensures content { (content : List ℕ) → IsPublished self.old.lane.book.seen key content → result.content ≡ content }
-        ensures lane { self.new.lane ≡ self.old.lane }
+        ensures lane { self.new.lane ≡ record self.old.lane { book = looked_once self.old.lane.book } }
+        ensures keeps { Keeps T self.old.lane self.new.lane }
+        ensures number { self.new.lane.number ≡ self.old.lane.number }
+        ensures goes { GoesOn self.old.lane self.new.lane }
     {
         self.lane.seen_law();
         once_law();
@@ -247,8 +262,9 @@ impl<'p, N: PoolName, T: Clear + Drop> Seat<'p, N, T> {
     /// Hears of a key. Answers it.
     pub fn hear(&mut self, told: Told<N, T>) -> u64
         ensures key { result ≡ told.key }
-        ensures hears { Did [] self.old.lane self.new.lane }
+        ensures hears { Hears self.old.lane self.new.lane }
         ensures published { IsPublished self.new.lane.book.seen told.key told.content }
+        ensures keeps { Keeps T self.old.lane self.new.lane }
         ensures number { self.new.lane.number ≡ self.old.lane.number }
         ensures goes { GoesOn self.old.lane self.new.lane }
     {

@@ -16,7 +16,10 @@ pub use place::{
     GREATEST_PLACE, PAGE_NUMBERS, Place, SHARD_NUMBERS, generation_of, link_to, linked_place,
     place_of, shard_of, tag_of,
 };
-pub use shape::{GREATEST_TAG, LARGEST_FIRST_PAGE, MOST_LANES, MOST_PAGES, Shape, ShapeFault};
+pub use shape::{
+    GREATEST_TAG, LARGEST_FIRST_PAGE, MOST_LANES, MOST_PAGE_PLACES, MOST_PAGES, NARROW_LANES,
+    NARROW_PAGES, Shape, ShapeFault,
+};
 pub use step::{Kind, Step, Word};
 pub use words::{
     Life, MARK_BIT, ONE_COUNT, ONE_GENERATION, PUBLISHED_BIT, State, claimable, claimed, entered,

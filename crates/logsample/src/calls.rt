@@ -1,14 +1,16 @@
 //! What the log's lanes do with entries: a worker publishes them, and the collector reads and clears them.
-ghost use Rattle.std.specs.Prelude.{◌≡◌, ◌<◌, ◌≤◌, ◌↔◌, ℕ, true, false, List, length, IfOk, IfErr, IfSome, IsNone, IsErrOf};
+ghost use Rattle.std.specs.Prelude.{◌≡◌, ◌<◌, ◌≤◌, ◌↔◌, ℕ, false, List, length, IfOk, IfErr, IfSome, IsNone, IsSome, IsErrOf};
 ghost use Rattle.keybits.specs.Keys.{is_key};
 ghost use Rattle.shardpool.specs.Tokens.{LaneOf};
 ghost use Rattle.shardpool.specs.Lanes.{Made};
 ghost use Rattle.poollaws.specs.Words.{IsPublished, IsGone};
 ghost use Rattle.poollaws.specs.Rooms.{KnowsRoom};
-ghost use Rattle.guards.specs.Seated.{GoesOn};
+ghost use Rattle.guards.specs.Guarded.{Uses};
+ghost use Rattle.guards.specs.Several.{Missed};
+ghost use Rattle.guards.specs.Seated.{GoesOn, Keeps, Puts};
 ghost use Rattle.logsample.specs.declared.calls.LogFault.TheVariants as faults;
 ghost use Rattle.logsample.specs.Requests.{numbers_of, content_of, line_of};
-ghost use Rattle.logsample.specs.Histories.{LogsNothing, NobodyFinds, IsNext, Looks, Collects};
+ghost use Rattle.logsample.specs.Histories.{LogsNothing, NobodyFinds, IsNext, Collects};
 
 use crate::entries::{Entry, Line, Request};
 use guards::{PoolName, Seat, Told, goes_on_law};
@@ -42,7 +44,9 @@ pub fn log<N: PoolName>(
     ensures room { IfOk result (λ key. KnowsRoom seat.new.lane key (length request.now.path.now)) }
     ensures reused { IfOk result (λ key. (last size : ℕ) → KnowsRoom seat.old.lane last size → IsNext key last → KnowsRoom seat.new.lane key size) }
     ensures no_status { IsErrOf result faults.NoStatus ↔ (request.now.status ≡ 0) }
-    ensures none { IfErr result (λ fault. LogsNothing fault seat.old.lane seat.new.lane) }
+    ensures logs { IfOk result (Puts content_of (λ entry. entry.path.room) N.pool.shape (numbers_of request.now) seat.old.lane seat.new.lane) }
+    ensures none { IfErr result (λ fault. LogsNothing request.now fault seat.old.lane seat.new.lane) }
+    ensures keeps { Keeps Entry seat.old.lane seat.new.lane }
     ensures number { seat.new.lane.number ≡ seat.old.lane.number }
     ensures goes { GoesOn seat.old.lane seat.new.lane }
 {
@@ -69,6 +73,7 @@ fn fill(mut filling: Filling<Entry>, request: &Request<'_>) -> Option<Filling<En
     ensures content { IfSome result (λ filled. content_of filled.object ≡ numbers_of request.now) }
     ensures room { IfSome result (λ filled. filling.object.path.room ≤ filled.object.path.room) }
     ensures roomy { IfSome result (λ filled. length request.now.path.now ≤ filled.object.path.room) }
+    ensures none { IsNone result → filling.object.path.room < length request.now.path.now }
 {
     if filling.value_mut().write(request).is_err() {
         filling.forget();
@@ -80,9 +85,11 @@ fn fill(mut filling: Filling<Entry>, request: &Request<'_>) -> Option<Filling<En
 /// Reads an entry. None where its key isn't published, or is cleared.
 pub fn read<N: PoolName>(seat: &mut Seat<'_, N, Entry>, key: u64) -> Option<Line>
     ensures shown { IfSome result (λ line. (content : List ℕ) → IsPublished seat.old.lane.book.seen key content → line ≡ line_of content) }
-    ensures looks { is_key N.pool.shape key ≡ true → Looks key result seat.old.lane seat.new.lane }
-    ensures outside { is_key N.pool.shape key ≡ false → IsNone result × (seat.new.lane ≡ seat.old.lane) }
+    ensures uses { IsSome result → Uses key seat.old.lane seat.new.lane }
+    ensures misses { IsNone result → Missed N.pool.shape key seat.old.lane seat.new.lane }
+    ensures outside { is_key N.pool.shape key ≡ false → IsNone result }
     ensures missed { IsNone result → IsGone seat.old.lane.book.seen seat.new.lane.book.seen key }
+    ensures keeps { Keeps Entry seat.old.lane seat.new.lane }
     ensures number { seat.new.lane.number ≡ seat.old.lane.number }
     ensures goes { GoesOn seat.old.lane seat.new.lane }
 {
@@ -95,7 +102,8 @@ pub fn collect<N: PoolName>(seat: &mut Seat<'_, N, Entry>, told: Told<N, Entry>)
     ensures published { IsPublished seat.new.lane.book.seen told.key told.content }
     ensures shown { IfSome result (λ line. line ≡ line_of told.content) }
     ensures unfound { NobodyFinds N.pool.shape seat.new.lane.book.seen told.key }
-    ensures collects { Collects told.key result seat.old.lane seat.new.lane }
+    ensures collects { Collects N.pool.shape told.key result seat.old.lane seat.new.lane }
+    ensures keeps { Keeps Entry seat.old.lane seat.new.lane }
     ensures number { seat.new.lane.number ≡ seat.old.lane.number }
     ensures goes { GoesOn seat.old.lane seat.new.lane }
 {

@@ -1,6 +1,6 @@
 //! The cases, and the plans that words name.
 use crate::rounds::{Deed, Own, Solo, Whose};
-use keybits::MOST_LANES;
+use keybits::NARROW_LANES;
 
 /// What is done in each round.
 #[derive(Clone, Copy)]
@@ -54,7 +54,7 @@ impl Case {
         match self {
             Case::Solo(solo) => solo.lanes(),
             Case::Pool(deed) => deed.lanes(threads),
-            Case::Pool16(_) => MOST_LANES,
+            Case::Pool16(_) => NARROW_LANES,
         }
     }
 
@@ -62,7 +62,7 @@ impl Case {
     fn fits(self, threads: u32) -> bool {
         match self {
             Case::Pool(Deed::Pass) | Case::Pool16(Deed::Pass) if threads % 2 == 1 => threads == 1,
-            _ => 0 < threads && threads <= MOST_LANES,
+            _ => 0 < threads && threads <= NARROW_LANES,
         }
     }
 }

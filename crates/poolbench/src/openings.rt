@@ -2,16 +2,16 @@
 ghost use Rattle.shardpool.specs.Lanes.{Owns, SameLane};
 
 use crate::pools::put;
-use keybits::{LARGEST_FIRST_PAGE, MOST_LANES, MOST_PAGES, Shape};
+use keybits::{LARGEST_FIRST_PAGE, NARROW_LANES, NARROW_PAGES, Shape};
 use shardpool::{Lane, Pool, close, open};
 use slotcell::ByteBuf;
 use std::alloc::Global;
 
 /// The largest pool.
 pub const LARGEST: Shape = Shape {
-    lanes: MOST_LANES,
+    lanes: NARROW_LANES,
     first_page: LARGEST_FIRST_PAGE,
-    pages: MOST_PAGES,
+    pages: NARROW_PAGES,
     last_generation: u32::MAX,
     tag: 0,
 };
@@ -20,14 +20,14 @@ pub const LARGEST: Shape = Shape {
 pub const ONE_LANE: Shape = Shape {
     lanes: 1,
     first_page: LARGEST_FIRST_PAGE,
-    pages: MOST_PAGES,
+    pages: NARROW_PAGES,
     last_generation: u32::MAX,
     tag: 0,
 };
 
 /// How many objects a lane of these shapes puts till its last page is opened: one for each place of the pages before
 /// it, and one more.
-pub const TILL_LAST_PAGE: u32 = LARGEST_FIRST_PAGE * ((1 << (MOST_PAGES - 1)) - 1) + 1;
+pub const TILL_LAST_PAGE: u32 = LARGEST_FIRST_PAGE * ((1 << (NARROW_PAGES - 1)) - 1) + 1;
 
 /// Opens a pool of this shape, puts so many objects by its last lane, and closes it. Answers how many places it then
 /// had with an object, or in pages that were never opened: 0 where it can't be opened.

@@ -11,10 +11,10 @@ use Rattle.shardpool.specs.Lanes.{holds}
 use Rattle.poolhandle.specs.Calls.{lane_of, pool_of, Creates, Puts, Got, NotGot, AreLent, Joins, JoinsNot, ClosesNot}
 use Rattle.shardpool.specs.Tokens.{LaneOf}
 use Rattle.shardpool.specs.declared.census.Census.{Census}
-use Rattle.shardpool.specs.Closings.{Closes}
+use Rattle.shardpool.specs.Closings.{AreLanes, Closes}
 use Rattle.keybits.specs.declared.shape.Shape.{Shape}
 use Rattle.keybits.specs.declared.shape.ShapeFault.{ShapeFault}
-use Rattle.keybits.specs.Shapes.{IsShape}
+use Rattle.keybits.specs.Shapes.{IsNarrow}
 use Rattle.keybits.specs.ShapeFaults.{IsFirstFault}
 use Rattle.poolffi.specs.declared.PoolShape.{PoolShape}
 use Rattle.poolffi.specs.declared.PoolCensus.{PoolCensus}
@@ -76,11 +76,11 @@ abbrev pub items_of : Option Handle → List Handle
 items_of None = []
 items_of (Some handle) = handle ∷ []
 
--- a close: where the slot has no lane, 2, and it stays; else the pool is closed with lanes of which this is one, and these are its counts; or it isn't, and the code tells why
+-- a close: where the slot has no lane, 2, and it stays; else the pool is closed with all its lanes, of which this is one, and these are its counts; or it isn't, and the code tells why
 abbrev pub ClosesSlot : List Handle → List Handle → PoolCensus → ℕ → Type 0
 ClosesSlot old new census code = (HasNoLane old × (code ≡ 2) × (new ≡ old))
     ⊎ ((handle : Handle) × (old ≡ handle ∷ [])
-    × (((code ≡ 0) × (new ≡ []) × ((lanes : List LaneOf) × Contains lanes (lane_of handle) × ((counts : Census) × Closes (pool_of handle) lanes counts × AreCounts counts census)))
+    × (((code ≡ 0) × (new ≡ []) × ((lanes : List LaneOf) × Contains lanes (lane_of handle) × AreLanes (pool_of handle) lanes × ((counts : Census) × Closes (pool_of handle) lanes counts × AreCounts counts census)))
     ⊎ ((refusal : Refusal) × (back : Option Handle) × (code ≡ code_of refusal) × (new ≡ items_of back) × ClosesNot handle back refusal)))
 
 -- the shape that a foreign one is
@@ -110,5 +110,5 @@ Opens shape number old new code = ((code ≡ 11) × (length old ≢ shape.lanes)
     × (((code ≡ 3) × AnyHasLane old × (new ≡ old))
     ⊎ (NoneHasLane old
     × (((code ≡ 12) × ((fault : ShapeFault) × IsFirstFault shape fault) × (new ≡ old))
-    ⊎ (((code ≡ 1) × IsShape shape × (new ≡ old))
+    ⊎ (((code ≡ 1) × IsNarrow shape × (new ≡ old))
     ⊎ ((code ≡ 0) × ((fault : ShapeFault) → IsFirstFault shape fault → ⊥) × (length new ≡ length old) × HaveOpened shape number new))))))

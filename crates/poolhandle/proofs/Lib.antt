@@ -2,6 +2,7 @@ mod Carrying
 mod Counting
 mod Keeping
 mod Owned
+mod References
 mod SlotFields
 mod Steps
 mod Turning

@@ -3,7 +3,7 @@ ghost use Rattle.std.specs.Prelude.{◌≡◌, ◌+◌, ◌⊎◌, List, [], ◌
 ghost use Rattle.std.specs.Arc.{arc_value};
 ghost use Rattle.shardpool.specs.Tokens.{LaneOf};
 ghost use Rattle.shardpool.specs.Lanes.{Owns};
-ghost use Rattle.shardpool.specs.Closings.{Closes};
+ghost use Rattle.shardpool.specs.Closings.{AreLanes, Closes};
 ghost use Rattle.poolhandle.specs.Calls.{lane_of, pool_of, Joins, JoinsNot, ClosesNot};
 
 use crate::handle::Handle;
@@ -25,14 +25,14 @@ pub fn join(into: &mut Handle, other: Box<Handle>) -> Result<(), (Refusal, Box<H
     ensures ok { OnOk result (Joins into.old other.value into.new) }
     ensures err { IfErr result (λ back. JoinsNot into.old other.value back.0 × (back.1 ≡ other) × (into.new ≡ into.old)) }
 {
-    if into.lane.number() != 0
-        || other.lane.number() == 0
+    if into.lane.lane().number() != 0
+        || other.lane.lane().number() == 0
         || other.joined != 0
         || into.joined >= MOST_LANES
     {
         return Err((Refusal::Lanes, other));
     }
-    let wanted = u64::from(other.lane.number()) + u64::from(into.joined) + 1;
+    let wanted = u64::from(other.lane.lane().number()) + u64::from(into.joined) + 1;
     if wanted != u64::from(into.shared.pool.shape().lanes) {
         return Err((Refusal::Lanes, other));
     }
@@ -47,7 +47,7 @@ pub fn join(into: &mut Handle, other: Box<Handle>) -> Result<(), (Refusal, Box<H
 /// Gives the lane of a handle into its place, which is of its own pool.
 fn give(handle: Handle) {
     let (shared, lane, _) = handle.into_parts();
-    let index = lane.number() as usize;
+    let index = lane.lane().number() as usize;
     if index < shared.given.len() {
         put(&shared.given[index], &shared.pool, Given::new(lane));
     }
@@ -74,7 +74,7 @@ fn put(place: &Counted<Option<Given>>, pool: &Pool<ByteBuf>, given: Given)
 /// handle, or none where that is seen late: the lanes are then dropped. It happens only where the program opened two
 /// pools under one number.
 pub fn close(handle: Box<Handle>) -> Result<Census, (Refusal, Option<Box<Handle>>)>
-    ensures closes { IfOk result (λ census. (lanes : List LaneOf) × Contains lanes (lane_of handle.value) × Closes (pool_of handle.value) lanes census) }
+    ensures closes { IfOk result (λ census. (lanes : List LaneOf) × Contains lanes (lane_of handle.value) × AreLanes (pool_of handle.value) lanes × Closes (pool_of handle.value) lanes census) }
     ensures stays { IfErr result (λ back. ClosesNot handle.value (option_map (λ same. same.value) back.1) back.0) }
 {
     let lanes = handle.shared.pool.shape().lanes;
@@ -88,7 +88,7 @@ pub fn close(handle: Box<Handle>) -> Result<Census, (Refusal, Option<Box<Handle>
 }
 
 fn close_handle(handle: Handle) -> Option<Census>
-    ensures { IfSome result (λ census. (lanes : List LaneOf) × Contains lanes (lane_of handle) × Closes (pool_of handle) lanes census) }
+    ensures { IfSome result (λ census. (lanes : List LaneOf) × Contains lanes (lane_of handle) × AreLanes (pool_of handle) lanes × Closes (pool_of handle) lanes census) }
 {
     let (shared, lane, row) = handle.into_parts();
     let Shared {
@@ -96,7 +96,7 @@ fn close_handle(handle: Handle) -> Option<Census>
         given,
         number: _,
     } = Arc::into_inner(shared)?;
-    let lanes = gathered(&pool, row, Box::into_inner(lane), given)?;
+    let lanes = gathered(&pool, row, Box::into_inner(lane).into_lane(), given)?;
     close_lanes(pool, lanes)
 }
 
@@ -116,7 +116,9 @@ fn gathered(
     lanes.push(lane).ok()?;
     for place in given {
         if let Some(given) = place.into_inner() {
-            lanes.push(Box::into_inner(given.into_lane())).ok()?;
+            lanes
+                .push(Box::into_inner(given.into_lane()).into_lane())
+                .ok()?;
         }
     }
     Some(lanes)
@@ -125,7 +127,7 @@ fn gathered(
 /// Closes a pool with its lanes, by rising number. None where they aren't all of them.
 pub(crate) fn close_lanes(pool: Pool<ByteBuf>, lanes: Vec<Lane<ByteBuf>>) -> Option<Census>
     requires owned { All (λ lane. Owns pool lane) lanes.items }
-    ensures closes { IfSome result (Closes pool lanes.items) }
+    ensures closes { IfSome result (λ census. AreLanes pool lanes.items × Closes pool lanes.items census) }
 {
     let count = lanes.len();
     if count != pool.shape().lanes as usize {

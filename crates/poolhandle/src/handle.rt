@@ -4,6 +4,7 @@ ghost use Rattle.std.specs.Arc.{arc_value};
 ghost use Rattle.shardpool.specs.Lanes.{Owns};
 ghost use Rattle.poolhandle.specs.Filled.{AreMade};
 
+use crate::counting_lane::CountingLane;
 use crate::fillings::Fillings;
 use crate::kept::Kept;
 use crate::refusal::Refusal;
@@ -16,7 +17,7 @@ use std::sync::Arc;
 #[derive(Drop)]
 pub struct Handle {
     pub shared: Arc<Shared>,
-    pub lane: Box<Lane<ByteBuf>>,
+    pub lane: Box<CountingLane<ByteBuf>>,
     pub fillings: Fillings,
     /// How many lanes were joined to this one.
     pub joined: u32,
@@ -44,7 +45,7 @@ impl Handle {
         if self.fillings.is_full() {
             return Err(Refusal::Fillings);
         }
-        match self.shared.pool.create(&mut self.lane) {
+        match self.lane.create(&self.shared.pool) {
             Ok(filling) => {
                 let key = filling.key();
                 self.fillings.keep(Kept::new(filling));
@@ -106,7 +107,7 @@ impl Handle {
             return Err(Refusal::NoFilling);
         };
         let filling = self.fillings.take(index).into_content();
-        self.shared.pool.publish(&mut self.lane, filling);
+        self.lane.publish(&self.shared.pool, filling);
         Ok(())
     }
 
@@ -117,11 +118,11 @@ impl Handle {
         let Some(index) = self.fillings.find(key) else {
             return Err(Refusal::NoFilling);
         };
-        if self.lane.refs() >= MOST_REFERENCES {
+        if self.lane.lane().refs() >= MOST_REFERENCES {
             return Err(Refusal::References);
         }
         let filling = self.fillings.take(index).into_content();
-        let reference = self.shared.pool.downgrade(&mut self.lane, filling);
+        let reference = self.lane.downgrade(&self.shared.pool, filling);
         reference.forget();
         Ok(())
     }
@@ -142,9 +143,9 @@ impl Handle {
     pub fn put(&mut self, bytes: &[u8]) -> Result<u64, Refusal>
         ensures { Puts bytes.now self.old self.new result }
     {
-        match self.shared.pool.create(&mut self.lane) {
+        match self.lane.create(&self.shared.pool) {
             Ok(mut filling) => match filling.value_mut().append(bytes) {
-                Ok(()) => Ok(self.shared.pool.publish(&mut self.lane, filling)),
+                Ok(()) => Ok(self.lane.publish(&self.shared.pool, filling)),
                 Err(_refused) => {
                     self.give_up(filling);
                     Err(Refusal::Memory)
@@ -164,8 +165,8 @@ impl Handle {
         ensures gives_up { GivesUp filling.key filling.object.bytes filling.object.room (lane_of self.old) (lane_of self.new) }
         ensures stays { Stays self.old self.new }
     {
-        let key = self.shared.pool.publish(&mut self.lane, filling);
-        self.shared.pool.clear(&mut self.lane, key);
+        let key = self.lane.publish(&self.shared.pool, filling);
+        self.lane.clear(&self.shared.pool, key);
     }
 
     /// A reference more to a key, where it is published and not cleared. Answers where `bytes_at` finds its bytes.
@@ -173,12 +174,11 @@ impl Handle {
         ensures got { IfOk result (λ at. (at ≡ slot_start (lane_of self.new).shape (place_of key)) × Got key self.old self.new) }
         ensures not_got { IfErr result (NotGot key self.old self.new) }
     {
-        if self.lane.refs() >= MOST_REFERENCES {
+        if self.lane.lane().refs() >= MOST_REFERENCES {
             return Err(Refusal::References);
         }
-        self.shared
-            .pool
-            .get_at(&mut self.lane, key)
+        self.lane
+            .get_at(&self.shared.pool, key)
             .ok_or(Refusal::Gone)
     }
 
@@ -188,7 +188,7 @@ impl Handle {
         requires start { start ≡ slot_start (lane_of self.now).shape (place_of key) }
         ensures { AreLent key self.now result.now }
     {
-        self.lane.read_at(start, key).as_slice()
+        self.lane.lane().read_at(start, key).as_slice()
     }
 
     /// The bytes of a key to which the lane has a reference.
@@ -198,7 +198,7 @@ impl Handle {
         let Some(reference) = self.lane.reference(key) else {
             return Err(Refusal::NoReference);
         };
-        let bytes = self.lane.read(&reference).as_slice();
+        let bytes = self.lane.lane().read(&reference).as_slice();
         reference.forget();
         Ok(bytes)
     }
@@ -207,7 +207,7 @@ impl Handle {
     pub fn release(&mut self, key: u64) -> Result<(), Refusal>
         ensures { Releases key self.old self.new result }
     {
-        if self.shared.pool.release_key(&mut self.lane, key) {
+        if self.lane.release_key(&self.shared.pool, key) {
             Ok(())
         } else {
             Err(Refusal::NoReference)
@@ -218,7 +218,7 @@ impl Handle {
     pub fn clear(&mut self, key: u64) -> Result<(), Refusal>
         ensures { Clears key self.old self.new result }
     {
-        if self.shared.pool.clear(&mut self.lane, key) {
+        if self.lane.clear(&self.shared.pool, key) {
             Ok(())
         } else {
             Err(Refusal::Gone)
@@ -226,7 +226,7 @@ impl Handle {
     }
 
     /// The share of the pool, the lane and its row. A filling is left.
-    pub(crate) fn into_parts(self) -> (Arc<Shared>, Box<Lane<ByteBuf>>, Vec<Lane<ByteBuf>>)
+    pub(crate) fn into_parts(self) -> (Arc<Shared>, Box<CountingLane<ByteBuf>>, Vec<Lane<ByteBuf>>)
         ensures parts { (arc_value result.0 ≡ arc_value self.shared) × (result.1.value ≡ self.lane.value) × (result.2.items ≡ []) }
         ensures owned { Owns (arc_value result.0).pool result.1.value }
     {

@@ -3,6 +3,7 @@
 #![tactic(auto)]
 
 mod closing;
+pub mod counting_lane;
 pub mod fillings;
 pub mod handle;
 pub mod kept;
@@ -13,5 +14,6 @@ pub mod slot;
 pub mod unboxed;
 
 pub use closing::{close, join};
+pub use counting_lane::CountingLane;
 pub use opening::open_handles;
 pub use refusal::Refusal;

@@ -2,16 +2,17 @@
 ghost use Rattle.std.specs.Prelude.{◌≡◌, ◌≤◌, ◌↔◌, [], All, length, IfSome, IfOk, IfErr, IsErrOf};
 ghost use Rattle.std.specs.Vec.{vec_capacity};
 ghost use Rattle.std.specs.Vec.Iter.{into_iter_items};
-ghost use Rattle.keybits.specs.Shapes.{IsShape};
+ghost use Rattle.keybits.specs.Shapes.{IsNarrow};
 ghost use Rattle.keybits.specs.ShapeFaults.{IsFirstFault};
 ghost use Rattle.keybits.specs.declared.shape.ShapeFault.{ShapeFault as Fault};
 ghost use Rattle.shardpool.specs.declared.fault.OpenFault.TheVariants as faults;
 ghost use Rattle.std.specs.Arc.{arc_value};
-ghost use Rattle.shardpool.specs.Lanes.{Owns};
+ghost use Rattle.shardpool.specs.Lanes.{Owns, refs};
 ghost use Rattle.shardpool.specs.Opened.{AreFirstLanes};
 ghost use Rattle.poolhandle.specs.Opened.{IsFresh, AreOpened};
 
 use crate::closing::close_lanes;
+use crate::counting_lane::CountingLane;
 use crate::fillings::Fillings;
 use crate::handle::Handle;
 use crate::shared::{Given, Shared};
@@ -32,8 +33,9 @@ use std::vec::IntoIter;
 pub fn open_handles(alloc: Global, shape: Shape, number: u64) -> Result<Vec<Box<Handle>>, OpenFault>
     ensures opened { IfOk result (λ handles. AreOpened shape number handles.items) }
     ensures faults { (fault : Fault) → IsErrOf result (faults.Shape fault) ↔ IsFirstFault shape fault }
-    ensures memory { IsErrOf result faults.Memory → IsShape shape }
+    ensures memory { IsErrOf result faults.Memory → IsNarrow shape }
 {
+    shape.check()?;
     match open(alloc, shape) {
         Ok((pool, lanes)) => handles_of(alloc, pool, lanes, number).ok_or(OpenFault::Memory),
         Err(fault) => Err(fault),
@@ -177,7 +179,7 @@ fn lanes_of(
     let mut lanes = row;
     for handle in handles {
         let (_, lane, _) = Box::into_inner(handle).into_parts();
-        lanes.push(Box::into_inner(lane)).ok()?;
+        lanes.push(Box::into_inner(lane).into_lane()).ok()?;
     }
     Some(lanes)
 }
@@ -188,7 +190,8 @@ fn handle_of(
     shared: &Arc<Shared>,
     lane: Lane<ByteBuf>,
 ) -> Result<Box<Handle>, Lane<ByteBuf>>
-    requires { Owns (arc_value shared.now).pool lane }
+    requires owns { Owns (arc_value shared.now).pool lane }
+    requires none { refs lane ≡ 0 }
     ensures ok { IfOk result (λ handle. IsFresh (arc_value shared.now) lane handle.value) }
     ensures err { IfErr result (λ back. back ≡ lane) }
 {
@@ -198,7 +201,7 @@ fn handle_of(
     let Ok(shared) = Arc::try_clone(shared) else {
         return Err(lane);
     };
-    match Box::new(alloc, lane) {
+    match Box::new(alloc, CountingLane::new(alloc, lane)?) {
         Ok(lane) => in_box(
             alloc,
             Handle {
@@ -209,7 +212,7 @@ fn handle_of(
                 row,
             },
         ),
-        Err(refused) => Err(refused.value),
+        Err(refused) => Err(refused.value.into_lane()),
     }
 }
 
@@ -222,7 +225,7 @@ fn in_box(alloc: Global, handle: Handle) -> Result<Box<Handle>, Lane<ByteBuf>>
         Ok(boxed) => Ok(boxed),
         Err(refused) => {
             let (_, lane, _) = refused.value.into_parts();
-            Err(Box::into_inner(lane))
+            Err(Box::into_inner(lane).into_lane())
         }
     }
 }

@@ -2,15 +2,16 @@
 ghost use Rattle.std.specs.Prelude.{◌≡◌, All};
 ghost use Rattle.shardpool.specs.Lanes.{Owns};
 
+use crate::counting_lane::CountingLane;
 use crate::unboxed::Unboxed;
 use counted_slot::{Counted, Fits};
-use shardpool::{Lane, Pool};
+use shardpool::Pool;
 use slotcell::ByteBuf;
 use std::alloc::Global;
 
 /// A lane that was given for the close of its pool.
 pub struct Given {
-    pub lane: Unboxed<Lane<ByteBuf>, Global>,
+    pub lane: Unboxed<CountingLane<ByteBuf>, Global>,
 }
 
 impl Fits for Given {
@@ -21,7 +22,7 @@ impl Fits for Given {
 
 impl Given {
     /// A lane that is given.
-    pub(crate) fn new(lane: Box<Lane<ByteBuf>>) -> Given
+    pub(crate) fn new(lane: Box<CountingLane<ByteBuf>>) -> Given
         ensures { result.lane.object ≡ lane.value }
     {
         Given {
@@ -30,7 +31,7 @@ impl Given {
     }
 
     /// The lane.
-    pub(crate) fn into_lane(self) -> Box<Lane<ByteBuf>>
+    pub(crate) fn into_lane(self) -> Box<CountingLane<ByteBuf>>
         ensures { result.value ≡ self.lane.object }
     {
         let Given { lane } = self;

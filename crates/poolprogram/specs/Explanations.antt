@@ -92,3 +92,9 @@ Explains (Number number) file (Ok true) text = text ≡ []
 Explains (Replay path turns stop) file (Ok false) text = ExplainsCheck file text
 Explains (Path path) file (Ok false) text = ExplainsCheck file text
 Explains (Number number) file (Ok false) text = text ≡ no_key_line number
+
+-- there is nothing to explain: the task is no replay, and went well
+abbrev pub IsPlain : Subject → Result Bool RunFault → Type 0
+IsPlain (Replay path turns stop) done = ⊥
+IsPlain (Path path) done = done ≡ Ok true
+IsPlain (Number number) done = done ≡ Ok true

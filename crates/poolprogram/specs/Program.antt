@@ -13,7 +13,7 @@ use Rattle.commandline.specs.declared.fault.TaskFault.{TaskFault}
 use Rattle.commandline.specs.declared.requests.Request.{Request}
 use Rattle.commandline.specs.declared.tasks.Task.{Task}
 use Rattle.commandline.specs.declared.tasks.Turns.{Turns}
-use Rattle.poolprogram.specs.Explanations.{IsSubjectOf, Explains}
+use Rattle.poolprogram.specs.Explanations.{IsSubjectOf, Explains, IsPlain}
 use Rattle.explanations.specs.Said.{IsLineOrNone}
 use Rattle.poolprogram.specs.Listings.{ListsTurns, IsUnlisted}
 use Rattle.poolprogram.specs.Reading.{IsFileOf, IsUnread}
@@ -55,9 +55,9 @@ pub record ExplainsEnd (subject : Subject) (file : List ℕ) (done : Result Bool
   pub explains : Explains subject file done text
   pub safe : IsLineOrNone text
 
--- it does; or it is empty, as memory was refused, and that is told
+-- it does; or it is empty, as memory was refused for what there is to explain, and that is told
 abbrev pub IsWhy : Result Subject AllocError → List ℕ → Result Bool RunFault → Bool → List ℕ → Type 0
-IsWhy (Ok subject) file done explained text = ExplainsEnd subject file done explained text ⊎ ((explained ≡ false) × (text ≡ []))
+IsWhy (Ok subject) file done explained text = ExplainsEnd subject file done explained text ⊎ ((explained ≡ false) × (text ≡ []) × (IsPlain subject done → ⊥))
 IsWhy (Err refused) file done explained text = (explained ≡ false) × (text ≡ [])
 
 -- such a text is said

@@ -1,9 +1,9 @@
 //! Why a task ended as it did, in words.
-ghost use Rattle.std.specs.Prelude.{◌≡◌, ℕ, IfOk, codes, string_bytes};
+ghost use Rattle.std.specs.Prelude.{◌≡◌, ℕ, IfOk, IsOk, codes, string_bytes};
 ghost use Rattle.streams.specs.Shown.{IsSafeLine, line_text};
 ghost use Rattle.explanations.specs.Said.{IsLineOrNone};
 ghost use Rattle.poolprogram.specs.Turns.{entries_for};
-ghost use Rattle.poolprogram.specs.Explanations.{IsSubjectOf, shortening_told, ExplainsUnread, ExplainsFault, Explains};
+ghost use Rattle.poolprogram.specs.Explanations.{IsSubjectOf, shortening_told, ExplainsUnread, ExplainsFault, Explains, IsPlain};
 
 use crate::half_run::explain_half_run;
 use crate::run_fault::RunFault;
@@ -131,6 +131,7 @@ pub fn explain(
 ) -> Result<String, AllocError>
     ensures is { IfOk result (λ text. Explains subject.now file.now done.now (string_bytes text)) }
     ensures safe { IfOk result (λ text. IsLineOrNone (string_bytes text)) }
+    ensures plain { IsPlain subject.now done.now → IsOk result }
 {
     match (done, subject) {
         (Err(fault), _) => explain_fault(alloc, subject, file, fault),

@@ -1,6 +1,6 @@
 //! What a replay left undone.
 ghost use Rattle.std.specs.Prelude.{◌≡◌, ℕ, IfOk, length, map, string_bytes};
-ghost use Rattle.keybits.specs.Shapes.{IsShape};
+ghost use Rattle.keybits.specs.Shapes.{IsNarrow};
 ghost use Rattle.explanations.specs.Said.{IsLineOrNone};
 ghost use Rattle.poolprogram.specs.Turns.{entries_for};
 ghost use Rattle.poolprogram.specs.HalfRuns.{TellsHalf, ExplainsHalf};
@@ -27,7 +27,7 @@ fn counts_of(alloc: Global, scripts: &[Script]) -> Result<Vec<usize>, AllocError
 
 /// The line that tells what a replay of a plan over a schedule leaves undone.
 fn explain_planned(alloc: Global, plan: Plan, schedule: &[u32]) -> Result<String, AllocError>
-    requires shape { IsShape plan.shape }
+    requires shape { IsNarrow plan.shape }
     requires count { length plan.scripts ≡ plan.shape.lanes }
     ensures is { IfOk result (λ text. TellsHalf plan schedule.now (string_bytes text)) }
     ensures safe { IfOk result (λ text. IsLineOrNone (string_bytes text)) }

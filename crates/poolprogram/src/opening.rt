@@ -1,6 +1,6 @@
 //! How the pool of a script file is opened.
 ghost use Rattle.std.specs.Prelude.{◌≡◌, IfOk, IfErr};
-ghost use Rattle.keybits.specs.Shapes.{IsShape};
+ghost use Rattle.keybits.specs.Shapes.{IsNarrow};
 ghost use Rattle.shardpool.specs.Opened.{AreFirstLanes};
 
 use crate::run_fault::RunFault;
@@ -15,7 +15,7 @@ pub(crate) fn open_pool(
     alloc: Global,
     shape: Shape,
 ) -> Result<(Pool<ByteBuf>, Vec<Lane<ByteBuf>>), RunFault>
-    requires { IsShape shape }
+    requires { IsNarrow shape }
     ensures shape { IfOk result (λ made. made.0.shape ≡ shape) }
     ensures lanes { IfOk result (λ made. AreFirstLanes made.0 made.1.items) }
     ensures err { IfErr result (λ fault. fault ≡ RunFault.Open) }

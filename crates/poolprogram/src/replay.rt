@@ -1,6 +1,6 @@
 //! Replays of plans and of script files over a schedule.
 ghost use Rattle.std.specs.Prelude.{◌≡◌, ◌≢◌, ◌↔◌, true, false, length, IfOk, IfErr, OnOk, IsErrOf};
-ghost use Rattle.keybits.specs.Shapes.{IsShape};
+ghost use Rattle.keybits.specs.Shapes.{IsNarrow};
 ghost use Rattle.traces.specs.Lawful.{IsLawful};
 ghost use Rattle.seqpool.specs.ActsText.{IsTextOf};
 ghost use Rattle.traces.specs.Text.{trace_text};
@@ -21,7 +21,7 @@ use traces::{Trace, write_trace};
 
 /// The trace of a plan over a schedule.
 pub(crate) fn run_plan(alloc: Global, plan: Plan, schedule: &[u32]) -> Result<Trace, RunFault>
-    requires shape { IsShape plan.shape }
+    requires shape { IsNarrow plan.shape }
     requires count { length plan.scripts ≡ plan.shape.lanes }
     ensures ok { IfOk result (λ trace. IsLawful plan.shape plan.scripts schedule.now trace) }
     ensures err { IfErr result (λ fault. IsCoreFault fault) }
@@ -69,7 +69,7 @@ fn text_of(alloc: Global, shape: &Shape, trace: &Trace, acts: bool) -> Result<Ve
 
 /// The text of the trace of a plan over a schedule, or of its acts.
 fn replayed(alloc: Global, plan: Plan, schedule: &[u32], acts: bool) -> Result<Vec<u8>, RunFault>
-    requires shape { IsShape plan.shape }
+    requires shape { IsNarrow plan.shape }
     requires count { length plan.scripts ≡ plan.shape.lanes }
     ensures ok { IfOk result (λ text. IsReplayOf plan schedule.now acts text.items) }
     ensures err { IfErr result (RefusesReplayOf plan schedule.now) }
@@ -90,7 +90,7 @@ pub fn replay_plan<W: Write>(
     acts: bool,
     out: &mut Watched<W>,
 ) -> Result<(), RunFault>
-    requires shape { IsShape plan.shape }
+    requires shape { IsNarrow plan.shape }
     requires count { length plan.scripts ≡ plan.shape.lanes }
     requires watched { out.old.failed ≡ false }
     ensures ok { OnOk result (WritesReplayOf plan schedule.now acts

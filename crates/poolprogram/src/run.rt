@@ -1,6 +1,6 @@
 //! A run of a script file.
 ghost use Rattle.std.specs.Prelude.{◌≡◌, ◌≢◌, ◌↔◌, true, false, length, IfOk, IfErr, OnOk, IsErrOf};
-ghost use Rattle.keybits.specs.Shapes.{IsShape};
+ghost use Rattle.keybits.specs.Shapes.{IsNarrow};
 ghost use Rattle.poolprogram.specs.Runs.{IsRunOf, IsRun, WritesRun, IsRunFault, RefusesRun};
 
 use crate::opening::open_pool;
@@ -34,7 +34,7 @@ fn run_plan<R: Threads + Wait + Sync>(
     alloc: Global,
     plan: Plan,
 ) -> Result<Vec<u8>, RunFault>
-    requires shape { IsShape plan.shape }
+    requires shape { IsNarrow plan.shape }
     requires count { length plan.scripts ≡ plan.shape.lanes }
     ensures ok { IfOk result (λ text. IsRunOf plan text.items) }
     ensures err { IfErr result (λ fault. IsRunFault fault) }

@@ -1,6 +1,6 @@
 //! Schedules from which entries are left out for as long as a word stands in the replay.
 ghost use Rattle.std.specs.Prelude.{◌≡◌, ◌≢◌, ◌↔◌, true, false, length, IfOk, IfErr, OnOk, IsErrOf, string_bytes};
-ghost use Rattle.keybits.specs.Shapes.{IsShape};
+ghost use Rattle.keybits.specs.Shapes.{IsNarrow};
 ghost use Rattle.poolprogram.specs.Shortenings.{IsShortestOf, WritesShortest, RefusesShortestOf, RefusesShortest};
 
 use crate::run_fault::RunFault;
@@ -22,7 +22,7 @@ fn shortest_of(
     schedule: Vec<u32>,
     word: String,
 ) -> Result<Vec<u32>, RunFault>
-    requires shape { IsShape plan.shape }
+    requires shape { IsNarrow plan.shape }
     requires count { length plan.scripts ≡ plan.shape.lanes }
     ensures ok { IfOk result (λ short. IsShortestOf plan (string_bytes word) schedule.items short.items) }
     ensures err { IfErr result (RefusesShortestOf plan (string_bytes word) schedule.items) }

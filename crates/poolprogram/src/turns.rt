@@ -1,7 +1,7 @@
 //! Replays over turns that are listed or drawn, up to a stop, and their schedules.
 ghost use Rattle.std.specs.Prelude.{◌≡◌, ◌≢◌, ◌≤◌, ◌↔◌, true, false, length, IfOk, IfErr, OnOk, IsErrOf};
 ghost use Rattle.std.specs.Io.KnownBytes.{Appends};
-ghost use Rattle.keybits.specs.Shapes.{IsShape};
+ghost use Rattle.keybits.specs.Shapes.{IsNarrow};
 ghost use Rattle.schedules.specs.Schedules.{schedule_line};
 ghost use Rattle.scripts.specs.ScriptPlaces.{out_of_memory};
 ghost use Rattle.poolprogram.specs.Turns.{AreKnown, entries_for, IsUpTo, IsPlanned, WritesTurns, WritesSchedule, RefusesEntries, RefusesSchedule, RefusesTurns, RefusesListing};
@@ -80,7 +80,7 @@ pub fn plan_turns(
     stop: Option<Stop>,
 ) -> Result<(Plan, Vec<u32>), RunFault>
     ensures ok { IfOk result (λ made. IsPlanned file.now turns stop made.0 made.1.items) }
-    ensures shape { IfOk result (λ made. IsShape made.0.shape) }
+    ensures shape { IfOk result (λ made. IsNarrow made.0.shape) }
     ensures count { IfOk result (λ made. length made.0.scripts ≡ made.0.shape.lanes) }
     ensures err { IfErr result (RefusesSchedule file.now turns) }
 {

@@ -1,6 +1,6 @@
 -- OUT and BACK: a look that takes a slot, an exchange of what it has, and a look that gives it back.
 use Rattle.poolsteps.specs.Spot.{Spot as CellSpot}
-use Rattle.std.proofs.Common.{◌≡◌, ◌≢◌, ◌==◌, ◌&&◌, inl, inr, ⊎_elim, ℕ, ◌+◌, Bool, true, cond, eqb, List, [], ◌∷◌, Option, IsSome, Some, None, refl, ap, sym, ◌∙◌, subst, arith, eq-eqb, ne_eqb}
+use Rattle.std.proofs.Common.{◌≡◌, ◌≢◌, ◌==◌, ◌&&◌, inl, inr, ⊎_elim, ℕ, ◌+◌, Bool, true, cond, eqb, List, [], ◌∷◌, Option, IsSome, IfSome, Some, None, refl, ap, sym, ◌∙◌, subst, arith, eq-eqb, ne_eqb}
 use Rattle.std.proofs.lemmas.Bool.{and_right}
 use Rattle.atomic_table.specs.Table.{Me, rest}
 use Rattle.keybits.specs.declared.shape.Shape.{Shape}
@@ -16,7 +16,8 @@ use Rattle.poolsteps.specs.declared.view.View.{View}
 use Rattle.poolsteps.specs.Layout.{slot_index}
 use Rattle.poolsteps.specs.Views.{head_record, the_lane, status_of, known_of, IsOne}
 use Rattle.poolsteps.specs.Told.{GoesOn, MayTouch}
-use Rattle.poolsteps.specs.Moved.{moved_record, MayStore, stored_of, IsLeft, Lifts, Lays, Outs, Backs}
+use Rattle.poolsteps.specs.Moved.{moved_record, MayStore, stored_of, IsLeft, Lifts, Lays, Outs, Backs, Peeks, Fetches, Settles}
+use Rattle.poolsteps.specs.Held.{first_of}
 use Rattle.poolsteps.proofs.Keeping.{shares-law, goes-has, goes-two}
 
 -- what the slot that was taken last has; none where none was taken
@@ -42,7 +43,17 @@ module _ (r : LaneRecord) (place number : ℕ) (status : Status) (c : Stored) wh
   pub known-moved : known_of (moved_record r place number status c) place ≡ c
   known-moved = ap (λ (b : Bool). cond b c (known_of r place)) (eq-eqb place place refl)
 
+-- how a slot is left that has this
+abbrev pub left_held : {T : Type 0} → Option (Share T) → Status
+left_held None = Emptied
+left_held (Some share) = Untouched
+
 module _ {T : Type 0} (content : T → List ℕ) (room : T → ℕ) where
+  -- the cell of a share that is held; the one that is known where none is
+  abbrev pub stored_or : Stored → Option (Share T) → Stored
+  stored_or known None = known
+  stored_or known (Some share) = stored_of content room share
+
   -- the cell of a share that is held; nothing where none is
   abbrev pub stored_held : Option (Share T) → Stored
   stored_held None = nothing_stored
@@ -163,3 +174,67 @@ module _ {T : Type 0} (content : T → List ℕ) (room : T → ℕ) (spots : ℕ
           steps = lays.steps ∙ lifts.steps;
           looks = looks-both (Some share) left c l lays;
         }
+
+    -- two looks at a slot that was empty, which stays so
+    pub empty-lifted : status ≡ Emptied → lifts.value ≡ None
+    empty-lifted empty =
+        let is = subst (λ (s : Status). Leaves content room spots place z number lifts.c s (at_home lifts.value)) empty lifts.leaves in cc is
+
+    pub peeks : status ≡ Emptied → (l : Me (Option (Share T)) View)
+        → Lays content room spots z place number Emptied (known_of (the_lane n.0) place) (n.0, (slot_index z place number, None) ∷ rest n.1) l
+        → Peeks content room spots z place number m l
+    peeks empty l gives =
+        let c_is : lifts.c ≡ known_of r place = lifts.known (inr (λ bad. let no : Emptied ≡ Untouched = sym empty ∙ bad in cc no)) in
+        let lays = subst (λ (c : Stored). Lays content room spots z place number Emptied c (n.0, (slot_index z place number, None) ∷ rest n.1) l) known-lifted gives in
+        record {
+          goes = subst (λ (known : Stored). GoesOn z m.0 l.0 [] [] (moved_record (moved_record r place number InHand known) place number Emptied known)) c_is
+              (goes-both None Emptied lifts.c l lays);
+          held = held-both None Emptied lifts.c l lays;
+          steps = lays.steps ∙ lifts.steps;
+          looks = looks-both None Emptied lifts.c l lays;
+        }
+
+    -- FETCH
+    pub fetches : status_of (the_lane m.0) place number ≡ status → status ≢ InHand → MayTouch z m.0 place number → (taken own fetched : Option (Share T)) → first_value n.1 ≡ taken → fetched ≡ first_of taken own
+        → (l : Me (Option (Share T)) View)
+        → Lays content room spots z place number Emptied (known_of (the_lane n.0) place) (n.0, (slot_index z place number, None) ∷ rest n.1) l
+        → Fetches content room spots z place number m own fetched l
+    fetches stood aside may taken own fetched is or l gives = record {
+      first = λ untouched.
+          let here : status ≡ Untouched = sym stood ∙ untouched in
+          let full : status ≢ Emptied = λ bad. let no : Emptied ≡ Untouched = sym bad ∙ here in cc no in
+          let has = full-is place z number lifts.c lifts.value status aside full lifts.leaves in
+          let one : taken ≡ Some has.0 = sym is ∙ (ap first_value lifts.held ∙ has.1) in (
+            has.0,
+            or ∙ ap (λ (o : Option (Share T)). first_of o own) one,
+            subst (λ (s : Status). Outs content room spots z place number s m has.0 l) here (outs aside full may has.0 (is ∙ one) l gives),
+          );
+      again = λ emptied.
+          let here : status ≡ Emptied = sym stood ∙ emptied in
+          let none : taken ≡ None = sym is ∙ (ap first_value lifts.held ∙ empty-lifted here) in
+          (or ∙ ap (λ (o : Option (Share T)). first_of o own) none, peeks here l gives);
+    }
+
+    -- SETTLE
+    pub settles : status ≡ Emptied → (given : Option (Share T)) (l : Me (Option (Share T)) View)
+        → Lays content room spots z place number (left_held given) (stored_or content room (known_of (the_lane n.0) place) given) (n.0, (slot_index z place number, given) ∷ rest n.1) l
+        → Settles content room spots z place number m given l
+    settles empty given l lays = record {
+      back = λ share is. backs empty share Untouched l
+          (subst (λ (o : Option (Share T)). Lays content room spots z place number (left_held o) (stored_or content room (known_of (the_lane n.0) place) o) (n.0, (slot_index z place number, o) ∷ rest n.1) l) is lays);
+      none = λ is. peeks empty l
+          (subst (λ (o : Option (Share T)). Lays content room spots z place number (left_held o) (stored_or content room (known_of (the_lane n.0) place) o) (n.0, (slot_index z place number, o) ∷ rest n.1) l) is lays);
+    }
+
+-- what is given to a slot that the lane has emptied may stand in it
+module _ {T : Type 0} (content : T → List ℕ) (room : T → ℕ) (spots : ℕ → CellSpot) (z : Shape) (place number : ℕ) where
+  pub leaves-given : (known : Stored) (given : Option (Share T)) → IfSome given (λ share. (share.number ≡ number) × (share.of ≡ z.lanes) × (share.spot ≡ spots place))
+      → Leaves content room spots place z number (stored_or content room known given) (left_held given) (at_home given)
+  leaves-given known None is = refl
+  leaves-given known (Some share) is =
+      (share, refl, record { cell = refl; number_is = is.0; of_is = is.1; content_is = refl; room_is = refl; spot_is = is.2 })
+
+  pub stores-given : (m n : Me (Option (Share T)) View) (lifts : Lifts content room spots z place number Emptied m n) → MayTouch z m.0 place number → (given : Option (Share T))
+      → IfSome given (λ share. MayStore z m.0 place number (stored_of content room share)) → MayStore z n.0 place number (stored_or content room (known_of (the_lane n.0) place) given)
+  stores-given m n lifts may None is = inl refl
+  stores-given m n lifts may (Some share) is = store-lifted content room spots z place number Emptied m n lifts refl may (stored_of content room share) is

@@ -1,14 +1,14 @@
 -- Each slot of the pool has its own place among the slots of a table.
-use Rattle.std.proofs.Common.{◌≡◌, ◌≢◌, ⊎_elim, ℕ, ◌+◌, ◌*◌, ◌<◌, Bool, true, false, cond, nat_lt, ◌&&◌, eqb, List, length, slice_set, Option, refl, ap, sym, ◌∙◌, arith, eq-eqb, ne_eqb, lt-ltb}
+use Rattle.std.proofs.Common.{◌≡◌, ◌≢◌, ⊎_elim, ℕ, ◌+◌, ◌*◌, ◌<◌, ◌≤◌, Bool, true, false, cond, nat_lt, ◌&&◌, eqb, List, length, slice_set, Option, refl, ap, sym, ◌∙◌, arith, eq-eqb, ne_eqb, lt-ltb}
 use Rattle.std.proofs.lemmas.Bool.{and_from, and_left, and_right, cases_Bool}
-use Rattle.std.proofs.lemmas.Nat.{same_from_place, mul-add-lt}
+use Rattle.std.proofs.lemmas.Nat.{same_from_place, mul-add-lt, mul-le}
 use mathlib.Core.Option as maybe
 use lib.ListN.{get_elem?}
 use Rattle.atomic_table.proofs.Lists.{set_here, set_else}
 use Rattle.keybits.specs.declared.shape.Shape.{Shape}
 use Rattle.keybits.specs.Places.{shard_of}
 use Rattle.keybits.specs.Shapes.{IsShape, is_place, shard_places, index_of}
-use Rattle.keybits.proofs.ShapeLemmas.{is_place-parts, index_of-lt, index_of-injective, position_of-lt}
+use Rattle.keybits.proofs.ShapeLemmas.{is_place-parts, index_of-lt, index_of-injective, position_of-lt, shape_bounds}
 use Rattle.poolsteps.specs.Share.{Share}
 use Rattle.poolsteps.specs.Shares.{with_slot}
 use Rattle.poolsteps.proofs.shares.Cases.{each-slot}
@@ -21,6 +21,16 @@ in-row z place inside =
     let low = position_of-lt z place inside in
     let shard = (is_place-parts z place inside).0 in
     omega arith
+
+-- a row is short
+pub row-small : (z : Shape) → IsShape z → slot_row z ≤ 2880896
+row-small z ok = let bounds = shape_bounds z ok in omega (arith, bounds.all, bounds.lanes)
+
+-- so are all rows of lanes before one
+pub rows-small : (z : Shape) (lane row : ℕ) → IsShape z → lane ≤ z.lanes → row ≡ slot_row z → lane * row ≤ 184377344
+rows-small z lane row ok low is =
+    let few : lane ≤ 64 = omega (arith, low, (shape_bounds z ok).lanes) in
+    mul-le lane row 64 2880896 few (omega (arith, is, row-small z ok))
 
 -- each shard has the slots of its places in a row, and those behind them
 in-shards : (shard places index : ℕ) → shard * (places + SHARDS_APART) + index ≡ shard * places + index + SHARDS_APART * shard

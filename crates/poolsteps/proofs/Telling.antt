@@ -9,7 +9,7 @@ use Rattle.poolsteps.specs.Share.{Share}
 use Rattle.poolsteps.specs.declared.view.View.{View}
 use Rattle.poolsteps.specs.Views.{the_lane, IsOne}
 use Rattle.poolsteps.specs.Rule.{World, IsBeginning, Kept}
-use Rattle.poolsteps.specs.Seats.{note_of, heard_of, told_by, longer, spent, HasHeard, SawLonger}
+use Rattle.poolsteps.specs.Seats.{note_of, looked_once, heard_of, told_by, longer, spent, HasHeard, SawLonger}
 use Rattle.poolsteps.specs.Told.{Sees}
 use Rattle.poolsteps.specs.Returned.{SeesTold, SeesNoFurther}
 use Rattle.poolsteps.proofs.SeatLemmas.{look_view, is-at, look-stands}
@@ -27,8 +27,8 @@ told-sound z v u w one two = record {
 
 module _ {T : Type 0} (content : T → List ℕ) (room : T → ℕ) (spots : ℕ → CellSpot) (z : Shape) where
   -- a note has no lane
-  pub noted : (id : ℕ) (v : View) → Splits (Kept content room spots z) id v v (note_of v)
-  noted id v = cut content room spots z id v v (note_of v)
+  pub noted : (id : ℕ) (v : View) → Splits (Kept content room spots z) id v (looked_once v) (note_of v)
+  noted id v = cut content room spots z id v (looked_once v) (note_of v)
       record { inside = λ r among. among; seen = refl; rooms = refl; told = inl refl }
       record { inside = λ r among. absurd among; seen = refl; rooms = refl; told = inr refl }
       (λ lane. omega arith)

@@ -1,5 +1,5 @@
 -- A portion, or nothing, without bytes.
-use Rattle.std.specs.Prelude.{ℕ, Bool, Option, Some, None, refl}
+use Rattle.std.specs.Prelude.{ℕ, Bool, true, false, Option, Some, None, refl}
 use Rattle.std.specs.Coded.{Coded, code_by, coded×, coded_ℕ, coded_bool}
 use base.Fml.{Lft, Fml, ftrue}
 use denote.RattleType.{RattleType}
@@ -38,3 +38,20 @@ held_owns R (Some h) = cell_owns R h.base h.index h.object h.lifetime h.cell h.p
 abbrev pub held_shares : (R : RattleType) → Option (Held R.Denot) → Lft → Fml
 held_shares R None κ = ftrue
 held_shares R (Some h) κ = cell_shares R h.base h.index h.object h.lifetime h.cell κ
+
+-- ---- what proofs alone decide
+
+-- the first of two that has something
+abbrev pub first_of : {A : Type 0} → Option A → Option A → Option A
+first_of (Some x) other = Some x
+first_of None other = other
+
+-- what goes to the one who is chosen
+abbrev pub if_chosen : {A : Type 0} → Bool → Option A → Option A
+if_chosen true o = o
+if_chosen false o = None
+
+-- and what to the other
+abbrev pub unless_chosen : {A : Type 0} → Bool → Option A → Option A
+unless_chosen true o = None
+unless_chosen false o = o

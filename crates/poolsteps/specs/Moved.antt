@@ -1,6 +1,6 @@
 -- What the moves of shares ask, and what they tell.
 use Rattle.poolsteps.specs.Spot.{Spot as CellSpot}
-use Rattle.std.specs.Prelude.{◌≡◌, ◌≢◌, ◌⊎◌, ℕ, ◌+◌, ◌<◌, List, [], ◌∷◌, Option}
+use Rattle.std.specs.Prelude.{◌≡◌, ◌≢◌, ◌⊎◌, ℕ, ◌+◌, ◌<◌, List, [], ◌∷◌, Option, Some, None}
 use Rattle.atomic_table.specs.Table.{Me, rest}
 use Rattle.keybits.specs.declared.shape.Shape.{Shape}
 use Rattle.seqpool.specs.Pool.{pool_after}
@@ -81,3 +81,21 @@ module _ {T : Type 0} (content : T → List ℕ) (room : T → ℕ) (spots : ℕ
     pub held : after.1 ≡ before.1
     pub steps : after.0.steps ≡ before.0.steps
     pub looks : after.0.looks ≡ before.0.looks + 2
+
+  -- two looks at a slot that the lane has emptied, which stays so
+  pub record Peeks (z : Shape) (place number : ℕ) (before after : Me (Option (Share T)) View) : Type 0 where
+    pub goes : GoesOn z before.0 after.0 [] []
+        (moved_record (moved_record (the_lane before.0) place number InHand (known_of (the_lane before.0) place)) place number Emptied (known_of (the_lane before.0) place))
+    pub held : after.1 ≡ before.1
+    pub steps : after.0.steps ≡ before.0.steps
+    pub looks : after.0.looks ≡ before.0.looks + 2
+
+  -- FETCH: OUT where the lane left the slot alone, and else what the lane has stays with it
+  pub record Fetches (z : Shape) (place number : ℕ) (before : Me (Option (Share T)) View) (own fetched : Option (Share T)) (after : Me (Option (Share T)) View) : Type 0 where
+    pub first : status_of (the_lane before.0) place number ≡ Untouched → (share : Share T) × (fetched ≡ Some share) × Outs z place number Untouched before share after
+    pub again : status_of (the_lane before.0) place number ≡ Emptied → (fetched ≡ own) × Peeks z place number before after
+
+  -- SETTLE: BACK of a share where one is given, and else nothing is moved
+  pub record Settles (z : Shape) (place number : ℕ) (before : Me (Option (Share T)) View) (given : Option (Share T)) (after : Me (Option (Share T)) View) : Type 0 where
+    pub back : (share : Share T) → given ≡ Some share → Backs z place number Untouched before share after
+    pub none : given ≡ None → Peeks z place number before after

@@ -1,5 +1,5 @@
 -- How seats are cut and joined.
-use Rattle.std.specs.Prelude.{◌≡◌, List, [], ◌∷◌, ◌++◌, length, nat_lt, if◌then◌else◌}
+use Rattle.std.specs.Prelude.{◌≡◌, ◌+◌, List, [], ◌∷◌, ◌++◌, length, nat_lt, if◌then◌else◌}
 use mathlib.Core.List.{IsPrefix}
 use Rattle.poolsteps.specs.declared.view.LaneRecord.{LaneRecord}
 use Rattle.poolsteps.specs.declared.view.Heard.{Heard}
@@ -26,6 +26,10 @@ first_alone v = record { lanes = first_of v.lanes; seen = v.seen; rooms = v.room
 -- a note: what was seen, and no lane
 abbrev pub note_of : View → View
 note_of v = record { lanes = []; seen = v.seen; rooms = v.rooms; told = []; steps = 0; looks = 0 }
+
+-- a seat that made one look more
+abbrev pub looked_once : View → View
+looked_once v = record v { looks = v.looks + 1 }
 
 -- what a seat saw, with the rooms beside it
 abbrev pub heard_of : View → Heard

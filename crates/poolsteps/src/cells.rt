@@ -1,9 +1,9 @@
 //! The cells of places: where a row of them begins, a share, a slot for one, the shares in one hand, the whole, a place
 //! without an object.
-ghost use Rattle.std.specs.Prelude.{◌≡◌, ⊤, Some, None, IsSome, IfSome, Option, ◌+◌, ◌<◌, ◌^◌, ◌≤◌};
+ghost use Rattle.std.specs.Prelude.{◌≡◌, ◌==◌, ℕ, ⊤, Some, None, IsSome, IfSome, Option, nat_lt, ◌+◌, ◌-◌, ◌<◌, ◌^◌, ◌≤◌};
 ghost use Rattle.poolsteps.specs.Spot.{IsAt};
 ghost use Rattle.std.specs.Coded.{coded_option};
-ghost use Rattle.poolsteps.specs.Held.{Held, held_code, held_owns, held_shares, held_of};
+ghost use Rattle.poolsteps.specs.Held.{Held, held_code, held_owns, held_shares, held_of, first_of, if_chosen, unless_chosen};
 ghost use Rattle.poolsteps.specs.Rest.{lowest_share};
 ghost use Rattle.std.specs.Borrow.{sem};
 
@@ -84,6 +84,51 @@ impl<T> Model for Share<T> {
     ghost invariant = { λ s. IsOneShare s.portion };
 }
 
+/// How many references a lane has to a key of a place, and of which generation it is. Proofs alone know it: it has no
+/// bytes.
+#[derive(Drop)]
+pub struct Tally {
+    mark: PhantomData<u8>,
+    pub ghost generation: { ℕ },
+    pub ghost count: { ℕ },
+}
+
+impl Model for Tally {
+    ghost use base.Fml.{ftrue};
+
+    ghost also_owns = { λ _. ftrue };
+}
+
+unsafe impl Send for Tally {}
+
+unsafe impl Sync for Tally {}
+
+impl Tally {
+    /// No reference.
+    pub fn none() -> Tally
+        ensures { (result.generation ≡ 0) × (result.count ≡ 0) }
+    {
+        Tally { mark: PhantomData }
+    }
+
+    /// One reference more, to a key of this generation.
+    pub fn gain(self, generation: u32) -> Tally
+        ensures { (result.generation ≡ generation) × (result.count ≡ self.count + 1) }
+    {
+        let Tally { mark: _ } = self;
+        let _ = generation;
+        Tally { mark: PhantomData }
+    }
+
+    /// One reference less.
+    pub fn lose(self) -> Tally
+        ensures { (result.generation ≡ self.generation) × (result.count ≡ self.count - 1) }
+    {
+        let Tally { mark: _ } = self;
+        Tally { mark: PhantomData }
+    }
+}
+
 // A portion, or nothing. Proofs alone know which of the two it is.
 #[derive(Drop)]
 pub(crate) struct MaybePortion<T> {
@@ -125,6 +170,35 @@ impl<T> MaybePortion<T> {
     {
         let MaybePortion { mark: _ } = self;
         Portion { mark: PhantomData }
+    }
+
+    // The portion of the first of the two that has one. What both have isn't kept.
+    pub(crate) fn or(self, other: MaybePortion<T>) -> MaybePortion<T>
+        ensures { result.held ≡ first_of self.held other.held }
+    {
+        let MaybePortion { mark: _ } = self;
+        let MaybePortion { mark: _ } = other;
+        MaybePortion { mark: PhantomData }
+    }
+
+    // The portion where the tally has a reference, and else nothing.
+    pub(crate) fn under(self, tally: &Tally) -> MaybePortion<T>
+        ensures { result.held ≡ if_chosen (nat_lt 0 tally.now.count) self.held }
+    {
+        let MaybePortion { mark: _ } = self;
+        let _ = tally;
+        MaybePortion { mark: PhantomData }
+    }
+
+    // The portion is with the first of the two where the tally has one reference, and else with the second.
+    pub(crate) fn deal(self, tally: &Tally) -> (MaybePortion<T>, MaybePortion<T>)
+        ensures { (result.0.held ≡ if_chosen (tally.now.count == 1) self.held) × (result.1.held ≡ unless_chosen (tally.now.count == 1) self.held) }
+    {
+        let MaybePortion { mark: _ } = self;
+        (
+            MaybePortion { mark: PhantomData },
+            MaybePortion { mark: PhantomData },
+        )
     }
 }
 
@@ -182,6 +256,36 @@ impl<T> Slot<T> {
         ensures { IfSome self.now (λ share. result.now ≡ share.object) }
     {
         &**self.portion.read(directory, index)
+    }
+
+    /// The share of the first of the two that has one.
+    pub fn or(self, other: Slot<T>) -> Slot<T>
+        ensures { result ≡ first_of self other }
+    {
+        let Slot { portion } = self;
+        let Slot { portion: rest } = other;
+        Slot {
+            portion: portion.or(rest),
+        }
+    }
+
+    /// The share is in the first of the two where the tally has one reference, and else in the second.
+    pub fn deal(self, tally: &Tally) -> (Slot<T>, Slot<T>)
+        ensures { (result.0 ≡ if_chosen (tally.now.count == 1) self) × (result.1 ≡ unless_chosen (tally.now.count == 1) self) }
+    {
+        let Slot { portion } = self;
+        let (first, second) = portion.deal(tally);
+        (Slot { portion: first }, Slot { portion: second })
+    }
+
+    /// The share where the tally has a reference, and else none.
+    pub fn under(self, tally: &Tally) -> Slot<T>
+        ensures { result ≡ if_chosen (nat_lt 0 tally.now.count) self }
+    {
+        let Slot { portion } = self;
+        Slot {
+            portion: portion.under(tally),
+        }
     }
 
     /// Takes the share out.

@@ -40,7 +40,7 @@ pub fn slot_start(shape: &Shape, place: u32, position: usize) -> usize
     requires position { position ≡ position_of shape.now place }
     ensures start { result ≡ slot_start shape.now place }
     ensures inside { result < slot_row shape.now }
-    ensures small { result < 65536 }
+    ensures small { result < 4194304 }
 {
     let _ = shape;
     position + SHARDS_APART * shard_of(place) as usize
@@ -81,7 +81,7 @@ pub fn link_word(shape: &Shape, place: u32, position: usize) -> usize
 pub(crate) fn links_start(shape: &Shape) -> usize
     requires { IsShape shape.now }
     ensures start { result ≡ links_start shape.now }
-    ensures small { result < 65536 }
+    ensures small { result < 4194304 }
 {
     LIVES_START + slot_row(shape)
 }

@@ -24,7 +24,7 @@ mod steps;
 mod threads;
 mod view;
 
-pub use cells::{Address, Base, Rest, Share, Slot, Vacancy, Whole};
+pub use cells::{Address, Base, Rest, Share, Slot, Tally, Vacancy, Whole};
 pub use closing::drop_cell;
 pub use directory::Directory;
 pub use directory_end::close_directory;

@@ -1,6 +1,6 @@
 //! The moves of shares: each is two looks at a word of the lane's own, one that takes slots and one that
 //! gives them back. One moves a share, or all shares of a place.
-ghost use Rattle.std.specs.Prelude.{◌≡◌, ◌≢◌, ◌<◌, ◌∷◌, Option, ◌-◌, ℕ, [], ◌++◌, Some, None};
+ghost use Rattle.std.specs.Prelude.{◌≡◌, ◌≢◌, ◌⊎◌, ◌<◌, ◌∷◌, Option, ◌-◌, ℕ, [], ◌++◌, Some, None, IfSome};
 ghost use Rattle.atomic_table.specs.Table.{rest};
 ghost use Rattle.poolsteps.specs.Share.{Share as Shown};
 ghost use Rattle.keybits.specs.Places.{shard_of as shard_number};
@@ -11,7 +11,7 @@ ghost use Rattle.poolsteps.specs.Layout.{slot_index, spots_at};
 ghost use Rattle.poolsteps.specs.Views.{the_lane, status_of, IsOne};
 ghost use Rattle.poolsteps.specs.Grids.{IsSpot, IsOf, SameSeat};
 ghost use Rattle.poolsteps.specs.Told.{MayTouch, HasPlace, LeftAlone};
-ghost use Rattle.poolsteps.specs.Moved.{MayStore, stored_of, IsLeft, Lifts, Lays, Outs, Backs};
+ghost use Rattle.poolsteps.specs.Moved.{MayStore, stored_of, IsLeft, Lifts, Lays, Outs, Backs, Fetches, Settles};
 ghost use Rattle.poolsteps.specs.Batches.{held_of, IsOrder, AreLeft, AreOf, LiftsAll, LaysAll, OutsAll, BacksAll};
 
 use crate::cells::{Rest, Share, Slot};
@@ -201,21 +201,51 @@ impl<T: Clear> Grid<T> {
         share
     }
 
-    /// BACK of a lane's share of a place into its slot, which the calling lane has emptied. Where all shares of the
-    /// place are with the lane, and no other slot of it has any, it may be of a new cell.
+    /// OUT of the calling lane's share of a place into a slot of its own, where the lane left the table's slot alone;
+    /// where it emptied that, what its own slot has stays there. Proofs alone know which.
     #[inline]
-    pub fn back(&self, hand: &mut Hand<T>, spot: Spot, lane: u32, number: u32, share: Share<T>)
+    pub fn fetch(
+        &self,
+        hand: &mut Hand<T>,
+        spot: Spot,
+        lane: u32,
+        number: u32,
+        own: Slot<T>,
+    ) -> Slot<T>
+        requires hand { IsOf self.now hand.old × IsOne hand.old.me.0 }
+        requires spot { IsSpot self.now.shape spot spot.place }
+        requires lanes { (lane < self.now.shape.lanes) × (number < self.now.shape.lanes) }
+        requires may { MayTouch self.now.shape hand.old.me.0 spot.place number }
+        requires left { (status_of (the_lane hand.old.me.0) spot.place number ≡ Untouched) ⊎ (status_of (the_lane hand.old.me.0) spot.place number ≡ Emptied) }
+        ensures hand { SameSeat hand.old hand.new }
+        ensures fetches { Fetches T.content T.room (spots_at self.now.objects.ptr self.now.shape) self.now.shape spot.place number hand.old.me own result hand.new.me }
+    {
+        let slot = self.slot_of(spot, number);
+        self.lift::<Brand>(hand, spot, lane, number);
+        let taken = self.table.shared.exchange(hand, slot, Slot::empty());
+        self.lay::<Brand>(hand, spot, lane, number);
+        taken.or(own)
+    }
+
+    /// BACK of the calling lane's share of a place into its slot, which the lane has emptied, where the share is given;
+    /// else nothing is moved. Proofs alone know which. Where all shares of the place are with the lane, and no other slot
+    /// of it has any, the share may be of a new cell.
+    #[inline]
+    pub fn settle(&self, hand: &mut Hand<T>, spot: Spot, lane: u32, number: u32, given: Slot<T>)
         requires hand { IsOf self.now hand.old × IsOne hand.old.me.0 }
         requires spot { IsSpot self.now.shape spot spot.place }
         requires lanes { (lane < self.now.shape.lanes) × (number < self.now.shape.lanes) }
         requires may { MayTouch self.now.shape hand.old.me.0 spot.place number }
         requires left { status_of (the_lane hand.old.me.0) spot.place number ≡ Emptied }
-        requires share { (share.number ≡ number) × (share.of ≡ self.now.shape.lanes) × (share.spot ≡ spots_at self.now.objects.ptr self.now.shape spot.place) }
-        requires cell { MayStore self.now.shape hand.old.me.0 spot.place number (stored_of T.content T.room share) }
+        requires share { IfSome given (λ share. (share.number ≡ number) × (share.of ≡ self.now.shape.lanes) × (share.spot ≡ spots_at self.now.objects.ptr self.now.shape spot.place)) }
+        requires cell { IfSome given (λ share. MayStore self.now.shape hand.old.me.0 spot.place number (stored_of T.content T.room share)) }
         ensures hand { SameSeat hand.old hand.new }
-        ensures backs { Backs T.content T.room (spots_at self.now.objects.ptr self.now.shape) self.now.shape spot.place number Untouched hand.old.me share hand.new.me }
+        ensures settles { Settles T.content T.room (spots_at self.now.objects.ptr self.now.shape) self.now.shape spot.place number hand.old.me given hand.new.me }
     {
-        self.back_as::<Brand>(hand, spot, lane, number, share)
+        let slot = self.slot_of(spot, number);
+        self.lift::<Brand>(hand, spot, lane, number);
+        self.table.shared.exchange(hand, slot, given);
+        self.lay::<Brand>(hand, spot, lane, number);
     }
 
     /// BACK of the only share of a cell into the slot of the place's shard, which the calling lane has emptied.

@@ -4,7 +4,7 @@ ghost use Rattle.std.specs.Mem.Slots.{slots_items, slots_len, IsFull};
 ghost use Rattle.poolsteps.specs.Layout.{word_count, slot_count};
 ghost use Rattle.poolsteps.specs.Rule.{World};
 ghost use Rattle.poolsteps.specs.Views.{IsOne};
-ghost use Rattle.poolsteps.specs.Seats.{note_of, heard_of, told_by, both_of, HasHeard, SawLonger};
+ghost use Rattle.poolsteps.specs.Seats.{note_of, looked_once, heard_of, told_by, both_of, HasHeard, SawLonger};
 ghost use Rattle.poolsteps.specs.Grids.{IsOf, SameSeat, AreHands, EndsWith};
 ghost use Rattle.poolsteps.specs.Told.{Sees};
 ghost use Rattle.poolsteps.specs.Returned.{SeesTold, SeesNoFurther};
@@ -63,13 +63,13 @@ impl<S, J: Aim> Play<S, View> for SeeNoFurther<J> {
     ghost then = { λ step before found after. SeesNoFurther J.shape before after };
 }
 
-/// A note is cut from a seat.
+/// A note is cut from a seat, by a look.
 pub(crate) struct Tell;
 
 impl Split<View> for Tell {
-    ghost use Rattle.poolsteps.specs.Seats.{note_of};
+    ghost use Rattle.poolsteps.specs.Seats.{note_of, looked_once};
 
-    ghost left = { λ v. v };
+    ghost left = { looked_once };
 
     ghost right = { note_of };
 }
@@ -97,11 +97,11 @@ impl Join<View> for Gather {
 }
 
 impl<T: Clear> Grid<T> {
-    /// A note of all that a lane saw. It costs a load.
+    /// A note of all that a lane saw. It is one look.
     pub fn note(&self, hand: &mut Hand<T>) -> Hand<T>
         requires { IsOf self.now hand.old }
         ensures note { IsOf self.now result × (result.me ≡ (note_of hand.old.me.0, [])) }
-        ensures hand { SameSeat hand.old hand.new × (hand.new.me ≡ hand.old.me) }
+        ensures hand { SameSeat hand.old hand.new × (hand.new.me ≡ (looked_once hand.old.me.0, hand.old.me.1)) }
     {
         self.table.shared.split_seat::<Tell>(hand)
     }

@@ -6,7 +6,7 @@ ghost use Rattle.shardpool.specs.Lanes.{Owns, Made, holds, refs};
 ghost use Rattle.guards.specs.Here.{HoldNothing};
 
 use crate::contents::shows;
-use guards::{Opened, open_lanes};
+use guards::{Opened, open_lanes, open_lanes_wide};
 use keybits::Shape;
 use shardpool::{Census, CreateFault, Filling, Lane, Pool, Ref};
 use slotcell::{ByteBuf, Clear};
@@ -78,6 +78,21 @@ pub(crate) fn open_last<T: Clear + Drop, R: Abort>(
     ensures { Owns result.0 result.1 × (refs result.1 ≡ 0) }
 {
     let mut opened = open_of(rt, alloc, shape);
+    let lane = take(rt, &mut opened, shape.lanes.saturating_sub(1));
+    (opened.pool, lane)
+}
+
+/// A pool of this wide shape, with its last lane, which has no reference.
+pub(crate) fn open_wide_last<T: Clear + Drop, R: Abort>(
+    rt: &R,
+    alloc: Global,
+    shape: Shape,
+) -> (Pool<T>, Lane<T>)
+    ensures { Owns result.0 result.1 × (refs result.1 ≡ 0) }
+{
+    let Ok(mut opened) = open_lanes_wide(alloc, shape) else {
+        panic!(rt; "no pool")
+    };
     let lane = take(rt, &mut opened, shape.lanes.saturating_sub(1));
     (opened.pool, lane)
 }
@@ -270,7 +285,7 @@ pub(crate) fn reads<R: Abort>(rt: &R, lane: &Lane<ByteBuf>, reference: &Ref<Byte
 pub(crate) fn tell<T: Clear + Drop>(pool: &Pool<T>, teller: &mut Lane<T>, hearer: &mut Lane<T>)
     requires teller { Owns pool.now teller.old }
     requires hearer { Owns pool.now hearer.old }
-    ensures teller { teller.new ≡ teller.old }
+    ensures teller { Owns pool.now teller.new }
     ensures owns { Owns pool.now hearer.new }
     ensures refs { refs hearer.new ≡ refs hearer.old }
 {

@@ -90,8 +90,8 @@ fn finds_after_clear<R: Abort>(
     pool.halt(second, LastCall::Clear(reference.key()), limit)
         .forget();
     let found = finds(rt, pool, first, reference.key());
-    assert_eq!(rt; first.holds(reference.key()), 1);
-    release(pool, first, reference);
+    assert_eq!(rt; first.refs(), 1);
+    reference.forget();
     found
 }
 

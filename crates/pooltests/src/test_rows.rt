@@ -3,8 +3,8 @@ ghost use Rattle.std.specs.Prelude.{◌<◌, ◌≤◌};
 ghost use Rattle.shardpool.specs.Lanes.{Owns, holds, refs};
 
 use crate::test_calls::{
-    clear, create, fill, finds_full, get, misses, open_last, open_pair, publish, reads, release,
-    same, shape_of, tell,
+    clear, create, fill, finds_full, get, misses, open_last, open_pair, open_wide_last, publish,
+    reads, release, same, shape_of, tell,
 };
 use shardpool::{Lane, Pool, Ref};
 use slotcell::ByteBuf;
@@ -171,12 +171,19 @@ fn two_lanes_call_in_turn(rt: HostRuntime) {
     call(&rt, rt.alloc(), Calls::CreateWhatWasReturned);
 }
 
-/// A filling of each place of a lane, those of these numbers with these keys; then no place is free.
-fn fill_all<R: Abort>(rt: &R, pool: &Pool<ByteBuf>, lane: &mut Lane<ByteBuf>, keys: &[(u32, u64)])
-    requires { Owns pool.now lane.old }
+/// A filling of each of so many places of a lane, those of these numbers with these keys; then no place is free.
+fn fill_all<R: Abort>(
+    rt: &R,
+    pool: &Pool<ByteBuf>,
+    lane: &mut Lane<ByteBuf>,
+    places: u32,
+    keys: &[(u32, u64)],
+)
+    requires pool { Owns pool.now lane.old }
+    requires places { places ≤ 44992 }
 {
     let mut rest = keys;
-    for number in 1..=PLACES {
+    for number in 1..=places {
         let filling = create(rt, pool, lane);
         if let [(next, key), others @ ..] = rest
             && *next == number
@@ -207,7 +214,7 @@ fn keys_of(shard: u64) -> [(u32, u64); 6]
 /// All places of the last of so many lanes are filled.
 fn fill_last<R: Abort>(rt: &R, alloc: Global, lanes: u32, keys: &[(u32, u64)]) {
     let (pool, mut lane) = open_last(rt, alloc, shape_of(lanes, 64, 6));
-    fill_all(rt, &pool, &mut lane, keys);
+    fill_all(rt, &pool, &mut lane, PLACES, keys);
 }
 
 #[test]
@@ -217,25 +224,31 @@ fn fills_all_places_of_a_lane(rt: HostRuntime) {
     fill_last(&rt, rt.alloc(), 16, &keys_of(983040));
 }
 
-/// A published key is found, its reference stays with the lane, and its bytes are read where the get tells.
-fn get_by_key<R: Abort>(
-    rt: &R,
-    pool: &Pool<ByteBuf>,
-    lane: &mut Lane<ByteBuf>,
-    key: u64,
-    bytes: &[u8],
-)
-    requires { Owns pool.now lane.old × (refs lane.old < 1000) }
-    ensures { Owns pool.now lane.new }
-{
-    let Some(start) = pool.get_at(lane, key) else {
-        panic!(rt; "{key} isn't found")
-    };
-    same(rt, &lane.read_at(start, key).as_slice(), &bytes);
-    same(rt, &lane.holds(key), &1);
+#[test]
+fn fills_all_places_of_a_wide_lane(rt: HostRuntime) {
+    let pages = [
+        (4032, 16865279),
+        (4033, 16867328),
+        (8128, 16871423),
+        (8129, 16871424),
+        (44992, 16908287),
+    ];
+    let (pool, mut lane) = open_wide_last(&rt, rt.alloc(), shape_of(2, 64, 16));
+    fill_all(&rt, &pool, &mut lane, 44992, &pages);
+
+    // The last of 64 lanes.
+    let (pool, mut lane) = open_wide_last(&rt, rt.alloc(), shape_of(64, 1, 2));
+    fill_all(
+        &rt,
+        &pool,
+        &mut lane,
+        3,
+        &[(1, 20905984), (2, 20910080), (3, 20910081)],
+    );
 }
 
-/// A key is got, read, cleared by the other lane and given back, by its number alone.
+/// A key is got, its reference stays with the lane, its bytes are read where the get tells, and it is cleared by the
+/// other lane and given back, by its number alone.
 fn call_by_key<R: Abort>(
     rt: &R,
     pool: &Pool<ByteBuf>,
@@ -245,10 +258,15 @@ fn call_by_key<R: Abort>(
     requires first { Owns pool.now first.old × (refs first.old < 1000) }
     requires second { Owns pool.now second.old }
 {
-    publish(rt, pool, first, FIRST, b"k");
-    get_by_key(rt, pool, first, FIRST, b"k");
+    let bytes: &[u8] = b"k";
+    publish(rt, pool, first, FIRST, bytes);
+    let Some(start) = pool.get_at(first, FIRST) else {
+        panic!(rt; "{FIRST} isn't found")
+    };
+    same(rt, &first.start_of_key(FIRST), &Some(start));
     clear(rt, pool, second, FIRST, true);
-    same(rt, &pool.release_key(first, FIRST), &true);
+    same(rt, &first.read_at(start, FIRST).as_slice(), &bytes);
+    pool.release_at(first, start, FIRST);
     pool.meet(first, second);
 }
 

@@ -127,6 +127,7 @@ fn next(random: u64) -> u64 {
 enum Play<'a> {
     Pass(&'a Ring),
     Fight(&'a Brawl),
+    Meet(&'a Ring),
 }
 
 /// Passes keys on.
@@ -156,6 +157,26 @@ fn fight_all<N: PoolName>(seat: &mut Seat<'_, N, ByteBuf>, brawl: &Brawl) -> boo
     true
 }
 
+/// Whether a word isn't 0, which is read until it isn't, but no more than so many times.
+fn is_set(word: &AtomicU64) -> bool {
+    for _ in 0..4_000_000_000u32 {
+        if word.load(Ordering::SeqCst) != 0 {
+            return true;
+        }
+    }
+    false
+}
+
+/// Whether the jobs of all lanes run at the same time: each says so in its lane's word, and waits for the others.
+fn meet_all<N: PoolName>(seat: &mut Seat<'_, N, ByteBuf>, words: &Ring) -> bool
+    ensures { seat.new.lane.number ≡ seat.old.lane.number }
+{
+    if let Some(own) = words.get(seat.number() as usize) {
+        own.store(1, Ordering::SeqCst);
+    }
+    words.iter().all(|word| is_set(word))
+}
+
 impl<N: PoolName> Job<N, ByteBuf> for Play<'_> {
     type Answer = bool;
 
@@ -165,6 +186,7 @@ impl<N: PoolName> Job<N, ByteBuf> for Play<'_> {
         match self {
             Play::Pass(ring) => pass_all(seat, ring),
             Play::Fight(brawl) => fight_all(seat, brawl),
+            Play::Meet(words) => meet_all(seat, words),
         }
     }
 }
@@ -233,6 +255,18 @@ fn passes_keys_round_four_threads(rt: HostRuntime) {
     ];
     let census = census_of(&rt, rt.alloc(), 1, Play::Pass(&ring));
     has_left(&rt, census, standing(&ring));
+}
+
+#[test]
+fn jobs_run_one_beside_another(rt: HostRuntime) {
+    let words = [
+        AtomicU64::new(0),
+        AtomicU64::new(0),
+        AtomicU64::new(0),
+        AtomicU64::new(0),
+    ];
+    let census = census_of(&rt, rt.alloc(), 1, Play::Meet(&words));
+    has_left(&rt, census, 0);
 }
 
 #[test]

@@ -31,14 +31,13 @@ line-short front back line number short_front short_back =
       length-cut line,
     )
 
--- the line that tells which line of a trace is none
-pub safe-line : (number : ℕ) (bytes : List ℕ) → IsSafeLine (wrong_line_text number bytes)
-safe-line number bytes = record {
-  told = wrong_line_told number bytes;
-  short = line-short (codes "line ") (codes "\" is no line of a trace: LANE = REPLY, LANE KIND PLACE BEFORE AFTER, or LANE PUSH (or TAKE) SHARD.LANE BEFORE AFTER") (line_at (number - 1) bytes) number (leb-true (length (codes "line ")) 20 refl)
-      (leb-true (length (codes "\" is no line of a trace: LANE = REPLY, LANE KIND PLACE BEFORE AFTER, or LANE PUSH (or TAKE) SHARD.LANE BEFORE AFTER")) 200 refl);
+-- the line that tells what is said of a line of a trace
+pub safe-line : (what : List ℕ) (number : ℕ) (bytes : List ℕ) → length what ≤ 200 → IsSafeLine (wrong_line_text what number bytes)
+safe-line what number bytes brief = record {
+  told = wrong_line_told what number bytes;
+  short = line-short (codes "line ") what (line_at (number - 1) bytes) number (leb-true (length (codes "line ")) 20 refl) brief;
   is = refl;
-  printable = printable-bytes (wrong_line_told number bytes);
+  printable = printable-bytes (wrong_line_told what number bytes);
 }
 
 -- the line that tells why a file isn't read

@@ -20,10 +20,10 @@ use Rattle.poolview.specs.declared.fault.Fault.{Fault}
 use Rattle.poolview.specs.declared.fault.Fault.TheVariants as faults
 
 -- of these bytes what is asked for was shown: the status is 0, and no error is said
-pub record EndsShown {O E : Type 0} (contents : O → Option (List ℕ)) (view : View) (bytes : List ℕ) (old new : Watched O) (before after : Watched E)
+pub record EndsShown {O E : Type 0} (contents : O → Option (List ℕ)) (path : List ℕ) (view : View) (bytes : List ℕ) (old new : Watched O) (before after : Watched E)
     (status : ℕ) : Type 0 where
   pub text : List ℕ
-  pub shows : ShowsText view bytes text
+  pub shows : ShowsText path view bytes text
   pub appended : Appends (contents old.inner) (contents new.inner) text
   pub whole : new.failed ≡ true → ⊥
   pub silent : after ≡ before
@@ -31,11 +31,11 @@ pub record EndsShown {O E : Type 0} (contents : O → Option (List ℕ)) (view :
 
 -- it wasn't, by this fault: the status is 1, and the fault's line is said, with its explanation where that is wanted; nothing is on
 -- the output, unless it failed
-pub record EndsRefused {O E : Type 0} (errors : E → Option (List ℕ)) (explain : Bool) (path bytes : List ℕ) (old new : Watched O)
+pub record EndsRefused {O E : Type 0} (errors : E → Option (List ℕ)) (explain : Bool) (path : List ℕ) (view : View) (bytes : List ℕ) (old new : Watched O)
     (before after : Watched E) (status : ℕ) : Type 0 where
   pub fault : Fault
   pub output : fault ≡ faults.Output → new.failed ≡ true
-  pub refuses : fault ≢ faults.Output → (new ≡ old) × RefusesText bytes fault
+  pub refuses : fault ≢ faults.Output → (new ≡ old) × RefusesText view bytes fault
   pub says : Says errors before after (refusal_text explain path bytes fault)
   pub status_is : status ≡ 1
 
@@ -43,8 +43,8 @@ pub record EndsRefused {O E : Type 0} (errors : E → Option (List ℕ)) (explai
 abbrev pub EndsBytes : {O E : Type 0} → (O → Option (List ℕ)) → (E → Option (List ℕ)) → Bool → Viewing → List ℕ
     → Watched O → Watched O → Watched E → Watched E → ℕ → Type 0
 EndsBytes contents errors explain viewing bytes old new before after status =
-    EndsShown contents viewing.view bytes old new before after status
-    ⊎ EndsRefused errors explain viewing.file.now bytes old new before after status
+    EndsShown contents viewing.file.now viewing.view bytes old new before after status
+    ⊎ EndsRefused errors explain viewing.file.now viewing.view bytes old new before after status
 
 -- the file wasn't read: the status is 1, and that is said; nothing is on the output
 pub record EndsUnread {O E : Type 0} (errors : E → Option (List ℕ)) (explain : Bool) (path : List ℕ) (old new : Watched O)

@@ -1,5 +1,5 @@
 -- What is shown of a trace.
-use Rattle.std.specs.Prelude.{◌≡◌, ℕ, List, Option, IfSome, codes}
+use Rattle.std.specs.Prelude.{◌≡◌, ℕ, List, Option, IfSome, codes, false}
 use Rattle.commandline.specs.declared.views.View.{View}
 use Rattle.commandline.specs.declared.views.View.TheVariants as views
 use Rattle.traceviews.specs.Events.{AreEvents}
@@ -9,31 +9,50 @@ use Rattle.traceviews.specs.Lines.{AreLines, IsFirstWrong}
 use Rattle.traceviews.specs.Pictures.{IsPicture}
 use Rattle.traceviews.specs.Styles.{lines_words}
 use Rattle.traceviews.specs.Summaries.{IsSummary}
+use Rattle.traceviews.specs.WordSteps.{AreFollowing, IsFirstStray, follows_text}
 use Rattle.traceviews.specs.declared.line.Line.{Line}
 use Rattle.poolview.specs.declared.fault.Fault.{Fault}
 use Rattle.poolview.specs.declared.fault.Fault.TheVariants as faults
 
--- the text shows this of the lines
-abbrev pub IsShown : View → List Line → List ℕ → Type 0
-IsShown (views.Picture first count fit) lines text = IsPicture text
-IsShown (views.Words keys numbers) lines text = text ≡ lines_words keys numbers lines
-IsShown views.Summary lines text = IsSummary lines text
-IsShown views.Json lines text = text ≡ json_text lines
-IsShown views.Events lines text = AreEvents lines text
-IsShown views.Page lines text = IsHtmlPage lines text
+-- the text shows this of the lines of the file at this path
+abbrev pub IsShown : List ℕ → View → List Line → List ℕ → Type 0
+IsShown path (views.Picture first count fit) lines text = IsPicture text
+IsShown path (views.Words keys numbers) lines text = text ≡ lines_words keys numbers lines
+IsShown path views.Summary lines text = IsSummary lines text
+IsShown path views.Json lines text = text ≡ json_text lines
+IsShown path views.Events lines text = AreEvents lines text
+IsShown path views.Page lines text = IsHtmlPage path lines text
+IsShown path views.Check lines text = AreFollowing lines × (text ≡ follows_text lines)
 
--- the text shows this of the lines whose text the bytes are
-pub record ShowsText (view : View) (bytes text : List ℕ) : Type 0 where
+-- the text shows this of the lines whose text the bytes are, of the file at this path
+pub record ShowsText (path : List ℕ) (view : View) (bytes text : List ℕ) : Type 0 where
   pub lines : List Line
   pub are : AreLines lines bytes
-  pub shown : IsShown view lines text
+  pub shown : IsShown path view lines text
 
--- the bytes are refused with this fault: by their first line that is none; or memory was refused
-abbrev pub RefusesText : List ℕ → Fault → Type 0
-RefusesText bytes (faults.Line number wanted) = IsFirstWrong number bytes
-RefusesText bytes faults.Memory = Unit {0}
-RefusesText bytes (faults.File why) = ⊥
-RefusesText bytes faults.Output = ⊥
+-- a picture that isn't to fit
+abbrev pub IsWhole : View → Type 0
+IsWhole (views.Picture first count fit) = fit ≡ false
+IsWhole view = ⊥
+
+-- lines are refused with this fault: in a check by the first that doesn't follow from those before it; where all are to
+-- be drawn, as they are too many; or memory was refused
+abbrev pub RefusesLines : View → List Line → Fault → Type 0
+RefusesLines view lines (faults.Stray stray) = (view ≡ views.Check) × IsFirstStray stray.number stray.wrong lines
+RefusesLines view lines faults.Large = IsWhole view
+RefusesLines view lines faults.Memory = Unit {0}
+RefusesLines view lines (faults.Line number wanted) = ⊥
+RefusesLines view lines (faults.File why) = ⊥
+RefusesLines view lines faults.Output = ⊥
+
+-- the bytes are refused with this fault: by their first line that is none; or the lines whose text they are
+abbrev pub RefusesText : View → List ℕ → Fault → Type 0
+RefusesText view bytes (faults.Line number wanted) = IsFirstWrong number bytes
+RefusesText view bytes (faults.Stray stray) = (lines : List Line) × AreLines lines bytes × RefusesLines view lines (faults.Stray stray)
+RefusesText view bytes faults.Large = IsWhole view
+RefusesText view bytes faults.Memory = Unit {0}
+RefusesText view bytes (faults.File why) = ⊥
+RefusesText view bytes faults.Output = ⊥
 
 -- the bytes were read of the file at this path: what is left of an input where it is named by a dash; of a file nothing more is said
 abbrev pub IsFileAt : List ℕ → Option (List ℕ) → List ℕ → Type 0

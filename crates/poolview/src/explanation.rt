@@ -1,5 +1,5 @@
 //! Where a fault is, and what stands there, in words.
-ghost use Rattle.std.specs.Prelude.{◌≡◌};
+ghost use Rattle.std.specs.Prelude.{◌≡◌, ◌≤◌, length};
 ghost use Rattle.streams.specs.Saying.{Says};
 ghost use Rattle.streams.specs.Shown.{IsSafeLine};
 ghost use Rattle.poolview.specs.Faults.{wrong_line_text, wrong_file_text, explanation_text, refusal_text};
@@ -9,19 +9,25 @@ use itoa::Buffer;
 use std::io::Write;
 use streams::{Unreadable, Watched, line_at, write_bytes, write_cut, write_text};
 
-/// Writes what stands in the line of this number, and that it is none.
-fn explain_line<E: Write>(number: usize, bytes: &[u8], errors: &mut Watched<E>)
-    ensures says { Says E.contents errors.old errors.new (wrong_line_text number bytes.now) }
-    ensures safe { IsSafeLine (wrong_line_text number bytes.now) }
+/// What is said of a line that is none.
+const NO_LINE: &[u8] =
+    b"\" is no line of a trace: LANE = REPLY, LANE KIND PLACE BEFORE AFTER, or LANE PUSH (or TAKE) SHARD.LANE BEFORE AFTER";
+
+/// What is said of a line whose step doesn't follow.
+const NO_STEP: &[u8] =
+    b"\": a step finds what the last one on its word left (at first 4294967296 in a lifecycle word, else 0), and leaves what its kind makes of that";
+
+/// Writes what stands in the line of this number, and this behind it.
+fn explain_line<E: Write>(number: usize, what: &[u8], bytes: &[u8], errors: &mut Watched<E>)
+    requires { length what.now ≤ 200 }
+    ensures says { Says E.contents errors.old errors.new (wrong_line_text what.now number bytes.now) }
+    ensures safe { IsSafeLine (wrong_line_text what.now number bytes.now) }
 {
     write_bytes(b"line ", errors);
     write_bytes(Buffer::new().format(number).as_bytes(), errors);
     write_bytes(b": \"", errors);
     write_cut(line_at(bytes, number.saturating_sub(1)), errors);
-    write_bytes(
-        b"\" is no line of a trace: LANE = REPLY, LANE KIND PLACE BEFORE AFTER, or LANE PUSH (or TAKE) SHARD.LANE BEFORE AFTER",
-        errors,
-    );
+    write_bytes(what, errors);
     write_text(b"\n", errors);
 }
 
@@ -43,8 +49,9 @@ fn explain<E: Write>(fault: Fault, path: &str, bytes: &[u8], errors: &mut Watche
 {
     match fault {
         Fault::File(why) => explain_file(path, why, errors),
-        Fault::Output | Fault::Memory => {}
-        Fault::Line { number, wanted: _ } => explain_line(number, bytes, errors),
+        Fault::Output | Fault::Memory | Fault::Large => {}
+        Fault::Line { number, wanted: _ } => explain_line(number, NO_LINE, bytes, errors),
+        Fault::Stray(stray) => explain_line(stray.number, NO_STEP, bytes, errors),
     }
 }
 

@@ -1,14 +1,14 @@
 //! Why a trace isn't shown.
 ghost use Rattle.std.specs.Prelude.{◌≡◌, codes};
 ghost use Rattle.streams.specs.Saying.{Says};
-ghost use Rattle.poolview.specs.Faults.{fault_text, unread_fault};
+ghost use Rattle.poolview.specs.Faults.{fault_text, stray_text, unread_fault, wrong_text};
 ghost use Rattle.poolview.specs.declared.fault.Fault.TheVariants as faults;
 
 use itoa::Buffer;
 use std::alloc::AllocError;
 use std::io::Write;
 use streams::{Unread, Unreadable, Watched, WriteFailed, write_text};
-use traceviews::{ReadFault, Wanted};
+use traceviews::{ReadFault, Stray, Wanted, Wrong};
 
 /// Why a trace isn't shown.
 #[derive(Clone, Copy)]
@@ -21,6 +21,10 @@ pub(crate) enum Fault {
     Memory,
     /// The line of this number, counted from 1, is the first that is none.
     Line { number: usize, wanted: Wanted },
+    /// This step doesn't follow from those before it.
+    Stray(Stray),
+    /// The picture that is asked for is larger than viewers open.
+    Large,
 }
 
 impl From<Unread> for Fault {
@@ -61,6 +65,30 @@ fn write_line<E: Write>(number: usize, wanted: Wanted, errors: &mut Watched<E>)
     write_text(b" is wanted\n", errors);
 }
 
+/// Writes why a step doesn't follow.
+fn write_wrong<E: Write>(wrong: Wrong, errors: &mut Watched<E>)
+    ensures { Says E.contents errors.old errors.new (wrong_text wrong) }
+{
+    match wrong {
+        Wrong::Before { had } => {
+            write_text(b"before it its word is ", errors);
+            write_text(Buffer::new().format(had).as_bytes(), errors);
+        }
+        Wrong::After => write_text(b"such a step leaves another word", errors),
+    }
+}
+
+/// Writes which line's step doesn't follow, and why.
+fn write_stray<E: Write>(stray: Stray, errors: &mut Watched<E>)
+    ensures { Says E.contents errors.old errors.new (stray_text stray) }
+{
+    write_text(b"line ", errors);
+    write_text(Buffer::new().format(stray.number).as_bytes(), errors);
+    write_text(b": ", errors);
+    write_wrong(stray.wrong, errors);
+    write_text(b"\n", errors);
+}
+
 /// Writes the line of a fault.
 pub(crate) fn write_fault<E: Write>(fault: Fault, errors: &mut Watched<E>)
     ensures { Says E.contents errors.old errors.new (fault_text fault) }
@@ -70,5 +98,10 @@ pub(crate) fn write_fault<E: Write>(fault: Fault, errors: &mut Watched<E>)
         Fault::Output => write_text(b"fault 42 Output\n", errors),
         Fault::Memory => write_text(b"fault 43 Memory\n", errors),
         Fault::Line { number, wanted } => write_line(number, wanted, errors),
+        Fault::Stray(stray) => write_stray(stray, errors),
+        Fault::Large => write_text(
+            b"the picture needs more than 32767 pixels, which no viewer opens: leave out --whole, or give --turns\n",
+            errors,
+        ),
     }
 }

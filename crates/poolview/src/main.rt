@@ -1,5 +1,5 @@
 //! The program: it shows a trace that `poolrun replay` printed, as a picture, by its lines with their words
-//! decoded, in sum, as JSON, as trace events, or as a page.
+//! decoded, in sum, as JSON, as trace events, or as a page; or says whether its steps follow from one another.
 //! What it shows, writes and ends with is `view_trace`'s, over any input and writers: here are the streams.
 #![tactic(auto)]
 

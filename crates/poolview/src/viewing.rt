@@ -7,7 +7,7 @@ ghost use Rattle.poolview.specs.Endings.{EndsBytes, EndsView, EndsProgram};
 use crate::explanation::write_refusal;
 use crate::fault::Fault;
 use crate::showing::text_shown;
-use commandline::{View, ViewRequest, Viewing, end_by_words, read_args, read_viewing};
+use commandline::{ViewRequest, Viewing, end_by_words, read_args, read_viewing};
 use std::alloc::Global;
 use std::env::{Args, Env};
 use std::fs::Files;
@@ -19,16 +19,16 @@ use streams::{Watched, read_path, write_and_flush};
 /// `Output` comes exactly where `out` failed.
 fn show<O: Write>(
     alloc: Global,
-    view: View,
+    viewing: &Viewing,
     bytes: &[u8],
     out: &mut Watched<O>,
 ) -> Result<(), Fault>
     requires { out.old.failed ≡ false }
-    ensures ok { OnOk result ((text : List ℕ) × ShowsText view bytes.now text × Appends (O.contents out.old.inner) (O.contents out.new.inner) text) }
+    ensures ok { OnOk result ((text : List ℕ) × ShowsText viewing.now.file.now viewing.now.view bytes.now text × Appends (O.contents out.old.inner) (O.contents out.new.inner) text) }
     ensures output { IsErrOf result Fault.Output ↔ (out.new.failed ≡ true) }
-    ensures refused { IfErr result (λ fault. fault ≢ Fault.Output → (out.new ≡ out.old) × RefusesText bytes.now fault) }
+    ensures refused { IfErr result (λ fault. fault ≢ Fault.Output → (out.new ≡ out.old) × RefusesText viewing.now.view bytes.now fault) }
 {
-    let text = text_shown(alloc, view, bytes)?;
+    let text = text_shown(alloc, viewing, bytes)?;
     write_and_flush(text.as_slice(), out)?;
     Ok(())
 }
@@ -45,7 +45,7 @@ fn end_by_bytes<O: Write, E: Write>(
     requires { out.old.failed ≡ false }
     ensures { EndsBytes O.contents E.contents explain viewing.now bytes.now out.old out.new errors.old errors.new result }
 {
-    match show(alloc, viewing.view, bytes, out) {
+    match show(alloc, viewing, bytes, out) {
         Ok(()) => 0,
         Err(fault) => {
             write_refusal(fault, explain, viewing.file, bytes, errors);

@@ -1,7 +1,7 @@
 -- What a reading answers, against what there is to read.
 use Rattle.std.specs.Prelude.{◌≡◌, ◌≢◌, ◌<◌, ◌⊎◌, List, ℕ, length, IsUtf8, Some, Result, Ok, Err}
 use Rattle.keybits.specs.declared.shape.Shape.{Shape}
-use Rattle.keybits.specs.Shapes.{IsShape}
+use Rattle.keybits.specs.Shapes.{IsNarrow}
 use Rattle.keybits.specs.declared.shape.ShapeFault.{ShapeFault}
 use Rattle.keybits.specs.ShapeFaults.{IsFirstFault}
 use Rattle.serde_json.specs.Data.{Data}
@@ -33,7 +33,7 @@ Reads there (Err refused) = Refuses there refused
 pub record IsPlanOf (d : Data) (plan : Plan) : Type 0 where
   pub items : List Data
   pub file : file_of d ≡ Ok (plan.shape, items)
-  pub shape : IsShape plan.shape
+  pub shape : IsNarrow plan.shape
   pub scripts : scripts_of plan.shape.lanes items ≡ Ok plan.scripts
   pub lanes : length plan.scripts ≡ plan.shape.lanes
 
@@ -51,7 +51,7 @@ pub record HasScriptsFault (d : Data) (refused : ScriptRefusal) : Type 0 where
   pub shape : Shape
   pub items : List Data
   pub file : file_of d ≡ Ok (shape, items)
-  pub checked : IsShape shape
+  pub checked : IsNarrow shape
   pub scripts : scripts_of shape.lanes items ≡ Err refused
 
 -- the first fault of a script file's value, with its place: of its fields and numbers, or of its shape, or of its scripts

@@ -5,8 +5,9 @@ use Rattle.std.proofs.lemmas.Bool.{cases_order}
 use Rattle.keybits.specs.declared.shape.Shape.{Shape}
 use Rattle.keybits.specs.declared.shape.ShapeFault.{ShapeFault}
 use Rattle.keybits.specs.declared.shape.ShapeFault.TheVariants as shapes
-use Rattle.keybits.specs.Shapes.{IsShape}
-use Rattle.keybits.specs.ShapeFaults.{shape_fault_number, IsWithin, IsFirstFault}
+use Rattle.keybits.specs.Shapes.{IsNarrow}
+use Rattle.keybits.specs.ShapeFaults.{shape_fault_number, IsFirstFault}
+use Rattle.keybits.proofs.FaultLemmas.{narrow_each}
 use Rattle.seqpool.specs.declared.act.Act.{Act}
 use Rattle.seqpool.specs.ActsText.{act_line, act_text, shape_line, HasLine, IsShapeText, AreNumbers, IsUpToLineFeed, BeginsWith, StandsFor, HasShapeFault, StandsForNothing}
 use Rattle.seqpool.specs.ReadTexts.{NothingHas, IsAct, AreActs, IsShapeOf, IsFirstLine}
@@ -108,7 +109,7 @@ begins bytes line rest z first shape = record {
 }
 
 -- the text stands for the shape of its first line and the acts of the others
-pub stands : (bytes line rest : List ℕ) (z : Shape) (acts : List Act) → IsFirstLine line rest bytes → IsShapeOf z line → IsShape z
+pub stands : (bytes line rest : List ℕ) (z : Shape) (acts : List Act) → IsFirstLine line rest bytes → IsShapeOf z line → IsNarrow z
     → AreActs acts rest → StandsFor bytes z acts
 stands bytes line rest z acts first shape checked are = record {
   checked = checked;
@@ -173,16 +174,9 @@ head-split bytes line rest z more first head =
     let (lines, goes) = first-split line rest bytes head.line more first (shape-Without z head.line head.shape) head.text in
     (subst (λ (xs : List ℕ). IsShapeOf z xs) (sym lines) head.shape, goes)
 
--- a checked shape has no fault
-checked-within : (z : Shape) (fault : ShapeFault) → IsShape z → IsWithin z fault
-checked-within z shapes.Lanes checked = checked.lanes
-checked-within z shapes.FirstPage checked = checked.first_page
-checked-within z shapes.Pages checked = checked.pages
-checked-within z shapes.Generation checked = checked.generations
-checked-within z shapes.Tag checked = checked.tag
-
-no-fault : (z : Shape) (fault : ShapeFault) → IsShape z → IsFirstFault z fault → ⊥
-no-fault z fault checked first = first.0 (checked-within z fault checked)
+-- a shape within the narrow limits has no fault
+no-fault : (z : Shape) (fault : ShapeFault) → IsNarrow z → IsFirstFault z fault → ⊥
+no-fault z fault checked first = first.0 ((narrow_each z).1 checked fault)
 
 fault_at : ℕ → ShapeFault
 fault_at n =
@@ -205,9 +199,9 @@ one-fault z f g one two = elim (cases_order (shape_fault_number f) (shape_fault_
   | inr (inr above) ↦ absurd (two.0 (one.1 g above))
 ]
 
-pub refused-shape : (bytes : List ℕ) (y : Shape) (fault : ShapeFault) → BeginsWith bytes y → IsShape y → HasShapeFault bytes fault → ⊥
+pub refused-shape : (bytes : List ℕ) (y : Shape) (fault : ShapeFault) → BeginsWith bytes y → IsNarrow y → HasShapeFault bytes fault → ⊥
 refused-shape bytes y fault begun checked (z, other, first) =
-    no-fault z fault (subst (λ (x : Shape). IsShape x) (begins-same bytes y z begun other) checked) first
+    no-fault z fault (subst (λ (x : Shape). IsNarrow x) (begins-same bytes y z begun other) checked) first
 
 -- the first line is none of a shape
 pub no-begin : (bytes line rest : List ℕ) → IsFirstLine line rest bytes → NothingHas IsShapeOf line → (z : Shape) → BeginsWith bytes z → ⊥
@@ -220,7 +214,7 @@ no-shape bytes line rest first never = record {
 }
 
 -- the other lines are none of acts
-pub no-acts : (bytes line rest : List ℕ) (y : Shape) → IsFirstLine line rest bytes → IsShapeOf y line → IsShape y → NothingHas AreActs rest
+pub no-acts : (bytes line rest : List ℕ) (y : Shape) → IsFirstLine line rest bytes → IsShapeOf y line → IsNarrow y → NothingHas AreActs rest
     → StandsForNothing bytes
 no-acts bytes line rest y first shape checked never = record {
   no_acts = λ z acts there.

@@ -5,7 +5,7 @@ use Rattle.std.specs.Result.{MatchResult}
 use Rattle.std.proofs.lemmas.List.{flat_map_more}
 use Rattle.keybits.specs.declared.shape.Shape.{Shape}
 use Rattle.keybits.specs.declared.shape.ShapeFault.{ShapeFault}
-use Rattle.keybits.specs.Shapes.{IsShape}
+use Rattle.keybits.specs.Shapes.{IsNarrow}
 use Rattle.keybits.specs.ShapeFaults.{IsFirstFault}
 use Rattle.seqpool.specs.declared.act.Act.{Act}
 use Rattle.seqpool.specs.declared.acts_fault.ActsFault.{ActsFault}
@@ -91,7 +91,7 @@ pub refuses-fault : (bytes line rest : List ℕ) (z : Shape) (fault : ShapeFault
 refuses-fault bytes line rest z fault first shape found = ((z, begins bytes line rest z first shape, found), refl)
 
 -- a line behind that of the shape is none of an act
-wrong-act : (bytes line rest : List ℕ) (z : Shape) (acts : List Act) → IsFirstLine line rest bytes → IsShapeOf z line → IsShape z
+wrong-act : (bytes line rest : List ℕ) (z : Shape) (acts : List Act) → IsFirstLine line rest bytes → IsShapeOf z line → IsNarrow z
     → IsWrongBehind acts rest → IsWrongAct bytes (length acts + 2)
 wrong-act bytes line rest z acts first shape checked wrong = record {
   shape = z;
@@ -114,7 +114,7 @@ wrong-act bytes line rest z acts first shape checked wrong = record {
         absurd (omega (arith, wrong.some, length-append (flat_map act_text acts) wrong.behind))
 
 -- the acts' lines are refused
-pub refuses-acts : (bytes line rest : List ℕ) (z : Shape) (refused : ActsRefusal) → IsFirstLine line rest bytes → IsShapeOf z line → IsShape z
+pub refuses-acts : (bytes line rest : List ℕ) (z : Shape) (refused : ActsRefusal) → IsFirstLine line rest bytes → IsShapeOf z line → IsNarrow z
     → RefusesLines rest refused → RefusesText bytes refused
 refuses-acts bytes line rest z refused first shape checked h = ⊎_elim
     (λ (memory : refused ≡ out_of_memory). subst (RefusesText bytes) (sym memory) ((z, begins bytes line rest z first shape, checked), refl))

@@ -2,7 +2,7 @@
 use Rattle.std.specs.Prelude.{◌≡◌, ◌⊎◌, ℕ, ◌+◌, ◌<◌, List, ◌++◌, length, flat_map}
 use Rattle.std.specs.List.{AllByRecursion}
 use Rattle.keybits.specs.declared.shape.Shape.{Shape}
-use Rattle.keybits.specs.Shapes.{IsShape}
+use Rattle.keybits.specs.Shapes.{IsNarrow}
 use Rattle.seqpool.specs.declared.act.Act.{Act}
 use Rattle.seqpool.specs.declared.acts_fault.ActsFault.{ActsFault}
 use Rattle.seqpool.specs.declared.acts_fault.ActsFault.TheVariants as faults
@@ -31,10 +31,10 @@ pub record IsWrongBehind (acts : List Act) (text : List ℕ) : Type 0 where
   pub first : IsFirstLine line rest behind
   pub wrong : NothingHas IsAct line
 
--- the line of this number is none of an act, and those before it are that of a checked shape, which is line 1, and those of acts
+-- the line of this number is none of an act, and those before it are that of a shape within the narrow limits, which is line 1, and those of acts
 pub record IsWrongAct (bytes : List ℕ) (number : ℕ) : Type 0 where
   pub shape : Shape
-  pub checked : IsShape shape
+  pub checked : IsNarrow shape
   pub numbers : AreNumbers shape
   pub first : List ℕ
   pub first_line : IsShapeText shape first

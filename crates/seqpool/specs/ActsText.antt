@@ -7,7 +7,7 @@ use Rattle.seqpool.specs.declared.act.Act.{Act}
 use Rattle.seqpool.specs.declared.act.Act.TheVariants.{Publish, Get, Release, Clear, Reclaim, Home, Collect}
 use Rattle.keybits.specs.declared.place.TheConstants.{GREATEST_PLACE}
 use Rattle.keybits.specs.declared.shape.ShapeFault.{ShapeFault}
-use Rattle.keybits.specs.Shapes.{IsShape}
+use Rattle.keybits.specs.Shapes.{IsNarrow}
 use Rattle.keybits.specs.ShapeFaults.{IsFirstFault}
 
 -- a hexadecimal digit, in lower case
@@ -134,9 +134,9 @@ pub record BeginsWith (bytes : List ℕ) (z : Shape) : Type 0 where
   pub rest : List ℕ
   pub text : IsUpToLineFeed bytes (first ++ rest)
 
--- the bytes stand for a checked shape and some acts
+-- the bytes stand for a shape within the narrow limits and some acts
 pub record StandsFor (bytes : List ℕ) (z : Shape) (acts : List Act) : Type 0 where
-  pub checked : IsShape z
+  pub checked : IsNarrow z
   pub numbers : AreNumbers z
   pub lines : AllByRecursion HasLine acts
   pub first : List ℕ
@@ -147,9 +147,9 @@ pub record StandsFor (bytes : List ℕ) (z : Shape) (acts : List Act) : Type 0 w
 abbrev pub HasShapeFault : List ℕ → ShapeFault → Type 0
 HasShapeFault bytes fault = (z : Shape) × BeginsWith bytes z × IsFirstFault z fault
 
--- the first line is that of a checked shape
+-- the first line is that of a shape within the narrow limits
 abbrev pub HasShape : List ℕ → Type 0
-HasShape bytes = (z : Shape) × BeginsWith bytes z × IsShape z
+HasShape bytes = (z : Shape) × BeginsWith bytes z × IsNarrow z
 
 -- neither a shape with acts, nor a shape that is refused
 pub record StandsForNothing (bytes : List ℕ) : Type 0 where

@@ -1,7 +1,7 @@
 //! The checker: whether a list of acts is a legal history, and its counts.
 
 ghost use Rattle.std.specs.Prelude.{◌≡◌, ◌≢◌, ◌↔◌, ℕ, IfOk, IsErrOf, count_by};
-ghost use Rattle.keybits.specs.Shapes.{IsShape};
+ghost use Rattle.keybits.specs.Shapes.{IsNarrow};
 ghost use Rattle.seqpool.specs.declared.fault.ApplyFault.{ApplyFault};
 ghost use Rattle.seqpool.specs.declared.fault.ApplyFault.TheVariants as faults;
 ghost use Rattle.seqpool.specs.declared.fault.CheckFault.TheVariants.{Illegal};
@@ -17,12 +17,12 @@ use crate::summary::{Group, Summary};
 use keybits::Shape;
 use std::alloc::Global;
 
-/// Whether a list of acts is a legal history of a pool of a checked shape, with its counts.
+/// Whether a list of acts is a legal history of a pool of a shape of the narrow limits, with its counts.
 ///
 /// `Illegal` names the first act that is refused, counted from 0, and the refusal of `SeqPool::apply`. `Memory` comes
 /// where a growth was refused.
 pub fn check(alloc: Global, shape: Shape, acts: &[Act]) -> Result<Summary, CheckFault>
-    requires { IsShape shape }
+    requires { IsNarrow shape }
     ensures legal { IfOk result (λ summary. IsLegal shape acts.now) }
     ensures laws { IfOk result (λ summary. HasLaws shape acts.now) }
     ensures counts { IfOk result (λ summary. IsSummary shape acts.now summary) }
@@ -46,7 +46,7 @@ pub fn check(alloc: Global, shape: Shape, acts: &[Act]) -> Result<Summary, Check
 
 /// The pool after a legal history.
 fn pool_of(alloc: Global, shape: Shape, acts: &[Act]) -> Result<SeqPool, CheckFault>
-    requires { IsShape shape }
+    requires { IsNarrow shape }
     ensures legal { IfOk result (λ pool. IsLegal shape acts.now) }
     ensures shape { IfOk result (λ pool. pool.shape ≡ shape) }
     ensures pool { IfOk result (λ pool. pool_in pool ≡ pool_after shape acts.now) }

@@ -1,6 +1,7 @@
 //! The pool of one thread, to which acts are applied.
-ghost use Rattle.std.specs.Prelude.{◌≡◌, vec_len};
-ghost use Rattle.keybits.specs.Shapes.{IsShape, all_places};
+ghost use Rattle.std.specs.Prelude.{◌≡◌, ◌≤◌, vec_len};
+ghost use Rattle.keybits.specs.Shapes.{IsShape, IsNarrow, all_places};
+ghost use Rattle.keybits.specs.declared.shape.TheConstants.{NARROW_LANES};
 ghost use Rattle.keybits.specs.SameShapes.{IsShape-prop};
 ghost use Rattle.seqpool.specs.Pool.{has};
 
@@ -21,6 +22,7 @@ pub struct SeqPool {
     rows: Vec<Row>,
 
     ghost checked: { IsShape shape } by { IsShape-prop shape },
+    ghost narrow: { shape.lanes ≤ NARROW_LANES },
     ghost whole: { vec_len rows ≡ all_places shape },
 }
 
@@ -33,10 +35,10 @@ impl SeqPool {
     ghost use Rattle.seqpool.specs.Refusals.{Wrong, Refused, Adds};
     ghost use Rattle.seqpool.specs.Rows.{pool_in, spot_of, phase_of, with_spot, gained_spot, lost_spot, marked_spot, IsPlaceOf, IsHomeFor, Answers};
 
-    /// The pool of a checked shape before any act: each place is with the lane of its shard, and its next
+    /// The pool of a shape of the narrow limits before any act: each place is with the lane of its shard, and its next
     /// generation is 1.
     pub fn new(alloc: Global, shape: Shape) -> Result<SeqPool, Memory>
-        requires { IsShape shape }
+        requires { IsNarrow shape }
         ensures shape { IfOk result (λ pool. pool.shape ≡ shape) }
         ensures fresh { IfOk result (λ pool. pool_in pool ≡ fresh) }
     {

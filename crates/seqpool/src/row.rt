@@ -3,12 +3,12 @@ ghost use Rattle.std.specs.Prelude.{◌≡◌, ℕ, length, slice_index};
 
 use crate::contents::Bytes;
 use crate::tally::Tally;
-use keybits::MOST_LANES;
+use keybits::NARROW_LANES;
 use std::alloc::{AllocError, Global};
 use std::array;
 
 /// How many lanes a row counts the references of.
-const LANES: usize = MOST_LANES as usize;
+const LANES: usize = NARROW_LANES as usize;
 
 /// Where a place stands.
 #[derive(Drop)]
@@ -46,7 +46,7 @@ impl Standing {
         lane: u32,
         with_ref: bool,
     ) -> Result<Standing, AllocError>
-        requires { lane < MOST_LANES }
+        requires { lane < NARROW_LANES }
         ensures ok { IfOk result (λ standing. phase_of standing ≡ published content (put (λ _. 0) lane (if with_ref then 1 else 0)) false) }
         ensures err { OnErr result (with_ref ≡ true) }
     {
@@ -147,7 +147,7 @@ impl Row {
 
     /// How many references to the place's key the lane has.
     pub(crate) fn references(&self, lane: u32) -> usize
-        requires { lane < MOST_LANES }
+        requires { lane < NARROW_LANES }
         ensures { result ≡ references_in (phase_of self.now.standing) lane }
     {
         match &self.standing {
@@ -158,7 +158,7 @@ impl Row {
 
     /// One reference more of the lane.
     pub(crate) fn gain(&mut self, lane: u32) -> Result<(), AllocError>
-        requires { lane < MOST_LANES }
+        requires { lane < NARROW_LANES }
         ensures ok { OnOk result (spot_of self.new ≡ spot self.old.generation (gained lane (phase_of self.old.standing))) }
         ensures err { OnErr result (self.new ≡ self.old) }
     {
@@ -170,7 +170,7 @@ impl Row {
 
     /// One reference less of the lane, which has one.
     pub(crate) fn lose(&mut self, lane: u32)
-        requires lane { lane < MOST_LANES }
+        requires lane { lane < NARROW_LANES }
         requires held { 0 < references_in (phase_of self.old.standing) lane }
         ensures { spot_of self.new ≡ spot self.old.generation (lost lane (phase_of self.old.standing)) }
     {

@@ -8,4 +8,5 @@ pub mod BlankPlaces
 pub mod LaneFacts
 pub mod SeenHistories
 pub mod Looks
+pub mod Tellings
 pub mod OneLane

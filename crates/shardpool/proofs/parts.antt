@@ -7,7 +7,6 @@ pub mod Calling
 pub mod Standing
 pub mod AtOnce
 pub mod Moves
-pub mod Spreads
 pub mod Going
 pub mod Following
 pub mod Keying

@@ -1,11 +1,11 @@
 -- What moves of one place's shares leave of a lane's view.
-use Rattle.std.specs.Prelude.{◌≡◌, ◌≢◌, ◌⊎◌, ℕ, ◌+◌, ◌-◌, ◌*◌, ◌<◌, ◌≤◌, List, []}
+use Rattle.std.specs.Prelude.{◌≡◌, ◌≢◌, ℕ, ◌+◌, ◌<◌, List, []}
 use Rattle.atomic_table.specs.Table.{Me}
 use Rattle.poolsteps.specs.Spot.{Spot as CellSpot}
 use Rattle.poolsteps.specs.Whole.{Whole}
 use Rattle.keybits.specs.declared.shape.Shape.{Shape}
 use Rattle.poolsteps.specs.declared.view.Stored.{Stored}
-use Rattle.poolsteps.specs.declared.view.Status.TheVariants.{Untouched, Emptied}
+use Rattle.poolsteps.specs.declared.view.Status.TheVariants.{Emptied}
 use Rattle.poolsteps.specs.Shares.{at_rest}
 use Rattle.poolsteps.specs.declared.view.LaneRecord.{LaneRecord}
 use Rattle.poolsteps.specs.declared.view.View.{View}
@@ -29,16 +29,6 @@ pub record Carries {S : Type 0} (z : Shape) (place looks : ℕ) (before after : 
   pub held : after.1 ≡ before.1
   pub steps : after.0.steps ≡ before.0.steps
   pub looked : after.0.looks ≡ before.0.looks + looks
-
--- so it is, or by no look the lane did nothing
-abbrev pub MayCarry : {S : Type 0} → Shape → ℕ → ℕ → Me S View → Me S View → Type 0
-MayCarry z place looks before after = ((looks ≡ 0) × (after ≡ before)) ⊎ Carries z place looks before after
-
--- the lane put the shares of the place from one number up to another into its slots
-pub record Spreads {S : Type 0} (z : Shape) (place from to : ℕ) (before after : Me S View) : Type 0 where
-  pub carries : MayCarry z place (2 * (to - from)) before after
-  pub filled : (number : ℕ) → from ≤ number → number < to → status_of (the_lane after.0) place number ≡ Untouched
-  pub others : (number : ℕ) → (number < from) ⊎ (to ≤ number) → status_of (the_lane after.0) place number ≡ status_of (the_lane before.0) place number
 
 -- the lane emptied each slot of the place
 abbrev pub AreEmptied : Shape → LaneRecord → ℕ → Type 0

@@ -42,7 +42,7 @@ pub record Created (made : List Act) (old new : LaneOf) : Type 0 where
   pub held : (key : ℕ) → holds new key ≡ holds old key
   pub idle : IsIdle new.book
   pub stepped : new.book.steps ≡ old.book.steps + length steps
-  pub few : length steps ≤ most_create_steps
+  pub few : length steps ≤ most_create_steps old.shape
   pub looked : new.book.looks ≤ old.book.looks + most_looks
 
 -- the slots of a page of a shard, from this one on, so many

@@ -19,7 +19,7 @@ use Rattle.poolsteps.specs.Moved.{stored_of}
 use Rattle.poolsteps.specs.Returned.{rest_of}
 use Rattle.poolsteps.specs.Layout.{slot_start, slot_row, shard_start}
 use Rattle.poolsteps.specs.Objects.{ObjectsOf}
-use Rattle.shardpool.specs.declared.pool.HeldKey.{HeldKey}
+use Rattle.shardpool.specs.HeldKeys.{HeldKey}
 use Rattle.shardpool.specs.declared.pool.LaneState.{LaneState}
 use Rattle.shardpool.specs.Rows.{AreStanding}
 use Rattle.shardpool.specs.Places.{IsBlank, IsResting, held_after, left_with}

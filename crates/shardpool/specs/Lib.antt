@@ -9,6 +9,7 @@ pub mod Halted
 pub mod Tokens
 pub mod Places
 pub mod Remains
+pub mod HeldKeys
 pub mod Rows
 pub mod LaneStates
 pub mod Lanes

@@ -6,7 +6,7 @@ use Rattle.keybits.specs.declared.shape.Shape.{Shape}
 use Rattle.keybits.specs.Shapes.{IsShape}
 use Rattle.keybits.specs.Keys.{place_of}
 use Rattle.poolsteps.specs.Layout.{slot_start}
-use Rattle.shardpool.specs.declared.pool.HeldKey.{HeldKey}
+use Rattle.shardpool.specs.HeldKeys.{HeldKey}
 
 -- the share of a row is of the cell whose word has the row's number
 abbrev pub AreStanding : {T : Type 0} → Ptr → List (HeldKey T) → Type 0
@@ -14,7 +14,7 @@ AreStanding {T} directory rows = (at : ℕ) (row : HeldKey T) (s : Share T) → 
 
 -- the number that tells where the places of a pool stand: how large the first page of a shard is, and how many pages it has
 abbrev pub pages_code : Shape → ℕ
-pages_code z = 8 * z.first_page + z.pages
+pages_code z = 32 * z.first_page + z.pages
 
 -- in each pool with this number the key's place stands here
 abbrev pub StandsIn : ℕ → ℕ → ℕ → Type 0

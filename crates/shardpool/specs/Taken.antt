@@ -53,7 +53,7 @@ pub record Collects {S : Type 0} (z : Shape) (opened found : ℕ) (before after 
   pub are : AreSteps (caller_of z before.0) (Creating [] [] opened) [] steps
   pub next : next_step (caller_of z before.0) (Creating [] [] opened) steps ≡ follow_aim (the_lane before.0).lane found
   pub make : Make z (caller_of z before.0) (Creating [] [] opened) steps made
-  pub few : length steps ≤ most_takes
+  pub few : length steps ≤ most_takes z
   pub went : Went z made before.0 after.0
   pub held : after.1 ≡ before.1
   pub stepped : after.0.steps ≡ before.0.steps + length steps

@@ -7,8 +7,7 @@ ghost use Rattle.poolsteps.specs.Views.{the_lane, known_of, status_of, IsOne};
 ghost use Rattle.poolsteps.specs.Grids.{IsSpot, IsOf, SameSeat};
 ghost use Rattle.poolsteps.specs.Told.{HasPlace, LeftAlone, MayRenew};
 ghost use Rattle.poolsteps.specs.Moved.{stored_of};
-ghost use Rattle.shardpool.specs.Carried.{Carries, MayCarry, Spreads, AreEmptied, AreAtRest, ShowsCell};
-ghost use Rattle.poolsteps.specs.Rest.{lowest_share};
+ghost use Rattle.shardpool.specs.Carried.{Carries, AreEmptied, AreAtRest, ShowsCell};
 
 use poolsteps::{Grid, Hand, Rest, Share, Spot, Whole, shares_law};
 use slotcell::Clear;
@@ -86,39 +85,8 @@ pub(crate) fn spread_cell<T: Clear + Drop>(
     grid.back_all(hand, spot, lane, whole.lend(grid.shape.lanes as usize));
 }
 
-/// Puts the shares of a rest from its lowest number up to another into the slots of their place, which the lane has
-/// emptied. The last share stays with the rest.
-fn put_shares<T: Clear>(
-    grid: &Grid<T>,
-    hand: &mut Hand<T>,
-    spot: Spot,
-    lane: u32,
-    rest: &mut Rest<T>,
-    from: u32,
-    to: u32,
-)
-    requires hand { IsOf grid.now hand.old × IsOne hand.old.me.0 }
-    requires spot { IsSpot grid.now.shape spot spot.place }
-    requires lane { lane < grid.now.shape.lanes }
-    requires place { HasPlace grid.now.shape hand.old.me.0 spot.place }
-    requires numbers { (from ≤ to) × (to < grid.now.shape.lanes) }
-    requires rest { (rest.old.number ≡ from) × (rest.old.of ≡ grid.now.shape.lanes) × (rest.old.spot ≡ spots_at grid.now.objects.ptr grid.now.shape spot.place) }
-    requires slots { (number : ℕ) → from ≤ number → number < to → status_of (the_lane hand.old.me.0) spot.place number ≡ Emptied }
-    requires cell { MayRenew grid.now.shape hand.old.me.0 spot.place (stored_of T.content T.room (lowest_share rest.old)) }
-    ensures hand { SameSeat hand.old hand.new }
-    ensures spreads { Spreads grid.now.shape spot.place from to hand.old.me hand.new.me }
-    ensures rest { rest.new ≡ record rest.old { number = to } }
-    ensures cell { MayRenew grid.now.shape hand.new.me.0 spot.place (stored_of T.content T.room (lowest_share rest.old)) }
-{
-    shares_law();
-    for number in from..to {
-        grid.back(hand, spot, lane, number, rest.cut());
-    }
-}
-
-/// Puts the shares of a whole cell into the slots of a place, which the lane has emptied, but for the lane's own, which
-/// it answers: the place may then be published with a reference. It takes two looks for each other lane of the pool,
-/// and no memory.
+/// Puts the shares of a whole cell into the slots of a place, which the lane has emptied, and takes the lane's own out
+/// again, which it answers: the place may then be published with a reference. It takes four looks, and no memory.
 pub(crate) fn spread_others<T: Clear + Drop>(
     grid: &Grid<T>,
     hand: &mut Hand<T>,
@@ -127,6 +95,7 @@ pub(crate) fn spread_others<T: Clear + Drop>(
     whole: Whole<T>,
 ) -> Share<T>
     requires hand { IsOf grid.now hand.old × IsOne hand.old.me.0 }
+    requires bare { hand.old.me.1 ≡ [] }
     requires spot { IsSpot grid.now.shape spot spot.place }
     requires lane { lane < grid.now.shape.lanes }
     requires place { HasPlace grid.now.shape hand.old.me.0 spot.place }
@@ -134,23 +103,15 @@ pub(crate) fn spread_others<T: Clear + Drop>(
     requires at { whole.spot ≡ spots_at grid.now.objects.ptr grid.now.shape spot.place }
     ensures hand { SameSeat hand.old hand.new × IsOne hand.new.me.0 }
     ensures place { HasPlace grid.now.shape hand.new.me.0 spot.place }
-    ensures carries { MayCarry grid.now.shape spot.place (2 * (grid.now.shape.lanes - 1)) hand.old.me hand.new.me }
+    ensures carries { Carries grid.now.shape spot.place 4 hand.old.me hand.new.me }
     ensures others { (number : ℕ) → number < grid.now.shape.lanes → number ≢ lane → status_of (the_lane hand.new.me.0) spot.place number ≡ Untouched }
     ensures own { status_of (the_lane hand.new.me.0) spot.place lane ≡ Emptied }
-    ensures share { (result.number ≡ lane) × (result.of ≡ grid.now.shape.lanes) × (result.object ≡ whole.object) × (result.spot ≡ spots_at grid.now.objects.ptr grid.now.shape spot.place) }
+    ensures share { (result.number ≡ lane) × (result.of ≡ grid.now.shape.lanes) × (T.content result.object ≡ T.content whole.object) × (T.room result.object ≡ T.room whole.object) × (result.spot ≡ spots_at grid.now.objects.ptr grid.now.shape spot.place) }
     ensures cell { MayRenew grid.now.shape hand.new.me.0 spot.place (stored_of T.content T.room result) }
 {
     shares_law();
-    let last = grid.shape.lanes - 1;
-    let mut rest = whole.lend(grid.shape.lanes as usize);
-    put_shares(grid, hand, spot, lane, &mut rest, 0, lane);
-    if lane == last {
-        return rest.into_share();
-    }
-    let own = rest.cut();
-    put_shares(grid, hand, spot, lane, &mut rest, lane + 1, last);
-    grid.back(hand, spot, lane, last, rest.into_share());
-    own
+    spread_cell(grid, hand, spot, lane, whole);
+    grid.out(hand, spot, lane, lane)
 }
 
 /// Puts a whole cell to rest in the slot of its place's shard, where the lane has emptied all slots of the place. It

@@ -1,12 +1,15 @@
 //! The get of a key.
-ghost use Rattle.std.specs.Prelude.{◌≡◌, ℕ, ◌<◌, option_map, IfSome, ◌+◌, ◌-◌, ◌≤◌, Some, None, slice_get, slice_set, length, []};
+ghost use Rattle.std.specs.Prelude.{◌≡◌, ◌⊎◌, ℕ, ◌<◌, option_map, IfSome, ◌+◌, ◌-◌, ◌≤◌, Some, None, slice_get, slice_set, length, []};
 ghost use Rattle.keybits.specs.Keys.{place_of, generation_of};
-ghost use Rattle.poolsteps.specs.Layout.{slot_start};
+ghost use Rattle.poolsteps.specs.Layout.{slot_start, spots_at};
+ghost use Rattle.poolsteps.specs.declared.view.Status.TheVariants.{Untouched, Emptied};
+ghost use Rattle.poolsteps.specs.Told.{MayTouch};
+ghost use Rattle.shardpool.specs.Lendings.{Gains};
 ghost use Rattle.steplaws.specs.Facts.{most_references};
 ghost use Rattle.shardpool.specs.Lanes.{Owns, holds, refs};
 ghost use Rattle.shardpool.specs.AfterCalls.{AfterGet};
-ghost use Rattle.shardpool.specs.declared.pool.HeldKey.{HeldKey as Shown};
-ghost use Rattle.poolsteps.specs.Views.{IsOne};
+ghost use Rattle.shardpool.specs.HeldKeys.{HeldKey as Shown};
+ghost use Rattle.poolsteps.specs.Views.{the_lane, status_of, IsOne};
 ghost use Rattle.poolsteps.specs.Grids.{IsSpot, IsOf, SameSeat};
 ghost use Rattle.shardpool.specs.Finishes.{MayMiss, Misses};
 ghost use Rattle.seqpool.specs.Histories.{PublishedAt};
@@ -14,9 +17,10 @@ ghost use Rattle.seqpool.specs.Histories.{PublishedAt};
 use crate::pool::{HeldKey, Lane, LaneState, Places, Pool};
 use crate::reclaim::finish_if_owed;
 use keybits::{generation_of, is_hit, place_of};
-use poolsteps::{Grid, Hand, Purpose, Share, Slot, Spot, shares_law};
+use poolsteps::{Grid, Hand, Purpose, Share, Slot, Spot, Tally, shares_law};
 use slotcell::Clear;
 use std::marker::{Model, PhantomData};
+use std::mem;
 
 /// A reference to a published object. It must be spent, by a release or `forget`.
 pub struct Ref<T> {
@@ -109,34 +113,46 @@ impl<T: Clear + Drop> Pool<T> {
         shares_law();
         let number = lane.state.number;
         let spot = self.find(key)?;
-        // Behind the ENTER a processor may make this load wait for the ENTER's store, where both stand alike in their
-        // pages.
-        let held = lane.state.rows[spot.start as usize].count;
         let found = self.grid.enter(&mut lane.hand, spot, key, Purpose::ToGet);
         if !is_hit(key, found) {
             end_miss(&self.grid, &mut lane.hand, &mut lane.state, spot, key);
             return None;
         }
-        if held > 0 {
-            add_reference(&mut lane.state, spot.start as usize);
-            return Some(spot.start);
-        }
-        let share = self.grid.out(&mut lane.hand, spot, number, number);
-        add_first_reference(&mut lane.state, spot.start as usize, key, share);
+        gain_reference(&self.grid, &mut lane.hand, &mut lane.state, spot, key);
         Some(spot.start)
     }
 }
 
-/// The row has one reference more.
+/// One reference more to a key whose ENTER hit: the lane's share is under it, which comes out of its slot where this is
+/// the first.
 #[inline]
-pub(crate) fn add_reference<T: Drop>(state: &mut LaneState<T>, at: usize)
-    requires at { at < length state.old.rows.items }
+pub(crate) fn gain_reference<T: Clear + Drop>(
+    grid: &Grid<T>,
+    hand: &mut Hand<T>,
+    state: &mut LaneState<T>,
+    spot: Spot,
+    key: u64,
+)
+    requires hand { IsOf grid.now hand.old × IsOne hand.old.me.0 }
+    requires spot { IsSpot grid.now.shape spot spot.place }
+    requires number { state.old.number < grid.now.shape.lanes }
+    requires at { spot.start < length state.old.rows.items }
     requires room { state.old.references < most_references }
-    requires within { (row : Shown T) → slice_get state.old.rows.items at ≡ Some row → row.count ≤ state.old.references }
-    ensures rows { (row : Shown T) → slice_get state.old.rows.items at ≡ Some row → state.new.rows.items ≡ slice_set state.old.rows.items at (record row { count = row.count + 1 }) }
+    requires may { MayTouch grid.now.shape hand.old.me.0 spot.place state.old.number }
+    requires left { (status_of (the_lane hand.old.me.0) spot.place state.old.number ≡ Untouched) ⊎ (status_of (the_lane hand.old.me.0) spot.place state.old.number ≡ Emptied) }
+    ensures hand { SameSeat hand.old hand.new }
+    ensures gains { (row : Shown T) → slice_get state.old.rows.items spot.start ≡ Some row
+        → Gains T.content T.room (spots_at grid.now.objects.ptr grid.now.shape) grid.now.shape spot key row hand.old.me hand.new.me state.old state.new }
     ensures rest { state.new ≡ record state.old { rows = state.new.rows; references = state.old.references + 1 } }
 {
-    state.rows[at].count += 1;
+    let number = state.number;
+    let row = &mut state.rows[spot.start as usize];
+    let HeldKey { tally, share } = mem::replace(row, HeldKey::none());
+    let share = grid.fetch(hand, spot, number, number, share);
+    *row = HeldKey {
+        tally: tally.gain(generation_of(key)),
+        share,
+    };
     state.references += 1;
 }
 
@@ -154,8 +170,7 @@ pub(crate) fn add_first_reference<T: Drop>(
     ensures rest { state.new ≡ record state.old { rows = state.new.rows; references = state.old.references + 1 } }
 {
     state.rows[at] = HeldKey {
-        generation: generation_of(key),
-        count: 1,
+        tally: Tally::none().gain(generation_of(key)),
         share: Slot::filled(share),
     };
     state.references += 1;

@@ -1,8 +1,7 @@
 //! Lanes: each owns a shard of a pool.
 
 use crate::get::Ref;
-use crate::pool::{Lane, Places};
-use crate::release::count_to;
+use crate::pool::Lane;
 use keybits::place_of;
 use slotcell::Clear;
 
@@ -14,6 +13,8 @@ impl<T: Clear> Lane<T> {
     ghost use Rattle.keybits.specs.declared.place.Place.{Place};
     ghost use Rattle.keybits.specs.Places.{shard_of, page_of, number_of};
     ghost use Rattle.keybits.specs.Shapes.{is_place};
+    ghost use Rattle.keybits.specs.Keys.{is_key, place_of};
+    ghost use Rattle.poolsteps.specs.Layout.{slot_start, slot_row};
     ghost use Rattle.freelists.specs.Queues.{numbers};
     ghost use Rattle.seqpool.specs.Pool.{with, has, NoRepeats, pool_after, IsLegal};
     ghost use Rattle.seqpool.specs.Histories.{acts_of};
@@ -43,31 +44,32 @@ impl<T: Clear> Lane<T> {
         self.state.free.len() > 0 || self.state.free.chain().is_some()
     }
 
-    /// How many references the lane has to a key. A number that is no key of the pool has none.
-    pub fn holds(&self, key: u64) -> u32
-        ensures { result ≡ holds self.now key }
+    /// How many places there are where a place of the pool may stand: from 0 on.
+    pub fn places(&self) -> usize
+        ensures { result ≡ slot_row self.now.shape }
     {
-        if !keybits::fits(key, &self.state.shape) {
-            return 0;
-        }
-        count_to(
-            &self.state,
-            self.state.places.start(place_of(key)) as usize,
-            key,
-        )
+        self.state.rows.len()
     }
 
-    /// A reference to a key to which the lane has one: so a program may keep keys in place of references. None where it
-    /// has none.
-    pub fn reference(&self, key: u64) -> Option<Ref<T>>
-        ensures held { IfSome result (λ reference. (reference.key ≡ key) × (1 ≤ holds self.now reference.key)) }
-        ensures none { IsNone result → holds self.now key ≡ 0 }
+    /// Where the place of a key stands, as `Pool::get_at` answers it. None for a number that is no key of the pool.
+    pub fn start_of_key(&self, key: u64) -> Option<u32>
+        ensures some { IsSome result ↔ is_key self.now.shape key ≡ true }
+        ensures at { IfSome result (λ start. start ≡ slot_start self.now.shape (place_of key)) }
     {
-        if self.holds(key) == 0 {
-            return None;
+        if keybits::fits(key, &self.state.shape) {
+            Some(self.state.places.start(place_of(key)))
+        } else {
+            None
         }
+    }
+
+    /// A reference to a key to which the lane has one: so a program may keep keys in place of references.
+    pub fn reference_to(&self, key: u64) -> Ref<T>
+        requires { 1 ≤ holds self.now key }
+        ensures { result.key ≡ key }
+    {
         let places = &self.state.places;
-        Some(Ref::to(key, places.start(place_of(key)), places))
+        Ref::to(key, places.start(place_of(key)), places)
     }
 
     /// As a law: the lane has nothing under way, and what it has seen is a legal history of the pool, with a room

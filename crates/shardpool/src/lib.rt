@@ -31,5 +31,5 @@ pub use halt::{Halted, LastCall};
 pub use lane::MOST_REFERENCES;
 pub use laws::{parts_law, room_law};
 pub use notes::Note;
-pub use opening::open;
+pub use opening::{open, open_wide};
 pub use pool::{Lane, Pool};

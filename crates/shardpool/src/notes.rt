@@ -1,7 +1,7 @@
 //! What lanes tell each other.
-ghost use Rattle.std.specs.Prelude.{◌≡◌, ℕ, []};
+ghost use Rattle.std.specs.Prelude.{◌≡◌, ◌+◌, ℕ, []};
 ghost use mathlib.Core.List.{IsPrefix};
-ghost use Rattle.poolsteps.specs.Seats.{longer};
+ghost use Rattle.poolsteps.specs.Seats.{longer, looked_once};
 ghost use Rattle.shardpool.specs.Tokens.{FillingOf};
 ghost use Rattle.shardpool.specs.Lanes.{Owns, Issued, Made, Did, holds, refs};
 
@@ -28,12 +28,13 @@ impl<T> Model for Note<T> {
 }
 
 impl<T: Clear + Drop> Pool<T> {
-    /// A note of all that a lane has seen. It costs a load.
+    /// A note of all that a lane has seen. It makes a look and no step, and leaves the lane else as it was.
     pub fn tell(&self, lane: &mut Lane<T>) -> Note<T>
         requires { Owns self.now lane.old }
         ensures note { Issued self.now result × (result.book.seen ≡ lane.old.book.seen) }
         ensures rooms { result.book.rooms ≡ lane.old.book.rooms }
-        ensures lane { lane.new ≡ lane.old }
+        ensures lane { lane.new ≡ record lane.old { book = looked_once lane.old.book } }
+        ensures fillings { (filling : FillingOf T) → Made lane.old filling → Made lane.new filling }
     {
         Note {
             hand: self.grid.note(&mut lane.hand),
@@ -41,7 +42,7 @@ impl<T: Clear + Drop> Pool<T> {
     }
 
     /// Takes in a note: what the lane has then seen begins with what it saw, and with what the note has, and so do the
-    /// rooms beside it. It makes no step.
+    /// rooms beside it. It makes a look, and no step.
     pub fn hear(&self, lane: &mut Lane<T>, note: Note<T>)
         requires owns { Owns self.now lane.old }
         requires note { Issued self.now note }
@@ -50,6 +51,7 @@ impl<T: Clear + Drop> Pool<T> {
         ensures rooms { IsPrefix note.book.rooms lane.new.book.rooms × IsPrefix lane.old.book.rooms lane.new.book.rooms }
         ensures goes { Did [] lane.old lane.new }
         ensures steps { lane.new.book.steps ≡ lane.old.book.steps }
+        ensures looks { lane.new.book.looks ≡ lane.old.book.looks + 1 }
         ensures refs { refs lane.new ≡ refs lane.old }
         ensures held { (key : ℕ) → holds lane.new key ≡ holds lane.old key }
         ensures fillings { (filling : FillingOf T) → Made lane.old filling → Made lane.new filling }
@@ -59,7 +61,7 @@ impl<T: Clear + Drop> Pool<T> {
     }
 
     /// Two lanes tell each other what they have seen: it is then one history, which begins with what each saw, with the
-    /// same rooms beside it. They make no step.
+    /// same rooms beside it. Each makes two looks, and no step.
     pub fn meet(&self, one: &mut Lane<T>, other: &mut Lane<T>)
         requires one { Owns self.now one.old }
         requires other { Owns self.now other.old }
@@ -73,6 +75,7 @@ impl<T: Clear + Drop> Pool<T> {
         ensures one_held { (key : ℕ) → holds one.new key ≡ holds one.old key }
         ensures other_held { (key : ℕ) → holds other.new key ≡ holds other.old key }
         ensures steps { (one.new.book.steps ≡ one.old.book.steps) × (other.new.book.steps ≡ other.old.book.steps) }
+        ensures looks { (one.new.book.looks ≡ one.old.book.looks + 2) × (other.new.book.looks ≡ other.old.book.looks + 2) }
         ensures one_fillings { (filling : FillingOf T) → Made one.old filling → Made one.new filling }
         ensures other_fillings { (filling : FillingOf T) → Made other.old filling → Made other.new filling }
     {
@@ -94,6 +97,7 @@ impl<T: Clear + Drop> Pool<T> {
         ensures rooms { IsPrefix note.book.rooms lane.new.book.rooms }
         ensures goes { Did [] lane.old lane.new }
         ensures steps { lane.new.book.steps ≡ lane.old.book.steps }
+        ensures looks { lane.new.book.looks ≡ lane.old.book.looks + 1 }
         ensures refs { refs lane.new ≡ refs lane.old }
         ensures held { (key : ℕ) → holds lane.new key ≡ holds lane.old key }
         ensures fillings { (filling : FillingOf T) → Made lane.old filling → Made lane.new filling }

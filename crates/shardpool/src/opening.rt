@@ -1,8 +1,8 @@
 //! How a pool is opened.
 ghost use Rattle.std.specs.Prelude.{◌≡◌, ◌<◌, ◌≤◌, ◌↔◌, [], None, replicate, IfOk, IfSome, IsErrOf};
 ghost use Rattle.keybits.specs.declared.shape.ShapeFault.{ShapeFault as Fault};
-ghost use Rattle.keybits.specs.Shapes.{IsShape};
-ghost use Rattle.keybits.specs.ShapeFaults.{IsFirstFault};
+ghost use Rattle.keybits.specs.Shapes.{IsShape, IsNarrow};
+ghost use Rattle.keybits.specs.ShapeFaults.{IsFirstFault, IsFirstWideFault};
 ghost use Rattle.shardpool.specs.declared.fault.OpenFault.TheVariants as faults;
 ghost use Rattle.std.specs.Vec.{vec_capacity};
 ghost use Rattle.poolsteps.specs.Layout.{slot_row};
@@ -13,11 +13,12 @@ use crate::fault::OpenFault;
 use crate::pool::{Apart, HeldKey, Lane, LaneState, Places, Pool};
 use freelists::{LocalFree, Pages};
 use keybits::Shape;
-use poolsteps::{Base, Directory, Grid, Hand, Objects, SHARDS_APART, Slot, shard_start, slot_row};
+use poolsteps::{Base, Directory, Grid, Hand, Objects, SHARDS_APART, shard_start, slot_row};
 use slotcell::Clear;
 use std::alloc::Global;
 
-/// Opens a pool of this shape. Its lanes stand by rising number; none has a free place yet, and no page is opened.
+/// Opens a pool of this shape, which is within the narrow limits. Its lanes stand by rising number; none has a free place
+/// yet, and no page is opened.
 ///
 /// # Errors
 ///
@@ -27,11 +28,29 @@ pub fn open<T: Clear + Drop>(
     shape: Shape,
 ) -> Result<(Pool<T>, Vec<Lane<T>>), OpenFault>
     ensures faults { (fault : Fault) → IsErrOf result (faults.Shape fault) ↔ IsFirstFault shape fault }
-    ensures memory { IsErrOf result faults.Memory → IsShape shape }
+    ensures memory { IsErrOf result faults.Memory → IsNarrow shape }
     ensures pool { IfOk result (λ made. made.0.shape ≡ shape) }
     ensures lanes { IfOk result (λ made. AreFirstLanes made.0 made.1.items) }
 {
     shape.check()?;
+    try_open(alloc, shape).ok_or(OpenFault::Memory)
+}
+
+/// Opens a pool of this shape as `open` does, by the wide limits.
+///
+/// # Errors
+///
+/// The first fault of the shape, by the wide limits; and the want of memory, for a shape within them alone.
+pub fn open_wide<T: Clear + Drop>(
+    alloc: Global,
+    shape: Shape,
+) -> Result<(Pool<T>, Vec<Lane<T>>), OpenFault>
+    ensures faults { (fault : Fault) → IsErrOf result (faults.Shape fault) ↔ IsFirstWideFault shape fault }
+    ensures memory { IsErrOf result faults.Memory → IsShape shape }
+    ensures pool { IfOk result (λ made. made.0.shape ≡ shape) }
+    ensures lanes { IfOk result (λ made. AreFirstLanes made.0 made.1.items) }
+{
+    shape.check_wide()?;
     try_open(alloc, shape).ok_or(OpenFault::Memory)
 }
 
@@ -183,11 +202,7 @@ fn first_rows<T: Drop>(alloc: Global, count: usize) -> Option<Vec<HeldKey<T>>>
 {
     let mut rows = Vec::with_capacity(alloc, count).ok()?;
     for _ in 0..count {
-        rows.push_reserved(HeldKey {
-            generation: 0,
-            count: 0,
-            share: Slot::empty(),
-        });
+        rows.push_reserved(HeldKey::none());
     }
     Some(rows)
 }

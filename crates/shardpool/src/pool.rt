@@ -1,5 +1,5 @@
 //! A pool and its lanes: what each has.
-ghost use Rattle.std.specs.Prelude.{◌≡◌, ◌<◌, ◌≤◌, ◌↔◌, true, IfSome, IsSome};
+ghost use Rattle.std.specs.Prelude.{◌≡◌, ◌<◌, ◌≤◌, ◌↔◌, true, None, IfSome, IsSome};
 ghost use Rattle.keybits.specs.Keys.{is_key, place_of};
 ghost use Rattle.poolsteps.specs.Layout.{slot_start, page_count, page_rows};
 ghost use Rattle.poolsteps.specs.Grids.{IsSpot};
@@ -10,7 +10,9 @@ ghost use Rattle.shardpool.specs.Rows.{pages_code};
 use crate::closing::HandRow;
 use freelists::{LocalFree, Pages};
 use keybits::{PAGE_NUMBERS, Shape, place_of};
-use poolsteps::{BYTES_APART, Directory, Grid, Hand, Objects, PageRow, Slot, Spot, page_rows};
+use poolsteps::{
+    BYTES_APART, Directory, Grid, Hand, Objects, PageRow, Slot, Spot, Tally, page_rows,
+};
 use slotcell::Clear;
 use std::alloc::Global;
 use std::marker::Model;
@@ -59,14 +61,35 @@ impl<T: Clear + Drop> Pool<T> {
     }
 }
 
-/// What a lane has of a place: how many references to which of its keys, and the share under them.
+/// What a lane has of a place: how many references to which of its keys, and the share under them. It has no bytes: proofs
+/// alone know it.
 #[derive(Drop)]
 pub(crate) struct HeldKey<T> {
-    /// The generation of the last key of the place to which the lane had a reference; 0, which no key has, before the
-    /// first.
-    pub(crate) generation: u32,
-    pub(crate) count: u32,
+    /// Of the last key of the place to which the lane had a reference; of generation 0, which no key has, before the first.
+    pub(crate) tally: Tally,
     pub(crate) share: Slot<T>,
+}
+
+impl<T> Model for HeldKey<T> {
+    ghost use Rattle.shardpool.specs.HeldKeys.{HeldKey as Shown, held_key_code};
+
+    ghost Value = { Shown T };
+
+    ghost coded = { held_key_code T.code };
+
+    ghost view = { λ h. record { generation = h.tally.generation; count = h.tally.count; share = h.share } };
+}
+
+impl<T> HeldKey<T> {
+    /// No reference.
+    pub(crate) fn none() -> HeldKey<T>
+        ensures { result ≡ record { generation = 0; count = 0; share = None } }
+    {
+        HeldKey {
+            tally: Tally::none(),
+            share: Slot::empty(),
+        }
+    }
 }
 
 /// What a lane keeps beside its seat.
@@ -150,7 +173,7 @@ impl Places {
         let rows = page_rows(alloc, shape)?;
         Some(Places {
             shape: *shape,
-            code: 8 * shape.first_page + shape.pages,
+            code: 32 * shape.first_page + shape.pages,
             rows,
         })
     }

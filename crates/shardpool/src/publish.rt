@@ -93,7 +93,7 @@ pub(crate) fn publish<T: Clear + Drop>(
     grid.publish(hand, spot, key);
 }
 
-/// Publishes the content of a whole cell as `publish` does, with a reference: the lane's own share stays in its hands.
+/// Publishes the content of a whole cell as `publish` does, with a reference: the lane's own share is then in its hands.
 /// It takes no memory.
 pub(crate) fn downgrade<T: Clear + Drop>(
     grid: &Grid<T>,
@@ -104,6 +104,7 @@ pub(crate) fn downgrade<T: Clear + Drop>(
     whole: Whole<T>,
 ) -> Share<T>
     requires hand { IsOf grid.now hand.old × IsOne hand.old.me.0 }
+    requires bare { hand.old.me.1 ≡ [] }
     requires spot { IsSpot grid.now.shape spot (place_of key) }
     requires lane { (lane ≡ (the_lane hand.old.me.0).lane) × (lane < grid.now.shape.lanes) }
     requires may { MayPublish grid.now.shape hand.old.me.0 key }
@@ -114,7 +115,7 @@ pub(crate) fn downgrade<T: Clear + Drop>(
     ensures acts { MadeOne hand.old.me.0 hand.new.me.0 (acts.Publish lane key (T.content whole.object) true) }
     ensures room { room_of hand.new.me.0.seen hand.new.me.0.rooms (place_of key) ≡ T.room whole.object }
     ensures slot { status_of (the_lane hand.new.me.0) (place_of key) lane ≡ Emptied }
-    ensures share { (result.number ≡ lane) × (result.of ≡ grid.now.shape.lanes) × (result.object ≡ whole.object) × (result.spot ≡ spots_at grid.now.objects.ptr grid.now.shape (place_of key)) }
+    ensures share { (result.number ≡ lane) × (result.of ≡ grid.now.shape.lanes) × (T.content result.object ≡ T.content whole.object) × (result.spot ≡ spots_at grid.now.objects.ptr grid.now.shape (place_of key)) }
     ensures cell { known_of (the_lane hand.new.me.0) (place_of key) ≡ stored_of T.content T.room result }
 {
     shares_law();

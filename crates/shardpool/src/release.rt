@@ -2,18 +2,19 @@
 ghost use Rattle.std.specs.Prelude.{◌<◌, ◌≤◌, true, ◌≡◌, ◌≢◌, ◌==◌, ◌+◌, ◌-◌, Some, None, IsSome, slice_get, slice_set, length, if◌then◌else◌};
 ghost use Rattle.keybits.specs.Keys.{place_of, generation_of};
 ghost use Rattle.poolsteps.specs.Grids.{IsSpot, IsOf, SameSeat};
+ghost use Rattle.poolsteps.specs.Layout.{slot_start};
 ghost use Rattle.shardpool.specs.Lanes.{Owns, holds};
-ghost use Rattle.shardpool.specs.AfterCalls.{AfterRelease, AfterReleaseKey};
+ghost use Rattle.shardpool.specs.AfterCalls.{AfterRelease};
 ghost use Rattle.poolsteps.specs.Told.{references_seen};
-ghost use Rattle.shardpool.specs.declared.pool.HeldKey.{HeldKey as Shown};
+ghost use Rattle.shardpool.specs.HeldKeys.{HeldKey as Shown};
 ghost use Rattle.shardpool.specs.LaneStates.{Fits};
 ghost use Rattle.shardpool.specs.Lendings.{LendsHome};
 
 use crate::get::Ref;
-use crate::pool::{Lane, LaneState, Pool};
+use crate::pool::{HeldKey, Lane, LaneState, Pool};
 use crate::reclaim::finish_if_owed;
-use keybits::{generation_of, place_of};
-use poolsteps::{Grid, Hand, Share, Slot, Spot, shares_law};
+use keybits::place_of;
+use poolsteps::{Grid, Hand, Slot, Spot, shares_law};
 use slotcell::Clear;
 use std::mem;
 
@@ -26,33 +27,27 @@ impl<T: Clear + Drop> Pool<T> {
         ensures { AfterRelease T self.now reference.key lane.old lane.new }
     {
         let start = lane.state.start_of(&reference);
-        let key = reference.spend();
+        self.release_at(lane, start, reference.spend());
+    }
+
+    /// As `release`, of a reference that stays with the lane, to a key whose place stands here, as `get_at` answers.
+    #[inline(always)]
+    pub fn release_at(&self, lane: &mut Lane<T>, start: u32, key: u64)
+        requires owns { Owns self.now lane.old }
+        requires held { 1 ≤ holds lane.old key }
+        requires start { start ≡ slot_start self.now.shape (place_of key) }
+        ensures { AfterRelease T self.now key lane.old lane.new }
+    {
         let spot = Spot {
             place: place_of(key),
             start,
         };
-        self.release_at(lane, spot, key);
-    }
-
-    /// Gives back a reference to a key, for who keeps keys in place of references: true where the lane had one. False,
-    /// without a step, where it had none, and for a number that is no key of the pool.
-    pub fn release_key(&self, lane: &mut Lane<T>, key: u64) -> bool
-        requires owns { Owns self.now lane.old }
-        ensures { AfterReleaseKey T self.now key lane.old lane.new result }
-    {
-        let Some(spot) = self.find(key) else {
-            return false;
-        };
-        if count_to(&lane.state, spot.start as usize, key) == 0 {
-            return false;
-        }
-        self.release_at(lane, spot, key);
-        true
+        self.release_from(lane, spot, key);
     }
 
     /// Gives back a reference to a key, whose place stands here.
     #[inline(always)]
-    fn release_at(&self, lane: &mut Lane<T>, spot: Spot, key: u64)
+    fn release_from(&self, lane: &mut Lane<T>, spot: Spot, key: u64)
         requires owns { Owns self.now lane.old }
         requires spot { IsSpot self.now.shape spot (place_of key) }
         requires held { 1 ≤ holds lane.old key }
@@ -85,28 +80,25 @@ pub(crate) fn return_last_share<T: Clear + Drop>(
 {
     shares_law();
     let number = state.number;
-    if let Some(share) = take_last_share(state, spot.start as usize) {
-        grid.back(hand, spot, number, number, share);
-    }
+    let last = take_last_share(state, spot.start as usize);
+    grid.settle(hand, spot, number, number, last);
 }
 
-/// The share of a row with one reference, which is taken out of it; the count stays. None where the row has more, and
+/// The share of a row with one reference, which is taken out of it; the tally stays. None where the row has more, and
 /// nothing is changed.
 #[inline]
-pub(crate) fn take_last_share<T: Drop>(state: &mut LaneState<T>, at: usize) -> Option<Share<T>>
+pub(crate) fn take_last_share<T: Drop>(state: &mut LaneState<T>, at: usize) -> Slot<T>
     requires at { at < length state.old.rows.items }
-    requires share { (row : Shown T) → slice_get state.old.rows.items at ≡ Some row → row.count ≡ 1 → IsSome row.share }
     ensures some { (row : Shown T) → slice_get state.old.rows.items at ≡ Some row → row.count ≡ 1
         → (result ≡ row.share) × (state.new.rows.items ≡ slice_set state.old.rows.items at (record row { share = None })) }
     ensures none { (row : Shown T) → slice_get state.old.rows.items at ≡ Some row → row.count ≢ 1 → (result ≡ None) × (state.new.rows.items ≡ state.old.rows.items) }
     ensures rest { state.new ≡ record state.old { rows = state.new.rows } }
 {
     let row = &mut state.rows[at];
-    if row.count == 1 {
-        Some(mem::replace(&mut row.share, Slot::empty()).into_share())
-    } else {
-        None
-    }
+    let HeldKey { tally, share } = mem::replace(row, HeldKey::none());
+    let (last, share) = share.deal(&tally);
+    *row = HeldKey { tally, share };
+    last
 }
 
 /// The row has one reference less.
@@ -118,20 +110,11 @@ pub(crate) fn drop_reference<T: Drop>(state: &mut LaneState<T>, at: usize)
     ensures rows { (row : Shown T) → slice_get state.old.rows.items at ≡ Some row → state.new.rows.items ≡ slice_set state.old.rows.items at (record row { count = row.count - 1 }) }
     ensures rest { state.new ≡ record state.old { rows = state.new.rows; references = state.old.references - 1 } }
 {
-    state.rows[at].count -= 1;
+    let row = &mut state.rows[at];
+    let HeldKey { tally, share } = mem::replace(row, HeldKey::none());
+    *row = HeldKey {
+        tally: tally.lose(),
+        share,
+    };
     state.references -= 1;
-}
-
-/// How many references the lane has to a key, by the row of the key's place.
-#[inline]
-pub(crate) fn count_to<T>(state: &LaneState<T>, at: usize, key: u64) -> u32
-    requires at { at < length state.now.rows.items }
-    ensures { (row : Shown T) → slice_get state.now.rows.items at ≡ Some row → result ≡ (if generation_of key == row.generation then row.count else 0) }
-{
-    let row = &state.rows[at];
-    if row.generation == generation_of(key) {
-        row.count
-    } else {
-        0
-    }
 }

@@ -6,7 +6,7 @@ ghost use Rattle.keybits.specs.Shapes.{IsShape, shard_places};
 ghost use Rattle.poolsteps.specs.Share.{Share};
 ghost use Rattle.poolsteps.specs.Layout.{slot_row};
 ghost use Rattle.poolsteps.specs.Joins.{IsSlotRow};
-ghost use Rattle.shardpool.specs.declared.pool.HeldKey.{HeldKey as Row};
+ghost use Rattle.shardpool.specs.HeldKeys.{HeldKey as Row};
 ghost use Rattle.shardpool.specs.declared.pool.LaneState.{LaneState as Shown};
 ghost use Rattle.shardpool.specs.Remains.{GivesRow, GivesTo, GivesBack, MayHandBack, IsStripped, HandsBack, AreStripped};
 
@@ -98,12 +98,7 @@ fn take_row<T: Drop>(rows: &mut Vec<HeldKey<T>>, index: usize) -> HeldKey<T>
     ensures taken { (row : Row T) → slice_get rows.old.items index ≡ Some row → result ≡ row }
     ensures left { rows.new.items ≡ slice_set rows.old.items index (record { generation = 0; count = 0; share = None }) }
 {
-    let none = HeldKey {
-        generation: 0,
-        count: 0,
-        share: Slot::empty(),
-    };
-    mem::replace(&mut rows[index], none)
+    mem::replace(&mut rows[index], HeldKey::none())
 }
 
 /// The share of a row that counts a reference goes into the slot at this index.
@@ -112,7 +107,7 @@ fn give_row<T: Drop>(index: usize, row: HeldKey<T>, slots: &mut Slots<Slot<T>>)
     requires index { index < slots_len slots.old }
     ensures { GivesRow index row slots.old slots.new }
 {
-    if row.count > 0 {
-        slots.put(index, row.share);
-    }
+    let HeldKey { tally, share } = row;
+    let left = slots.take(index);
+    slots.put(index, share.under(&tally).or(left));
 }

@@ -99,7 +99,7 @@ undo_le place (Returns p l f) = omega arith
 -- a count has room for one more
 pub count_room : (z : Shape) (w : Words) (h : List Act) (r : Lanes) → Rule z (moment w h r) → (place : ℕ) → is_place z place ≡ true → count_in (w.life place) < 1073741823
 count_room z w h r s place inside =
-    let few : z.lanes ≤ 16 = s.limits.lanes.1 in
+    let few : z.lanes ≤ 64 = s.limits.lanes.1 in
     let c = s.count place inside in
     let a = sum-bound z.lanes most_references (λ lane. references_in (pool_after z h place).phase lane) (λ lane. s.few place lane) in
     let b = sum-bound z.lanes 1 (λ lane. to_undo place (r.under lane)) (λ lane. undo_le place (r.under lane)) in

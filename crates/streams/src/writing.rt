@@ -1,5 +1,5 @@
 //! Texts that are written up to the first write that fails.
-ghost use Rattle.std.specs.Prelude.{◌≡◌, false, OnOk, is_err};
+ghost use Rattle.std.specs.Prelude.{◌≡◌, true, false, IsOk, OnOk, is_err};
 ghost use Rattle.std.specs.Io.KnownBytes.{Appends};
 ghost use Rattle.streams.specs.Saying.{Says};
 
@@ -29,6 +29,7 @@ pub fn write_and_flush<W: Write>(text: &[u8], out: &mut Watched<W>) -> Result<()
     requires { out.old.failed ≡ false }
     ensures ok { OnOk result (Appends (W.contents out.old.inner) (W.contents out.new.inner) text.now) }
     ensures watched { is_err result ≡ out.new.failed }
+    ensures flushed { IsOk result → out.new.flushed ≡ true }
 {
     write_text(text, out);
     let _ = out.flush();

@@ -23,7 +23,7 @@ unopened_else q lane opened other = ap (λ (b : Bool). count_if (b && not (ltb (
 module _ (z : Shape) (shape : IsShape z) (lane : ℕ) (inside : lane < z.lanes) (opened : ℕ) (unopened : opened < z.pages) where
   -- the page is one of the shape
   fits : (opened < 16) × (0 + page_size z opened ≤ 4096)
-  fits = let top = (shape_bounds z shape).pages in let size = page_size-le z shape opened unopened in (omega arith, omega arith)
+  fits = let top = (shape_bounds z shape).pages in let size = page_size-le z opened in (omega arith, omega arith)
 
   -- a place of the page is once among its places, and was unopened; any other stays what it was
   page_opens : (q : ℕ) → is_place z q ≡ true → unopened_of q lane (opened + 1) + times q (page_places z lane opened) ≡ unopened_of q lane opened

@@ -65,7 +65,7 @@ positive : (a b : ℕ) → 1 ≤ a → 0 < b → 0 < a * b
 positive a b some_a some_b = let m : a * 1 ≤ a * b = mul-le-mul_left a some_b in omega arith
 
 pub page_size-positive : (z : Shape) → IsShape z → (page : ℕ) → 0 < page_size z page
-page_size-positive z shape page = positive z.first_page (2 ^ page) (shape_bounds z shape).first_page.0 (pow_pos page)
+page_size-positive z shape page = let some = positive z.first_page (2 ^ page) (shape_bounds z shape).first_page.0 (pow_pos page) in omega (arith, some)
 
 -- the place with this shard and page
 pub whole : (q shard page : ℕ) → shard_of q ≡ shard → page_of q ≡ page → place_at shard page (slot_of q) ≡ q

@@ -3,3 +3,4 @@ pub mod LineRefusals
 pub mod TraceTexts
 pub mod CountLemmas
 pub mod PageLemmas
+pub mod FollowLemmas

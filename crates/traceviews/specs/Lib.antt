@@ -13,3 +13,5 @@ pub mod Pictures
 pub mod Summaries
 pub mod Pages
 pub mod Wants
+pub mod Values
+pub mod WordSteps

@@ -1,28 +1,63 @@
 //! A page that shows a trace turn by turn: its data is the JSON of the trace, and the rest is the same for each.
 
-ghost use Rattle.std.specs.Prelude.{IfOk};
-ghost use Rattle.traceviews.specs.HtmlPages.{IsHtmlPage};
+ghost use Rattle.std.specs.Prelude.{IfOk, flat_map};
+ghost use Rattle.traceviews.specs.HtmlPages.{IsHtmlPage, html_code, title_text};
+ghost use Rattle.traceviews.specs.Pages.{Grows};
 
 use crate::json::push_json;
 use crate::line::Line;
 use crate::page::Page;
-use crate::template::{head, tail};
+use crate::template::{body, head, script, style};
 use std::alloc::{AllocError, Global};
 
-/// A trace as an HTML page, which needs no network: its turns, the commands of each lane as its replies tell them, and
-/// who holds what, turn by turn.
+/// Appends a byte of a text within an element.
+fn push_code(byte: u8, out: &mut Page)
+    ensures { Grows out.old out.new (html_code byte) }
+{
+    match byte {
+        b'<' => out.text("&lt;"),
+        b'&' => out.text("&amp;"),
+        _ => out.bytes(&[byte]),
+    }
+}
+
+/// Appends a text within an element.
+fn push_plain(text: &str, out: &mut Page)
+    ensures { Grows out.old out.new (flat_map html_code text.now) }
+{
+    let bytes = text.as_bytes();
+    for byte in bytes {
+        push_code(*byte, out);
+    }
+}
+
+/// Appends the title of the page of a trace that has this name.
+fn push_title(name: &str, out: &mut Page)
+    ensures { Grows out.old out.new (title_text name.now) }
+{
+    out.text("<title>");
+    push_plain(name, out);
+    out.text("</title>");
+}
+
+/// A trace as an HTML page, which needs no network: its turns with the lanes and who finds what another left, what each
+/// step changed, the places and who holds them, the returned ones, and the commands of each lane as its replies tell
+/// them. Its title is the name of the trace.
 ///
 /// # Errors
 ///
 /// `AllocError` where memory is refused.
-pub fn html_text(alloc: Global, lines: &[Line]) -> Result<Vec<u8>, AllocError>
-    ensures { IfOk result (λ text. IsHtmlPage lines.now text.items) }
+pub fn html_text(alloc: Global, name: &str, lines: &[Line]) -> Result<Vec<u8>, AllocError>
+    ensures { IfOk result (λ text. IsHtmlPage name.now lines.now text.items) }
 {
     let mut out = Page::new(alloc);
     out.text("<!DOCTYPE html>\n");
     out.text(head());
+    push_title(name, &mut out);
+    out.text(style());
+    out.text(body());
     push_json(lines, &mut out);
-    out.text(tail());
+    out.text(script());
     out.text("</html>\n");
     out.finish()
 }

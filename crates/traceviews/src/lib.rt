@@ -5,6 +5,7 @@
 //!   `fields`; why it is none, `fault`.
 //! - The lines with their words decoded: `words`; a state and a step's name as text: `decoded`.
 //! - The turns: `turns` puts lines together to turns.
+//! - Whether its words follow from one another: `following`, over the `values` of words.
 //! - The summary: `counts`, `ends` and `summary`; which lanes and places there are: `found`.
 //! - The picture: `rows` has its turns, `picture` draws them; `numbers` finds a lane or place among sorted ones;
 //!   `strips` draws places, `arrows` who finds what another left, `boxes` a turn, `head` the title and the legend,
@@ -22,6 +23,7 @@ mod ends;
 mod events;
 mod fault;
 mod fields;
+mod following;
 mod found;
 mod head;
 mod html;
@@ -39,11 +41,13 @@ mod strips;
 mod summary;
 mod template;
 mod turns;
+mod values;
 mod words;
 
 pub use counts::{failed_steps, is_unfinished, longest_call, replies_of, steps_of};
 pub use events::events_text;
 pub use fault::{ReadFault, Wanted};
+pub use following::{Stray, Wrong, first_stray, follows_text};
 pub use html::html_text;
 pub use json::turns_json;
 pub use line::{Entry, Line, NamedStep, StepName};

@@ -1,6 +1,6 @@
 //! The picture of a trace.
 
-ghost use Rattle.std.specs.Prelude.{IfOk};
+ghost use Rattle.std.specs.Prelude.{◌≡◌, IfOk, IfNone, MatchOption, false};
 ghost use Rattle.traceviews.specs.Pictures.{IsPicture};
 
 use crate::arrows::{Writer, Writers, push_arrow};
@@ -25,7 +25,7 @@ pub struct Window {
     /// How many turns at most.
     pub count: usize,
     /// Whether the picture ends before 32767 pixels and says where, names the command of each reply, and has arrows in
-    /// front.
+    /// front. Else there is none where it would need more.
     pub fit: bool,
 }
 
@@ -35,7 +35,7 @@ const GAP: u64 = 12;
 /// How wide a picture is at least: its legend has room.
 const LEAST_WIDTH: u64 = 460;
 
-/// How wide and high a picture may be that is to fit.
+/// How wide and high a picture may be: viewers open no larger one.
 const GREATEST: u64 = 32_767;
 
 /// How much room is left below the last turn of a picture that is to fit.
@@ -319,8 +319,16 @@ fn extent_of(canvas: &Canvas, first: usize, drawn: usize, count: usize) -> Exten
     }
 }
 
-/// What stands in the picture of some turns of a trace, behind the name of its first tag and before its last one.
-fn drawing_of(alloc: Global, lines: &[Line], window: &Window) -> Result<Page, AllocError> {
+/// Whether a picture is larger than viewers open.
+fn is_large(extent: &Extent) -> bool {
+    extent.width > GREATEST || extent.height > GREATEST
+}
+
+/// What stands in the picture of some turns of a trace, behind the name of its first tag and before its last one; nothing
+/// where it isn't to fit, and is too large.
+fn drawing_of(alloc: Global, lines: &[Line], window: &Window) -> Result<Option<Page>, AllocError>
+    ensures { IfOk result (λ found. IfNone found (window.now.fit ≡ false)) }
+{
     let rows = rows_of(alloc, lines)?;
     let rows = rows.as_slice();
     let drawn = shown(alloc, lines, rows, window)?;
@@ -328,27 +336,36 @@ fn drawing_of(alloc: Global, lines: &[Line], window: &Window) -> Result<Page, Al
     let mut canvas = canvas_for(alloc, lines, drawn, window.fit)?;
     draw(lines, &rows[..first], drawn, &mut canvas);
     let extent = extent_of(&canvas, first, drawn.len(), rows.len());
+    if !window.fit && is_large(&extent) {
+        return Ok(None);
+    }
     let mut out = Page::new(alloc);
     push_head(&extent, &mut out);
     push_layers(&canvas, &mut out);
     push_foot(&extent, canvas.y, &mut out);
-    Ok(out)
+    Ok(Some(out))
 }
 
 /// The picture of some turns of a trace, as an SVG: each lane a column, each turn a row with its replies and its step,
 /// and beside them a strip for each place that these turns step on. A window past the end shows no turn; one that is to
-/// fit shows no more than have room.
+/// fit shows no more than have room. `None` where it isn't to fit, and needs more than 32767 pixels.
 ///
 /// # Errors
 ///
 /// `AllocError` where memory is refused.
-pub fn picture_text(alloc: Global, lines: &[Line], window: &Window) -> Result<Vec<u8>, AllocError>
-    ensures { IfOk result (λ text. IsPicture text.items) }
+pub fn picture_text(
+    alloc: Global,
+    lines: &[Line],
+    window: &Window,
+) -> Result<Option<Vec<u8>>, AllocError>
+    ensures { IfOk result (λ found. MatchOption found (window.now.fit ≡ false) (λ text. IsPicture text.items)) }
 {
-    let drawing = drawing_of(alloc, lines, window)?;
+    let Some(drawing) = drawing_of(alloc, lines, window)? else {
+        return Ok(None);
+    };
     let mut out = Page::new(alloc);
     out.text("<svg xmlns=\"http://www.w3.org/2000/svg\" role=\"img\"");
     out.page(&drawing);
     out.text("</svg>\n");
-    out.finish()
+    Ok(Some(out.finish()?))
 }

@@ -139,7 +139,7 @@ fn push_states(ends: &[(u32, u64)], out: &mut Page)
 }
 
 /// Appends how many turns and lines there are, in a line.
-fn push_counts(lines: &[Line], out: &mut Page)
+pub(crate) fn push_counts(lines: &[Line], out: &mut Page)
     ensures { Grows out.old out.new (counts_line lines.now) }
 {
     out.named("turns ", turn_count(lines) as u64);

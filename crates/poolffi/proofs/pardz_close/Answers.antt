@@ -6,7 +6,7 @@ use Rattle.poolffi.proofs.pardz_close.Goals as goal
 pub returns-in-Ok-clause-closes : goal.returns-in-Ok-clause-closes
 returns-in-Ok-clause-closes c =
     let closes = c.in-Ok.ensures.closes in
-    inr (c.in-Some.handle.value, c.in-Some.ensures.full.0, inl (refl, c.in-Some.ensures.full.2, (closes.0, closes.1, (c.in-Ok.counts, closes.2, c.counted.ensures))))
+    inr (c.in-Some.handle.value, c.in-Some.ensures.full.0, inl (refl, c.in-Some.ensures.full.2, (closes.0, closes.1, closes.2, (c.in-Ok.counts, closes.3, c.counted.ensures))))
 
 pub returns-in-Err-default-Some-clause-closes : goal.returns-in-Err-default-Some-clause-closes
 returns-in-Err-default-Some-clause-closes c =

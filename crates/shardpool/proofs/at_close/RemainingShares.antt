@@ -31,7 +31,7 @@ use Rattle.poolsteps.specs.Layout.{slot_start, slot_index, slots_in, spots_at}
 use Rattle.poolsteps.specs.Rule.{World}
 use Rattle.poolsteps.proofs.SlotLemmas.{in-row, slot-is, slot-apart}
 use Rattle.poolsteps.specs.Joins.{HasPart, IsSpread, IsResting}
-use Rattle.shardpool.specs.declared.pool.HeldKey.{HeldKey}
+use Rattle.shardpool.specs.HeldKeys.{HeldKey}
 use Rattle.shardpool.specs.declared.pool.LaneState.{LaneState}
 use Rattle.shardpool.specs.LaneStates.{FitsRow}
 use Rattle.shardpool.specs.Tokens.{LaneOf}

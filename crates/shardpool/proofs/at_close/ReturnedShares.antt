@@ -15,7 +15,7 @@ use Rattle.poolsteps.specs.Layout.{slot_start, slot_index}
 use Rattle.poolsteps.proofs.SlotLemmas.{start-injective, slot-apart}
 use Rattle.poolsteps.specs.Joins.{IsSlotRow}
 use Rattle.poolsteps.proofs.Joining.{get-elsewhere}
-use Rattle.shardpool.specs.declared.pool.HeldKey.{HeldKey}
+use Rattle.shardpool.specs.HeldKeys.{HeldKey}
 use Rattle.shardpool.specs.declared.pool.LaneState.{LaneState}
 use Rattle.shardpool.specs.Remains.{GivesRow, GivesTo, IsBack, IsOff, GivesBack, MayHandBack, IsStripped, AreStripped, HandsBack}
 use Rattle.shardpool.proofs.free.Stores.{stands-here}

@@ -37,6 +37,7 @@ use Rattle.poolsteps.specs.Told.{Sees, references_seen}
 use Rattle.poolsteps.specs.ViewLaws.{references_made}
 use Rattle.poolsteps.proofs.ViewLemmas.{prefix-self, prefix-trans}
 use Rattle.poolsteps.specs.Returned.{LeadsTo}
+use Rattle.shardpool.specs.Bounds.{most_takes, most_create_steps}
 use Rattle.shardpool.specs.Called.{caller_of, Make}
 use Rattle.shardpool.proofs.parts.Doing.{make-one, make-more}
 use Rattle.shardpool.proofs.parts.Calling.{no-links, steps-more}
@@ -141,7 +142,7 @@ same-then u v w first second = (second.0 ∙ first.0, second.1 ∙ first.1, seco
 
 module _ (old new : LaneOf) (seat : FitsSeat old.shape old.book old.number) {call : Call} {steps : List Step} {made : List Act} {looks : ℕ} where
   created : call ≡ creating old → Part old.shape call steps made looks old.book new.book → next_step (caller_of old.shape old.book) call steps ≡ None
-      → SameLane old new → KeepsReferences made → length steps ≤ 16 → looks ≤ 64 → Created made old new
+      → SameLane old new → KeepsReferences made → length steps ≤ most_create_steps old.shape → looks ≤ 64 → Created made old new
   created is part all same keeps few least =
       let c : Caller = caller_of old.shape old.book in
       let went = part.went in record {
@@ -229,7 +230,7 @@ module _ {T : Type 0} (content : T → List ℕ) (room : T → ℕ) where
   -- with a look at the generation of a place that nobody has, a create gives it
   gives : (old mid new : LaneOf) {place looks : ℕ} {object : T} {filling : FillingOf T} {call : Call} {steps : List Step} {made : List Act} → FitsSeat old.shape old.book old.number
       → call ≡ creating old → Part old.shape call steps made looks old.book mid.book → next_step (caller_of old.shape old.book) call steps ≡ None
-      → SameLane old mid → KeepsReferences made → length steps ≤ 16 → looks < 64 → IsLoose content room mid place object → Fills mid new place object filling
+      → SameLane old mid → KeepsReferences made → length steps ≤ most_create_steps old.shape → looks < 64 → IsLoose content room mid place object → Fills mid new place object filling
       → HandsOut place made old new → (IsFilling old place → ⊥) → Gives content room old new filling
   gives old mid new {place = place} {object = object} {filling = filling} {made = made} seat is part all same keeps few least loose fills hands unfilled =
       let sees : Sees {S = Unit {0}} old.shape (mid.book, []) (new.book, [])
@@ -362,7 +363,7 @@ pub record NoneTaken (old mid : LaneOf) : Type 0 where
   pub steps : List Step
   pub part : Part old.shape (Creating [] [] old.pages.opened) steps [] 0 old.book mid.book
   pub all : next_step (caller_of old.shape old.book) (Creating [] [] old.pages.opened) steps ≡ None
-  pub few : length steps ≤ 15
+  pub few : length steps ≤ most_takes old.shape
   pub chained : (the_lane old.book).chain ≡ []
   pub free : mid.free ≡ old.free
   pub home : NoneHome old.shape old.number old.book mid.book
@@ -442,7 +443,7 @@ module _ (old mid : LaneOf) (sound : IsSound old) (takes : TakesReturned old mid
 
 -- each page has a place
 page-some : (z : Shape) → IsShape z → (page : ℕ) → 0 < page_size z page
-page-some z shape page = mul-le 1 1 z.first_page (2 ^ page) (shape_bounds z shape).first_page.0 (pow_pos page)
+page-some z shape page = let some = mul-le 1 1 z.first_page (2 ^ page) (shape_bounds z shape).first_page.0 (pow_pos page) in omega (arith, some)
 
 -- the first of a page's slots
 first-slot : (shard page count : ℕ) (first : Place) (rest : List Place) → 0 < count → page_slots shard page 0 count ≡ first ∷ rest

@@ -14,7 +14,7 @@ use Rattle.keybits.specs.Keys.{place_of, is_key, generation_of}
 use Rattle.seqpool.specs.declared.act.Act.{Act}
 use Rattle.seqpool.specs.declared.act.Act.TheVariants as acts
 use Rattle.seqpool.specs.Pool.{with, published, pool_after}
-use Rattle.poolsteps.specs.declared.view.Status.TheVariants.{Untouched}
+use Rattle.poolsteps.specs.declared.view.Status.TheVariants.{Untouched, Emptied}
 use Rattle.poolsteps.specs.Shares.{room_of}
 use Rattle.poolsteps.specs.Share.{Share}
 use Rattle.poolsteps.specs.Spot.{Spot as CellSpot}
@@ -26,14 +26,14 @@ use Rattle.poolsteps.specs.Layout.{slot_start}
 use Rattle.poolsteps.specs.declared.view.View.{View}
 use Rattle.poolsteps.specs.Views.{the_lane, status_of}
 use Rattle.poolsteps.specs.Told.{IsIdle, MayTouch, references_seen}
-use Rattle.poolsteps.specs.Moved.{Outs}
+use Rattle.poolsteps.specs.Moved.{Outs, Peeks}
 use Rattle.poolsteps.specs.ViewLaws.{HeldLaw}
 use Rattle.shardpool.specs.Carried.{Carries}
-use Rattle.shardpool.proofs.parts.Moves.{out-moves, carries-out, moves-here, moves-known}
+use Rattle.shardpool.proofs.parts.Moves.{out-moves, carries-out, moves-here, moves-known, carries-peek, peek-unmoved}
 use Rattle.shardpool.specs.declared.reclaim.Reclaimed.{Reclaimed}
 use Rattle.shardpool.specs.Called.{Did as DidSo, Called, MadeOne, IsUnmoved, GetMisses, IsReclaimed, EndsWithActs}
 use Rattle.shardpool.proofs.parts.Doing.{did-more, did-carries}
-use Rattle.shardpool.specs.declared.pool.HeldKey.{HeldKey}
+use Rattle.shardpool.specs.HeldKeys.{HeldKey}
 use Rattle.shardpool.specs.declared.pool.LaneState.{LaneState}
 use Rattle.shardpool.specs.Places.{held_after}
 use Rattle.shardpool.specs.Tokens.{FillingOf}
@@ -216,6 +216,15 @@ module _ {T : Type 0} {content : T → List ℕ} {room : T → ℕ} {z : Shape} 
   rows-again some =
       (rows-got-again fits.seat.own fits.seat.shape fits.rows (the_lane a.0).lane key (hit-key fits (hit-again called bytes one unmoved)) row stood (λ p other. refl) bytes
       (hit-still called bytes one unmoved) some refl).1
+
+  -- it has one more, after two looks at the lane's slot
+  pub rows-again-then : {spots : ℕ → CellSpot} {c : Me (Option (Share T)) View} → Peeks content room spots z (place_of key) s.number b c → status_of (the_lane b.0) (place_of key) s.number ≡ Emptied → 0 < row.count
+      → (generation_of key ≡ row.generation) × FitsRows content room z c.0 (slice_set s.rows.items (slot_start z (place_of key)) (record row { count = row.count + 1 })) (s.references + 1)
+  rows-again-then peeks empty some =
+      let carries = carries-peek peeks in
+      let still = passes-more (hit-still called bytes one unmoved) (passes-still (did-carries {looks = 2} carries (omega arith)) (peek-unmoved empty peeks)) in
+      rows-got-again fits.seat.own fits.seat.shape fits.rows (the_lane a.0).lane key (hit-key fits (hit-moved called bytes one unmoved carries)) row stood (λ p other. refl) bytes
+      still some refl
 
   -- it has the first, with the share that was taken out
   pub rows-begun : {spots : ℕ → CellSpot} {share : Share T} {c : Me (Option (Share T)) View} → Outs content room spots z (place_of key) s.number Untouched b share c → row.count ≡ 0

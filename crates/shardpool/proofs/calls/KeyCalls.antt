@@ -1,5 +1,6 @@
 -- What a call of a key finds before it, and what it then leaves of its lane.
-use Rattle.std.proofs.Common.{◌≡◌, ◌==◌, ℕ, ◌+◌, ◌<◌, Bool, true, List, [], ◌∷◌, length, Option, Some, None, IfSome, refl, sym, ap, ◌∙◌, subst, slice_get, slice_index, slice_index_or, slice_set, if◌then◌else◌}
+use Rattle.std.proofs.lemmas.Option.{slice_get_cases, get_or_from_slice_get}
+use Rattle.std.proofs.Common.{◌≡◌, ◌≢◌, ◌⊎◌, ⊎_elim, ◌≤◌, inl, inr, arith, ◌==◌, ℕ, ◌+◌, ◌<◌, Bool, true, List, [], ◌∷◌, length, Option, Some, None, IfSome, refl, sym, ap, ◌∙◌, subst, slice_get, slice_index, slice_index_or, slice_set, if◌then◌else◌}
 use Rattle.atomic_table.specs.Table.{Me}
 use Rattle.poolsteps.specs.Share.{Share}
 use Rattle.keybits.specs.declared.shape.Shape.{Shape}
@@ -9,7 +10,7 @@ use Rattle.keybits.specs.Keys.{place_of, is_key, generation_of}
 use Rattle.freelists.specs.Queues.{IsAway}
 use Rattle.freelists.specs.Shards.{place_numbered}
 use Rattle.seqpool.specs.declared.act.Act.TheVariants as acts
-use Rattle.poolsteps.specs.declared.view.Status.TheVariants.{Untouched}
+use Rattle.poolsteps.specs.declared.view.Status.TheVariants.{Untouched, Emptied}
 use Rattle.steplaws.specs.Calls.Call.{Getting, Clearing}
 use Rattle.poolsteps.specs.declared.grid.Spot.{Spot}
 use denote.RawPtr.{Ptr}
@@ -19,22 +20,25 @@ use Rattle.poolsteps.specs.declared.view.View.{View}
 use Rattle.poolsteps.specs.Views.{the_lane, status_of}
 use Rattle.poolsteps.specs.Grids.{IsSpot}
 use Rattle.poolsteps.specs.Told.{MayTouch, references_seen}
-use Rattle.poolsteps.specs.Moved.{Outs}
+use Rattle.poolsteps.specs.Moved.{Outs, Peeks}
 use Rattle.poolsteps.specs.ViewLaws.{HeldLaw}
 use Rattle.shardpool.specs.declared.reclaim.Reclaimed.{Reclaimed}
 use Rattle.shardpool.specs.declared.reclaim.Reclaimed.TheVariants.{Own}
 use Rattle.shardpool.specs.declared.reclaim.At.{At}
 use Rattle.shardpool.specs.AtPlace.{IsAt}
 use Rattle.shardpool.specs.Called.{Called, GetHits, GetMisses, IsReclaimed, EndsWithActs}
-use Rattle.shardpool.proofs.parts.Moves.{carries-out}
-use Rattle.shardpool.specs.declared.pool.HeldKey.{HeldKey}
+use Rattle.shardpool.proofs.parts.Moves.{carries-out, carries-peek}
+use Rattle.shardpool.specs.Lendings.{Gains}
+use mathlib.Core.Logic.{dite}
+use native.Mathlib.Decide.{ℕ_discrete}
+use Rattle.shardpool.specs.HeldKeys.{HeldKey}
 use Rattle.shardpool.specs.declared.pool.LaneState.{LaneState}
 use Rattle.shardpool.specs.Tokens.{PoolOf, LaneOf}
 use Rattle.shardpool.specs.Stores.{Keeps}
 use Rattle.shardpool.specs.LaneStates.{FitsRows, Fits}
 use Rattle.shardpool.specs.Lanes.{holds}
 use Rattle.shardpool.proofs.calls.Ends.{own-away}
-use Rattle.shardpool.proofs.calls.Gets.{Gained, gained, hit-again, hit-moved, hit-may, none-seen, rows-again, rows-begun, miss-told}
+use Rattle.shardpool.proofs.calls.Gets.{Gained, gained, hit-again, hit-moved, hit-may, none-seen, rows-again, rows-again-then, rows-begun, miss-told}
 use Rattle.shardpool.proofs.calls.QuietEnds.{Quieted, quieted, quiet-clear, quiet-miss}
 use Rattle.shardpool.proofs.references.Standings.{standing-set, standing-same}
 use Rattle.shardpool.proofs.references.RowChanges.{rows-low, rows-stand, rows-counts}
@@ -66,6 +70,13 @@ module _ {T : Type 0} {content : T → List ℕ} {room : T → ℕ} {z : Shape} 
   -- the place has a row
   pub ready-low : spot.start < length s.rows.items
   ready-low = subst (λ (i : ℕ). i < length s.rows.items) (sym before.there.start) (rows-low (place_of key) before.fits.rows before.there.inside)
+
+  pub ready-row : (row : HeldKey T) × (row ≡ slice_index_or s.rows.items spot.start row) × (slice_get s.rows.items spot.start ≡ Some row)
+  ready-row = ⊎_elim
+      (λ (there : (row : HeldKey T) × (spot.start < length s.rows.items) × (slice_get s.rows.items spot.start ≡ Some row) × _).
+      (there.0, sym (get_or_from_slice_get s.rows.items spot.start there.0 there.0 there.2), there.2))
+      (λ (past : (length s.rows.items ≤ spot.start) × _). let high = past.0 in let low = ready-low in absurd (omega (arith, high, low)))
+      (slice_get_cases s.rows.items spot.start).1
 
   -- and the call acts there
   pub ready-at : (acting : At) → acting.spot ≡ spot → acting.lane ≡ s.number → acting.tops.now.items ≡ s.last_pushed.items → IsAt z v (place_of key) acting
@@ -124,6 +135,17 @@ module _ {T : Type 0} {content : T → List ℕ} {room : T → ℕ} {z : Shape} 
     hit-untouched none =
         rw (before.there.place_is, before.fits.seat.number_is) (got.3 (none-seen before.fits key row (before.fits.rows.each (place_of key) row before.there.inside stood) none))
 
+    -- where it has one, it emptied the slot
+    hit-emptied : 0 < row.count → status_of (the_lane b.0) spot.place s.number ≡ Emptied
+    hit-emptied some =
+        let h = (before.fits.rows.each (place_of key) row before.there.inside stood).held some in
+        rw (before.there.place_is, before.fits.seat.number_is) (got.2.deeds (the_lane a.0).lane ∙ h.2.emptied)
+
+    pub hit-left : (status_of (the_lane b.0) spot.place s.number ≡ Untouched) ⊎ (status_of (the_lane b.0) spot.place s.number ≡ Emptied)
+    hit-left = dite (ℕ_discrete row.count 0)
+        (λ (none : row.count ≡ 0). inl (hit-untouched none))
+        (λ (some : row.count ≢ 0). inr (hit-emptied (omega (arith, some))))
+
     module _ (t : LaneState T) (rest : t ≡ record s { rows = t.rows; references = s.references + 1 }) where
       -- its row has one more
       pub gained-again : 0 < row.count → ((r : HeldKey T) → slice_get s.rows.items spot.start ≡ Some r → t.rows.items ≡ slice_set s.rows.items spot.start (record r { count = r.count + 1 }))
@@ -148,3 +170,25 @@ module _ {T : Type 0} {content : T → List ℕ} {room : T → ℕ} {z : Shape} 
           (subst (λ xs. FitsRows content room z c.0 xs (s.references + 1)) (sym items) (rows-begun before.fits called got.0 got.1 got.2 row stood outs none))
           (standing-same items refl (standing-set s.rows.items (slot_start z (place_of key)) first before.fits.standing (λ shown is. let same : share ≡ shown = cc is in
           subst (λ (x : Share T). x.spot ≡ record { directory = s.objects.directory; index = slot_start z (place_of key) }) same (outs.is_left.spot_is ∙ ap (λ (p : Ptr). spots_at p z (place_of key)) (sym directory)))))
+
+      -- or whichever of the two, with what was fetched
+      pub gained-fetched : {at : Ptr} {c : Me (Option (Share T)) View} → s.objects.directory ≡ at → Gains content room (spots_at at z) z spot key row b c s t → Gained content room z key got.0 a.0 c.0 s t
+      gained-fetched {at = at} {c = c} directory gains = dite (ℕ_discrete row.count 0)
+          (λ (none : row.count ≡ 0).
+          let first = gains.fetches.first (hit-untouched none) in
+          gained-first directory none first.2
+          (gains.rows ∙ (λ i. slice_set s.rows.items spot.start (record { generation = generation_of key; count = ap (λ (n : ℕ). n + 1) none i; share = first.1 i }))))
+          (λ (more : row.count ≢ 0).
+          let some : 0 < row.count = omega (arith, more) in
+          let empty = hit-emptied some in
+          let again = gains.fetches.again empty in
+          let place = before.there.place_is in
+          let peeks = subst (λ (p : ℕ). Peeks content room (spots_at at z) z p s.number b c) place again.1 in
+          let there = subst (λ (p : ℕ). status_of (the_lane b.0) p s.number ≡ Emptied) place empty in
+          let told = rows-again-then before.fits called got.0 got.1 got.2 row stood peeks there some in
+          let row_now : HeldKey T = record row { count = row.count + 1 } in
+          let items : t.rows.items ≡ slice_set s.rows.items (slot_start z (place_of key)) row_now
+          = gains.rows ∙ (λ i. slice_set s.rows.items (before.there.start i) (record { generation = told.0 i; count = row.count + 1; share = again.0 i })) in
+          gained before.fits (hit-moved called got.0 got.1 got.2 (carries-peek peeks)) t rest
+          (subst (λ xs. FitsRows content room z c.0 xs (s.references + 1)) (sym items) told.1)
+          (standing-same items refl (standing-set s.rows.items (slot_start z (place_of key)) row_now before.fits.standing (λ shown share. before.fits.standing (slot_start z (place_of key)) row shown stood share))))

@@ -21,7 +21,7 @@ use Rattle.seqpool.specs.Pool.{fresh, with, is_current}
 use Rattle.poolsteps.specs.declared.view.Status.TheVariants.{Untouched, Emptied}
 use Rattle.poolsteps.specs.declared.view.View.{View}
 use Rattle.poolsteps.specs.Told.{references_seen}
-use Rattle.shardpool.specs.declared.pool.HeldKey.{HeldKey}
+use Rattle.shardpool.specs.HeldKeys.{HeldKey}
 use Rattle.shardpool.specs.declared.pool.LaneState.{LaneState}
 use Rattle.shardpool.specs.declared.opening.Unendowed.{Unendowed}
 use Rattle.slotcell.specs.declared.objects.Clear.{Ghosts}

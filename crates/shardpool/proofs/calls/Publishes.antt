@@ -29,7 +29,7 @@ use Rattle.poolsteps.specs.Views.{the_lane, status_of, known_of}
 use Rattle.poolsteps.specs.Told.{IsIdle, MayPublish, references_seen}
 use Rattle.poolsteps.specs.Moved.{stored_of}
 use Rattle.shardpool.specs.Called.{Did as DidSo, MadeOne}
-use Rattle.shardpool.specs.declared.pool.HeldKey.{HeldKey}
+use Rattle.shardpool.specs.HeldKeys.{HeldKey}
 use Rattle.shardpool.specs.declared.pool.LaneState.{LaneState}
 use Rattle.shardpool.specs.Places.{held_after, left_with}
 use Rattle.shardpool.specs.Tokens.{LaneOf, FillingOf}

@@ -18,7 +18,7 @@ use Rattle.freelists.specs.Shards.{place_numbered}
 use Rattle.seqpool.specs.declared.act.Act.{Act}
 use Rattle.seqpool.specs.declared.act.Act.TheVariants as acts
 use Rattle.seqpool.specs.Pool.{with, published, pool_after}
-use Rattle.poolsteps.specs.declared.view.Status.TheVariants.{Untouched}
+use Rattle.poolsteps.specs.declared.view.Status.TheVariants.{Untouched, Emptied}
 use Rattle.poolsteps.specs.Share.{Share}
 use Rattle.poolsteps.specs.Spot.{Spot as CellSpot}
 use Rattle.poolsteps.specs.Whole.{Whole}
@@ -29,8 +29,8 @@ use Rattle.poolsteps.specs.declared.view.View.{View}
 use Rattle.poolsteps.specs.Grids.{IsSpot}
 use Rattle.poolsteps.specs.Views.{the_lane, status_of, pushed_in}
 use Rattle.poolsteps.specs.Told.{IsIdle, references_seen}
-use Rattle.poolsteps.specs.Moved.{Backs}
-use Rattle.shardpool.proofs.parts.Moves.{back-moves, carries-back, moves-here}
+use Rattle.poolsteps.specs.Moved.{Backs, Peeks}
+use Rattle.shardpool.proofs.parts.Moves.{back-moves, carries-back, moves-here, carries-peek, peek-unmoved}
 use Rattle.shardpool.specs.declared.reclaim.At.{At}
 use Rattle.shardpool.specs.AtPlace.{IsAt}
 use Rattle.shardpool.specs.declared.reclaim.Reclaimed.{Reclaimed}
@@ -38,7 +38,7 @@ use Rattle.shardpool.specs.declared.reclaim.Reclaimed.TheVariants.{Own}
 use Rattle.shardpool.specs.Called.{Did as DidSo, IsReclaimed, EndsWithActs, end_acts}
 use Rattle.shardpool.proofs.parts.Doing.{did-carries, did-most}
 use Rattle.shardpool.proofs.parts.Ending.{did-nothing}
-use Rattle.shardpool.specs.declared.pool.HeldKey.{HeldKey}
+use Rattle.shardpool.specs.HeldKeys.{HeldKey}
 use Rattle.shardpool.specs.declared.pool.Places.{Places}
 use Rattle.shardpool.specs.declared.pool.LaneState.{LaneState}
 use Rattle.shardpool.specs.Places.{held_after}
@@ -139,6 +139,13 @@ module _ {T : Type 0} {content : T → List ℕ} {room : T → ℕ} {z : Shape} 
       let stands = standing s key fits some in
       fits.standing (slot_start z (place_of key)) stands.0 share stands.1 (sym (lends.one stands.0 stands.1 (lent-single fits some lends share is)).0 ∙ is)
 
+  -- the lane emptied the slot
+  pub lent-emptied : {v : View} (fits : Fits content room z v s) (some : 0 < references_seen z v key) → status_of (the_lane v) (place_of key) s.number ≡ Emptied
+  lent-emptied {v = v} fits some =
+      let stands = standing s key fits some in
+      let h = (row-fits s key fits some stands.0 stands.1).held (row-counts s key fits some stands.0 stands.1).2 in
+      ap (λ (n : ℕ). status_of (the_lane v) (place_of key) n) fits.seat.number_is ∙ h.2.emptied
+
   module _ {a : Me (Option (Share T)) View} (fits : Fits content room z a.0 s) (some : 0 < references_seen z a.0 key) (lends : LendsBack (slot_start z (place_of key)) s m result) where
     pub lent-back : {spots : ℕ → CellSpot} {b : Me (Option (Share T)) View} (share : Share T) → result ≡ Some share → Backs content room spots z (place_of key) s.number Untouched a share b → LendsHome z key a b s m
     lent-back share is backs =
@@ -158,8 +165,9 @@ module _ {T : Type 0} {content : T → List ℕ} {room : T → ℕ} {z : Shape} 
           still = λ several. absurd (omega (arith, several, single));
         }
 
-    pub lent-more : ((share : Share T) → result ≢ Some share) → LendsHome z key a a s m
-    lent-more isnt =
+    pub lent-more : {spots : ℕ → CellSpot} {b : Me (Option (Share T)) View} → Peeks content room spots z (place_of key) s.number a b → ((share : Share T) → result ≢ Some share) → LendsHome z key a b s m
+    lent-more peeks isnt =
+        let carries = carries-peek peeks in
         let stands = standing s key fits some in
         let row : HeldKey T = stands.0 in
         dite (ℕ_discrete row.count 1)
@@ -169,9 +177,9 @@ module _ {T : Type 0} {content : T → List ℕ} {room : T → ℕ} {z : Shape} 
         (λ (several : row.count ≢ 1). record {
           row = row;
           stands = stands.1;
-          did = seat-nothing (place_of key) 2 fits.seat;
-          pushed = refl;
-          idle = fits.seat.idle;
+          did = did-carries carries (omega arith);
+          pushed = carries.elsewhere.pushed;
+          idle = carries.elsewhere.under ∙ fits.seat.idle;
           share = row.share;
           rows = (lends.more row stands.1 several).1
               ∙ (sym (set-get_or s.rows.items (slot_start z (place_of key)) row)
@@ -179,7 +187,7 @@ module _ {T : Type 0} {content : T → List ℕ} {room : T → ℕ} {z : Shape} 
           rest = lends.rest;
           last = λ single. absurd (several single);
           gone = λ single. absurd (several single);
-          still = λ _. (record { deeds = λ number. refl; cell = refl }, refl);
+          still = λ _. (peek-unmoved (lent-emptied fits some) peeks, refl);
         })
 
 -- ---- what stands in front of the release

@@ -145,8 +145,8 @@ module _ {T : Type 0} {content : T → List ℕ} {room : T → ℕ} {v : View} {
   opened-fillings table low opens filling made =
       let page : ℕ = s.pages.opened in
       let size : ℕ = page_size s.shape page in
-      let few : s.shape.pages ≤ 6 = fits.seat.shape.pages.1 in
-      let small = page_size-le s.shape fits.seat.shape page low in
+      let few : s.shape.pages ≤ 16 = fits.seat.shape.pages.1 in
+      let small = page_size-le s.shape page in
       subst (λ (lane : LaneOf). Made lane filling) (sym (ap (λ (x : LaneState T). lane_of table v x) opens.rest ∙ ap (λ (p : Ptr). record (lane_of table v s) { directory = p; free = t.free; pages = t.pages }) opens.same.0))
       (made-stays (lane_of table v s) t.free t.pages filling
       (λ at within is.

@@ -134,17 +134,17 @@ module _ {T : Type 0} (content : T → List ℕ) (room : T → ℕ) (old : LaneS
     pub same-shape : now.shape ≡ old.shape
     same-shape = ap (λ (s : LaneState T). s.shape) on.rest
 
-    pub low-shard : old.number < 16
-    low-shard = let few : old.shape.lanes ≤ 16 = may.shape.lanes.1 in let low = may.lane in omega (arith, few, low)
+    pub low-shard : old.number < 64
+    low-shard = let few : old.shape.lanes ≤ 64 = may.shape.lanes.1 in let low = may.lane in omega (arith, few, low)
 
-    pub low-page : old.pages.opened < 6
-    low-page = let few : old.shape.pages ≤ 6 = may.shape.pages.1 in let low = may.unopened in omega (arith, few, low)
+    pub low-page : old.pages.opened < 16
+    low-page = let few : old.shape.pages ≤ 16 = may.shape.pages.1 in let low = may.unopened in omega (arith, few, low)
 
     low-slot : on.slots < page_size old.shape old.pages.opened
     low-slot = let is = on.left_is in omega (arith, is)
 
-    pub small-slot : on.slots < 2048
-    small-slot = let small = page_size-le old.shape may.shape old.pages.opened may.unopened in let low = low-slot in omega (arith, small, low)
+    pub small-slot : on.slots < 4096
+    small-slot = let small = page_size-le old.shape old.pages.opened in let low = low-slot in omega (arith, small, low)
 
     -- it is the length of the list
     pub slot-is : length now.free.own ≡ on.slots

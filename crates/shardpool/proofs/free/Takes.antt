@@ -29,7 +29,7 @@ use Rattle.poolsteps.specs.Views.{the_lane, status_of, known_of}
 use Rattle.poolsteps.specs.Told.{references_seen}
 use Rattle.poolsteps.specs.Returned.{rest_of, taken_record, LeadsTo}
 use Rattle.shardpool.specs.Taken.{Went, IsCollected, Collects, FollowsOut}
-use Rattle.shardpool.specs.declared.pool.HeldKey.{HeldKey}
+use Rattle.shardpool.specs.HeldKeys.{HeldKey}
 use Rattle.shardpool.specs.declared.pool.LaneState.{LaneState}
 use Rattle.shardpool.specs.Tokens.{PoolOf, LaneOf, FillingOf}
 use Rattle.shardpool.specs.Lanes.{Made}

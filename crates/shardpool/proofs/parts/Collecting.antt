@@ -1,5 +1,5 @@
 -- The TAKEs of a create: of one stack after another, each empty, up to the first that isn't.
-use Rattle.std.proofs.Common.{◌≡◌, ◌≢◌, ⊎_elim, ◌==◌, ℕ, ◌+◌, ◌<◌, ◌≤◌, Bool, true, false, cond, ltb, List, [], ◌∷◌, ◌++◌, length, Option, Some, None, refl, sym, ap, ◌∙◌, subst, arith, eq-eqb, ne_eqb, append_assoc, append-nil, length-append, if◌then◌else◌}
+use Rattle.std.proofs.Common.{◌≡◌, ◌≢◌, ⊎_elim, ◌==◌, ℕ, ◌+◌, ◌-◌, ◌<◌, ◌≤◌, Bool, true, false, cond, ltb, List, [], ◌∷◌, ◌++◌, length, Option, Some, None, refl, sym, ap, ◌∙◌, subst, arith, eq-eqb, ne_eqb, append_assoc, append-nil, length-append, if◌then◌else◌}
 use Rattle.std.proofs.lemmas.Bool.{cases_Bool, ltb-true, ltb-false, lt-ltb, le-ltb}
 use mathlib.Core.Logic.{dite}
 use native.Mathlib.Decide.{ℕ_discrete}
@@ -188,8 +188,8 @@ module _ {S : Type 0} {z : Shape} {opened from : ℕ} {before now : Me S View} (
     pub take-stepped : after.0.steps ≡ before.0.steps + length (tried.steps ++ take_step own from found ∷ [])
     take-stepped = let one = steps.steps in let earlier = tried.stepped in let count = take-count in omega arith
 
-    take-few : from ≢ own → from < z.lanes → z.lanes ≤ 16 → own < z.lanes → length (tried.steps ++ take_step own from found ∷ []) ≤ 15
-    take-few isnt below most inside = let count = take-count in let few = tried.few in ⊎_elim
+    take-few : from ≢ own → from < z.lanes → own < z.lanes → length (tried.steps ++ take_step own from found ∷ []) ≤ z.lanes - 1
+    take-few isnt below inside = let count = take-count in let few = tried.few in ⊎_elim
         (λ (is : ltb own from ≡ true). let fewer = tried.fewer (ltb-true own from is) in omega arith)
         (λ (no : ltb own from ≡ false). let above = ltb-false own from no in omega arith)
         (cases_Bool (ltb own from))
@@ -284,8 +284,8 @@ module _ {S : Type 0} {z : Shape} {opened from : ℕ} {before now : Me S View} (
         let here = all-here z pool own places place act-allowed.2 is in
         (here.0, here.1 ∙ lane-after, with-lane place is ∙ ap with lane-after, (taken.4 place is).1, (taken.4 place is).2)
 
-    pub some-collects : from ≢ own → from < z.lanes → z.lanes ≤ 16 → own < z.lanes → Collects z opened found before after
-    some-collects isnt below most inside =
+    pub some-collects : from ≢ own → from < z.lanes → own < z.lanes → Collects z opened found before after
+    some-collects isnt below inside =
         let was : LaneRecord = the_lane before.0 in record {
           steps = tried.steps ++ take_step own from found ∷ [];
           made = act ∷ [];
@@ -293,7 +293,7 @@ module _ {S : Type 0} {z : Shape} {opened from : ℕ} {before now : Me S View} (
           next = next-after found isnt [] ∙ (ap (λ (b : Bool). if b then take_next c (next_lane own from) [] else follow_next own found []) (ne_eqb found 0 some)
               ∙ sym (ap (λ (b : Bool). if b then None else follow_next own found []) (ne_eqb found 0 some)));
           make = take-make steps-some (links_of places) some-leads;
-          few = take-few steps-some isnt below most inside;
+          few = take-few steps-some isnt below inside;
           went = take-went steps-some refl refl refl refl;
           held = steps-some.held ∙ tried.held;
           stepped = take-stepped steps-some;
@@ -309,8 +309,8 @@ taken-some {z = z} {found = found} {now = now} {after = after} tried takes some 
 
 -- each stack was found empty
 pub none-collects : {S : Type 0} {z : Shape} {opened : ℕ} {before after : Me S View} → Tried z opened z.lanes before after → IsLawful z before.0
-    → z.lanes ≤ 16 → (the_lane before.0).lane < z.lanes → Collects z opened 0 before after
-none-collects {z = z} {opened = opened} {before = before} tried seen most inside =
+    → (the_lane before.0).lane < z.lanes → Collects z opened 0 before after
+none-collects {z = z} {opened = opened} {before = before} tried seen inside =
     let own : ℕ = (the_lane before.0).lane in
     let c : Caller = caller_of z before.0 in
     let last : z.lanes ≢ own = λ e. absurd (omega arith) in

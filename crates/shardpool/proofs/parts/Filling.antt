@@ -1,5 +1,5 @@
 -- A call that publishes: the moves of the shares of its place, and its one step.
-use Rattle.std.proofs.Common.{◌≡◌, ⊎_elim, ℕ, ◌+◌, ◌≤◌, Bool, cond, List, [], ◌∷◌, ◌++◌, length, Some, refl, sym, ap, ◌∙◌, subst, arith, eq-eqb, length-append, if◌then◌else◌}
+use Rattle.std.proofs.Common.{◌≡◌, ℕ, ◌+◌, ◌≤◌, Bool, cond, List, [], ◌∷◌, ◌++◌, length, Some, refl, ap, ◌∙◌, subst, arith, eq-eqb, length-append, if◌then◌else◌}
 use Rattle.atomic_table.specs.Table.{Me}
 use Rattle.keybits.specs.declared.shape.Shape.{Shape}
 use Rattle.keybits.specs.declared.step.Kind.TheVariants as kinds
@@ -19,30 +19,26 @@ use Rattle.poolsteps.specs.declared.view.View.{View}
 use Rattle.poolsteps.specs.Views.{head_record, the_lane, known_of, after_step, with_cell}
 use Rattle.poolsteps.specs.Told.{MayPublish, Publishes}
 use Rattle.poolsteps.specs.ViewLaws.{FillingLaw}
-use Rattle.shardpool.specs.Carried.{MayCarry}
+use Rattle.shardpool.specs.Carried.{Carries}
 use Rattle.shardpool.specs.Called.{caller_of, Did, Called}
-use Rattle.shardpool.proofs.parts.Doing.{cell-next, did-step, did-carries, did-most, did-more, make-one}
+use Rattle.shardpool.proofs.parts.Doing.{cell-next, did-step, did-carries, did-more, make-one}
 
--- moves of the place's shares, or none
-module _ {S : Type 0} {z : Shape} {place n : ℕ} {a b : Me S View} (carries : MayCarry z place n a b) where
+-- moves of the place's shares
+module _ {S : Type 0} {z : Shape} {place n : ℕ} {a b : Me S View} (carries : Carries z place n a b) where
   lane-still : (the_lane b.0).lane ≡ (the_lane a.0).lane
-  lane-still = ⊎_elim (λ same. ap (λ (me : Me S View). (the_lane me.0).lane) same.1) (λ moves. moves.elsewhere.lane) carries
+  lane-still = carries.elsewhere.lane
 
   -- the lane still may publish the key
   pub still-may : FillingLaw → (key : ℕ) → MayPublish z a.0 key → MayPublish z b.0 key
-  still-may law key may = ⊎_elim
-      (λ same. subst (λ (me : Me S View). MayPublish z me.0 key) (sym same.1) may)
-      (λ moves. law z a.0 b.0 (the_lane b.0) key moves.goes moves.elsewhere.lane moves.elsewhere.under moves.elsewhere.chain may) carries
+  still-may law key may = law z a.0 b.0 (the_lane b.0) key carries.goes carries.elsewhere.lane carries.elsewhere.under carries.elsewhere.chain may
 
   -- a step behind them
   did-behind : {made : List Act} {c : Me S View} → n ≤ 34 → Did z place made 1 0 b c → Did z place made 1 34 a c
-  did-behind {made = made} {c = c} few did = ⊎_elim
-      (λ same. subst (λ (me : Me S View). Did z place made 1 34 me c) same.1 (did-most did (omega arith)))
-      (λ moves. did-more (did-carries moves few) did) carries
+  did-behind few did = did-more (did-carries carries few) did
 
 -- they and the PUBLISH are a call of the cell's content
 pub publish-called : {S : Type 0} {z : Shape} {key n found : ℕ} {c : Stored} {content : List ℕ} {with_ref : Bool} {a b d : Me S View}
-    → MayCarry z (place_of key) n a b → n ≤ 34 → c.content ≡ content → Publishes z key c with_ref b found d → Called z (Publishing key content with_ref) 34 a d
+    → Carries z (place_of key) n a b → n ≤ 34 → c.content ≡ content → Publishes z key c with_ref b found d → Called z (Publishing key content with_ref) 34 a d
 publish-called {S = S} {z = z} {key = key} {found = found} {c = c} {content = content} {with_ref = with_ref} {a = a} {b = b} {d = d} carries few is publishes =
     let act : Act = acts.Publish (the_lane a.0).lane key content with_ref in
     let step : Step = record { kind = kinds.Publish with_ref; word = Life (place_of key); before = found; after = if with_ref then found + 5 else found + 1 } in

@@ -1,5 +1,5 @@
 -- What an OUT or a BACK of one share of a place leaves of a lane's view, and what such moves together leave.
-use Rattle.std.proofs.Common.{◌≡◌, ◌≢◌, ℕ, ◌+◌, ◌==◌, ◌&&◌, Bool, true, cond, eqb, List, [], Option, refl, ap, sym, ◌∙◌, subst, arith, eq-eqb, ne_eqb}
+use Rattle.std.proofs.Common.{◌≡◌, ◌≢◌, ◌⊎◌, ⊎_elim, ℕ, ◌+◌, ◌==◌, ◌&&◌, Bool, true, cond, eqb, List, [], Option, refl, ap, sym, ◌∙◌, subst, arith, eq-eqb, ne_eqb}
 use Rattle.std.proofs.lemmas.Bool.{and_right}
 use Rattle.atomic_table.specs.Table.{Me}
 use Rattle.keybits.specs.declared.shape.Shape.{Shape}
@@ -7,12 +7,15 @@ use Rattle.poolsteps.specs.Spot.{Spot as CellSpot}
 use Rattle.poolsteps.specs.Share.{Share}
 use Rattle.poolsteps.specs.declared.view.Stored.{Stored}
 use Rattle.poolsteps.specs.declared.view.Status.{Status}
-use Rattle.poolsteps.specs.declared.view.Status.TheVariants.{Emptied, InHand}
+use Rattle.poolsteps.specs.declared.view.Status.TheVariants.{Untouched, Emptied, InHand}
 use Rattle.poolsteps.specs.declared.view.LaneRecord.{LaneRecord}
 use Rattle.poolsteps.specs.declared.view.View.{View}
 use Rattle.poolsteps.specs.Views.{head_record, the_lane, status_of, known_of, IsOne}
 use Rattle.poolsteps.specs.Told.{GoesOn, HasPlace}
-use Rattle.poolsteps.specs.Moved.{moved_record, stored_of, Outs, Backs}
+use mathlib.Core.Logic.{dite}
+use native.Mathlib.Decide.{ℕ_discrete}
+use Rattle.shardpool.specs.Called.{IsUnmoved}
+use Rattle.poolsteps.specs.Moved.{moved_record, stored_of, Outs, Backs, Peeks, Fetches}
 use Rattle.poolsteps.specs.Batches.{GoesAll}
 use Rattle.poolsteps.specs.ViewLaws.{SharesLaw}
 use Rattle.poolsteps.proofs.Keeping.{goes-two}
@@ -97,6 +100,34 @@ module _ {T : Type 0} {content : T → List ℕ} {room : T → ℕ} {spots : ℕ
 
   pub carries-back : Backs content room spots z place number status before share after → Carries z place 2 before after
   carries-back backs = moves-carry (back-moves backs)
+
+module _ {T : Type 0} {content : T → List ℕ} {room : T → ℕ} {spots : ℕ → CellSpot} {z : Shape} {place number : ℕ} {before after : Me (Option (Share T)) View} where
+  fetched-first : {one : Share T} → Outs content room spots z place number Untouched before one after → Moves z place number Emptied (stored_of content room one) before after
+  fetched-first {one = one} outs = record { first = stored_of content room one; goes = outs.goes; held = outs.held; steps = outs.steps; looks = outs.looks }
+
+  -- and so are two looks at an empty slot
+  pub peek-moves : Peeks content room spots z place number before after → Moves z place number Emptied (known_of (the_lane before.0) place) before after
+  peek-moves peeks = record { first = known_of (the_lane before.0) place; goes = peeks.goes; held = peeks.held; steps = peeks.steps; looks = peeks.looks }
+
+  pub carries-peek : Peeks content room spots z place number before after → Carries z place 2 before after
+  carries-peek peeks = moves-carry (peek-moves peeks)
+
+  -- which move nothing
+  pub peek-unmoved : status_of (the_lane before.0) place number ≡ Emptied → Peeks content room spots z place number before after → IsUnmoved place (the_lane before.0) (the_lane after.0)
+  peek-unmoved empty peeks = let moves = peek-moves peeks in record {
+    deeds = λ k. dite (ℕ_discrete k number)
+        (λ here. subst (λ (n : ℕ). status_of (the_lane after.0) place n ≡ status_of (the_lane before.0) place n) (sym here) (moves-here moves ∙ sym empty))
+        (λ other. moves-beside moves k other);
+    cell = moves-known moves;
+  }
+
+  -- a share is fetched so, or it was with the lane
+  pub carries-fetch : {own fetched : Option (Share T)} → (status_of (the_lane before.0) place number ≡ Untouched) ⊎ (status_of (the_lane before.0) place number ≡ Emptied)
+      → Fetches content room spots z place number before own fetched after → Carries z place 2 before after
+  carries-fetch left fetches = ⊎_elim
+      (λ (untouched : status_of (the_lane before.0) place number ≡ Untouched). moves-carry (fetched-first (fetches.first untouched).2))
+      (λ (emptied : status_of (the_lane before.0) place number ≡ Emptied). carries-peek (fetches.again emptied).1)
+      left
 
 -- and so are moves of all shares of the place
 pub carries-all : {S : Type 0} {z : Shape} {place looks : ℕ} {status : Status} {c : Stored} {before after : Me S View} → GoesAll z place status c looks before.0 after.0 → before.1 ≡ []

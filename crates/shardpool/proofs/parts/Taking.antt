@@ -83,10 +83,10 @@ module _ {S : Type 0} {z : Shape} {opened from : ℕ} {a b : Me S View} (tried :
       (inl (let stepped = tried.stepped in omega (arith, stepped, sum, none)))
 
 -- each stack was found empty
-pub called-empty : {S : Type 0} {z : Shape} {opened : ℕ} {a b : Me S View} → Tried z opened z.lanes a b → IsLawful z a.0 → z.lanes ≤ 16
+pub called-empty : {S : Type 0} {z : Shape} {opened : ℕ} {a b : Me S View} → Tried z opened z.lanes a b → IsLawful z a.0
     → (the_lane a.0).lane < z.lanes → (left limit : ℕ) → b.0.steps + left ≡ a.0.steps + limit → CalledWithin z (Creating [] [] opened) limit a b
-called-empty tried seen most inside left limit sum =
-    let collects = none-collects tried seen most inside in
+called-empty tried seen inside left limit sum =
+    let collects = none-collects tried seen inside in
     let stepped = collects.stepped in
     called-went collects.steps collects.made collects.are collects.make collects.went collects.held stepped
     (at-end (length collects.steps) limit _ (omega (arith, stepped, sum)) collects.next)

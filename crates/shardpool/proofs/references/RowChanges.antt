@@ -24,7 +24,7 @@ use Rattle.poolsteps.specs.Told.{references_seen}
 use Rattle.poolsteps.specs.Layout.{slot_start}
 use Rattle.poolsteps.proofs.SlotLemmas.{in-row}
 use Rattle.poolsteps.specs.ViewLaws.{references_made}
-use Rattle.shardpool.specs.declared.pool.HeldKey.{HeldKey}
+use Rattle.shardpool.specs.HeldKeys.{HeldKey}
 use Rattle.shardpool.specs.Places.{held_after}
 use Rattle.shardpool.specs.LaneStates.{IsHeld, FitsRow, FitsRows}
 use Rattle.shardpool.proofs.frame.Frames.{Passes, OnlyAt}

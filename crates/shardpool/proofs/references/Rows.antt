@@ -22,7 +22,7 @@ use Rattle.poolsteps.specs.ViewLaws.{references_made}
 use Rattle.poolsteps.specs.Moved.{stored_of}
 use Rattle.poolsteps.specs.Layout.{slot_start}
 use Rattle.poolsteps.proofs.SlotLemmas.{start-injective}
-use Rattle.shardpool.specs.declared.pool.HeldKey.{HeldKey}
+use Rattle.shardpool.specs.HeldKeys.{HeldKey}
 use Rattle.shardpool.specs.Places.{held_with, held_after}
 use Rattle.shardpool.specs.LaneStates.{IsHeld, FitsRow, FitsRows}
 use Rattle.shardpool.proofs.frame.Frames.{Passes, OnlyAt}

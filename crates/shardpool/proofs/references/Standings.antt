@@ -7,7 +7,7 @@ use native.Mathlib.Decide.{ℕ_discrete}
 use denote.RawPtr.{Ptr}
 use Rattle.poolsteps.specs.Share.{Share}
 use Rattle.poolsteps.specs.Spot.{Spot}
-use Rattle.shardpool.specs.declared.pool.HeldKey.{HeldKey}
+use Rattle.shardpool.specs.HeldKeys.{HeldKey}
 use Rattle.shardpool.specs.Rows.{AreStanding}
 use Rattle.shardpool.proofs.free.Stores.{stands-here}
 

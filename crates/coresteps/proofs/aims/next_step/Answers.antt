@@ -48,8 +48,8 @@ returns-else-has_hit c = λ script done b is called are found e pushed.
     let r = c.requires.place in
     let other : r.3 ≡ Getting key
     = same_some r.3 (Getting key) (subst (λ (k : OwnCall). IsCall r.0 r.1 r.2 (Some k) (Some r.3)) c.in-Get.is r.4) in
-    let small : shard_of place < 16
-    = subst (λ (p : ℕ). shard_of p < 16) (ap (λ (k : Call). place_of (key_in k)) other ∙ sym c.place_of-else-has_hit.ensures.place) r.5 in
+    let small : shard_of place < 64
+    = subst (λ (p : ℕ). shard_of p < 64) (ap (λ (k : Call). place_of (key_in k)) other ∙ sym c.place_of-else-has_hit.ensures.place) r.5 in
     c.end_step-else-has_hit.ensures b is are found e (pushed (shard_of place) small)
     (ap (λ (k : Call). place_of (key_in k)) same ∙ sym c.place_of-else-has_hit.ensures.place)
     (λ own chain opened creates. no_creating key own chain opened (sym same ∙ creates))
@@ -67,8 +67,8 @@ returns-else-has_hit-2 c = λ script done b is called are found e pushed.
     let r = c.requires.place in
     let other : r.3 ≡ Clearing key
     = same_some r.3 (Clearing key) (subst (λ (k : OwnCall). IsCall r.0 r.1 r.2 (Some k) (Some r.3)) c.in-Clear.is r.4) in
-    let small : shard_of place < 16
-    = subst (λ (p : ℕ). shard_of p < 16) (ap (λ (k : Call). place_of (key_in k)) other ∙ sym c.place_of-else-has_hit-2.ensures.place) r.5 in
+    let small : shard_of place < 64
+    = subst (λ (p : ℕ). shard_of p < 64) (ap (λ (k : Call). place_of (key_in k)) other ∙ sym c.place_of-else-has_hit-2.ensures.place) r.5 in
     c.end_step-else-has_hit-2.ensures b is are found e (pushed (shard_of place) small)
     (ap (λ (k : Call). place_of (key_in k)) same ∙ sym c.place_of-else-has_hit-2.ensures.place)
     (λ own chain opened creates. no_creating key own chain opened (sym same ∙ creates))
@@ -88,8 +88,8 @@ returns-in-Release c = λ script done b is called are found e pushed.
     let r = c.requires.place in
     let other : r.3 ≡ Releasing key
     = same_some r.3 (Releasing key) (subst (λ (k : OwnCall). IsCall r.0 r.1 r.2 (Some k) (Some r.3)) c.in-Release.is r.4) in
-    let small : shard_of place < 16
-    = subst (λ (p : ℕ). shard_of p < 16) (ap (λ (k : Call). place_of (key_in k)) other ∙ sym c.place_of.ensures.place) r.5 in
+    let small : shard_of place < 64
+    = subst (λ (p : ℕ). shard_of p < 64) (ap (λ (k : Call). place_of (key_in k)) other ∙ sym c.place_of.ensures.place) r.5 in
     c.end_step.ensures b is are found e (pushed (shard_of place) small)
     (ap (λ (k : Call). place_of (key_in k)) same ∙ sym c.place_of.ensures.place)
     (λ own chain opened creates. no_creating key own chain opened (sym same ∙ creates))

@@ -4,4 +4,4 @@ use Rattle.explanations.proofs.Dues.{due-if}
 use Rattle.explanations.proofs.reasons.clear_due.Goals as goal
 
 pub returns : goal.returns
-returns c = due-if (IsClearDue c.args.pool.now.shape (pool_in c.args.pool.now) c.args.lane c.args.key) _ _ c.due_if.result c.due_if.ensures tt (λ is. is)
+returns c = due-if (IsClearDue c.args.pool.now.shape (pool_in c.args.pool.now) c.args.lane c.args.key c.args.reply) _ _ _ c.due_if.result c.due_if.ensures (λ refused. refused) (λ is. is)

@@ -1,8 +1,6 @@
 -- The key is published when it is cleared, and so it is cleared then; where it isn't read it is cleared before.
-use Rattle.std.proofs.Common.{◌≡◌, ◌∷◌, true, sym, ◌∙◌, subst, ℕ}
+use Rattle.std.proofs.Common.{◌≡◌, true, sym, ◌∙◌, subst, ℕ}
 use Rattle.keybits.specs.Keys.{is_key}
-use Rattle.seqpool.specs.declared.act.Act.TheVariants.{Clear}
-use Rattle.shardpool.specs.Lanes.{Did}
 use Rattle.poollaws.specs.Words.{IsPublished, IsCleared}
 use Rattle.logsample.specs.Histories.{Collects}
 use Rattle.logsample.proofs.calls.collect.Goals as goal
@@ -26,19 +24,26 @@ returns-clause-collects g c =
     let inside = c.key_law.ensures _ _ _ _ c.seen_law.ensures.legal (c.going_law.ensures.published _ _ goes.seen _ _ c.hear-key.ensures.published) in
     let within = subst (λ (key : ℕ). is_key g.N.PoolName.pool.shape key ≡ true) (sym is) inside in
     let published = subst (λ (key : ℕ). IsPublished c.hear-key.new.self.lane.book.seen key c.args.told.content) (sym is) c.hear-key.ensures.published in
-    let clears = c.clear.ensures.clears within in
-    subst (λ (key : ℕ). Collects key c.read-line.result c.args.seat.now.lane c.clear.new.self.lane) is (record {
+    subst (λ (key : ℕ). Collects g.N.PoolName.pool.shape key c.read-line.result c.args.seat.now.lane c.clear.new.self.lane) is (record {
       heard = c.hear-key.new.self.lane;
       hears = c.hear-key.ensures.hears;
       looked = c.read-line.new.seat.lane;
-      looks = c.read-line.ensures.looks within;
+      uses = c.read-line.ensures.uses;
+      misses = c.read-line.ensures.misses;
       marked = c.clear.result;
-      rest = clears.0;
-      clears = subst (λ (n : ℕ). Did (Clear n c.hear-key.result c.clear.result ∷ clears.0) c.read-line.new.seat.lane c.clear.new.self.lane)
-          (c.read-line.ensures.number ∙ c.hear-key.ensures.number) clears.1;
+      clears = c.clear.ensures.clears within;
       behind = λ none.
           c.gone_law.ensures.marks _ _ _ _ c.clear.ensures.goes.seen (c.read-line.ensures.missed none c.args.told.content published) c.clear.ensures.cleared;
     })
+
+pub returns-clause-keeps : goal.returns-clause-keeps
+returns-clause-keeps g c =
+    let heard = c.hear-key.ensures.keeps in
+    let looked = c.read-line.ensures.keeps in
+    let cleared = c.clear.ensures.keeps in record {
+      fillings = λ filling made. cleared.fillings filling (looked.fillings filling (heard.fillings filling made));
+      held = λ key. cleared.held key ∙ (looked.held key ∙ heard.held key);
+    }
 
 pub returns-clause-goes : goal.returns-clause-goes
 returns-clause-goes g c =

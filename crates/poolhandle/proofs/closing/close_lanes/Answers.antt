@@ -48,3 +48,13 @@ close-requires c =
       lanes = all-lanes c.args.lanes.items c.len-count.result c.args.pool (search rules) (search rules) c.requires.owned
           (subst (AreNumbered c.args.lanes.items c.len-count.result) end c.loop-index.invariant);
     }
+
+pub returns : goal.returns
+returns c =
+    let end : c.loop-index.index ≡ c.len-count.result = omega arith in
+    record {
+      closes = (
+        all-lanes c.args.lanes.items c.len-count.result c.args.pool (search rules) (search rules) c.requires.owned (subst (AreNumbered c.args.lanes.items c.len-count.result) end c.loop-index.invariant),
+        c.close.ensures.closes,
+      );
+    }

@@ -4,6 +4,9 @@ use Rattle.std.proofs.lemmas.List.{nil_from_length, length_push}
 use Rattle.std.specs.Vec.Iter.{into_iter_items}
 use Rattle.std.specs.Arc.{arc_value}
 use Rattle.shardpool.specs.Tokens.{LaneOf}
+use Rattle.poolsteps.specs.declared.view.View.{View}
+use Rattle.poolsteps.specs.Views.{the_lane}
+use Rattle.shardpool.specs.Places.{held_after}
 use Rattle.shardpool.specs.Lanes.{Owns}
 use Rattle.shardpool.specs.Opened.{AreFirstLanes}
 use Rattle.poolhandle.specs.declared.handle.Handle.{Handle}
@@ -31,7 +34,8 @@ handle_of-requires c =
     let handles = c.loop-lane.handles.items in
     let rest = into_iter_items c.next.new.self in
     let next = subst (λ (lanes : List LaneOf). AreNext (arc_value c.args.shared).pool (length handles) lanes) c.in-Some.ensures.items c.loop-lane.invariant.next in
-    (next-head (length handles) c.in-Some.lane rest next).owned
+    let first = next-head (length handles) c.in-Some.lane rest next in
+    record { owns = first.owned; none = ap (λ (view : View). held_after (the_lane view).mine 0) first.book }
 
 pub give_up-requires-clause-handles : goal.give_up-requires-clause-handles
 give_up-requires-clause-handles c = shared-first c.loop-lane.handles.items c.loop-lane.invariant.first

@@ -14,4 +14,4 @@ returns-in-Ok g c =
     }
 
 pub returns-in-Err : goal.returns-in-Err
-returns-in-Err g c = record { why = []; is = inr (refl, refl); says = says_nothing g.E.Write.contents c.args.errors.now }
+returns-in-Err g c = record { why = []; is = inr (refl, refl, λ plain. let fine = c.in-Err.ensures.plain plain in absurd (cc fine)); says = says_nothing g.E.Write.contents c.args.errors.now }

@@ -1,6 +1,7 @@
 use Rattle.std.proofs.Common.{rules, ◌≡◌, ℕ, ◌*◌, ◌+◌, length, ap, ◌∙◌, arith}
 use Rattle.std.proofs.lemmas.List.{length_push}
 use Rattle.poolsteps.proofs.FirstSlots.{none-more, none-first}
+use Rattle.poolsteps.proofs.SlotLemmas.{rows-small}
 use Rattle.poolsteps.proofs.layout.first_slots.Goals as goal
 
 pub loop-init : goal.loop-init
@@ -24,3 +25,7 @@ returns-clause-count g c =
 
 pub returns-clause-empty : goal.returns-clause-empty
 returns-clause-empty g c = c.loop.invariant.empty
+
+pub overflow_mul-count : goal.overflow_mul-count
+overflow_mul-count g c =
+    let rows = rows-small c.args.shape.now c.args.shape.now.lanes c.slot_row.result c.requires (omega arith) c.slot_row.ensures in omega (arith, rows)

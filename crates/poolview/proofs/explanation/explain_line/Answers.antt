@@ -22,7 +22,7 @@ returns-clause-says g c =
     let begun = codes "line " ++ number in
     let marked = begun ++ codes ": \"" in
     let said = marked ++ line in
-    let wanted = codes "\" is no line of a trace: LANE = REPLY, LANE KIND PLACE BEFORE AFTER, or LANE PUSH (or TAKE) SHARD.LANE BEFORE AFTER" in
+    let wanted = c.args.what.now in
     let all = said ++ wanted in
     let two : Says contents p1 p2 (bytes_text number) = subst (λ (text : List ℕ). Says contents p1 p2 (bytes_text text)) (c.as_bytes.ensures.value ∙ c.format.ensures.text) c.write_bytes-2.ensures in
     let same = c.line_at.ensures ∙ ap (λ (n : ℕ). line_at n bytes) c.saturating_sub.ensures in
@@ -34,4 +34,4 @@ returns-clause-says g c =
     says_more contents old p5 c.write_text.new.out (bytes_text all) (codes "\n") (bytes_text all ++ codes "\n") fourth c.write_text.ensures refl
 
 pub returns-clause-safe : goal.returns-clause-safe
-returns-clause-safe g c = safe-line c.args.number c.args.bytes.now
+returns-clause-safe g c = safe-line c.args.what.now c.args.number c.args.bytes.now c.requires

@@ -9,7 +9,7 @@ use Rattle.shardpool.proofs.census.mark_list.Goals as goal
 pub number-requires-clause-slot : goal.number-requires-clause-slot
 number-requires-clause-slot c =
     let e = c.in-Some.ensures in
-    omega (arith, e.away.own.in_page, page_size-le c.pop.new.self.shape e.places.limits.shape c.in-Some.place.page e.away.own.in_pages)
+    omega (arith, e.away.own.in_page, page_size-le c.pop.new.self.shape c.in-Some.place.page)
 
 pub mark-requires-clause-place : goal.mark-requires-clause-place
 mark-requires-clause-place c =

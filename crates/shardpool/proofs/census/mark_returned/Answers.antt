@@ -20,7 +20,7 @@ pub number-requires-clause-slot : goal.number-requires-clause-slot
 number-requires-clause-slot c =
     let free = c.args.free.now in let ok = c.chain.ensures.places in
     let own = ok.chain.inside c.in-Some.first (sym c.chain.ensures.first ∙ c.in-Some.is) in
-    omega (arith, own.in_page, page_size-le free.shape ok.limits.shape c.in-Some.first.page own.in_pages)
+    omega (arith, own.in_page, page_size-le free.shape c.in-Some.first.page)
 
 pub mark_thread-requires-clause-thread : goal.mark_thread-requires-clause-thread
 mark_thread-requires-clause-thread c =

@@ -19,7 +19,7 @@ pub returns-then-found-ne0-clause-collects : goal.returns-then-found-ne0-clause-
 returns-then-found-ne0-clause-collects g c opened some =
     let tried = c.loop-from.invariant.tried opened some in
     some-collects tried c.if-found-ne0.true (taken-some tried c.take-found.ensures.takes c.if-found-ne0.true) (λ e. c.if-from-lane.true (e ∙ sym c.requires.lane.0))
-    (c.loop-from-test.true) c.args.grid.now.checked.lanes.1 (subst (λ (n : ℕ). n < c.args.grid.now.shape.lanes) c.requires.lane.0 c.requires.lane.1)
+    (c.loop-from-test.true) (subst (λ (n : ℕ). n < c.args.grid.now.shape.lanes) c.requires.lane.0 c.requires.lane.1)
 
 pub loop-from-preserved : goal.loop-from-preserved
 loop-from-preserved g c =
@@ -37,4 +37,4 @@ pub returns-clause-collects : goal.returns-clause-collects
 returns-clause-collects g c opened some =
     let tried = c.loop-from.invariant.tried opened some in
     none-collects (subst (λ (n : ℕ). Tried c.args.grid.now.shape opened n c.args.hand.now.me c.loop-from.hand.me) (omega (arith, c.loop-from-test.false, c.loop-from.auto.from-end)) tried) c.requires.seen.0
-    c.args.grid.now.checked.lanes.1 (subst (λ (n : ℕ). n < c.args.grid.now.shape.lanes) c.requires.lane.0 c.requires.lane.1)
+    (subst (λ (n : ℕ). n < c.args.grid.now.shape.lanes) c.requires.lane.0 c.requires.lane.1)

@@ -58,5 +58,5 @@ pub returns-clause-called : goal.returns-clause-called
 returns-clause-called g c opened some =
     let h = c.loop-from.invariant in
     called-empty (subst (λ (n : ℕ). Tried c.args.grid.now.shape opened n c.args.hand.now.me c.loop-from.hand.me) (omega (arith, c.loop-from-test.false, c.loop-from.auto.from-end)) (h.tried opened some))
-    c.requires.seen c.args.grid.now.checked.lanes.1
+    c.requires.seen
     (subst (λ (n : ℕ). n < c.args.grid.now.shape.lanes) c.requires.lane.0 c.requires.lane.1) c.loop-from.left c.args.limit h.sum

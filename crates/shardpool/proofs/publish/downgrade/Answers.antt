@@ -1,8 +1,8 @@
-use Rattle.std.proofs.Common.{ℕ, ◌-◌, ◌*◌, ◌≤◌, ap, ◌∙◌, subst, arith}
+use Rattle.std.proofs.Common.{ℕ, ◌≤◌, ◌∙◌, subst, arith}
 use Rattle.keybits.specs.declared.shape.Shape.{Shape}
 use Rattle.poolsteps.specs.Told.{MayRenew}
 use Rattle.poolsteps.specs.Moved.{stored_of}
-use Rattle.shardpool.specs.Carried.{MayCarry}
+use Rattle.shardpool.specs.Carried.{Carries}
 use Rattle.shardpool.proofs.parts.Filling.{still-may, publish-called, room-published}
 use Rattle.shardpool.proofs.publish.downgrade.Goals as goal
 
@@ -18,11 +18,10 @@ pub returns-clause-called : goal.returns-clause-called
 returns-clause-called g c =
     let z : Shape = c.args.grid.now.shape in
     let filled = c.spread_others-share.ensures in
-    let most = c.args.grid.now.checked.lanes.1 in
-    let few : 2 * (z.lanes - 1) ≤ 34 = omega arith in
+    let few : 4 ≤ 34 = omega arith in
     publish-called
-    (subst (λ (place : ℕ). MayCarry z place (2 * (z.lanes - 1)) c.args.hand.now.me c.spread_others-share.new.hand.me) c.requires.spot.place_is filled.carries) few
-    (ap g.T.Clear.content filled.share.2) c.publish_held.ensures.publishes
+    (subst (λ (place : ℕ). Carries z place 4 c.args.hand.now.me c.spread_others-share.new.hand.me) c.requires.spot.place_is filled.carries) few
+    filled.share.2 c.publish_held.ensures.publishes
 
 pub returns-clause-room : goal.returns-clause-room
-returns-clause-room g c = room-published c.publish_held.ensures.publishes ∙ ap g.T.Clear.room c.spread_others-share.ensures.share.2
+returns-clause-room g c = room-published c.publish_held.ensures.publishes ∙ c.spread_others-share.ensures.share.3

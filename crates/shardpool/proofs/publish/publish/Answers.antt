@@ -1,9 +1,9 @@
-use Rattle.std.proofs.Common.{◌≡◌, inr, ℕ, ◌≤◌, sym, ap, ◌∙◌, subst, arith}
+use Rattle.std.proofs.Common.{◌≡◌, ℕ, ◌≤◌, sym, ap, ◌∙◌, subst, arith}
 use Rattle.keybits.specs.declared.shape.Shape.{Shape}
 use Rattle.poolsteps.specs.declared.view.Status.TheVariants.{Untouched, Emptied}
 use Rattle.poolsteps.specs.Layout.{spots_at}
 use Rattle.poolsteps.specs.Views.{the_lane, status_of, known_of}
-use Rattle.shardpool.specs.Carried.{MayCarry, ShowsCell}
+use Rattle.shardpool.specs.Carried.{Carries, ShowsCell}
 use Rattle.shardpool.proofs.parts.Filling.{still-may, publish-called, room-published}
 use Rattle.shardpool.proofs.parts.Standing.{spot-own, publish-place, publish-left, publish-known}
 use Rattle.shardpool.proofs.publish.publish.Goals as goal
@@ -25,7 +25,7 @@ publish-requires g c =
     let filled = c.spread_cell.ensures in record {
       hand = (filled.hand.0.0 ∙ c.requires.hand.0, filled.hand.1);
       spot = c.requires.spot;
-      may = still-may (inr filled.carries) c.shares_law.ensures.fills c.args.key c.requires.may;
+      may = still-may filled.carries c.shares_law.ensures.fills c.args.key c.requires.may;
       shares = λ number below touched. absurd (touched (subst (λ (p : ℕ). status_of (the_lane c.spread_cell.new.hand.me.0) p number ≡ Untouched) c.requires.spot.place_is
           (filled.slots number below)));
     }
@@ -50,7 +50,7 @@ returns-clause-called g c =
     let at = c.requires.spot.place_is in
     let filled = c.spread_cell.ensures in
     let few : 2 ≤ 34 = omega arith in
-    publish-called (subst (λ (place : ℕ). MayCarry z place 2 c.args.hand.now.me c.spread_cell.new.hand.me) at (inr filled.carries)) few
+    publish-called (subst (λ (place : ℕ). Carries z place 2 c.args.hand.now.me c.spread_cell.new.hand.me) at filled.carries) few
     (sym (filled.cell.0 ∙ ap (λ (place : ℕ). (known_of (the_lane c.spread_cell.new.hand.me.0) place).content) at)) c.publish.ensures.publishes
 
 pub returns-clause-room : goal.returns-clause-room

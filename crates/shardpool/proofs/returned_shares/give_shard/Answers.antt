@@ -5,7 +5,7 @@ use Rattle.keybits.specs.declared.shape.Shape.{Shape}
 use Rattle.keybits.specs.Shapes.{is_place, position_of, shard_places, all_places}
 use Rattle.poolsteps.specs.Layout.{slot_start, slot_row, slot_index, shard_start}
 use Rattle.poolsteps.proofs.SlotLemmas.{in-row, slot-below}
-use Rattle.shardpool.specs.declared.pool.HeldKey.{HeldKey}
+use Rattle.shardpool.specs.HeldKeys.{HeldKey}
 use Rattle.shardpool.specs.Remains.{GivesRow, GivesTo}
 use Rattle.shardpool.proofs.at_close.LastHistory.{entry-at}
 use Rattle.shardpool.proofs.at_close.ReturnedShares.{back-more}

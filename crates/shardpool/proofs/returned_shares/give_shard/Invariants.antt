@@ -5,7 +5,7 @@ use Rattle.keybits.specs.Shapes.{shard_places}
 use Rattle.poolsteps.specs.Share.{Share}
 use Rattle.poolsteps.specs.Layout.{slot_row}
 use Rattle.poolsteps.specs.Joins.{IsSlotRow}
-use Rattle.shardpool.specs.declared.pool.HeldKey.{HeldKey}
+use Rattle.shardpool.specs.HeldKeys.{HeldKey}
 use Rattle.shardpool.specs.Remains.{GivesTo}
 use Rattle.shardpool.proofs.returned_shares.give_shard.Given as goal
 

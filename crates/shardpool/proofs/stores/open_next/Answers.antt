@@ -50,6 +50,25 @@ overflow_cast-place g c =
     let low = low-shard content room old may now on in
     omega (arith, same, low)
 
+pub overflow_cast-place-in-loop-object-2 : goal.overflow_cast-place-in-loop-object-2
+overflow_cast-place-in-loop-object-2 g c =
+    let old = c.args.state.now in
+    let content = g.T.Clear.content in
+    let room = g.T.Clear.room in
+    let may : MayOpen old = record {
+      shape = c.requires.shape;
+      lane = c.requires.lane;
+      shard = c.requires.lists.0;
+      list = c.requires.lists.1;
+      unopened = c.requires.unopened;
+      chain = c.requires.chain;
+    } in
+    let now = c.loop-object.state in
+    let on = subst (λ (left : List (Box g.row.T.Denot Global)). OpensSlots content room old left now) c.in-Some.ensures.steps.0 c.loop-object.invariant.on in
+    let slot = c.len.ensures.len ∙ slot-is content room old may now on in
+    let small = small-slot content room old may now on in
+    omega (arith, slot, small)
+
 pub number-requires-clause-slot : goal.number-requires-clause-slot
 number-requires-clause-slot g c =
     let old = c.args.state.now in

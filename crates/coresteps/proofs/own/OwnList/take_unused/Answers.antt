@@ -8,7 +8,7 @@ use Rattle.coresteps.proofs.own.OwnList.take_unused.Goals as goal
 
 pub place_number-place-requires-clause-slot : goal.place_number-place-requires-clause-slot
 place_number-place-requires-clause-slot c =
-    let few = page_size-le c.args.shape.now c.requires.shape (c.args.self.now.opened - 1) (omega arith) in omega arith
+    let few = page_size-le c.args.shape.now (c.args.self.now.opened - 1) in omega arith
 
 pub returns : goal.returns
 returns c =

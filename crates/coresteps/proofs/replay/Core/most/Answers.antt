@@ -9,22 +9,22 @@ use Rattle.coresteps.proofs.CoreLemmas.{most_by}
 use Rattle.coresteps.proofs.replay.Core.most.Goals as goal
 
 -- few steps are no more than may be told
-within : (m n : Most) → m ≡ n → n.create ≤ 16 → n.other ≤ 8 → (m.create ≤ 16) × (m.other ≤ 8)
-within m n same create other =
-    subst (λ (m : Most). (m.create ≤ 16) × (m.other ≤ 8)) (sym same) (create, other)
+within : (lanes : ℕ) (m n : Most) → m ≡ n → n.create ≤ lanes → n.other ≤ 8 → (m.create ≤ lanes) × (m.other ≤ 8)
+within lanes m n same create other =
+    subst (λ (m : Most). (m.create ≤ lanes) × (m.other ≤ 8)) (sym same) (create, other)
 
 -- a number isn't both below and past another
 apart : (n long lanes : ℕ) → long ≡ lanes → n < long → lanes ≤ n → ⊥
 apart n long lanes same below beyond = omega arith
 
 -- the numbers of a lane are bounded
-bounds : (c : goal.In-Some) → (c.in-Some.of.now.progress.most.create ≤ 16) × (c.in-Some.of.now.progress.most.other ≤ 8)
+bounds : (c : goal.In-Some) → (c.in-Some.of.now.progress.most.create ≤ c.self.inside.shared.shape.lanes) × (c.in-Some.of.now.progress.most.other ≤ 8)
 bounds c =
     let k = c.self.invariant in
     let is = most_by (record { shared = c.self.inside.shared; lanes = c.self.inside.lanes.items }) k.0 k.1 c.args.lane c.deref.result.now c.in-Some.of.now k.2
     c.deref.ensures.value c.in-Some.ensures.lookup.0 c.in-Some.ensures.lookup.1 in
     let few = k.2.bounded c.args.lane in
-    within c.in-Some.of.now.progress.most (k.1 c.args.lane) is few.0 few.1
+    within c.self.inside.shared.shape.lanes c.in-Some.of.now.progress.most (k.1 c.args.lane) is few.0 few.1
 
 pub returns-in-Some-clause-lane : goal.returns-in-Some-clause-lane
 returns-in-Some-clause-lane c = λ w most k below.
@@ -42,7 +42,7 @@ returns-in-Some-clause-none c = λ beyond.
 
 pub returns-in-Some-clause-create : goal.returns-in-Some-clause-create
 returns-in-Some-clause-create c =
-    let few = bounds c in few.0
+    let few = bounds c in subst (λ (s : CoreState). c.in-Some.of.now.progress.most.create ≤ s.shared.shape.lanes) c.self.view_is few.0
 
 pub returns-in-Some-clause-other : goal.returns-in-Some-clause-other
 returns-in-Some-clause-other c =

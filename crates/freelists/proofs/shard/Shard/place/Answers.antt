@@ -1,6 +1,8 @@
-use Rattle.std.proofs.Common.{◌≡◌, ◌+◌, ◌*◌, sym, ap, ◌∙◌, subst}
+use Rattle.std.proofs.Common.{◌≡◌, ◌+◌, ◌*◌, sym, ap, ◌∙◌, subst, arith}
+use Rattle.std.proofs.lemmas.Nat.{mul-le}
 use Rattle.keybits.specs.Places.{number_of, shard_of}
 use Rattle.keybits.specs.Shapes.{index_of}
+use Rattle.keybits.proofs.ShapeLemmas.{shape_bounds}
 use Rattle.freelists.specs.Shards.{IsShardOf, IsOwn}
 use Rattle.freelists.proofs.ShardLemmas.{own_from_number, position_below, from_position, own_at_index}
 use Rattle.freelists.proofs.shard.Shard.place.Goals as goal
@@ -32,3 +34,9 @@ returns-clause-index c = index c
 pub returns-clause-inverse : goal.returns-clause-inverse
 returns-clause-inverse c place is_own same =
     own_at_index c.args.self.now.shape c.args.self.now.number c.of_number.result place c.requires.shard (own c) is_own (index c ∙ sym same)
+
+pub overflow_mul-before : goal.overflow_mul-before
+overflow_mul-before c =
+    let bounds = shape_bounds c.args.self.now.shape c.requires.shard.shape in
+    let product = mul-le c.from.result c.shard_places.result 64 44992 (omega (arith, c.from.ensures, c.requires.shard.shard_below, bounds.lanes)) (omega (arith, bounds.shard, c.shard_places.ensures)) in
+    omega (arith, product)

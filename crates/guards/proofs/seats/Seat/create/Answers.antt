@@ -27,6 +27,12 @@ returns-clause-room g c =
     IfOk-weaker c.create.result _ _
     (λ filling gives last size knows next. c.room_kept_law.ensures.reused c.args.self.now.lane c.create.new.lane filling last size gives knows next.0 next.1) c.create.ensures.gives
 
+pub returns-clause-keeps : goal.returns-clause-keeps
+returns-clause-keeps g c = record { fillings = c.create.ensures.fillings; held = c.create.ensures.held }
+
+pub returns-clause-apart : goal.returns-clause-apart
+returns-clause-apart g c = c.create.ensures.apart
+
 pub returns-clause-number : goal.returns-clause-number
 returns-clause-number g c = (created-goes g.T.Clear.content g.T.Clear.room c.args.self.now.lane c.create.new.lane c.create.result c.create.ensures.gives c.create.ensures.none).0
 

@@ -1,6 +1,8 @@
 -- A publish keeps the lane the seat's, and the lane knows the room of what it published.
-use Rattle.std.proofs.Common.{◌∙◌, sym, subst, arith}
-use Rattle.shardpool.specs.Lanes.{Owns}
+use Rattle.std.proofs.Common.{◌∙◌, false, sym, subst, arith}
+use Rattle.steplaws.specs.Calls.Call.{Publishing}
+use Rattle.shardpool.specs.Tokens.{PoolOf}
+use Rattle.shardpool.specs.Lanes.{Owns, Calls}
 use Rattle.poollaws.proofs.Kept.{first-room}
 use Rattle.guards.proofs.Seating.{goes-on}
 use Rattle.guards.proofs.seats.Seat.publish.Goals as goal
@@ -20,6 +22,14 @@ invariant_of-self g c =
 
 pub returns-clause-published : goal.returns-clause-published
 returns-clause-published g c = (c.publish-key.ensures.published.publish.position, c.publish-key.ensures.published.published)
+
+pub returns-clause-called : goal.returns-clause-called
+returns-clause-called g c =
+    subst (λ (pool : PoolOf). Calls pool.shape (Publishing c.args.filling.key (g.T.Clear.content c.args.filling.object) false) c.args.self.now.lane.book c.publish-key.new.lane.book)
+    c.args.self.now.pool_is c.publish-key.ensures.called
+
+pub returns-clause-held : goal.returns-clause-held
+returns-clause-held g c = c.publish-key.ensures.held
 
 pub returns-clause-room : goal.returns-clause-room
 returns-clause-room g c =

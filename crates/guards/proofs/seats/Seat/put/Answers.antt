@@ -1,7 +1,7 @@
 -- What was written into the created object is published.
-use Rattle.std.proofs.Common.{◌∙◌, ap, inl, inr, refl}
+use Rattle.std.proofs.Common.{◌∙◌, ap, subst, inl, inr, refl}
 use Rattle.std.proofs.lemmas.Result.{IfOk-from_err, err_from_is_err_and}
-use Rattle.guards.proofs.Seating.{goes-further, on-ok, puts}
+use Rattle.guards.proofs.Seating.{goes-further, on-ok, on-err, puts}
 use Rattle.guards.proofs.seats.Seat.put.Goals as goal
 
 pub write-requires : goal.write-requires
@@ -24,7 +24,14 @@ pub returns-clause-puts : goal.returns-clause-puts
 returns-clause-puts g c =
     puts g.T.Clear.content g.T.Clear.room c.args.self.now.lane c.create.new.self.lane c.publish.new.self.lane c.in_ok-filling.filling c.write.new.object c.publish.result
     (g.C.Contents.content c.args.contents.now) c.in_ok-filling.ensures.gives c.create.ensures.number c.publish.ensures.key
-    (on-ok c.write.result _ (c.if-is_err.ensures.value) c.write.ensures) c.publish.ensures.publishes c.publish.ensures.room
+    (on-ok c.write.result _ (c.if-is_err.ensures.value) c.write.ensures.ok) c.publish.ensures.called c.publish.ensures.publishes c.publish.ensures.room
+
+pub returns-clause-keeps : goal.returns-clause-keeps
+returns-clause-keeps g c =
+    let first = c.create.ensures.keeps in record {
+      fillings = λ other made. c.publish.ensures.fillings other (c.in_ok-filling.ensures.apart other made) (first.fillings other made);
+      held = λ key. c.publish.ensures.held key ∙ first.held key;
+    }
 
 -- ---- nothing is published
 
@@ -46,4 +53,6 @@ pub returns-then-is_err-clause-full : goal.returns-then-is_err-clause-full
 returns-then-is_err-clause-full g c = λ err. absurd (cc err)
 
 pub returns-then-is_err-clause-memory : goal.returns-then-is_err-clause-memory
-returns-then-is_err-clause-memory g c = λ err. inr (c.in_ok-filling.filling, c.in_ok-filling.ensures.gives)
+returns-then-is_err-clause-memory g c = λ err.
+    let refused = on-err c.write.result _ (c.if-is_err.ensures.value) c.write.ensures.err in
+    inr (c.in_ok-filling.filling, c.in_ok-filling.ensures.gives, subst (g.C.Contents.may_refuse c.args.contents.now) c.value_mut.ensures.object refused)

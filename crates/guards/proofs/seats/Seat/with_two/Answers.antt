@@ -18,6 +18,9 @@ returns-clause-some g c = c.with_two.ensures.some
 pub returns-clause-gone : goal.returns-clause-gone
 returns-clause-gone g c = c.with_two.ensures.gone
 
+pub returns-clause-keeps : goal.returns-clause-keeps
+returns-clause-keeps g c = record { fillings = c.with_two.ensures.fillings; held = c.with_two.ensures.holds }
+
 pub returns-clause-number : goal.returns-clause-number
 returns-clause-number g c = c.with_two.ensures.same.2
 

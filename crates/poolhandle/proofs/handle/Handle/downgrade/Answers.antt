@@ -21,7 +21,7 @@ invariant_of-self-2 c =
 
 pub returns : goal.returns
 returns c =
-    let before = c.args.self.now in let rest = c.take.new.self.list.items in let kept = c.take.result in let given = c.deref_mut.result.now in let new = c.downgrade-reference.new.lane in
+    let before = c.args.self.now in let rest = c.take.new.self.list.items in let kept = c.take.result in let given = c.deref_mut.result.now in let new = c.downgrade-reference.new.self in
     let filling = c.into_content-filling in let did = c.downgrade-reference.ensures in let is = c.deref_mut.ensures.value in
     let under : kept.filling.key ≡ c.args.key = ap (λ (k : Kept). k.filling.key) c.take.ensures.is ∙ c.in-Some.ensures.some.1 kept in (
       kept,

@@ -14,7 +14,7 @@ pub invariant_of-self : goal.invariant_of-self
 invariant_of-self c =
     let before = c.args.self.now in let places = before.fillings.list.items in let created = c.in-Ok.ensures in let did = c.publish.ensures in
     let one : AreMade c.deref_mut.result.now places = subst (λ (lane : LaneOf). AreMade lane places) (sym c.deref_mut.ensures.value) before.made in
-    let two : AreMade c.create.new.lane places = λ k d low. created.fillings (slice_index_or places k d).filling (one k d low) in
+    let two : AreMade c.create.new.self places = λ k d low. created.fillings (slice_index_or places k d).filling (one k d low) in
     let three : AreMade c.deref_mut-in-Ok-append.result.now places = subst (λ (lane : LaneOf). AreMade lane places) (sym c.deref_mut-in-Ok-append.ensures.value) two in
     record {
       owned = (did.owns.0 ∙ search rules, did.owns.1 ∙ search rules, did.owns.2 ∙ search rules);
@@ -26,7 +26,7 @@ pub invariant_of-self-in-Err-1 : goal.invariant_of-self-in-Err-1
 invariant_of-self-in-Err-1 c =
     let before = c.args.self.now in let did = c.create.ensures in record {
       owned = (did.owns.0 ∙ search rules, did.owns.1 ∙ search rules, did.owns.2 ∙ search rules);
-      made = made-on c.deref_mut.result.now before.lane.value c.create.new.lane before.fillings.list.items c.deref_mut.ensures.value did.fillings before.made;
+      made = made-on c.deref_mut.result.now before.lane.value c.create.new.self before.fillings.list.items c.deref_mut.ensures.value did.fillings before.made;
       empty = before.empty;
     }
 
@@ -34,13 +34,13 @@ pub invariant_of-self-in-Err-create : goal.invariant_of-self-in-Err-create
 invariant_of-self-in-Err-create c =
     let before = c.args.self.now in let did = c.create.ensures in record {
       owned = (did.owns.0 ∙ search rules, did.owns.1 ∙ search rules, did.owns.2 ∙ search rules);
-      made = made-on c.deref_mut.result.now before.lane.value c.create.new.lane before.fillings.list.items c.deref_mut.ensures.value did.fillings before.made;
+      made = made-on c.deref_mut.result.now before.lane.value c.create.new.self before.fillings.list.items c.deref_mut.ensures.value did.fillings before.made;
       empty = before.empty;
     }
 
 pub returns-in-Ok-append : goal.returns-in-Ok-append
 returns-in-Ok-append c =
-    let before = c.args.self.now in let filling = c.in-Ok.filling in let middle = c.create.new.lane in let other = c.deref_mut-in-Ok-append.result.now in let new = c.publish.new.lane in
+    let before = c.args.self.now in let filling = c.in-Ok.filling in let middle = c.create.new.self in let other = c.deref_mut-in-Ok-append.result.now in let new = c.publish.new.self in
     let did = c.publish.ensures in let is = c.deref_mut-in-Ok-append.ensures.value in
     let gives : Gives (λ (b : ByteBuf). b.bytes) (λ (b : ByteBuf). b.room) before.lane.value middle filling
     = subst (λ (l : LaneOf). Gives (λ (b : ByteBuf). b.bytes) (λ (b : ByteBuf). b.room) l middle filling) c.deref_mut.ensures.value c.in-Ok.ensures.gives in
@@ -68,7 +68,7 @@ returns-in-Ok-append c =
 
 pub returns-in-Err-Memory : goal.returns-in-Err-Memory
 returns-in-Err-Memory c =
-    let before = c.args.self.now in let new = c.create.new.lane in let is = c.deref_mut.ensures.value in let did = c.in-Err-Memory.ensures in
+    let before = c.args.self.now in let new = c.create.new.self in let is = c.deref_mut.ensures.value in let did = c.in-Err-Memory.ensures in
     let none : GivesNone before.lane.value new = subst (λ (l : LaneOf). GivesNone l new) is (did.none (search rules)) in
     let few = subst (λ (l : LaneOf). l.pages.opened < l.shape.pages) is (did.memory (search rules)) in
     inl (

@@ -21,10 +21,10 @@ loop-position-preserved c =
     }
 
 pub all_places-places-requires : goal.all_places-places-requires
-all_places-places-requires c = c.requires
+all_places-places-requires c = c.requires.0
 
 pub shard_places-shard_places-requires : goal.shard_places-shard_places-requires
-shard_places-shard_places-requires c = c.requires
+shard_places-shard_places-requires c = c.requires.0
 
 pub loop-position-init : goal.loop-position-init
 loop-position-init c =
@@ -35,11 +35,11 @@ loop-position-init c =
     }
 
 pub nonzero_div-lane : goal.nonzero_div-lane
-nonzero_div-lane c = omega (arith, (shape_bounds c.args.shape c.requires).shard.0)
+nonzero_div-lane c = omega (arith, (shape_bounds c.args.shape c.requires.0).shard.0)
 
 pub overflow_cast-lane : goal.overflow_cast-lane
 overflow_cast-lane c =
-    let bounds = shape_bounds c.args.shape c.requires in
+    let bounds = shape_bounds c.args.shape c.requires.0 in
     let inside : c.loop-position.position < c.args.shape.lanes * c.shard_places-shard_places.result =
     subst (λ (n : ℕ). c.loop-position.position < c.args.shape.lanes * n) (sym c.shard_places-shard_places.ensures)
     (subst (λ (n : ℕ). c.loop-position.position < n) c.all_places-places.ensures c.loop-position-test.true) in
@@ -50,7 +50,7 @@ overflow_cast-lane c =
 pub invariant_of-result : goal.invariant_of-result
 invariant_of-result c =
     let size : vec_len c.loop-position.rows ≡ all_places c.args.shape = omega arith in
-    record { checked = c.requires; whole = size }
+    record { checked = c.requires.0; narrow = c.requires.1; whole = size }
 
 pub returns-clause-shape : goal.returns-clause-shape
 returns-clause-shape c = refl

@@ -6,7 +6,7 @@ use Rattle.keybits.specs.Keys.{place_of, generation_of}
 use Rattle.seqpool.specs.declared.act.Act.{Act}
 use Rattle.seqpool.specs.declared.act.Act.TheVariants as acts
 use Rattle.steplaws.specs.Calls.Call.{Publishing}
-use Rattle.shardpool.specs.declared.pool.HeldKey.{HeldKey}
+use Rattle.shardpool.specs.HeldKeys.{HeldKey}
 use Rattle.shardpool.specs.Tokens.{LaneOf, FillingOf}
 use Rattle.shardpool.specs.LaneStates.{Fits}
 use Rattle.shardpool.specs.Lanes.{Made, Did, Calls}
@@ -105,7 +105,7 @@ invariant_of-lane g c =
     = (made-spot (record { place = c.place_of.result; start = c.spend-key.result.1 }) c.spend-key.result.0 c.requires.made (c.requires.owns.1 ∙ sym (ap (λ p. p.shape) c.self.view_is))
     c.spend-key.ensures.0 c.spend-key.ensures.1 c.place_of.ensures.place).start in
     let now = published-held-with s c.add_first_reference.new.state c.lane.inside.hand.table_id (filling g c) (g.T.Clear.content c.give_out-whole.result.object) true (fits g c) told.called.did told.called.idle told.acts (was g c)
-    c.give_out-whole.new.state (out g c) c.add_first_reference.ensures.rest share (told.share.3 ∙ λ i. spots_at (sym (same-directory c.lane.view_is c.requires.owns.2 c.self.view_is) i) z (place_of c.spend-key.result.0)) refl told.share.0 told.share.1 (ap g.T.Clear.content told.share.2) told.slot told.cell
+    c.give_out-whole.new.state (out g c) c.add_first_reference.ensures.rest share (told.share.3 ∙ λ i. spots_at (sym (same-directory c.lane.view_is c.requires.owns.2 c.self.view_is) i) z (place_of c.spend-key.result.0)) refl told.share.0 told.share.1 told.share.2 told.slot told.cell
     (c.add_first_reference.ensures.rows ∙ (λ i. slice_set ((ap (λ x. x.rows.items) (out g c).rest) i) (at i) row))
     (ap (λ x. x.references) c.add_first_reference.ensures.rest ∙ ap (λ x. x.references + 1) (out g c).rest) in
     (told.called.did.held ∙ c.lane.invariant.0, subst (λ (y : Shape). Fits g.T.Clear.content g.T.Clear.room y c.downgrade-share.new.hand.me.0 c.add_first_reference.new.state) (sym now.shape_is) now)

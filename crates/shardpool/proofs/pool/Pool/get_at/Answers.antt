@@ -1,14 +1,14 @@
 -- A get: what a miss leaves of the lane, and what a hit does whose key the lane has already, or not yet.
-use Rattle.std.proofs.Common.{◌≡◌, ℕ, inr, [], ◌∷◌, None, refl, sym, ap, ◌∙◌, subst, arith}
+use Rattle.std.proofs.Common.{ℕ, inr, [], ◌∷◌, None, refl, sym, ap, ◌∙◌, subst, arith}
 use Rattle.std.proofs.lemmas.Bool.{false≢true}
 use Rattle.keybits.specs.Keys.{is_key}
 use Rattle.seqpool.specs.declared.act.Act.TheVariants as acts
 use Rattle.seqpool.specs.Pool.{IsLegal}
 use Rattle.steplaws.specs.Calls.Call.{Getting}
 use Rattle.shardpool.specs.Called.{Called, GetHits}
-use Rattle.poolsteps.specs.declared.view.Status.TheVariants.{Untouched}
-use Rattle.poolsteps.specs.Moved.{Outs}
-use Rattle.shardpool.proofs.parts.Moves.{carries-out}
+use Rattle.shardpool.proofs.parts.Moves.{carries-fetch}
+use Rattle.shardpool.specs.Carried.{Carries}
+use Rattle.keybits.specs.Keys.{place_of}
 use Rattle.shardpool.proofs.parts.Standing.{has-left, lawful}
 use Rattle.shardpool.proofs.parts.Calling.{called-after, acts-behind, life-under, get-hits, hit-tells, get-misses}
 use Rattle.shardpool.specs.Tokens.{LaneOf}
@@ -16,21 +16,13 @@ use Rattle.shardpool.proofs.calls.CallParts.{calls-more}
 use Rattle.shardpool.proofs.calls.Gets.{Gained, called-then, seen-within}
 use Rattle.shardpool.proofs.calls.Halts.{fits-own}
 use Rattle.shardpool.proofs.calls.AfterCalls.{get-missed, get-found, get-outside}
-use Rattle.poolsteps.specs.Layout.{spots_at}
 use Rattle.shardpool.proofs.frame.SeenHistories.{same-directory}
 use Rattle.shardpool.proofs.calls.Ends.{fits-beside, keeper}
-use Rattle.shardpool.proofs.calls.KeyCalls.{ready, ready-low, missed-away, missed, hit-touches, hit-untouched, gained-again, gained-first}
-use Rattle.shardpool.proofs.references.RowChanges.{rows-count-le}
+use Rattle.shardpool.proofs.calls.KeyCalls.{ready, ready-low, ready-row, missed-away, missed, hit-touches, hit-left, gained-fetched}
 use Rattle.shardpool.proofs.frame.LaneFacts.{lane_of}
 use Rattle.shardpool.proofs.calls.QuietEnds.{Quieted}
 use Rattle.shardpool.proofs.pool.Pool.get_at.Given.{Over}
 use Rattle.shardpool.proofs.pool.Pool.get_at.Goals as goal
-
--- the place has a row
-pub index-requires : goal.index-requires
-index-requires g c =
-    let before = ready {pool = c.args.self.now} c.lane.view_is c.requires.owns.1 refl c.lane.invariant.1 c.in_ok-spot.ensures.spot in
-    let low = ready-low before in omega (arith, low)
 
 pub enter-found-requires-clause-key : goal.enter-found-requires-clause-key
 enter-found-requires-clause-key g c = ap (λ p. is_key p.shape c.args.key) c.self.view_is ∙ c.in_ok-spot.ensures.some.0 refl
@@ -91,98 +83,59 @@ returns-then-not-is_hit-clause-got g c =
     (rw (← c.lane.view_is) same)
     (λ filling. rw (← c.lane.view_is) (left.fillings c.lane.inside.hand.table_id c.end_miss.new.hand.table_id (c.end_miss.ensures.hand.0 ∙ c.enter-found.ensures.hand.0) filling))
 
--- ---- a hit, of a key that the lane has
+-- ---- a hit
 
-pub add_reference-requires-clause-at : goal.add_reference-requires-clause-at
-add_reference-requires-clause-at g c =
+pub gain_reference-requires-clause-at : goal.gain_reference-requires-clause-at
+gain_reference-requires-clause-at g c =
     let before = ready c.lane.view_is c.requires.owns.1 c.self.view_is c.lane.invariant.1 c.in_ok-spot.ensures.spot in
     ready-low before
 
-pub add_reference-requires-clause-within : goal.add_reference-requires-clause-within
-add_reference-requires-clause-within g c row stands =
-    let before = ready c.lane.view_is c.requires.owns.1 c.self.view_is c.lane.invariant.1 c.in_ok-spot.ensures.spot in
-    rows-count-le c.in_ok-spot.spot.start row before.fits.rows stands
-
-module _ (g : Over) (c : goal.After-add_reference g) where
-  again-called : Called c.self.inside.grid.shape (Getting c.args.key) 34 c.lane.inside.hand.me c.enter-found.new.hand.me
-  again-called = get-hits (ap (λ p. is_key p.shape c.args.key) c.self.view_is ∙ c.in_ok-spot.ensures.some.0 refl) c.enter-found.ensures.enters (sym c.is_hit.ensures ∙ c.if-not-is_hit.false)
-
-  again-got : GetHits c.self.inside.grid.shape c.args.key c.lane.inside.hand.me c.enter-found.new.hand.me
-  again-got = hit-tells (ap (λ p. is_key p.shape c.args.key) c.self.view_is ∙ c.in_ok-spot.ensures.some.0 refl) c.enter-found.ensures.enters (sym c.is_hit.ensures ∙ c.if-not-is_hit.false)
-
-  again-left : Gained g.T.Clear.content g.T.Clear.room c.self.inside.grid.shape c.args.key again-got.0 c.lane.inside.hand.me.0 c.enter-found.new.hand.me.0 c.lane.inside.state c.add_reference.new.state
-  again-left =
-      let before = ready c.lane.view_is c.requires.owns.1 c.self.view_is c.lane.invariant.1 c.in_ok-spot.ensures.spot in
-      gained-again before again-called again-got c.index.result.now c.index.ensures c.add_reference.new.state c.add_reference.ensures.rest c.if-held-gt0.true c.add_reference.ensures.rows
-
-pub invariant_of-lane-then-held-gt0 : goal.invariant_of-lane-then-held-gt0
-invariant_of-lane-then-held-gt0 g c =
-    ((again-called g c).did.held ∙ c.lane.invariant.0, fits-own (again-left g c).fits)
-
-pub returns-then-held-gt0-clause-got : goal.returns-then-held-gt0-clause-got
-returns-then-held-gt0-clause-got g c =
-    let left = again-left g c in
-    get-found {pool = c.args.self.now} {key = c.args.key} {old = c.args.lane.now} {new = lane_of c.enter-found.new.hand.table_id c.enter-found.new.hand.me.0 c.add_reference.new.state}
-    c.requires.owns (record { key = c.args.key }) (c.in_ok-spot.ensures.some.0 refl)
-    (rw (← c.self.view_is, ← c.lane.view_is) (calls-more (again-called g c) (omega arith)))
-    (rw (← c.lane.view_is) (refl, left.holds, (again-got g c).0, left.did c.lane.inside.hand.table_id c.enter-found.new.hand.table_id c.enter-found.ensures.hand.0))
-    (rw (← c.lane.view_is) left.refs)
-    (λ filling. rw (← c.lane.view_is) (left.fillings c.lane.inside.hand.table_id c.enter-found.new.hand.table_id c.enter-found.ensures.hand.0 filling))
-
-pub returns-then-held-gt0-clause-stands : goal.returns-then-held-gt0-clause-stands
-returns-then-held-gt0-clause-stands g c = c.in_ok-spot.ensures.spot.start
-
--- ---- a hit, of a key that the lane has not yet
-
-pub out-share-requires-clause-may : goal.out-share-requires-clause-may
-out-share-requires-clause-may g c =
+pub gain_reference-requires-clause-may : goal.gain_reference-requires-clause-may
+gain_reference-requires-clause-may g c =
     let before = ready c.lane.view_is c.requires.owns.1 c.self.view_is c.lane.invariant.1 c.in_ok-spot.ensures.spot in
     hit-touches before (get-hits (ap (λ p. is_key p.shape c.args.key) c.self.view_is ∙ c.in_ok-spot.ensures.some.0 refl) c.enter-found.ensures.enters (sym c.is_hit.ensures ∙ c.if-not-is_hit.false)) (hit-tells (ap (λ p. is_key p.shape c.args.key) c.self.view_is ∙ c.in_ok-spot.ensures.some.0 refl) c.enter-found.ensures.enters (sym c.is_hit.ensures ∙ c.if-not-is_hit.false)) c.shares_law.ensures.held
 
-pub out-share-requires-clause-left : goal.out-share-requires-clause-left
-out-share-requires-clause-left g c =
+pub gain_reference-requires-clause-left : goal.gain_reference-requires-clause-left
+gain_reference-requires-clause-left g c =
     let before = ready c.lane.view_is c.requires.owns.1 c.self.view_is c.lane.invariant.1 c.in_ok-spot.ensures.spot in
-    let some = c.if-held-gt0.false in
-    let none : c.index.result.now.count ≡ 0 = omega (arith, some) in
-    hit-untouched before (get-hits (ap (λ p. is_key p.shape c.args.key) c.self.view_is ∙ c.in_ok-spot.ensures.some.0 refl) c.enter-found.ensures.enters (sym c.is_hit.ensures ∙ c.if-not-is_hit.false)) (hit-tells (ap (λ p. is_key p.shape c.args.key) c.self.view_is ∙ c.in_ok-spot.ensures.some.0 refl) c.enter-found.ensures.enters (sym c.is_hit.ensures ∙ c.if-not-is_hit.false)) c.index.result.now c.index.ensures none
+    let row = ready-row before in
+    hit-left before (get-hits (ap (λ p. is_key p.shape c.args.key) c.self.view_is ∙ c.in_ok-spot.ensures.some.0 refl) c.enter-found.ensures.enters (sym c.is_hit.ensures ∙ c.if-not-is_hit.false)) (hit-tells (ap (λ p. is_key p.shape c.args.key) c.self.view_is ∙ c.in_ok-spot.ensures.some.0 refl) c.enter-found.ensures.enters (sym c.is_hit.ensures ∙ c.if-not-is_hit.false)) row.0 row.1
 
-pub add_first_reference-requires-clause-at : goal.add_first_reference-requires-clause-at
-add_first_reference-requires-clause-at g c =
-    let before = ready c.lane.view_is c.requires.owns.1 c.self.view_is c.lane.invariant.1 c.in_ok-spot.ensures.spot in
-    ready-low before
-
-module _ (g : Over) (c : goal.After-add_first_reference g) where
+module _ (g : Over) (c : goal.After-gain_reference g) where
   first-called : Called c.self.inside.grid.shape (Getting c.args.key) 34 c.lane.inside.hand.me c.enter-found.new.hand.me
-  first-called = get-hits (ap (λ p. is_key p.shape c.args.key) c.self.view_is ∙ c.in_ok-spot.ensures.some.0 refl) c.enter-found.ensures.enters (sym c.is_hit.ensures ∙ c.if-not-is_hit.false)
+  first-called = (get-hits (ap (λ p. is_key p.shape c.args.key) c.self.view_is ∙ c.in_ok-spot.ensures.some.0 refl) c.enter-found.ensures.enters (sym c.is_hit.ensures ∙ c.if-not-is_hit.false))
 
   first-got : GetHits c.self.inside.grid.shape c.args.key c.lane.inside.hand.me c.enter-found.new.hand.me
-  first-got = hit-tells (ap (λ p. is_key p.shape c.args.key) c.self.view_is ∙ c.in_ok-spot.ensures.some.0 refl) c.enter-found.ensures.enters (sym c.is_hit.ensures ∙ c.if-not-is_hit.false)
+  first-got = (hit-tells (ap (λ p. is_key p.shape c.args.key) c.self.view_is ∙ c.in_ok-spot.ensures.some.0 refl) c.enter-found.ensures.enters (sym c.is_hit.ensures ∙ c.if-not-is_hit.false))
 
-  first-left : Gained g.T.Clear.content g.T.Clear.room c.self.inside.grid.shape c.args.key first-got.0 c.lane.inside.hand.me.0 c.out-share.new.hand.me.0 c.lane.inside.state c.add_first_reference.new.state
+  first-left : Gained g.T.Clear.content g.T.Clear.room c.self.inside.grid.shape c.args.key first-got.0 c.lane.inside.hand.me.0 c.gain_reference.new.hand.me.0 c.lane.inside.state c.gain_reference.new.state
   first-left =
       let before = ready c.lane.view_is c.requires.owns.1 c.self.view_is c.lane.invariant.1 c.in_ok-spot.ensures.spot in
-      let some = c.if-held-gt0.false in
-      let none : c.index.result.now.count ≡ 0 = omega (arith, some) in
-      gained-first before first-called first-got c.index.result.now c.index.ensures c.add_first_reference.new.state c.add_first_reference.ensures.rest
-      (same-directory c.lane.view_is c.requires.owns.2 c.self.view_is) none c.out-share.ensures.outs c.add_first_reference.ensures.rows
+      let row = ready-row before in
+      gained-fetched before first-called first-got row.0 row.1 c.gain_reference.new.state c.gain_reference.ensures.rest
+      (same-directory c.lane.view_is c.requires.owns.2 c.self.view_is) (c.gain_reference.ensures.gains row.0 row.2)
+
+  first-carries : Carries c.self.inside.grid.shape (place_of c.args.key) 2 c.enter-found.new.hand.me c.gain_reference.new.hand.me
+  first-carries =
+      let before = ready c.lane.view_is c.requires.owns.1 c.self.view_is c.lane.invariant.1 c.in_ok-spot.ensures.spot in
+      let row = ready-row before in
+      subst (λ (p : ℕ). Carries c.self.inside.grid.shape p 2 c.enter-found.new.hand.me c.gain_reference.new.hand.me) c.in_ok-spot.ensures.spot.place_is
+      (carries-fetch (hit-left before first-called first-got row.0 row.1) (c.gain_reference.ensures.gains row.0 row.2).fetches)
 
 pub invariant_of-lane-2 : goal.invariant_of-lane-2
 invariant_of-lane-2 g c =
-    (c.out-share.ensures.outs.held ∙ ((first-called g c).did.held ∙ c.lane.invariant.0), fits-own (first-left g c).fits)
+    ((first-carries g c).held ∙ ((first-called g c).did.held ∙ c.lane.invariant.0), fits-own (first-left g c).fits)
 
 pub returns-clause-got : goal.returns-clause-got
 returns-clause-got g c =
     let left = first-left g c in
-    let there = c.in_ok-spot.ensures.spot in
-    let outs = subst (λ (p : ℕ). Outs g.T.Clear.content g.T.Clear.room (spots_at c.self.inside.grid.objects.ptr c.self.inside.grid.shape) c.self.inside.grid.shape p c.lane.inside.state.number Untouched c.enter-found.new.hand.me c.out-share.result c.out-share.new.hand.me)
-    there.place_is c.out-share.ensures.outs in
-    let table = c.out-share.ensures.hand.0 ∙ c.enter-found.ensures.hand.0 in
-    get-found {pool = c.args.self.now} {key = c.args.key} {old = c.args.lane.now} {new = lane_of c.out-share.new.hand.table_id c.out-share.new.hand.me.0 c.add_first_reference.new.state}
+    let table = c.gain_reference.ensures.hand.0 ∙ c.enter-found.ensures.hand.0 in
+    get-found {pool = c.args.self.now} {key = c.args.key} {old = c.args.lane.now} {new = lane_of c.gain_reference.new.hand.table_id c.gain_reference.new.hand.me.0 c.gain_reference.new.state}
     c.requires.owns (record { key = c.args.key }) (c.in_ok-spot.ensures.some.0 refl)
-    (rw (← c.self.view_is, ← c.lane.view_is) (calls-more (called-then (first-called g c) (carries-out outs)) (omega arith)))
-    (rw (← c.lane.view_is) (refl, left.holds, (first-got g c).0, left.did c.lane.inside.hand.table_id c.out-share.new.hand.table_id table))
+    (rw (← c.self.view_is, ← c.lane.view_is) (calls-more (called-then (first-called g c) (first-carries g c)) (omega arith)))
+    (rw (← c.lane.view_is) (refl, left.holds, (first-got g c).0, left.did c.lane.inside.hand.table_id c.gain_reference.new.hand.table_id table))
     (rw (← c.lane.view_is) left.refs)
-    (λ filling. rw (← c.lane.view_is) (left.fillings c.lane.inside.hand.table_id c.out-share.new.hand.table_id table filling))
+    (λ filling. rw (← c.lane.view_is) (left.fillings c.lane.inside.hand.table_id c.gain_reference.new.hand.table_id table filling))
 
 pub returns-clause-stands : goal.returns-clause-stands
 returns-clause-stands g c = c.in_ok-spot.ensures.spot.start

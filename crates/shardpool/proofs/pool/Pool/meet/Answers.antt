@@ -4,7 +4,8 @@ use Rattle.std.proofs.lemmas.Bool.{ltb-false}
 use mathlib.Core.List.{IsPrefix}
 use Rattle.poolsteps.specs.Seats.{longer}
 use Rattle.shardpool.specs.Tokens.{LaneOf}
-use Rattle.shardpool.specs.Lanes.{Owns}
+use Rattle.shardpool.specs.Lanes.{Owns, Did, holds, refs}
+use Rattle.shardpool.proofs.frame.Tellings.{told-then, then-told}
 use Rattle.shardpool.proofs.pool.Pool.meet.Goals as goal
 
 -- where a list goes on for no more entries it is the other
@@ -49,22 +50,35 @@ pub returns-clause-other : goal.returns-clause-other
 returns-clause-other g c = c.meet_by-2.ensures.owns
 
 pub returns-clause-goes : goal.returns-clause-goes
-returns-clause-goes g c = (rw c.tell-note-2.ensures.lane c.meet_by.ensures.goes, rw (← c.tell-note.ensures.lane) c.meet_by-2.ensures.goes)
+returns-clause-goes g c = (
+  subst (λ (l : LaneOf). Did [] c.args.one.now l) (sym c.tell-note-2.ensures.lane) (told-then c.meet_by.ensures.goes),
+  then-told (subst (λ (l : LaneOf). Did [] l c.meet_by-2.new.lane) c.tell-note.ensures.lane c.meet_by-2.ensures.goes),
+)
 
 pub returns-clause-refs : goal.returns-clause-refs
-returns-clause-refs g c = (rw c.tell-note-2.ensures.lane c.meet_by.ensures.refs, rw (← c.tell-note.ensures.lane) c.meet_by-2.ensures.refs)
+returns-clause-refs g c = (ap refs c.tell-note-2.ensures.lane ∙ c.meet_by.ensures.refs, c.meet_by-2.ensures.refs ∙ ap refs c.tell-note.ensures.lane)
 
 pub returns-clause-one_held : goal.returns-clause-one_held
-returns-clause-one_held g c = rw c.tell-note-2.ensures.lane c.meet_by.ensures.held
+returns-clause-one_held g c = λ key. ap (λ (l : LaneOf). holds l key) c.tell-note-2.ensures.lane ∙ c.meet_by.ensures.held key
 
 pub returns-clause-other_held : goal.returns-clause-other_held
-returns-clause-other_held g c = rw (← c.tell-note.ensures.lane) c.meet_by-2.ensures.held
+returns-clause-other_held g c = λ key. c.meet_by-2.ensures.held key ∙ ap (λ (l : LaneOf). holds l key) c.tell-note.ensures.lane
 
 pub returns-clause-steps : goal.returns-clause-steps
-returns-clause-steps g c = (rw c.tell-note-2.ensures.lane c.meet_by.ensures.steps, rw (← c.tell-note.ensures.lane) c.meet_by-2.ensures.steps)
+returns-clause-steps g c = (
+  ap (λ (l : LaneOf). l.book.steps) c.tell-note-2.ensures.lane ∙ c.meet_by.ensures.steps,
+  c.meet_by-2.ensures.steps ∙ ap (λ (l : LaneOf). l.book.steps) c.tell-note.ensures.lane,
+)
+
+pub returns-clause-looks : goal.returns-clause-looks
+returns-clause-looks g c =
+    let told = ap (λ (l : LaneOf). l.book.looks) c.tell-note-2.ensures.lane in
+    let tells = ap (λ (l : LaneOf). l.book.looks) c.tell-note.ensures.lane in
+    let one = c.meet_by.ensures.looks in
+    let other = c.meet_by-2.ensures.looks in (omega (arith, told, one), omega (arith, tells, other))
 
 pub returns-clause-one_fillings : goal.returns-clause-one_fillings
-returns-clause-one_fillings g c = rw c.tell-note-2.ensures.lane c.meet_by.ensures.fillings
+returns-clause-one_fillings g c = λ filling made. c.tell-note-2.ensures.fillings filling (c.meet_by.ensures.fillings filling made)
 
 pub returns-clause-other_fillings : goal.returns-clause-other_fillings
-returns-clause-other_fillings g c = rw (← c.tell-note.ensures.lane) c.meet_by-2.ensures.fillings
+returns-clause-other_fillings g c = λ filling made. c.meet_by-2.ensures.fillings filling (c.tell-note.ensures.fillings filling made)

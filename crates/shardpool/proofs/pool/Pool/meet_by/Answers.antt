@@ -40,3 +40,6 @@ returns-clause-refs g c = did-none-refs (returns-clause-goes g c)
 
 pub returns-clause-held : goal.returns-clause-held
 returns-clause-held g c = (returns-clause-goes g c).held
+
+pub returns-clause-looks : goal.returns-clause-looks
+returns-clause-looks g c = rw (← c.lane.view_is) c.meet.ensures.sees.looks
