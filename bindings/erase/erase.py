@@ -16,7 +16,8 @@ import subprocess
 import sys
 
 sys.dont_write_bytecode = True
-from forms import RUST_SIGNS, Parser, Refused, Source
+from forms import LEXER, RUST_SIGNS, Parser, Refused, Source
+from shorter import Shorter
 
 ROOT = os.path.dirname(os.path.dirname(os.path.dirname(os.path.abspath(__file__))))
 CRATES = ["keybits", "slotcell", "freelists", "poolsteps", "shardpool"]
@@ -53,33 +54,45 @@ STD = {
     "std::ptr": {"null_mut", "from_mut"},
     "std::mem": {"ManuallyDrop"},
 }
+# What is used of Rust's own modules, by their places in it.
+PATHS = {
+    ("std", "fmt"): {"Display", "Formatter", "Result", "Write"},
+    ("std", "mem"): {"replace"},
+    ("std", "ptr"): {"read", "write"},
+    ("std::mem", "ManuallyDrop"): {"new_unchecked"},
+}
+# What a path may begin with beside the names of its file.
+PRELUDE = {"Box", "Self", "Vec", "u32", "u64"}
+# Names of Rust's own that are known without an import, and that nothing else has.
+TAKEN = set("Box Clone Copy Drop Err From None Ok Option Result Send Some Sync Vec bool char str u8 u16 u32 u64 usize".split())
 # Traits that every file of Rust has.
 IN_EACH_FILE = {("std::marker", "Send"), ("std::marker", "Sync")}
 # Types of the kit with so many arguments, of which only the first ones are more than proofs.
 TOLD_TYPES = {"Table": (5, 1), "Seat": (2, 1)}
-# Functions that are to be part of their callers even where they are called from several places, by file.
-ALWAYS_INLINE = {
-    "shardpool/cell_moves": {"spread_cell", "take_cell"},
-    "shardpool/clear": {"clear"},
-    "shardpool/create": {"fill", "pop"},
-    "shardpool/get": {"get", "get_at"},
-    "shardpool/publish": {"publish"},
-    "shardpool/reclaim": {"give_home"},
-    "shardpool/release": {"release"},
-    "shardpool/stores": {"give_out", "take_own"},
+# Types of which no value has a value of an argument.
+HOLDS_NONE = {"Lease", "PhantomData", "Seat", "Slots", "Snapshot"}
+# Traits of Rust's own std with an impl.
+TRAITS = {"Clone", "Copy", "Display", "Drop", "Error", "From", "Send", "Sync"}
+# How places are reached: the explorer is told of each.
+PLACES = {
+    "{ & * base . ptr . add ( index ) }": "reads",
+    "{ & mut * base . ptr . add ( index ) }": "writes",
+    "{ ptr :: write ( base . ptr . add ( index ) , object ) }": "writes",
+    "{ ptr :: read ( base . ptr . add ( index ) ) }": "writes",
 }
-# The body of a function that takes value by value off a vector and puts it into a row.
-PUTS_ALL = re.compile(r"while let Some \( (\w+) \) = (\w+) \. pop \( \) { \w+ \. put \( \2 \. len \( \) , \1 \) ; }")
 DERIVES = {"Clone", "Copy", "Debug", "PartialEq", "Eq", "Drop"}
 ATTRIBUTES = {"inline", "cold"}
 MACROS = {"write"}
-NUMBERS = {"u8", "u16", "u32", "u64", "usize"}
 KEYWORDS = set(
     "as break const continue crate else enum false fn for if impl in let loop match mod move mut pub ref return Self self struct super"
     " trait true type unsafe use where while".split()
 )
+# What begins an item: one inside of a body could take the name of another.
+ITEM_WORDS = set("const enum fn impl mod struct trait type use".split())
+# Calls of which Rattle's answer a result, since memory may be refused.
+CLONES = {"clone", "clone_from", "cloned"}
 REFUSED_WORDS = set("async await box dyn extern macro_rules static try union yield ghost requires ensures".split())
-class Eraser:
+class Eraser(Shorter):
     """The erased text of all files."""
 
     def __init__(self, crates_folder, crates=CRATES):
@@ -88,7 +101,6 @@ class Eraser:
         self.sources = {}
         self.ghosts = {}
         self.gapless = set()
-        self.moved = set()
         for crate in crates:
             folder = os.path.join(crates_folder, crate, "src")
             for name in sorted(os.listdir(folder)):
@@ -125,10 +137,18 @@ class Eraser:
         """What each imported name is: its crate or folder, and its name there."""
         for item in source.items:
             if item.kind == "use":
-                for path, name, alias, _ in self.use_parts(source, item):
-                    source.scope[alias] = (self.home(source, path), name)
+                if item.attributes:
+                    source.refuse(item.start, "an attribute of an import")
+                for path, name, alias, (a, _) in self.use_parts(source, item):
+                    self.name(source, a, alias, (self.home(source, path), name))
             elif item.kind in ("struct", "enum", "trait", "type", "fn", "const"):
-                source.scope[item.name] = (source.crate, item.name)
+                self.name(source, item.start, item.name, (source.crate, item.name))
+
+    def name(self, source, i, name, home):
+        if name in TAKEN and not home[0].startswith("std"):
+            source.refuse(i, f"{name}, which is a name of Rust's own")
+        if source.scope.setdefault(name, home) != home:
+            source.refuse(i, f"{name} stands for two things")
 
     def home(self, source, path):
         head = path.split("::")[0]
@@ -183,8 +203,12 @@ class Eraser:
         for source in self.sources.values():
             for item in source.items:
                 key = (source.crate, item.name)
-                if item.kind in ("struct", "enum", "trait", "fn") and self.ghosts[key] and not self.ghost_kind(source, item, impls[key]):
+                named = item.kind in ("struct", "enum", "trait", "fn") and self.ghosts[key]
+                if named and not self.ghost_kind(source, item, impls[key]):
                     source.refuse(item.start, f"{item.name} stands twice in {source.crate}, once for proofs alone")
+            for name, home in source.scope.items():
+                if home != (source.crate, name) and self.ghosts.get((source.crate, name)):
+                    source.refuse(0, f"{name} stands for two things in {source.crate}, once for proofs alone")
 
     def ghost_kind(self, source, item, impls):
         if item.kind == "trait":
@@ -199,7 +223,7 @@ class Eraser:
         for _, a, b, ghost in item.fields:
             if not ghost and any(self.is_ghost(source, w) for w in self.type_words(source, a, b)):
                 return "type"
-        traits = {i.trait for _, i in impls}
+        traits = {i.trait if self.is_ghost(s, i.trait) else None for s, i in impls}
         if item.kind == "struct" and not item.fields and traits and traits <= GHOST_TRAITS - {"Model"}:
             return "type"
         return None
@@ -210,12 +234,17 @@ class Eraser:
         while i < j:
             if source.is_word(i):
                 words.add(source.at(i))
-                if source.at(i) in TOLD_TYPES and source.at(i + 1) == "<":
+                if self.is_told_type(source, i):
                     parts = source.split(i + 2, source.angle(i + 1))
                     words |= self.type_words(source, parts[0][0], parts[TOLD_TYPES[source.at(i)][1] - 1][1])
                     i = source.angle(i + 1)
             i += 1
         return words
+
+    def is_told_type(self, source, i):
+        """Whether a type of the kit begins at i, with arguments for proofs alone."""
+        name = source.at(i)
+        return name in TOLD_TYPES and source.at(i + 1) == "<" and self.is_of_kit(source, i, "atomic_table", name)
 
     # Items
 
@@ -230,6 +259,7 @@ class Eraser:
                 self.erase_item(source, item)
 
     def erase_item(self, source, item):
+        self.known_attributes(source, item)
         if item.kind == "ghost use":
             self.counts["ghost use"] += 1
             source.drop_lines(item.start, item.end, comments=False)
@@ -245,7 +275,7 @@ class Eraser:
             self.erase_parts(source, item)
 
     def erase_impl(self, source, item):
-        if item.trait in GHOST_TRAITS or item.trait and self.is_ghost(source, item.trait):
+        if item.trait and self.is_ghost(source, item.trait):
             for part in item.items:
                 if part.kind not in ("ghost", "ghost use"):
                     source.refuse(part.start, f"a member of {item.trait} that isn't ghost")
@@ -254,6 +284,10 @@ class Eraser:
             return
         if self.is_ghost(source, item.name):
             source.refuse(item.start, f"an impl for {item.name}, which is for proofs alone")
+        if source.scope.get(item.name) != (source.crate, item.name):
+            source.refuse(item.start, f"an impl for {item.name}, which isn't of this crate")
+        if item.trait and item.trait not in TRAITS and source.scope.get(item.trait, "?")[0] not in self.crates:
+            source.refuse(item.start, f"an impl of {item.trait}")
         if item.trait == "Drop":
             self.erase_drop(source, item)
             return
@@ -273,10 +307,42 @@ class Eraser:
         forgets = "let _leaked = unsafe { ManuallyDrop :: new_unchecked ( self ) } ;".split()
         if len(fns) != 1 or fns[0].name != "drop" or words != forgets:
             source.refuse(item.start, "a drop by value")
+        struct = next(i for i in source.items if i.kind in ("struct", "enum") and i.name == item.name)
+        held = self.held(source, struct)
+        if held:
+            source.refuse(item.start, f"a drop by value that forgets a {' and a '.join(sorted(held))}")
         self.counts["drop that forgets"] += 1
         arguments = "<()>" if item.generics else ""
         check = f"const _: () = assert!(!std::mem::needs_drop::<{item.name}{arguments}>());\n"
         source.drop_lines(item.start, item.end, text="// Where it is dropped it is forgotten.\n" + check)
+
+    def held(self, source, item):
+        """The parameters of a type of which its values have a value, which Rust drops with them."""
+        parameters = {source.at(a) for a, _ in source.split(item.generics[0] + 1, item.generics[1])} if item.generics else set()
+        held = set()
+        for name, a, b, ghost in item.fields:
+            if not ghost:
+                held |= self.held_in(source, a, b, parameters)
+        return held
+
+    def held_in(self, source, i, j, parameters):
+        """Those of the parameters of which a value of the type from i to j has a value."""
+        held = set()
+        while i < j:
+            name, close = source.at(i), source.angle(i + 1) if source.at(i + 1) == "<" else i
+            if source.at(i) in ("*", "&"):
+                return held
+            if name in parameters and source.at(i + 1) != ":":
+                held.add(name)
+            if close > i and name not in HOLDS_NONE:
+                other, item = self.definition(source.scope.get(name))
+                inner = self.held(other, item) if other else None
+                names = [other.at(a) for a, _ in other.split(item.generics[0] + 1, item.generics[1])] if other else []
+                for k, (a, b) in enumerate(source.split(i + 2, close)):
+                    if inner is None or names[k] in inner:
+                        held |= self.held_in(source, a, b, parameters)
+            i = close + 1
+        return held
 
     def fallible_clone(self, source, item):
         i, j = item.answer
@@ -317,6 +383,11 @@ class Eraser:
             source.gone[k] = True
         source.edits.append((source.tokens[i - 1].end, source.tokens[j].start, "" if source.at(j) == ";" else " "))
 
+    def known_attributes(self, source, item):
+        for name, a, b in item.attributes:
+            if name not in ATTRIBUTES | {"derive", "tactic"}:
+                source.refuse(a, f"an attribute `{name}`")
+
     def attributes(self, source, item):
         if item.kind == "fn" and item.body:
             self.inline(source, item)
@@ -336,20 +407,6 @@ class Eraser:
                         source.replace(a + 4, b - 2, ", ".join(kept))
                     else:
                         source.drop_lines(a, b, comments=False)
-            elif name not in ATTRIBUTES:
-                source.refuse(a, f"an attribute `{name}`")
-
-    def inline(self, source, item):
-        """Rust needs a word for what is to be part of a caller in another crate, where no type of the caller's makes it anew."""
-        told = [(name, a, b) for name, a, b in item.attributes if name in ("inline", "cold")]
-        always = item.name in ALWAYS_INLINE.get(f"{source.crate}/{source.module}", ())
-        generic = item.generics or item.around and item.around.generics
-        if not told and (always or not generic):
-            self.counts["written: inline"] += 1
-            source.insert(item.start, "#[inline(always)]\n" if always else "#[inline]\n")
-        elif told and always:
-            self.counts["written: inline"] += 1
-            source.replace(told[0][1], told[0][2], "#[inline(always)]")
 
     def writer(self, source, item):
         """`fmt` has a writer of any type, where Rust's has its own."""
@@ -491,8 +548,8 @@ class Eraser:
                 source.refuse(i, f"a sign `{token.text}`")
             if token.text == "#" and not any(a <= i < b for item in self.all_items(source.items) for _, a, b in item.attributes):
                 source.refuse(i, "an attribute inside of a body")
-            if token.text == ".." and source.at(i + 1) == ")" and source.at(i - 1) not in ("(", ","):
-                source.refuse(i, "a range without an end")
+            if token.text == "..":
+                self.dots(source, i)
             return i + 1
         side_by_side = before and before.kind in ("word", "number", "string", "char") and token.kind != "life"
         if side_by_side and not {before.text, token.text} & KEYWORDS:
@@ -500,6 +557,28 @@ class Eraser:
         if token.kind != "word":
             return i + 1
         return self.word(source, i, token.text)
+
+    def dots(self, source, i):
+        """A range has an end, but where it is an index: Rust's ends otherwise. And a struct has no fields of another value, which Rust
+        looks at where all are given."""
+        before, behind = source.at(i - 1), source.at(i + 1)
+        if self.ends_value(source, i - 1) and behind in (")", ",", ";", "{", "}", "]", "=>"):
+            open_at = next((k for k, end in source.close.items() if end == i + 1), 0)
+            if behind != "]" or not self.ends_value(source, open_at - 1):
+                source.refuse(i, "a range without an end")
+        if before in ("{", ",") and behind not in (")", "]", "}", ","):
+            source.refuse(i, "the fields of another value")
+
+    def ends_value(self, source, i):
+        """Whether a value may end with the token i."""
+        return source.tokens[i].kind == "number" or source.at(i) in (")", "]", "}") or source.is_word(i) and source.at(i) not in KEYWORDS
+
+    def in_body(self, source, i):
+        """Whether a token stands in the body of a function, or is part of the value of a constant."""
+        for item in self.all_items(source.items):
+            if item.kind in ("fn", "const") and item.body and item.body[0] <= i < item.body[1]:
+                return True
+        return False
 
     def all_items(self, items):
         for item in items:
@@ -511,34 +590,32 @@ class Eraser:
         member = source.at(i - 1) in (".", "::")
         if text in REFUSED_WORDS:
             source.refuse(i, f"`{text}` where no form with it is known")
-        if text == "clone" and source.at(i - 1) == ".":
-            source.refuse(i, "a call of clone")
+        if text in CLONES and source.at(i - 1) != "fn":
+            source.refuse(i, f"a call of {text}")
+        if text in ITEM_WORDS and source.at(i - 1) != "*" and self.in_body(source, i):
+            source.refuse(i, f"`{text}` inside of a body")
         if behind == "!" and source.at(i + 2) in ("(", "[", "{"):
             return self.macro(source, i, text)
-        if text == "for" and behind == "_" and source.at(i + 2) == "in":
-            return self.alike(source, i)
         if text == "unsafe" and behind == "{":
             self.reason(source, i)
-        if text == "Table" and behind == "::" and source.at(i + 2) == "new":
-            return self.new_table(source, i)
-        if text == "reserve" and not member and behind == "(":
-            return self.reserved_row(source, i)
-        if not member and behind == "(" and self.puts(source, i):
-            return source.close[i + 1] + 2
-        if text == "self" and source.at(i - 1) in (";", "{", "}") and self.look(source, i):
+        if self.shorter(source, i, text):
             return i + 1
-        if not member and text in TOLD_TYPES and behind == "<":
+        if self.is_told_type(source, i):
             return self.told_type(source, i)
         if behind == "::" and source.at(i + 2) == "<":
             return self.type_arguments(source, i)
         if not member and behind == "::":
             return self.path(source, i, text)
-        if not member and behind == "(" and source.at(i + 2) == ")" and source.at(i + 3) == ";" and self.is_ghost(source, text):
+        call = source.words_at(i + 1, 3) == "( ) ;" and source.at(i - 1) in (";", "{", "}")
+        if call and self.is_ghost(source, text):
             self.counts["call of a law"] += 1
             source.drop_lines(i, i + 4)
             return i + 4
         if not member and self.is_ghost(source, text):
             source.refuse(i, f"`{text}`, which is for proofs alone")
+        known = member or text in source.scope or text in TAKEN or text == "Self" or text in self.parameters(source, i)
+        if text[0].isupper() and not known and self.in_body(source, i):
+            source.refuse(i, f"`{text}`, which no import names")
         return i + 1
 
     def reason(self, source, i):
@@ -548,7 +625,17 @@ class Eraser:
         if source.at(first - 1) not in (";", "{", "}"):
             first = i
         self.counts["written: reason of unsafe"] += 1
-        source.insert(first, "// SAFETY: what is asked here is proved in the source.\n")
+        source.insert(first, self.told_access(source, i) + "// SAFETY: what is asked here is proved in the source.\n")
+
+    def told_access(self, source, i):
+        """What tells the explorer of an access to a place, if the unsafe block is one."""
+        block = " ".join(source.at(k) for k in range(i + 1, source.close[i + 1] + 1))
+        if "base . ptr" not in block:
+            return ""
+        if block not in PLACES:
+            source.refuse(i, "an access to a place of which the explorer isn't told")
+        self.counts["written: access that is told"] += 1
+        return f'crate::sync::{PLACES[block]}(base.ptr.wrapping_add(index), "place");\n'
 
     def macro(self, source, i, text):
         close = source.close[i + 2]
@@ -558,7 +645,7 @@ class Eraser:
             return close + 1
         if text == "vec" and source.at(i + 3) == "in":
             ends = [k for k in range(i + 3, close) if source.at(k) == ";"]
-            if len(ends) != 2:
+            if len(ends) != 2 or ends[1] - ends[0] != 2:
                 source.refuse(i, "a form of vec!")
             self.counts["rewritten: vec![in ..]"] += 1
             source.replace(i, i + 4, "Vec::filled(")
@@ -586,7 +673,20 @@ class Eraser:
                 source.refuse(i, f"a path {path}::{source.at(k + 2)}")
         elif self.is_ghost(source, text):
             source.refuse(i, f"`{text}`, which is for proofs alone")
+        elif source.scope.get(text, "?")[0] in STD:
+            if source.at(i + 2) not in PATHS.get(source.scope[text], ()):
+                source.refuse(i, f"a path {text}::{source.at(i + 2)}")
+        elif text not in source.scope and text not in PRELUDE and text not in self.parameters(source, i):
+            source.refuse(i, f"a path that begins with {text}")
         return i + 1
+
+    def parameters(self, source, i):
+        """The parameters of types of what is around a token."""
+        names = set()
+        for item in self.all_items(source.items):
+            if item.generics and item.start <= i < item.end:
+                names |= {source.at(a) for a, _ in source.split(item.generics[0] + 1, item.generics[1])}
+        return names
 
     def told_type(self, source, i):
         total, kept = TOLD_TYPES[source.at(i)]
@@ -620,112 +720,6 @@ class Eraser:
                         return True
         return False
 
-    def alike(self, source, i):
-        """`for _ in 0..N { ROW.push_reserved(VALUE); }`: a row of values that are alike, which the shim may have zeroed."""
-        s, parser = source, Parser(source)
-        open_at = parser.until(i + 3, ("{",))
-        body = open_at + 1
-        from_zero = [s.at(i + 3), s.at(i + 4)] == ["0", ".."]
-        if not from_zero or not s.is_word(body) or [s.at(body + k) for k in (1, 2, 3)] != [".", "push_reserved", "("]:
-            return i + 1
-        close = s.close[body + 3]
-        if s.at(close + 1) != ";" or close + 2 != s.close[open_at] or not self.gapless_value(source, body + 4):
-            return i + 1
-        self.counts["rewritten: row of values that are alike"] += 1
-        count = s.text[s.tokens[i + 5].start : s.tokens[open_at - 1].end]
-        s.edits.append((s.tokens[i].start, s.tokens[body].start, ""))
-        s.edits.append((s.tokens[body + 2].start, s.tokens[body + 3].end, f"push_alike({count}, || "))
-        s.edits.append((s.tokens[close + 1].end, s.tokens[close + 2].end, ""))
-        for k in (*range(i, body), body + 2, body + 3, close + 2):
-            s.done[k] = True
-        return body
-
-    def new_table(self, source, i):
-        """`Table::new(.., WORDS.as_slice(), ..)` copies the words, which nobody needs any more: they become the table's."""
-        s = source
-        parts = s.split(i + 4, s.close[i + 3])
-        a, b = parts[1] if len(parts) == 4 else (i, i)
-        if [s.at(k) for k in range(a + 1, b)] != [".", "as_slice", "(", ")"]:
-            s.refuse(i, "a form of Table::new")
-        self.counts["rewritten: words that become the table's"] += 1
-        s.drop(a + 1, b)
-        return i + 1
-
-    def look(self, source, i):
-        """`self.table.shared.load::<LOOK>(hand, look_word(LANE));`: a load of a word that no step changes, whose answer nobody takes. It
-        tells proofs which slots a lane has in hand, and nothing else. Whether it is one, and goes."""
-        s = source
-        if [s.at(i + k) for k in range(9)] != "self . table . shared . load :: <".split():
-            return False
-        call = s.angle(i + 8) + 1
-        if [s.at(call + k) for k in range(9)] != "( hand , look_word ( lane ) ) ;".split():
-            return False
-        self.counts["look whose answer nobody takes"] += 1
-        s.drop_lines(i, call + 9)
-        return True
-
-    def reserved_row(self, source, i):
-        """`reserve(&alloc, VALUES.as_slice())` asks for a row in which the values are put one by one, and then their vector is freed: the
-        vector's memory becomes the row."""
-        s = source
-        parts = s.split(i + 2, s.close[i + 1])
-        a, b = parts[-1]
-        if len(parts) != 2 or [s.at(k) for k in range(a + 1, b)] != [".", "as_slice", "(", ")"]:
-            s.refuse(i, "a form of reserve")
-        self.counts["rewritten: vector that becomes a row"] += 1
-        self.moved.add((s.name, s.at(a)))
-        s.drop(a + 1, b)
-        return i + 1
-
-    def puts(self, source, i):
-        """`write_all(&mut ROW, VALUES);`, which puts the values of a vector into a row, where the vector's memory is the row. Whether it
-        is that, and goes."""
-        s = source
-        parts = s.split(i + 2, s.close[i + 1])
-        if len(parts) != 2 or s.at(s.close[i + 1] + 1) != ";" or (s.name, s.at(parts[1][0])) not in self.moved:
-            return False
-        for item in s.items:
-            if item.kind == "fn" and item.name == s.at(i):
-                body = " ".join(s.at(k) for k in range(*item.body))
-                if PUTS_ALL.fullmatch(body):
-                    s.drop_lines(i, s.close[i + 1] + 2)
-                    return True
-        s.refuse(i, "a row whose vector is used")
-
-    def gapless_value(self, source, i):
-        """Whether the value that begins at i is of a type all of whose bytes are written, of which the compiler is then told."""
-        home = source.scope.get(source.at(i))
-        if home is None or source.at(i + 1) not in ("{", "::"):
-            return False
-        for other in self.sources.values():
-            for item in other.items:
-                if (other.crate, item.name) == home and item.kind in ("struct", "enum"):
-                    return self.tell_gapless(other, item)
-        return False
-
-    def tell_gapless(self, source, item):
-        if (source.crate, item.name) in self.gapless:
-            return True
-        sizes = ["1"] if item.kind == "enum" else []
-        for name, a, b, ghost in item.fields:
-            if ghost:
-                continue
-            if item.kind == "struct":
-                a += next(k for k in range(b - a) if source.at(a + k) == ":") + 1
-                b -= source.at(b - 1) == ","
-            text = source.text[source.tokens[a].start : source.tokens[b - 1].end]
-            whole = item.kind == "struct" and (text in NUMBERS or text.startswith("*mut "))
-            sizes.append(f"std::mem::size_of::<{text}>()" if whole else f"no_bytes::<{text}>()")
-        names = "<T>" if item.generics else ""
-        where = f"impl{names} Gapless for {item.name}{names}"
-        end = source.tokens[item.end - 1].end
-        fields = f"const FIELDS: usize = {' + '.join(sizes) or '0'};"
-        reason = "// SAFETY: its fields fill it, at which the compiler looks."
-        source.edits.append((end, end, f"\n\n{reason}\nunsafe {where} {{\n{fields}\n}}\n"))
-        self.gapless.add((source.crate, item.name))
-        return True
-
-
 def finish(source):
     """The text that is left, with its head and its imports of the shim."""
     out, at = [], 0
@@ -746,8 +740,8 @@ def finish(source):
     text = "".join(out)
     about = re.match(r"\s*((?://!.*\n)+|(?:// .*\n)+(?=\n))?", text)
     rest = text[about.end() :]
-    code = re.sub(r"//.*", "", rest)
-    names = sorted(source.shim | {n for n in ("Box", "Vec", "impossible", "no_bytes", "Gapless") if re.search(rf"\b{n}\b", code)})
+    words = {m.group() for m in LEXER.finditer(rest) if m.lastgroup == "word"}
+    names = sorted(source.shim | {"Box", "Vec", "impossible", "no_bytes", "Gapless"} & words)
     head = f"// Made from {source.name} by bindings/erase/erase.py: change that file, not this one.\n\n"
     if about.group(1):
         head += about.group(1) + "\n"

@@ -12,6 +12,7 @@ LEXER = re.compile(
     |(?P<doc>///(?!/)[^\n]*)
     |(?P<comment>//[^\n]*)
     |(?P<block>/\*)
+    |(?P<raw>(?:b|c)?r\#*"|c")
     |(?P<string>b?"(?:[^"\\]|\\.)*")
     |(?P<char>b?'(?:[^'\\\n]|\\[^\n]+?)')
     |(?P<life>'[A-Za-z_]\w*)
@@ -34,7 +35,7 @@ class Source:
     """A file of a crate: its tokens, which of them go, and what is written in place of others."""
 
     def __init__(self, crate, module, path, name):
-        with open(path, encoding="utf-8") as file:
+        with open(path, encoding="utf-8", newline="") as file:
             self.text = file.read()
         self.crate, self.module, self.name = crate, module, name
         self.ends = [m.start() for m in re.finditer("\n", self.text)]
@@ -43,8 +44,7 @@ class Source:
             if m.lastgroup == "space":
                 continue
             token = Token(m.lastgroup, m.group(), m.start(), m.end())
-            if token.kind == "block":
-                self.refuse_at(token.start, "a comment /* */")
+            self.lexed(token)
             (self.comments if token.kind in ("inner", "doc", "comment") else self.tokens).append(token)
         self.close = {}
         self.match_brackets()
@@ -54,6 +54,34 @@ class Source:
         self.items = []
         self.scope = {}
         self.shim = set()
+
+    def lexed(self, token):
+        """Refuses what could hide a brace: what begins a comment in a clause, and texts that other readers may end elsewhere."""
+        if token.kind == "block":
+            self.refuse_at(token.start, "a comment /* */")
+        if token.kind == "raw":
+            self.refuse_at(token.start, "a raw string")
+        if token.kind == "string" and "\n" in token.text:
+            self.refuse_at(token.start, "a string of several lines")
+        if token.kind == "sign" and self.text[token.start : token.start + 2] in ("--", "{-"):
+            self.refuse_at(token.start, f"`{self.text[token.start : token.start + 2]}`, which begins a comment in a clause")
+        if token.kind == "sign" and (token.text in "'\"" or not token.text.isprintable()):
+            self.refuse_at(token.start, f"a sign {token.text!r}")
+
+    def term(self, open_at):
+        """Where the brace of a term for proofs ends."""
+        self.plain(open_at, self.close[open_at])
+        return self.close[open_at]
+
+    def plain(self, i, j):
+        """Refuses what readers of proofs and of code end elsewhere, in what proofs alone have, from the token i to the token j: `//` may be a
+        name there, and a quote a part of one."""
+        for k in range(i, j):
+            if self.tokens[k].kind in ("string", "char", "life"):
+                self.refuse(k, f"`{self.at(k)}` in a term for proofs")
+        for comment in self.comments:
+            if self.tokens[i].start < comment.start < self.tokens[j].start:
+                self.refuse_at(comment.start, "a comment in a term for proofs")
 
     def match_brackets(self):
         pairs, open_ones = {")": "(", "]": "[", "}": "{"}, []
@@ -81,6 +109,15 @@ class Source:
 
     def is_word(self, i):
         return i < len(self.tokens) and self.tokens[i].kind == "word"
+
+    def words_at(self, i, count):
+        """So many tokens from i on, with a space between any two."""
+        return " ".join(self.at(k) for k in range(i, i + count))
+
+    def head_and_body(self, item):
+        """The parameters and the body of a function, with `--` between them, which is no token."""
+        parameters, body = ((a, b - a) for a, b in (item.parameters, item.body))
+        return f"{self.words_at(*parameters)} -- {self.words_at(*body)}"
 
     def want(self, i, text):
         if self.at(i) != text:
@@ -195,6 +232,7 @@ class Parser:
             open_at = i + 1 + inner
             s.want(open_at, "[")
             item.attributes.append((s.at(open_at + 1), i, s.close[open_at] + 1))
+            s.plain(open_at, s.close[open_at])
             i = s.close[open_at] + 1
             if inner:
                 item.kind, item.end = "inner attribute", i
@@ -239,12 +277,13 @@ class Parser:
         if s.at(i + 1) == "use":
             item.kind = "ghost use"
             item.end = self.until(i, (";",)) + 1
+            s.plain(i, item.end - 1)
             return item
         if not s.is_word(i + 1) or s.at(i + 2) not in (":", "=") or s.at(i + 3) != "{":
             s.refuse(i, "a form of ghost")
         if place == "file":
             s.refuse(i, "a ghost member outside of an impl and a trait")
-        i = s.close[i + 3] + 1
+        i = s.term(i + 3) + 1
         item.end = s.want(i, ";")
         return item
 
@@ -261,6 +300,7 @@ class Parser:
     def const_item(self, item, i):
         item.kind, item.name = "const", self.s.at(i + 1)
         item.end = self.until(i, (";",)) + 1
+        item.body = (i + 2, item.end)
         return item
 
     def type_item(self, item, i):
@@ -313,10 +353,9 @@ class Parser:
                 s.refuse(i, "a form of field")
             name = s.at(i)
             if ghost:
-                s.want(i + 2, "{")
-                i = s.close[i + 2] + 1
+                i = s.term(s.want(i + 2, "{") - 1) + 1
                 if s.at(i) == "by":
-                    i = s.close[s.want(i + 1, "{") - 1] + 1
+                    i = s.term(s.want(i + 1, "{") - 1) + 1
             else:
                 i = self.type_end(i + 2, (",", "}"))
             if i < end:
@@ -415,8 +454,7 @@ class Parser:
             i += 1
             i += s.at(i) == "*"
             i += s.is_word(i)
-            s.want(i, "{")
-            i = s.close[i] + 1
+            i = s.term(s.want(i, "{") - 1) + 1
             item.clauses.append((s.at(start), start, i))
         if s.at(i) == ";":
             item.end = i + 1

@@ -11,6 +11,8 @@
 
 #[path = "../rust/src/buffer.rs"]
 mod buffer;
+#[path = "../rust/src/calls.rs"]
+mod calls;
 #[path = "../rust/src/clear.rs"]
 mod clear;
 #[path = "../rust/src/erased/mod.rs"]
@@ -19,26 +21,22 @@ mod erased;
 mod errors;
 #[path = "../rust/src/filling.rs"]
 mod filling;
-#[path = "../rust/src/handles.rs"]
-mod handles;
 #[path = "../rust/src/key.rs"]
 mod key;
 #[path = "../rust/src/lane.rs"]
 mod lane;
-#[path = "../rust/src/lock.rs"]
-mod lock;
-#[path = "../rust/src/object.rs"]
+#[path = "../rust/src/lanes/mod.rs"]
+mod lanes;
+#[path = "../rust/src/object/mod.rs"]
 mod object;
 #[path = "../rust/src/pool.rs"]
 mod pool;
 #[path = "../rust/src/reference.rs"]
 mod reference;
-#[path = "../rust/src/room.rs"]
-mod room;
 #[path = "../rust/src/shim/mod.rs"]
 mod shim;
-#[path = "../rust/src/threads.rs"]
-mod threads;
+#[path = "../rust/src/sync.rs"]
+mod sync;
 
 use buffer::Buffer;
 use erased::keybits::Shape;
@@ -464,8 +462,8 @@ struct Crate<'l> {
 }
 
 impl<'l> Calls for Crate<'l> {
-    type Filling = lane::Filling<'l, Buffer>;
-    type Ref = lane::Ref<'l, Buffer>;
+    type Filling = filling::Filling<'l, Buffer>;
+    type Ref = reference::Ref<'l, Buffer>;
 
     fn create(&mut self) -> Result<(u64, Self::Filling), &'static str> {
         match self.lane.create() {

@@ -18,11 +18,50 @@ PROOF_TRAITS = {"Model", "Play", "Split", "Join", "TableRule"}
 SHIM_NAMES = {"Box", "Vec", "impossible", "no_bytes", "Gapless"}
 SHIM_FROM = {"std::alloc", "std::snapshot", "core::slots", "core::mem", "atomic_table", "arrayvec"}
 OPEN, CLOSE = dict(zip("([{", ")]}")), set(")]}")
-TOKEN = re.compile(r"\"(?:[^\"\\]|\\.)*\"|'[a-z_]+\b(?!')|\w+|::|->|=>|\.\.|\S")
+TOKEN = re.compile(r"//[^\n]*|\"(?:[^\"\\\n]|\\.)*\"|'(?:[^'\\\n]|\\[^\n]+?)'|'[a-z_]+\b|\w+|::|->|=>|\.\.|\S")
+# What means other than in Rust, or at some builds alone: values lie otherwise in memory, and copies may be refused.
+OTHERWISE = {"align_of", "align_of_val", "cfg", "cfg_attr", "cloned", "size_of", "size_of_val"}
+# Types of which no value has a value of their argument.
+HOLDS_NONE = {"Bare", "Lease", "PhantomData"}
+FORGETS = "let _leaked = unsafe { ManuallyDrop :: new_unchecked ( self ) } ; } }".split()
+# The row that a vector becomes, the function that fills it in the source, and where the words stand at which lanes look.
+ASKS = "let ( mut row , lease ) = ( unsafe { reserve ( & alloc , words . as_slice ( ) ) } ) . ok ( ) ? ;"
+FILLS = (
+    "fn write_all < T : Drop > ( row : & mut Slots < T > , mut words : Vec < T > )",
+    "{ while let Some ( word ) = words . pop ( ) { row . put ( words . len ( ) , word ) ; } }",
+)
+LOOKS = ("WORDS_APART * ( 1 + lane as usize ) }", "const LIVES_START : usize = WORDS_APART * ( 1 + MOST_LANES as usize ) ;")
 
 
 def tokens_of(text):
-    return TOKEN.findall(re.sub(r"//[^\n]*", "", text))
+    return [token for token in TOKEN.findall(text) if not token.startswith("//")]
+
+
+def looked_at(name, text):
+    """Refuses a source of which readers may see different braces, or with forms that mean other than in Rust."""
+    term, depth, tokens = False, 0, []
+    for found in TOKEN.finditer(text):
+        token, at = found.group(), found.start()
+        comment = token.startswith("//")
+        hides = len(token) == 1 and text[at : at + 2] in ("--", "{-", "/*") or token in ("'", '"')
+        hides |= token[0] == '"' and text[at - 1 : at] in ("r", "c", "#") or term and (comment or token[0] in "\"'")
+        if hides:
+            raise SystemExit(f"FAIL {name}: `{text[at : at + 8]}` may hide a brace")
+        if token in ("requires", "ensures", "ghost", "by"):
+            term = True
+        elif term:
+            depth += (token == "{") - (token == "}")
+            term = depth > 0 or token not in ("}", ";")
+        tokens += [] if comment else [token]
+    depth = 0
+    for before, token, behind in zip(["", *tokens], tokens, [*tokens[1:], ""]):
+        depth += (token == "{") - (token == "}")
+        inner = token == "use" and before != "ghost" and (depth or before == "]")
+        value = re.fullmatch(r"\w+|[)\]]", before)
+        endless = token == ".." and (value and behind in ") , ; { =>".split() or before in ("{", ",") and re.match(r"\w", behind))
+        path = token == "core" and behind == "::" and before != "use" or token == "clone" and before != "fn"
+        if inner or endless or path or token in OTHERWISE:
+            raise SystemExit(f"FAIL {name}: `{before} {token} {behind}` is no form of the sources")
 
 
 def imports_of(tokens, crate):
@@ -59,8 +98,9 @@ def source_path(path, crate):
 class Walk:
     """One file beside its source."""
 
-    def __init__(self, name, crate, source, output, gone):
+    def __init__(self, name, crate, source, output, gone, looks):
         self.name, self.crate = name, crate
+        looked_at(name, source)
         self.told, self.s = imports_of(tokens_of(source), crate)
         self.gone = {n: kind for (c, n), kind in gone.items() if c == crate}
         for n, path in self.told.items():
@@ -70,9 +110,14 @@ class Walk:
                 kind = "law" if n.endswith("_law") else "type of proofs"
             if kind and home != "crate":
                 self.gone[n] = kind
+        for n in self.told:
+            if n.split(" as ")[-1] in self.gone and " as " in n:
+                raise SystemExit(f"FAIL {name}: an import {n}, which stands for what proofs alone are about")
         self.made, self.o = imports_of(tokens_of(output), crate)
         bounds = zip(self.s, self.s[1:], self.s[2:])
         self.parameters = {name for name, colon, bound in bounds if colon == ":" and self.gone.get(bound) == "trait"}
+        self.text = " ".join(self.s)
+        self.looks = looks
         self.left, self.rewritten = collections.Counter(), collections.Counter()
         self.swaps = {}
 
@@ -158,13 +203,17 @@ class Walk:
             return self.impl(i, k)
         if self.starts(i, "self . table . shared . load :: <") and s[i - 1] in (";", "{"):
             end = self.angles(i + 8)
-            if self.starts(end, "( hand , look_word ( lane ) ) ;"):
+            if self.starts(end, "( hand , look_word ( lane ) ) ;") and (self.crate, self.told.get("look_word")) in self.looks:
                 return end + 9, "look whose answer nobody takes"
-        if self.starts(i, "write_all ( & mut row , words ) ;") and self.rewritten["vector that becomes a row"]:
+        if self.starts(i, "write_all ( & mut row , words ) ;") and self.fills(i):
             return i + 9, "vector that becomes a row"
-        if self.starts(i + 1, "( ) ;") and self.gone.get(word) == "law":
+        if self.starts(i + 1, "( ) ;") and self.gone.get(word) == "law" and s[i - 1] in (";", "{", "}"):
             return i + 4, "call of a law"
         return self.types(i)
+
+    def fills(self, i):
+        """Whether the statement at i fills the row that the one before asks for."""
+        return self.starts(i - len(ASKS.split()), ASKS) and all(part in self.text for part in FILLS)
 
     def ghost(self, k):
         s = self.s
@@ -192,15 +241,27 @@ class Walk:
             k = self.angles(k)
         trait = self.s[k]
         head = self.s[k : self.s.index("{", k)]
-        if "for" in head and (trait in PROOF_TRAITS or self.gone.get(trait) == "trait"):
+        of_kit = trait in PROOF_TRAITS and self.told.get(trait) in ("std::marker", "atomic_table")
+        if "for" in head and (of_kit or self.gone.get(trait) == "trait"):
             body = self.close(self.s.index("{", k))
             return body, "impl of a trait of proofs"
         if trait == "Drop" and "for" in head:
             end = self.close(self.s.index("{", k))
-            forgets = "let _leaked = unsafe { ManuallyDrop :: new_unchecked ( self ) } ; } }".split()
-            if self.s[end - len(forgets) - 1 : end] == ["{", *forgets]:
+            if self.s[end - len(FORGETS) - 1 : end] == ["{", *FORGETS] and not self.holds(self.s[k + 2]):
                 return end, "drop that forgets"
         return None
+
+    def holds(self, name):
+        """Whether values of a type may have a value of a parameter of it, which Rust would drop with them."""
+        s = self.s
+        k = next(k for k in range(len(s)) if s[k] in ("struct", "enum") and s[k + 1] == name) + 2
+        parameters = set(s[k : self.angles(k)]) if s[k] == "<" else set()
+        k = self.angles(k) if parameters else k
+        for j in range(k, self.close(k) if s[k] in OPEN else k):
+            pointer = s[j - 1] in ("mut", "const") and s[j - 2] == "*"
+            if re.match(r"\w", s[j]) and s[j] in parameters and s[j + 1] != ":" and not pointer and s[j - 2] not in HOLDS_NONE:
+                return True
+        return False
 
     def types(self, i):
         """Parameters, arguments and bounds of types that proofs alone need."""
@@ -302,6 +363,9 @@ class Walk:
         row, count, value = s[brace + 1 : call - 1], s[i + 5 : brace], s[call + 1 : self.close(call) - 1]
         if s[call - 1] != "push_reserved" or s[self.close(call) :][:2] != [";", "}"]:
             return None
+        calls = any(a == "(" and b != ")" for a, b in zip(value, value[1:]))
+        if calls or "." in value or not all(re.fullmatch(r"\w+|\.", token) for token in count):
+            return None
         want = row + ["push_alike", "("] + count + [",", "|", "|"] + value + [")", ";"]
         got, end = [], j
         while end < len(o) and len(got) < len(want):
@@ -320,7 +384,8 @@ class Walk:
         size = r"(?:1|(?:std :: mem :: size_of|no_bytes) :: < [^;+]*? > \( \))"
         head = r"unsafe impl (?:< T > )?Gapless for \w+ (?:< T > )?{ const FIELDS : usize = "
         gapless = re.match(head + rf"{size}(?: \+ {size})* ; }}", text)
-        for kind, found in (("asked: no drop", check), ("asked: no gap", gapless)):
+        access = re.match(r'crate :: sync :: (?:reads|writes) \( base \. ptr \. wrapping_add \( index \) , "place" \) ;', text)
+        for kind, found in (("asked: no drop", check), ("asked: no gap", gapless), ("access that is told", access)):
             if found:
                 return kind, i, j + len(found.group().split(" "))
         return None
@@ -358,22 +423,31 @@ def main():
         for name in sorted(os.listdir(os.path.join(out, crate))):
             with open(os.path.join(out, crate, name), encoding="utf-8") as file:
                 outputs[crate, "lib" if name == "mod.rs" else name[:-3]] = file.read()
+    left, rewritten, total = compare(sources, outputs)
+    print(f"left out: {told(left)}")
+    print(f"written otherwise: {told(rewritten)}")
+    print(f"{total} tokens in {len(outputs)} files stand in their sources, in order, but for what is left out and written otherwise")
+
+
+def compare(sources, outputs):
+    """Goes along each file and its source. Answers what is left out, what is written otherwise, and how many tokens there are."""
     left, rewritten, total = collections.Counter(), collections.Counter(), 0
     for key in sorted(set(outputs) - set(sources)):
         raise SystemExit(f"FAIL {'/'.join(key)}: made from no source")
     gone = gone_names(sources, outputs)
+    texts = {key: " ".join(tokens_of(text)) for key, text in sources.items()}
+    looks = [(crate, "crate::" + module) for (crate, module), text in texts.items() if all(part in text for part in LOOKS)]
     for (crate, module), text in sorted(outputs.items()):
-        walk = Walk(f"{crate}/{module}", crate, sources[crate, module], text, gone)
+        walk = Walk(f"{crate}/{module}", crate, sources[crate, module], text, gone, looks)
         walk.run()
         left += walk.left
         rewritten += walk.rewritten
         total += len(walk.o)
     for key in sorted(set(sources) - set(outputs)):
+        looked_at("/".join(key), sources[key])
         only_proofs(key, sources[key], gone)
         left["module of proofs"] += 1
-    print(f"left out: {told(left)}")
-    print(f"written otherwise: {told(rewritten)}")
-    print(f"{total} tokens in {len(outputs)} files stand in their sources, in order, but for what is left out and written otherwise")
+    return left, rewritten, total
 
 
 def only_proofs(key, text, gone):

@@ -25,8 +25,8 @@ pub struct LocalFree {
 }
 
 impl LocalFree {
-    /// No free places of a shard from 0 to 15 and no chain, with room for all its places. The first page has 1, 2, 4,
-    /// 8, 16, 32 or 64 places, and there are 1 to 6 pages. None where memory was refused.
+    /// No free places of a shard from 0 to 63 and no chain, with room for all its places. The first page has 1, 2, 4,
+    /// 8, 16, 32 or 64 places, and there are 1 to 16 pages. None where memory was refused.
     #[inline]
     pub fn new(alloc: Global, shard: u8, first_page: u32, pages: u32) -> Option<LocalFree> {
         let shard = Shard::new(shard, first_page, pages);

@@ -16,8 +16,8 @@ pub struct Pages {
 }
 
 impl Pages {
-    /// The pages of a shard from 0 to 15, none of them opened. The first page has 1, 2, 4, 8, 16, 32 or 64 places, and
-    /// there are 1 to 6 pages.
+    /// The pages of a shard from 0 to 63, none of them opened. The first page has 1, 2, 4, 8, 16, 32 or 64 places, and
+    /// there are 1 to 16 pages.
     #[inline]
     pub fn new(shard: u8, first_page: u32, pages: u32) -> Pages {
         Pages {

@@ -12,7 +12,7 @@ use crate::erased::keybits::{link_to, Place, Word};
 /// 0 for the end, else 1 more than the lowest 16 bits of the number of a place of the shard.
 #[derive(Clone, Copy, Debug, PartialEq, Eq)]
 pub struct Returns {
-    /// The shard to which places are returned, 0 to 15.
+    /// The shard to which places are returned, 0 to 63.
     pub shard: u8,
 }
 

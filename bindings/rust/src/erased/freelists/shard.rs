@@ -7,7 +7,7 @@ use crate::erased::keybits::{linked_place, Place, Shape, MOST_LANES};
 /// A shard, with a shape that tells the sizes of its pages.
 #[derive(Clone, Copy)]
 pub(crate) struct Shard {
-    /// The shard's number, 0 to 15.
+    /// The shard's number, 0 to 63.
     pub(crate) number: u8,
     /// The shape. What it says beside the pages is the same for each shard.
     pub(crate) shape: Shape,

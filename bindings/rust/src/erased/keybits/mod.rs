@@ -15,7 +15,10 @@ pub use place::{
     generation_of, link_to, linked_place, place_of, shard_of, tag_of, Place, GREATEST_PLACE,
     PAGE_NUMBERS, SHARD_NUMBERS,
 };
-pub use shape::{Shape, ShapeFault, GREATEST_TAG, LARGEST_FIRST_PAGE, MOST_LANES, MOST_PAGES};
+pub use shape::{
+    Shape, ShapeFault, GREATEST_TAG, LARGEST_FIRST_PAGE, MOST_LANES, MOST_PAGES, MOST_PAGE_PLACES,
+    NARROW_LANES, NARROW_PAGES,
+};
 pub use step::{Kind, Step, Word};
 pub use words::{
     claimable, claimed, entered, is_hit, is_present, left, marked, owes_claim, published, Life,

@@ -6,24 +6,35 @@ use crate::erased::keybits::place::{page_of, shard_of, slot_of};
 use std::error::Error;
 use std::fmt;
 
-/// The most lanes that a checked shape has.
-pub const MOST_LANES: u32 = 16;
+/// The most lanes of a shape of the wide limits.
+pub const MOST_LANES: u32 = 64;
+
+/// The most lanes of a shape of the narrow limits.
+pub const NARROW_LANES: u32 = 16;
 
 /// The most places that the first page of a checked shape has.
 pub const LARGEST_FIRST_PAGE: u32 = 64;
 
-/// The most pages that a checked shape has.
-pub const MOST_PAGES: u32 = 6;
+/// The most pages of a shape of the wide limits.
+pub const MOST_PAGES: u32 = 16;
+
+/// The most places of a page, which a slot's bits in a key have room for.
+pub const MOST_PAGE_PLACES: u32 = 4096;
+
+/// The most pages of a shape of the narrow limits.
+pub const NARROW_PAGES: u32 = 6;
 
 /// The greatest tag of a checked shape.
 pub const GREATEST_TAG: u32 = 255;
 
-/// How large a pool is. Its limits are those of `Shape::check`.
+/// How large a pool is. Its limits are the narrow ones of `Shape::check` for scripts and histories, and the wide ones of
+/// `Shape::check_wide` for a running pool. A checked shape is one that is within the wide limits.
 #[derive(Clone, Copy, Debug, PartialEq, Eq)]
 pub struct Shape {
     /// How many lanes there are; lane i owns shard i.
     pub lanes: u32,
-    /// How many places the first page of a shard has. Each further page is twice as large as the one before.
+    /// How many places the first page of a shard has. Each further page is twice as large as the one before, up to 4096
+    /// places.
     pub first_page: u32,
     /// How many pages a shard has.
     pub pages: u32,
@@ -33,7 +44,8 @@ pub struct Shape {
     pub tag: u32,
 }
 
-/// What is wrong with a shape: the first of its fields, in this order, that is outside its limits.
+/// What is wrong with a shape: the first of its fields, in this order, that is outside its limits. Its numbers and its
+/// text are those of the narrow limits.
 #[derive(Clone, Copy, Debug, PartialEq, Eq)]
 pub enum ShapeFault {
     /// The lanes are not from 1 to 16.
@@ -90,18 +102,30 @@ impl fmt::Display for ShapeFault {
 impl Error for ShapeFault {}
 
 impl Shape {
-    /// Tests the fields in this order: the lanes are from 1 to 16, the first page has 1, 2, 4, 8, 16,
-    /// 32 or 64 places, the pages are from 1 to 6, the last generation is at least 1, the tag is at
-    /// most 255. The error names the first field that is outside its limits.
+    /// Tests the fields by the narrow limits, in this order: the lanes are from 1 to 16, the first page has 1, 2, 4, 8,
+    /// 16, 32 or 64 places, the pages are from 1 to 6, the last generation is at least 1, the tag is at most 255. The
+    /// error names the first field that is outside its limits.
     #[inline]
     pub fn check(&self) -> Result<(), ShapeFault> {
-        if self.lanes == 0 || self.lanes > MOST_LANES {
+        self.check_within(NARROW_LANES, NARROW_PAGES)
+    }
+
+    /// Tests the fields as `check` does, by the wide limits: the lanes are from 1 to 64 and the pages from 1 to 16.
+    #[inline]
+    pub fn check_wide(&self) -> Result<(), ShapeFault> {
+        self.check_within(MOST_LANES, MOST_PAGES)
+    }
+
+    /// Tests the fields, where there may be so many lanes and pages.
+    #[inline]
+    fn check_within(&self, most_lanes: u32, most_pages: u32) -> Result<(), ShapeFault> {
+        if self.lanes == 0 || self.lanes > most_lanes {
             return Err(ShapeFault::Lanes);
         }
         if !is_first_page(self.first_page) {
             return Err(ShapeFault::FirstPage);
         }
-        if self.pages == 0 || self.pages > MOST_PAGES {
+        if self.pages == 0 || self.pages > most_pages {
             return Err(ShapeFault::Pages);
         }
         if self.last_generation == 0 {
@@ -116,7 +140,7 @@ impl Shape {
     /// How many places a page of a checked shape has.
     #[inline]
     pub fn page_size(&self, page: u32) -> u32 {
-        self.first_page << page
+        (self.first_page << page).min(MOST_PAGE_PLACES)
     }
 
     /// How many places each shard of a checked shape has.
@@ -163,20 +187,36 @@ impl Shape {
     /// The place of a shard of a checked shape that has this index.
     #[inline]
     fn place_in_shard(&self, shard: u32, index: u32) -> u32 {
-        let page = (index / self.first_page + 1).ilog2();
+        let page = self.page_at(index);
         (shard << 16) + (page << 12) + (index - self.places_before(page))
+    }
+
+    /// The page of a shard of a checked shape in which the place with this index is.
+    #[inline]
+    fn page_at(&self, index: u32) -> u32 {
+        let past = index + self.first_page;
+        if past < 2 * MOST_PAGE_PLACES {
+            (past / self.first_page).ilog2()
+        } else {
+            past / MOST_PAGE_PLACES + 11 - self.first_page.ilog2()
+        }
     }
 
     /// How many places of a shard of a checked shape come before a page.
     #[inline]
     fn places_before(&self, page: u32) -> u32 {
-        (self.first_page << page) - self.first_page
+        let size = self.first_page << page;
+        if size <= MOST_PAGE_PLACES {
+            size - self.first_page
+        } else {
+            (page + self.first_page.ilog2() - 11) * MOST_PAGE_PLACES - self.first_page
+        }
     }
 
     /// How many slots a page has; the shape need not be checked.
     #[inline]
     fn slots(&self, page: u32) -> u64 {
-        u64::from(self.first_page) << page
+        (u64::from(self.first_page) << page).min(u64::from(MOST_PAGE_PLACES))
     }
 }
 

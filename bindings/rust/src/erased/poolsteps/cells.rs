@@ -62,6 +62,41 @@ pub struct Share<T> {
     pub(crate) portion: Portion<Box<T, Global>>,
 }
 
+/// How many references a lane has to a key of a place, and of which generation it is. Proofs alone know it: it has no
+/// bytes.
+pub struct Tally {
+    mark: PhantomData<u8>,
+}
+
+// SAFETY: proved in the source.
+unsafe impl Send for Tally {}
+
+// SAFETY: proved in the source.
+unsafe impl Sync for Tally {}
+
+impl Tally {
+    /// No reference.
+    #[inline]
+    pub fn none() -> Tally {
+        Tally { mark: PhantomData }
+    }
+
+    /// One reference more, to a key of this generation.
+    #[inline]
+    pub fn gain(self, generation: u32) -> Tally {
+        let Tally { mark: _ } = self;
+        let _ = generation;
+        Tally { mark: PhantomData }
+    }
+
+    /// One reference less.
+    #[inline]
+    pub fn lose(self) -> Tally {
+        let Tally { mark: _ } = self;
+        Tally { mark: PhantomData }
+    }
+}
+
 // A portion, or nothing. Proofs alone know which of the two it is.
 pub(crate) struct MaybePortion<T> {
     mark: PhantomData<*const T>,
@@ -79,6 +114,7 @@ impl<T> MaybePortion<T> {
 
     // The object of the portion, which stands at this index from the base on.
     pub(crate) fn read(&self, base: Base<T>, index: usize) -> &T {
+        crate::sync::reads(base.ptr.wrapping_add(index), "place");
         // SAFETY: what is asked here is proved in the source.
         unsafe { &*base.ptr.add(index) }
     }
@@ -86,6 +122,29 @@ impl<T> MaybePortion<T> {
     pub(crate) fn into_portion(self) -> Portion<T> {
         let MaybePortion { mark: _ } = self;
         Portion { mark: PhantomData }
+    }
+
+    // The portion of the first of the two that has one. What both have isn't kept.
+    pub(crate) fn or(self, other: MaybePortion<T>) -> MaybePortion<T> {
+        let MaybePortion { mark: _ } = self;
+        let MaybePortion { mark: _ } = other;
+        MaybePortion { mark: PhantomData }
+    }
+
+    // The portion where the tally has a reference, and else nothing.
+    pub(crate) fn under(self, tally: &Tally) -> MaybePortion<T> {
+        let MaybePortion { mark: _ } = self;
+        let _ = tally;
+        MaybePortion { mark: PhantomData }
+    }
+
+    // The portion is with the first of the two where the tally has one reference, and else with the second.
+    pub(crate) fn deal(self, tally: &Tally) -> (MaybePortion<T>, MaybePortion<T>) {
+        let MaybePortion { mark: _ } = self;
+        (
+            MaybePortion { mark: PhantomData },
+            MaybePortion { mark: PhantomData },
+        )
     }
 }
 
@@ -124,6 +183,30 @@ impl<T> Slot<T> {
     /// Answers the object of this place, which the share shows.
     pub fn read(&self, directory: Base<Box<T, Global>>, index: usize) -> &T {
         &**self.portion.read(directory, index)
+    }
+
+    /// The share of the first of the two that has one.
+    pub fn or(self, other: Slot<T>) -> Slot<T> {
+        let Slot { portion } = self;
+        let Slot { portion: rest } = other;
+        Slot {
+            portion: portion.or(rest),
+        }
+    }
+
+    /// The share is in the first of the two where the tally has one reference, and else in the second.
+    pub fn deal(self, tally: &Tally) -> (Slot<T>, Slot<T>) {
+        let Slot { portion } = self;
+        let (first, second) = portion.deal(tally);
+        (Slot { portion: first }, Slot { portion: second })
+    }
+
+    /// The share where the tally has a reference, and else none.
+    pub fn under(self, tally: &Tally) -> Slot<T> {
+        let Slot { portion } = self;
+        Slot {
+            portion: portion.under(tally),
+        }
     }
 
     /// Takes the share out.

@@ -17,11 +17,13 @@ pub(crate) struct Loose<T> {
 impl<T> Loose<T> {
     // The value, which stands at this index from the base on.
     pub(crate) fn get(&self, base: Base<T>, index: usize) -> &T {
+        crate::sync::reads(base.ptr.wrapping_add(index), "place");
         // SAFETY: what is asked here is proved in the source.
         unsafe { &*base.ptr.add(index) }
     }
 
     pub(crate) fn get_mut(&mut self, base: Base<T>, index: usize) -> &mut T {
+        crate::sync::writes(base.ptr.wrapping_add(index), "place");
         // SAFETY: what is asked here is proved in the source.
         unsafe { &mut *base.ptr.add(index) }
     }
@@ -109,6 +111,7 @@ pub(crate) fn fill<T>(
     object: Box<T, Global>,
 ) -> Loose<Box<T, Global>> {
     let Loose { mark: _ } = word;
+    crate::sync::writes(base.ptr.wrapping_add(index), "place");
     // SAFETY: what is asked here is proved in the source.
     unsafe { ptr::write(base.ptr.add(index), object) };
     Loose { mark: PhantomData }
@@ -121,6 +124,7 @@ pub(crate) fn vacate<T>(
     index: usize,
 ) -> (Loose<Bare<T>>, Box<T, Global>) {
     let Loose { mark: _ } = word;
+    crate::sync::writes(base.ptr.wrapping_add(index), "place");
     // SAFETY: what is asked here is proved in the source.
     let object = unsafe { ptr::read(base.ptr.add(index)) };
     (Loose { mark: PhantomData }, object)

@@ -22,7 +22,7 @@ mod rows;
 mod steps;
 mod threads;
 
-pub use cells::{Address, Base, Rest, Share, Slot, Vacancy, Whole};
+pub use cells::{Address, Base, Rest, Share, Slot, Tally, Vacancy, Whole};
 pub use closing::drop_cell;
 pub use directory::Directory;
 pub use directory_end::close_directory;

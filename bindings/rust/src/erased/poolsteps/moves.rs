@@ -36,11 +36,33 @@ impl<T: Clear> Grid<T> {
         share
     }
 
-    /// BACK of a lane's share of a place into its slot, which the calling lane has emptied. Where all shares of the
-    /// place are with the lane, and no other slot of it has any, it may be of a new cell.
+    /// OUT of the calling lane's share of a place into a slot of its own, where the lane left the table's slot alone;
+    /// where it emptied that, what its own slot has stays there. Proofs alone know which.
     #[inline]
-    pub fn back(&self, hand: &mut Hand<T>, spot: Spot, lane: u32, number: u32, share: Share<T>) {
-        self.back_as(hand, spot, lane, number, share)
+    pub fn fetch(
+        &self,
+        hand: &mut Hand<T>,
+        spot: Spot,
+        lane: u32,
+        number: u32,
+        own: Slot<T>,
+    ) -> Slot<T> {
+        let slot = self.slot_of(spot, number);
+        self.lift(hand, spot, lane, number);
+        let taken = self.table.shared.exchange(hand, slot, Slot::empty());
+        self.lay(hand, spot, lane, number);
+        taken.or(own)
+    }
+
+    /// BACK of the calling lane's share of a place into its slot, which the lane has emptied, where the share is given;
+    /// else nothing is moved. Proofs alone know which. Where all shares of the place are with the lane, and no other slot
+    /// of it has any, the share may be of a new cell.
+    #[inline]
+    pub fn settle(&self, hand: &mut Hand<T>, spot: Spot, lane: u32, number: u32, given: Slot<T>) {
+        let slot = self.slot_of(spot, number);
+        self.lift(hand, spot, lane, number);
+        self.table.shared.exchange(hand, slot, given);
+        self.lay(hand, spot, lane, number);
     }
 
     /// BACK of the only share of a cell into the slot of the place's shard, which the calling lane has emptied.

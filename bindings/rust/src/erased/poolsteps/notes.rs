@@ -10,7 +10,7 @@ use crate::erased::poolsteps::grid::{Grid, Hand};
 use crate::erased::slotcell::Clear;
 
 impl<T: Clear> Grid<T> {
-    /// A note of all that a lane saw. It costs a load.
+    /// A note of all that a lane saw. It is one look.
     pub fn note(&self, hand: &mut Hand<T>) -> Hand<T> {
         self.table.shared.split_seat(hand)
     }

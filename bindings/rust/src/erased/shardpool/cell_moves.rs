@@ -42,25 +42,8 @@ pub(crate) fn spread_cell<T: Clear>(
     grid.back_all(hand, spot, lane, whole.lend(grid.shape.lanes as usize));
 }
 
-/// Puts the shares of a rest from its lowest number up to another into the slots of their place, which the lane has
-/// emptied. The last share stays with the rest.
-fn put_shares<T: Clear>(
-    grid: &Grid<T>,
-    hand: &mut Hand<T>,
-    spot: Spot,
-    lane: u32,
-    rest: &mut Rest<T>,
-    from: u32,
-    to: u32,
-) {
-    for number in from..to {
-        grid.back(hand, spot, lane, number, rest.cut());
-    }
-}
-
-/// Puts the shares of a whole cell into the slots of a place, which the lane has emptied, but for the lane's own, which
-/// it answers: the place may then be published with a reference. It takes two looks for each other lane of the pool,
-/// and no memory.
+/// Puts the shares of a whole cell into the slots of a place, which the lane has emptied, and takes the lane's own out
+/// again, which it answers: the place may then be published with a reference. It takes four looks, and no memory.
 pub(crate) fn spread_others<T: Clear>(
     grid: &Grid<T>,
     hand: &mut Hand<T>,
@@ -68,16 +51,8 @@ pub(crate) fn spread_others<T: Clear>(
     lane: u32,
     whole: Whole<T>,
 ) -> Share<T> {
-    let last = grid.shape.lanes - 1;
-    let mut rest = whole.lend(grid.shape.lanes as usize);
-    put_shares(grid, hand, spot, lane, &mut rest, 0, lane);
-    if lane == last {
-        return rest.into_share();
-    }
-    let own = rest.cut();
-    put_shares(grid, hand, spot, lane, &mut rest, lane + 1, last);
-    grid.back(hand, spot, lane, last, rest.into_share());
-    own
+    spread_cell(grid, hand, spot, lane, whole);
+    grid.out(hand, spot, lane, lane)
 }
 
 /// Puts a whole cell to rest in the slot of its place's shard, where the lane has emptied all slots of the place. It

@@ -3,11 +3,12 @@
 //! The get of a key.
 
 use crate::erased::keybits::{generation_of, is_hit, place_of};
-use crate::erased::poolsteps::{Grid, Hand, Purpose, Share, Slot, Spot};
+use crate::erased::poolsteps::{Grid, Hand, Purpose, Share, Slot, Spot, Tally};
 use crate::erased::shardpool::pool::{HeldKey, Lane, LaneState, Places, Pool};
 use crate::erased::shardpool::reclaim::finish_if_owed;
 use crate::erased::slotcell::Clear;
 use std::marker::PhantomData;
+use std::mem;
 
 /// A reference to a published object. It must be spent, by a release or `forget`.
 pub struct Ref<T> {
@@ -68,28 +69,34 @@ impl<T: Clear> Pool<T> {
     pub fn get_at(&self, lane: &mut Lane<T>, key: u64) -> Option<u32> {
         let number = lane.state.number;
         let spot = self.find(key)?;
-        // Behind the ENTER a processor may make this load wait for the ENTER's store, where both stand alike in their
-        // pages.
-        let held = lane.state.rows[spot.start as usize].count;
         let found = self.grid.enter(&mut lane.hand, spot, key, Purpose::ToGet);
         if !is_hit(key, found) {
             end_miss(&self.grid, &mut lane.hand, &mut lane.state, spot, key);
             return None;
         }
-        if held > 0 {
-            add_reference(&mut lane.state, spot.start as usize);
-            return Some(spot.start);
-        }
-        let share = self.grid.out(&mut lane.hand, spot, number, number);
-        add_first_reference(&mut lane.state, spot.start as usize, key, share);
+        gain_reference(&self.grid, &mut lane.hand, &mut lane.state, spot, key);
         Some(spot.start)
     }
 }
 
-/// The row has one reference more.
+/// One reference more to a key whose ENTER hit: the lane's share is under it, which comes out of its slot where this is
+/// the first.
 #[inline]
-pub(crate) fn add_reference<T>(state: &mut LaneState<T>, at: usize) {
-    state.rows[at].count += 1;
+pub(crate) fn gain_reference<T: Clear>(
+    grid: &Grid<T>,
+    hand: &mut Hand<T>,
+    state: &mut LaneState<T>,
+    spot: Spot,
+    key: u64,
+) {
+    let number = state.number;
+    let row = &mut state.rows[spot.start as usize];
+    let HeldKey { tally, share } = mem::replace(row, HeldKey::none());
+    let share = grid.fetch(hand, spot, number, number, share);
+    *row = HeldKey {
+        tally: tally.gain(generation_of(key)),
+        share,
+    };
     state.references += 1;
 }
 
@@ -102,8 +109,7 @@ pub(crate) fn add_first_reference<T>(
     share: Share<T>,
 ) {
     state.rows[at] = HeldKey {
-        generation: generation_of(key),
-        count: 1,
+        tally: Tally::none().gain(generation_of(key)),
         share: Slot::filled(share),
     };
     state.references += 1;

@@ -5,7 +5,6 @@
 use crate::erased::keybits::place_of;
 use crate::erased::shardpool::get::Ref;
 use crate::erased::shardpool::pool::Lane;
-use crate::erased::shardpool::release::count_to;
 use crate::erased::slotcell::Clear;
 
 /// The most references of a lane.
@@ -27,26 +26,24 @@ impl<T: Clear> Lane<T> {
         self.state.free.len() > 0 || self.state.free.chain().is_some()
     }
 
-    /// How many references the lane has to a key. A number that is no key of the pool has none.
-    pub fn holds(&self, key: u64) -> u32 {
-        if !crate::erased::keybits::fits(key, &self.state.shape) {
-            return 0;
-        }
-        count_to(
-            &self.state,
-            self.state.places.start(place_of(key)) as usize,
-            key,
-        )
+    /// How many places there are where a place of the pool may stand: from 0 on.
+    pub fn places(&self) -> usize {
+        self.state.rows.len()
     }
 
-    /// A reference to a key to which the lane has one: so a program may keep keys in place of references. None where it
-    /// has none.
-    pub fn reference(&self, key: u64) -> Option<Ref<T>> {
-        if self.holds(key) == 0 {
-            return None;
+    /// Where the place of a key stands, as `Pool::get_at` answers it. None for a number that is no key of the pool.
+    pub fn start_of_key(&self, key: u64) -> Option<u32> {
+        if crate::erased::keybits::fits(key, &self.state.shape) {
+            Some(self.state.places.start(place_of(key)))
+        } else {
+            None
         }
+    }
+
+    /// A reference to a key to which the lane has one: so a program may keep keys in place of references.
+    pub fn reference_to(&self, key: u64) -> Ref<T> {
         let places = &self.state.places;
-        Some(Ref::to(key, places.start(place_of(key)), places))
+        Ref::to(key, places.start(place_of(key)), places)
     }
 
     /// As a law: the lane has nothing under way, and what it has seen is a legal history of the pool, with a room

@@ -30,5 +30,5 @@ pub use get::Ref;
 pub use halt::{Halted, LastCall};
 pub use lane::MOST_REFERENCES;
 pub use notes::Note;
-pub use opening::open;
+pub use opening::{open, open_wide};
 pub use pool::{Lane, Pool};

@@ -12,7 +12,7 @@ pub struct Note<T> {
 }
 
 impl<T: Clear> Pool<T> {
-    /// A note of all that a lane has seen. It costs a load.
+    /// A note of all that a lane has seen. It makes a look and no step, and leaves the lane else as it was.
     pub fn tell(&self, lane: &mut Lane<T>) -> Note<T> {
         Note {
             hand: self.grid.note(&mut lane.hand),
@@ -20,14 +20,14 @@ impl<T: Clear> Pool<T> {
     }
 
     /// Takes in a note: what the lane has then seen begins with what it saw, and with what the note has, and so do the
-    /// rooms beside it. It makes no step.
+    /// rooms beside it. It makes a look, and no step.
     pub fn hear(&self, lane: &mut Lane<T>, note: Note<T>) {
         let number = lane.state.number;
         self.grid.hear(&mut lane.hand, number, note.hand);
     }
 
     /// Two lanes tell each other what they have seen: it is then one history, which begins with what each saw, with the
-    /// same rooms beside it. They make no step.
+    /// same rooms beside it. Each makes two looks, and no step.
     pub fn meet(&self, one: &mut Lane<T>, other: &mut Lane<T>) {
         let note = self.tell(other);
         self.meet_by(one, note);

@@ -7,20 +7,34 @@ use crate::shim::{Box, Global, Vec};
 use crate::erased::freelists::{LocalFree, Pages};
 use crate::erased::keybits::Shape;
 use crate::erased::poolsteps::{
-    shard_start, slot_row, Base, Directory, Grid, Hand, Objects, Slot, SHARDS_APART,
+    shard_start, slot_row, Base, Directory, Grid, Hand, Objects, SHARDS_APART,
 };
 use crate::erased::shardpool::closing::HandRow;
 use crate::erased::shardpool::fault::OpenFault;
 use crate::erased::shardpool::pool::{Apart, HeldKey, Lane, LaneState, Places, Pool};
 use crate::erased::slotcell::Clear;
 
-/// Opens a pool of this shape. Its lanes stand by rising number; none has a free place yet, and no page is opened.
+/// Opens a pool of this shape, which is within the narrow limits. Its lanes stand by rising number; none has a free place
+/// yet, and no page is opened.
 ///
 /// # Errors
 ///
 /// The first fault of the shape; and the want of memory, for a shape within its limits alone.
 pub fn open<T: Clear>(alloc: Global, shape: Shape) -> Result<(Pool<T>, Vec<Lane<T>>), OpenFault> {
     shape.check()?;
+    try_open(alloc, shape).ok_or(OpenFault::Memory)
+}
+
+/// Opens a pool of this shape as `open` does, by the wide limits.
+///
+/// # Errors
+///
+/// The first fault of the shape, by the wide limits; and the want of memory, for a shape within them alone.
+pub fn open_wide<T: Clear>(
+    alloc: Global,
+    shape: Shape,
+) -> Result<(Pool<T>, Vec<Lane<T>>), OpenFault> {
+    shape.check_wide()?;
     try_open(alloc, shape).ok_or(OpenFault::Memory)
 }
 
@@ -145,10 +159,6 @@ fn first_state<T: Clear>(
 /// So many rows, each without a reference. None where memory was refused.
 fn first_rows<T>(alloc: Global, count: usize) -> Option<Vec<HeldKey<T>>> {
     let mut rows = Vec::with_capacity(alloc, count).ok()?;
-    rows.push_alike(count, || HeldKey {
-        generation: 0,
-        count: 0,
-        share: Slot::empty(),
-    });
+    rows.push_alike(count, || HeldKey::none());
     Some(rows)
 }

@@ -7,7 +7,7 @@ use crate::shim::{no_bytes, Gapless, Global, Vec};
 use crate::erased::freelists::{LocalFree, Pages};
 use crate::erased::keybits::{Shape, PAGE_NUMBERS};
 use crate::erased::poolsteps::{
-    page_rows, Directory, Grid, Hand, Objects, PageRow, Slot, Spot, BYTES_APART,
+    page_rows, Directory, Grid, Hand, Objects, PageRow, Slot, Spot, Tally, BYTES_APART,
 };
 use crate::erased::shardpool::closing::HandRow;
 use crate::erased::slotcell::Clear;
@@ -37,19 +37,27 @@ impl<T: Clear> Pool<T> {
     }
 }
 
-/// What a lane has of a place: how many references to which of its keys, and the share under them.
+/// What a lane has of a place: how many references to which of its keys, and the share under them. It has no bytes: proofs
+/// alone know it.
 pub(crate) struct HeldKey<T> {
-    /// The generation of the last key of the place to which the lane had a reference; 0, which no key has, before the
-    /// first.
-    pub(crate) generation: u32,
-    pub(crate) count: u32,
+    /// Of the last key of the place to which the lane had a reference; of generation 0, which no key has, before the first.
+    pub(crate) tally: Tally,
     pub(crate) share: Slot<T>,
 }
 
 // SAFETY: its fields fill it, at which the compiler looks.
 unsafe impl<T> Gapless for HeldKey<T> {
-    const FIELDS: usize =
-        std::mem::size_of::<u32>() + std::mem::size_of::<u32>() + no_bytes::<Slot<T>>();
+    const FIELDS: usize = no_bytes::<Tally>() + no_bytes::<Slot<T>>();
+}
+
+impl<T> HeldKey<T> {
+    /// No reference.
+    pub(crate) fn none() -> HeldKey<T> {
+        HeldKey {
+            tally: Tally::none(),
+            share: Slot::empty(),
+        }
+    }
 }
 
 /// What a lane keeps beside its seat.
@@ -101,7 +109,7 @@ impl Places {
         let rows = page_rows(alloc, shape)?;
         Some(Places {
             shape: *shape,
-            code: 8 * shape.first_page + shape.pages,
+            code: 32 * shape.first_page + shape.pages,
             rows,
         })
     }

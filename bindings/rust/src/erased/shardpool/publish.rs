@@ -56,7 +56,7 @@ pub(crate) fn publish<T: Clear>(
     grid.publish(hand, spot, key);
 }
 
-/// Publishes the content of a whole cell as `publish` does, with a reference: the lane's own share stays in its hands.
+/// Publishes the content of a whole cell as `publish` does, with a reference: the lane's own share is then in its hands.
 /// It takes no memory.
 pub(crate) fn downgrade<T: Clear>(
     grid: &Grid<T>,

@@ -56,17 +56,12 @@ fn give_shard<T>(
 
 /// The row at this index, in whose stead there is then one without a reference.
 fn take_row<T>(rows: &mut Vec<HeldKey<T>>, index: usize) -> HeldKey<T> {
-    let none = HeldKey {
-        generation: 0,
-        count: 0,
-        share: Slot::empty(),
-    };
-    mem::replace(&mut rows[index], none)
+    mem::replace(&mut rows[index], HeldKey::none())
 }
 
 /// The share of a row that counts a reference goes into the slot at this index.
 fn give_row<T>(index: usize, row: HeldKey<T>, slots: &mut Slots<Slot<T>>) {
-    if row.count > 0 {
-        slots.put(index, row.share);
-    }
+    let HeldKey { tally, share } = row;
+    let left = slots.take(index);
+    slots.put(index, share.under(&tally).or(left));
 }

@@ -1,0 +1,194 @@
+"""What the translator writes other than the source has it, so that the program is quicker: not needed for plain Rust, and trusted apart.
+
+- Rows of values that are alike may come zeroed from the allocator (`alike`); the compiler looks whether the value has gaps.
+- A vector whose values are copied into a row or into a table, and which nobody uses any more, becomes it (`reserved_row`, `new_table`).
+- A look whose answer nobody takes goes (`look`): a load of a word that no step changes.
+- Words on inlining are added (`inline`).
+
+Each is bound to one form of the source, by what its names are defined as. Nearly such a form is refused, or stays as it is.
+"""
+import re
+
+from forms import Parser
+
+# Functions that are to be part of their callers even where they are called from several places, by file.
+ALWAYS_INLINE = {
+    "shardpool/cell_moves": {"spread_cell", "take_cell"},
+    "shardpool/clear": {"clear"},
+    "shardpool/create": {"fill", "pop"},
+    "shardpool/get": {"get", "get_at"},
+    "shardpool/publish": {"publish"},
+    "shardpool/reclaim": {"give_home"},
+    "shardpool/release": {"release"},
+    "shardpool/stores": {"give_out", "take_own"},
+}
+NUMBERS = {"u8", "u16", "u32", "u64", "usize"}
+# Signs of a value that is the same each time.
+PLAIN = {"(", ")", "{", "}", ":", ",", "::"}
+# A function that takes value by value off a vector and puts it into a row: its parameters and its body.
+PUTS_ALL = (
+    r"(?P<row>\w+) : & mut Slots < (?P<type>\w+) > , mut (?P<values>\w+) : Vec < (?P=type) >"
+    r" -- while let Some \( (?P<value>\w+) \) = (?P=values) \. pop \( \) { (?P=row) \. put \( (?P=values) \. len \( \) , (?P=value) \) ; }"
+)
+# The statement that asks for a row, and the one behind it that fills it.
+ROW = (
+    r"(?:;|{|}) let \( mut (?P<row>\w+) , \w+ \) = \( unsafe { reserve \( & \w+ , (?P<values>\w+) \. as_slice \( \) \) } \) \. ok \( \) \? ;"
+    r" (?P<puts>\w+) \( & mut (?P=row) , (?P=values) \) ;"
+)
+# A function that answers where a lane's own word stands, which it looks at: its parameter and its body. And where the words begin that
+# steps change, in the same file: behind those of all lanes.
+LOOK_WORD = r"(?P<lane>\w+) : u32 -- (?P<apart>\w+) \* \( 1 \+ (?P=lane) as usize \)"
+LIVES_START = "const LIVES_START : usize = {} * ( 1 + MOST_LANES as usize ) ;"
+
+
+class Shorter:
+    """The part of the translator that makes the program quicker."""
+
+    def shorter(self, source, i, text):
+        """Whether a form that begins at the word i, or has it, was written shorter."""
+        behind = source.at(i + 1)
+        if text == "for" and behind == "_" and source.at(i + 2) == "in":
+            return self.alike(source, i)
+        if self.is_of_kit(source, i, "core::slots", "reserve"):
+            return self.reserved_row(source, i)
+        if self.is_of_kit(source, i, "atomic_table", "Table") and behind == "::":
+            return self.new_table(source, i)
+        return text == "self" and source.at(i - 1) in (";", "{", "}") and self.look(source, i)
+
+    def is_of_kit(self, source, i, home, name):
+        member = source.at(i - 1) in (".", "::")
+        return not member and source.at(i) == name and source.scope.get(name) == (home, name)
+
+    def definition(self, home):
+        """The file and the item that a name is of, by its crate and its name there."""
+        for source in self.sources.values():
+            for item in source.items:
+                if home == (source.crate, item.name) and item.kind in ("fn", "struct", "enum"):
+                    return source, item
+        return None, None
+
+    def inline(self, source, item):
+        """Rust needs a word for what is to be part of a caller in another crate, where no type of the caller's makes it anew."""
+        told = [(name, a, b) for name, a, b in item.attributes if name in ("inline", "cold")]
+        always = item.name in ALWAYS_INLINE.get(f"{source.crate}/{source.module}", ())
+        generic = item.generics or item.around and item.around.generics
+        if not told and (always or not generic):
+            self.counts["written: inline"] += 1
+            source.insert(item.start, "#[inline(always)]\n" if always else "#[inline]\n")
+        elif told and always:
+            self.counts["written: inline"] += 1
+            source.replace(told[0][1], told[0][2], "#[inline(always)]")
+
+    def alike(self, source, i):
+        """`for _ in 0..N { ROW.push_reserved(VALUE); }`: a row of values that are alike, which the shim may have zeroed. Whether it is one,
+        and is written so."""
+        s, parser = source, Parser(source)
+        open_at = parser.until(i + 3, ("{",))
+        body = open_at + 1
+        from_zero = [s.at(i + 3), s.at(i + 4)] == ["0", ".."]
+        if not from_zero or not s.is_word(body) or [s.at(body + k) for k in (1, 2, 3)] != [".", "push_reserved", "("]:
+            return False
+        close = s.close[body + 3]
+        if s.at(close + 1) != ";" or close + 2 != s.close[open_at]:
+            return False
+        # The count is a variable or a field, and the value made of such, of numbers and of calls without arguments: the same each time.
+        simple = all(s.at(k) == "." or s.is_word(k) and s.at(k) not in self.crates for k in range(i + 5, open_at))
+        calls = all(s.at(k) != "(" or s.at(k + 1) == ")" for k in range(body + 4, close))
+        plain = all(s.tokens[k].kind in ("word", "number") or s.at(k) in PLAIN for k in range(body + 4, close))
+        if not (simple and calls and plain and self.gapless_value(source, body + 4)):
+            return False
+        self.counts["rewritten: row of values that are alike"] += 1
+        count = s.text[s.tokens[i + 5].start : s.tokens[open_at - 1].end]
+        s.edits.append((s.tokens[i].start, s.tokens[body].start, ""))
+        s.edits.append((s.tokens[body + 2].start, s.tokens[body + 3].end, f"push_alike({count}, || "))
+        s.edits.append((s.tokens[close + 1].end, s.tokens[close + 2].end, ""))
+        for k in (*range(i, body), body + 2, body + 3, close + 2):
+            s.done[k] = True
+        return True
+
+    def new_table(self, source, i):
+        """`Table::new(.., WORDS.as_slice(), ..)` copies the words, which nobody needs any more: they become the table's."""
+        s = source
+        if s.at(i + 2) != "new" or s.at(i + 3) != "(":
+            s.refuse(i, "a form of Table")
+        parts = s.split(i + 4, s.close[i + 3])
+        a, b = parts[1] if len(parts) == 4 else (i, i)
+        if not s.is_word(a) or [s.at(k) for k in range(a + 1, b)] != [".", "as_slice", "(", ")"]:
+            s.refuse(i, "a form of Table::new")
+        self.counts["rewritten: words that become the table's"] += 1
+        s.drop(a + 1, b)
+        return True
+
+    def look(self, source, i):
+        """`self.table.shared.load::<LOOK>(hand, look_word(LANE));`: a load of a word that no step changes, whose answer nobody takes. It
+        tells proofs which slots a lane has in hand, and nothing else. Whether it is one, and goes."""
+        s = source
+        if s.words_at(i, 9) != "self . table . shared . load :: <":
+            return False
+        call = s.angle(i + 8) + 1
+        if s.at(s.close[call] + 1) != ";":
+            return False
+        look = re.fullmatch(r"\( hand , (\w+) \( lane \) \) ;", s.words_at(call, 9))
+        if not look or not self.is_look_word(s.scope.get(look.group(1))):
+            s.refuse(i, "a load whose answer nobody takes, of a word that isn't known as one that no step changes")
+        self.counts["look whose answer nobody takes"] += 1
+        s.drop_lines(i, call + 9)
+        return True
+
+    def is_look_word(self, home):
+        """Whether a function answers the word at which a lane looks, and no step changes: by what its file has."""
+        source, item = self.definition(home)
+        if source is None or item.kind != "fn" or not item.body:
+            return False
+        found = re.fullmatch(LOOK_WORD, source.head_and_body(item))
+        start = found and LIVES_START.format(found.group("apart"))
+        return bool(found) and any(start in source.words_at(i.start, i.end - i.start) for i in source.items if i.kind == "const")
+
+    def reserved_row(self, source, i):
+        """`reserve(&alloc, VALUES.as_slice())` asks for a row in which the next statement puts the values one by one, and then their vector
+        is freed: the vector's memory becomes the row, and the statement goes."""
+        s = source
+        asked = i >= 12 and re.fullmatch(ROW, s.words_at(i - 12, 40))
+        if not asked or not self.puts_all(source, asked.group("puts")):
+            s.refuse(i, "a form of reserve")
+        self.counts["rewritten: vector that becomes a row"] += 1
+        s.drop(i + 6, i + 10)
+        s.drop_lines(i + 19, i + 28)
+        return True
+
+    def puts_all(self, source, name):
+        """Whether a function of the file puts the values of a vector into a row."""
+        other, item = self.definition(source.scope.get(name))
+        if other is not source or item.kind != "fn" or not item.body:
+            return False
+        kit = source.scope.get("Slots") == ("core::slots", "Slots") and "Vec" not in source.scope
+        return kit and re.fullmatch(PUTS_ALL, source.head_and_body(item)) is not None
+
+    def gapless_value(self, source, i):
+        """Whether the value that begins at i is of a type all of whose bytes are written, of which the compiler is then told."""
+        if source.at(i + 1) not in ("{", "::"):
+            return False
+        other, item = self.definition(source.scope.get(source.at(i)))
+        return other is not None and item.kind in ("struct", "enum") and self.tell_gapless(other, item)
+
+    def tell_gapless(self, source, item):
+        if (source.crate, item.name) in self.gapless:
+            return True
+        sizes = ["1"] if item.kind == "enum" else []
+        for name, a, b, ghost in item.fields:
+            if ghost:
+                continue
+            if item.kind == "struct":
+                a += next(k for k in range(b - a) if source.at(a + k) == ":") + 1
+                b -= source.at(b - 1) == ","
+            text = source.text[source.tokens[a].start : source.tokens[b - 1].end]
+            whole = item.kind == "struct" and (text in NUMBERS or text.startswith("*mut "))
+            sizes.append(f"std::mem::size_of::<{text}>()" if whole else f"no_bytes::<{text}>()")
+        names = "<T>" if item.generics else ""
+        where = f"impl{names} Gapless for {item.name}{names}"
+        end = source.tokens[item.end - 1].end
+        fields = f"const FIELDS: usize = {' + '.join(sizes) or '0'};"
+        reason = "// SAFETY: its fields fill it, at which the compiler looks."
+        source.edits.append((end, end, f"\n\n{reason}\nunsafe {where} {{\n{fields}\n}}\n"))
+        self.gapless.add((source.crate, item.name))
+        return True
