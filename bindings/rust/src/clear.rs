@@ -26,7 +26,8 @@ pub trait Clear {
     ///
     /// It may call the pool again, by the same lane too. What it clears by the same lane is emptied in turn when it has returned:
     /// so a chain of any length needs no deeper stack. Where it panics the object is dropped, and its place is free all the same; where
-    /// it runs since the thread unwinds already, and panics, that second panic goes no further.
+    /// it runs since the thread unwinds already, and panics, that second panic goes no further. Neither does one where another one of the
+    /// same call is handed on. The payload of such a panic is leaked, as its drop might panic in turn.
     fn clear(&mut self);
 }
 

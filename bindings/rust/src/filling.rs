@@ -1,13 +1,204 @@
-//! What fillings do as their objects do it.
+//! Fillings.
+use crate::buffer::Buffer;
 use crate::clear::Clear;
-use crate::handles::{OwnedFilling, PoolFilling};
-use crate::lane::Filling;
+use crate::key::Key;
+use crate::lanes::{Begun, FarBegun, InHand, OfThread, Spent};
+use crate::reference::{OwnedRef, PoolRef, Ref};
 use std::borrow::{Borrow, BorrowMut};
 use std::fmt;
 use std::io;
+use std::ops::{Deref, DerefMut};
 
+/// An empty object, to be filled and published. It is used as a `&mut T`.
+///
+/// One that is dropped without a publish gives its place back: the object is emptied, and its key used up, so that it never names
+/// another one. (For that it is published and cleared at once. Who guesses the key could get the emptied object in between.) One that
+/// is leaked leaks its object, and its place is lost until the pool is closed.
+///
+/// ```
+/// # use pardz::{Pool, Shape};
+/// # let pool = Pool::<Vec<u8>>::open(Shape::default())?;
+/// # let lane = pool.lane().expect("a lane");
+/// let mut filling = lane.create()?;
+/// filling.extend([1, 2, 3]);
+/// let key = filling.key();
+/// assert!(lane.get(key).is_none()); // not yet
+/// assert_eq!(filling.publish(), key);
+/// assert_eq!(lane.get(key).expect("published").len(), 3);
+/// # Ok::<(), Box<dyn std::error::Error>>(())
+/// ```
+#[must_use = "a filling that is dropped isn't published"]
+pub struct Filling<'l, T: Clear = Buffer> {
+    begun: Spent<Begun<'l, T, InHand<T>>>,
+}
+
+impl<'l, T: Clear> Filling<'l, T> {
+    #[inline(always)]
+    pub(crate) fn new(begun: Spent<Begun<'l, T, InHand<T>>>) -> Filling<'l, T> {
+        Filling { begun }
+    }
+
+    /// The key under which it will be published.
+    #[inline]
+    pub fn key(&self) -> Key {
+        self.begun.key()
+    }
+
+    /// Publishes: from now on each lane finds the object under the key.
+    #[inline(always)]
+    pub fn publish(self) -> Key {
+        self.begun.into_inner().publish()
+    }
+
+    /// Publishes, and keeps a reference.
+    ///
+    /// # Panics
+    ///
+    /// Where the lane has 1,048,575 references; nothing is published then.
+    ///
+    /// ```
+    /// # use pardz::{Pool, Shape};
+    /// # let pool = Pool::<String>::open(Shape::default())?;
+    /// # let lane = pool.lane().expect("a lane");
+    /// let mut filling = lane.create()?;
+    /// filling.push_str("abc");
+    /// let text = filling.downgrade();
+    /// assert_eq!(*text, "abc");
+    /// # Ok::<(), Box<dyn std::error::Error>>(())
+    /// ```
+    #[inline]
+    pub fn downgrade(self) -> Ref<'l, T> {
+        Ref::new(self.begun.into_inner().downgrade())
+    }
+
+    /// Leaves the place as it is: it is lost until the pool is closed, and counted there as filling. The object is emptied, and used
+    /// in another place.
+    ///
+    /// It costs nothing, where a drop makes a publish and a clear.
+    ///
+    /// ```
+    /// # use pardz::{Pool, Shape};
+    /// let pool = Pool::<String>::open(Shape { lanes: 1, first_page: 1, pages: 1, ..Shape::default() })?;
+    /// let lane = pool.lane().expect("a lane");
+    /// drop(lane.create()?);
+    /// lane.create()?.forget();
+    /// assert!(lane.create().is_err());
+    /// drop(lane);
+    /// assert_eq!(pool.close().filling, 1);
+    /// # Ok::<(), Box<dyn std::error::Error>>(())
+    /// ```
+    #[doc(alias = "leave")]
+    pub fn forget(self) {
+        self.begun.into_inner().forget();
+    }
+}
+
+/// An empty object that a call of a [`Pool`](crate::Pool) began, to be filled and published: as a [`Filling`] of a lane in hand.
+///
+/// ```
+/// let pool = pardz::Pool::<Vec<u8>>::growing()?;
+/// let mut filling = pool.create()?;
+/// filling.extend([1, 2, 3]);
+/// assert!(pool.get(filling.key()).is_none()); // not yet
+/// let list = filling.downgrade();
+/// assert_eq!(*list, [1, 2, 3]);
+/// drop(pool.create()?); // not published: its place is free again
+/// # Ok::<(), Box<dyn std::error::Error>>(())
+/// ```
+#[must_use = "a filling that is dropped isn't published"]
+pub struct PoolFilling<'p, T: Clear = Buffer> {
+    begun: Spent<Begun<'p, T, OfThread>>,
+}
+
+impl<'p, T: Clear> PoolFilling<'p, T> {
+    #[inline(always)]
+    pub(crate) fn new(begun: Spent<Begun<'p, T, OfThread>>) -> PoolFilling<'p, T> {
+        PoolFilling { begun }
+    }
+
+    /// The key under which it will be published.
+    #[inline]
+    pub fn key(&self) -> Key {
+        self.begun.key()
+    }
+
+    /// Publishes: from now on each call finds the object under the key.
+    #[inline(always)]
+    pub fn publish(self) -> Key {
+        self.begun.into_inner().publish()
+    }
+
+    /// Publishes, and keeps a reference.
+    ///
+    /// # Panics
+    ///
+    /// Where the lane has 1,048,575 references; nothing is published then.
+    #[inline]
+    pub fn downgrade(self) -> PoolRef<'p, T> {
+        PoolRef::new(self.begun.into_inner().downgrade())
+    }
+}
+
+/// An empty object, to be filled and published, with a share of the pool's memory: it may go to any thread, and is published or dropped
+/// there.
+///
+/// ```
+/// let pool = pardz::Pool::<String>::growing()?;
+/// let mut filling = pool.create_owned()?;
+/// filling.push_str("abc");
+/// let text = filling.downgrade();
+/// assert_eq!(*text, "abc");
+/// # Ok::<(), Box<dyn std::error::Error>>(())
+/// ```
+#[must_use = "a filling that is dropped isn't published"]
+pub struct OwnedFilling<T: Clear = Buffer> {
+    begun: FarBegun<T>,
+}
+
+impl<T: Clear> OwnedFilling<T> {
+    pub(crate) fn new(begun: FarBegun<T>) -> OwnedFilling<T> {
+        OwnedFilling { begun }
+    }
+
+    /// The key under which it will be published.
+    pub fn key(&self) -> Key {
+        self.begun.key()
+    }
+
+    /// Publishes: from now on each call finds the object under the key.
+    pub fn publish(self) -> Key {
+        self.begun.publish()
+    }
+
+    /// Publishes, and keeps a reference.
+    ///
+    /// # Panics
+    ///
+    /// Where the lane has 1,048,575 references; nothing is published then.
+    pub fn downgrade(self) -> OwnedRef<T> {
+        OwnedRef::new(self.begun.downgrade())
+    }
+}
+
+/// What fillings do as their objects do it.
 macro_rules! fills_as_its_object {
     ($name:literal, $($of:tt)*) => {
+        impl<T: Clear> Deref for $($of)* {
+            type Target = T;
+
+            #[inline]
+            fn deref(&self) -> &T {
+                self.begun.object()
+            }
+        }
+
+        impl<T: Clear> DerefMut for $($of)* {
+            #[inline]
+            fn deref_mut(&mut self) -> &mut T {
+                self.begun.object_mut()
+            }
+        }
+
         impl<T: Clear + io::Write> io::Write for $($of)* {
             #[inline]
             fn write(&mut self, bytes: &[u8]) -> io::Result<usize> {

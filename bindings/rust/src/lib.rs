@@ -2,7 +2,8 @@
 //!
 //! One thread fills an object and publishes it under a [`Key`]; any thread with a [`Lane`] reads it under a reference; a clear makes
 //! the key unknown at once, and whoever lets go last empties the object, which keeps its memory and is filled again under a new
-//! key. No call by a lane in hand blocks or waits for another thread, and each makes a bounded number of steps.
+//! key. No call by a lane in hand waits for another thread, but a create that opens a segment. Each makes a bounded number of steps, but a
+//! clear while others step on the same key: then it may try its exchange again.
 //!
 //! ```
 //! use pardz::{Buffer, Pool, Shape};
@@ -88,14 +89,16 @@
 //! # Ok::<(), Box<dyn std::error::Error>>(())
 //! ```
 //!
-//! | | lanes in hand: `pool.lane()` | calls of the pool: `pool.get(key)` | owned handles: `pool.get_owned(key)` |
-//! |---|---|---|---|
-//! | who calls | a thread with a lane, of 16 at most | any thread, also while it ends | any thread, also while it ends |
-//! | what it gives | `Filling`, `Ref`: borrow the lane | `PoolFilling`, `PoolRef`: borrow the pool | `OwnedFilling`, `OwnedRef`: `Send`, `Sync`, `'static`, and outlive the pool; `OwnedRef` is `Clone` |
-//! | a get with its drop | 74 instructions | 108, where the thread has a lane of its own; 201 behind the first segment | 132 |
-//! | lock | none | none; where all lanes are taken, one of the lanes that threads share, for a bounded number of steps | that of a shared lane |
-//! | a create whose shard is full | a further segment, if the pool grows | a shared lane's shard, then a further segment | another shared lane's shard, then a further segment |
-//! | to choose | a fixed row of threads, and what must be quickest or never wait | threads that come and go | what outlives a scope: a future over `.await`, a message, `bytes::Bytes::from_owner` |
+//! There are three ways to call, and each finds the keys of the others:
+//!
+//! - A [`Lane`] in hand ([`Pool::lane`]): for a fixed set of threads, 16 at most, and for calls that must be quickest or never wait. Its
+//!   [`Filling`] and [`Ref`] borrow the lane.
+//! - The pool's own calls ([`Pool::get`] and its like): for threads that come and go, even while they exit. [`PoolFilling`] and [`PoolRef`]
+//!   borrow the pool.
+//! - Owned handles ([`Pool::get_owned`], [`Pool::create_owned`]): for what outlives a scope, as a future across `.await` or a message.
+//!   [`OwnedFilling`] and [`OwnedRef`] are `Send`, `Sync` and `'static`, and may outlive the pool.
+//!
+//! README compares them: what a get costs, which calls may wait for a lock, and where a create goes whose shard is full.
 //!
 //! No call is refused for want of a lane: a growing pool shares four of its 16 lanes, and a pool of [`Pool::open`] has a lane more than
 //! its shape for that. One of 16 lanes has none more: where all are in hand, a create answers [`CreateError::NoLane`], and a get or a
@@ -136,8 +139,14 @@
 //! The pool is proved in Rattle, a Rust with contracts. **This crate is made from those proved sources; it isn't proved itself.** A
 //! translator drops what proofs alone need; what is left is Rust, in the private modules `erased`.
 //!
-//! Trusted are: the translator; the `shim`, which has what the sources use of Rattle's own libraries; this API, whose types and tests take
-//! over what the proved calls ask of their callers; rustc; and the code of your types.
+//! ## What is trusted
+//!
+//! - The translator; rustc; the code of your types.
+//! - Each file in which a mistake would break memory, which are those with `unsafe`: `src/erased`, `src/shim`, `src/lanes` and
+//!   `src/object`. The others can't: what they get of these moves, so that a second release of a reference doesn't compile.
+//! - What the proofs take for granted: that all threads see the words of a pool read and written in one order (each step is sequentially
+//!   consistent); that no count goes beyond its bits; that the stack is large enough; that `usize` has 64 bits.
+//! - That the allocator calls no pool while one is closed or dropped. In all other calls it may.
 //!
 //! What ties it to the proofs, at each run of the repository's tests: the translator writes the committed files again, and they are
 //! compared; a second program, by another method, finds their tokens in the sources; and drawn runs of up to 16 lanes are compared with
@@ -153,36 +162,38 @@
 #![deny(unsafe_op_in_unsafe_fn)]
 
 mod buffer;
+mod calls;
 mod clear;
 #[allow(unsafe_code)]
 mod erased;
 mod errors;
 mod filling;
-mod handles;
 mod key;
-#[allow(unsafe_code)]
 mod lane;
-mod lock;
+#[allow(unsafe_code)]
+mod lanes;
 #[cfg(doctest)]
 mod misuse;
 #[allow(unsafe_code)]
 mod object;
+#[cfg(test)]
+mod parts;
 mod pool;
 #[cfg(doctest)]
 #[doc = include_str!("../README.md")]
 mod readme {}
 mod reference;
-mod room;
 #[cfg(target_pointer_width = "64")]
 pub mod sharded_slab;
 #[allow(unsafe_code)]
 mod shim;
-mod threads;
+mod sync;
 
 pub use buffer::Buffer;
 pub use clear::Clear;
 pub use errors::{CreateError, KeyError, MemoryRefused, OpenError};
-pub use handles::{OwnedFilling, OwnedRef, PoolFilling, PoolRef};
+pub use filling::{Filling, OwnedFilling, PoolFilling};
 pub use key::Key;
-pub use lane::{Filling, Lane, Ref};
+pub use lane::Lane;
 pub use pool::{Census, Pool, Shape};
+pub use reference::{OwnedRef, PoolRef, Ref};

@@ -238,6 +238,103 @@
 //! crosses::<pardz::Pool<Option<std::sync::MutexGuard<'static, u8>>>>();
 //! ```
 //!
+//! A pool of objects that are `Send` alone isn't sent, as others could have a reference there:
+//!
+//! ```compile_fail,E0277
+//! let pool = pardz::Pool::<Option<std::cell::Cell<u8>>>::open(pardz::Shape::default()).unwrap();
+//! std::thread::spawn(move || pool.close());
+//! ```
+//!
+//! ```
+//! let pool = pardz::Pool::<Option<std::sync::atomic::AtomicU8>>::open(pardz::Shape::default()).unwrap();
+//! std::thread::spawn(move || pool.close());
+//! ```
+//!
+//! Owned handles go to other threads where their objects are `Send` and `Sync`, and not where one of the two is missing:
+//!
+//! ```
+//! fn crosses<T: Send + Sync>() {}
+//! crosses::<pardz::OwnedRef<Vec<std::sync::atomic::AtomicU8>>>();
+//! crosses::<pardz::OwnedFilling<Vec<std::sync::atomic::AtomicU8>>>();
+//! ```
+//!
+//! ```compile_fail,E0277
+//! fn crosses<T: Send>() {}
+//! crosses::<pardz::OwnedRef<Option<std::sync::MutexGuard<'static, u8>>>>(); // `Sync` alone
+//! ```
+//!
+//! ```compile_fail,E0277
+//! fn crosses<T: Send>() {}
+//! crosses::<pardz::OwnedRef<Option<std::cell::Cell<u8>>>>(); // `Send` alone
+//! ```
+//!
+//! ```compile_fail,E0277
+//! fn crosses<T: Send>() {}
+//! crosses::<pardz::OwnedFilling<Option<std::sync::MutexGuard<'static, u8>>>>(); // `Sync` alone
+//! ```
+//!
+//! ```compile_fail,E0277
+//! fn crosses<T: Send>() {}
+//! crosses::<pardz::OwnedFilling<Option<std::cell::Cell<u8>>>>(); // `Send` alone
+//! ```
+//!
+//! ```compile_fail,E0277
+//! fn shared<T: Sync>() {}
+//! shared::<pardz::OwnedRef<Option<std::cell::Cell<u8>>>>();
+//! ```
+//!
+//! ```compile_fail,E0277
+//! fn shared<T: Sync>() {}
+//! shared::<pardz::OwnedFilling<Option<std::sync::MutexGuard<'static, u8>>>>();
+//! ```
+//!
+//! Owned handles are of one type, as fillings are:
+//!
+//! ```compile_fail
+//! fn shorter<'a>(filling: pardz::OwnedFilling<Vec<&'static str>>) -> pardz::OwnedFilling<Vec<&'a str>> {
+//!     filling
+//! }
+//! ```
+//!
+//! ```compile_fail
+//! fn shorter<'l, 'a>(filling: pardz::PoolFilling<'l, Vec<&'static str>>) -> pardz::PoolFilling<'l, Vec<&'a str>> {
+//!     filling
+//! }
+//! ```
+//!
+//! What a call of a pool gives doesn't outlive the pool; an owned handle does:
+//!
+//! ```compile_fail,E0505
+//! let pool = pardz::Pool::<String>::growing().unwrap();
+//! let text = pool.create().unwrap().downgrade();
+//! drop(pool);
+//! println!("{}", *text);
+//! ```
+//!
+//! ```
+//! let pool = pardz::Pool::<String>::growing().unwrap();
+//! let text = pool.create_owned().unwrap().downgrade();
+//! drop(pool);
+//! println!("{}", *text);
+//! ```
+//!
+//! It stays on its thread:
+//!
+//! ```compile_fail,E0277
+//! fn crosses<T: Send>() {}
+//! crosses::<pardz::PoolRef<'static, String>>();
+//! ```
+//!
+//! ```compile_fail,E0277
+//! fn crosses<T: Send>() {}
+//! crosses::<pardz::PoolFilling<'static, String>>();
+//! ```
+//!
+//! ```compile_fail,E0277
+//! fn shared<T: Sync>() {}
+//! shared::<pardz::PoolRef<'static, String>>();
+//! ```
+//!
 //! A filling stays on its thread, and a reference isn't shared:
 //!
 //! ```compile_fail,E0277

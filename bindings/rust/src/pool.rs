@@ -3,8 +3,8 @@ use crate::buffer::Buffer;
 use crate::clear::Clear;
 use crate::erased::{keybits, shardpool};
 use crate::errors::OpenError;
-use crate::lane::{Lane, Share};
-use crate::room::{Room, LANES};
+use crate::lane::Lane;
+use crate::lanes::{Share, LANES};
 use std::fmt;
 use std::sync::Arc;
 
@@ -142,7 +142,7 @@ impl<T: Clear> Pool<T> {
     /// The same; with `one_more` it has a lane more than its shape, for calls without a lane.
     pub(crate) fn open_with(shape: Shape, one_more: bool) -> Result<Pool<T>, OpenError> {
         Ok(Pool {
-            room: Share::new(Room::open(shape, one_more)?),
+            room: Share::open(shape, one_more)?,
             shape,
         })
     }
@@ -172,8 +172,7 @@ impl<T: Clear> Pool<T> {
 
     /// As `growing`, with this last generation of each place.
     pub(crate) fn growing_until(last_generation: u32) -> Result<Pool<T>, OpenError> {
-        let (room, shape) = Room::open_growing(last_generation)?;
-        let room = Share::new(room);
+        let (room, shape) = Share::open_growing(last_generation)?;
         Ok(Pool { room, shape })
     }
 

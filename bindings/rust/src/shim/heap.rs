@@ -1,5 +1,6 @@
 //! Memory, and boxes.
 
+use super::ready;
 use std::alloc::{alloc, alloc_zeroed, dealloc, Layout};
 use std::marker::PhantomData;
 use std::mem::{self, MaybeUninit};
@@ -30,8 +31,21 @@ pub(crate) fn zeroed<T>(count: usize) -> Option<NonNull<T>> {
     if layout.size() == 0 {
         return Some(NonNull::dangling());
     }
+    if let Some(at) = ready::take(layout) {
+        return Some(at.cast());
+    }
     // SAFETY: the size isn't 0.
     NonNull::new(unsafe { alloc_zeroed(layout) }.cast())
+}
+
+/// Frees memory, which the allocator gave by this layout.
+///
+/// # Safety
+///
+/// So it is, and nothing uses it any more.
+pub(super) unsafe fn release(at: NonNull<u8>, layout: Layout) {
+    // SAFETY: the caller's.
+    unsafe { dealloc(at.as_ptr(), layout) };
 }
 
 /// Frees the memory of so many values.

@@ -5,6 +5,7 @@
 //! panics then, and reads and writes nothing. With the feature `unchecked` it isn't looked for, and the contracts are trusted.
 
 mod heap;
+mod ready;
 mod rows;
 mod table;
 #[cfg(test)]
@@ -13,6 +14,7 @@ mod tests;
 pub(crate) mod trace;
 
 pub(crate) use heap::{AllocError, Allocator, Box, Global};
+pub(crate) use ready::Ready;
 pub(crate) use rows::{no_bytes, release, reserve, ArrayVec, Gapless, Lease, Slots, Vec};
 pub(crate) use table::{Closed, Seat, Table};
 

@@ -1,11 +1,14 @@
 //! Rows of values.
 
 use super::check;
-use super::heap::{free, zeroed, AllocError, Global};
+use super::heap::{self, free, zeroed, AllocError, Global};
+use super::ready;
+use std::alloc::Layout;
 use std::fmt;
 use std::marker::PhantomData;
 use std::mem::{self, ManuallyDrop, MaybeUninit};
-use std::ops::{Deref, DerefMut, Index, IndexMut};
+use std::ops::{Deref, DerefMut, Index, IndexMut, Range};
+use std::ptr::NonNull;
 use std::{ptr, slice, vec};
 
 /// A vector that reports where memory was refused.
@@ -91,16 +94,22 @@ impl<T> Vec<T> {
     /// The memory of as many values as there are items, and how many they are. Whoever takes it frees it. The items move where the vector
     /// has room left.
     pub(super) fn into_memory(self) -> Result<(*mut T, usize), AllocError> {
+        self.into_memory_of::<T>()
+    }
+
+    /// The same as memory of a type as large, which may be aligned to more: the items move there too.
+    pub(super) fn into_memory_of<U>(self) -> Result<(*mut U, usize), AllocError> {
+        const { assert!(mem::size_of::<T>() == mem::size_of::<U>()) };
         let mut items = ManuallyDrop::new(self.items);
         let (at, count) = (items.as_mut_ptr(), items.len());
-        if count == items.capacity() {
-            return Ok((at, count));
+        if count == items.capacity() && mem::align_of::<T>() == mem::align_of::<U>() {
+            return Ok((at.cast(), count));
         }
         let mut items = ManuallyDrop::into_inner(items);
-        let row = zeroed::<T>(count).ok_or(AllocError)?.as_ptr();
+        let row = zeroed::<U>(count).ok_or(AllocError)?.as_ptr();
         // SAFETY: the row has memory for all items, which move there, so that the vector has none.
         unsafe {
-            ptr::copy_nonoverlapping(at, row, count);
+            ptr::copy_nonoverlapping(at, row.cast(), count);
             items.set_len(0);
         }
         Ok((row, count))
@@ -184,11 +193,45 @@ impl<T> IndexMut<usize> for Vec<T> {
 
 impl<T> IntoIterator for Vec<T> {
     type Item = T;
-    type IntoIter = vec::IntoIter<T>;
+    type IntoIter = IntoIter<T>;
 
     #[inline]
-    fn into_iter(self) -> vec::IntoIter<T> {
-        self.items.into_iter()
+    fn into_iter(self) -> IntoIter<T> {
+        let mut items = ManuallyDrop::new(self.items);
+        IntoIter {
+            at: NonNull::from(&mut **items).cast(),
+            capacity: items.capacity(),
+            left: 0..items.len(),
+        }
+    }
+}
+
+/// The values of a vector, one after the other.
+pub(crate) struct IntoIter<T> {
+    at: NonNull<T>,
+    capacity: usize,
+    left: Range<usize>,
+}
+
+impl<T> Iterator for IntoIter<T> {
+    type Item = T;
+
+    #[inline]
+    fn next(&mut self) -> Option<T> {
+        let index = self.left.next()?;
+        // SAFETY: a value is there, and is taken once.
+        Some(unsafe { self.at.as_ptr().add(index).read() })
+    }
+}
+
+impl<T> Drop for IntoIter<T> {
+    fn drop(&mut self) {
+        self.by_ref().for_each(drop);
+        let layout = Layout::array::<T>(self.capacity).expect("as it was asked for");
+        if layout.size() != 0 && !ready::keep(self.at.cast(), layout) {
+            // SAFETY: a vector of this capacity had the memory, and no value is left in it.
+            unsafe { heap::release(self.at.cast(), layout) };
+        }
     }
 }
 
@@ -330,6 +373,16 @@ impl<T> Slots<T> {
     pub(super) fn free(self) {
         // SAFETY: each row comes of memory for so many, and is freed by value, so once.
         unsafe { free(self.at, self.count) };
+    }
+
+    /// Frees a row whose memory was asked for as that of another type.
+    ///
+    /// # Safety
+    ///
+    /// It is memory of `into_memory_of` for this type.
+    pub(super) unsafe fn free_as<U>(self) {
+        // SAFETY: the row is freed by value, so once, and the rest is asked of whoever calls.
+        unsafe { free(self.at.cast::<U>(), self.count) };
     }
 
     #[inline]

@@ -3,11 +3,11 @@
 use super::check;
 use super::heap::{free, zeroed, AllocError, Global};
 use super::rows::{Slots, Vec};
+use crate::sync::AtomicU64;
+use crate::sync::Ordering::{Relaxed, SeqCst};
 use std::marker::PhantomData;
 use std::mem::{self, ManuallyDrop};
 use std::ptr;
-use std::sync::atomic::AtomicU64;
-use std::sync::atomic::Ordering::{Relaxed, SeqCst};
 
 /// A thread's right to step on a table. It has no bytes.
 pub(crate) struct Seat<S>(PhantomData<S>);
@@ -17,6 +17,10 @@ impl<S> Seat<S> {
     #[inline(always)]
     pub(crate) fn turn(&mut self) {}
 }
+
+/// As what a table's words are asked for and freed: an atomic word stands at a multiple of 8 on targets too where a number needn't.
+#[repr(align(8))]
+struct Word(#[allow(dead_code)] u64);
 
 /// The words and the slots, as threads share them.
 pub(crate) struct Shared<S> {
@@ -55,7 +59,8 @@ impl<S> Shared<S> {
     #[inline(always)]
     fn word(&self, index: usize) -> &AtomicU64 {
         check!(index < self.word_count);
-        // SAFETY: the index is in range: it was looked at, or is proved. The words live as long as the table, and are atomic for all.
+        // SAFETY: the index is in range: it was looked at, or is proved. The words live as long as the table, are atomic for all, and
+        // stand where atomic words may.
         unsafe { AtomicU64::from_ptr(self.words.add(index)) }
     }
 
@@ -182,14 +187,14 @@ impl<S> Table<S> {
         slots: Vec<S>,
         _: &K,
     ) -> Result<(Table<S>, Seat<S>), AllocError> {
-        let (words, word_count) = words.into_memory()?;
+        let (words, word_count) = words.into_memory_of::<Word>()?;
         let Some(slot_row) = zeroed::<S>(slots.len()) else {
             // SAFETY: the words are nobody else's, and nothing uses them.
             unsafe { free(words, word_count) };
             return Err(AllocError);
         };
         let shared = Shared {
-            words,
+            words: words.cast(),
             word_count,
             slots: slot_row.as_ptr(),
             slot_count: slots.len(),
@@ -220,7 +225,7 @@ impl<S> Drop for Table<S> {
         unsafe {
             ptr::drop_in_place(slots);
             free(self.shared.slots, self.shared.slot_count);
-            free(self.shared.words, self.shared.word_count);
+            free(self.shared.words.cast::<Word>(), self.shared.word_count);
         }
     }
 }
@@ -235,7 +240,8 @@ impl<S> Closed<S, Global> {
     }
 
     pub(crate) fn free(self) {
-        self.words.free();
+        // SAFETY: as such words `Table::new` has the memory, and their row is freed here alone.
+        unsafe { self.words.free_as::<Word>() };
         self.slots.free();
     }
 }

@@ -1,4 +1,5 @@
 //! What the shim looks for, and what becomes of its values.
+use super::heap::free;
 use super::*;
 use std::cell::Cell;
 use std::rc::Rc;
@@ -66,6 +67,26 @@ fn a_vector_with_room_left_becomes_a_row_by_a_copy() {
     let (slots, lease) = unsafe { reserve(&Global, row) }.expect("memory");
     assert_eq!((*slots.get(0), *slots.get(1)), (4, 4));
     release(&Global, slots, lease);
+}
+
+#[test]
+fn values_move_to_memory_that_is_aligned_to_more() {
+    for more in [0, 3] {
+        let mut row = Vec::with_capacity(Global, 5 + more).expect("memory");
+        for value in 1..6u8 {
+            row.push_reserved([value; 8]);
+        }
+        let (at, count) = row.into_memory_of::<u64>().expect("memory");
+        assert_eq!((at.align_offset(8), count), (0, 5));
+        // SAFETY: it is memory for so many words, each of which has its eight bytes.
+        let words = unsafe { std::slice::from_raw_parts(at, count) };
+        assert_eq!(
+            words,
+            [1, 2, 3, 4, 5].map(|byte| u64::from_ne_bytes([byte; 8]))
+        );
+        // SAFETY: so it was asked for, and nothing uses it any more.
+        unsafe { free(at, count) };
+    }
 }
 
 #[test]

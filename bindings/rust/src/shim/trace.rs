@@ -1,5 +1,6 @@
 //! For tests: a look at each step, and a word of one's own in place of a step that is not to be made.
 
+use crate::sync::thread_local;
 use std::cell::RefCell;
 
 /// What is done to a word.

@@ -5,15 +5,21 @@
 #![allow(dead_code)] // (Each test program takes what it needs.)
 use std::io::{self, Write};
 use std::panic::Location;
+use std::process::{self, Command, Stdio};
 use std::sync::mpsc::{channel, RecvTimeoutError, Sender};
 use std::sync::{Condvar, Mutex, MutexGuard, PoisonError, TryLockError};
 use std::time::Duration;
-use std::{process, thread};
+use std::{env, thread};
 
-/// No test takes as long, also where others load the machine.
-const LONGEST: Duration = Duration::from_secs(60);
+/// No test takes as long, also where others load the machine: 60 seconds, or as many as `PARDZ_TEST_SECONDS` says, which an emulator
+/// may want.
+fn longest() -> Duration {
+    let seconds = env::var("PARDZ_TEST_SECONDS").ok();
+    let seconds = seconds.map(|seconds| seconds.parse().expect("a number of seconds"));
+    Duration::from_secs(seconds.unwrap_or(60))
+}
 
-/// Ends the process by a message, where the test is still under way after `LONGEST`.
+/// Ends the process by a message, where the test is still under way after the longest time.
 #[must_use = "the test ends with it"]
 pub struct Limit {
     _ends: Sender<()>,
@@ -24,13 +30,38 @@ pub fn limit() -> Limit {
     let test = Location::caller();
     let (ends, ended) = channel();
     thread::spawn(move || {
-        if ended.recv_timeout(LONGEST) == Err(RecvTimeoutError::Timeout) {
+        if ended.recv_timeout(longest()) == Err(RecvTimeoutError::Timeout) {
             // (Past what captures the output of tests, which would be lost.)
             let _ = writeln!(io::stderr(), "{test}: a thread waits for ever");
             process::abort();
         }
     });
     Limit { _ends: ends }
+}
+
+/// Where a process is told which test is its own.
+pub const ALONE: &str = "PARDZ_ALONE";
+
+/// Runs the work of the test of this name in a process of its own, which may crash or hang.
+#[track_caller]
+pub fn alone(test: &str, work: impl FnOnce()) {
+    if env::var(ALONE).is_ok_and(|alone| alone == test) {
+        let _limit = limit();
+        return work();
+    }
+    let program = env::current_exe().expect("the program of the tests");
+    let done = Command::new(program)
+        .args([test, "--exact", "--include-ignored", "--nocapture"])
+        .env(ALONE, test)
+        .stdin(Stdio::null())
+        .output()
+        .expect("it runs once more");
+    let (out, err) = (
+        String::from_utf8_lossy(&done.stdout),
+        String::from_utf8_lossy(&done.stderr),
+    );
+    assert!(done.status.success(), "{}: {out}{err}", done.status);
+    assert!(out.contains("1 passed"), "no test of this name: {out}");
 }
 
 /// Locks by tries. Panics where another thread panicked with it.

@@ -1,0 +1,215 @@
+//! Calls without a lane in hand.
+//!
+//! A thread's first call of a pool finds it a lane, which it keeps until it ends. Where all are taken, and for owned handles, a lane
+//! is shared: each call has it under a lock, within which no code of others runs, and what is held by it may be let go by any thread.
+use crate::buffer::Buffer;
+use crate::clear::Clear;
+use crate::errors::CreateError;
+use crate::filling::{OwnedFilling, PoolFilling};
+use crate::key::Key;
+use crate::pool::Pool;
+use crate::reference::{OwnedRef, PoolRef};
+
+/// Calls without a lane in hand. The thread's first call finds it a lane, which is kept until the thread ends; where all are taken,
+/// its calls share lanes, each under a lock for a bounded number of steps. They may be made anywhere: within `T::clear`, `Default`, `Drop`
+/// and closures, and while the thread ends.
+///
+/// A pool of [`open`](Pool::open) has a lane more than its shape, which is shared: so no call is refused where all lanes are in hand. Its
+/// places are counted as its pages are opened. From 8 lanes on, more are shared as these calls need them: a quarter of all.
+///
+/// A pool of 16 lanes has none more. Where all 16 are in hand, a create answers [`CreateError::NoLane`], and a get or a clear panics; where
+/// one is at home, it is shared from then on.
+impl<T: Clear> Pool<T> {
+    /// Begins an empty object, to be filled and published. Where the thread's own shard is full it goes to one of the shared lanes, and
+    /// then to a further segment, if the pool grows.
+    ///
+    /// # Errors
+    ///
+    /// [`CreateError::Full`] where no place is free, but in shards of other lanes that threads have; [`CreateError::Memory`] where memory was
+    /// refused; [`CreateError::NoLane`] where all lanes of a pool of 16 are in hand.
+    ///
+    /// ```
+    /// use pardz::{Buffer, Pool};
+    /// use std::io::Write;
+    /// use std::thread;
+    ///
+    /// let pool = Pool::<Buffer>::growing()?;
+    /// let mut filling = pool.create()?;
+    /// write!(filling, "hello")?;
+    /// let key = filling.publish();
+    /// thread::scope(|scope| {
+    ///     for _ in 0..20 {
+    ///         scope.spawn(|| assert_eq!(*pool.get(key).expect("published"), *b"hello"));
+    ///     }
+    /// });
+    /// assert!(pool.clear(key));
+    /// # Ok::<(), Box<dyn std::error::Error>>(())
+    /// ```
+    #[inline(always)]
+    pub fn create(&self) -> Result<PoolFilling<'_, T>, CreateError>
+    where
+        T: Default,
+    {
+        Ok(PoolFilling::new(self.room.create()?))
+    }
+
+    /// Fills an object, and publishes it. Where the closure panics nothing is published, and the place is free again.
+    ///
+    /// # Errors
+    ///
+    /// As [`create`](Pool::create).
+    ///
+    /// ```
+    /// let pool = pardz::Pool::<Vec<u32>>::growing()?;
+    /// let key = pool.create_with(|list| list.extend(1..4))?;
+    /// assert_eq!(*pool.get(key).expect("published"), [1, 2, 3]);
+    /// # Ok::<(), Box<dyn std::error::Error>>(())
+    /// ```
+    #[inline(always)]
+    pub fn create_with(&self, fill: impl FnOnce(&mut T)) -> Result<Key, CreateError>
+    where
+        T: Default,
+    {
+        let mut filling = self.create()?;
+        fill(&mut filling);
+        Ok(filling.publish())
+    }
+
+    /// A reference to the object of a key. `None` where it isn't published, or is cleared, or is no key of this pool.
+    ///
+    /// # Panics
+    ///
+    /// Where the lane has 1,048,575 references, or all lanes of a pool of 16 are in hand.
+    ///
+    /// ```
+    /// let pool = pardz::Pool::<String>::growing()?;
+    /// let key = pool.put("abc")?;
+    /// let text = pool.get(key).expect("published");
+    /// assert!(pool.clear(key));
+    /// assert!(pool.get(key).is_none());
+    /// assert_eq!(*text, "abc"); // it stays until the reference is dropped
+    /// # Ok::<(), Box<dyn std::error::Error>>(())
+    /// ```
+    #[inline(always)]
+    pub fn get(&self, key: Key) -> Option<PoolRef<'_, T>> {
+        Some(PoolRef::new(self.room.get(key)?))
+    }
+
+    /// Clears a key: no get finds it any more. Answers whether this call did. The object stays for those who have a reference; the last
+    /// of them empties it.
+    ///
+    /// ```
+    /// let pool = pardz::Pool::<String>::growing()?;
+    /// let key = pool.put("abc")?;
+    /// assert!(pool.clear(key));
+    /// assert!(!pool.clear(key));
+    /// # Ok::<(), Box<dyn std::error::Error>>(())
+    /// ```
+    #[inline(always)]
+    pub fn clear(&self, key: Key) -> bool {
+        self.room.clear(key)
+    }
+
+    /// As [`create`](Pool::create), of a filling that has a share of the pool's memory and may go to any thread.
+    ///
+    /// # Errors
+    ///
+    /// As [`create`](Pool::create).
+    ///
+    /// ```
+    /// use pardz::Pool;
+    /// use std::thread;
+    ///
+    /// let pool = Pool::<String>::growing()?;
+    /// let mut filling = pool.create_owned()?;
+    /// let key = thread::spawn(move || {
+    ///     filling.push_str("abc");
+    ///     filling.publish()
+    /// });
+    /// assert_eq!(*pool.get(key.join().expect("no panic")).expect("published"), "abc");
+    /// # Ok::<(), Box<dyn std::error::Error>>(())
+    /// ```
+    pub fn create_owned(&self) -> Result<OwnedFilling<T>, CreateError>
+    where
+        T: Default,
+    {
+        Ok(OwnedFilling::new(self.room.create_owned()?))
+    }
+
+    /// As [`get`](Pool::get), of a reference that has a share of the pool's memory and may go to any thread.
+    ///
+    /// # Panics
+    ///
+    /// Where the lane has 1,048,575 references.
+    ///
+    /// ```
+    /// use pardz::Pool;
+    /// use std::thread;
+    ///
+    /// let pool = Pool::<String>::growing()?;
+    /// let text = pool.get_owned(pool.put("abc")?).expect("published");
+    /// assert!(pool.clear(text.key()));
+    /// drop(pool);
+    /// thread::spawn(move || assert_eq!(*text, "abc")).join().expect("no panic");
+    /// # Ok::<(), Box<dyn std::error::Error>>(())
+    /// ```
+    #[inline]
+    pub fn get_owned(&self, key: Key) -> Option<OwnedRef<T>> {
+        Some(OwnedRef::new(self.room.get_owned(key)?))
+    }
+}
+
+impl Pool<Buffer> {
+    /// Publishes bytes, which are copied into a buffer of the pool.
+    ///
+    /// # Errors
+    ///
+    /// As [`create`](Pool::create); [`CreateError::Memory`] also where the bytes found no memory.
+    ///
+    /// ```
+    /// let pool = pardz::Pool::<pardz::Buffer>::growing()?;
+    /// let key = pool.put(b"abc")?;
+    /// assert_eq!(*pool.get(key).expect("published"), *b"abc");
+    /// # Ok::<(), Box<dyn std::error::Error>>(())
+    /// ```
+    #[inline]
+    pub fn put(&self, bytes: &[u8]) -> Result<Key, CreateError> {
+        let mut filling = self.create()?;
+        filling.append(bytes)?;
+        Ok(filling.publish())
+    }
+}
+
+impl Pool<String> {
+    /// Publishes a text, which is copied into a string of the pool.
+    ///
+    /// # Errors
+    ///
+    /// As [`create`](Pool::create); [`CreateError::Memory`] also where the text found no memory.
+    #[inline]
+    pub fn put(&self, text: &str) -> Result<Key, CreateError> {
+        let mut filling = self.create()?;
+        if filling.try_reserve(text.len()).is_err() {
+            return Err(CreateError::Memory);
+        }
+        filling.push_str(text);
+        Ok(filling.publish())
+    }
+}
+
+impl<U: Clone> Pool<Vec<U>> {
+    /// Publishes values, which are cloned into a vector of the pool.
+    ///
+    /// # Errors
+    ///
+    /// As [`create`](Pool::create); [`CreateError::Memory`] also where the values found no memory.
+    #[inline]
+    pub fn put(&self, values: &[U]) -> Result<Key, CreateError> {
+        let mut filling = self.create()?;
+        if filling.try_reserve(values.len()).is_err() {
+            return Err(CreateError::Memory);
+        }
+        filling.extend_from_slice(values);
+        Ok(filling.publish())
+    }
+}

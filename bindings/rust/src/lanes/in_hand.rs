@@ -1,0 +1,239 @@
+//! Lanes in hand, and what they give: all of it borrows them, so that they have the lane alone.
+use super::give_back::give_back;
+use super::own::{too_many, Own};
+use super::seat::{Near, Post};
+use super::token::{Begun, By, Held, InHand, Spend, Spent};
+use super::who::Number;
+use crate::clear::Clear;
+use crate::errors::CreateError;
+use crate::key::Key;
+use crate::object::Block;
+use crate::pool::Pool;
+use std::marker::PhantomData;
+use std::mem::ManuallyDrop;
+use std::ptr::NonNull;
+use std::sync::Arc;
+
+/// A lane in hand. It comes home when it is dropped.
+pub(crate) struct Hand<'p, T: Clear> {
+    at: Near<'p, T>,
+    /// (Taken out by the drop alone.)
+    number: ManuallyDrop<Number>,
+    /// Keeps the pool open, where the lane doesn't borrow it.
+    _share: Option<Arc<Pool<T>>>,
+    of: PhantomData<&'p Pool<T>>,
+}
+
+// SAFETY: the lane is the hand's alone, and what borrows a `Hand` stays on its thread, since `Hand` isn't `Sync`. A move to another thread
+// orders the calls before it and after it.
+unsafe impl<T: Clear + Send + Sync> Send for Hand<'_, T> {}
+
+impl<'p, T: Clear> Hand<'p, T> {
+    pub(crate) fn lent(pool: &'p Pool<T>) -> Option<Hand<'p, T>> {
+        // SAFETY: the hand borrows the pool.
+        unsafe { Hand::of(pool, None) }
+    }
+
+    pub(crate) fn owned(pool: &Arc<Pool<T>>) -> Option<Hand<'static, T>> {
+        // SAFETY: the hand's share keeps the pool there.
+        unsafe { Hand::of(pool, Some(Arc::clone(pool))) }
+    }
+
+    /// # Safety
+    ///
+    /// The pool is there as long as the hand.
+    unsafe fn of<'l>(pool: &Pool<T>, share: Option<Arc<Pool<T>>>) -> Option<Hand<'l, T>> {
+        let number = pool.room.take()?;
+        // SAFETY: the caller's.
+        let post = unsafe { pool.room.first().post(number.get()).keep() };
+        let segment = NonNull::from(post.segment());
+        Some(Hand {
+            // SAFETY: it is its segment.
+            at: unsafe { Near::new(post, segment) },
+            number: ManuallyDrop::new(number),
+            _share: share,
+            of: PhantomData,
+        })
+    }
+
+    #[inline(always)]
+    fn own(&self) -> Own<'_, T, Near<'_, T>> {
+        // SAFETY: who has the number has the lane alone; the hand is borrowed, and on one thread.
+        unsafe { Own::of(self.at) }
+    }
+
+    pub(crate) fn number(&self) -> u32 {
+        self.number.get()
+    }
+
+    /// How many references it has in all segments.
+    pub(crate) fn references(&self) -> u32 {
+        let room = self.own();
+        let posts = room.room().posts_of(self.number());
+        // SAFETY: as of `own`, in each segment.
+        posts.map(|post| unsafe { post.turn() }.references()).sum()
+    }
+
+    #[inline(always)]
+    pub(crate) fn create(&self) -> Result<Spent<Begun<'_, T, InHand<T>>>, CreateError>
+    where
+        T: Default,
+    {
+        Ok(Spent::new(self.own().create(create_apart_in_any)?))
+    }
+
+    #[inline(always)]
+    pub(crate) fn get(&self, key: Key) -> Option<Spent<Held<'_, T, InHand<T>>>> {
+        let own = self.own();
+        match own.get_here(key) {
+            Some(held) => Some(Spent::new(held)),
+            None => {
+                let mut held = own.get_elsewhere::<InHand<T>>(key)?;
+                // (Here, where the compiler sees that it is so of no other.)
+                held.way.is_elsewhere = true;
+                Some(Spent::new(held))
+            }
+        }
+    }
+
+    #[inline(always)]
+    pub(crate) fn clear(&self, key: Key) -> bool {
+        self.own().clear(key)
+    }
+}
+
+impl<T: Clear> Drop for Hand<'_, T> {
+    fn drop(&mut self) {
+        // SAFETY: taken out once.
+        let number = unsafe { ManuallyDrop::take(&mut self.number) };
+        self.own().room().come_home(number);
+    }
+}
+
+/// A create where the lane's own list has no place: in any segment.
+#[cold]
+#[inline(never)]
+fn create_apart_in_any<'s, T: Clear + Default>(
+    own: Own<'s, T, Near<'s, T>>,
+    block: Block<T>,
+) -> Result<Begun<'s, T, InHand<T>>, CreateError> {
+    match own.create_apart(block) {
+        Err(CreateError::Full) => create_further(own),
+        created => created,
+    }
+}
+
+/// A create of the lane's shards in all segments, which opens a further one where all are full.
+#[cold]
+#[inline(never)]
+fn create_further<'s, T: Clear + Default>(
+    own: Own<'s, T, Near<'s, T>>,
+) -> Result<Begun<'s, T, InHand<T>>, CreateError> {
+    if !own.room().grows() {
+        return Err(CreateError::Full);
+    }
+    loop {
+        let count = own.room().count();
+        let created = own.create_in_any();
+        match created {
+            Err(CreateError::Full) => own.room().grow(count)?,
+            created => return created,
+        }
+    }
+}
+
+impl<'l, T: Clear> Begun<'l, T, InHand<T>> {
+    /// The lane in hand, which is borrowed.
+    #[inline(always)]
+    fn own(&self) -> Own<'l, T, Near<'l, T>> {
+        // SAFETY: it is its segment.
+        let near = unsafe { Near::new(self.post(), self.way.segment) };
+        // SAFETY: a hand gave it, and has the lane alone until `'l` ends; it stays on its thread.
+        unsafe { Own::of(near) }
+    }
+
+    #[inline(always)]
+    pub(crate) fn publish(self) -> Key {
+        // SAFETY: it is of its own lane.
+        unsafe { self.own().publish(self) }
+    }
+
+    /// # Panics
+    ///
+    /// Where the lane has as many references as it may; nothing is published then.
+    #[inline]
+    pub(crate) fn downgrade(self) -> Spent<Held<'l, T, InHand<T>>> {
+        // SAFETY: it is of its own lane.
+        match unsafe { self.own().downgrade(self) } {
+            Ok(held) => Spent::new(held),
+            Err(begun) => {
+                begun.spend();
+                too_many()
+            }
+        }
+    }
+
+    /// Leaves its place as it is. The object is emptied, and used in another place.
+    pub(crate) fn forget(self) {
+        let own = self.own();
+        let (_, _, mut block) = self.into_words();
+        block.clear();
+        own.put_away(block);
+    }
+}
+
+impl<T: Clear> Spend for Begun<'_, T, InHand<T>> {
+    #[inline(always)]
+    fn spend(self) {
+        // (By its words: a filling whose address isn't told stays in registers.)
+        let (post, words, block) = self.into_words();
+        give_back_in_hand(post, words, block);
+    }
+}
+
+#[cold]
+#[inline(never)]
+fn give_back_in_hand<T: Clear>(post: Post<'_, T>, words: (u64, u64), block: Block<T>) {
+    let way = InHand::of(post.segment());
+    let begun = Begun::from_words(post, words, block, way);
+    let own = begun.own();
+    give_back(begun, |begun, is_empty| {
+        // SAFETY: it is of its own lane.
+        unsafe { own.publish_and_clear(begun, is_empty) }
+    });
+}
+
+impl<'l, T: Clear> Held<'l, T, InHand<T>> {
+    /// One reference more, by a get of the key.
+    pub(crate) fn try_clone(&self) -> Option<Spent<Held<'l, T, InHand<T>>>> {
+        // SAFETY: a hand gave it, and is borrowed.
+        let own = unsafe { Own::of(self.post()) };
+        let mut held = own.get_and_finish::<InHand<T>>(self.key())?;
+        held.way = self.way;
+        Some(Spent::new(held))
+    }
+}
+
+impl<T: Clear> Spend for Held<'_, T, InHand<T>> {
+    #[inline(always)]
+    fn spend(self) {
+        if self.way.is_elsewhere {
+            return release_elsewhere(self.post(), self.into_words());
+        }
+        // SAFETY: it is its segment.
+        let near = unsafe { Near::new(self.post(), self.way.segment) };
+        // SAFETY: a hand gave it, and is borrowed.
+        let own = unsafe { Own::of(near) };
+        // SAFETY: it is of its own lane.
+        unsafe { own.release(self) };
+    }
+}
+
+/// Gives back a reference of another segment than the one that was asked.
+#[inline(never)]
+fn release_elsewhere<T: Clear>(post: Post<'_, T>, words: (NonNull<T>, u64, u64)) {
+    // SAFETY: they are those of a reference, which is spent here.
+    let held = unsafe { Held::from_words(post, words, InHand::of(post.segment())) };
+    // SAFETY: a hand gave it, and is borrowed; it is of its own lane.
+    unsafe { Own::of(post).release(held) };
+}

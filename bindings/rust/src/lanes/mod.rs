@@ -1,0 +1,49 @@
+//! All calls of the proved pool, and who may make them.
+//!
+//! The proved pool asks for what follows, which a type or a test takes over:
+//!
+//! | call | asks | taken over by |
+//! |---|---|---|
+//! | all of a lane | that the lane is one of the pool's (`Owns`) | a [`Seat`](seat::Seat) never leaves its [`Segment`](segment::Segment), where `open` put it beside the pool |
+//! | all of a lane | that nobody else uses the lane meanwhile (`&mut`) | a [`Turn`](turn::Turn), which a thread has that has the lane alone ([`Own`](own::Own)): in hand, by a [`Number`](who::Number), or until it ends; or who has its lock, where it is shared; no code of others runs within a turn, so none calls back |
+//! | `get`, `downgrade` | fewer references than the most | a test in front of each |
+//! | `publish`, `downgrade` | that the lane made the filling, and hasn't published it (`Made`) | a [`Begun`](token::Begun), which has the lane's seat, and is spent by the call |
+//! | `release`, `read` | that the lane has a reference to the key | a [`Held`](token::Held), likewise |
+//! | `close` | all lanes of the pool, each once | `Segment::end` takes the seats as `open` gave them; that the pool is ours alone then is told by `&mut`, for a lane in hand borrows it, or has a share of it, and by `Room::shares`, for a lane of owned handles has a share of its memory |
+//! | the trait of objects | a clear that empties, keeps the room, takes no memory and ends | `Object`, of which a clear moves one word |
+//!
+//! Outside of this module there are [`Hand`], a pool's [`Share`] of its [`Room`](room::Room), and what their calls give, all of which
+//! move: so that a filling is published once, and a reference is released once. None of its functions that are `pub(crate)` asks anything
+//! of its caller.
+mod far;
+mod give_back;
+mod in_hand;
+mod lock;
+mod of_thread;
+mod own;
+mod room;
+mod seat;
+mod segment;
+mod share;
+mod shared;
+mod sharing;
+mod threads;
+mod token;
+mod turn;
+mod who;
+
+pub(crate) use far::{FarBegun, FarHeld};
+pub(crate) use in_hand::Hand;
+pub(crate) use room::LANES;
+pub(crate) use share::Share;
+pub(crate) use token::{Begun, Held, InHand, OfThread, Spent};
+
+use crate::erased::shardpool;
+use crate::object::Object;
+use crate::shim::{self, Global};
+
+type ProvedPool<T> = shardpool::Pool<Object<T>>;
+type ProvedLane<T> = shardpool::Lane<Object<T>>;
+type ProvedFilling<T> = shardpool::Filling<Object<T>>;
+type ProvedRef<T> = shardpool::Ref<Object<T>>;
+type ProvedBox<T> = shim::Box<Object<T>, Global>;

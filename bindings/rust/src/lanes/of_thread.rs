@@ -1,0 +1,238 @@
+//! Calls of a pool, and what they give: by the thread's lane, or by lanes that threads share.
+use super::give_back::give_back;
+use super::own::{too_many, Own};
+use super::room::Room;
+use super::seat::Post;
+use super::threads;
+use super::token::{Begun, Held, OfThread, Spend, Spent};
+use super::who::Caller;
+use crate::clear::Clear;
+use crate::errors::CreateError;
+use crate::key::Key;
+use crate::object::Block;
+use std::ptr::NonNull;
+
+/// Which way a thread calls for what a call of the pool gave it.
+enum Way<'s, T: Clear> {
+    /// The thread has the lane alone.
+    Own(Own<'s, T>),
+    /// The lane is shared.
+    Shared(Post<'s, T>),
+    /// The thread had the lane, and has left it, as it ends.
+    Left(Post<'s, T>),
+}
+
+impl<'s, T: Clear> Way<'s, T> {
+    /// # Safety
+    ///
+    /// A call of the pool by this thread gave what is of this lane, which was shared, or the thread's.
+    #[inline(always)]
+    unsafe fn of(post: Post<'s, T>, is_shared: bool) -> Way<'s, T> {
+        if is_shared {
+            Way::Shared(post)
+        } else if threads::has_ended() {
+            Way::Left(post)
+        } else {
+            // SAFETY: the thread keeps its lane until it has ended.
+            Way::Own(unsafe { Own::of(post) })
+        }
+    }
+}
+
+impl<T: Clear> Room<T> {
+    #[inline(always)]
+    pub(crate) fn create(&self) -> Result<Spent<Begun<'_, T, OfThread>>, CreateError>
+    where
+        T: Default,
+    {
+        let begun = match self.caller() {
+            Caller::Own(own) => match own.create(Own::create_apart_or_pass) {
+                Err(CreateError::Full) => self.create_further(Some(own)),
+                created => created,
+            },
+            Caller::Sharing => match self.create_by_last(|_| ()) {
+                Some(begun) => Ok(begun),
+                None => self.create_further(None),
+            },
+        };
+        begun.map(Spent::new)
+    }
+
+    /// A create by one of the shared lanes, or by the thread's own in another segment.
+    #[cold]
+    #[inline(never)]
+    fn create_further<'s>(
+        &'s self,
+        own: Option<Own<'s, T>>,
+    ) -> Result<Begun<'s, T, OfThread>, CreateError>
+    where
+        T: Default,
+    {
+        self.create_growing(|| {
+            if let Some(own) = own.filter(|own| !self.passes(own.post().number())) {
+                match own.create_in_any() {
+                    Err(CreateError::Full) => (),
+                    created => return created,
+                }
+            }
+            self.create_in_shared(|_| ())
+        })
+    }
+
+    #[inline(always)]
+    pub(crate) fn get(&self, key: Key) -> Option<Spent<Held<'_, T, OfThread>>> {
+        let held = match self.caller() {
+            Caller::Own(own) => match own.get_here(key) {
+                Some(held) => Some(held),
+                None => own.get_elsewhere(key),
+            },
+            Caller::Sharing => self.get_by_shared(key),
+        };
+        held.map(Spent::new)
+    }
+
+    /// A get by a shared lane.
+    #[inline(never)]
+    fn get_by_shared(&self, key: Key) -> Option<Held<'_, T, OfThread>> {
+        let segment = self.segment_of(key)?;
+        self.by_shared(|number| segment.post(number).shared_get(key, |_| ()))
+    }
+
+    #[inline(always)]
+    pub(crate) fn clear(&self, key: Key) -> bool {
+        match self.caller() {
+            Caller::Own(own) => own.clear(key),
+            Caller::Sharing => self.clear_by_shared(key),
+        }
+    }
+
+    /// A clear by a shared lane.
+    #[cold]
+    #[inline(never)]
+    fn clear_by_shared(&self, key: Key) -> bool {
+        let Some(segment) = self.segment_of(key) else {
+            return false;
+        };
+        self.by_shared(|number| segment.post(number).shared_clear(key))
+    }
+}
+
+impl<'p, T: Clear> Begun<'p, T, OfThread> {
+    #[inline(always)]
+    fn way(&self) -> Way<'p, T> {
+        // SAFETY: a call of the pool by this thread gave it, and it stays on its thread.
+        unsafe { Way::of(self.post(), self.is_shared()) }
+    }
+
+    #[inline(always)]
+    pub(crate) fn publish(self) -> Key {
+        match self.way() {
+            // SAFETY: it is of its own lane.
+            Way::Own(own) => unsafe { own.publish(self) },
+            Way::Shared(_) | Way::Left(_) => {
+                let (post, words, block) = self.into_words();
+                publish_locked(post, words, block)
+            }
+        }
+    }
+
+    /// # Panics
+    ///
+    /// Where the lane has as many references as it may; nothing is published then.
+    #[inline]
+    pub(crate) fn downgrade(self) -> Spent<Held<'p, T, OfThread>> {
+        let published = match self.way() {
+            // SAFETY: it is of its own lane.
+            Way::Own(own) => unsafe { own.downgrade(self) },
+            Way::Shared(post) | Way::Left(post) => {
+                // SAFETY: no thread has such a lane alone, and it is of its own lane.
+                let published = unsafe { post.locked(|turn, _| turn.downgrade(self)) };
+                published.map(Held::shared)
+            }
+        };
+        match published {
+            Ok(held) => Spent::new(held),
+            Err(begun) => {
+                begun.spend();
+                too_many()
+            }
+        }
+    }
+}
+
+/// A publish under the lock. (By its parts, which stay in registers.)
+#[inline(never)]
+fn publish_locked<T: Clear>(post: Post<'_, T>, words: (u64, u64), block: Block<T>) -> Key {
+    let begun = Begun::from_words(post, words, block, OfThread);
+    // SAFETY: no thread has such a lane alone, and it is of its own lane.
+    unsafe { post.locked(|turn, _| turn.publish(begun)) }
+}
+
+impl<T: Clear> Spend for Begun<'_, T, OfThread> {
+    #[inline(always)]
+    fn spend(self) {
+        // (By its words: a filling whose address isn't told stays in registers.)
+        let (post, words, block) = self.into_words();
+        give_back_of_thread(post, words, block);
+    }
+}
+
+#[cold]
+#[inline(never)]
+fn give_back_of_thread<T: Clear>(post: Post<'_, T>, words: (u64, u64), block: Block<T>) {
+    let begun = Begun::from_words(post, words, block, OfThread);
+    give_back(begun, |begun, is_empty| match begun.way() {
+        // SAFETY: it is of its own lane.
+        Way::Own(own) => unsafe { own.publish_and_clear(begun, is_empty) },
+        Way::Shared(post) | Way::Left(post) => {
+            // SAFETY: no thread has such a lane alone, and it is of its own lane.
+            unsafe { post.locked(|turn, _| turn.publish_and_clear(begun, is_empty)) }
+        }
+    });
+}
+
+impl<'p, T: Clear> Held<'p, T, OfThread> {
+    #[inline(always)]
+    fn way(&self) -> Way<'p, T> {
+        // SAFETY: a call of the pool by this thread gave it, and it stays on its thread.
+        unsafe { Way::of(self.post(), self.is_shared()) }
+    }
+
+    /// One reference more, by a get of the key.
+    pub(crate) fn try_clone(&self) -> Option<Spent<Held<'p, T, OfThread>>> {
+        let held = match self.way() {
+            Way::Own(own) => own.get_and_finish(self.key()),
+            // SAFETY: no thread has such a lane alone.
+            Way::Shared(post) | Way::Left(post) => unsafe { post.locked_get(self.key()) },
+        };
+        held.map(Spent::new)
+    }
+}
+
+impl<T: Clear> Spend for Held<'_, T, OfThread> {
+    #[inline(always)]
+    fn spend(self) {
+        release(self.post(), self.into_words());
+    }
+}
+
+/// The drop of a reference. (Apart, so that a caller with several places where one is dropped has it in none; by its words, so that a
+/// reference whose address isn't told stays in registers.)
+#[inline(never)]
+fn release<T: Clear>(post: Post<'_, T>, words: (NonNull<T>, u64, u64)) {
+    // SAFETY: they are those of a reference, which is spent here.
+    let held = unsafe { Held::from_words(post, words, OfThread) };
+    match held.way() {
+        // SAFETY: it is of its own lane.
+        Way::Own(own) => unsafe { own.release(held) },
+        Way::Shared(_) | Way::Left(_) => release_locked(post, held.into_words()),
+    }
+}
+
+#[inline(never)]
+fn release_locked<T: Clear>(post: Post<'_, T>, words: (NonNull<T>, u64, u64)) {
+    // SAFETY: they are those of a reference, which is spent here.
+    let held = unsafe { Held::from_words(post, words, OfThread) };
+    // SAFETY: no thread has such a lane alone, and it is of its own lane.
+    unsafe { post.locked_release(held) };
+}

@@ -1,0 +1,336 @@
+//! Calls of a lane that the thread has alone: without a lock.
+use super::room::Room;
+use super::seat::{Post, Stands};
+use super::token::{Begun, By, Held};
+use super::turn::{with_page, Short, TooMany, Turn};
+use crate::clear::Clear;
+use crate::errors::CreateError;
+use crate::key::Key;
+use crate::object::{self, Block};
+use std::marker::PhantomData;
+use std::mem;
+use std::panic::{self, AssertUnwindSafe};
+use std::ptr;
+use std::thread;
+
+/// The thread has the lane of this number alone, in each segment of the pool.
+pub(super) struct Own<'s, T: Clear, P: Stands<'s, T> = Post<'s, T>> {
+    at: P,
+    of: PhantomData<(&'s (), *const T)>,
+}
+
+impl<'s, T: Clear, P: Stands<'s, T>> Clone for Own<'s, T, P> {
+    #[inline(always)]
+    fn clone(&self) -> Self {
+        *self
+    }
+}
+
+impl<'s, T: Clear, P: Stands<'s, T>> Copy for Own<'s, T, P> {}
+
+impl<'s, T: Clear, P: Stands<'s, T>> Own<'s, T, P> {
+    /// # Safety
+    ///
+    /// While it is used the thread has the lane alone, in each segment.
+    #[inline(always)]
+    pub(super) unsafe fn of(at: P) -> Own<'s, T, P> {
+        Own {
+            at,
+            of: PhantomData,
+        }
+    }
+
+    #[inline(always)]
+    pub(super) fn post(self) -> Post<'s, T> {
+        self.at.post()
+    }
+
+    /// For one call.
+    #[inline(always)]
+    fn turn(self) -> Turn<'s, T, P> {
+        // SAFETY: the thread has the lane alone, and no code of `T` runs as long as a turn of this file is used.
+        unsafe { Turn::of(self.at) }
+    }
+
+    #[inline(always)]
+    pub(super) fn room(&self) -> &Room<T> {
+        self.at.segment().room()
+    }
+
+    /// Empties what the last call took out, if it was the last to let go of an object. Calls that are made meanwhile, by `T::clear`,
+    /// leave theirs to this one.
+    #[inline(always)]
+    fn finish(self) {
+        if let Some(block) = self.turn().taken() {
+            if thread::panicking() {
+                self.empty_unwinding(block);
+            } else {
+                self.empty(block);
+            }
+        }
+    }
+
+    /// The same where that is rare.
+    #[inline(always)]
+    fn finish_rare(self) {
+        #[cold]
+        #[inline(never)]
+        fn finish<T: Clear>(post: Post<'_, T>) {
+            // SAFETY: the thread has the lane alone.
+            let own = unsafe { Own::of(post) };
+            own.finish();
+        }
+        if object::has_taken() {
+            finish(self.post());
+        }
+    }
+
+    /// Empties an object, and those that wait then.
+    #[inline(always)]
+    fn empty(self, mut block: Block<T>) {
+        if self.turn().store().empties {
+            return self.turn().store().used.push(block);
+        }
+        self.turn().store().empties = true;
+        let others = Others(self, PhantomData);
+        block.clear();
+        self.turn().put_away(block);
+        while let Some(mut block) = self.waiting() {
+            block.clear();
+            self.turn().put_away(block);
+        }
+        mem::forget(others);
+        self.turn().store().empties = false;
+    }
+
+    /// An object that is to be emptied.
+    #[inline(always)]
+    fn waiting(self) -> Option<Block<T>> {
+        self.turn().store().used.pop()
+    }
+
+    /// The same where the thread unwinds, so that a panic would end the process: it is swallowed.
+    #[cold]
+    #[inline(never)]
+    fn empty_unwinding(self, block: Block<T>) {
+        self.turn().store().used.push(block);
+        if !mem::replace(&mut self.turn().store().empties, true) {
+            self.empty_others();
+        }
+    }
+
+    /// Empties those that wait, where the thread unwinds.
+    #[cold]
+    #[inline(never)]
+    fn empty_others(self) {
+        while let Some(mut block) = self.waiting() {
+            let emptied = panic::catch_unwind(AssertUnwindSafe(move || {
+                block.clear();
+                block
+            }));
+            match emptied {
+                Ok(block) => self.turn().put_away(block),
+                // (Its drop might panic in turn.)
+                Err(payload) => mem::forget(payload),
+            }
+        }
+        self.turn().store().empties = false;
+    }
+
+    /// A create of this segment; and `apart` where the lane's own list has no place.
+    #[inline(always)]
+    pub(super) fn create<W: By<T>>(
+        self,
+        apart: impl FnOnce(Self, Block<T>) -> Result<Begun<'s, T, W>, CreateError>,
+    ) -> Result<Begun<'s, T, W>, CreateError>
+    where
+        T: Default,
+    {
+        let block = match self.turn().spare() {
+            Some(block) => block,
+            None => make(self.post())?,
+        };
+        match self.turn().create_short(block) {
+            Ok(begun) => Ok(begun),
+            Err(Short::Failed(error)) => Err(error),
+            Err(Short::NoPlace(block)) => apart(self, block),
+        }
+    }
+
+    /// A create of this segment.
+    #[inline]
+    pub(super) fn create_here<W: By<T>>(self) -> Result<Begun<'s, T, W>, CreateError>
+    where
+        T: Default,
+    {
+        self.create(Own::create_apart)
+    }
+
+    #[cold]
+    #[inline(never)]
+    pub(super) fn create_apart<W: By<T>>(
+        self,
+        block: Block<T>,
+    ) -> Result<Begun<'s, T, W>, CreateError> {
+        with_page(block, |block, ready| self.turn().create_apart(block, ready))
+    }
+
+    /// The same, which says that the shard is full where another segment had a place last.
+    #[cold]
+    #[inline(never)]
+    pub(super) fn create_apart_or_pass<W: By<T>>(
+        self,
+        block: Block<T>,
+    ) -> Result<Begun<'s, T, W>, CreateError> {
+        if self.room().is_elsewhere(self.post().number()) {
+            self.turn().put_away(block);
+            return Err(CreateError::Full);
+        }
+        self.create_apart(block)
+    }
+
+    /// The lane in another segment, of which a key tells.
+    fn elsewhere(self, key: Key) -> Option<Own<'s, T>> {
+        let segment = self.room().segment_of(key)?;
+        if ptr::eq(segment, self.at.segment()) {
+            return None;
+        }
+        let post = segment.post(self.post().number());
+        // SAFETY: a segment is there as long as the others; who has a lane has it in each.
+        Some(unsafe { Own::of(post.keep()) })
+    }
+
+    /// A get of this segment.
+    #[inline(always)]
+    pub(super) fn get_here<W: By<T>>(self, key: Key) -> Option<Held<'s, T, W>> {
+        match self.turn().get(key) {
+            Ok(got) => got,
+            Err(TooMany) => too_many(),
+        }
+    }
+
+    /// A get of this segment alone, whose miss may have been the last to let go of something.
+    #[inline]
+    pub(super) fn get_and_finish<W: By<T>>(self, key: Key) -> Option<Held<'s, T, W>> {
+        let got = self.get_here(key);
+        if got.is_none() {
+            self.finish_rare();
+        }
+        got
+    }
+
+    /// A get that missed in this segment.
+    #[inline(never)]
+    pub(super) fn get_elsewhere<W: By<T>>(self, key: Key) -> Option<Held<'s, T, W>> {
+        self.finish_rare();
+        self.elsewhere(key)?.get_and_finish(key)
+    }
+
+    /// A clear.
+    #[inline(always)]
+    pub(super) fn clear(self, key: Key) -> bool {
+        let cleared = self.turn().clear(key);
+        self.finish();
+        cleared || self.clear_elsewhere(key)
+    }
+
+    /// A clear that missed in this segment.
+    #[cold]
+    #[inline(never)]
+    fn clear_elsewhere(self, key: Key) -> bool {
+        self.elsewhere(key).is_some_and(|own| own.clear(key))
+    }
+
+    /// A create of the lane's shards in all segments.
+    pub(super) fn create_in_any<W: By<T>>(self) -> Result<Begun<'s, T, W>, CreateError>
+    where
+        T: Default,
+    {
+        self.room().create_by(self.post().number(), |post| {
+            // SAFETY: a segment is there as long as the others; who has a lane has it in each.
+            unsafe { Own::of(post.keep()) }.create_here()
+        })
+    }
+
+    /// A block whose object is empty.
+    pub(super) fn put_away(self, block: Block<T>) {
+        self.turn().put_away(block);
+    }
+}
+
+/// Calls for what a lane made.
+impl<'s, T: Clear, P: Stands<'s, T>> Own<'s, T, P> {
+    /// Publishes a filling.
+    ///
+    /// # Safety
+    ///
+    /// It is of this lane.
+    #[inline(always)]
+    pub(super) unsafe fn publish<W>(self, begun: Begun<'s, T, W>) -> Key {
+        // SAFETY: the caller's.
+        unsafe { self.turn().publish(begun) }
+    }
+
+    /// Publishes a filling, with a reference. It comes back where the lane has as many as it may.
+    ///
+    /// # Safety
+    ///
+    /// It is of this lane.
+    #[inline(always)]
+    pub(super) unsafe fn downgrade<W: By<T>>(
+        self,
+        begun: Begun<'s, T, W>,
+    ) -> Result<Held<'s, T, W>, Begun<'s, T, W>> {
+        // SAFETY: the caller's.
+        unsafe { self.turn().downgrade(begun) }
+    }
+
+    /// As [`Turn::publish_and_clear`].
+    ///
+    /// # Safety
+    ///
+    /// It is of this lane.
+    pub(super) unsafe fn publish_and_clear<W>(
+        self,
+        begun: Begun<'s, T, W>,
+        is_empty: bool,
+    ) -> Option<Block<T>> {
+        // SAFETY: the caller's.
+        unsafe { self.turn().publish_and_clear(begun, is_empty) }
+    }
+
+    /// Gives a reference back.
+    ///
+    /// # Safety
+    ///
+    /// It is of this lane.
+    #[inline(always)]
+    pub(super) unsafe fn release<W>(self, held: Held<'s, T, W>) {
+        // SAFETY: the caller's.
+        unsafe { self.turn().release(held) };
+        self.finish_rare();
+    }
+}
+
+/// A block with a new object, for a lane without a spare one.
+#[cold]
+#[inline(never)]
+pub(super) fn make<T: Clear + Default>(post: Post<'_, T>) -> Result<Block<T>, CreateError> {
+    Ok(Block::new(post.number(), T::default())?)
+}
+
+#[cold]
+#[inline(never)]
+pub(super) fn too_many() -> ! {
+    panic!("the lane has 1,048,575 references")
+}
+
+/// Where an object's `clear` panicked: the others that wait are emptied all the same. A further panic loses its object alone.
+struct Others<'s, T: Clear, P: Stands<'s, T>>(Own<'s, T, P>, PhantomData<(&'s (), *const T)>);
+
+impl<'s, T: Clear, P: Stands<'s, T>> Drop for Others<'s, T, P> {
+    #[inline]
+    fn drop(&mut self) {
+        self.0.empty_others();
+    }
+}

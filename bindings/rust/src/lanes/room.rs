@@ -1,0 +1,296 @@
+//! A pool's segments. A lane stands for the same number in each: who has it, has all of them.
+use super::lock::rest;
+use super::seat::Post;
+use super::segment::{row_for, Segment};
+use super::who::Lanes;
+use crate::clear::Clear;
+use crate::erased::keybits::{GREATEST_TAG, LARGEST_FIRST_PAGE, NARROW_LANES, NARROW_PAGES};
+use crate::errors::{CreateError, OpenError};
+use crate::key::Key;
+use crate::object::{Fixed, Later};
+use crate::pool::{Census, Shape};
+use crate::sync::{AtomicU32, AtomicU64, AtomicUsize, Ordering};
+
+/// The most segments: a key has room for so many tags.
+const MOST_SEGMENTS: usize = GREATEST_TAG as usize + 1;
+
+/// The lanes of a growing pool, and those of them that are shared from the start.
+pub(crate) const LANES: u32 = NARROW_LANES;
+const SHARED: u32 = 4;
+
+/// How many creates pass by a lane that was found full in all segments: twice as many each time, since each look costs as many steps as
+/// there are segments.
+const PASSED: u32 = 32;
+const MOST_PASSED: u32 = 8192;
+
+/// How often a thread looks whether another one has opened a segment, before it opens one itself.
+const MOST_LOOKS: u32 = 1000;
+
+pub(crate) struct Room<T: Clear> {
+    /// Another for each pool of the process.
+    id: u64,
+    first: Segment<T>,
+    /// The further segments, by their tag from 1; none where the pool doesn't grow.
+    more: Vec<Later<Segment<T>>>,
+    /// How many segments are open, and for how many threads have begun to.
+    count: AtomicUsize,
+    begun: AtomicUsize,
+    tag: usize,
+    last_generation: u32,
+    pub(super) lanes: Lanes,
+    /// How many have the pool's memory: it, and lanes of owned handles that outlive it.
+    shares: AtomicUsize,
+    /// By lane: the segment that had a place last; how many creates still pass it by, and how many will when it is found full next.
+    hints: [AtomicUsize; LANES as usize],
+    passed: [AtomicU32; LANES as usize],
+    next_passed: [AtomicU32; LANES as usize],
+}
+
+/// The shape of the segment of this tag: each is larger than the one before, up to the largest.
+fn shape_of(tag: usize, last_generation: u32) -> Shape {
+    let tag = tag as u32;
+    let (first_page, pages) = match tag {
+        0 => (LARGEST_FIRST_PAGE / 2, 1),
+        _ => (LARGEST_FIRST_PAGE, tag.min(NARROW_PAGES)),
+    };
+    Shape {
+        lanes: LANES,
+        first_page,
+        pages,
+        last_generation,
+        tag,
+    }
+}
+
+impl<T: Clear> Room<T> {
+    /// A pool that doesn't grow. With `one_more` it has a lane more than its shape, which is shared.
+    pub(super) fn open(shape: Shape, one_more: bool) -> Result<Fixed<Room<T>>, OpenError> {
+        Room::of(shape, one_more, 0, 0)
+    }
+
+    /// A pool that grows, and its first shape.
+    pub(super) fn open_growing(last_generation: u32) -> Result<(Fixed<Room<T>>, Shape), OpenError> {
+        let shape = shape_of(0, last_generation);
+        let shared = ((1 << SHARED) - 1) << (LANES - SHARED);
+        let room = Room::of(shape, false, MOST_SEGMENTS - 1, shared)?;
+        Ok((room, shape))
+    }
+
+    fn of(
+        shape: Shape,
+        one_more: bool,
+        further: usize,
+        shared: u32,
+    ) -> Result<Fixed<Room<T>>, OpenError> {
+        static NEXT: AtomicU64 = AtomicU64::new(1);
+        let first = Segment::open(shape, one_more)?;
+        let mut more = row_for(further)?;
+        more.resize_with(further, Later::new);
+        let room = Fixed::new(Room {
+            id: NEXT.fetch_add(1, Ordering::Relaxed),
+            lanes: Lanes::new(first.lanes(), shared | first.untold_bits())?,
+            first,
+            more,
+            count: AtomicUsize::new(1),
+            begun: AtomicUsize::new(1),
+            tag: shape.tag as usize,
+            last_generation: shape.last_generation,
+            shares: AtomicUsize::new(1),
+            hints: Default::default(),
+            passed: Default::default(),
+            next_passed: [const { AtomicU32::new(PASSED) }; LANES as usize],
+        })?;
+        // SAFETY: the segment stands in the pool, which doesn't move, and ends with it.
+        unsafe { room.first.settle(room.pointer()) };
+        room.share_in(&room.first);
+        Ok(room)
+    }
+
+    #[inline(always)]
+    pub(super) fn id(&self) -> u64 {
+        self.id
+    }
+
+    #[inline(always)]
+    pub(super) fn first(&self) -> &Segment<T> {
+        &self.first
+    }
+
+    pub(super) fn grows(&self) -> bool {
+        !self.more.is_empty()
+    }
+
+    /// How many segments are open.
+    pub(super) fn count(&self) -> usize {
+        self.count.load(Ordering::Acquire)
+    }
+
+    pub(super) fn segment(&self, index: usize) -> Option<&Segment<T>> {
+        match index.checked_sub(1) {
+            None => Some(&self.first),
+            Some(further) => self.more.get(further)?.get(),
+        }
+    }
+
+    pub(super) fn shares(&self) -> &AtomicUsize {
+        &self.shares
+    }
+
+    pub(super) fn segments(&self) -> impl Iterator<Item = &Segment<T>> {
+        (0..self.count()).map_while(|index| self.segment(index))
+    }
+
+    /// All seats.
+    pub(super) fn posts(&self) -> impl Iterator<Item = Post<'_, T>> {
+        let seats = self.segments();
+        seats.flat_map(|segment| (0..segment.lanes()).map(|number| segment.post(number)))
+    }
+
+    /// The seats of this number.
+    pub(super) fn posts_of(&self, number: u32) -> impl Iterator<Item = Post<'_, T>> {
+        self.segments().map(move |segment| segment.post(number))
+    }
+
+    /// The segment of which a key's tag tells.
+    #[inline]
+    pub(super) fn segment_of(&self, key: Key) -> Option<&Segment<T>> {
+        let tag = (u64::from(key) >> 56) as usize;
+        self.segment(tag.checked_sub(self.tag)?)
+    }
+
+    /// Opens a further segment, unless there are other than so many by now. Where another thread opens one, it waits a while for that:
+    /// no longer, as that may run code of the program's allocator.
+    pub(super) fn grow(&self, count: usize) -> Result<(), CreateError> {
+        let place = self.more.get(count - 1).ok_or(CreateError::Full)?;
+        if !self.begins(count) && self.waits_for_other(count) {
+            return Ok(());
+        }
+        let opened = self.open_further(count);
+        if opened.is_err() {
+            // (Others may try.)
+            self.begun.store(count, Ordering::Relaxed);
+        }
+        let segment = opened?;
+        let not_used = self.locked(|| {
+            if self.count() != count {
+                return Some(segment);
+            }
+            // SAFETY: the segment doesn't move any more, and ends with the pool, whose pointer is the first one's.
+            unsafe { segment.settle_as(&self.first) };
+            self.share_in(&segment);
+            let not_used = place.set(segment).err();
+            self.count.store(count + 1, Ordering::Release);
+            not_used
+        });
+        drop(not_used);
+        self.look_again();
+        Ok(())
+    }
+
+    /// Whether no other thread opens a segment behind so many: then the caller does. (That is for speed alone.)
+    fn begins(&self, count: usize) -> bool {
+        let before = self.begun.load(Ordering::Relaxed);
+        let relaxed = Ordering::Relaxed;
+        before <= count
+            && self
+                .begun
+                .compare_exchange(before, count + 1, relaxed, relaxed)
+                .is_ok()
+    }
+
+    fn open_further(&self, count: usize) -> Result<Fixed<Segment<T>>, CreateError> {
+        let segment = Segment::open(shape_of(count, self.last_generation), false)
+            .map_err(|_| CreateError::Memory)?;
+        Ok(Fixed::new(segment)?)
+    }
+
+    /// Waits while another thread opens a segment. Whether there are others now than so many.
+    #[cold]
+    fn waits_for_other(&self, count: usize) -> bool {
+        for looked in 0..MOST_LOOKS {
+            if self.count() != count {
+                return true;
+            }
+            if self.begun.load(Ordering::Relaxed) <= count {
+                return false;
+            }
+            rest(looked);
+        }
+        self.count() != count
+    }
+
+    /// A call that finds a place by a lane: in the segment that had one last, or in another one.
+    pub(super) fn create_by<'r, F>(
+        &'r self,
+        number: u32,
+        create: impl Fn(Post<'r, T>) -> Result<F, CreateError>,
+    ) -> Result<F, CreateError> {
+        let hint = &self.hints[number as usize];
+        let next = &self.next_passed[number as usize];
+        let (from, count) = (hint.load(Ordering::Relaxed), self.count());
+        for step in 0..count {
+            let index = (from + step) % count;
+            let Some(segment) = self.segment(index) else {
+                break;
+            };
+            match create(segment.post(number)) {
+                Err(CreateError::Full) => (),
+                created => {
+                    hint.store(index, Ordering::Relaxed);
+                    next.store(PASSED, Ordering::Relaxed);
+                    return created;
+                }
+            }
+        }
+        let passed = next.load(Ordering::Relaxed);
+        self.passed[number as usize].store(passed, Ordering::Relaxed);
+        next.store((2 * passed).min(MOST_PASSED), Ordering::Relaxed);
+        Err(CreateError::Full)
+    }
+
+    /// The seat of a lane in the segment where it had its last place.
+    pub(super) fn last_post(&self, number: u32) -> Option<Post<'_, T>> {
+        let hint = self.hints[number as usize].load(Ordering::Relaxed);
+        Some(self.segment(hint)?.post(number))
+    }
+
+    /// Whether a lane had its last place in another segment than the first.
+    pub(super) fn is_elsewhere(&self, number: u32) -> bool {
+        self.hints[number as usize].load(Ordering::Relaxed) != 0
+    }
+
+    /// Whether a create passes a lane by, since it was found full a while ago.
+    pub(super) fn passes(&self, number: u32) -> bool {
+        let passed = &self.passed[number as usize];
+        let left = passed.load(Ordering::Relaxed);
+        if left > 0 {
+            passed.store(left - 1, Ordering::Relaxed);
+        }
+        left > 0
+    }
+
+    /// No lane is passed by any more.
+    pub(super) fn look_again(&self) {
+        for passed in &self.passed {
+            passed.store(0, Ordering::Relaxed);
+        }
+    }
+
+    pub(crate) fn census(&self) -> Census {
+        let segments = self.segments().map(Segment::census);
+        segments.fold(Census::default(), Census::with)
+    }
+
+    pub(super) fn close(self) -> Census {
+        let Room {
+            first,
+            mut more,
+            lanes,
+            ..
+        } = self;
+        drop(lanes);
+        let further = more.iter_mut().filter_map(Later::take);
+        let further = further.map(|segment| segment.into_inner().close());
+        further.fold(first.close(), Census::with)
+    }
+}

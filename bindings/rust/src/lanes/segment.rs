@@ -1,0 +1,213 @@
+//! A segment: a proved pool with its lanes.
+use super::room::Room;
+use super::seat::{Post, Seat};
+use super::turn::Call;
+use super::{ProvedLane, ProvedPool};
+use crate::clear::Clear;
+use crate::erased::keybits::{Life, Place, State};
+use crate::erased::poolsteps::life_word;
+use crate::erased::shardpool;
+use crate::errors::OpenError;
+use crate::object::{self, Returned};
+use crate::pool::{Census, Shape};
+use crate::shim::{self, Global};
+use crate::sync::{self, AtomicPtr, Ordering};
+use std::mem::ManuallyDrop;
+use std::ptr::{self, NonNull};
+
+/// The proved pool, with its lanes.
+pub(crate) struct Segment<T: Clear> {
+    proved: ManuallyDrop<ProvedPool<T>>,
+    seats: ManuallyDrop<Vec<Seat<T>>>,
+    /// How many lanes are of the pool's shape: all, or all but the last, which threads share.
+    told: u32,
+    /// Where the proved lanes go for the close, which takes no memory: the row in which they came.
+    row: ManuallyDrop<shim::Vec<ProvedLane<T>>>,
+    /// The pool of which it is a segment, once it stands there.
+    room: AtomicPtr<Room<T>>,
+}
+
+/// A row with room for so many.
+pub(super) fn row_for<V>(count: usize) -> Result<Vec<V>, OpenError> {
+    let mut row = Vec::new();
+    row.try_reserve_exact(count)
+        .map_err(|_| OpenError::Memory)?;
+    Ok(row)
+}
+
+impl<T: Clear> Segment<T> {
+    /// Its lanes, and one more where that is asked for.
+    pub(super) fn open(shape: Shape, one_more: bool) -> Result<Segment<T>, OpenError> {
+        shape.checked()?;
+        let told = shape.lanes;
+        let lanes = told + u32::from(one_more);
+        let checked = Shape { lanes, ..shape }.checked()?;
+        let count = lanes as usize;
+        let mut seats = row_for(count)?;
+        let mut all_returned = row_for(count)?;
+        for _ in 0..count {
+            let mut returned = row_for(count)?;
+            returned.extend((0..count).map(|_| Returned::new()));
+            all_returned.push(returned);
+        }
+        let call = Call;
+        let opened = shardpool::open(Global, checked);
+        call.end();
+        let (proved, mut lanes) = opened?;
+        while let (Some(lane), Some(returned)) = (lanes.pop(), all_returned.pop()) {
+            seats.push(Seat::new(lane, returned));
+        }
+        seats.reverse();
+        Ok(Segment {
+            proved: ManuallyDrop::new(proved),
+            seats: ManuallyDrop::new(seats),
+            told,
+            row: ManuallyDrop::new(lanes),
+            room: AtomicPtr::new(ptr::null_mut()),
+        })
+    }
+
+    /// It stands where it stays, as a segment of this pool. No other thread has it yet.
+    ///
+    /// # Safety
+    ///
+    /// It stays there until it ends, and the pool stays where it is as long.
+    pub(super) unsafe fn settle(&self, room: NonNull<Room<T>>) {
+        let before = self.room.swap(room.as_ptr(), Ordering::Relaxed);
+        assert!(before.is_null(), "it is settled once");
+        for seat in self.seats.iter() {
+            // SAFETY: a post is of a segment that is settled, which it is once.
+            unsafe { seat.settle(NonNull::from(self)) };
+        }
+    }
+
+    /// The same, as a segment of another one's pool.
+    ///
+    /// # Safety
+    ///
+    /// As of `settle`.
+    pub(super) unsafe fn settle_as(&self, other: &Segment<T>) {
+        // SAFETY: the other is settled. The rest is the caller's.
+        unsafe { self.settle(NonNull::new_unchecked(other.room_pointer())) };
+    }
+
+    #[inline(always)]
+    pub(super) fn proved(&self) -> &ProvedPool<T> {
+        &self.proved
+    }
+
+    #[inline]
+    pub(super) fn seat(&self, number: u32) -> &Seat<T> {
+        &self.seats[number as usize]
+    }
+
+    /// The seat of this number, once it is settled.
+    #[inline]
+    pub(super) fn post(&self, number: u32) -> Post<'_, T> {
+        debug_assert!(!self.room.load(Ordering::Relaxed).is_null());
+        // SAFETY: a segment is settled in front of all that has it, and is borrowed.
+        unsafe { Post::at(NonNull::from(self.seat(number))) }
+    }
+
+    pub(super) fn lanes(&self) -> u32 {
+        self.seats.len() as u32
+    }
+
+    /// A bit for the lane that isn't of the pool's shape.
+    pub(super) fn untold_bits(&self) -> u32 {
+        (1 << self.lanes()) - (1 << self.told)
+    }
+
+    /// The pool.
+    #[inline(always)]
+    pub(super) fn room(&self) -> &Room<T> {
+        // SAFETY: it is settled, and doesn't outlive its pool.
+        unsafe { &*self.room.load(Ordering::Relaxed) }
+    }
+
+    /// The pool, by the pointer to its memory.
+    pub(super) fn room_pointer(&self) -> *mut Room<T> {
+        self.room.load(Ordering::Relaxed)
+    }
+
+    /// The places of unopened pages of the lane that isn't told: they aren't counted.
+    fn untold(&self) -> u32 {
+        let shape = self.proved.shape();
+        let untold = self.seats.iter().skip(self.told as usize);
+        untold
+            .map(|seat| {
+                let opened = seat.opened.load(Ordering::Relaxed);
+                shape.shard_places() - ((shape.first_page << opened) - shape.first_page)
+            })
+            .sum()
+    }
+
+    /// What the places are now.
+    pub(super) fn census(&self) -> Census {
+        let mut census = Census::default();
+        let shape = self.proved.shape();
+        for (shard, seat) in self.seats.iter().enumerate() {
+            let opened = seat.opened.load(Ordering::Relaxed);
+            let mut idle = 0;
+            let places = shape.shard_places() as usize;
+            for position in shard * places..(shard + 1) * places {
+                let place = shape.place_at(position);
+                let word = life_word(&shape, place, position);
+                let life = Life::of_word(self.proved.grid.table.shared.peek(word));
+                match life.state {
+                    State::Idle if u32::from(Place::of_number(place).page) >= opened => {
+                        census.unopened += 1;
+                    }
+                    State::Idle => idle += 1,
+                    State::Present => census.present += 1,
+                    State::Marked => census.marked += 1,
+                    State::Retired => census.retired += 1,
+                }
+            }
+            let filling = seat.fillings.load(Ordering::Relaxed).min(idle);
+            census.filling += filling;
+            census.free += idle - filling;
+        }
+        census.unopened -= self.untold().min(census.unopened);
+        census
+    }
+
+    /// Closes the pool. No lane is out, for each borrows the pool, or has a share of it.
+    pub(super) fn close(self) -> Census {
+        ManuallyDrop::new(self).end()
+    }
+
+    /// What a close does, once.
+    fn end(&mut self) -> Census {
+        let untold = self.untold();
+        // SAFETY: taken once: by `close`, which forgets the pool, or by its drop.
+        let (proved, mut seats, mut row) = unsafe {
+            (
+                ManuallyDrop::take(&mut self.proved),
+                ManuallyDrop::take(&mut self.seats),
+                ManuallyDrop::take(&mut self.row),
+            )
+        };
+        for seat in &mut seats {
+            sync::writes(seat.lane.get(), "a lane that is closed");
+            sync::writes(seat.store.get(), "the blocks of a lane that is closed");
+            // SAFETY: taken once, as above.
+            row.push_reserved(unsafe { ManuallyDrop::take(seat.lane.get_mut()) });
+        }
+        let call = Call;
+        let census = shardpool::close(proved, row);
+        call.end();
+        // SAFETY: the calls before took out what they took, so these are of this close.
+        let objects = unsafe { object::all_taken::<T>() };
+        drop((objects, seats));
+        let mut census = Census::from(census);
+        census.unopened -= untold;
+        census
+    }
+}
+
+impl<T: Clear> Drop for Segment<T> {
+    fn drop(&mut self) {
+        self.end();
+    }
+}

@@ -1,0 +1,366 @@
+//! Calls of a lane that threads share, or that its thread has left: under its lock. None runs code of `T` meanwhile: what was taken out of
+//! a place comes back, and is emptied behind the lock.
+use super::own::{make, too_many};
+use super::seat::{Joint, Post};
+use super::segment::Segment;
+use super::token::{Begun, By, Far, Held, OfThread};
+use super::turn::{with_page, Short, TooMany, Turn};
+use crate::clear::Clear;
+use crate::errors::CreateError;
+use crate::key::Key;
+use crate::object::{Block, Chain};
+use crate::sync::thread_local;
+use std::any::Any;
+use std::cell::{Cell, RefCell};
+use std::mem;
+use std::panic::{self, AssertUnwindSafe};
+use std::{ptr, thread};
+
+/// The lane isn't shared any more: another one is to be chosen.
+pub(super) struct NotShared;
+
+/// An object that a call under the lock took out of its place. The lane counts it until it is put away, so that the lane stays shared,
+/// and the pool's memory stays.
+pub(super) struct Taken<T: Clear> {
+    block: Block<T>,
+}
+
+/// What the last call took out, which is a user of the lane from now on.
+#[inline(always)]
+fn taken<T: Clear>(turn: &mut Turn<'_, T>, joint: &mut Joint) -> Option<Taken<T>> {
+    let block = turn.taken()?;
+    joint.come();
+    Some(Taken { block })
+}
+
+/// A create of a lane with a place on its own list.
+#[inline(always)]
+fn create_short<'s, T: Clear, W: By<T>>(
+    turn: &mut Turn<'s, T>,
+    joint: &mut Joint,
+    block: Block<T>,
+    come: impl Fn(&mut Joint),
+) -> Result<Begun<'s, T, W>, Short<T>> {
+    let begun = turn.create_short(block)?;
+    come(joint);
+    Ok(begun)
+}
+
+impl<'s, T: Clear> Post<'s, T> {
+    /// A create of this segment.
+    pub(super) fn shared_create<W: By<T>>(
+        self,
+        come: impl Fn(&mut Joint),
+    ) -> Result<Result<Begun<'s, T, W>, CreateError>, NotShared>
+    where
+        T: Default,
+    {
+        let begun = self.shared(|turn, joint| {
+            let block = turn.spare()?;
+            Some(create_short(turn, joint, block, &come))
+        });
+        let begun = match begun.ok_or(NotShared)? {
+            Some(begun) => begun,
+            None => match make(self) {
+                Ok(block) => {
+                    let begun = self.shared(|turn, joint| create_short(turn, joint, block, &come));
+                    begun.ok_or(NotShared)?
+                }
+                Err(error) => Err(Short::Failed(error)),
+            },
+        };
+        match begun {
+            Ok(begun) => Ok(Ok(begun.shared())),
+            Err(Short::Failed(error)) => Ok(Err(error)),
+            Err(Short::NoPlace(block)) => self.shared_create_apart(block, come),
+        }
+    }
+
+    /// A create of a lane without a place on its own list.
+    #[cold]
+    #[inline(never)]
+    fn shared_create_apart<W: By<T>>(
+        self,
+        block: Block<T>,
+        come: impl Fn(&mut Joint),
+    ) -> Result<Result<Begun<'s, T, W>, CreateError>, NotShared> {
+        let created = with_page(block, |block, ready| {
+            let created = self.shared(|turn, joint| {
+                let begun = turn.create_apart(block, ready)?;
+                come(joint);
+                Ok(begun.shared())
+            });
+            match created {
+                Some(Ok(begun)) => Ok(Ok(begun)),
+                Some(Err(apart)) => Err(apart),
+                None => Ok(Err(NotShared)),
+            }
+        });
+        match created {
+            Ok(Ok(begun)) => Ok(Ok(begun)),
+            Ok(Err(NotShared)) => Err(NotShared),
+            Err(error) => Ok(Err(error)),
+        }
+    }
+
+    /// A get of this segment.
+    #[inline(always)]
+    pub(super) fn shared_get<W: By<T>>(
+        self,
+        key: Key,
+        come: impl Fn(&mut Joint),
+    ) -> Result<Option<Held<'s, T, W>>, NotShared> {
+        let got = self.shared(|turn, joint| match turn.get(key) {
+            Ok(Some(held)) => {
+                come(joint);
+                Ok(Ok(held))
+            }
+            Ok(None) => Ok(Err(taken(turn, joint))),
+            Err(TooMany) => Err(TooMany),
+        });
+        match got.ok_or(NotShared)? {
+            Ok(Ok(held)) => Ok(Some(held.shared())),
+            Ok(Err(taken)) => {
+                self.finish(taken);
+                Ok(None)
+            }
+            Err(TooMany) => too_many(),
+        }
+    }
+
+    /// A clear of this segment.
+    pub(super) fn shared_clear(self, key: Key) -> Result<bool, NotShared> {
+        let cleared = self.shared(|turn, joint| (turn.clear(key), taken(turn, joint)));
+        let (cleared, taken) = cleared.ok_or(NotShared)?;
+        self.finish(taken);
+        Ok(cleared)
+    }
+
+    /// Empties what a call took out, without the lock.
+    #[inline]
+    fn finish(self, taken: Option<Taken<T>>) {
+        if let Some(Taken { block }) = taken {
+            let _user = User(self);
+            self.empty(block);
+        }
+    }
+}
+
+/// A user of a lane, until this is dropped.
+struct User<'s, T: Clear>(Post<'s, T>);
+
+impl<T: Clear> Drop for User<'_, T> {
+    fn drop(&mut self) {
+        let post = self.0;
+        if post.joint(Joint::leave) {
+            // SAFETY: the lane had a share of the pool's memory until now.
+            unsafe { super::share::let_go(post) };
+        }
+    }
+}
+
+/// By a call of the pool, whose thread has the lane no more, or never had it alone. The pool is borrowed.
+impl<'s, T: Clear> Post<'s, T> {
+    /// One reference more to a key to which the lane has one.
+    ///
+    /// # Safety
+    ///
+    /// No thread has the lane alone.
+    pub(super) unsafe fn locked_get(self, key: Key) -> Option<Held<'s, T, OfThread>> {
+        // SAFETY: the caller's.
+        let got = unsafe {
+            self.locked(|turn, joint| match turn.get(key) {
+                Ok(Some(held)) => Ok(Ok(held)),
+                Ok(None) => Ok(Err(taken(turn, joint))),
+                Err(TooMany) => Err(TooMany),
+            })
+        };
+        match got {
+            Ok(Ok(held)) => Some(held.shared()),
+            Ok(Err(taken)) => {
+                self.finish(taken);
+                None
+            }
+            Err(TooMany) => too_many(),
+        }
+    }
+
+    /// Gives a reference back.
+    ///
+    /// # Safety
+    ///
+    /// No thread has the lane alone, and the reference is of this lane.
+    pub(super) unsafe fn locked_release(self, held: Held<'_, T, OfThread>) {
+        // SAFETY: the caller's.
+        let taken = unsafe {
+            self.locked(|turn, joint| {
+                turn.release(held);
+                taken(turn, joint)
+            })
+        };
+        self.finish(taken);
+    }
+}
+
+/// By an owned handle, which is a user of the lane: as long as there is one, the pool's memory is there.
+impl<T: Clear> Post<'_, T> {
+    /// Gives the reference of the handle back, which ends.
+    ///
+    /// # Safety
+    ///
+    /// The reference is of this lane, and the handle is counted.
+    #[inline(always)]
+    pub(super) unsafe fn far_release(self, held: Held<'_, T, Far>) {
+        // SAFETY: the lane of a handle is shared. The rest is the caller's.
+        let (taken, is_last) = unsafe {
+            self.locked(|turn, joint| {
+                turn.release(held);
+                let taken = turn.taken();
+                let is_last = taken.is_none() && joint.leave();
+                (taken, is_last)
+            })
+        };
+        if let Some(block) = taken {
+            self.far_empty(block);
+        } else if is_last {
+            // SAFETY: the lane had a share of the pool's memory until now.
+            unsafe { super::share::let_go(self) };
+        }
+    }
+
+    /// Empties what the handle let go of, which ends then.
+    #[cold]
+    #[inline(never)]
+    fn far_empty(self, block: Block<T>) {
+        let _user = User(self);
+        self.empty(block);
+    }
+
+    /// Publishes what the handle filled, which ends.
+    ///
+    /// # Safety
+    ///
+    /// The filling is of this lane, and the handle is counted.
+    pub(super) unsafe fn far_publish(self, begun: Begun<'_, T, Far>) -> Key {
+        // SAFETY: as of a release.
+        let (key, is_last) =
+            unsafe { self.locked(|turn, joint| (turn.publish(begun), joint.leave())) };
+        if is_last {
+            // SAFETY: the lane had a share of the pool's memory until now.
+            unsafe { super::share::let_go(self) };
+        }
+        key
+    }
+
+    /// Gives back what the handle filled, which ends.
+    ///
+    /// # Safety
+    ///
+    /// The filling is of this lane, and the handle is counted.
+    pub(super) unsafe fn far_give_back(self, begun: Begun<'_, T, Far>) {
+        let _user = User(self);
+        super::give_back::give_back(begun, |begun, is_empty| {
+            // SAFETY: as of a release.
+            unsafe { self.locked(|turn, _| turn.publish_and_clear(begun, is_empty)) }
+        });
+    }
+}
+
+/// Objects that wait while one of their segment is being emptied by this thread, further out on the stack.
+struct Frame {
+    outer: *const Frame,
+    segment: *const (),
+    /// A `RefCell<Chain<T>>`.
+    waiting: *const (),
+}
+
+thread_local! {
+    static FRAMES: Cell<*const Frame> = const { Cell::new(ptr::null()) };
+}
+
+/// A frame is in the row, until this is dropped: also where that is by a panic.
+struct Framed {
+    outer: *const Frame,
+}
+
+impl Framed {
+    /// # Safety
+    ///
+    /// The frame stays where it is until this is dropped, and those further out longer.
+    unsafe fn new(frame: &Frame) -> Framed {
+        FRAMES.set(frame);
+        Framed { outer: frame.outer }
+    }
+}
+
+impl Drop for Framed {
+    fn drop(&mut self) {
+        FRAMES.set(self.outer);
+    }
+}
+
+/// Where the objects of a segment wait, if this thread is emptying one of it, further out on the stack.
+fn outer_waiting<T: Clear>(segment: &Segment<T>) -> Option<&RefCell<Chain<T>>> {
+    let mut frame = FRAMES.get();
+    // SAFETY: frames stand on this thread's stack, further out, and leave the row before they end.
+    while let Some(found) = unsafe { frame.as_ref() } {
+        if found.segment == ptr::from_ref(segment).cast() {
+            // SAFETY: the segment tells the type, and the frame is there until the caller has returned to it.
+            return Some(unsafe { &*found.waiting.cast() });
+        }
+        frame = found.outer;
+    }
+    None
+}
+
+impl<T: Clear> Post<'_, T> {
+    /// Empties an object that this lane took out, and those that wait then. Where one of its segment is being emptied further out, it is
+    /// left to that one. The caller is a user of the lane.
+    fn empty(self, block: Block<T>) {
+        if let Some(waiting) = outer_waiting(self.segment()) {
+            return waiting.borrow_mut().push(block);
+        }
+        let waiting = RefCell::new(Chain::new());
+        let frame = Frame {
+            outer: FRAMES.get(),
+            segment: ptr::from_ref(self.segment()).cast(),
+            waiting: ptr::from_ref(&waiting).cast(),
+        };
+        let unwinding = thread::panicking();
+        let mut panicked = None;
+        let mut next = Some(block);
+        // SAFETY: it is dropped in front of the frame.
+        let framed = unsafe { Framed::new(&frame) };
+        while let Some(block) = next {
+            if let Err(payload) = self.empty_one(block) {
+                first(&mut panicked, payload);
+            }
+            next = waiting.borrow_mut().pop();
+        }
+        drop(framed);
+        match panicked {
+            Some(payload) if !unwinding => panic::resume_unwind(payload),
+            // A panic while the thread unwinds would end the process; so might the drop of its payload.
+            panicked => mem::forget(panicked),
+        }
+    }
+
+    /// Empties an object, and puts it away; or answers the panic, which dropped it.
+    fn empty_one(self, mut block: Block<T>) -> thread::Result<()> {
+        let block = panic::catch_unwind(AssertUnwindSafe(move || {
+            block.clear();
+            block
+        }))?;
+        // SAFETY: the lane has a user, so it is shared, or its thread has left it.
+        unsafe { self.locked(|turn, _| turn.put_away(block)) };
+        Ok(())
+    }
+}
+
+/// The first panic is handed on; the drop of another one's payload might panic in turn.
+fn first(panicked: &mut Option<Box<dyn Any + Send>>, payload: Box<dyn Any + Send>) {
+    match panicked {
+        None => *panicked = Some(payload),
+        Some(_) => mem::forget(payload),
+    }
+}

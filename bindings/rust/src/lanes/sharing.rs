@@ -1,0 +1,92 @@
+//! Which of a pool's shared lanes a call turns to.
+use super::room::Room;
+use super::seat::{Joint, Post};
+use super::shared::NotShared;
+use super::threads;
+use super::token::{Begun, By};
+use crate::clear::Clear;
+use crate::errors::CreateError;
+
+impl<T: Clear> Room<T> {
+    /// A call by the shared lane of the thread's choice; or by another one, where that isn't shared any more.
+    #[inline(always)]
+    pub(super) fn by_shared<R>(&self, call: impl Fn(u32) -> Result<R, NotShared>) -> R {
+        loop {
+            match call(self.shared_number()) {
+                Ok(answer) => return answer,
+                Err(NotShared) => threads::unset_last_shared(),
+            }
+        }
+    }
+
+    /// A create by the shared lane that the thread called last, where that had a place last. None where it has none now.
+    #[inline]
+    pub(super) fn create_by_last<W: By<T>>(
+        &self,
+        come: impl Fn(&mut Joint),
+    ) -> Option<Begun<'_, T, W>>
+    where
+        T: Default,
+    {
+        let number = threads::last_shared(self.id())?;
+        let post = self.last_post(number)?;
+        post.shared_create(come).ok()?.ok()
+    }
+
+    /// A create by any of the shared lanes, in any segment.
+    pub(super) fn create_in_shared<W: By<T>>(
+        &self,
+        come: impl Fn(&mut Joint),
+    ) -> Result<Begun<'_, T, W>, CreateError>
+    where
+        T: Default,
+    {
+        for number in self.shared_numbers().ok_or(CreateError::NoLane)? {
+            if self.passes(number) {
+                continue;
+            }
+            match self.create_by(number, |post| create_at(post, &come)) {
+                Err(CreateError::Full) => (),
+                created => {
+                    threads::set_last_shared(self.id(), number);
+                    return created;
+                }
+            }
+        }
+        Err(CreateError::Full)
+    }
+
+    /// A create that finds all full looks again, and has the pool grow.
+    pub(super) fn create_growing<F>(
+        &self,
+        create: impl Fn() -> Result<F, CreateError>,
+    ) -> Result<F, CreateError> {
+        loop {
+            let count = self.count();
+            for again in [false, true] {
+                if again {
+                    self.look_again();
+                }
+                match create() {
+                    Err(CreateError::Full) => (),
+                    created => return created,
+                }
+            }
+            match self.grow(count) {
+                Err(CreateError::Full) if self.share_one() => (),
+                grown => grown?,
+            }
+        }
+    }
+}
+
+/// A lane that isn't shared any more has no place to give.
+fn create_at<'s, T: Clear + Default, W: By<T>>(
+    post: Post<'s, T>,
+    come: impl Fn(&mut Joint),
+) -> Result<Begun<'s, T, W>, CreateError> {
+    match post.shared_create(come) {
+        Ok(created) => created,
+        Err(NotShared) => Err(CreateError::Full),
+    }
+}

@@ -1,0 +1,303 @@
+//! What the proved pool's fillings and references are outside of its calls. Each is made by one call, and spent by one other: it moves.
+use super::seat::Post;
+use super::segment::Segment;
+use crate::clear::Clear;
+use crate::key::Key;
+use crate::object::Block;
+use std::mem::ManuallyDrop;
+use std::ops::{Deref, DerefMut};
+use std::ptr::NonNull;
+
+/// By which way the calls for a filling or a reference are made.
+pub(crate) trait By<T: Clear>: Copy {
+    /// For what a call gives of the segment that was asked.
+    fn of(segment: &Segment<T>) -> Self;
+}
+
+/// By a lane in hand, which is borrowed: without a lock.
+pub(crate) struct InHand<T: Clear> {
+    /// (Here, so that a loop which borrows the hand reads it once.)
+    pub(super) segment: NonNull<Segment<T>>,
+    /// Whether it is of another segment than the one that was asked. (Known where a reference is dropped, if that is in sight of the
+    /// get.)
+    pub(super) is_elsewhere: bool,
+}
+
+/// By a call of the pool: without a lock as long as the thread has the lane, else with it.
+#[derive(Clone, Copy)]
+pub(crate) struct OfThread;
+
+/// By an owned handle, which its lane counts: with a lock, and the pool's memory stays meanwhile.
+#[derive(Clone, Copy)]
+pub(crate) struct Far;
+
+impl<T: Clear> Clone for InHand<T> {
+    #[inline(always)]
+    fn clone(&self) -> Self {
+        *self
+    }
+}
+
+impl<T: Clear> Copy for InHand<T> {}
+
+impl<T: Clear> By<T> for InHand<T> {
+    #[inline(always)]
+    fn of(segment: &Segment<T>) -> InHand<T> {
+        InHand {
+            segment: NonNull::from(segment),
+            is_elsewhere: false,
+        }
+    }
+}
+
+impl<T: Clear> By<T> for OfThread {
+    #[inline(always)]
+    fn of(_: &Segment<T>) -> OfThread {
+        OfThread
+    }
+}
+
+impl<T: Clear> By<T> for Far {
+    #[inline(always)]
+    fn of(_: &Segment<T>) -> Far {
+        Far
+    }
+}
+
+/// In `start`: the lane is one that threads share. (One word, so that a move reads what was written.)
+const SHARED: u64 = 1 << 32;
+
+/// A proved reference, taken apart: its key, where the key's place stands in the lane's pool, and where its object does.
+pub(crate) struct Held<'s, T: Clear, W> {
+    post: Post<'s, T>,
+    key: u64,
+    start: u64,
+    object: NonNull<T>,
+    pub(super) way: W,
+}
+
+impl<'s, T: Clear, W> Held<'s, T, W> {
+    #[inline(always)]
+    pub(super) fn new(
+        post: Post<'s, T>,
+        (key, start): (u64, u32),
+        object: NonNull<T>,
+        way: W,
+    ) -> Self {
+        Held {
+            post,
+            key,
+            start: u64::from(start),
+            object,
+            way,
+        }
+    }
+
+    #[inline]
+    pub(crate) fn key(&self) -> Key {
+        Key::proved(self.key)
+    }
+
+    #[inline(always)]
+    pub(crate) fn object(&self) -> &T {
+        // SAFETY: while the lane has the reference nobody writes the object, or drops or reuses its block.
+        unsafe { self.object.as_ref() }
+    }
+
+    #[inline(always)]
+    pub(super) fn post(&self) -> Post<'s, T> {
+        self.post
+    }
+
+    /// Of a lane that threads share.
+    #[inline(always)]
+    pub(super) fn shared(mut self) -> Self {
+        self.start |= SHARED;
+        self
+    }
+
+    #[inline(always)]
+    pub(super) fn is_shared(&self) -> bool {
+        self.start & SHARED != 0
+    }
+
+    /// What the proved pool knows of it.
+    #[inline(always)]
+    pub(super) fn into_proved(self) -> (u64, u32) {
+        (self.key, self.start as u32)
+    }
+
+    /// As words, for calls that have them in registers.
+    #[inline(always)]
+    pub(super) fn into_words(self) -> (NonNull<T>, u64, u64) {
+        (self.object, self.key, self.start)
+    }
+
+    /// # Safety
+    ///
+    /// They are the words of one that `into_words` spent.
+    #[inline(always)]
+    pub(super) unsafe fn from_words(
+        post: Post<'s, T>,
+        (object, key, start): (NonNull<T>, u64, u64),
+        way: W,
+    ) -> Self {
+        Held {
+            post,
+            key,
+            start,
+            object,
+            way,
+        }
+    }
+}
+
+/// A proved filling, taken apart: its key, where the key's place stands, and a block with its object.
+pub(crate) struct Begun<'s, T: Clear, W> {
+    post: Post<'s, T>,
+    key: u64,
+    start: u64,
+    block: Block<T>,
+    pub(super) way: W,
+}
+
+impl<'s, T: Clear, W> Begun<'s, T, W> {
+    #[inline(always)]
+    pub(super) fn new(
+        post: Post<'s, T>,
+        (key, start): (u64, u32),
+        block: Block<T>,
+        way: W,
+    ) -> Self {
+        Begun::from_words(post, (key, u64::from(start)), block, way)
+    }
+
+    #[inline(always)]
+    pub(super) fn from_words(
+        post: Post<'s, T>,
+        (key, start): (u64, u64),
+        block: Block<T>,
+        way: W,
+    ) -> Self {
+        Begun {
+            post,
+            key,
+            start,
+            block,
+            way,
+        }
+    }
+
+    #[inline]
+    pub(crate) fn key(&self) -> Key {
+        Key::proved(self.key)
+    }
+
+    #[inline(always)]
+    pub(crate) fn object(&self) -> &T {
+        &self.block
+    }
+
+    #[inline(always)]
+    pub(crate) fn object_mut(&mut self) -> &mut T {
+        &mut self.block
+    }
+
+    #[inline(always)]
+    pub(super) fn address(&self) -> NonNull<T> {
+        self.block.address()
+    }
+
+    #[inline(always)]
+    pub(super) fn post(&self) -> Post<'s, T> {
+        self.post
+    }
+
+    /// Of a lane that threads share.
+    #[inline(always)]
+    pub(super) fn shared(mut self) -> Self {
+        self.start |= SHARED;
+        self
+    }
+
+    #[inline(always)]
+    pub(super) fn is_shared(&self) -> bool {
+        self.start & SHARED != 0
+    }
+
+    /// What the proved pool knows of it, and the block.
+    #[inline(always)]
+    pub(super) fn into_proved(self) -> (u64, u32, Block<T>) {
+        (self.key, self.start as u32, self.block)
+    }
+
+    /// As words and its block, for calls that have them in registers.
+    #[inline(always)]
+    pub(super) fn into_words(self) -> (Post<'s, T>, (u64, u64), Block<T>) {
+        (self.post, (self.key, self.start), self.block)
+    }
+}
+
+/// What is spent where it is dropped.
+pub(crate) trait Spend {
+    fn spend(self);
+}
+
+/// A filling or a reference, until it is spent: once, by its drop, or by who takes it out.
+pub(crate) struct Spent<H: Spend>(ManuallyDrop<H>);
+
+impl<H: Spend> Spent<H> {
+    #[inline(always)]
+    pub(crate) fn new(token: H) -> Spent<H> {
+        Spent(ManuallyDrop::new(token))
+    }
+
+    /// Takes it out, so that the drop doesn't spend it.
+    #[inline(always)]
+    pub(crate) fn into_inner(self) -> H {
+        let mut spent = ManuallyDrop::new(self);
+        // SAFETY: taken once, since the drop doesn't run.
+        unsafe { ManuallyDrop::take(&mut spent.0) }
+    }
+}
+
+impl<H: Spend> Deref for Spent<H> {
+    type Target = H;
+
+    #[inline(always)]
+    fn deref(&self) -> &H {
+        &self.0
+    }
+}
+
+impl<H: Spend> DerefMut for Spent<H> {
+    #[inline(always)]
+    fn deref_mut(&mut self) -> &mut H {
+        &mut self.0
+    }
+}
+
+impl<H: Spend> Drop for Spent<H> {
+    #[inline(always)]
+    fn drop(&mut self) {
+        // SAFETY: taken once, by the drop.
+        unsafe { ManuallyDrop::take(&mut self.0) }.spend();
+    }
+}
+
+/// Neither is copied: a second publish or release doesn't compile.
+const _: fn() = || {
+    trait Moves<Way> {
+        fn moves() {}
+    }
+    struct AsClone;
+    impl<V: ?Sized> Moves<()> for V {}
+    impl<V: Clone> Moves<AsClone> for V {}
+    // (Of a type that is `Clone` there would be two, and the compiler would not know which.)
+    <Held<'static, String, Far> as Moves<_>>::moves();
+    <Held<'static, String, OfThread> as Moves<_>>::moves();
+    <Held<'static, String, InHand<String>> as Moves<_>>::moves();
+    <Begun<'static, String, Far> as Moves<_>>::moves();
+    <Begun<'static, String, OfThread> as Moves<_>>::moves();
+    <Begun<'static, String, InHand<String>> as Moves<_>>::moves();
+};

@@ -1,0 +1,350 @@
+//! The calls of the proved pool. None runs code of `T`: what a call takes out of a place comes back as a block.
+use super::seat::{Post, Stands, Store};
+use super::token::{Begun, By, Held};
+use super::{ProvedBox, ProvedFilling, ProvedLane, ProvedPool, ProvedRef};
+use crate::clear::Clear;
+use crate::erased::poolsteps::stack_word;
+use crate::erased::shardpool::{self, CreateFault, MOST_REFERENCES};
+use crate::errors::CreateError;
+use crate::key::Key;
+use crate::object::{self, Block, Object, Returned};
+use crate::shim::Ready;
+use crate::sync::{self, AtomicU32, Ordering};
+use std::marker::PhantomData;
+use std::mem;
+use std::process;
+
+/// A call of the proved pool under way. None panics; if one did, it would leave a torn lane, so that ends the process.
+pub(super) struct Call;
+
+impl Call {
+    #[inline(always)]
+    pub(super) fn end(self) {
+        mem::forget(self);
+    }
+}
+
+impl Drop for Call {
+    fn drop(&mut self) {
+        process::abort();
+    }
+}
+
+/// The lane has as many references as it may.
+pub(super) struct TooMany;
+
+/// What a create without memory of its own needs.
+pub(super) enum Short<T> {
+    /// No place of the lane's own list is free: the block comes back.
+    NoPlace(Block<T>),
+    Failed(CreateError),
+}
+
+/// Why a create without a place on the lane's own list gives none.
+pub(super) enum Apart<T> {
+    /// Its next page has so many places, for which no memory is ready: the block comes back.
+    Page(usize, Block<T>),
+    Failed(CreateError),
+}
+
+/// A lane that is had for calls: this thread alone uses it meanwhile.
+pub(super) struct Turn<'s, T: Clear, P: Stands<'s, T> = Post<'s, T>> {
+    at: P,
+    of: PhantomData<(&'s (), *const T)>,
+}
+
+/// A create that may open a page: the memory for that is asked for between two tries, where the lane isn't had for calls.
+pub(super) fn with_page<T, R>(
+    mut block: Block<T>,
+    mut create: impl FnMut(Block<T>, &mut Option<Ready>) -> Result<R, Apart<T>>,
+) -> Result<R, CreateError> {
+    let mut ready = None;
+    loop {
+        match create(block, &mut ready) {
+            Ok(created) => return Ok(created),
+            Err(Apart::Failed(error)) => return Err(error),
+            Err(Apart::Page(page, back)) => block = back_with(page, back, &mut ready)?,
+        }
+    }
+}
+
+/// Memory for a page of so many places is ready then. Where it is refused the block is dropped.
+fn back_with<T>(
+    page: usize,
+    block: Block<T>,
+    ready: &mut Option<Ready>,
+) -> Result<Block<T>, CreateError> {
+    *ready = Some(Ready::new::<ProvedBox<T>>(page).ok_or(CreateError::Memory)?);
+    Ok(block)
+}
+
+/// Adds to a number that one thread alone writes.
+#[inline(always)]
+fn add(number: &AtomicU32, more: u32) {
+    let now = number.load(Ordering::Relaxed);
+    number.store(now.wrapping_add(more), Ordering::Relaxed);
+}
+
+/// A block of another lane goes home to it. (Apart, and without the turn, which stays in registers.)
+#[inline(never)]
+fn bring_home<T: Clear>(post: Post<'_, T>, block: Block<T>) {
+    let home = post.segment().seat(block.home());
+    home.returned[post.number() as usize].push(block);
+}
+
+impl<'s, T: Clear, P: Stands<'s, T>> Turn<'s, T, P> {
+    /// # Safety
+    ///
+    /// As long as the turn is used nobody else uses the lane: no other thread, and no other turn of this one, which code of `T` might
+    /// take.
+    #[inline(always)]
+    pub(super) unsafe fn of(at: P) -> Turn<'s, T, P> {
+        Turn {
+            at,
+            of: PhantomData,
+        }
+    }
+
+    #[inline(always)]
+    fn post(&self) -> Post<'s, T> {
+        self.at.post()
+    }
+
+    /// The proved pool and its lane, for one call, which ends before anything else is done with this lane.
+    #[inline(always)]
+    fn proved(&mut self) -> (&ProvedPool<T>, &mut ProvedLane<T>, Call) {
+        sync::writes(self.post().seat().lane.get(), "a lane");
+        // SAFETY: this thread alone uses the lane, by this turn.
+        let lane = unsafe { &mut *self.post().seat().lane.get() };
+        (self.at.segment().proved(), lane, Call)
+    }
+
+    /// The lane.
+    #[inline(always)]
+    fn lane(&mut self) -> &mut ProvedLane<T> {
+        sync::writes(self.post().seat().lane.get(), "a lane");
+        // SAFETY: this thread alone uses the lane, by this turn.
+        unsafe { &mut *self.post().seat().lane.get() }
+    }
+
+    /// The lane's blocks.
+    #[inline(always)]
+    pub(super) fn store(&mut self) -> &mut Store<T> {
+        sync::writes(self.post().seat().store.get(), "a lane's blocks");
+        // SAFETY: this thread alone uses the lane, by this turn.
+        unsafe { &mut *self.post().seat().store.get() }
+    }
+
+    #[inline(always)]
+    pub(super) fn references(&mut self) -> u32 {
+        self.lane().refs()
+    }
+
+    /// How many fillings and references the lane has.
+    pub(super) fn counts(&mut self) -> (u32, u32) {
+        let fillings = self.post().seat().fillings.load(Ordering::Relaxed);
+        (fillings, self.references())
+    }
+
+    /// A block whose object is empty goes to the spare ones of the lane that uses it.
+    #[inline]
+    pub(super) fn put_away(&mut self, block: Block<T>) {
+        if block.home() == self.post().number() {
+            self.store().spare.push(block);
+        } else {
+            bring_home(self.post(), block);
+        }
+    }
+
+    /// A block that was used before.
+    #[inline(always)]
+    pub(super) fn spare(&mut self) -> Option<Block<T>> {
+        match self.store().spare.pop() {
+            Some(block) => Some(block),
+            None => self.returned(),
+        }
+    }
+
+    /// A block that another lane returned, where the lane has no other. The others that it returned are spare then.
+    #[inline(never)]
+    fn returned(&mut self) -> Option<Block<T>> {
+        let post = self.post();
+        let mut taken = post.seat().returned.iter().map(Returned::take);
+        let mut chain = taken.find(|chain| !chain.is_empty())?;
+        let block = chain.pop();
+        mem::swap(&mut self.store().spare, &mut chain);
+        block
+    }
+
+    /// What the last call took out of a place.
+    #[inline(always)]
+    pub(super) fn taken(&mut self) -> Option<Block<T>> {
+        // SAFETY: each call takes out what it took, so this is of this lane's last call.
+        unsafe { object::taken::<T>() }
+    }
+
+    /// A create of a lane with a place on its own list.
+    #[inline(always)]
+    pub(super) fn create_short<W: By<T>>(
+        &mut self,
+        block: Block<T>,
+    ) -> Result<Begun<'s, T, W>, Short<T>> {
+        let (pool, lane, call) = self.proved();
+        if lane.state.free.len() == 0 {
+            call.end();
+            return Err(Short::NoPlace(block));
+        }
+        let created = pool.create(lane);
+        call.end();
+        self.begin(created, block).map_err(Short::Failed)
+    }
+
+    /// A create of a lane without a place on its own list, which may open a page, with the memory that is ready. How many it has opened
+    /// is told then.
+    pub(super) fn create_apart<W: By<T>>(
+        &mut self,
+        block: Block<T>,
+        ready: &mut Option<Ready>,
+    ) -> Result<Begun<'s, T, W>, Apart<T>> {
+        let page = self.next_page();
+        let ready = match (page, ready) {
+            (None, _) => None,
+            (Some(page), Some(ready)) if ready.is_for::<ProvedBox<T>>(page) => Some(ready),
+            (Some(page), _) => return Err(Apart::Page(page, block)),
+        };
+        let (pool, lane, call) = self.proved();
+        let created = match ready {
+            Some(ready) => ready.within(|| pool.create(lane)),
+            None => pool.create(lane),
+        };
+        let opened = lane.state.pages.opened();
+        call.end();
+        self.post().seat().opened.store(opened, Ordering::Relaxed);
+        self.begin(created, block).map_err(Apart::Failed)
+    }
+
+    /// How many places the next page has, where a create would open one.
+    fn next_page(&mut self) -> Option<usize> {
+        let (pool, lane, call) = self.proved();
+        let (shape, opened) = (lane.state.shape, lane.state.pages.opened());
+        // (Places that others returned are the lane's alone to take: what is there now is there at the create.)
+        let has_returned = || {
+            let mut others = (0..shape.lanes).filter(|from| *from != lane.number());
+            others.any(|from| {
+                let word = stack_word(&shape, lane.number(), from);
+                pool.grid.table.shared.peek(word) != 0
+            })
+        };
+        let opens = !lane.has_free() && opened < shape.pages && !(opened > 0 && has_returned());
+        call.end();
+        opens.then(|| shape.page_size(opened) as usize)
+    }
+
+    /// What a create gave, with a block.
+    #[inline(always)]
+    fn begin<W: By<T>>(
+        &mut self,
+        created: Result<ProvedFilling<T>, CreateFault>,
+        block: Block<T>,
+    ) -> Result<Begun<'s, T, W>, CreateError> {
+        let (key, start, empty) = match created {
+            Ok(proved) => proved.spend(),
+            Err(fault) => {
+                self.put_away(block);
+                return Err(fault.into());
+            }
+        };
+        mem::forget(empty);
+        add(&self.post().seat().fillings, 1);
+        Ok(Begun::new(
+            self.post(),
+            (key, start),
+            block,
+            W::of(self.at.segment()),
+        ))
+    }
+
+    /// The proved filling of one that was taken apart, which ends.
+    #[inline(always)]
+    fn spend<W>(&mut self, begun: Begun<'_, T, W>) -> ProvedFilling<T> {
+        add(&self.post().seat().fillings, u32::MAX);
+        let (key, start, block) = begun.into_proved();
+        shardpool::Filling::of(&self.lane().hand, key, start, Object::boxed(block))
+    }
+
+    /// Publishes a filling.
+    ///
+    /// # Safety
+    ///
+    /// It is of this lane.
+    #[inline(always)]
+    pub(super) unsafe fn publish<W>(&mut self, begun: Begun<'_, T, W>) -> Key {
+        let proved = self.spend(begun);
+        let (pool, lane, call) = self.proved();
+        let key = pool.publish(lane, proved);
+        call.end();
+        Key::proved(key)
+    }
+
+    /// Publishes a filling, with a reference. It comes back where the lane has as many as it may.
+    ///
+    /// # Safety
+    ///
+    /// It is of this lane.
+    #[inline(always)]
+    pub(super) unsafe fn downgrade<'b, W: By<T>>(
+        &mut self,
+        begun: Begun<'b, T, W>,
+    ) -> Result<Held<'b, T, W>, Begun<'b, T, W>> {
+        if self.references() >= MOST_REFERENCES {
+            return Err(begun);
+        }
+        let (post, object, way) = (begun.post(), begun.address(), begun.way);
+        let proved = self.spend(begun);
+        let (pool, lane, call) = self.proved();
+        let proved = pool.downgrade(lane, proved);
+        call.end();
+        Ok(Held::new(post, (proved.key, proved.start), object, way))
+    }
+
+    /// A get of this segment.
+    #[inline(always)]
+    pub(super) fn get<W: By<T>>(&mut self, key: Key) -> Result<Option<Held<'s, T, W>>, TooMany> {
+        if self.references() >= MOST_REFERENCES {
+            return Err(TooMany);
+        }
+        let (pool, lane, call) = self.proved();
+        let Some(proved) = pool.get(lane, u64::from(key)) else {
+            call.end();
+            return Ok(None);
+        };
+        let object = lane.read(&proved).address();
+        call.end();
+        let place = (proved.key, proved.start);
+        let way = W::of(self.at.segment());
+        Ok(Some(Held::new(self.post(), place, object, way)))
+    }
+
+    /// Gives a reference back.
+    ///
+    /// # Safety
+    ///
+    /// It is of this lane.
+    #[inline(always)]
+    pub(super) unsafe fn release<W>(&mut self, held: Held<'_, T, W>) {
+        let (key, start) = held.into_proved();
+        let (pool, lane, call) = self.proved();
+        let proved = ProvedRef::to(key, start, &lane.state.places);
+        pool.release(lane, proved);
+        call.end();
+    }
+
+    /// A clear of this segment.
+    #[inline(always)]
+    pub(super) fn clear(&mut self, key: Key) -> bool {
+        let (pool, lane, call) = self.proved();
+        let cleared = pool.clear(lane, u64::from(key));
+        call.end();
+        cleared
+    }
+}

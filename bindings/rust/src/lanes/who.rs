@@ -1,0 +1,315 @@
+//! Who has a pool's lanes.
+//!
+//! A lane is at home, where nobody has it; or in hand; or kept by a thread, until that ends; or left by such a thread, until the pool sees
+//! it; or shared by all threads, each call under a lock. Whose it is it is in all segments.
+use super::own::Own;
+use super::room::Room;
+use super::seat::Post;
+use super::segment::Segment;
+use super::threads;
+use crate::clear::Clear;
+use crate::errors::{MemoryRefused, OpenError};
+use crate::object::Counted;
+use crate::sync::{AtomicBool, AtomicU32, Mutex, Ordering};
+use std::ptr::NonNull;
+use std::sync::PoisonError;
+
+/// The number of a lane, for who has taken the lane alone: it moves.
+pub(super) struct Number(u32);
+
+impl Number {
+    #[inline(always)]
+    pub(super) fn get(&self) -> u32 {
+        self.0
+    }
+
+    fn bit(&self) -> u32 {
+        1 << self.0
+    }
+}
+
+/// What outlives a pool, for threads that end after it.
+#[derive(Default)]
+pub(super) struct Homes {
+    /// A bit for each lane whose thread has ended.
+    left: AtomicU32,
+    /// Whether the pool is closed.
+    closed: AtomicBool,
+}
+
+impl Homes {
+    /// The lane's thread ends.
+    pub(super) fn leave(&self, number: Number) {
+        self.left.fetch_or(number.bit(), Ordering::SeqCst);
+    }
+
+    pub(super) fn is_closed(&self) -> bool {
+        self.closed.load(Ordering::Relaxed)
+    }
+}
+
+/// Tells the threads that a pool is closed.
+struct Told(Counted<Homes>);
+
+impl Drop for Told {
+    fn drop(&mut self) {
+        self.0.closed.store(true, Ordering::Relaxed);
+    }
+}
+
+/// Who has the lanes of a pool.
+pub(super) struct Lanes {
+    /// A bit for each lane that nobody has.
+    home: AtomicU32,
+    /// A bit for each lane that is shared.
+    shared: AtomicU32,
+    /// Those of them that are so from the start, and stay it.
+    always: u32,
+    /// How many are shared where calls need it: a quarter, and one at least.
+    few: u32,
+    /// Who takes lanes that were left, shares one or takes it back, or puts a segment in its place.
+    lock: Mutex<()>,
+    homes: Told,
+}
+
+impl Lanes {
+    /// So many, of which these are shared.
+    pub(super) fn new(count: u32, shared: u32) -> Result<Lanes, OpenError> {
+        let homes = Counted::new(Homes::default());
+        let homes = homes.map_err(|MemoryRefused| OpenError::Memory)?;
+        Ok(Lanes {
+            home: AtomicU32::new(((1 << count) - 1) & !shared),
+            shared: AtomicU32::new(shared),
+            always: shared,
+            few: (count / 4).max(1),
+            lock: Mutex::new(()),
+            homes: Told(homes),
+        })
+    }
+
+    fn are_many_shared(&self) -> bool {
+        self.shared.load(Ordering::SeqCst).count_ones() > self.few
+    }
+
+    /// Takes a lane that is at home.
+    fn take_home(&self) -> Option<Number> {
+        let take = |home: u32| (home != 0).then(|| home & (home - 1));
+        let home = self
+            .home
+            .fetch_update(Ordering::SeqCst, Ordering::SeqCst, take);
+        Some(Number(home.ok()?.trailing_zeros()))
+    }
+
+    fn go_home(&self, number: Number) {
+        self.home.fetch_or(number.bit(), Ordering::SeqCst);
+    }
+}
+
+/// Which way a thread calls a pool.
+pub(super) enum Caller<'s, T: Clear> {
+    /// It has a lane alone.
+    Own(Own<'s, T>),
+    /// It shares lanes, since all are taken, or since it ends.
+    Sharing,
+}
+
+impl<T: Clear> Room<T> {
+    /// Which way the thread calls the pool. Its first call finds it a lane.
+    #[inline(always)]
+    pub(super) fn caller(&self) -> Caller<'_, T> {
+        match threads::last(self.id()) {
+            Some(at) => {
+                // SAFETY: `set_last` was told that the thread keeps the lane of this seat, of the pool of this number, which is borrowed.
+                // Where the thread has left it, it isn't found here any more.
+                let post = unsafe { Post::at(NonNull::new_unchecked(at.cast_mut().cast())) };
+                // SAFETY: as above.
+                Caller::Own(unsafe { Own::of(post) })
+            }
+            None => self.find_caller(),
+        }
+    }
+
+    #[cold]
+    #[inline(never)]
+    fn find_caller(&self) -> Caller<'_, T> {
+        let Some(number) = self.thread_number() else {
+            return Caller::Sharing;
+        };
+        let post = self.first().post(number);
+        // SAFETY: the thread keeps the lane of this number.
+        unsafe { threads::set_last(self.id(), post.pointer().as_ptr().cast_const().cast()) };
+        // SAFETY: as above.
+        Caller::Own(unsafe { Own::of(post) })
+    }
+
+    /// The lane that the thread keeps, or is to keep from now on. None where it shares.
+    fn thread_number(&self) -> Option<u32> {
+        if let Some(number) = threads::kept(self.id()) {
+            return Some(number);
+        }
+        let lanes = &self.lanes;
+        let left = lanes.homes.0.left.load(Ordering::Relaxed);
+        let none_is_home = left == 0 && lanes.home.load(Ordering::Relaxed) == 0;
+        let is_first = threads::last_shared(self.id()).is_none();
+        if threads::has_ended() || none_is_home && !(is_first && lanes.are_many_shared()) {
+            return None;
+        }
+        self.welcome_back();
+        self.share_some();
+        let number = lanes.take_home().or_else(|| self.take_shared_back())?;
+        let kept = number.get();
+        match threads::keep(self.id(), number, &lanes.homes.0) {
+            Ok(()) => Some(kept),
+            Err(number) => {
+                lanes.go_home(number);
+                None
+            }
+        }
+    }
+
+    /// A lane that nobody has, for who takes it in hand.
+    pub(super) fn take(&self) -> Option<Number> {
+        let number = self.lanes.take_home().or_else(|| {
+            self.welcome_back();
+            self.lanes.take_home()
+        });
+        number.or_else(|| self.take_shared_back())
+    }
+
+    /// A lane that was in hand comes home. What it has yet was leaked, for all that it gave borrowed it.
+    pub(super) fn come_home(&self, number: Number) {
+        for post in self.posts_of(number.get()) {
+            // SAFETY: who has the number has the lane alone.
+            unsafe { post.lose() };
+        }
+        self.lanes.go_home(number);
+    }
+
+    pub(super) fn locked<R>(&self, with: impl FnOnce() -> R) -> R {
+        let lock = self.lanes.lock.lock();
+        let _lock = lock.unwrap_or_else(PoisonError::into_inner);
+        with()
+    }
+
+    /// The lanes of threads that have ended come home; or are shared, where references or fillings of them live.
+    fn welcome_back(&self) {
+        let left = &self.lanes.homes.0.left;
+        if left.load(Ordering::Relaxed) == 0 {
+            return;
+        }
+        self.locked(|| {
+            for number in bits(left.swap(0, Ordering::SeqCst)).map(Number) {
+                // SAFETY: the thread that had it has left it.
+                if self
+                    .posts_of(number.get())
+                    .all(|post| unsafe { post.own_if_idle() })
+                {
+                    self.lanes.go_home(number);
+                } else {
+                    self.share(number);
+                }
+            }
+        });
+    }
+
+    /// From now on the lane is shared. (Under the lock, so that no segment comes meanwhile.)
+    fn share(&self, number: Number) {
+        for post in self.posts_of(number.get()) {
+            // SAFETY: who has the number has the lane alone, and has it no more.
+            unsafe { post.share() };
+        }
+        self.lanes.shared.fetch_or(number.bit(), Ordering::SeqCst);
+    }
+
+    /// In a new segment the lanes that are shared are so. (Under the lock, or before others have the pool.)
+    pub(super) fn share_in(&self, segment: &Segment<T>) {
+        for number in bits(self.lanes.shared.load(Ordering::SeqCst)) {
+            // SAFETY: nobody has it.
+            unsafe { segment.post(number).share() };
+        }
+    }
+
+    /// A quarter of the lanes is shared, and one at least, as far as lanes are at home.
+    fn share_some(&self) {
+        let shared = &self.lanes.shared;
+        let wants_more = || shared.load(Ordering::SeqCst).count_ones() < self.lanes.few;
+        if wants_more() {
+            self.locked(|| while wants_more() && self.share_home() {});
+        }
+    }
+
+    /// A lane that nobody has is shared from now on.
+    pub(super) fn share_one(&self) -> bool {
+        self.locked(|| self.share_home())
+    }
+
+    fn share_home(&self) -> bool {
+        let number = self.lanes.take_home();
+        number.map(|number| self.share(number)).is_some()
+    }
+
+    /// Takes a lane back that is shared beside the few, and that nothing uses any more.
+    fn take_shared_back(&self) -> Option<Number> {
+        self.locked(|| {
+            if !self.lanes.are_many_shared() {
+                return None;
+            }
+            let shared = self.lanes.shared.load(Ordering::SeqCst) & !self.lanes.always;
+            bits(shared).find_map(|number| self.own_if_idle(number))
+        })
+    }
+
+    fn own_if_idle(&self, number: u32) -> Option<Number> {
+        // (Calls that choose a lane choose others meanwhile.)
+        self.lanes
+            .shared
+            .fetch_and(!(1 << number), Ordering::SeqCst);
+        // SAFETY: it is shared.
+        let owned = self
+            .posts_of(number)
+            .take_while(|post| unsafe { post.own_if_idle() });
+        if owned.count() == self.count() {
+            return Some(Number(number));
+        }
+        self.share(Number(number));
+        None
+    }
+
+    /// The numbers of the shared lanes, from the thread's own choice on. None where there is none: all 16 lanes are in hand.
+    pub(super) fn shared_numbers(&self) -> Option<impl Iterator<Item = u32>> {
+        if self.lanes.shared.load(Ordering::SeqCst) == 0 {
+            self.welcome_back();
+            self.share_some();
+        }
+        let shared = self.lanes.shared.load(Ordering::SeqCst);
+        let turn = threads::turn().checked_rem(shared.count_ones())? as usize;
+        Some(bits(shared).skip(turn).chain(bits(shared).take(turn)))
+    }
+
+    /// The shared lane of the thread's choice.
+    ///
+    /// # Panics
+    ///
+    /// Where there is none.
+    #[inline]
+    pub(super) fn shared_number(&self) -> u32 {
+        match threads::last_shared(self.id()) {
+            Some(number) => number,
+            None => self.choose_shared(),
+        }
+    }
+
+    #[cold]
+    #[inline(never)]
+    fn choose_shared(&self) -> u32 {
+        let first = self.shared_numbers().and_then(|mut numbers| numbers.next());
+        let number = first.expect("all 16 lanes of the pool are in hand");
+        threads::set_last_shared(self.id(), number);
+        number
+    }
+}
+
+/// The numbers of the bits of a word.
+fn bits(word: u32) -> impl Iterator<Item = u32> {
+    (0..u32::BITS).filter(move |number| word >> number & 1 == 1)
+}

@@ -1,0 +1,125 @@
+//! Where objects stand: each in a block of memory of its own, from its first use to the close. The pool's places have a pointer
+//! to a block, or none; so an object never moves, and whoever clears a place takes the block out with one word.
+mod block;
+mod memory;
+
+pub(crate) use block::{Block, Chain, Returned};
+pub(crate) use memory::{Counted, Fixed, Later};
+
+use crate::erased::slotcell;
+use crate::shim::{self, Global};
+use crate::sync::{self, thread_local};
+use block::{address, Body, BODY};
+use std::cell::Cell;
+use std::marker::PhantomData;
+use std::ptr::{self, NonNull};
+
+thread_local! {
+    /// The blocks that the proved call under way on this thread took out of objects, by `next`. They are of one type, which the
+    /// caller of the call knows; between calls there are none.
+    static TAKEN: Cell<*mut ()> = const { Cell::new(ptr::null_mut()) };
+}
+
+/// Whether the call took any out.
+#[inline(always)]
+pub(crate) fn has_taken() -> bool {
+    TAKEN.with(|taken| !taken.get().is_null())
+}
+
+/// What the call took out: none or one, since a call clears one place at most.
+///
+/// # Safety
+///
+/// All calls of this thread since the last `taken` or `all_taken` were of pools of `T`.
+#[inline(always)]
+pub(crate) unsafe fn taken<T>() -> Option<Block<T>> {
+    let body = NonNull::new(TAKEN.replace(ptr::null_mut()).cast())?;
+    // SAFETY: `Object<T>::unhook` alone puts something there.
+    Some(unsafe { Block::from_body(body) })
+}
+
+/// What a close took out.
+///
+/// # Safety
+///
+/// As of `taken`.
+pub(crate) unsafe fn all_taken<T>() -> Chain<T> {
+    let first = TAKEN.with(|taken| taken.replace(ptr::null_mut()));
+    // SAFETY: as above; and each is put in front of the others.
+    unsafe { Chain::of(first.cast()) }
+}
+
+/// What the proved pool takes for its object: a block, or none where the place is empty. No code of `T` runs in its calls.
+pub(crate) struct Object<T> {
+    body: Option<NonNull<Body<T>>>,
+    owns: PhantomData<Body<T>>,
+}
+
+// SAFETY: an object owns its block as a `Box<T>`.
+unsafe impl<T: Send> Send for Object<T> {}
+// SAFETY: as above.
+unsafe impl<T: Sync> Sync for Object<T> {}
+
+impl<T> Object<T> {
+    /// A block as the proved pool's fillings have it: in a word of its own, which takes no memory.
+    #[inline]
+    pub(crate) fn boxed(block: Block<T>) -> shim::Box<Object<T>, Global> {
+        let object = Object {
+            body: Some(block.into_body()),
+            owns: PhantomData,
+        };
+        match shim::Box::new(Global, object) {
+            Ok(boxed) => boxed,
+            Err(_) => shim::impossible!(),
+        }
+    }
+
+    /// Where the object of a place stands that is published: it has a block, as a publish puts one there.
+    #[inline]
+    pub(crate) fn address(&self) -> NonNull<T> {
+        match self.body {
+            Some(body) => address(body),
+            None => shim::impossible!(),
+        }
+    }
+
+    /// The block goes to those that the call took out.
+    #[inline]
+    fn unhook(&mut self) {
+        if let Some(body) = self.body.take() {
+            sync::writes(body.as_ptr(), BODY);
+            TAKEN.with(|taken| {
+                // SAFETY: the body is ours alone.
+                unsafe { (*body.as_ptr()).next = taken.get().cast() };
+                taken.set(body.as_ptr().cast());
+            });
+        }
+    }
+}
+
+impl<T> slotcell::Clear for Object<T> {
+    #[inline]
+    fn fresh(_: Global) -> Object<T> {
+        Object {
+            body: None,
+            owns: PhantomData,
+        }
+    }
+
+    #[inline]
+    fn clear(&mut self) {
+        self.unhook();
+    }
+
+    #[inline]
+    fn room(&self) -> usize {
+        0
+    }
+}
+
+impl<T> Drop for Object<T> {
+    #[inline]
+    fn drop(&mut self) {
+        self.unhook();
+    }
+}

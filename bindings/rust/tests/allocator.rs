@@ -1,0 +1,245 @@
+//! The program's allocator calls the pool: as a hook of one might, that counts or traces.
+mod common;
+
+use common::{alone, at_once, ALONE};
+use pardz::{Key, Lane, Pool, Shape};
+use std::alloc::{GlobalAlloc, Layout, System};
+use std::cell::{Cell, OnceCell};
+use std::sync::atomic::{AtomicUsize, Ordering::SeqCst};
+use std::sync::{Arc, OnceLock};
+use std::{env, ptr};
+
+/// The system's memory, with a hook at each request and each free.
+struct Hooked;
+
+#[global_allocator]
+static HEAP: Hooked = Hooked;
+
+thread_local! {
+    /// What the hook does on this thread, but within itself.
+    static HOOK: Cell<fn()> = const { Cell::new(|| ()) };
+    static LANE: OnceCell<Lane<'static, String>> = const { OnceCell::new() };
+}
+
+static HOOKED: AtomicUsize = AtomicUsize::new(0);
+
+fn hooked() {
+    fn nothing() {}
+    let Ok(hook) = HOOK.try_with(|hook| hook.replace(nothing)) else {
+        return;
+    };
+    hook();
+    HOOK.set(hook);
+}
+
+// SAFETY: each block is the system's.
+unsafe impl GlobalAlloc for Hooked {
+    unsafe fn alloc(&self, layout: Layout) -> *mut u8 {
+        hooked();
+        // SAFETY: the caller keeps what `System` asks.
+        unsafe { System.alloc(layout) }
+    }
+
+    unsafe fn alloc_zeroed(&self, layout: Layout) -> *mut u8 {
+        hooked();
+        // SAFETY: the caller keeps what `System` asks.
+        unsafe { System.alloc_zeroed(layout) }
+    }
+
+    unsafe fn realloc(&self, block: *mut u8, layout: Layout, size: usize) -> *mut u8 {
+        hooked();
+        // SAFETY: the caller keeps what `System` asks.
+        unsafe { System.realloc(block, layout, size) }
+    }
+
+    unsafe fn dealloc(&self, block: *mut u8, layout: Layout) {
+        hooked();
+        // SAFETY: the caller keeps what `System` asks.
+        unsafe { System.dealloc(block, layout) }
+    }
+}
+
+fn pool() -> &'static Arc<Pool<String>> {
+    static POOL: OnceLock<Arc<Pool<String>>> = OnceLock::new();
+    POOL.get_or_init(|| {
+        let shape = Shape {
+            lanes: 2,
+            first_page: 1,
+            pages: 6,
+            ..Shape::default()
+        };
+        let is_growing = env::var(ALONE).is_ok_and(|test| test.contains("growing"));
+        Arc::new(if is_growing {
+            Pool::growing().unwrap()
+        } else {
+            Pool::open(shape).unwrap()
+        })
+    })
+}
+
+/// All calls of the pool, by each way.
+fn calls() {
+    HOOKED.fetch_add(1, SeqCst);
+    if let Ok(key) = pool().create_with(|text| text.push_str("by the hook")) {
+        let held = pool().get(key).expect("published");
+        let owned = pool().get_owned(key).expect("published");
+        assert!(pool().clear(key));
+        assert_eq!(*held, *owned.clone());
+    }
+    drop(pool().create_owned());
+    // (As the thread ends it has none.)
+    let _ = LANE.try_with(|lane| {
+        let lane = lane.get()?;
+        let key = lane.create_with(|text| text.push('x')).ok()?;
+        assert_eq!(*lane.get(key).expect("published"), "x");
+        assert!(lane.clear(key));
+        Some(key)
+    });
+}
+
+/// A part with the hook.
+fn with_hook<R>(work: impl FnOnce() -> R) -> R {
+    HOOK.set(calls);
+    let answer = work();
+    HOOK.set(|| ());
+    answer
+}
+
+/// As many as there is room for, or so many: each is there, under its own key, and is cleared.
+fn fills(most: usize, publish: impl Fn(String) -> Option<Key>) -> usize {
+    let texts = (0..most).map(|number| format!("text {number}"));
+    let keys: Vec<(Key, String)> = with_hook(|| {
+        let published = texts.map_while(|text| Some((publish(text.clone())?, text)));
+        published.collect()
+    });
+    for (key, text) in &keys {
+        let held = pool().get(*key).expect("published");
+        assert!(ptr::eq(
+            &*held,
+            &*pool().get_owned(*key).expect("published")
+        ));
+        assert_eq!(*held, *text);
+    }
+    assert!(keys.iter().all(|(key, _)| pool().clear(*key)));
+    keys.len()
+}
+
+/// By lanes in hand, whose pages open meanwhile; by the thread's own; by shared lanes; and by clones.
+fn all_ways(most: usize) {
+    for _ in 0..3 {
+        let by_owned = |text: String| {
+            let mut filling = pool().create_owned().ok()?;
+            filling.push_str(&text);
+            Some(filling.publish())
+        };
+        assert!(fills(most, by_owned) > 40);
+        assert!(fills(most, |text| pool().put(&text).ok()) > 40);
+        LANE.with(|lane| {
+            let lane =
+                lane.get_or_init(|| pool().lane_owned().expect("a lane is at home, or idle"));
+            assert!(fills(most, |text| lane.put(&text).ok()) > 40);
+        });
+        let key = pool().put("cloned").unwrap();
+        let owned = pool().get_owned(key).unwrap();
+        let clones: Vec<_> = with_hook(|| (0..20).map(|_| owned.clone()).collect());
+        assert!(pool().clear(key));
+        with_hook(|| drop((owned, clones)));
+        assert!(pool().get(key).is_none());
+    }
+}
+
+#[test]
+fn a_hook_of_the_allocator_calls_the_pool() {
+    alone("a_hook_of_the_allocator_calls_the_pool", || {
+        std::thread::spawn(|| with_hook(|| ())).join().unwrap();
+        std::thread::spawn(|| all_ways(63)).join().unwrap();
+        assert!(HOOKED.load(SeqCst) > 100);
+        assert_eq!(pool().census().present, 0);
+    });
+}
+
+#[test]
+fn a_hook_of_the_allocator_calls_a_growing_pool() {
+    alone("a_hook_of_the_allocator_calls_a_growing_pool", || {
+        at_once([(); 3].map(|()| || all_ways(3000)));
+        assert!(HOOKED.load(SeqCst) > 100);
+        assert_eq!(pool().census().present, 0);
+    });
+}
+
+/// What the hook looks up: a key, by the one lane that calls without a lane share, as all others are in hand.
+static LOOKED_UP: OnceLock<(Arc<Pool<String>>, Key)> = OnceLock::new();
+
+fn looks_up() {
+    let (pool, key) = LOOKED_UP.get().expect("it is set");
+    assert_eq!(*pool.get_owned(*key).expect("published"), "looked up");
+    assert_eq!(*pool.get(*key).expect("published"), "looked up");
+    HOOKED.fetch_add(1, SeqCst);
+}
+
+/// A pool of one lane, which is in hand, and one more; what the hook looks up is in it.
+fn with_lookups(work: impl FnOnce(&Pool<String>, &Lane<'static, String>)) {
+    let shape = Shape {
+        lanes: 1,
+        first_page: 1,
+        pages: 6,
+        ..Shape::default()
+    };
+    let pool = Arc::new(Pool::<String>::open(shape).unwrap());
+    let lane = pool.lane_owned().unwrap();
+    let key = lane.put("looked up").unwrap();
+    assert!(LOOKED_UP.set((Arc::clone(&pool), key)).is_ok());
+    HOOK.set(looks_up);
+    work(&pool, &lane);
+    HOOK.set(|| ());
+    assert!(HOOKED.load(SeqCst) > 5);
+}
+
+#[test]
+fn a_hook_looks_up_while_pages_open() {
+    alone("a_hook_looks_up_while_pages_open", || {
+        with_lookups(|pool, lane| {
+            let owned: Vec<_> = (0..63).map(|_| pool.create_owned().unwrap()).collect();
+            assert!(pool.create_owned().is_err());
+            let own: Vec<_> = (0..62).map(|_| lane.create().unwrap()).collect();
+            assert!(lane.create().is_err());
+            assert_eq!((owned.len(), own.len()), (63, 62));
+        });
+    });
+}
+
+#[test]
+fn a_hook_looks_up_while_handles_are_cloned() {
+    alone("a_hook_looks_up_while_handles_are_cloned", || {
+        with_lookups(|pool, lane| {
+            for _ in 0..10 {
+                let key = lane.put("cloned").unwrap();
+                let owned = pool.get_owned(key).unwrap();
+                let clones = [owned.clone(), owned.clone()];
+                assert!(lane.clear(key));
+                drop((owned, clones));
+            }
+        });
+    });
+}
+
+#[test]
+fn a_hook_creates_while_a_segment_opens() {
+    static GROWING: OnceLock<Pool<String>> = OnceLock::new();
+    // (It keeps its places, so that either may find the pool full.)
+    fn creates() {
+        let pool = GROWING.get().expect("it is set");
+        pool.put("by the hook").unwrap();
+        HOOKED.fetch_add(1, SeqCst);
+    }
+    alone("a_hook_creates_while_a_segment_opens", || {
+        let pool = GROWING.get_or_init(|| Pool::growing().unwrap());
+        HOOK.set(creates);
+        let keys: Vec<_> = (0..3000).map(|_| pool.put("x").unwrap()).collect();
+        HOOK.set(|| ());
+        assert!(keys.iter().all(|key| pool.clear(*key)));
+        let hooked = HOOKED.load(SeqCst);
+        assert!(hooked > 1000);
+        assert_eq!(pool.census().present as usize, hooked);
+    });
+}

@@ -1,0 +1,137 @@
+//! Objects that are used again, by all ways to call; a filling that is left; the limit of references where a filling is published.
+use pardz::{Clear, Lane, Pool, Shape};
+use std::mem;
+use std::panic::{self, AssertUnwindSafe};
+use std::sync::atomic::{AtomicUsize, Ordering::SeqCst};
+use std::thread;
+
+const MOST_REFERENCES: usize = 1_048_575;
+
+fn shape(lanes: u32, first_page: u32) -> Shape {
+    Shape {
+        lanes,
+        first_page,
+        pages: 1,
+        ..Shape::default()
+    }
+}
+
+/// An object that says how many were made, of those with the same number.
+#[derive(Debug)]
+struct Made<const N: usize>(u64);
+
+static MADE: [AtomicUsize; 4] = [const { AtomicUsize::new(0) }; 4];
+
+impl<const N: usize> Default for Made<N> {
+    fn default() -> Self {
+        MADE[N].fetch_add(1, SeqCst);
+        Made(0)
+    }
+}
+
+impl<const N: usize> Clear for Made<N> {
+    fn clear(&mut self) {
+        self.0 = 0;
+    }
+}
+
+fn fill<const N: usize>(object: &mut Made<N>) {
+    assert_eq!(object.0, 0);
+    object.0 = 7;
+}
+
+#[test]
+fn objects_are_used_again() {
+    let pool = Pool::<Made<0>>::open(shape(1, 4)).unwrap();
+    let lane = pool.lane().unwrap();
+    for _ in 0..50 {
+        assert!(lane.clear(lane.create_with(fill).unwrap()));
+    }
+    drop(lane);
+    for _ in 0..50 {
+        assert!(pool.clear(pool.create_with(fill).unwrap()));
+    }
+    assert_eq!(MADE[0].load(SeqCst), 1);
+}
+
+#[test]
+fn objects_of_shared_lanes_are_used_again() {
+    let pool = Pool::<Made<1>>::open(shape(1, 4)).unwrap();
+    let lane = pool.lane().unwrap();
+    for _ in 0..50 {
+        assert!(pool.clear(pool.create_with(fill).unwrap()));
+        let mut owned = pool.create_owned().unwrap();
+        fill(&mut owned);
+        let owned = owned.downgrade();
+        assert!(pool.clear(owned.key()));
+    }
+    drop(lane);
+    assert_eq!(MADE[1].load(SeqCst), 1);
+}
+
+/// Who empties an object of another lane gives it back to that one.
+#[test]
+fn objects_come_home() {
+    let pool = Pool::<Made<2>>::open(shape(2, 4)).unwrap();
+    let (lane, other) = (pool.lane().unwrap(), pool.lane().unwrap());
+    for _ in 0..50 {
+        assert!(other.clear(lane.create_with(fill).unwrap()));
+        let key = lane.create_with(fill).unwrap();
+        thread::scope(|scope| {
+            scope.spawn(|| assert!(pool.clear(key)));
+        });
+    }
+    assert_eq!(MADE[2].load(SeqCst), 1);
+}
+
+#[test]
+fn a_forgotten_object_is_emptied() {
+    let pool = Pool::<Made<3>>::open(shape(1, 2)).unwrap();
+    let lane = pool.lane().unwrap();
+    let mut filling = lane.create().unwrap();
+    fill(&mut filling);
+    filling.forget();
+    lane.create_with(fill).unwrap();
+    assert_eq!(MADE[3].load(SeqCst), 1);
+}
+
+/// A lane with as many references as it may have.
+fn with_all_references(lane: &Lane<'_, String>) {
+    let key = lane.put("a").unwrap();
+    for _ in 0..MOST_REFERENCES {
+        mem::forget(lane.get(key).unwrap());
+    }
+}
+
+fn is_too_many<R>(call: impl FnOnce() -> R) -> bool {
+    let payload = panic::catch_unwind(AssertUnwindSafe(|| mem::forget(call()))).unwrap_err();
+    payload.downcast_ref() == Some(&"the lane has 1,048,575 references")
+}
+
+#[test]
+fn a_downgrade_has_a_limit() {
+    let pool = Pool::<String>::open(shape(1, 4)).unwrap();
+    let lane = pool.lane().unwrap();
+    with_all_references(&lane);
+    let filling = lane.create().unwrap();
+    assert!(is_too_many(|| filling.downgrade()));
+    drop(lane);
+    assert_eq!(pool.close().present, 1);
+}
+
+#[test]
+fn a_downgrade_of_a_shared_lane_has_a_limit() {
+    let pool = Pool::<String>::open(shape(1, 4)).unwrap();
+    let lane = pool.lane().unwrap();
+    let key = lane.put("a").unwrap();
+    for _ in 0..MOST_REFERENCES {
+        mem::forget(pool.get_owned(key).unwrap());
+    }
+    let (filling, owned) = (pool.create().unwrap(), pool.create_owned().unwrap());
+    assert!(is_too_many(|| filling.downgrade()));
+    assert!(is_too_many(|| owned.downgrade()));
+    drop(lane);
+    assert_eq!(pool.census().present, 1);
+    // (It is there for the references that were forgotten.)
+    mem::forget(pool);
+}
