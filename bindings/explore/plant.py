@@ -1,0 +1,310 @@
+#!/usr/bin/env python3
+"""Plants faults in a copy of the crate, and has each found: by a scenario of the explorer, a test, or the compiler.
+
+usage: plant.py LIST.. [--search] [--jobs N] [--only NUMBER..]
+
+A list has for each fault the file, what is wrong then, a text that stands there once (`-`), of which what stands in « » is replaced, or
+all, by what stands there then (`+`), and what finds it (`=`): `explore SCENARIO`, `test FILE NAME`, `address FILE NAME` (a test under AddressSanitizer), `misuse NUMBER HEADING` (lines of misuse.rs
+that the compiler must refuse, counted from 1 behind the heading that begins so). White space doesn't count. All are planted in one copy, each by a branch on the number in
+PLANTED; one whose text can't be branched on is marked `alone`, and is built by itself.
+
+Without a fault each of those passes. With one it fails: a test by an assertion, not by a hang. --search tries all of them, and tells the first that finds a fault.
+"""
+import argparse
+import collections
+import concurrent.futures
+import os
+import re
+import shutil
+import subprocess
+import sys
+import tempfile
+import time
+
+HERE = os.path.dirname(os.path.abspath(__file__))
+BINDINGS = os.path.dirname(HERE)
+PLANTED = '''
+/// Which fault is planted: that of the number in the environment.
+pub fn planted(number: u32) -> bool {
+    static PLANTED: std::sync::OnceLock<u32> = std::sync::OnceLock::new();
+    let read = || std::env::var("PLANTED").map_or(0, |number| number.parse().expect("a number"));
+    *PLANTED.get_or_init(read) == number
+}
+'''
+# A search passes by the scenarios that take longer.
+SECONDS_OF_A_SEARCH = 5
+SCENARIOS_ALONE = "SCENARIOS_ALONE" in os.environ
+# A test that runs longer than this hangs.
+SECONDS = 240
+
+Fault = collections.namedtuple("Fault", "number file what old new alone finder")
+
+
+def read_faults(lists):
+    faults = []
+    for path in lists:
+        with open(path, encoding="utf-8") as file:
+            text = re.sub(r"^#.*\n", "", file.read(), flags=re.M)
+        for part in re.split(r"\n\s*\n", text.strip()):
+            lines = part.strip().split("\n")
+            file, what = lines[0].split(": ", 1)
+            alone = file.startswith("alone ")
+            take = lambda sign: "\n".join(line[2:] for line in lines[1:] if line[:1] == sign)
+            number = len(faults) + 1
+            faults.append(Fault(number, file.removeprefix("alone "), what, take("-"), take("+"), alone, take("=")))
+    return faults
+
+
+def place_of(fault, text):
+    """Where the fault's text stands, which is once."""
+    old = fault.old if "«" in fault.old else f"«{fault.old}»"
+    words = [re.escape(word) for word in re.sub(r"([«»])", r" \1 ", old).split()]
+    pattern = r"\s*".join(words).replace(r"«\s*»", "()").replace(r"«\s*", "(").replace(r"\s*»", ")")
+    found = list(re.finditer(pattern, text))
+    if len(found) != 1:
+        sys.exit(f"FAIL {fault.number} {fault.file}: {fault.what}: its text stands there {len(found)} times")
+    return found[0].span(1)
+
+
+def branch(fault, old):
+    """The text with a branch on the fault."""
+    if not old:
+        return f"if crate::planted({fault.number}) {{ {fault.new} }} "
+    if old.rstrip()[-1] in ";}" and not old.lstrip().startswith("|"):
+        return f"if crate::planted({fault.number}) {{ {fault.new} }} else {{ {old} }}"
+    return f"(if crate::planted({fault.number}) {{ {fault.new} }} else {{ {old} }})"
+
+
+def plant(faults, sources):
+    """Plants those that can be planted together. Answers the others."""
+    left, by_file = [], collections.defaultdict(list)
+    for fault in faults:
+        by_file[fault.file].append(fault)
+    for name, some in by_file.items():
+        path = os.path.join(sources, name)
+        with open(path, encoding="utf-8") as file:
+            text = file.read()
+        spans = {}
+        for fault in some:
+            start, end = place_of(fault, text)
+            meets = [span for span in spans if span != (start, end) and span[0] < end and start < span[1]]
+            if fault.alone or meets:
+                left.append(fault)
+            else:
+                spans.setdefault((start, end), []).append(fault)
+        for (start, end), here in sorted(spans.items(), reverse=True):
+            new = text[start:end]
+            for fault in here:
+                new = fault.new if len(faults) == 1 else branch(fault, new)
+            text = text[:start] + new + text[end:]
+        with open(path, "w", encoding="utf-8") as file:
+            file.write(text)
+    return left
+
+
+class Build:
+    """A copy of the crate with some faults, and its programs, which are built when they are wanted."""
+
+    def __init__(self, folder, faults):
+        self.folder = folder
+        self.rust = os.path.join(folder, "rust")
+        ignore = shutil.ignore_patterns("target")
+        shutil.copytree(os.path.join(BINDINGS, "rust"), self.rust, ignore=ignore)
+        shutil.copytree(HERE, os.path.join(folder, "explore"), ignore=ignore)
+        self.sources = os.path.join(self.rust, "src")
+        self.faults = faults
+        self.built = {}
+
+    def write(self):
+        """Plants; answers the faults that need a copy of their own."""
+        if self.faults == [None]:
+            return []
+        one = len(self.faults) == 1 and self.faults[0].alone
+        faults = [fault._replace(alone=False) for fault in self.faults] if one else self.faults
+        left = plant(faults, self.sources)
+        with open(os.path.join(self.sources, "lib.rs"), "a", encoding="utf-8") as file:
+            file.write(PLANTED)
+        with open(os.path.join(self.folder, "explore", "scenarios", "main.rs"), "a", encoding="utf-8") as file:
+            file.write("use pardz::planted;\n")
+        return left
+
+    def program(self, kind, name=""):
+        """The path of a program, and what the compiler says where it refuses it."""
+        if (kind, name) not in self.built:
+            make = {"explore": self.make_scenarios, "test": self.make_test, "address": self.make_address}[kind]
+            self.built[kind, name] = make(name)
+        return self.built[kind, name]
+
+    def rustc(self, *words):
+        words = ["rustc", "--edition", "2021", "-Awarnings", "-Copt-level=1", "-Cdebug-assertions=on", "-L", self.folder, *words]
+        made = subprocess.run(words, capture_output=True, text=True, env=dict(os.environ, RUSTC_BOOTSTRAP="1"))
+        return made.stderr if made.returncode else None
+
+    def crate(self, name, flags, *words):
+        """Builds the crate under this name."""
+        out = os.path.join(self.folder, name)
+        os.makedirs(out, exist_ok=True)
+        library = os.path.join(out, "libpardz.rlib")
+        wrong = None
+        if not os.path.exists(library):
+            wrong = self.rustc("--crate-type=rlib", "--crate-name=pardz", *flags, os.path.join(self.sources, "lib.rs"), "-o", library)
+        return library, wrong
+
+    def make_scenarios(self, _):
+        explorer = os.path.join(self.folder, "libexplorer.rlib")
+        extern = f"--extern=explorer={explorer}"
+        folder = os.path.join(self.folder, "explore")
+        wrong = self.rustc("--crate-type=rlib", "--crate-name=explorer", os.path.join(folder, "explorer", "lib.rs"), "-o", explorer)
+        library, more = self.crate("explored", ["--cfg=pardz_explore", extern])
+        out = os.path.join(self.folder, "scenarios")
+        main = os.path.join(folder, "scenarios", "main.rs")
+        wrong = wrong or more or self.rustc(extern, f"--extern=pardz={library}", main, "-o", out)
+        return out, wrong
+
+    def make_test(self, name):
+        library, wrong = self.crate("tested", [])
+        out = os.path.join(self.folder, "test_" + name)
+        source = os.path.join(self.rust, "tests", name + ".rs")
+        return out, wrong or self.rustc("--test", f"--extern=pardz={library}", source, "-o", out)
+
+    def make_address(self, name):
+        flags = ["-Zsanitizer=address", "-Cunsafe-allow-abi-mismatch=sanitizer", "--target=x86_64-unknown-linux-gnu"]
+        library, wrong = self.crate("addresses", flags)
+        out = os.path.join(self.folder, "address_" + name)
+        source = os.path.join(self.rust, "tests", name + ".rs")
+        return out, wrong or self.rustc("--test", *flags, f"--extern=pardz={library}", source, "-o", out)
+
+    def misuse(self, number, heading):
+        """What the compiler says where it refuses some lines."""
+        library, wrong = self.crate("tested", [])
+        if wrong:
+            return wrong
+        source = os.path.join(self.folder, f"misuse{number}.rs")
+        with open(source, "w", encoding="utf-8") as file:
+            file.write("fn main() {\n" + misuses(self.sources, heading)[number - 1] + "\n}\n")
+        return self.rustc("--emit=metadata", f"--extern=pardz={library}", source, "-o", source + ".out")
+
+
+def misuses(sources, heading):
+    """The lines of misuse.rs that the compiler must refuse, behind a heading."""
+    with open(os.path.join(sources, "misuse.rs"), encoding="utf-8") as file:
+        text = re.sub(r"^//! ?", "", file.read(), flags=re.M)
+    text = text[text.index("\n" + heading) :]
+    found = re.findall(r"^```compile_fail\S*\n(.*?)^```", text, flags=re.M | re.S)
+    return [re.sub(r"^# ", "", lines, flags=re.M) for lines in found]
+
+
+def run(build, finder, number):
+    """What a finder says with a fault planted: None where it passes."""
+    kind, *words = finder.split(" ")
+    if kind == "misuse":
+        return None if build.misuse(int(words[0]), " ".join(words[1:])) else "it compiles"
+    program, wrong = build.program(kind, "" if kind == "explore" else words[0])
+    if wrong:
+        sys.exit(f"FAIL {finder}: {wrong}")
+    command = [program, words[0]] if kind == "explore" else [program, "--exact", "--test-threads=1", words[1]]
+    env = dict(os.environ, PLANTED=str(number), RUST_BACKTRACE="0", ASAN_OPTIONS="detect_leaks=0")
+    try:
+        made = subprocess.run(command, capture_output=True, text=True, errors="replace", timeout=SECONDS, env=env)
+    except subprocess.TimeoutExpired:
+        return "HANGS"
+    if kind != "explore" and "running 1 test" not in made.stdout:
+        sys.exit(f"FAIL {finder}: there is no such test: {made.stdout}{made.stderr}")
+    if made.returncode == 0:
+        return None
+    return what_is_told(made)
+
+
+def what_is_told(made):
+    text = made.stdout + made.stderr
+    for pattern in (r"FAIL [\w-]+: (?:.*? steps: )?(.*)", r"AddressSanitizer: (\S+)", r"panicked at [^\n]*\n([^\n]*)", r"(test result: FAILED)"):
+        found = re.search(pattern, text)
+        if found:
+            return found.group(1)[:110]
+    return f"status {made.returncode}"
+
+
+def candidates(build):
+    """Finders that a search tries."""
+    program, wrong = build.program("explore")
+    if wrong:
+        sys.exit(wrong)
+    names = subprocess.run([program, "--list"], capture_output=True, text=True, check=True).stdout.split()
+    found = []
+    for name in names:
+        start = time.time()
+        if run(build, f"explore {name}", 0):
+            sys.exit(f"FAIL explore {name} without a fault")
+        found.append((time.time() - start, f"explore {name}"))
+    found = [finder for seconds, finder in sorted(found) if seconds < SECONDS_OF_A_SEARCH]
+    for test in ("threads", "callbacks", "panics", "objects", "buffers", "types", "sharded_slab", "random", "refused", "growing"):
+        with open(os.path.join(build.rust, "tests", test + ".rs"), encoding="utf-8") as file:
+            text = file.read()
+        found += [] if SCENARIOS_ALONE else [f"test {test} {name}" for name in re.findall(r"#\[test\]\n(?:#\[should_panic[^\n]*\n)?fn (\w+)", text)]
+    return found
+
+
+def judge(build, fault, search):
+    """The line of a fault, and whether it was found."""
+    where = f"{fault.number} {fault.file}: {fault.what}"
+    if search:
+        told = ((finder, run(build, finder, fault.number)) for finder in search)
+        found = next((f"ok   {where}: {finder}: {said}" for finder, said in told if said), None)
+        return found or f"FAIL {where}: nothing finds it", bool(found)
+    if not fault.finder:
+        return f"FAIL {where}: the list doesn't say what finds it", False
+    start = time.time()
+    said = run(build, fault.finder, fault.number)
+    if said is None or said == "HANGS":
+        return f"FAIL {where}: {fault.finder} {'hangs' if said else 'finds nothing'}", False
+    return f"ok   {where}: {fault.finder}: {said} ({time.time() - start:.1f} s)", True
+
+
+def main():
+    parser = argparse.ArgumentParser(description=__doc__.split("\n\n")[0])
+    parser.add_argument("lists", nargs="+")
+    parser.add_argument("--search", action="store_true")
+    parser.add_argument("--only", type=int, nargs="*")
+    parser.add_argument("--jobs", type=int, default=2)
+    words = parser.parse_args()
+    faults = read_faults(words.lists)
+    with tempfile.TemporaryDirectory() as folder:
+        good = plant_all(folder, faults, words)
+    print(f"{good} of {len(words.only or faults)} faults are found")
+    sys.exit(0 if good == len(words.only or faults) else 1)
+
+
+def plant_all(folder, faults, words):
+    wanted = lambda fault: not words.only or fault.number in words.only
+    good, left, copies = 0, faults, 0
+    while left:
+        together = [fault for fault in left if not fault.alone] or left[:1]
+        build = Build(os.path.join(folder, str(copies)), together)
+        apart = build.write()
+        here = [fault for fault in together if fault not in apart]
+        left = [fault for fault in left if fault not in here]
+        copies += 1
+        some = [fault for fault in here if wanted(fault)]
+        if some:
+            good += judge_all(build, some, words)
+    return good
+
+
+def judge_all(build, faults, words):
+    finders = sorted({fault.finder for fault in faults if fault.finder and not fault.alone})
+    for finder in [] if words.search else finders:
+        said = run(build, finder, 0)
+        if said:
+            print(f"FAIL {finder} without a fault: {said}")
+            return 0
+    good = 0
+    search = candidates(build) if words.search else []
+    with concurrent.futures.ThreadPoolExecutor(words.jobs) as pool:
+        for line, is_good in pool.map(lambda fault: judge(build, fault, search), faults):
+            print(line, flush=True)
+            good += is_good
+    return good
+
+
+if __name__ == "__main__":
+    main()

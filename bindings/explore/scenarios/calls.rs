@@ -1,0 +1,161 @@
+//! Calls of a pool by threads without a lane in hand: each keeps one until it ends, or shares one.
+use crate::world::{
+    alive, lanes_at_home, lanes_in_hand, look, look_by_call, number_of, shape, Scenario, World,
+};
+use std::mem;
+
+pub fn all() -> Vec<Scenario> {
+    let one_lane = || lanes_at_home(shape(1, 2, 1), 1);
+    let two_lanes = || lanes_at_home(shape(2, 1, 1), 1);
+    let shared = || lanes_in_hand(shape(1, 2, 1), 1);
+    vec![
+        Scenario::new("shared-create", shared, [make_and_clear; 2], drop).bounded(2),
+        Scenario::new("shared-get", shared, [get, get], drop).bounded(2),
+        Scenario::new("shared-clear", shared, [get, clear], drop).bounded(2),
+        Scenario::new(
+            "hand-over",
+            one_lane,
+            [look_and_make, clear_and_make],
+            at_most_one,
+        ),
+        Scenario::new("left-lane", one_lane, [get, take_twice], settled),
+        Scenario::new(
+            "left-lane-3",
+            one_lane,
+            [get, take_and_look, take_and_look],
+            settled,
+        ),
+        Scenario::new(
+            "left-with-reference",
+            one_lane,
+            [get_and_forget, make_and_get_twice],
+            |world| {
+                assert!(
+                    world.pool.lane().is_none_or(|lane| lane.number() == 0),
+                    "a lane that stays shared"
+                );
+                assert_eq!(world.close().present, 3);
+            },
+        ),
+        Scenario::new(
+            "left-with-filling",
+            one_lane,
+            [create_and_forget, make_and_get_twice],
+            |world| {
+                assert_eq!(world.close().filling, 1);
+            },
+        )
+        .leaving(1)
+        .bounded(2),
+        Scenario::new("pool-calls", one_lane, [get, clear], cleared_once),
+        Scenario::new(
+            "pool-create",
+            || lanes_at_home(shape(1, 1, 1), 0),
+            [make_and_clear; 2],
+            none_present,
+        ),
+        Scenario::new(
+            "pool-create-again",
+            || lanes_at_home(shape(1, 1, 1), 0),
+            [make_and_clear_twice; 2],
+            none_present,
+        )
+        .bounded(2),
+        Scenario::new(
+            "left-by-three",
+            || lanes_at_home(shape(3, 1, 1), 1),
+            [get, get, get],
+            settled,
+        )
+        .bounded(2),
+        Scenario::new("come-and-go", two_lanes, [get, get, clear], cleared_once).bounded(2),
+    ]
+}
+
+fn get(world: &World) {
+    look_by_call(&world.pool, world.keys[0], number_of(0));
+}
+
+fn clear(world: &World) {
+    world.count(world.pool.clear(world.keys[0]));
+}
+
+fn look_and_make(world: &World) {
+    if let Some(lane) = world.pool.lane() {
+        look(&lane, world.keys[0], number_of(0));
+        world.make(&lane, 3);
+    }
+}
+
+fn clear_and_make(world: &World) {
+    if let Some(lane) = world.pool.lane() {
+        world.count(lane.clear(world.keys[0]));
+        world.make(&lane, 4);
+    }
+}
+
+/// Takes a lane in hand, and again, which another thread has left meanwhile.
+fn take_twice(world: &World) {
+    for _ in 0..2 {
+        if let Some(lane) = world.pool.lane() {
+            look(&lane, world.keys[0], number_of(0));
+            world.make(&lane, 4);
+        }
+    }
+}
+
+fn take_and_look(world: &World) {
+    if let Some(lane) = world.pool.lane() {
+        look(&lane, world.keys[0], number_of(0));
+    }
+}
+
+fn get_and_forget(world: &World) {
+    if let Some(object) = world.pool.get(world.keys[0]) {
+        assert_eq!(object.get(), number_of(0));
+        mem::forget(object);
+    }
+}
+
+fn create_and_forget(world: &World) {
+    mem::forget(world.pool.create().expect("a place"));
+}
+
+fn make_and_get_twice(world: &World) {
+    for _ in 0..2 {
+        world.make_by_call(4);
+        look_by_call(&world.pool, world.keys[0], number_of(0));
+    }
+}
+
+fn make_and_clear(world: &World) {
+    if let Some(key) = world.make_by_call(1) {
+        assert_eq!(world.pool.get(key).expect("it is published").get(), 1);
+        assert!(world.pool.clear(key));
+        world.count(true);
+    }
+}
+
+fn make_and_clear_twice(world: &World) {
+    make_and_clear(world);
+    make_and_clear(world);
+}
+
+fn settled(world: World) {
+    world.settle();
+}
+
+fn at_most_one(world: World) {
+    assert!(world.settle() <= 1);
+}
+
+fn cleared_once(world: World) {
+    assert_eq!(world.settle(), 1);
+}
+
+/// Of two lanes with a place each.
+fn none_present(world: World) {
+    assert!(alive() <= 2, "objects of two places");
+    let census = world.close();
+    assert_eq!((census.present, census.marked, census.filling), (0, 0, 0));
+}

@@ -1,0 +1,183 @@
+//! Pools that grow: threads that open a segment at once, and what is held of a further one.
+use crate::late::{leave_reference, take_twice};
+use crate::world::{growing, look, look_by_call, number_of, Scenario, Tracked, World};
+use pardz::{Key, OwnedRef, Pool};
+use std::sync::Mutex;
+
+/// Places of a lane in the first segment, and of all lanes in the first one and in the second.
+const FIRST: usize = 32;
+const OF_ONE_SEGMENT: u32 = 16 * 32;
+const OF_TWO_SEGMENTS: u32 = OF_ONE_SEGMENT + 16 * 64;
+
+pub fn all() -> Vec<Scenario> {
+    vec![
+        Scenario::new(
+            "grow-at-once",
+            || full_lanes(2),
+            [|w| grow(w, 0), |w| grow(w, 1)],
+            two_segments,
+        ),
+        Scenario::new(
+            "grow-and-look",
+            || full_lanes(2),
+            [|w| grow(w, 0), look_further],
+            two_segments,
+        ),
+        Scenario::new("grow-by-calls", full_calls, [make, make], two_segments).bounded(1),
+        Scenario::new(
+            "further-by-calls",
+            grown,
+            [get_further, clear_further],
+            two_segments,
+        )
+        .bounded(2),
+        Scenario::new(
+            "late-further",
+            grown,
+            [leave_further, clear_and_take],
+            two_segments,
+        )
+        .bounded(2),
+        Scenario::new(
+            "outlives-further",
+            outlives,
+            [drop_pool, |w| drop_handle(w, 0), |w| drop_handle(w, 1)],
+            drop,
+        ),
+        Scenario::new(
+            "closes-further",
+            outlives,
+            [close_pool, |w| drop_handle(w, 0), |w| drop_handle(w, 1)],
+            drop,
+        ),
+    ]
+}
+
+/// The key of the first place of a lane in the second segment.
+fn further_key(lane: u64) -> Key {
+    Key::try_from((1 << 56) + (1 << 24) + (lane << 16)).expect("a key")
+}
+
+/// So many lanes in hand, which are full in the first segment.
+fn full_lanes(lanes: usize) -> World {
+    let world = growing(lanes);
+    for lane in 0..lanes {
+        world.by_lane(lane, |lane| {
+            for _ in 0..FIRST {
+                world.make(lane, 9);
+            }
+        });
+    }
+    world
+}
+
+/// All lanes are at home; those that two threads will keep are full, and the shared ones.
+fn full_calls() -> World {
+    let mut world = full_lanes(2);
+    world.leave_lanes();
+    for _ in 0..4 * FIRST {
+        let key = world.pool.create_owned().expect("a place").publish();
+        world.note(key);
+    }
+    world
+}
+
+/// All lanes are at home, and an object stands in the second segment.
+fn grown() -> World {
+    let mut world = full_lanes(1);
+    world.by_lane(0, |lane| {
+        let key = lane.create_with(|object| object.set(number_of(0)));
+        assert_eq!(key, Ok(further_key(0)));
+    });
+    world.leave_lanes();
+    world.keys = vec![further_key(0)];
+    world
+}
+
+fn grow(world: &World, lane: usize) {
+    world.by_lane(lane, |lane| {
+        let key = world.make(lane, 7).expect("it grows");
+        assert_eq!(u64::from(key) >> 56, 1, "a further segment");
+        look(lane, key, 7);
+    });
+}
+
+/// A key of the further segment, got and cleared by who was told nothing.
+fn look_further(world: &World) {
+    world.by_lane(1, |lane| {
+        look(lane, further_key(0), 7);
+        world.count(lane.clear(further_key(0)));
+    });
+}
+
+fn make(world: &World) {
+    let key = world.make_by_call(7).expect("it grows");
+    look_by_call(&world.pool, key, 7);
+}
+
+fn get_further(world: &World) {
+    look_by_call(&world.pool, world.keys[0], number_of(0));
+}
+
+fn clear_further(world: &World) {
+    world.count(world.pool.clear(world.keys[0]));
+}
+
+/// Leaves a reference to what stands in the further segment to the thread's end.
+fn leave_further(world: &World) {
+    leave_reference(world);
+}
+
+fn clear_and_take(world: &World) {
+    clear_further(world);
+    take_twice(world);
+}
+
+fn two_segments(world: World) {
+    let (left, census) = (world.published() - world.cleared(), world.close());
+    let all = census.free
+        + census.unopened
+        + census.present
+        + census.filling
+        + census.marked
+        + census.retired;
+    assert_eq!(
+        (census.present as usize, census.filling, census.marked),
+        (left, 0, 0)
+    );
+    assert_eq!(all, OF_TWO_SEGMENTS, "places of two segments");
+}
+
+/// A pool, and two handles to an object of its second segment.
+struct Outlived {
+    pool: Mutex<Option<Pool<Tracked>>>,
+    handles: [Mutex<Option<OwnedRef<Tracked>>>; 2],
+}
+
+fn outlives() -> Outlived {
+    let pool = Pool::<Tracked>::growing().expect("memory");
+    let lane = pool.lane().expect("nobody has it");
+    let create = |_| lane.create_with(|object| object.set(3)).expect("a place");
+    let key = (0..=FIRST).map(create).last().expect("more than none");
+    drop(lane);
+    let handle = || Mutex::new(pool.get_owned(key));
+    let handles = [handle(), handle()];
+    let pool = Mutex::new(Some(pool));
+    Outlived { pool, handles }
+}
+
+fn drop_pool(world: &Outlived) {
+    let pool = world.pool.lock().expect("no panic").take();
+    drop(pool);
+}
+
+fn close_pool(world: &Outlived) {
+    let pool = world.pool.lock().expect("no panic").take();
+    let census = pool.expect("it is there").close();
+    assert_eq!(census.present, 1 + FIRST as u32);
+}
+
+fn drop_handle(world: &Outlived, number: usize) {
+    let handle = world.handles[number].lock().expect("no panic").take();
+    assert_eq!(handle.expect("it is there").get(), 3);
+}

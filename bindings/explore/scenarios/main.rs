@@ -1,0 +1,109 @@
+//! Scenarios of the crate `pardz`, which the explorer runs through their schedules.
+//!
+//! usage: scenarios [NAME..]   a line for each of them, or of those that are named, and one for all
+//!        scenarios --list     their names
+//!        scenarios --check    small programs with faults that the explorer must find
+use std::env;
+use std::process::ExitCode;
+use std::time::Duration;
+
+mod calls;
+mod checks;
+mod clears;
+mod growing;
+mod lanes;
+mod late;
+mod lock;
+mod owned;
+mod pools;
+mod world;
+
+/// What the crate's own lock is made of.
+mod sync {
+    pub(crate) use explorer::{sleep, spin_loop, yield_now, AtomicU32, Ordering};
+}
+
+use world::Scenario;
+
+#[global_allocator]
+static HEAP: explorer::Heap = explorer::Heap;
+
+/// For so long no thread may be without a step.
+const PATIENCE: Duration = Duration::from_secs(20);
+/// The same for a thread that is known to make none.
+const LITTLE_PATIENCE: Duration = Duration::from_secs(3);
+
+fn all() -> Vec<Scenario> {
+    let all = [
+        lanes::all(),
+        calls::all(),
+        late::all(),
+        owned::all(),
+        growing::all(),
+        pools::all(),
+        clears::all(),
+        lock::all(),
+    ];
+    all.into_iter().flatten().collect()
+}
+
+fn main() -> ExitCode {
+    let words: Vec<String> = env::args().skip(1).collect();
+    let words: Vec<&str> = words.iter().map(String::as_str).collect();
+    match words[..] {
+        ["--list"] => all()
+            .iter()
+            .for_each(|scenario| println!("{}", scenario.name)),
+        ["--check"] => checks::check(),
+        ["--faulty", name] => {
+            explorer::watch(LITTLE_PATIENCE);
+            return run(checks::run_faulty(name).as_slice());
+        }
+        _ => return run_named(&words),
+    }
+    ExitCode::SUCCESS
+}
+
+/// Runs the scenarios of these names, or all.
+fn run_named(wanted: &[&str]) -> ExitCode {
+    let mut scenarios = all();
+    if let Some(name) = wanted
+        .iter()
+        .find(|name| scenarios.iter().all(|scenario| scenario.name != **name))
+    {
+        eprintln!("there is no scenario {name}");
+        return ExitCode::FAILURE;
+    }
+    if !wanted.is_empty() {
+        scenarios.retain(|scenario| wanted.contains(&scenario.name));
+    }
+    explorer::watch(PATIENCE);
+    run(&scenarios)
+}
+
+fn run(scenarios: &[Scenario]) -> ExitCode {
+    let (mut schedules, mut steps, mut seconds) = (0, 0, 0.0);
+    for scenario in scenarios {
+        let report = scenario.explore();
+        let told = format!(
+            "{} schedules, {}, {} steps",
+            report.schedules, scenario.extent, report.steps
+        );
+        if let Some(failure) = report.failure {
+            println!("FAIL {}: {told}: {failure}", scenario.name);
+            return ExitCode::FAILURE;
+        }
+        println!(
+            "ok   {}: {told} and {} left, {:.1} s",
+            scenario.name, report.left, report.seconds
+        );
+        schedules += report.schedules;
+        steps += report.steps;
+        seconds += report.seconds;
+    }
+    println!(
+        "{} scenarios, {schedules} schedules, {steps} steps, {seconds:.0} s",
+        scenarios.len()
+    );
+    ExitCode::SUCCESS
+}

@@ -1,0 +1,194 @@
+//! Owned handles: they go to other threads, and keep the pool's memory when it is dropped.
+use crate::world::{
+    emptied, lanes_at_home, lanes_in_hand, look_by_call, number_of, shape, Scenario, Tracked, World,
+};
+use pardz::{Key, OwnedFilling, OwnedRef, Pool};
+use std::sync::{Arc, Mutex};
+
+pub fn all() -> Vec<Scenario> {
+    let one_place = || lanes_at_home(shape(1, 1, 1), 1);
+    let two_places = || lanes_at_home(shape(1, 2, 1), 1);
+    vec![
+        Scenario::new("owned-both", two_places, [get, get], drop),
+        Scenario::new("owned", one_place, [get_and_clone, clear], cleared_once),
+        Scenario::new(
+            "owned-two",
+            two_places,
+            [get_and_clone, get_and_clear],
+            cleared_once,
+        ),
+        Scenario::new(
+            "owned-miss",
+            || lanes_in_hand(shape(1, 2, 1), 1),
+            [get, clear_held],
+            |world| {
+                assert_eq!(emptied(), 1, "the object is emptied once");
+                assert_eq!(world.settle(), 1);
+            },
+        ),
+        Scenario::new("outlives", || outlives(two_handles), LET_GO, drop),
+        Scenario::new("outlives-clones", || outlives(two_clones), LET_GO, drop),
+        Scenario::new(
+            "outlives-cleared",
+            || outlives(two_cleared),
+            LET_GO,
+            |_| {
+                assert_eq!(emptied(), 1, "the object is emptied once");
+            },
+        ),
+        Scenario::new(
+            "outlives-filling",
+            || outlives(filling),
+            [drop_pool, publish],
+            drop,
+        ),
+        Scenario::new(
+            "outlives-given-up",
+            || outlives(filling),
+            [drop_pool, give_up],
+            drop,
+        ),
+        Scenario::new(
+            "clone-at-once",
+            || outlives(shared_handle),
+            [clone_first, clone_first],
+            drop,
+        ),
+    ]
+}
+
+fn get(world: &World) {
+    drop(world.pool.get_owned(world.keys[0]));
+}
+
+fn get_and_clone(world: &World) {
+    if let Some(object) = world.pool.get_owned(world.keys[0]) {
+        let clone = object.clone();
+        drop(object);
+        assert_eq!(clone.get(), number_of(0));
+    }
+}
+
+fn get_and_clear(world: &World) {
+    if let Some(object) = world.pool.get_owned(world.keys[0]) {
+        assert_eq!(object.get(), number_of(0));
+        clear(world);
+        assert_eq!(object.get(), number_of(0));
+    }
+}
+
+fn clear(world: &World) {
+    world.count(world.pool.clear(world.keys[0]));
+}
+
+/// A clear of what the lane itself holds.
+fn clear_held(world: &World) {
+    world.by_lane(0, |lane| {
+        let held = lane.get(world.keys[0]);
+        world.count(lane.clear(world.keys[0]));
+        drop(held);
+    });
+}
+
+fn cleared_once(world: World) {
+    assert_eq!(world.settle(), 1);
+}
+
+/// A pool, and what is held of it.
+#[derive(Default)]
+struct Outlived {
+    pool: Mutex<Option<Pool<Tracked>>>,
+    handles: [Mutex<Option<OwnedRef<Tracked>>>; 2],
+    filling: Mutex<Option<OwnedFilling<Tracked>>>,
+    /// Another handle, which threads share.
+    shared: Mutex<Option<Arc<OwnedRef<Tracked>>>>,
+}
+
+const LET_GO: [fn(&Outlived); 3] = [
+    drop_pool,
+    |world| drop_handle(world, 0),
+    |world| drop_handle(world, 1),
+];
+
+/// A pool with an object, and what `hold` has of it.
+fn outlives(hold: fn(&Pool<Tracked>, Key) -> Outlived) -> Outlived {
+    let pool = Pool::<Tracked>::open(shape(1, 2, 1)).expect("memory");
+    let lane = pool.lane().expect("nobody has it");
+    let key = lane.create_with(|object| object.set(3)).expect("a place");
+    drop(lane);
+    look_by_call(&pool, key, 3);
+    let world = hold(&pool, key);
+    *world.pool.lock().expect("no panic") = Some(pool);
+    world
+}
+
+fn two_handles(pool: &Pool<Tracked>, key: Key) -> Outlived {
+    Outlived {
+        handles: [(); 2].map(|()| Mutex::new(pool.get_owned(key))),
+        ..Outlived::default()
+    }
+}
+
+fn two_clones(pool: &Pool<Tracked>, key: Key) -> Outlived {
+    let handle = pool.get_owned(key);
+    Outlived {
+        handles: [Mutex::new(handle.clone()), Mutex::new(handle)],
+        ..Outlived::default()
+    }
+}
+
+fn two_cleared(pool: &Pool<Tracked>, key: Key) -> Outlived {
+    let world = two_handles(pool, key);
+    assert!(pool.clear(key));
+    world
+}
+
+fn filling(pool: &Pool<Tracked>, _: Key) -> Outlived {
+    Outlived {
+        filling: Mutex::new(pool.create_owned().ok()),
+        ..Outlived::default()
+    }
+}
+
+fn shared_handle(pool: &Pool<Tracked>, key: Key) -> Outlived {
+    Outlived {
+        shared: Mutex::new(pool.get_owned(key).map(Arc::new)),
+        ..Outlived::default()
+    }
+}
+
+fn publish(world: &Outlived) {
+    let filling = world.filling.lock().expect("no panic").take();
+    filling.expect("it is there").publish();
+}
+
+fn give_up(world: &Outlived) {
+    let filling = world.filling.lock().expect("no panic").take();
+    drop(filling);
+}
+
+/// Clones a handle that another thread clones too.
+fn clone_first(world: &Outlived) {
+    let shared = Arc::clone(
+        world
+            .shared
+            .lock()
+            .expect("no panic")
+            .as_ref()
+            .expect("it is there"),
+    );
+    let clone = OwnedRef::clone(&shared);
+    assert_eq!(clone.get(), 3);
+    drop(clone);
+    assert_eq!(shared.get(), 3);
+}
+
+fn drop_pool(world: &Outlived) {
+    let pool = world.pool.lock().expect("no panic").take();
+    drop(pool);
+}
+
+fn drop_handle(world: &Outlived, number: usize) {
+    let handle = world.handles[number].lock().expect("no panic").take();
+    assert_eq!(handle.expect("it is there").get(), 3);
+}
