@@ -1,7 +1,9 @@
 /* Two threads with a lane each: one publishes lines, and the other reads and clears them. Keys go from one to the other through a
  * small queue, and the pool has fewer places than there are lines, so that buffers are used again.
  *
- *     cc example.c heap.c libpoolffi.a -lpthread -o example */
+ *     cc example.c heap.c libpoolffi.a -lpthread -o example
+ *
+ * or with libpardz.a in the place of libpoolffi.a. */
 #include "pardz.h"
 
 #include <pthread.h>
@@ -42,7 +44,7 @@ static uint64_t receive(void) {
 
 static void must(uint32_t code, const char *what) {
     if (code != PARDZ_OK) {
-        fprintf(stderr, "%s: code %u\n", what, code);
+        fprintf(stderr, "%s: %s\n", what, pardz_strerror(code));
         exit(1);
     }
 }

@@ -1,4 +1,4 @@
-/* The heap that libpoolffi.a calls, over the C library's, and the numbers of pools: see pardz.h. To be linked once a program. */
+/* The heap that the library calls, over the C library's, and the numbers of pools: see pardz.h. To be linked once a program. */
 #include "pardz.h"
 
 #include <stdatomic.h>

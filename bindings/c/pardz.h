@@ -6,8 +6,9 @@
  * pardz_append, pardz_room and pardz_put take memory, and pardz_close, a pardz_open that is refused and whoever lets go last of a
  * place that is used up give it back.
  *
- * Link with libpoolffi.a and heap.c, in C11, C++11 or later, for x86-64 of level 2 (x86-64-v2) and ELF. docs/FOREIGN.md tells what
- * may be relied on.
+ * Link with heap.c and one of two libraries, whose calls do the same: libpoolffi.a, which is proved up to these calls, for x86-64 of
+ * level 2 (x86-64-v2) and ELF; or libpardz.a or libpardz.so, which cargo builds, and which are made from the proved sources and not
+ * proved. In C99 (heap.c in C11), C++11 or later. docs/C.md tells what may be relied on, and README.md of the two.
  *
  * The caller's duties (nothing checks them):
  *
@@ -42,6 +43,9 @@
 
 #include <stddef.h>
 #include <stdint.h>
+
+/* The version of this header. */
+#define PARDZ_VERSION "0.2.0"
 
 #ifdef __cplusplus
 extern "C" {
@@ -92,6 +96,31 @@ enum {
     PARDZ_ROOM = 13,        /* wrote: more bytes than the last pardz_room gave */
     PARDZ_SHARED = 14       /* close: all lanes were joined, but some into another pool that was opened under the same number */
 };
+
+/* What a code says, for a message. It is never NULL: a number that is no code has a text too. */
+static inline const char *pardz_strerror(uint32_t code) {
+    static const char *const texts[] = {
+        "no error",
+        "memory was refused",
+        "the slot has no lane",
+        "a slot already has a lane",
+        "no place of the lane is free",
+        "the lane already has 16 fillings",
+        "the lane has no filling under this key",
+        "the lane has no reference to this key",
+        "nothing is published under this key",
+        "the lane has as many references as it can have",
+        "the lanes are of different pools",
+        "not the number of lanes, or not the lane whose turn it is",
+        "the shape is outside its limits",
+        "more bytes than the room has",
+        "another pool was opened under the same number",
+    };
+    return code < sizeof texts / sizeof *texts ? texts[code] : "no code of pardz";
+}
+
+/* The version of the library, which may be another than the header's. libpardz.a and libpardz.so have it, and libpoolffi.a hasn't. */
+const char *pardz_version(void);
 
 /* A number that this process wasn't given before: heap.c has it. */
 uint64_t pardz_next_number(void);

@@ -479,7 +479,19 @@ static void moved(void) {
     CHECK(census.free == 2 && census.unopened == 10);
 }
 
+/* Each code has a text of its own, and what is no code another. */
+static void texts(void) {
+    for (uint32_t code = 0; code < CODES; code++) {
+        CHECK(*pardz_strerror(code) != 0 && strcmp(pardz_strerror(code), pardz_strerror(CODES)) != 0);
+        for (uint32_t other = 0; other < code; other++)
+            CHECK(strcmp(pardz_strerror(code), pardz_strerror(other)) != 0);
+    }
+    CHECK(pardz_strerror(UINT32_MAX) == pardz_strerror(CODES));
+    CHECK(strcmp(pardz_strerror(PARDZ_SHARED), "another pool was opened under the same number") == 0);
+}
+
 int main(void) {
+    texts();
     opens();
     pardz_lane lanes[2] = { PARDZ_EMPTY, PARDZ_EMPTY }, empty = PARDZ_EMPTY;
     EXPECT(OPEN, OK, pardz_open(&SHAPE, lanes, 2));

@@ -1,0 +1,181 @@
+//! What a slot has: a lane, its share of the pool, and the places that it fills.
+use crate::bytes::Bytes;
+use crate::code::Refusal;
+use crate::counts::Counts;
+use crate::erased::shardpool::{CreateFault, Filling, Lane, MOST_REFERENCES};
+use crate::shared::Share;
+use crate::shim;
+
+/// The most places that a lane fills at once.
+pub(crate) const MOST_FILLINGS: usize = 16;
+
+/// A lane, with its share of the pool and the places that it fills.
+pub(crate) struct Handle {
+    pub(crate) share: Share,
+    pub(crate) lane: Lane<Bytes>,
+    /// The lane's references, by key.
+    pub(crate) counts: Counts,
+    /// With room for `MOST_FILLINGS`.
+    pub(crate) fillings: Vec<Filling<Bytes>>,
+    /// How many lanes were joined to this one.
+    pub(crate) joined: u32,
+    /// Of lane 0, an empty row with room for all lanes, so that a close takes no memory.
+    pub(crate) row: shim::Vec<Lane<Bytes>>,
+}
+
+impl From<CreateFault> for Refusal {
+    fn from(fault: CreateFault) -> Refusal {
+        match fault {
+            CreateFault::Full => Refusal::Full,
+            CreateFault::Memory => Refusal::Memory,
+        }
+    }
+}
+
+/// As an answer, whether a call did something.
+#[inline]
+fn done(is_done: bool, refusal: Refusal) -> Result<(), Refusal> {
+    if is_done {
+        Ok(())
+    } else {
+        Err(refusal)
+    }
+}
+
+impl Handle {
+    /// Takes a place to be filled. Answers the key under which it will be published.
+    pub(crate) fn create(&mut self) -> Result<u64, Refusal> {
+        if self.fillings.len() == MOST_FILLINGS {
+            return Err(Refusal::Fillings);
+        }
+        let filling = self.share.pool.create(&mut self.lane)?;
+        let key = filling.key();
+        self.fillings.push(filling);
+        Ok(key)
+    }
+
+    /// Where the filling of a key stands.
+    #[inline]
+    fn find(&self, key: u64) -> Result<usize, Refusal> {
+        let found = self
+            .fillings
+            .iter()
+            .position(|filling| filling.key() == key);
+        found.ok_or(Refusal::NoFilling)
+    }
+
+    /// The bytes of a filling.
+    #[inline]
+    fn filling(&mut self, key: u64) -> Result<&mut Bytes, Refusal> {
+        let index = self.find(key)?;
+        Ok(self.fillings[index].value_mut())
+    }
+
+    /// Takes a filling out.
+    #[inline]
+    fn take(&mut self, key: u64) -> Result<Filling<Bytes>, Refusal> {
+        let index = self.find(key)?;
+        Ok(self.fillings.swap_remove(index))
+    }
+
+    /// Appends to a filling.
+    pub(crate) fn append(&mut self, key: u64, bytes: &[u8]) -> Result<(), Refusal> {
+        self.filling(key)?.append(bytes)
+    }
+
+    /// Lends so many bytes behind those of a filling, which are zeros.
+    pub(crate) fn room(&mut self, key: u64, count: usize) -> Result<*mut u8, Refusal> {
+        self.filling(key)?.lend(count)
+    }
+
+    /// The first so many bytes of the room belong to the filling, and the others don't.
+    pub(crate) fn wrote(&mut self, key: u64, count: usize) -> Result<(), Refusal> {
+        self.filling(key)?.wrote(count)
+    }
+
+    /// Publishes a filling.
+    pub(crate) fn publish(&mut self, key: u64) -> Result<(), Refusal> {
+        let filling = self.take(key)?;
+        self.share.pool.publish(&mut self.lane, filling);
+        Ok(())
+    }
+
+    /// Publishes a filling, and takes a reference to it.
+    pub(crate) fn downgrade(&mut self, key: u64) -> Result<(), Refusal> {
+        self.find(key)?;
+        self.has_reference_left()?;
+        let filling = self.take(key)?;
+        let reference = self.share.pool.downgrade(&mut self.lane, filling);
+        if let Some(start) = self.lane.start_of_key(reference.key()) {
+            self.counts.gain(start, reference.key());
+        }
+        reference.forget();
+        Ok(())
+    }
+
+    #[inline]
+    fn has_reference_left(&self) -> Result<(), Refusal> {
+        done(self.lane.refs() < MOST_REFERENCES, Refusal::References)
+    }
+
+    /// A filling ends unpublished. Its place stays filling until the pool is closed.
+    pub(crate) fn leave(&mut self, key: u64) -> Result<(), Refusal> {
+        self.take(key)?.forget();
+        Ok(())
+    }
+
+    /// Publishes bytes in a place of their own. Where memory is refused for them, the place is published empty and cleared.
+    pub(crate) fn put(&mut self, bytes: &[u8]) -> Result<u64, Refusal> {
+        let mut filling = self.share.pool.create(&mut self.lane)?;
+        let appended = filling.value_mut().append(bytes);
+        let key = self.share.pool.publish(&mut self.lane, filling);
+        if appended.is_err() {
+            self.share.pool.clear(&mut self.lane, key);
+        }
+        appended.map(|()| key)
+    }
+
+    /// Takes a reference to a key, and answers its bytes.
+    pub(crate) fn get(&mut self, key: u64) -> Result<&[u8], Refusal> {
+        self.has_reference_left()?;
+        let start = self.share.pool.get_at(&mut self.lane, key);
+        let start = start.ok_or(Refusal::Gone)?;
+        self.counts.gain(start, key);
+        Ok(self.lane.read_at(start, key).as_slice())
+    }
+
+    /// The bytes of a key to which the lane has a reference.
+    pub(crate) fn read(&mut self, key: u64) -> Result<&[u8], Refusal> {
+        let start = self.held(key)?;
+        Ok(self.lane.read_at(start, key).as_slice())
+    }
+
+    /// Where the place of a key stands, to which the lane has a reference.
+    #[inline]
+    fn held(&self, key: u64) -> Result<u32, Refusal> {
+        let start = self.lane.start_of_key(key);
+        start
+            .filter(|start| self.counts.has(*start, key))
+            .ok_or(Refusal::NoReference)
+    }
+
+    /// Gives a reference back.
+    pub(crate) fn release(&mut self, key: u64) -> Result<(), Refusal> {
+        let start = self.held(key)?;
+        self.share.pool.release_at(&mut self.lane, start, key);
+        self.counts.lose(start);
+        Ok(())
+    }
+
+    /// Clears a key.
+    pub(crate) fn clear(&mut self, key: u64) -> Result<(), Refusal> {
+        done(self.share.pool.clear(&mut self.lane, key), Refusal::Gone)
+    }
+
+    /// Gives the fillings up, whose places stay filling.
+    pub(crate) fn leave_all(&mut self) {
+        for filling in self.fillings.drain(..) {
+            filling.forget();
+        }
+    }
+}

@@ -1,0 +1,265 @@
+//! The calls of `pardz.h`, with the codes and the behaviour of the proved archive, in plain Rust.
+//!
+//! The pool is that of the crate `pardz`: `erased`, which is made from the proved sources, and the `shim` below it. Nothing here is
+//! proved. What the header asks of a program nothing here tests, so each call is `unsafe`.
+#![deny(unsafe_op_in_unsafe_fn)]
+
+mod bytes;
+mod code;
+mod counts;
+mod ends;
+#[path = "../../../rust/src/erased/mod.rs"]
+mod erased;
+mod handle;
+mod heap;
+mod opening;
+mod place;
+mod shared;
+#[path = "../../../rust/src/shim/mod.rs"]
+#[allow(dead_code, unused_imports)]
+mod shim;
+mod slot;
+#[path = "../../../rust/src/sync.rs"]
+#[allow(dead_code, unused_imports)]
+mod sync;
+
+use crate::code::{code, Refusal, OK};
+use crate::erased::keybits::Shape;
+use crate::erased::shardpool::Census;
+use crate::slot::Slot;
+use std::ffi::c_char;
+use std::slice;
+
+/// What a pool is opened with.
+#[repr(C)]
+struct PoolShape {
+    lanes: u32,
+    first_page: u32,
+    pages: u32,
+    last_generation: u32,
+    tag: u32,
+}
+
+/// How many places were what when the pool was closed.
+#[repr(C)]
+struct PoolCensus {
+    free: u32,
+    unopened: u32,
+    filling: u32,
+    present: u32,
+    marked: u32,
+    retired: u32,
+}
+
+/// The bytes of a program.
+///
+/// # Safety
+///
+/// So many bytes stand there for the time of the call, or there are none.
+unsafe fn bytes_of<'b>(bytes: *const u8, len: usize) -> &'b [u8] {
+    if len == 0 {
+        return &[];
+    }
+    // SAFETY: asked of the program.
+    unsafe { slice::from_raw_parts(bytes, len) }
+}
+
+/// Writes what a call answers where it went well. What is asked of each call below is in the header.
+///
+/// # Safety
+///
+/// The pointer leads to a value of the program, which nobody else uses during the call.
+unsafe fn told<V>(answer: Result<V, Refusal>, to: *mut V) -> u32 {
+    match answer {
+        Ok(value) => {
+            // SAFETY: asked of the program.
+            unsafe { to.write(value) };
+            OK
+        }
+        Err(refusal) => refusal as u32,
+    }
+}
+
+/// Tells where bytes are, and how many. No address is written where there are none.
+///
+/// # Safety
+///
+/// As with `told`, of both pointers.
+unsafe fn lent(answer: Result<&[u8], Refusal>, at: *mut *const u8, len: *mut usize) -> u32 {
+    match answer {
+        Ok(bytes) => {
+            // SAFETY: asked of the program.
+            unsafe {
+                len.write(bytes.len());
+                if !bytes.is_empty() {
+                    at.write(bytes.as_ptr());
+                }
+            }
+            OK
+        }
+        Err(refusal) => refusal as u32,
+    }
+}
+
+#[no_mangle]
+unsafe extern "C" fn pardz_open_numbered(
+    shape: *const PoolShape,
+    lanes: *mut Slot,
+    count: usize,
+    number: u64,
+) -> u32 {
+    // SAFETY: asked of the program.
+    let PoolShape {
+        lanes: lane_count,
+        first_page,
+        pages,
+        last_generation,
+        tag,
+    } = *unsafe { &*shape };
+    let shape = Shape {
+        lanes: lane_count,
+        first_page,
+        pages,
+        last_generation,
+        tag,
+    };
+    let slots = match count {
+        0 => &mut [],
+        // SAFETY: asked of the program: so many slots stand there.
+        _ => unsafe { slice::from_raw_parts_mut(lanes, count) },
+    };
+    code(opening::open(shape, number, slots))
+}
+
+#[no_mangle]
+unsafe extern "C" fn pardz_create(lane: *mut Slot, key: *mut u64) -> u32 {
+    // SAFETY: asked of the program.
+    unsafe { told(Slot::lend(lane).and_then(|handle| handle.create()), key) }
+}
+
+#[no_mangle]
+unsafe extern "C" fn pardz_append(lane: *mut Slot, key: u64, bytes: *const u8, len: usize) -> u32 {
+    // SAFETY: asked of the program.
+    let (handle, bytes) = unsafe { (Slot::lend(lane), bytes_of(bytes, len)) };
+    code(handle.and_then(|handle| handle.append(key, bytes)))
+}
+
+#[no_mangle]
+unsafe extern "C" fn pardz_room(lane: *mut Slot, key: u64, count: usize, at: *mut *mut u8) -> u32 {
+    // SAFETY: asked of the program.
+    let room = unsafe { Slot::lend(lane) }.and_then(|handle| handle.room(key, count));
+    match room {
+        Ok(_) if count == 0 => OK,
+        // SAFETY: asked of the program.
+        room => unsafe { told(room, at) },
+    }
+}
+
+#[no_mangle]
+unsafe extern "C" fn pardz_wrote(lane: *mut Slot, key: u64, count: usize) -> u32 {
+    // SAFETY: asked of the program.
+    code(unsafe { Slot::lend(lane) }.and_then(|handle| handle.wrote(key, count)))
+}
+
+#[no_mangle]
+unsafe extern "C" fn pardz_publish(lane: *mut Slot, key: u64) -> u32 {
+    // SAFETY: asked of the program.
+    code(unsafe { Slot::lend(lane) }.and_then(|handle| handle.publish(key)))
+}
+
+#[no_mangle]
+unsafe extern "C" fn pardz_downgrade(lane: *mut Slot, key: u64) -> u32 {
+    // SAFETY: asked of the program.
+    code(unsafe { Slot::lend(lane) }.and_then(|handle| handle.downgrade(key)))
+}
+
+#[no_mangle]
+unsafe extern "C" fn pardz_put(
+    lane: *mut Slot,
+    bytes: *const u8,
+    len: usize,
+    key: *mut u64,
+) -> u32 {
+    // SAFETY: asked of the program.
+    unsafe {
+        let bytes = bytes_of(bytes, len);
+        told(Slot::lend(lane).and_then(|handle| handle.put(bytes)), key)
+    }
+}
+
+#[no_mangle]
+unsafe extern "C" fn pardz_leave(lane: *mut Slot, key: u64) -> u32 {
+    // SAFETY: asked of the program.
+    code(unsafe { Slot::lend(lane) }.and_then(|handle| handle.leave(key)))
+}
+
+#[no_mangle]
+unsafe extern "C" fn pardz_get(
+    lane: *mut Slot,
+    key: u64,
+    at: *mut *const u8,
+    len: *mut usize,
+) -> u32 {
+    // SAFETY: asked of the program.
+    unsafe { lent(Slot::lend(lane).and_then(|handle| handle.get(key)), at, len) }
+}
+
+#[no_mangle]
+unsafe extern "C" fn pardz_read(
+    lane: *mut Slot,
+    key: u64,
+    at: *mut *const u8,
+    len: *mut usize,
+) -> u32 {
+    // SAFETY: asked of the program.
+    unsafe {
+        lent(
+            Slot::lend(lane).and_then(|handle| handle.read(key)),
+            at,
+            len,
+        )
+    }
+}
+
+#[no_mangle]
+unsafe extern "C" fn pardz_release(lane: *mut Slot, key: u64) -> u32 {
+    // SAFETY: asked of the program.
+    code(unsafe { Slot::lend(lane) }.and_then(|handle| handle.release(key)))
+}
+
+#[no_mangle]
+unsafe extern "C" fn pardz_clear(lane: *mut Slot, key: u64) -> u32 {
+    // SAFETY: asked of the program.
+    code(unsafe { Slot::lend(lane) }.and_then(|handle| handle.clear(key)))
+}
+
+#[no_mangle]
+unsafe extern "C" fn pardz_join(into: *mut Slot, lane: *mut Slot) -> u32 {
+    // SAFETY: asked of the program.
+    code(unsafe { ends::join(into, lane) })
+}
+
+#[no_mangle]
+unsafe extern "C" fn pardz_close(lane: *mut Slot, census: *mut PoolCensus) -> u32 {
+    // SAFETY: asked of the program.
+    unsafe { told(ends::close(lane).map(PoolCensus::from), census) }
+}
+
+/// The library's version, as a text of C.
+#[no_mangle]
+extern "C" fn pardz_version() -> *const c_char {
+    concat!(env!("CARGO_PKG_VERSION"), "\0").as_ptr().cast()
+}
+
+impl From<Census> for PoolCensus {
+    fn from(census: Census) -> PoolCensus {
+        PoolCensus {
+            free: census.free,
+            unopened: census.unopened,
+            filling: census.filling,
+            present: census.present,
+            marked: census.marked,
+            retired: census.retired,
+        }
+    }
+}
