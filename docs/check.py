@@ -3,12 +3,14 @@
 
 usage: python3 docs/check.py
 
-- links: each relative link leads to a file, and each anchor to a heading
-- snippets: each fenced block of README, USING and FOREIGN stands in a source, but for lines of `...` (or `// ...`) between its parts
+- links: each relative link leads to a file, and each anchor to a heading; docs/README.md links to each page of docs
+- snippets: each fenced block of README, USING and C stands in a source, but for lines of `...` (or `// ...`) between its parts
 - figures: where a figure stands on two pages, or follows from the repository, it is the same; a number of edits, minutes of the gate,
   instructions or ns stands on the page where it is at home, if it stands on another
-- names: the edits of WRONG_BODIES are those of the crates; the files that pages name are there; what PROVED names stands in a source
-- sentences: none beyond 40 words, and 22 on average, on the pages that are read first; words of all pages
+- versions: the programs, the crate, the release and the pages say one version
+- names: the edits of WRONG_BODIES are those of the crates; the files that pages name are there; what PROVED names stands in a source; each
+  crate has a README, which names all files of its src, and so have the notes of bindings/rust
+- lines: no row of a table is longer than 400 characters
 - DEFINITIONS is what definitions.py writes, and the picture of the crates what crates_picture.py does
 - what docs/begin makes is the sample under another name
 """
@@ -26,43 +28,58 @@ import definitions
 ROOT = pathlib.Path(__file__).resolve().parent.parent
 PAGES = sorted((ROOT / "docs").glob("*.md"))
 TOP = [ROOT / name for name in ("README.md", "CHANGELOG.md", "CONTRIBUTING.md", "SECURITY.md") if (ROOT / name).is_file()]
-OTHERS = sorted((ROOT / "bindings").glob("**/README.md"))
-READ_FIRST = ("README.md", "docs/USING.md", "docs/FOREIGN.md", "docs/ARCHITECTURE.md")
-MOST_WORDS, MEAN_WORDS = 40, 22
-WORDS_OF_README, WORDS_OF_PAGES = 1000, 32000
+OTHERS = sorted((ROOT / "bindings").glob("**/README.md")) + [ROOT / "bindings/rust/CHANGELOG.md", ROOT / "bindings/rust/CONTRIBUTING.md"]
+NOTES = [ROOT / "crates" / crate / "README.md" for crate in definitions.crates()]
+WITH_SNIPPETS = ("README.md", "docs/USING.md", "docs/C.md")
+LONGEST_ROW = 400
 
 # A figure, and where it stands: in each page by a pattern, whose groups are all the same. The first place is the one to change first.
 CRATES = len(definitions.crates())
 EDITS = [path for crate in definitions.crates() for path in ROOT.glob(f"crates/{crate}/must-fail/*.edit")]
 FIGURES = [
     ("edits", str(len(EDITS)), [("docs/GATE.md", r"(\d+) edits refused")]),
-    ("crates", str(CRATES), [("README.md", r"all (\d+) crates"), ("docs/ARCHITECTURE.md", r"^(\d+) crates in")]),
-    ("the kit", None, [("docs/PROVED.md", r"`(rattle-kit-\w+) logic"), ("README.md", r"(rattle-kit-\w+)"), ("docs/USING.md", r"(rattle-kit-\w+)")]),
-    ("the crate's version", None, [("bindings/rust/Cargo.toml", r'^version = "([\d.]+)"'), ("README.md", r"\*\*Version\*\* ([\d.]+)"), ("docs/release", r'^VERSION = "([\d.]+)"')]),
+    ("crates", str(CRATES), [("README.md", r"all (\d+) crates"), ("docs/ARCHITECTURE.md", r"^The (\d+) crates")]),
+    ("the kit", None, [("docs/PROVED.md", r"`(rattle-kit-\w+) logic"), ("README.md", r"(rattle-kit-\w+)"), ("docs/USING.md", r"(rattle-kit-\w+)"), ("CONTRIBUTING.md", r"(rattle-kit-\w+)")]),
     ("get, 16 lanes, ns", None, [("docs/BENCHMARK.md", r"^\| get-many \| \d+ \| (\d+ \| \d+ \| \d+ \| \d+) \|$"), ("README.md", r"^\| get, read, release \| (\d+ \| \d+ \| \d+ \| \d+) \|$")]),
     ("get on four threads, ns", None, [("docs/BENCHMARK.md", r"^\| get-many, 4 threads \| \d+ \| (\d+ \| \d+ \| \d+) \|"), ("README.md", r"^\| the same, 4 threads \| (\d+ \| \d+ \| \d+) \| \|")]),
     ("one key on four threads, ns", None, [("docs/BENCHMARK.md", r"^\| get-shared, 4 threads \| (\d+) \|"), ("README.md", r"^\| the same of one key, 4 threads \| (\d+) \|")]),
     ("cycle, ns", None, [("docs/BENCHMARK.md", r"^\| cycle \| \d+ \| (\d+ \| \d+ \| \d+ \| \d+) \|"), ("README.md", r"^\| create, fill, publish, clear \| (\d+ \| \d+ \| \d+ \| \d+) \|")]),
-    ("cycle on four threads, ns", None, [("docs/BENCHMARK.md", r"^\| cycle, 4 threads \| \d+ \| ([\d,]+ \| [\d,]+ \| [\d,]+ \| [\d,]+) \|"), ("README.md", r"^\| the same, 4 threads \| (\d+ \| \d+ \| \d+ \| \d+) \|")]),
-    ("the crate's get, ns", None, [("docs/BENCHMARK.md", r"^\| get-many, 64 bytes \|.*\| (\d+) \| \d+ \|$"), ("README.md", r"Rust crate took (\d+) and")]),
-    ("the crate's cycle, ns", None, [("docs/BENCHMARK.md", r"^\| cycle, 64 bytes \|.*\| (\d+) \| \d+ \|$"), ("README.md", r"Rust crate took \d+ and (\d+)")]),
-    ("the crate's get, instructions", None, [("docs/BENCHMARK.md", r"^\| get-many, 64 bytes \| (\d+ \| \d+ \| \d+) \|"), ("docs/FOREIGN.md", r"^\| get-many \| \d+ \| (\d+ \| \d+ \| \d+) \|")]),
-    ("the crate's cycle, instructions", None, [("docs/BENCHMARK.md", r"^\| cycle, 64 bytes \| (\d+ \| \d+ \| \d+) \|"), ("docs/FOREIGN.md", r"^\| cycle: a put and a clear \| \d+ \| (\d+ \| \d+ \| \d+) \|")]),
-    ("the crate's cycle of objects, instructions", None, [("docs/BENCHMARK.md", r"^\| cycle, objects of 192 bytes \| (\d+ \| \d+ \| \d+) \|"), ("docs/FOREIGN.md", r"^\| cycle of objects of 192 bytes \| \| (\d+ \| \d+ \| \d+) \|")]),
-    ("a native get, instructions", None, [("docs/BENCHMARK.md", r"^\| get-many \| (\d+) \| \d+ \| \d+ \| \d+ \|$"), ("docs/FOREIGN.md", r"native get-many takes (\d+)")]),
+    ("cycle on four threads, ns", None, [("docs/BENCHMARK.md", r"^\| cycle, 4 threads \| \d+ \| ([\d,]+ \| [\d,]+ \| [\d,]+ \| [\d,]+) \|"), ("README.md", r"^\| the same, 4 threads \| (\d+ \| \d+ \| [\d,]+ \| \d+) \|")]),
+    ("the crate's get, ns", None, [("docs/BENCHMARK.md", r"^\| a get with its drop \| (\d+ \| \d+) \|"), ("README.md", r"^\| get, read, drop \| (\d+ \| \d+) \|")]),
+    ("the crate's owned get, ns", None, [("docs/BENCHMARK.md", r"^\| `get_owned` with its drop \| (\d+ \| \d+) \|"), ("README.md", r"^\| the same by an owned reference \| (\d+ \| \d+) \|")]),
+    ("the crate's cycle, ns", None, [("docs/BENCHMARK.md", r"^\| a cycle \| (\d+ \| \d+) \|"), ("README.md", r"^\| create, fill, publish, clear \| (\d+ \| \d+) \|$")]),
+    ("the crate's owned cycle, ns", None, [("docs/BENCHMARK.md", r"^\| `create_owned`, publish, clear \| (\d+ \| \d+) \|"), ("README.md", r"^\| the same by an owned filling \| (\d+ \| \d+) \|")]),
+    ("nested spans, ns", None, [("docs/BENCHMARK.md", r"^\| two nested spans under tracing-subscriber \| (\d+ \| \d+) \|"), ("README.md", r"^\| two nested spans under tracing-subscriber \| (\d+ \| \d+) \|")]),
+    ("an opened pool, ns", None, [("docs/BENCHMARK.md", r"^\| a pool opened and dropped \| ([\d,]+ \| [\d,]+) \|"), ("README.md", r"^\| a pool opened and dropped \| ([\d,]+ \| [\d,]+) \|")]),
+    ("a native get, instructions", None, [("docs/BENCHMARK.md", r"^\| get-many \| (\d+ \| \d+) \| \d+ \| \d+ \|$"), ("docs/C.md", r"^\| get-many \| \d+ \| (\d+ \| \d+) \|")]),
+    ("a native cycle, instructions", None, [("docs/BENCHMARK.md", r"^\| cycle \| (\d+ \| \d+) \| \d+ \| \d+ \|$"), ("docs/C.md", r"^\| cycle: a put and a clear \| \d+ \| (\d+ \| \d+) \|")]),
     ("the crate's get, instructions, on its own page", None, [("docs/BENCHMARK.md", r"^\| get-many, 64 bytes \| (\d+) \|"), ("bindings/rust/README.md", r"^\| a get with its drop \| (\d+) instructions")]),
-    ("the crate's get without a lane, instructions", None, [("bindings/rust/README.md", r"instructions \| (\d+), where the thread has a lane"), ("docs/FOREIGN.md", r"live on then, the lane is shared \| (\d+), and")]),
     ("a full pool, instructions", None, [("docs/BENCHMARK.md", r"^\| full16 \| (\d+) \|"), ("docs/BENCHMARK.md", r"after (\d+) instructions")]),
-    ("the gate, processor minutes", None, [("docs/GATE.md", r"some (\d+) processor minutes"), ("CONTRIBUTING.md", r"some (\d+) processor minutes")]),
-    ("the sample's proof, minutes", None, [("docs/GATE.md", r"some (\d+) minutes; in `crates/poolrun`"), ("README.md", r"some (\d+) processor minutes")]),
-    ("exports", str(len(re.findall(r"^uint32_t pardz_", (ROOT / "bindings/c/pardz.h").read_text(encoding="utf-8"), re.M))), [("docs/PROVED.md", r"all (\d+) exports"), ("docs/FOREIGN.md", r"its (\d+) calls")]),
+    ("the gate, processor minutes", None, [("docs/GATE.md", r"some (\d+) processor minutes"), ("CONTRIBUTING.md", r"some (\d+) processor minutes"), ("README.md", r"some (\d+) processor minutes")]),
+    ("exports", str(len(re.findall(r"^uint32_t pardz_", (ROOT / "bindings/c/pardz.h").read_text(encoding="utf-8"), re.M))), [("docs/PROVED.md", r"all (\d+) exports"), ("docs/C.md", r"declares (\d+) functions")]),
+]
+
+# Where the version stands; the first place is the one to change first.
+VERSIONS = [
+    ("bindings/rust/Cargo.toml", r'^version = "([\d.]+)"'),
+    ("bindings/rust/Cargo.lock", r'^name = "pardz"\nversion = "([\d.]+)"'),
+    ("bindings/rust/CHANGELOG.md", r"\A# Changes\n(?:(?!## \d).*\n)*## ([\d.]+)"),
+    ("bindings/c/library/Cargo.toml", r'^version = "([\d.]+)"'),
+    ("bindings/c/library/Cargo.lock", r'^name = "pardz-c"\nversion = "([\d.]+)"'),
+    ("bindings/c/pardz.h", r'^#define PARDZ_VERSION "([\d.]+)"'),
+    ("crates/commandline/src/run_lines.rt", r'^pub\(crate\) const VERSION: &str = "([\d.]+)"'),
+    ("bindings/programs/rows/words", r"^=~ (?:poolrun|poolview) ([\d.]+)$"),
+    ("docs/pages/man/poolrun.1", r'"poolrun ([\d.]+)"'),
+    ("docs/release", r'^VERSION = "([\d.]+)"'),
+    ("CHANGELOG.md", r"\A# Changes\n(?:(?!## \d).*\n)*## ([\d.]+)"),
+    ("README.md", r"\*\*Version\*\* ([\d.]*\d)"),
 ]
 
 # Figures by their units: where they are at home. On another page such a number stands only if it stands there too.
 HOMES = {
     r"edits\b": ("docs/GATE.md",),
     r"processor minutes\b": ("docs/GATE.md",),
-    r"(?:instructions\b|ns\b|µs\b)": ("docs/BENCHMARK.md", "docs/SPEED.md", "docs/FOREIGN.md"),
+    r"(?:instructions\b|ns\b|µs\b)": ("docs/BENCHMARK.md", "docs/SPEED.md", "docs/C.md"),
 }
 # What DECISIONS alone tells: what a choice saved when it was made.
 PAST = {"421", "237"}
@@ -94,7 +111,10 @@ def anchors(path):
 
 def links():
     """Links that lead nowhere."""
-    for page in TOP + PAGES + OTHERS:
+    for page in TOP + PAGES + OTHERS + NOTES:
+        if not page.is_file():
+            yield f"{named(page)} isn't there"
+            continue
         for target in re.findall(r"\]\(([^)\s]+)\)", without_code(text_of(page))):
             if "://" in target:
                 continue
@@ -104,6 +124,8 @@ def links():
                 yield f"{named(page)}: {target}"
             elif part and goal.suffix == ".md" and part not in anchors(goal):
                 yield f"{named(page)}: no heading for {target}"
+    contents = text_of(ROOT / "docs/README.md")
+    yield from (f"docs/README.md: no link to {page.name}" for page in PAGES if page.name != "README.md" and f"]({page.name})" not in contents)
 
 
 def sources():
@@ -119,7 +141,7 @@ def sources():
 def snippets():
     """Snippets that stand in no source."""
     texts = sources()
-    for name in ("README.md", "docs/USING.md", "docs/FOREIGN.md"):
+    for name in WITH_SNIPPETS:
         for block in re.findall(r"^```\w*\n(.*?)^```$", text_of(ROOT / name), re.M | re.S):
             lines = [line.strip() for line in block.strip("\n").splitlines()]
             parts, part = [], []
@@ -148,11 +170,23 @@ def figures():
             yield f"{what}: " + ", ".join(f"{name} {it}" for name, it in sorted(told))
 
 
+def versions():
+    """Places that say another version, or none."""
+    told = {}
+    for name, pattern in VERSIONS:
+        found = set(re.findall(pattern, text_of(ROOT / name), re.M))
+        told[name] = " and ".join(sorted(found))
+        if not found:
+            yield f"not found in {name}"
+    if len(set(told.values())) > 1:
+        yield ", ".join(f"{name} {it}" for name, it in told.items())
+
+
 def strays():
     """Figures that stand on a page without standing where they are at home."""
     for unit, homes in HOMES.items():
         at_home = set(re.findall(r"[\d.,]*\d", " ".join(text_of(ROOT / name) for name in homes if (ROOT / name).is_file())))
-        for page in TOP + PAGES + OTHERS:
+        for page in TOP + PAGES + OTHERS + NOTES:
             if named(page) not in homes:
                 for number in re.findall(r"(?<![\d.,])(\d[\d.,]*) " + unit, text_of(page)):
                     if number not in at_home | PAST:
@@ -173,16 +207,41 @@ def wrong_bodies():
     yield from (f"no edit for {crate}/{name}" for crate, name in sorted(listed - there))
 
 
+def is_there(folder):
+    """Whether a file or a folder of sources is there; pages leave out the ending of a file of definitions or proofs."""
+    return folder.exists() or folder.with_name(folder.name + ".antt").exists()
+
+
 def paths():
     """Files of the repository that a page names and that aren't there."""
-    for page in TOP + PAGES:
-        for path in re.findall(r"`((?:crates|bindings|docs)/[\w./-]+)`", text_of(page)):
+    for page in TOP + PAGES + OTHERS + NOTES:
+        if page.name == "CHANGELOG.md":
+            continue
+        text = text_of(page)
+        for path in re.findall(r"`((?:crates|bindings|docs)/[\w./-]+)`", text):
             if "/out" not in path and not re.search(r"\b(CRATE|NAME)\b", path) and not (ROOT / path).exists():
                 yield f"{named(page)}: {path}"
-        for crate, path in re.findall(r"`(\w+)/((?:src|specs|proofs)/\w[\w./-]*)`", text_of(page)):
-            folder = ROOT / "crates" / crate / path
-            if (ROOT / "crates" / crate).is_dir() and not (folder.exists() or folder.with_suffix(".antt").exists()):
+        for crate, path in re.findall(r"`(\w+)/((?:src|specs|proofs|must-fail|data)/\w[\w./-]*)`", text):
+            if (ROOT / "crates" / crate).is_dir() and not is_there(ROOT / "crates" / crate / path):
                 yield f"{named(page)}: {crate}/{path}"
+
+
+def notes():
+    """Of the crates' READMEs and the Rust crate's notes: files that they name and that aren't there, and files of `src` that they don't name."""
+    for page in NOTES:
+        folder, text = page.parent, text_of(page)
+        for path in re.findall(r"`((?:src|specs|proofs|must-fail|data)/\w[\w./-]*)`", text):
+            if not is_there(folder / path):
+                yield f"{named(page)}: {path}"
+        told = set(re.findall(r"^- `(\w+\.rt)`", text, re.M))
+        there = {path.name for path in (folder / "src").glob("*.rt")} - {"lib.rt"}
+        yield from (f"{named(page)}: no line for {name}" for name in sorted(there - told))
+        yield from (f"{named(page)}: {name} isn't there" for name in sorted(told - there - {"lib.rt"}))
+    page = ROOT / "bindings/rust/CONTRIBUTING.md"
+    told = set(re.findall(r"`((?:src|tests|examples)/[\w/]+\.rs)`", text_of(page)))
+    there = {str(path.relative_to(page.parent)) for path in (page.parent / "src").rglob("*.rs") if "erased" not in path.parts}
+    yield from (f"{named(page)}: no line for {name}" for name in sorted(there - told))
+    yield from (f"{named(page)}: {name} isn't there" for name in sorted(told) if not (page.parent / name).is_file())
 
 
 def words_of_sources():
@@ -202,43 +261,12 @@ def names():
             yield f"{named(page)}: {name}"
 
 
-def sentences(path):
-    """The sentences of a page, each as its words: of its text, lists and nothing else."""
-    text = without_code(text_of(path))
-    blocks, block = [], []
-    for line in text.splitlines():
-        item = re.match(r"\s*(?:[-*]|\d+\.) +(.*)", line)
-        if not line.strip() or line.startswith(("|", "#", "!")) or item:
-            blocks.append(" ".join(block))
-            block = [item.group(1)] if item else []
-        else:
-            block.append(line)
-    blocks.append(" ".join(block))
-    for block in blocks:
-        block = re.sub(r"\[([^\]]*)\]\([^)]*\)", r"\1", block)
-        block = re.sub(r"`([^`]*)`", lambda it: it.group(1).replace(" ", "_").replace(". ", "_"), block)
-        for sentence in re.split(r"(?<=[.?!])[)*]* +(?=[A-Z*`(a-z0-9])", block.replace("**", "")):
-            words = sentence.split()
-            if words:
-                yield words
-
-
-def long_sentences():
-    """Sentences beyond the limit, and pages whose mean is."""
-    for name in READ_FIRST:
-        lengths = []
-        for words in sentences(ROOT / name):
-            lengths.append(len(words))
-            if len(words) > MOST_WORDS:
-                yield f"{name}: {len(words)} words: {' '.join(words[:9])} .."
-        if lengths and sum(lengths) / len(lengths) > MEAN_WORDS:
-            yield f"{name}: {sum(lengths) / len(lengths):.1f} words a sentence"
-    of_readme = len(text_of(ROOT / "README.md").split())
-    if of_readme > WORDS_OF_README:
-        yield f"README.md: {of_readme} words"
-    of_pages = sum(len(text_of(page).split()) for page in PAGES)
-    if of_pages > WORDS_OF_PAGES:
-        yield f"docs: {of_pages} words"
+def long_rows():
+    """Rows of tables that nobody reads to their end."""
+    for page in TOP + PAGES + OTHERS + NOTES:
+        for line in without_code(text_of(page)).splitlines():
+            if line.startswith("|") and len(line) > LONGEST_ROW:
+                yield f"{named(page)}: {len(line)} characters: {line[:60]} .."
 
 
 def made():
@@ -250,8 +278,9 @@ def made():
 
 
 def files_of(folder):
-    """The files of a crate, with their texts, by their names; what a check left is no part of it."""
-    return {str(path.relative_to(folder)): text_of(path) for path in folder.rglob("*") if path.is_file() and "out" not in path.relative_to(folder).parts}
+    """The files of a crate, with their texts, by their names; what a check left is no part of it, and its notes aren't copied."""
+    paths = [path for path in folder.rglob("*") if path.is_file() and "out" not in path.relative_to(folder).parts]
+    return {str(path.relative_to(folder)): text_of(path) for path in paths if path != folder / "README.md"}
 
 
 def begun():
@@ -276,7 +305,7 @@ def begun():
 
 def main():
     bad = 0
-    tests = (("links", links), ("snippets", snippets), ("figures", figures), ("figures at home", strays), ("the edits' rows", wrong_bodies), ("names of files", paths), ("names of definitions", names), ("sentences and words", long_sentences), ("pages that scripts write", made), ("the crate that docs/begin makes", begun))
+    tests = (("links", links), ("snippets", snippets), ("figures", figures), ("figures at home", strays), ("versions", versions), ("the edits' rows", wrong_bodies), ("names of files", paths), ("the crates' READMEs", notes), ("names of definitions", names), ("rows of tables", long_rows), ("pages that scripts write", made), ("the crate that docs/begin makes", begun))
     for name, test in tests:
         faults = list(test())
         bad += bool(faults)

@@ -15,7 +15,7 @@ ROOT = pathlib.Path(__file__).resolve().parent.parent
 PAGE = ROOT / "docs" / "DEFINITIONS.md"
 HEAD = """# Definitions
 
-What the contracts of the pool cite, file by file, in the crates' `specs/`. Made by `docs/definitions.py` from the comments there: of each file, the first sentence. Each definition has its sentence above it: `python3 docs/definitions.py WORD..` prints those that have the words, such as a crate's name, also of the programs, whose files [ARCHITECTURE](ARCHITECTURE.md#where-to-change-what) names. The words themselves: [GLOSSARY](GLOSSARY.md).
+What the contracts of the pool cite, file by file, in the crates' `specs/`. Made by `docs/definitions.py` from the comments there: of each file, the first sentence. Each definition has its sentence above it: `python3 docs/definitions.py WORD..` prints those that have the words, such as a crate's name, also of the programs, whose files their crates' READMEs name. The words themselves: [GLOSSARY](GLOSSARY.md).
 """
 # The band of crates.txt that the page leaves to the script.
 PROGRAMS = "# programs and tests"

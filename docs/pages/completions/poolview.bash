@@ -3,14 +3,14 @@ _poolview() {
     local word=${COMP_WORDS[COMP_CWORD]} before=${COMP_WORDS[COMP_CWORD-1]}
     COMPREPLY=()
     if [ "$COMP_CWORD" -eq 1 ]; then
-        mapfile -t COMPREPLY < <(compgen -W 'picture words summary json events page --help' -- "$word")
+        mapfile -t COMPREPLY < <(compgen -W 'picture words summary json events page check --help' -- "$word")
         return
     fi
     case ${COMP_WORDS[1]} in
     picture)
         case $before in --from | --turns) return ;; esac
         if [[ $word == -* ]]; then
-            mapfile -t COMPREPLY < <(compgen -W '--from --turns --fit --explain --help' -- "$word")
+            mapfile -t COMPREPLY < <(compgen -W '--from --turns --fit --whole --explain --help' -- "$word")
         else
             mapfile -t COMPREPLY < <(compgen -f -- "$word")
         fi
@@ -44,6 +44,13 @@ _poolview() {
         fi
         ;;
     page)
+        if [[ $word == -* ]]; then
+            mapfile -t COMPREPLY < <(compgen -W '--explain --help' -- "$word")
+        else
+            mapfile -t COMPREPLY < <(compgen -f -- "$word")
+        fi
+        ;;
+    check)
         if [[ $word == -* ]]; then
             mapfile -t COMPREPLY < <(compgen -W '--explain --help' -- "$word")
         else
