@@ -173,8 +173,7 @@ impl Walk {
         let within =
             |thread| spent + preempts(last, thread, fork.able) <= self.bound.unwrap_or(u32::MAX);
         let left = fork.wanted.without(fork.tried).without(fork.asleep);
-        let found = left.iter().find(|&thread| within(thread));
-        found
+        left.iter().find(|&thread| within(thread))
     }
 }
 

@@ -314,43 +314,34 @@ fn compare(seed: u64) -> usize {
         outcomes: BTreeSet::new(),
     };
     orders.go_on(Default::default(), None, 0);
-    let within = |most| {
-        orders
-            .outcomes
-            .iter()
-            .filter(move |(_, preemptions)| *preemptions <= most)
+    let outcomes = RefCell::new(BTreeSet::new());
+    let set_up = || Drawn {
+        program: program.clone(),
+        words: Default::default(),
+        found: Default::default(),
     };
-    for (extent, most) in [(Extent::All, u32::MAX)] {
-        let outcomes = RefCell::new(BTreeSet::new());
-        let set_up = || Drawn {
-            program: program.clone(),
-            words: Default::default(),
-            found: Default::default(),
-        };
-        let finish = |drawn: Drawn| {
-            let words = drawn.words.map(|word| word.load(SeqCst));
-            let found = drawn.found.into_inner().expect("no panic");
-            outcomes.borrow_mut().insert((found, words));
-        };
-        let works: [fn(&Drawn); 3] = [
-            |drawn| drawn.run(0),
-            |drawn| drawn.run(1),
-            |drawn| drawn.run(2),
-        ];
-        let plan = Plan {
-            name: "drawn",
-            extent,
-            forgets: false,
-        };
-        let report = explore(plan, set_up, &works, finish);
-        assert_eq!(report.failure, None);
-        let outcomes = outcomes.into_inner();
-        let missing = within(most).find(|(outcome, _)| !outcomes.contains(outcome));
-        assert_eq!(
-            missing, None,
-            "an outcome is left out, of {program:?}, {extent}"
-        );
-    }
-    let all: BTreeSet<&Outcome> = within(u32::MAX).map(|(outcome, _)| outcome).collect();
+    let finish = |drawn: Drawn| {
+        let words = drawn.words.map(|word| word.load(SeqCst));
+        let found = drawn.found.into_inner().expect("no panic");
+        outcomes.borrow_mut().insert((found, words));
+    };
+    let works: [fn(&Drawn); 3] = [
+        |drawn| drawn.run(0),
+        |drawn| drawn.run(1),
+        |drawn| drawn.run(2),
+    ];
+    let plan = Plan {
+        name: "drawn",
+        extent: Extent::All,
+        // What the threads found is kept beyond the schedule.
+        forgets: true,
+    };
+    let report = explore(plan, set_up, &works, finish);
+    assert_eq!(report.failure, None);
+    let outcomes = outcomes.into_inner();
+    let mut wanted = orders.outcomes.iter().map(|(outcome, _)| outcome);
+    let missing = wanted.find(|outcome| !outcomes.contains(outcome));
+    assert_eq!(missing, None, "an outcome is left out, of {program:?}");
+    let all: BTreeSet<&Outcome> = orders.outcomes.iter().map(|(outcome, _)| outcome).collect();
     all.len()
 }

@@ -29,7 +29,8 @@ pub fn all() -> Vec<Scenario> {
             || chain(true),
             [Chain::unwind, Chain::hold],
             second_emptied,
-        ),
+        )
+        .forgetting(),
         Scenario::new(
             "nested-pools",
             two_pools,

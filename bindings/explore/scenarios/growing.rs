@@ -158,7 +158,8 @@ fn outlives() -> Outlived {
     let pool = Pool::<Tracked>::growing().expect("memory");
     let lane = pool.lane().expect("nobody has it");
     let create = |_| lane.create_with(|object| object.set(3)).expect("a place");
-    let key = (0..=FIRST).map(create).last().expect("more than none");
+    let keys: Vec<Key> = (0..=FIRST).map(create).collect();
+    let key = keys[keys.len() - 1];
     drop(lane);
     let handle = || Mutex::new(pool.get_owned(key));
     let handles = [handle(), handle()];

@@ -63,7 +63,9 @@ pub struct Scenario {
     pub extent: Extent,
     /// How many objects are left by each schedule, since a thread forgot them.
     left: usize,
-    run: Box<dyn Fn(Extent, usize) -> Report>,
+    /// Whether memory is left that is of no object, as a payload that the crate forgets.
+    forgets: bool,
+    run: Box<dyn Fn(Extent, usize, bool) -> Report>,
 }
 
 impl Scenario {
@@ -79,16 +81,15 @@ impl Scenario {
             EMPTIED.store(0, SeqCst);
             set_up()
         };
-        let run = move |extent, left| {
+        let run = move |extent, left, forgets| {
             let end = |world| {
                 finish(world);
                 assert_eq!(ALIVE.swap(0, SeqCst), left, "objects are left");
             };
-            let forgets = left > 0;
             let plan = Plan {
                 name,
                 extent,
-                forgets,
+                forgets: forgets || left > 0,
             };
             explorer::explore(plan, begin, &works, end)
         };
@@ -96,6 +97,7 @@ impl Scenario {
             name,
             extent: Extent::All,
             left: 0,
+            forgets: false,
             run: Box::new(run),
         }
     }
@@ -111,8 +113,16 @@ impl Scenario {
         Scenario { left, ..self }
     }
 
+    /// The crate forgets a payload.
+    pub fn forgetting(self) -> Scenario {
+        Scenario {
+            forgets: true,
+            ..self
+        }
+    }
+
     pub fn explore(&self) -> Report {
-        (self.run)(self.extent, self.left)
+        (self.run)(self.extent, self.left, self.forgets)
     }
 }
 
