@@ -1,5 +1,5 @@
 -- The word that is on top then has the number of the one below.
-use Rattle.std.proofs.Common.{◌≡◌, ℕ, ◌+◌, ◌++◌, [], ◌∷◌, Bool, true, List, sym, ap, ◌∙◌, subst}
+use Rattle.std.proofs.Common.{◌≡◌, ℕ, ◌+◌, ◌++◌, [], ◌∷◌, Bool, List, sym, ap, ◌∙◌, subst}
 use Rattle.std.specs.Prelude.{if◌then◌else◌}
 use Rattle.poolsteps.specs.declared.memory.Loose.{Loose}
 use Rattle.poolsteps.specs.Rows.{Leads}

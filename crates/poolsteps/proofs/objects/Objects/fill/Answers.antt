@@ -7,7 +7,7 @@ use Rattle.poolsteps.specs.declared.rows.Own.{Own}
 use Rattle.poolsteps.specs.declared.rows.Own.TheVariants.{Away, Whole}
 use Rattle.poolsteps.specs.Objects.{ObjectsOf}
 use Rattle.poolsteps.specs.Rows.{is_here}
-use Rattle.poolsteps.proofs.own_rows.Shown.{start-low, right-high, right-at, here-at, own-at, rows-set, shown, shown-here}
+use Rattle.poolsteps.proofs.own_rows.Shown.{start-low, right-high, right-at, here-at, own-at, shown, shown-here}
 use Rattle.poolsteps.proofs.objects.Objects.fill.Goals as goal
 
 pub claim-requires-clause-index : goal.claim-requires-clause-index

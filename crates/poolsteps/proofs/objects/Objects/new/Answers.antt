@@ -1,5 +1,5 @@
 -- No right is here.
-use Rattle.std.proofs.Common.{◌≡◌, ◌+◌, ◌≤◌, ℕ, List, map, replicate, length, refl, ap, ◌∙◌, arith}
+use Rattle.std.proofs.Common.{◌≡◌, ◌+◌, ◌≤◌, ℕ, List, map, replicate, refl, ap, ◌∙◌, arith}
 use Rattle.std.specs.Prelude.{take}
 use Rattle.std.proofs.lemmas.List.{length-replicate, take-replicate}
 use Rattle.poolsteps.specs.declared.layout.TheConstants.{SHARDS_APART}

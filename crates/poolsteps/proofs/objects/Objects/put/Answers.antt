@@ -6,7 +6,7 @@ use Rattle.poolsteps.specs.declared.rows.Own.{Own}
 use Rattle.poolsteps.specs.declared.rows.Own.TheVariants.{Away}
 use Rattle.poolsteps.specs.Objects.{ObjectsOf}
 use Rattle.poolsteps.specs.Rows.{is_here}
-use Rattle.poolsteps.proofs.own_rows.Shown.{start-low, right-high, right-at, here-at, own-at, rows-set, shown, shown-set}
+use Rattle.poolsteps.proofs.own_rows.Shown.{start-low, right-high, right-at, here-at, own-at, shown, shown-set}
 use Rattle.poolsteps.proofs.objects.Objects.put.Goals as goal
 
 pub claim-requires-clause-index : goal.claim-requires-clause-index

@@ -1,10 +1,10 @@
 -- The last of what is left is of the place below those that are back.
-use Rattle.std.proofs.Common.{◌≡◌, ℕ, ◌+◌, ◌++◌, [], ◌∷◌, List, Some, length, sym, ap, ◌∙◌, subst, arith}
+use Rattle.std.proofs.Common.{◌≡◌, ℕ, ◌+◌, [], ◌∷◌, List, length, ap, ◌∙◌, subst, arith}
 use Rattle.std.specs.Prelude.{slice_get}
 use Rattle.poolsteps.specs.Directory.{Directory}
 use Rattle.poolsteps.specs.Spot.{Spot}
 use Rattle.poolsteps.specs.declared.rows.Own.{Own}
-use Rattle.poolsteps.specs.Rows.{AreOwn, IsOwnOf}
+use Rattle.poolsteps.specs.Rows.{IsOwnOf}
 use Rattle.poolsteps.proofs.own_rows.RowLemmas.{get-first, get-end, one-less}
 use Rattle.poolsteps.proofs.objects.Objects.put_back.Goals as goal
 
