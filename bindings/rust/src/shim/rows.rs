@@ -1,7 +1,7 @@
 //! Rows of values.
 
 use super::check;
-use super::heap::{self, free, zeroed, AllocError, Global};
+use super::heap::{self, free, zeroed, AllocError, AllocFailed, Global};
 use super::ready;
 use std::alloc::Layout;
 use std::fmt;
@@ -79,6 +79,16 @@ impl<T> Vec<T> {
             self.items.as_mut_ptr().add(length).write(value);
             self.items.set_len(length + 1);
         }
+    }
+
+    /// Appends a value. For want of memory it comes back.
+    #[inline]
+    pub(crate) fn push(&mut self, value: T) -> Result<(), AllocFailed<T>> {
+        if self.reserve(1).is_err() {
+            return Err(AllocFailed { value });
+        }
+        self.push_reserved(value);
+        Ok(())
     }
 
     /// Makes room for so many more.
