@@ -78,6 +78,8 @@ PLACES = {
     "{ & * base . ptr . add ( index ) }": "reads",
     "{ & mut * base . ptr . add ( index ) }": "writes",
     "{ ptr :: write ( base . ptr . add ( index ) , object ) }": "writes",
+    "{ ptr :: write ( base . ptr . add ( index ) , number ) }": "writes",
+    "{ ptr :: write ( base . ptr . add ( index ) , bare ) }": "writes",
     "{ ptr :: read ( base . ptr . add ( index ) ) }": "writes",
 }
 DERIVES = {"Clone", "Copy", "Debug", "PartialEq", "Eq", "Drop"}

@@ -1,7 +1,9 @@
 -- What the row of a lane holds. No public clause cites this module.
-use Rattle.std.specs.Prelude.{◌≡◌, ℕ, ◌+◌, ◌≤◌, ⊤, Bool, true, false, List, length, take, drop, slice_get, Option, Some, None}
+use Rattle.std.specs.Prelude.{◌≡◌, ℕ, ◌+◌, ◌≤◌, ⊤, Bool, true, false, List, [], ◌∷◌, length, slice_get, Option, Some, None}
 use denote.RawPtr.{Ptr}
 use Rattle.poolsteps.specs.Objects.{spot_at}
+use Rattle.poolsteps.specs.declared.layout.TheConstants.{SHARDS_APART}
+use Rattle.poolsteps.specs.declared.memory.Loose.{Loose}
 use Rattle.poolsteps.specs.declared.rows.Own.{Own}
 use Rattle.poolsteps.specs.declared.rows.Own.TheVariants.{Away, Vacant, Retired, Whole}
 
@@ -27,15 +29,17 @@ module _ {T : Type 0} where
   IsOwnOf directory start (Retired vacancy) = vacancy ≡ spot_at directory start
   IsOwnOf directory start (Whole whole) = whole.spot ≡ spot_at directory start
 
-  -- each right of a row is that to the place whose word has its number
-  abbrev pub AreOwn : Ptr → List (Own T) → Type 0
-  AreOwn directory row = (start : ℕ) (own : Own T) → slice_get row start ≡ Some own → IsOwnOf directory start own
+  -- each right of a row is that to the place whose word has its number, from the first on
+  abbrev pub AreOwn : Ptr → ℕ → List (Own T) → Type 0
+  AreOwn directory first row = (index : ℕ) (own : Own T) → slice_get row index ≡ Some own → IsOwnOf directory (first + index) own
 
--- so many entries of a list, from the first on
-abbrev pub part : {X : Type 0} → ℕ → ℕ → List X → List X
-part first places all = take places (drop first all)
+-- what holds of the row of a lane, whose own places stand from the first on, and of the directory of the rights that it keeps to others'
+pub record AreRows {T : Type 0} (directory : Ptr) (first places : ℕ) (row : List (Own T)) (kept : Ptr) : Type 0 where
+  pub own : AreOwn directory first row
+  pub room : places + SHARDS_APART ≤ length row
+  pub keeps : kept ≡ directory
 
--- what holds of the row of a lane, whose own places stand from the first on
-pub record AreRows {T : Type 0} (directory : Ptr) (first places : ℕ) (row : List (Own T)) : Type 0 where
-  pub own : AreOwn directory row
-  pub room : first + places ≤ length row
+-- each word of a chain has the number of the one below it, and one; the lowest has the first number, and the top is the last
+abbrev pub Leads : Ptr → ℕ → List (Loose ℕ) → ℕ → Type 0
+Leads directory below [] top = below ≡ top
+Leads directory below (word ∷ words) top = (word.base ≡ directory) × (word.object ≡ below) × Leads directory (word.index + 1) words top

@@ -1,5 +1,5 @@
 //! How a directory is freed.
-ghost use Rattle.std.specs.Prelude.{◌≡◌, IfSome};
+ghost use Rattle.std.specs.Prelude.{◌≡◌, ◌<◌, length};
 ghost use Rattle.std.specs.List.{All};
 ghost use denote.RawPtr.{Ptr};
 ghost use Rattle.poolsteps.specs.Objects.{spot_at};
@@ -9,8 +9,8 @@ use crate::directory::Directory;
 use crate::objects::Objects;
 use std::alloc::Global;
 
-/// Frees a directory, where the rights to all its places are with these lanes; each object that waits is dropped. Where
-/// a right is missing, what is left isn't freed.
+/// Frees a directory, where the rights to all its places are with these lanes, which stand by the order of their places;
+/// each object that waits is dropped. Where a right is missing, what is left isn't freed.
 pub fn close_directory<T: Drop>(
     alloc: Global,
     mut directory: Directory<T>,
@@ -19,26 +19,44 @@ pub fn close_directory<T: Drop>(
     requires next { directory.next ≡ directory.count }
     requires lanes { All (λ lane. lane.directory ≡ directory.at) lanes.items }
 {
-    let mut start = directory.count();
-    while start > 0 {
-        start -= 1;
-        let Some(vacancy) = find(&mut lanes, start) else {
+    for lane in 0..lanes.len() {
+        bring_home(alloc, &mut lanes, lane);
+    }
+    let mut end = directory.count();
+    while let Some(last) = lanes.pop() {
+        let Some(start) = last.put_back(&mut directory, end) else {
             return;
         };
-        directory.put_back(vacancy);
+        end = start;
     }
-    directory.close(alloc);
+    if end == 0 {
+        directory.close(alloc);
+    }
 }
 
-// Takes the right to a place from the lane that has it. None where none has.
-fn find<T: Drop>(lanes: &mut Vec<Objects<T>>, start: usize) -> Option<Vacancy<T>>
-    ensures { (at : Ptr) → All (λ lane. lane.directory ≡ at) lanes.old.items → IfSome result (λ vacancy. vacancy ≡ spot_at at start) × All (λ lane. lane.directory ≡ at) lanes.new.items }
+// Each right that a lane keeps to a place of another goes to that one.
+fn bring_home<T: Drop>(alloc: Global, lanes: &mut Vec<Objects<T>>, lane: usize)
+    requires lane { lane < length lanes.old.items }
+    requires lanes { (at : Ptr) × All (λ lane. lane.directory ≡ at) lanes.old.items }
+    ensures { lanes.new.items ≡ lanes.old.items }
 {
-    for lane in 0..lanes.len() {
-        let right = lanes[lane].release(start);
-        if right.is_some() {
-            return right;
+    for _ in 0..lanes[lane].kept_count() {
+        if let Some((start, vacancy)) = lanes[lane].give_up(alloc) {
+            give(lanes, start, vacancy);
         }
     }
-    None
+}
+
+// The right to a place goes to the lane whose own it is.
+fn give<T: Drop>(lanes: &mut Vec<Objects<T>>, start: usize, vacancy: Vacancy<T>)
+    requires { All (λ lane. vacancy ≡ spot_at lane.directory start) lanes.old.items }
+    ensures { lanes.new.items ≡ lanes.old.items }
+{
+    let mut right = vacancy;
+    for lane in 0..lanes.len() {
+        let Some(back) = lanes[lane].accept(start, right) else {
+            return;
+        };
+        right = back;
+    }
 }

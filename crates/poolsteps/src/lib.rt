@@ -10,6 +10,7 @@ mod directory;
 mod directory_end;
 mod find;
 mod grid;
+mod kept;
 mod laws;
 mod layout;
 mod memory;

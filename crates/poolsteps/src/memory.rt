@@ -145,6 +145,54 @@ pub(crate) fn of_boxes<T>(base: Base<Bare<T>>) -> Base<Box<T, Global>>
     }
 }
 
+// The same address, for what boxes leave in the words.
+pub(crate) fn of_bare<T>(base: Base<Box<T, Global>>) -> Base<Bare<T>>
+    ensures { result.ptr ≡ base.ptr }
+{
+    Base {
+        ptr: base.ptr as *mut Bare<T>,
+    }
+}
+
+// The same address, for numbers in the words.
+pub(crate) fn of_numbers<T>(base: Base<Box<T, Global>>) -> Base<usize>
+    ensures { result.ptr ≡ base.ptr }
+{
+    Base {
+        ptr: base.ptr as *mut usize,
+    }
+}
+
+// Writes a number into a word without a box.
+pub(crate) fn note<T>(
+    word: Loose<Bare<T>>,
+    base: Base<usize>,
+    index: usize,
+    number: usize,
+) -> Loose<usize>
+    requires { (base.ptr ≡ word.base) × (index ≡ word.index) }
+    ensures { (result.base ≡ word.base) × (result.index ≡ word.index) × (result.object ≡ number) }
+{
+    let Loose { mark: _ } = word;
+    unsafe { ptr::write(base.ptr.add(index), number) };
+    Loose { mark: PhantomData }
+}
+
+// Writes over the number what a box leaves in the word.
+pub(crate) fn blank<T>(
+    word: Loose<usize>,
+    base: Base<Bare<T>>,
+    index: usize,
+    bare: Bare<T>,
+) -> Loose<Bare<T>>
+    requires { (base.ptr ≡ word.base) × (index ≡ word.index) }
+    ensures { (result.base ≡ word.base) × (result.index ≡ word.index) × (result.object ≡ bare) }
+{
+    let Loose { mark: _ } = word;
+    unsafe { ptr::write(base.ptr.add(index), bare) };
+    Loose { mark: PhantomData }
+}
+
 // Writes a box into the word.
 pub(crate) fn fill<T>(
     word: Loose<Bare<T>>,

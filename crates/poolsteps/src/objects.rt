@@ -1,10 +1,13 @@
 //! What a lane has of places.
 ghost use Rattle.std.specs.Prelude.{◌≡◌, ◌+◌, ◌-◌, ◌<◌, ◌≤◌, Some, None, true, false, length, replicate, slice_get, slice_set, IfSome, IsNone};
+ghost use Rattle.poolsteps.specs.declared.layout.TheConstants.{SHARDS_APART};
 ghost use Rattle.poolsteps.specs.Objects.{spot_at};
 
 use crate::cells::{Base, Vacancy, Whole};
 use crate::directory::Directory;
-use crate::rows::{Own, claim, endow_row, none_own};
+use crate::kept::Kept;
+use crate::layout::SHARDS_APART;
+use crate::rows::{Own, claim, endow_row, none_own, right_in};
 use std::alloc::Global;
 use std::marker::Model;
 use std::mem;
@@ -16,21 +19,26 @@ pub struct Objects<T> {
     directory: Base<Box<T, Global>>,
     first: usize,
     places: usize,
+    /// How many words the directory has.
+    total: usize,
+    /// What the lane has of its own places, and of the words behind them.
     row: Vec<Own<T>>,
+    /// The rights that it keeps to places of other lanes.
+    kept: Kept<T>,
 }
 
 impl<T> Model for Objects<T> {
-    ghost use Rattle.std.specs.Prelude.{map, length};
+    ghost use Rattle.std.specs.Prelude.{map, take};
     ghost use Rattle.poolsteps.specs.Objects.{ObjectsOf, objects_code};
-    ghost use Rattle.poolsteps.specs.Rows.{object_in, is_here, part, AreRows};
+    ghost use Rattle.poolsteps.specs.Rows.{object_in, is_here, AreRows};
 
     ghost Value = { ObjectsOf T };
 
     ghost coded = { objects_code T.code };
 
-    ghost view = { λ o. record { directory = o.directory.ptr; first = o.first; items = part o.first o.places (map object_in o.row.items); rights = part o.first o.places (map is_here o.row.items); wide = length o.row.items } };
+    ghost view = { λ o. record { directory = o.directory.ptr; first = o.first; items = take o.places (map object_in o.row.items); rights = take o.places (map is_here o.row.items); wide = o.total } };
 
-    ghost invariant = { λ o. AreRows o.directory.ptr o.first o.places o.row.items };
+    ghost invariant = { λ o. AreRows o.directory.ptr o.first o.places o.row.items o.kept };
 }
 
 impl<T> Objects<T> {
@@ -53,29 +61,31 @@ impl<T: Drop> Objects<T> {
         first: usize,
         total: usize,
     ) -> Option<Objects<T>>
-        requires { first + places ≤ total }
+        requires { first + places + SHARDS_APART ≤ total }
         ensures { IfSome result (λ made. (made.directory ≡ directory.ptr) × (made.first ≡ first) × (made.items ≡ replicate places None) × (made.rights ≡ replicate places false) × (made.wide ≡ total)) }
     {
-        let row = none_own(alloc, total)?;
+        let row = none_own(alloc, places + SHARDS_APART)?;
+        let kept = Kept::new(alloc, directory, total)?;
         Some(Objects {
             directory,
             first,
             places,
+            total,
             row,
+            kept,
         })
     }
 
-    /// Takes the rights to the own places out of the directory, and keeps those to the `gap` words behind them until
-    /// the close.
-    pub fn endow(&mut self, directory: &mut Directory<T>, gap: usize)
+    /// Takes the rights to the own places out of the directory, and keeps those to the words behind them, which are unused,
+    /// until the close.
+    pub fn endow(&mut self, directory: &mut Directory<T>)
         requires at { self.old.directory ≡ directory.old.at }
         requires first { self.old.first ≡ directory.old.next }
-        requires count { directory.old.next + length self.old.items + gap ≤ directory.old.count }
-        requires wide { directory.old.next + length self.old.items + gap ≤ self.old.wide }
+        requires count { directory.old.next + length self.old.items + SHARDS_APART ≤ directory.old.count }
         ensures objects { self.new ≡ record self.old { items = replicate (length self.old.items) None; rights = replicate (length self.old.items) true } }
-        ensures directory { directory.new ≡ record directory.old { next = directory.old.next + length self.old.items + gap } }
+        ensures directory { directory.new ≡ record directory.old { next = directory.old.next + length self.old.items + SHARDS_APART } }
     {
-        endow_row(&mut self.row, directory, self.first, self.places + gap);
+        endow_row(&mut self.row, directory, self.places + SHARDS_APART);
     }
 
     /// Takes the object that waits at an own place, which stays here, vacant. None where no object waits.
@@ -86,19 +96,20 @@ impl<T: Drop> Objects<T> {
         ensures none { IsNone result → slice_get self.old.items (start - self.old.first) ≡ Some None }
         ensures objects { self.new ≡ record self.old { items = slice_set self.old.items (start - self.old.first) None } }
     {
-        match mem::replace(&mut self.row[start], Own::Away) {
+        let index = start - self.first;
+        match mem::replace(&mut self.row[index], Own::Away) {
             Own::Away => None,
             Own::Vacant(vacancy) => {
-                self.row[start] = Own::Vacant(vacancy);
+                self.row[index] = Own::Vacant(vacancy);
                 None
             }
             Own::Retired(kept) => {
-                self.row[start] = Own::Retired(kept);
+                self.row[index] = Own::Retired(kept);
                 None
             }
             Own::Whole(whole) => {
                 let (vacancy, object) = whole.take(self.directory, start);
-                self.row[start] = Own::Vacant(vacancy);
+                self.row[index] = Own::Vacant(vacancy);
                 Some(object)
             }
         }
@@ -111,7 +122,8 @@ impl<T: Drop> Objects<T> {
         requires spot { whole.spot ≡ spot_at self.old.directory start }
         ensures { self.new ≡ record self.old { items = slice_set self.old.items (start - self.old.first) (Some whole.object); rights = slice_set self.old.rights (start - self.old.first) true } }
     {
-        self.row[start] = Own::Whole(whole);
+        let index = start - self.first;
+        self.row[index] = Own::Whole(whole);
     }
 
     /// Puts an object into a vacant own place, where it waits.
@@ -121,10 +133,11 @@ impl<T: Drop> Objects<T> {
         requires right { slice_get self.old.rights (start - self.old.first) ≡ Some true }
         ensures { self.new ≡ record self.old { items = slice_set self.old.items (start - self.old.first) (Some object.value) } }
     {
-        let Some(vacancy) = claim(&mut self.row, self.directory, start) else {
+        let index = start - self.first;
+        let Some(vacancy) = claim(&mut self.row, self.directory, start, index) else {
             unreachable!()
         };
-        self.row[start] = Own::Whole(Whole::put(vacancy, object, self.directory, start));
+        self.row[index] = Own::Whole(Whole::put(vacancy, object, self.directory, start));
     }
 
     /// An own place comes back, and its object is taken out of it.
@@ -136,7 +149,8 @@ impl<T: Drop> Objects<T> {
         ensures objects { self.new ≡ record self.old { items = slice_set self.old.items (start - self.old.first) None; rights = slice_set self.old.rights (start - self.old.first) true } }
     {
         let (vacancy, object) = whole.take(self.directory, start);
-        self.row[start] = Own::Vacant(vacancy);
+        let index = start - self.first;
+        self.row[index] = Own::Vacant(vacancy);
         object
     }
 
@@ -148,7 +162,8 @@ impl<T: Drop> Objects<T> {
         ensures whole { (result.spot ≡ spot_at self.old.directory start) × (result.object ≡ object.value) }
         ensures objects { self.new ≡ record self.old { items = slice_set self.old.items (start - self.old.first) None; rights = slice_set self.old.rights (start - self.old.first) false } }
     {
-        let Some(vacancy) = claim(&mut self.row, self.directory, start) else {
+        let index = start - self.first;
+        let Some(vacancy) = claim(&mut self.row, self.directory, start, index) else {
             unreachable!()
         };
         Whole::put(vacancy, object, self.directory, start)
@@ -162,19 +177,62 @@ impl<T: Drop> Objects<T> {
         requires spot { vacancy ≡ spot_at self.old.directory start }
         ensures { self.new ≡ self.old }
     {
-        if !self.row[start].is_here() {
-            self.row[start] = Own::Retired(vacancy);
+        if let Some(foreign) = self.accept(start, vacancy) {
+            self.kept.push(start, foreign);
         }
     }
 
-    /// Gives up the right to a place. None where it isn't here. An object that waits there is dropped.
-    pub(crate) fn release(&mut self, start: usize) -> Option<Vacancy<T>>
-        ensures right { IfSome result (λ vacancy. vacancy ≡ spot_at self.old.directory start) }
-        ensures directory { self.new.directory ≡ self.old.directory }
+    /// Keeps the right to a place until the close, if the place is an own one, and else gives it back. Where a right to it
+    /// is here, this one is let go.
+    pub(crate) fn accept(&mut self, start: usize, vacancy: Vacancy<T>) -> Option<Vacancy<T>>
+        requires { vacancy ≡ spot_at self.old.directory start }
+        ensures back { IfSome result (λ back. back ≡ vacancy) }
+        ensures same { self.new ≡ self.old }
     {
-        if start >= self.row.len() {
+        if start < self.first || start - self.first >= self.row.len() {
+            return Some(vacancy);
+        }
+        let index = start - self.first;
+        if self.row[index].is_here() {
             return None;
         }
-        claim(&mut self.row, self.directory, start)
+        self.row[index] = Own::Retired(vacancy);
+        None
+    }
+
+    /// How many rights to places of other lanes it keeps.
+    pub(crate) fn kept_count(&self) -> usize {
+        self.kept.len()
+    }
+
+    /// Gives up the right to a place of another lane that was kept last, and where the place stands.
+    pub(crate) fn give_up(&mut self, alloc: Global) -> Option<(usize, Vacancy<T>)>
+        ensures right { IfSome result (λ kept. kept.1 ≡ spot_at self.old.directory kept.0) }
+        ensures same { self.new ≡ self.old }
+    {
+        self.kept.pop(alloc)
+    }
+
+    /// Puts the rights to the own places back into the directory, from the last on, which stands below `end`, and answers
+    /// where the first stands. None where one isn't here. An object that waits is dropped.
+    pub(crate) fn put_back(self, directory: &mut Directory<T>, end: usize) -> Option<usize>
+        requires at { self.directory ≡ directory.old.at }
+        requires end { directory.old.next ≡ end }
+        ensures at { directory.new.at ≡ directory.old.at }
+        ensures start { IfSome result (λ start. directory.new.next ≡ start) }
+    {
+        let Objects {
+            directory: base,
+            first,
+            mut row,
+            ..
+        } = self;
+        if end < row.len() || end - row.len() != first {
+            return None;
+        }
+        while let Some(own) = row.pop() {
+            directory.put_back(right_in(own, base, first + row.len())?);
+        }
+        Some(first)
     }
 }

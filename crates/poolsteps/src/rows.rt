@@ -1,4 +1,4 @@
-//! The row of a lane: of each word of a directory, what the lane has of its place.
+//! The row of a lane: of each word of its own places in a directory, what the lane has of the place.
 ghost use Rattle.std.specs.Prelude.{◌≡◌, ℕ, ◌+◌, ◌<◌, ◌≤◌, Some, length, replicate, slice_get, slice_set, IfSome, IsNone};
 ghost use Rattle.poolsteps.specs.declared.rows.Own.TheVariants as owns;
 ghost use Rattle.poolsteps.specs.Objects.{spot_at};
@@ -48,41 +48,51 @@ pub(crate) fn none_own<T>(alloc: Global, count: usize) -> Option<Vec<Own<T>>>
     Some(row)
 }
 
-// Takes the rights to the next places out of the directory.
-pub(crate) fn endow_row<T: Drop>(
-    row: &mut Vec<Own<T>>,
-    directory: &mut Directory<T>,
-    first: usize,
-    count: usize,
-)
-    requires first { first ≡ directory.old.next }
+// Takes the rights to the next places out of the directory, into the beginning of a row.
+pub(crate) fn endow_row<T: Drop>(row: &mut Vec<Own<T>>, directory: &mut Directory<T>, count: usize)
     requires count { directory.old.next + count ≤ directory.old.count }
-    requires room { directory.old.next + count ≤ length row.old.items }
-    requires own { AreOwn directory.old.at row.old.items }
-    ensures own { AreOwn directory.old.at row.new.items }
-    ensures here { (start : ℕ) (own : Own T) → slice_get row.new.items start ≡ Some own → first ≤ start → start < first + count → own ≡ owns.Vacant (spot_at directory.old.at start) }
+    requires room { count ≤ length row.old.items }
+    requires own { AreOwn directory.old.at directory.old.next row.old.items }
+    ensures own { AreOwn directory.old.at directory.old.next row.new.items }
+    ensures here { (index : ℕ) (own : Own T) → slice_get row.new.items index ≡ Some own → index < count → own ≡ owns.Vacant (spot_at directory.old.at (directory.old.next + index)) }
     ensures room { length row.new.items ≡ length row.old.items }
     ensures directory { directory.new ≡ record directory.old { next = directory.old.next + count } }
 {
     for index in 0..count {
-        row[first + index] = Own::Vacant(directory.next());
+        row[index] = Own::Vacant(directory.next());
     }
 }
 
-// Takes the right to a place out of the row. None where it is away. An object that waits there is dropped.
+// Takes the right to a place out of the row, where it has this index. None where it is away. An object that waits there is
+// dropped.
 #[inline]
 pub(crate) fn claim<T: Drop>(
     row: &mut Vec<Own<T>>,
     directory: Base<Box<T, Global>>,
     start: usize,
+    index: usize,
 ) -> Option<Vacancy<T>>
-    requires start { start < length row.old.items }
-    requires own { (own : Own T) → slice_get row.old.items start ≡ Some own → IsOwnOf directory.ptr start own }
+    requires index { index < length row.old.items }
+    requires own { (own : Own T) → slice_get row.old.items index ≡ Some own → IsOwnOf directory.ptr start own }
     ensures some { IfSome result (λ vacancy. vacancy ≡ spot_at directory.ptr start) }
-    ensures none { IsNone result → slice_get row.old.items start ≡ Some owns.Away }
-    ensures row { row.new.items ≡ slice_set row.old.items start owns.Away }
+    ensures none { IsNone result → slice_get row.old.items index ≡ Some owns.Away }
+    ensures row { row.new.items ≡ slice_set row.old.items index owns.Away }
 {
-    match mem::replace(&mut row[start], Own::Away) {
+    right_in(mem::replace(&mut row[index], Own::Away), directory, start)
+}
+
+// The right that a lane has to a place. None where it is away. An object that waits there is dropped.
+#[inline]
+pub(crate) fn right_in<T: Drop>(
+    own: Own<T>,
+    directory: Base<Box<T, Global>>,
+    start: usize,
+) -> Option<Vacancy<T>>
+    requires { IsOwnOf directory.ptr start own }
+    ensures some { IfSome result (λ vacancy. vacancy ≡ spot_at directory.ptr start) }
+    ensures none { IsNone result → own ≡ owns.Away }
+{
+    match own {
         Own::Away => None,
         Own::Vacant(vacancy) => Some(vacancy),
         Own::Retired(vacancy) => Some(vacancy),

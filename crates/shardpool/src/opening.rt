@@ -13,7 +13,7 @@ use crate::fault::OpenFault;
 use crate::pool::{Apart, HeldKey, Lane, LaneState, Places, Pool};
 use freelists::{LocalFree, Pages};
 use keybits::Shape;
-use poolsteps::{Base, Directory, Grid, Hand, Objects, SHARDS_APART, shard_start, slot_row};
+use poolsteps::{Base, Directory, Grid, Hand, Objects, shard_start, slot_row};
 use slotcell::Clear;
 use std::alloc::Global;
 
@@ -128,7 +128,7 @@ fn endow<T: Clear + Drop>(
             mut state,
             row,
         } = part;
-        state.objects.endow(directory, SHARDS_APART);
+        state.objects.endow(directory);
         lanes.push_reserved(Lane {
             hand,
             ahead: Apart::new(),

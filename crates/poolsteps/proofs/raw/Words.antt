@@ -37,6 +37,13 @@ module _ (R : RattleType) where
   full_good (block_ptr b o) = (tt, (tt, (((tt, tt), tt), tt)))
   full_good null_ptr = (tt, (record { fits = omega arith }, (((tt, tt), tt), tt)))
 
+  pub bare_good : (p : Ptr) → T (has_ty (layout BareRow) (full p)) × WT (full p)
+  bare_good (block_ptr b o) = (tt, (tt, (((tt, tt), tt), tt)))
+  bare_good null_ptr = (tt, (record { fits = omega arith }, (((tt, tt), tt), tt)))
+
+  pub bare_is : (e : BareRow.Denot) (vs : List Val) → Is BareRow e vs → vs ≡ full e.at ∷ []
+  bare_is e vs is = is.1.0 ∙ (λ i. vstruct (of_list (is.1.1.0 i ++ (heap_is e.alloc is.0.1.0 is.1.1.1.0 i ++ []))) ∷ [])
+
   pub box_is : (e : Boxed.Denot) (vs : List Val) → Is (Struct (shape (boxes.the_type R heap.the_row ghosts))) (e.ptr, (e.alloc, tt)) vs → vs ≡ full e.ptr ∷ []
   box_is e vs is = is.1.0 ∙ (λ i. vstruct (of_list (is.1.1.0 i ++ (heap_is e.alloc is.0.1.0 is.1.1.1.0 i ++ []))) ∷ [])
 

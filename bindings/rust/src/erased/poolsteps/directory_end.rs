@@ -8,27 +8,40 @@ use crate::erased::poolsteps::cells::Vacancy;
 use crate::erased::poolsteps::directory::Directory;
 use crate::erased::poolsteps::objects::Objects;
 
-/// Frees a directory, where the rights to all its places are with these lanes; each object that waits is dropped. Where
-/// a right is missing, what is left isn't freed.
+/// Frees a directory, where the rights to all its places are with these lanes, which stand by the order of their places;
+/// each object that waits is dropped. Where a right is missing, what is left isn't freed.
 pub fn close_directory<T>(alloc: Global, mut directory: Directory<T>, mut lanes: Vec<Objects<T>>) {
-    let mut start = directory.count();
-    while start > 0 {
-        start -= 1;
-        let Some(vacancy) = find(&mut lanes, start) else {
+    for lane in 0..lanes.len() {
+        bring_home(alloc, &mut lanes, lane);
+    }
+    let mut end = directory.count();
+    while let Some(last) = lanes.pop() {
+        let Some(start) = last.put_back(&mut directory, end) else {
             return;
         };
-        directory.put_back(vacancy);
+        end = start;
     }
-    directory.close(alloc);
+    if end == 0 {
+        directory.close(alloc);
+    }
 }
 
-// Takes the right to a place from the lane that has it. None where none has.
-fn find<T>(lanes: &mut Vec<Objects<T>>, start: usize) -> Option<Vacancy<T>> {
-    for lane in 0..lanes.len() {
-        let right = lanes[lane].release(start);
-        if right.is_some() {
-            return right;
+// Each right that a lane keeps to a place of another goes to that one.
+fn bring_home<T>(alloc: Global, lanes: &mut Vec<Objects<T>>, lane: usize) {
+    for _ in 0..lanes[lane].kept_count() {
+        if let Some((start, vacancy)) = lanes[lane].give_up(alloc) {
+            give(lanes, start, vacancy);
         }
     }
-    None
+}
+
+// The right to a place goes to the lane whose own it is.
+fn give<T>(lanes: &mut Vec<Objects<T>>, start: usize, vacancy: Vacancy<T>) {
+    let mut right = vacancy;
+    for lane in 0..lanes.len() {
+        let Some(back) = lanes[lane].accept(start, right) else {
+            return;
+        };
+        right = back;
+    }
 }

@@ -103,6 +103,48 @@ pub(crate) fn of_boxes<T>(base: Base<Bare<T>>) -> Base<Box<T, Global>> {
     }
 }
 
+// The same address, for what boxes leave in the words.
+pub(crate) fn of_bare<T>(base: Base<Box<T, Global>>) -> Base<Bare<T>> {
+    Base {
+        ptr: base.ptr as *mut Bare<T>,
+    }
+}
+
+// The same address, for numbers in the words.
+pub(crate) fn of_numbers<T>(base: Base<Box<T, Global>>) -> Base<usize> {
+    Base {
+        ptr: base.ptr as *mut usize,
+    }
+}
+
+// Writes a number into a word without a box.
+pub(crate) fn note<T>(
+    word: Loose<Bare<T>>,
+    base: Base<usize>,
+    index: usize,
+    number: usize,
+) -> Loose<usize> {
+    let Loose { mark: _ } = word;
+    crate::sync::writes(base.ptr.wrapping_add(index), "place");
+    // SAFETY: what is asked here is proved in the source.
+    unsafe { ptr::write(base.ptr.add(index), number) };
+    Loose { mark: PhantomData }
+}
+
+// Writes over the number what a box leaves in the word.
+pub(crate) fn blank<T>(
+    word: Loose<usize>,
+    base: Base<Bare<T>>,
+    index: usize,
+    bare: Bare<T>,
+) -> Loose<Bare<T>> {
+    let Loose { mark: _ } = word;
+    crate::sync::writes(base.ptr.wrapping_add(index), "place");
+    // SAFETY: what is asked here is proved in the source.
+    unsafe { ptr::write(base.ptr.add(index), bare) };
+    Loose { mark: PhantomData }
+}
+
 // Writes a box into the word.
 pub(crate) fn fill<T>(
     word: Loose<Bare<T>>,

@@ -11,6 +11,7 @@ mod directory;
 mod directory_end;
 mod find;
 mod grid;
+mod kept;
 mod layout;
 mod memory;
 mod moves;

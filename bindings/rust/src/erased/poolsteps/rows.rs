@@ -1,6 +1,6 @@
 // Made from crates/poolsteps/src/rows.rt by bindings/erase/erase.py: change that file, not this one.
 
-//! The row of a lane: of each word of a directory, what the lane has of its place.
+//! The row of a lane: of each word of its own places in a directory, what the lane has of the place.
 
 use crate::shim::{no_bytes, Box, Gapless, Global, Vec};
 
@@ -46,26 +46,33 @@ pub(crate) fn none_own<T>(alloc: Global, count: usize) -> Option<Vec<Own<T>>> {
     Some(row)
 }
 
-// Takes the rights to the next places out of the directory.
-pub(crate) fn endow_row<T>(
-    row: &mut Vec<Own<T>>,
-    directory: &mut Directory<T>,
-    first: usize,
-    count: usize,
-) {
+// Takes the rights to the next places out of the directory, into the beginning of a row.
+pub(crate) fn endow_row<T>(row: &mut Vec<Own<T>>, directory: &mut Directory<T>, count: usize) {
     for index in 0..count {
-        row[first + index] = Own::Vacant(directory.next());
+        row[index] = Own::Vacant(directory.next());
     }
 }
 
-// Takes the right to a place out of the row. None where it is away. An object that waits there is dropped.
+// Takes the right to a place out of the row, where it has this index. None where it is away. An object that waits there is
+// dropped.
 #[inline]
 pub(crate) fn claim<T>(
     row: &mut Vec<Own<T>>,
     directory: Base<Box<T, Global>>,
     start: usize,
+    index: usize,
 ) -> Option<Vacancy<T>> {
-    match mem::replace(&mut row[start], Own::Away) {
+    right_in(mem::replace(&mut row[index], Own::Away), directory, start)
+}
+
+// The right that a lane has to a place. None where it is away. An object that waits there is dropped.
+#[inline]
+pub(crate) fn right_in<T>(
+    own: Own<T>,
+    directory: Base<Box<T, Global>>,
+    start: usize,
+) -> Option<Vacancy<T>> {
+    match own {
         Own::Away => None,
         Own::Vacant(vacancy) => Some(vacancy),
         Own::Retired(vacancy) => Some(vacancy),

@@ -6,9 +6,7 @@ use crate::shim::{Box, Global, Vec};
 
 use crate::erased::freelists::{LocalFree, Pages};
 use crate::erased::keybits::Shape;
-use crate::erased::poolsteps::{
-    shard_start, slot_row, Base, Directory, Grid, Hand, Objects, SHARDS_APART,
-};
+use crate::erased::poolsteps::{shard_start, slot_row, Base, Directory, Grid, Hand, Objects};
 use crate::erased::shardpool::closing::HandRow;
 use crate::erased::shardpool::fault::OpenFault;
 use crate::erased::shardpool::pool::{Apart, HeldKey, Lane, LaneState, Places, Pool};
@@ -97,7 +95,7 @@ fn endow<T: Clear>(
             mut state,
             row,
         } = part;
-        state.objects.endow(directory, SHARDS_APART);
+        state.objects.endow(directory);
         lanes.push_reserved(Lane {
             hand,
             ahead: Apart::new(),

@@ -1,14 +1,20 @@
--- The words from `start` on are back.
-use Rattle.std.proofs.Common.{◌≡◌}
+-- The lanes are all there until each right is home; then the words from `end` on are back.
+use Rattle.std.proofs.Common.{◌≡◌, length}
 use Rattle.std.specs.List.{All}
 use Rattle.poolsteps.proofs.directory_end.close_directory.Given as goal
 
-abbrev pub invariant-loop-start : goal.invariant-loop-start
-invariant-loop-start g l = record {
-  next : l.directory.next ≡ l.start;
+abbrev pub invariant-loop-lane : goal.invariant-loop-lane
+invariant-loop-lane g l = record {
+  last : l.lane-end ≡ length l.lanes.items;
+  same : l.lanes.items ≡ l.fn.lanes.items;
+}
+
+abbrev pub invariant-loop-last : goal.invariant-loop-last
+invariant-loop-last g l = record {
+  next : l.directory.next ≡ l.end;
   at : l.directory.at ≡ l.fn.directory.at;
   lanes : All (λ lane. lane.directory ≡ l.fn.directory.at) l.lanes.items;
 }
 
-abbrev pub decreases-loop-start : goal.decreases-loop-start
-decreases-loop-start g l = l.start
+abbrev pub decreases-loop-last : goal.decreases-loop-last
+decreases-loop-last g l = length l.lanes.items

@@ -1,5 +1,5 @@
 -- The places so far are vacant, and out of the directory.
-use Rattle.std.proofs.Common.{◌≡◌, ◌+◌, ◌<◌, ◌≤◌, ℕ, length, Some}
+use Rattle.std.proofs.Common.{◌≡◌, ◌+◌, ◌<◌, ℕ, length, Some}
 use Rattle.std.specs.Prelude.{slice_get}
 use Rattle.poolsteps.specs.declared.rows.Own.{Own}
 use Rattle.poolsteps.specs.declared.rows.Own.TheVariants.{Vacant}
@@ -11,6 +11,6 @@ abbrev pub invariant-loop-index : goal.invariant-loop-index
 invariant-loop-index g l = record {
   wide : length l.row.items ≡ length l.fn.row.items;
   directory : l.directory ≡ record l.fn.directory { next = l.fn.directory.next + l.index };
-  own : AreOwn l.fn.directory.at l.row.items;
-  vacant : (start : ℕ) (own : Own g.row.T.Denot) → slice_get l.row.items start ≡ Some own → l.first ≤ start → start < l.first + l.index → own ≡ Vacant (spot_at l.fn.directory.at start);
+  own : AreOwn l.fn.directory.at l.fn.directory.next l.row.items;
+  vacant : (at : ℕ) (own : Own g.row.T.Denot) → slice_get l.row.items at ≡ Some own → at < l.index → own ≡ Vacant (spot_at l.fn.directory.at (l.fn.directory.next + at));
 }

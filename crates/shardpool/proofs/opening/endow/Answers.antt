@@ -55,16 +55,6 @@ endow-requires-clause-count g c =
     let count = c.loop-part.invariant.count ∙ c.requires.directory.2 in
     omega (arith, places, fits, begins, count)
 
-pub endow-requires-clause-wide : goal.endow-requires-clause-wide
-endow-requires-clause-wide g c =
-    let some = (goal.at.endow-requires-clause-wide g c).In-Some in
-    let places = wide g some in
-    let fits = within-row c.args.grid.now.shape (length c.loop-part.yielded) (next g some).0 in
-    let begins = c.loop-part.invariant.next in
-    let is = (next g some).1.1.objects in
-    let room : c.in-Some.part.state.objects.wide ≡ _ = λ i. (is i).wide in
-    omega (arith, places, fits, begins, room)
-
 pub invariant_of-push_reserved : goal.invariant_of-push_reserved
 invariant_of-push_reserved g c =
     let grid = c.args.grid.now in

@@ -9,13 +9,14 @@ use Rattle.poolsteps.proofs.objects.Objects.vacate.Goals as goal
 pub index_mut-requires : goal.index_mut-requires
 index_mut-requires g c =
     let s = c.self.inside in
-    let high = start-high s.directory.ptr s.first s.places s.row.items c.args.self.now c.self.view_is c.args.start c.self.invariant c.requires.start.1 in
-    let room = c.self.invariant.room in omega (arith, high, room)
+    let low = start-low s.directory.ptr s.first s.places s.total s.row.items c.args.self.now c.self.view_is c.args.start c.requires.start.0 in
+    let high = start-high s.directory.ptr s.first s.places s.total s.row.items c.args.self.now c.self.view_is c.args.start c.self.invariant c.requires.start.1 in
+    let room = c.self.invariant.room in omega (arith, low, high, room)
 
 pub returns-clause-objects : goal.returns-clause-objects
 returns-clause-objects g c =
     let s = c.self.inside in
-    let low = start-low s.directory.ptr s.first s.places s.row.items c.args.self.now c.self.view_is c.args.start c.requires.start.0 in
-    let high = start-high s.directory.ptr s.first s.places s.row.items c.args.self.now c.self.view_is c.args.start c.self.invariant c.requires.start.1 in
-    shown-set s.directory.ptr s.first s.places s.row.items c.args.start low high (Vacant c.take-vacancy.result.0)
+    let low = start-low s.directory.ptr s.first s.places s.total s.row.items c.args.self.now c.self.view_is c.args.start c.requires.start.0 in
+    let high = start-high s.directory.ptr s.first s.places s.total s.row.items c.args.self.now c.self.view_is c.args.start c.self.invariant c.requires.start.1 in
+    shown-set s.directory.ptr s.first s.places s.total s.row.items c.args.start low high (Vacant c.take-vacancy.result.0)
     ∙ ap (λ (v : ObjectsOf g.row.T.Denot). record v { items = slice_set v.items (c.args.start - v.first) None; rights = slice_set v.rights (c.args.start - v.first) true }) c.self.view_is
