@@ -1,14 +1,18 @@
 #!/usr/bin/env python3
-"""Makes the man pages and the shell completions of `poolrun` and `poolview` from the tables of their command lines.
+"""Makes the man pages and the shell completions of `poolrun` and `poolview` from the tables of their command lines, and that of the C calls.
 
     docs/pages/make.py            writes them into docs/pages
     docs/pages/make.py --check    compares them with the tables; the status is 1 where one differs
 
-A page or a completion is never edited: change crates/commandline/src/run_lines.rt or view_lines.rt, and run this again.
+A page or a completion is never edited: change crates/commandline/src/run_lines.rt or view_lines.rt, or bindings/c/pardz.h, and run this
+again.
 """
 import pathlib
 import re
 import sys
+
+sys.dont_write_bytecode = True
+import calls
 
 HERE = pathlib.Path(__file__).resolve().parent
 SOURCES = HERE.parent.parent / "crates" / "commandline" / "src"
@@ -308,7 +312,7 @@ def zsh_completion(table):
 
 def pages():
     """Each page and completion, by its path."""
-    made = {}
+    made = {HERE / "man" / "pardz.3": calls.man_page(roff)}
     for program in PROGRAMS:
         table = table_of(program)
         made[HERE / "man" / f"{program}.1"] = man_page(table)
@@ -328,7 +332,7 @@ def main():
             path.parent.mkdir(exist_ok=True)
             path.write_text(text)
         elif not path.exists() or path.read_text() != text:
-            print(f"{path.relative_to(HERE)} is not what the table says: run docs/pages/make.py", file=sys.stderr)
+            print(f"{path.relative_to(HERE)} is not what its source says: run docs/pages/make.py", file=sys.stderr)
             wrong = 1
     return wrong
 
