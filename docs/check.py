@@ -10,7 +10,7 @@ usage: python3 docs/check.py
 - versions: the programs, the crate, the release and the pages say one version
 - names: the edits of WRONG_BODIES are those of the crates; the files that pages name are there; what PROVED names stands in a source; each
   crate has a README, which names all files of its src, and so have the notes of bindings/rust
-- lines: no row of a table is longer than 400 characters
+- lines: no row of a table is longer than 400 characters, and no line of a contract or a definition wider than 140 columns
 - DEFINITIONS is what definitions.py writes, and the picture of the crates what crates_picture.py does
 - what docs/begin makes is the sample under another name
 """
@@ -32,6 +32,7 @@ OTHERS = sorted((ROOT / "bindings").glob("**/README.md")) + [ROOT / "bindings/ru
 NOTES = [ROOT / "crates" / crate / "README.md" for crate in definitions.crates()]
 WITH_SNIPPETS = ("README.md", "docs/USING.md", "docs/C.md")
 LONGEST_ROW = 400
+WIDEST_CLAUSE = 140
 
 # A figure, and where it stands: in each page by a pattern, whose groups are all the same. The first place is the one to change first.
 CRATES = len(definitions.crates())
@@ -269,6 +270,24 @@ def long_rows():
                 yield f"{named(page)}: {len(line)} characters: {line[:60]} .."
 
 
+def clauses(path):
+    """The lines of a file of definitions, or those of the contracts of a file of code; no imports, no comments, no texts."""
+    within = 0
+    for line in text_of(path).splitlines():
+        start = re.match(r"\s*(requires|ensures\*?|ghost (?!use)\w+|invariant|decreases)\b.*\{", line)
+        if path.suffix == ".antt" or within or start:
+            within = max(0, within + line.count("{") - line.count("}")) if path.suffix == ".rt" else 0
+            if not re.match(r"\s*((pub )?use |--|//)", line) and len(re.sub(r'"(\\.|[^"\\])*"', "", line)) == len(line):
+                yield line
+
+
+def wide_clauses():
+    """Lines of contracts and definitions that don't fit beside another file."""
+    for pattern in ("crates/*/src/**/*.rt", "crates/*/specs/*.antt"):
+        for path in sorted(ROOT.glob(pattern)):
+            yield from (f"{named(path)}: {len(line)} columns: {line.strip()[:60]} .." for line in clauses(path) if len(line) > WIDEST_CLAUSE)
+
+
 def made():
     """Pages that aren't what their script writes."""
     if text_of(definitions.PAGE) != definitions.page():
@@ -305,7 +324,7 @@ def begun():
 
 def main():
     bad = 0
-    tests = (("links", links), ("snippets", snippets), ("figures", figures), ("figures at home", strays), ("versions", versions), ("the edits' rows", wrong_bodies), ("names of files", paths), ("the crates' READMEs", notes), ("names of definitions", names), ("rows of tables", long_rows), ("pages that scripts write", made), ("the crate that docs/begin makes", begun))
+    tests = (("links", links), ("snippets", snippets), ("figures", figures), ("figures at home", strays), ("versions", versions), ("the edits' rows", wrong_bodies), ("names of files", paths), ("the crates' READMEs", notes), ("names of definitions", names), ("rows of tables", long_rows), ("lines of contracts", wide_clauses), ("pages that scripts write", made), ("the crate that docs/begin makes", begun))
     for name, test in tests:
         faults = list(test())
         bad += bool(faults)

@@ -44,7 +44,7 @@ static uint64_t receive(void) {
 
 static void must(uint32_t code, const char *what) {
     if (code != PARDZ_OK) {
-        fprintf(stderr, "%s: %s\n", what, pardz_strerror(code));
+        fprintf(stderr, "%s: %s, %s\n", what, pardz_code_name(code), pardz_strerror(code));
         exit(1);
     }
 }

@@ -8,7 +8,7 @@
  *
  * Link with heap.c and one of two libraries, whose calls do the same: libpoolffi.a, which is proved up to these calls, for x86-64 of
  * level 2 (x86-64-v2) and ELF; or libpardz.a or libpardz.so, which cargo builds, and which are made from the proved sources and not
- * proved. In C99 (heap.c in C11), C++11 or later. docs/C.md tells what may be relied on, and README.md of the two.
+ * proved. In C99, C++11 or later; pardz.hpp has classes for C++. docs/C.md tells what may be relied on, and README.md of the two.
  *
  * The caller's duties (nothing checks them):
  *
@@ -30,6 +30,7 @@
  * - PARDZ_MEMORY of a put: a page may be open, and a place have used up its next key (if that was its last, it is retired).
  * - PARDZ_SHARED of a close: the slot may be empty, and the pool then keeps its memory.
  * - pardz_close_all: what it joined before it was refused is joined.
+ * - pardz_put_several and its like: what was done before is done, and told.
  *
  * A key names a place of a pool, how often the place was used, and the pool's tag; it is never 0. It may be sent to any thread; one
  * that came by a lock, a channel or such an atomic is published for whoever hears it. Calls may be given any number: one that isn't
@@ -119,10 +120,32 @@ static inline const char *pardz_strerror(uint32_t code) {
     return code < sizeof texts / sizeof *texts ? texts[code] : "no code of pardz";
 }
 
+/* The name that a code has here, as "PARDZ_GONE", for a log. It is never NULL: it is "PARDZ_?" for a number that is no code. */
+static inline const char *pardz_code_name(uint32_t code) {
+    static const char *const names[] = {
+        "PARDZ_OK",
+        "PARDZ_MEMORY",
+        "PARDZ_EMPTY_LANE",
+        "PARDZ_FULL_LANE",
+        "PARDZ_FULL",
+        "PARDZ_FILLINGS",
+        "PARDZ_NO_FILLING",
+        "PARDZ_NO_REFERENCE",
+        "PARDZ_GONE",
+        "PARDZ_REFERENCES",
+        "PARDZ_OTHER_POOL",
+        "PARDZ_LANES",
+        "PARDZ_SHAPE",
+        "PARDZ_ROOM",
+        "PARDZ_SHARED",
+    };
+    return code < sizeof names / sizeof *names ? names[code] : "PARDZ_?";
+}
+
 /* The version of the library, which may be another than the header's. libpardz.a and libpardz.so have it, and libpoolffi.a hasn't. */
 const char *pardz_version(void);
 
-/* A number that this process wasn't given before: heap.c has it. */
+/* A number that this process wasn't given before. heap.c has it. */
 uint64_t pardz_next_number(void);
 
 /* pardz_open, with a number that no other pool of the process has: by it a join knows the lanes of its pool. */
@@ -193,6 +216,52 @@ uint32_t pardz_release(pardz_lane *lane, uint64_t key);
  * PARDZ_EMPTY_LANE, PARDZ_GONE. */
 uint32_t pardz_clear(pardz_lane *lane, uint64_t key);
 
+/* Several at once, one after the other: each ends at the first code that isn't PARDZ_OK and answers it, and *done is how many went
+ * well before. So they write also where they answer another code.
+ *
+ * Some bytes: those of a program, or those that a pool lent. */
+typedef struct pardz_bytes {
+    const uint8_t *at; /* NULL where len is 0 and a pool tells it */
+    size_t len;
+} pardz_bytes;
+
+/* A pardz_put of each of these bytes; *done keys are written.
+ * PARDZ_MEMORY, PARDZ_EMPTY_LANE, PARDZ_FULL. */
+static inline uint32_t pardz_put_several(pardz_lane *lane, const pardz_bytes *bytes, size_t count, uint64_t *keys, size_t *done) {
+    uint32_t code = PARDZ_OK;
+    for (*done = 0; *done < count; ++*done) {
+        code = pardz_put(lane, bytes[*done].at, bytes[*done].len, &keys[*done]);
+        if (code != PARDZ_OK)
+            break;
+    }
+    return code;
+}
+
+/* A pardz_get of each of these keys, which may be equal; the lane has *done references more.
+ * PARDZ_EMPTY_LANE, PARDZ_GONE, PARDZ_REFERENCES. */
+static inline uint32_t pardz_get_several(pardz_lane *lane, const uint64_t *keys, size_t count, pardz_bytes *lent, size_t *done) {
+    uint32_t code = PARDZ_OK;
+    for (*done = 0; *done < count; ++*done) {
+        lent[*done].at = NULL;
+        code = pardz_get(lane, keys[*done], &lent[*done].at, &lent[*done].len);
+        if (code != PARDZ_OK)
+            break;
+    }
+    return code;
+}
+
+/* A pardz_release of each of these keys; the lane has *done references fewer.
+ * PARDZ_EMPTY_LANE, PARDZ_NO_REFERENCE. */
+static inline uint32_t pardz_release_several(pardz_lane *lane, const uint64_t *keys, size_t count, size_t *done) {
+    uint32_t code = PARDZ_OK;
+    for (*done = 0; *done < count; ++*done) {
+        code = pardz_release(lane, keys[*done]);
+        if (code != PARDZ_OK)
+            break;
+    }
+    return code;
+}
+
 /* The end: each lane but lane 0 is joined into lane 0, the last one first, then the one before it. Its slot is then empty. What it
  * still fills is given up; what it still refers to stays until the close, and counts as present or marked. Lane 0 is joined into
  * none, and no lane into itself: PARDZ_LANES.
@@ -233,6 +302,19 @@ pardz_block pardz_realloc(void *at, size_t kept, size_t size, size_t align);
 
 /* Frees a block. */
 void pardz_dealloc(void *at);
+
+/* What heap.c takes memory from: malloc, realloc and free, or the functions of a program, which are given `context`. They do as those
+ * do, and align to 16 bytes; a size is never 0, and NULL is a refusal. */
+typedef struct pardz_heap {
+    void *(*allocate)(void *context, size_t size);
+    void *(*reallocate)(void *context, void *at, size_t size);
+    void (*release)(void *context, void *at);
+    void *context;
+} pardz_heap;
+
+/* From now on heap.c takes memory from this heap, of which it keeps a copy; NULL: from malloc and its like. It is called while no pool
+ * is open and no thread is in a call. A heap of a program's own, in the place of heap.c, needn't have it. */
+void pardz_set_heap(const pardz_heap *heap);
 
 #ifdef __cplusplus
 }

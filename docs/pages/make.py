@@ -1,14 +1,18 @@
 #!/usr/bin/env python3
-"""Makes the man pages and the shell completions of `poolrun` and `poolview` from the tables of their command lines.
+"""Makes the man pages and the shell completions of `poolrun` and `poolview` from the tables of their command lines, and that of the C calls.
 
     docs/pages/make.py            writes them into docs/pages
     docs/pages/make.py --check    compares them with the tables; the status is 1 where one differs
 
-A page or a completion is never edited: change crates/commandline/src/run_lines.rt or view_lines.rt, and run this again.
+A page or a completion is never edited: change crates/commandline/src/run_lines.rt or view_lines.rt, or bindings/c/pardz.h, and run this
+again.
 """
 import pathlib
 import re
 import sys
+
+sys.dont_write_bytecode = True
+import calls
 
 HERE = pathlib.Path(__file__).resolve().parent
 SOURCES = HERE.parent.parent / "crates" / "commandline" / "src"
@@ -155,10 +159,30 @@ def option_lines(argument):
     return [".TP", head, roff(argument["help"])]
 
 
+def statuses_of(text):
+    """What help says around its table of statuses, and the table: rows of a status and what it comes after."""
+    before, _, rows = text.partition("Exit status:\n")
+    return before.rstrip("\n"), [row.split(None, 1) for row in rows.split("\n")]
+
+
+def status_lines(rows):
+    """A table, for tbl."""
+    out = [".SH EXIT STATUS", ".TS", "tab(|) allbox;", "lb lb", "l lx.", "status|after"]
+    for status, after in rows:
+        out += [f"{status}|T{{", roff(after), "T}"]
+    return [*out, ".TE"]
+
+
+def environment_lines(name):
+    return [".SH ENVIRONMENT", ".TP", "\\fBPOOL_EXPLAIN\\fR", roff(f"If it is never, {name} says no more at a terminal than elsewhere, unless --explain or --explain=always is given.")]
+
+
 def man_page(table):
     name = table["name"]
     about = table["help"]["about"].replace("\n", " ")
+    notes, statuses = statuses_of(table["help"]["more"])
     out = [
+        "'\\\" t",
         f'.\\" Made from crates/commandline/src/{table["source"]} by docs/pages/make.py: change that file, not this one.',
         f'.TH {name.upper()} 1 "" "{" ".join(part for part in (name, table["version"]) if part)}"',
         ".SH NAME",
@@ -175,17 +199,27 @@ def man_page(table):
         out += [f".SS {line['name']}", roff(line["help"]["about"]) + "."]
         for argument in line["arguments"]:
             out += option_lines(argument)
-        if line["help"]["more"]:
-            out += [".PP", *block(line["help"]["more"])]
-    out += [".SH NOTES", *block(table["help"]["more"])]
+        out += [".PP", *block(line["help"]["more"]), ".PP", *block(line["help"]["example"])]
+    out += status_lines(statuses) + environment_lines(name)
+    out += [".SH NOTES", *block(notes), ".SH EXAMPLES", *block(table["help"]["example"])]
     return "\n".join(out) + "\n"
 
 
 # ---- completions
 
 
+# When mistakes are explained: what may stand behind --explain=.
+WISHES = ("never", "always", "auto")
+
+
+def wishes_of(line):
+    """The words that say when mistakes are explained."""
+    named = any(argument["name"] == "explain" for argument in line["arguments"])
+    return [f"--explain={wish}" for wish in WISHES] if named else []
+
+
 def long_options(line):
-    return ["--" + argument["name"] for argument in options_of(line)] + ["--help"]
+    return ["--" + argument["name"] for argument in options_of(line)] + wishes_of(line) + ["--help"]
 
 
 def bash_completion(table):
@@ -278,7 +312,7 @@ def zsh_completion(table):
 
 def pages():
     """Each page and completion, by its path."""
-    made = {}
+    made = {HERE / "man" / "pardz.3": calls.man_page(roff)}
     for program in PROGRAMS:
         table = table_of(program)
         made[HERE / "man" / f"{program}.1"] = man_page(table)
@@ -298,7 +332,7 @@ def main():
             path.parent.mkdir(exist_ok=True)
             path.write_text(text)
         elif not path.exists() or path.read_text() != text:
-            print(f"{path.relative_to(HERE)} is not what the table says: run docs/pages/make.py", file=sys.stderr)
+            print(f"{path.relative_to(HERE)} is not what its source says: run docs/pages/make.py", file=sys.stderr)
             wrong = 1
     return wrong
 

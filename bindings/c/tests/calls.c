@@ -5,10 +5,6 @@
 
 #include <string.h>
 
-_Static_assert(sizeof(pardz_lane) == 16, "as the library has it");
-_Static_assert(sizeof(pardz_shape) == 20, "as the library has it");
-_Static_assert(sizeof(pardz_census) == 24, "as the library has it");
-
 enum call { OPEN, CREATE, APPEND, ROOM, WROTE, PUBLISH, DOWNGRADE, LEAVE, PUT, GET, READ, RELEASE, CLEAR, JOIN, CLOSE, CALLS };
 
 #define CODES 15
@@ -237,6 +233,34 @@ static void puts_bytes(pardz_lane *a, pardz_lane *b) {
         EXPECT(PUBLISH, NO_FILLING, pardz_publish(i == 1 ? b : a, keys[i]));
         EXPECT(CLEAR, OK, pardz_clear(b, keys[i]));
     }
+}
+
+/* Several at once: each goes on to the first that is refused, and tells how many went well. The lanes have six places each. */
+static void several(pardz_lane *a, pardz_lane *b, pardz_lane *empty) {
+    const pardz_bytes texts[7] = { { (const uint8_t *)"one", 3 }, { NULL, 0 }, { (const uint8_t *)"three", 5 }, { (const uint8_t *)"4", 1 },
+                                   { (const uint8_t *)"5", 1 },   { (const uint8_t *)"6", 1 },    { (const uint8_t *)"7", 1 } };
+    uint64_t keys[7] = { 99, 99, 99, 99, 99, 99, 99 };
+    pardz_bytes lent[4] = { { nowhere, 99 }, { nowhere, 99 }, { nowhere, 99 }, { nowhere, 99 } };
+    size_t done = 99;
+    CHECK(pardz_put_several(a, NULL, 0, NULL, &done) == PARDZ_OK && done == 0);
+    CHECK(pardz_put_several(empty, texts, 2, keys, &done) == PARDZ_EMPTY_LANE && done == 0 && keys[0] == 99);
+    CHECK(pardz_put_several(a, texts, 3, keys, &done) == PARDZ_OK && done == 3 && keys[3] == 99);
+    CHECK(pardz_get_several(b, keys, 3, lent, &done) == PARDZ_OK && done == 3);
+    CHECK(lent[0].len == 3 && memcmp(lent[0].at, "one", 3) == 0 && lent[1].len == 0 && lent[1].at == NULL);
+    CHECK(lent[2].len == 5 && memcmp(lent[2].at, "three", 5) == 0 && lent[3].len == 99);
+    /* The third is refused; the two before it have a reference more. */
+    const uint64_t wrong[4] = { keys[2], keys[2], UINT64_MAX, keys[0] };
+    CHECK(pardz_get_several(b, wrong, 4, lent, &done) == PARDZ_GONE && done == 2 && lent[1].len == 5 && lent[3].len == 99);
+    const uint64_t held[6] = { keys[0], keys[1], keys[2], keys[2], keys[2], keys[2] };
+    CHECK(pardz_release_several(b, held, 6, &done) == PARDZ_NO_REFERENCE && done == 5);
+    CHECK(pardz_release_several(b, keys, 1, &done) == PARDZ_NO_REFERENCE && done == 0);
+    CHECK(pardz_get_several(empty, keys, 1, lent, &done) == PARDZ_EMPTY_LANE && done == 0);
+    CHECK(pardz_release_several(empty, keys, 1, &done) == PARDZ_EMPTY_LANE && done == 0);
+    /* Three places are left. */
+    CHECK(pardz_put_several(a, texts + 3, 4, keys + 3, &done) == PARDZ_FULL && done == 3 && keys[5] != 99 && keys[6] == 99);
+    for (int i = 0; i < 6; i++)
+        EXPECT(CLEAR, OK, pardz_clear(b, keys[i]));
+    CHECK(pardz_get_several(a, keys, 6, lent, &done) == PARDZ_GONE && done == 0);
 }
 
 /* As many fillings, places and references as there can be, and one more. */
@@ -500,6 +524,7 @@ int main(void) {
         life(&lanes[i % 2], &lanes[(i + 1) % 2]);
     from_a_reference(&lanes[0]);
     puts_bytes(&lanes[0], &lanes[1]);
+    several(&lanes[0], &lanes[1], &empty);
     pardz_census census;
     close_two(lanes, &census);
     CHECK(census.present + census.marked + census.filling + census.retired == 0);

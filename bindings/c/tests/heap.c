@@ -1,5 +1,5 @@
-/* heap.c: what it asks of malloc, realloc and free, and what it answers where they refuse; and that no number comes twice, on
- * threads that ask at once too. */
+/* heap.c: what it asks of malloc, realloc and free, or of a program's heap, and what it answers where they refuse; and that no number
+ * comes twice, on threads that ask at once too. */
 #include "../pardz.h"
 #include "check.h"
 #include "counting_heap.h"
@@ -47,6 +47,49 @@ static void no_bytes(void) {
     CHECK(heap_blocks == 0);
 }
 
+/* A heap of the program's own: what it was asked for, and of whom. */
+struct own {
+    size_t allocated, reallocated;
+    int released;
+    pardz_block memory[8];
+};
+
+static void *own_allocate(void *context, size_t size) {
+    struct own *own = context;
+    own->allocated = size;
+    return size <= sizeof own->memory ? own->memory : NULL;
+}
+
+static void *own_reallocate(void *context, void *at, size_t size) {
+    struct own *own = context;
+    own->reallocated = size;
+    return size <= sizeof own->memory ? at : NULL;
+}
+
+static void own_release(void *context, void *at) {
+    struct own *own = context;
+    own->released += at == own->memory;
+}
+
+/* All three go to the heap that was set, with its context, until another one is. */
+static void own_heap(void) {
+    static struct own own;
+    const pardz_heap heap = { own_allocate, own_reallocate, own_release, &own };
+    heap_begin(0, 0);
+    pardz_set_heap(&heap);
+    pardz_block block = pardz_alloc(100, 16), refused = pardz_alloc(5000, 8);
+    CHECK(block.ok == 1 && block.at == own.memory && refused.ok == 0 && refused.at != NULL && own.allocated == 5000);
+    block = pardz_realloc(block.at, 50, 128, 16);
+    CHECK(block.ok == 1 && block.at == own.memory && own.reallocated == 128 && pardz_realloc(block.at, 128, 5000, 16).ok == 0);
+    pardz_dealloc(block.at);
+    CHECK(own.released == 1 && pardz_alloc(0, 8).ok == 1 && own.allocated != 0 && heap_requests == 0);
+    pardz_set_heap(NULL);
+    block = pardz_alloc(24, 8);
+    CHECK(block.ok == 1 && heap_requests == 1 && heap_blocks == 1);
+    pardz_dealloc(block.at);
+    CHECK(heap_blocks == 0 && own.released == 1);
+}
+
 static _Atomic unsigned char seen[THREADS * NUMBERS];
 static atomic_int ready;
 
@@ -74,6 +117,7 @@ static void next_numbers(void) {
 int main(void) {
     blocks();
     no_bytes();
+    own_heap();
     next_numbers();
     printf("heap: %d numbers on each of %d threads\n", NUMBERS, THREADS);
     return 0;

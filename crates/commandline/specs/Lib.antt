@@ -7,6 +7,7 @@ pub mod Mistakes
 pub mod Tasks
 pub mod ViewLines
 pub mod ViewMistakes
+pub mod Wishes
+pub mod Hints
 pub mod Statuses
 pub mod Arguments
-pub mod Asking

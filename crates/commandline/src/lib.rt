@@ -4,6 +4,7 @@
 
 mod fault;
 mod hexadecimal;
+mod hints;
 mod lines;
 mod mistakes;
 mod reports;
@@ -13,12 +14,15 @@ mod tasks;
 mod turns;
 mod view_lines;
 mod views;
+mod wishes;
 mod words;
 
 pub use fault::TaskFault;
+pub use hints::{hint, is_due, is_hinted, word_of};
 pub use mistakes::{Mistake, Reason, write_mistake};
 pub use reports::{end_by_words, read_args};
-pub use requests::{Request, read_request, request_of_args, task};
+pub use requests::{Request, read_request, task};
 pub use tasks::{Stop, Task, Turns};
 pub use turns::turns_in;
 pub use views::{View, ViewRequest, Viewing, read_viewing};
+pub use wishes::{Call, Wish, are_hints_wanted, is_wanted};

@@ -28,9 +28,11 @@ pub(crate) struct Argument<'a> {
     pub(crate) help: &'a str,
 }
 
-/// What help says of a command, around its arguments; the usage is told by `clap` where none is said.
+/// What help says of a command, around its arguments: it begins with an example. The usage is told by `clap` where none
+/// is said.
 #[derive(Clone, Copy)]
 pub(crate) struct Help<'a> {
+    pub(crate) example: &'a str,
     pub(crate) about: &'a str,
     pub(crate) usage: Option<&'a str>,
     pub(crate) more: &'a str,
@@ -73,8 +75,16 @@ fn command_named<'a>(alloc: Global, name: &'a str, help: Help<'a>) -> Command<'a
     ensures app { app_of result ≡ new_app name.now }
     ensures local { (fields_of result).has_globals ≡ false }
 {
-    let Help { about, usage, more } = help;
-    let command = Command::new(alloc, name).about(about).after_help(more);
+    let Help {
+        example,
+        about,
+        usage,
+        more,
+    } = help;
+    let command = Command::new(alloc, name)
+        .before_help(example)
+        .about(about)
+        .after_help(more);
     match usage {
         Some(usage) => command.override_usage(usage),
         None => command,

@@ -1,20 +1,21 @@
 //! The words of the command line, and how a program ends whose words ask for nothing.
-ghost use Rattle.std.specs.Prelude.{◌≡◌};
+ghost use Rattle.std.specs.Prelude.{◌≡◌, Ok};
 ghost use Rattle.clap.specs.Values.{kind_of};
 ghost use Rattle.streams.specs.Saying.{Says};
 ghost use Rattle.commandline.specs.MistakeTexts.{words_text};
-ghost use Rattle.commandline.specs.Statuses.{EndsByClap, EndsByHelp, EndsByWords, IsHelp};
+ghost use Rattle.commandline.specs.Statuses.{EndsByClap, EndsByHelp, EndsByWords, IsHelp, ReportsClap};
 ghost use Rattle.commandline.specs.Arguments.{ReadsArgs};
 
 use crate::fault::TaskFault;
 use crate::mistakes::{Mistake, Reason, write_mistake};
+use crate::wishes::{Call, call_of};
 use clap::Error as ClapError;
 use clap::error::ErrorKind;
 use std::alloc::{AllocError, Global};
 use std::env::Args;
 use std::io;
 use std::io::Write;
-use streams::{Watched, write_text};
+use streams::{Watched, write_lines, write_text};
 
 /// The line of a want of memory.
 const MEMORY: &[u8] = b"fault 43 Memory\n";
@@ -38,8 +39,21 @@ fn end_by_help<O: Write, E: Write>(
     0
 }
 
+/// Writes what `clap` says of a mistake, no byte of which steers a terminal.
+fn report_clap<E: Write>(alloc: Global, error: &ClapError, errors: &mut Watched<E>) -> u8
+    ensures { ReportsClap E.contents errors.old errors.new result }
+{
+    let Ok(text) = format!(in alloc; "{error}") else {
+        write_text(MEMORY, errors);
+        return 1;
+    };
+    write_lines(text.as_bytes(), errors);
+    2
+}
+
 /// Writes what `clap` says.
 fn end_by_clap<O: Write, E: Write>(
+    alloc: Global,
     error: &ClapError,
     out: &mut Watched<O>,
     errors: &mut Watched<E>,
@@ -51,8 +65,7 @@ fn end_by_clap<O: Write, E: Write>(
         return 1;
     }
     if error.use_stderr() {
-        let _ = write!(errors, "{error}");
-        return 2;
+        return report_clap(alloc, error, errors);
     }
     end_by_help(error, out, errors)
 }
@@ -72,6 +85,7 @@ fn report_mistake<E: Write>(mistake: &Mistake, explain: bool, errors: &mut Watch
 /// help or the version; and 1 where memory was refused for the words, or help can't be written, which is said on
 /// `errors`.
 pub fn end_by_words<O: Write, E: Write>(
+    alloc: Global,
     fault: &TaskFault,
     explain: bool,
     out: &mut Watched<O>,
@@ -80,7 +94,7 @@ pub fn end_by_words<O: Write, E: Write>(
     ensures { EndsByWords E.contents fault.now explain out.old out.new errors.old errors.new result }
 {
     match fault {
-        TaskFault::Clap(error) => end_by_clap(error, out, errors),
+        TaskFault::Clap(error) => end_by_clap(alloc, error, out, errors),
         TaskFault::Words(mistake) => {
             report_mistake(mistake, explain, errors);
             2
@@ -92,13 +106,22 @@ pub fn end_by_words<O: Write, E: Write>(
     }
 }
 
-/// The words that the program was called with, by what `env::args` answers. The faults: `Words` where one is no text;
+/// What the program was called with, by its words.
+fn read_row(alloc: Global, args: Args) -> Result<Call, TaskFault>
+    ensures { ReadsArgs (Ok args) result }
+{
+    let words: Vec<String> = args.collect(alloc)?;
+    let call = call_of(alloc, words.as_slice())?;
+    Ok(call)
+}
+
+/// What the program was called with, by what `env::args` answers. The faults: `Words` where a word is no text;
 /// `Memory` where memory was refused.
-pub fn read_args(alloc: Global, args: io::Result<Args>) -> Result<Vec<String>, TaskFault>
+pub fn read_args(alloc: Global, args: io::Result<Args>) -> Result<Call, TaskFault>
     ensures { ReadsArgs args result }
 {
     match args {
-        Ok(args) => Ok(args.collect(alloc)?),
+        Ok(args) => read_row(alloc, args),
         Err(error) => {
             if error.kind() == io::ErrorKind::OutOfMemory {
                 return Err(TaskFault::Memory(AllocError));

@@ -1,21 +1,16 @@
 //! What the words of a command line ask for.
 ghost use Rattle.std.specs.Prelude.{◌≡◌, map, IfOk, IfErr, string_bytes};
-ghost use Rattle.commandline.specs.Arguments.{ReadsArgs};
-ghost use Rattle.commandline.specs.Asking.{IsAsked};
 ghost use Rattle.commandline.specs.CommandLines.{AreWordsOf};
 ghost use Rattle.clap.specs.Words.{subcommand_rows_of};
 ghost use Rattle.commandline.specs.Mistakes.{AsksFor, RefusesWords, IsExplained};
 
 use crate::fault::{TaskFault, mistaken_without};
 use crate::mistakes::Reason;
-use crate::reports::read_args;
 use crate::run_lines::read_words;
 use crate::tasks::Task;
 use crate::words::{is_used, task_of};
 use clap::ArgMatches;
 use std::alloc::Global;
-use std::env::Args;
-use std::io;
 
 /// What the words of a command line ask for.
 #[derive(Drop)]
@@ -55,20 +50,6 @@ pub fn read_request(alloc: Global, words: &[String]) -> Request
         Ok(matches) => asked(alloc, &matches),
         Err(error) => Request {
             task: Err(TaskFault::Clap(error)),
-            explain: false,
-        },
-    }
-}
-
-/// What the words ask for that the program was called with, by what `env::args` answers. The faults are those of
-/// `read_args`, and of `read_request`.
-pub fn request_of_args(alloc: Global, args: io::Result<Args>) -> Request
-    ensures { IsAsked args result }
-{
-    match read_args(alloc, args) {
-        Ok(words) => read_request(alloc, words.as_slice()),
-        Err(fault) => Request {
-            task: Err(fault),
             explain: false,
         },
     }

@@ -12,6 +12,15 @@ pub(crate) const VERSION: &str = "0.2.0";
 
 /// What help says of the program.
 static PROGRAM_HELP: Help<'static> = Help {
+    example: "\
+Example, which runs as it stands: three turns of a lane that publishes an object, reads it and clears it
+  echo '{\"shape\":{\"lanes\":1,\"first_page\":2,\"pages\":1,\"last_generation\":9},
+    \"scripts\":[[[\"create\",0],[\"write\",0,\"6869\"],[\"publish\",0],[\"get\",1,\"@0\"],[\"clear\",\"@0\"],[\"release\",1]]]}' |
+    poolrun replay - --schedule 0,0,0 --explain
+Example: poolrun replay first.json --schedule 0,0
+
+With --explain a line behind each mistake says where it is and what is wanted there. Where standard error is a terminal
+it is so without the word: --explain=never, or POOL_EXPLAIN=never in the environment, turns it off.",
     about: "A pool of objects that are cleared and used again in place: replays scripts on it step by step, runs them on threads,\nchecks what was recorded of it, and decodes its keys.",
     usage: Some("poolrun <COMMAND>"),
     more: "\
@@ -26,14 +35,15 @@ Script files are JSON texts: a shape, and for each lane a list of commands, as
 
 A file named - is standard input; ./- is the file of that name.
 
-Exit status: 0 where it is done, and after help; 1 after a fault, which is a line on standard error,
-after an illegal act and where there is no key; 2 after a mistake in these words.
-
-Example: poolrun replay first.json --schedule 0,0",
+Exit status:
+  0  it is done, or help or the version was printed
+  1  a fault, which is a line on standard error; an illegal act; a number that is no key
+  2  a mistake in these words, or in a schedule's file",
 };
 
 /// What help says of the option by which mistakes are explained.
-const EXPLAIN: &str = "Says on standard error where a mistake is, and what is wanted there";
+const EXPLAIN: &str =
+    "Says on standard error where a mistake is, and what is wanted there. At a terminal it does so by itself: --explain=never, =always or =auto says when";
 
 /// The lanes that take turns.
 const SCHEDULE: Argument<'static> = Argument {
@@ -67,6 +77,7 @@ const STOP: Argument<'static> = Argument {
 static REPLAY: Line<'static> = Line {
     name: "replay",
     help: Help {
+        example: "Example: poolrun replay first.json --schedule 0,0",
         about: "Replays the scripts of a file over a schedule, step by step, and prints what each step did",
         usage: Some(
             "poolrun replay <FILE> --schedule <LANES> [--stop <L:K>] [--acts | --print-schedule] [--explain]\n       poolrun replay <FILE> --seed <N> --turns <M> [--stop <L:K>] [--acts | --print-schedule] [--explain]",
@@ -79,9 +90,7 @@ Prints a line for each reply of a command and for each atomic step, in the order
 reads it from a file: numbers with single commas or line feeds between them. A fault prints `fault NUMBER NAME` on standard
 error, and nothing on standard output.
 
-Exit status: 0 where it is done, 1 after a fault, 2 after a mistake in these words.
-
-Example: poolrun replay first.json --schedule 0,0",
+Exit status: 0 where it is done, 1 after a fault, 2 after a mistake in these words.",
     },
     arguments: &[
         Argument {
@@ -115,6 +124,7 @@ Example: poolrun replay first.json --schedule 0,0",
 static SHORTEN: Line<'static> = Line {
     name: "shorten",
     help: Help {
+        example: "Example: poolrun shorten first.json --seed 1 --turns 100 --until PUBLISH",
         about: "Leaves entries out of a schedule for as long as a word stands in its replay, and prints what is left",
         usage: Some(
             "poolrun shorten <FILE> --schedule <LANES> [--stop <L:K>] --until <WORD> [--explain]\n       poolrun shorten <FILE> --seed <N> --turns <M> [--stop <L:K>] --until <WORD> [--explain]",
@@ -126,9 +136,7 @@ it stands between spaces, or at an end of the line. No single entry of what is p
 Each trial is a replay. After those of 100000000 entries in all it gives up.
 
 Exit status: 0 where it is done; 1 after a fault, as where WORD stands nowhere; 2 after a mistake in
-these words.
-
-Example: poolrun shorten first.json --seed 1 --turns 100 --until PUBLISH",
+these words.",
     },
     arguments: &[
         Argument {
@@ -157,6 +165,7 @@ Example: poolrun shorten first.json --seed 1 --turns 100 --until PUBLISH",
 static CHECK: Line<'static> = Line {
     name: "check",
     help: Help {
+        example: "Example: poolrun check first.acts",
         about: "Checks that acts are a legal history of a pool, and prints its summary",
         usage: Some("poolrun check <ACTS> [--explain]"),
         more: "\
@@ -165,9 +174,7 @@ LAST_GENERATION`, and a line for each act. Prints the counts of a legal history,
 the first act that is refused, counted from 0, and why.
 
 Exit status: 0 for a legal history; 1 for an illegal one, and after a fault, as a line that is no
-act; 2 after a mistake in these words.
-
-Example: poolrun check first.acts",
+act; 2 after a mistake in these words.",
     },
     arguments: &[
         Argument {
@@ -187,15 +194,14 @@ Example: poolrun check first.acts",
 static RUN: Line<'static> = Line {
     name: "run",
     help: Help {
+        example: "Example: poolrun run first.json",
         about: "Runs each script of a file on a thread of its own, on one pool, and prints the replies",
         usage: Some("poolrun run <FILE> [--explain]"),
         more: "\
 Prints the replies of lane 0, then those of lane 1, and so on; then what each place of the pool was
 when it was closed. What lanes find of one another may differ from run to run.
 
-Exit status: 0 where it is done, 1 after a fault, 2 after a mistake in these words.
-
-Example: poolrun run first.json",
+Exit status: 0 where it is done, 1 after a fault, 2 after a mistake in these words.",
     },
     arguments: &[
         Argument {
@@ -215,6 +221,7 @@ Example: poolrun run first.json",
 static KEY: Line<'static> = Line {
     name: "key",
     help: Help {
+        example: "Example: poolrun key 16777216\nExample: poolrun key --word 4294967301",
         about: "Prints what a number says as a key, or as a lifecycle word of a trace",
         usage: Some("poolrun key <N> [--hex] [--word] [--explain]"),
         more: "\
@@ -223,10 +230,7 @@ Prints the shard, the page, the slot and the generation of a key, and its tag wh
 trace have them behind ENTER, LEAVE, PUBLISH, MARK and CLAIM.
 
 Exit status: 0 where it is done, 1 where there is no key and after a fault, 2 after a mistake in these
-words.
-
-Example: poolrun key 16777216
-Example: poolrun key --word 4294967301",
+words.",
     },
     arguments: &[
         Argument {

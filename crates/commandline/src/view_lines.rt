@@ -10,16 +10,28 @@ use std::alloc::Global;
 
 /// What help says of the program.
 static PROGRAM_HELP: Help<'static> = Help {
+    example: "\
+Example, which runs as it stands: the words of three lines of a trace, decoded
+  printf '0 = filling 16777216\\n0 PUBLISH 0 4294967296 4294967297\\n0 = key 16777216\\n' | poolview words - --explain
+Example: poolrun replay first.json --schedule 0,0 | poolview picture - > first.svg
+
+With --explain a line behind each mistake says where it is and what is wanted there. Where standard error is a terminal
+it is so without the word: --explain=never, or POOL_EXPLAIN=never in the environment, turns it off.",
     about: "Shows a trace that `poolrun replay` printed",
     usage: None,
     more: "\
 A file named - is standard input; ./- is the file of that name.
 
-Exit status: 0 where it is done, and after help; 1 after a fault, which is a line on standard error;
-2 after a mistake in these words.
-
-Example: poolrun replay first.json --schedule 0,0 | poolview picture -",
+Exit status:
+  0    it is done, or help or the version was printed
+  1    a fault, which is a line on standard error; a step that doesn't follow
+  2    a mistake in these words
+  141  nobody reads the output any more, as in `poolview words trace | head`: nothing is said",
 };
+
+/// What help says of the status after a view.
+const STATUS: &str =
+    "Exit status: 0 where it is done, 1 after a fault, 2 after a mistake in these words, 141 where nobody reads the output any more";
 
 /// The file of each subcommand.
 const FILE: Argument<'static> = Argument {
@@ -32,16 +44,17 @@ const FILE: Argument<'static> = Argument {
 const EXPLAIN: Argument<'static> = Argument {
     kind: Kind::Flag,
     name: "explain",
-    help: "Says on standard error where a mistake is, and what is wanted there",
+    help: "Says on standard error where a mistake is, and what is wanted there. At a terminal it does so by itself: --explain=never, =always or =auto says when",
 };
 
 /// The subcommand `picture`.
 static PICTURE: Line<'static> = Line {
     name: "picture",
     help: Help {
+        example: "Example: poolview picture trace --from 10 --turns 20",
         about: "Draws turns of a trace as an SVG",
         usage: None,
-        more: "Example: poolview picture trace --from 10 --turns 20",
+        more: STATUS,
     },
     arguments: &[
         FILE,
@@ -73,9 +86,10 @@ static PICTURE: Line<'static> = Line {
 static WORDS: Line<'static> = Line {
     name: "words",
     help: Help {
+        example: "Example: poolview words trace",
         about: "Prints a trace with its words decoded",
         usage: None,
-        more: "Example: poolview words trace",
+        more: STATUS,
     },
     arguments: &[
         FILE,
@@ -97,9 +111,10 @@ static WORDS: Line<'static> = Line {
 static SUMMARY: Line<'static> = Line {
     name: "summary",
     help: Help {
+        example: "Example: poolview summary trace",
         about: "Prints what a trace has in sum",
         usage: None,
-        more: "Example: poolview summary trace",
+        more: STATUS,
     },
     arguments: &[FILE, EXPLAIN],
 };
@@ -108,9 +123,10 @@ static SUMMARY: Line<'static> = Line {
 static JSON: Line<'static> = Line {
     name: "json",
     help: Help {
+        example: "Example: poolview json trace",
         about: "Prints a trace as JSON, an object for each turn",
         usage: None,
-        more: "Example: poolview json trace",
+        more: STATUS,
     },
     arguments: &[FILE, EXPLAIN],
 };
@@ -119,9 +135,10 @@ static JSON: Line<'static> = Line {
 static EVENTS: Line<'static> = Line {
     name: "events",
     help: Help {
+        example: "Example: poolview events trace > trace.json",
         about: "Prints a trace in the trace-event form, which Perfetto opens",
         usage: None,
-        more: "Example: poolview events trace > trace.json",
+        more: STATUS,
     },
     arguments: &[FILE, EXPLAIN],
 };
@@ -130,9 +147,10 @@ static EVENTS: Line<'static> = Line {
 static PAGE: Line<'static> = Line {
     name: "page",
     help: Help {
+        example: "Example: poolview page trace > trace.html",
         about: "Prints an HTML page that shows a trace turn by turn",
         usage: None,
-        more: "Example: poolview page trace > trace.html",
+        more: STATUS,
     },
     arguments: &[FILE, EXPLAIN],
 };
@@ -141,9 +159,10 @@ static PAGE: Line<'static> = Line {
 static CHECK: Line<'static> = Line {
     name: "check",
     help: Help {
+        example: "Example: poolview check trace",
         about: "Says whether the steps of a trace follow from one another",
         usage: None,
-        more: "Example: poolview check trace",
+        more: STATUS,
     },
     arguments: &[FILE, EXPLAIN],
 };

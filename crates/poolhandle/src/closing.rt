@@ -12,7 +12,7 @@ use crate::shared::{Given, Shared};
 use counted_slot::Counted;
 use keybits::MOST_LANES;
 use shardpool::{Census, Lane, Pool};
-use slotcell::ByteBuf;
+use slotcell::{ByteBuf, Clear};
 use std::sync::Arc;
 
 /// Gives the lane of another handle of the pool for the close, and ends that handle: the last lane first, and then the
@@ -125,7 +125,7 @@ fn gathered(
 }
 
 /// Closes a pool with its lanes, by rising number. None where they aren't all of them.
-pub(crate) fn close_lanes(pool: Pool<ByteBuf>, lanes: Vec<Lane<ByteBuf>>) -> Option<Census>
+pub fn close_lanes<T: Clear + Drop>(pool: Pool<T>, lanes: Vec<Lane<T>>) -> Option<Census>
     requires owned { All (λ lane. Owns pool lane) lanes.items }
     ensures closes { IfSome result (λ census. AreLanes pool lanes.items × Closes pool lanes.items census) }
 {

@@ -5,7 +5,7 @@ ghost use Rattle.poolhandle.specs.declared.counting_lane.KeyCount.{KeyCount as R
 ghost use Rattle.poolhandle.specs.Counts.{gained};
 
 use keybits::generation_of;
-use shardpool::{CreateFault, Filling, Lane, Pool, Ref};
+use shardpool::{CreateFault, Filling, Lane, Note, Pool, Ref};
 use slotcell::Clear;
 use std::alloc::Global;
 use std::marker::Model;
@@ -43,7 +43,11 @@ impl<T: Clear + Drop> CountingLane<T> {
     ghost use Rattle.keybits.specs.Keys.{place_of};
     ghost use Rattle.poolsteps.specs.Layout.{slot_start};
     ghost use Rattle.steplaws.specs.Facts.{most_references};
-    ghost use Rattle.shardpool.specs.Lanes.{Owns, Made, holds, refs};
+    ghost use mathlib.Core.List.{IsPrefix};
+    ghost use Rattle.std.specs.Prelude.{ℕ, [], ◌+◌};
+    ghost use Rattle.poolsteps.specs.Seats.{looked_once};
+    ghost use Rattle.shardpool.specs.Tokens.{FillingOf};
+    ghost use Rattle.shardpool.specs.Lanes.{Owns, Issued, Made, Did, holds, refs};
     ghost use Rattle.shardpool.specs.AfterCalls.{AfterCreate, AfterPublish, AfterDowngrade, AfterGet, AfterReleaseKey, AfterClear};
 
     /// A lane that has no reference, with counts of its own.
@@ -98,6 +102,34 @@ impl<T: Clear + Drop> CountingLane<T> {
             return None;
         }
         Some(self.lane.reference_to(key))
+    }
+
+    /// As `Pool::tell`.
+    pub fn tell(&mut self, pool: &Pool<T>) -> Note<T>
+        requires { Owns pool.now self.old }
+        ensures note { Issued pool.now result × (result.book.seen ≡ self.old.book.seen) }
+        ensures rooms { result.book.rooms ≡ self.old.book.rooms }
+        ensures lane { self.new ≡ record self.old { book = looked_once self.old.book } }
+        ensures fillings { (filling : FillingOf T) → Made self.old filling → Made self.new filling }
+    {
+        pool.tell(&mut self.lane)
+    }
+
+    /// As `Pool::hear`.
+    pub fn hear(&mut self, pool: &Pool<T>, note: Note<T>)
+        requires owns { Owns pool.now self.old }
+        requires note { Issued pool.now note }
+        ensures owns { Owns pool.now self.new }
+        ensures heard { IsPrefix note.book.seen self.new.book.seen × IsPrefix self.old.book.seen self.new.book.seen }
+        ensures rooms { IsPrefix note.book.rooms self.new.book.rooms × IsPrefix self.old.book.rooms self.new.book.rooms }
+        ensures goes { Did [] self.old self.new }
+        ensures steps { self.new.book.steps ≡ self.old.book.steps }
+        ensures looks { self.new.book.looks ≡ self.old.book.looks + 1 }
+        ensures refs { refs self.new ≡ refs self.old }
+        ensures held { (key : ℕ) → holds self.new key ≡ holds self.old key }
+        ensures fillings { (filling : FillingOf T) → Made self.old filling → Made self.new filling }
+    {
+        pool.hear(&mut self.lane, note);
     }
 
     /// As `Pool::create`.

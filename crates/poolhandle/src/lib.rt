@@ -13,7 +13,7 @@ pub mod shared;
 pub mod slot;
 pub mod unboxed;
 
-pub use closing::{close, join};
+pub use closing::{close, close_lanes, join};
 pub use counting_lane::CountingLane;
 pub use opening::open_handles;
 pub use refusal::Refusal;

@@ -1,16 +1,20 @@
 -- How the program ends: its status, and what is written on the output and as errors.
-use Rattle.std.specs.Prelude.{◌≡◌, ◌≢◌, ◌⊎◌, ◌↔◌, ℕ, Bool, true, false, List, [], ◌++◌, Option, Some, None, Result, Ok, Err, IfOk, IfErr, IsErrOf, String, codes, string_bytes}
+use Rattle.std.specs.Prelude.{◌≡◌, ◌≢◌, ◌⊎◌, ◌↔◌, ℕ, Bool, true, false, List, [], ◌++◌, Option, Some, None, Result, Ok, Err, IfOk, IfErr, IsErrOf, String, codes, map, string_bytes}
 use Rattle.std.specs.declared.alloc.AllocError.{AllocError}
 use Rattle.std.specs.declared.alloc.Global.{Global}
 use Rattle.std.specs.declared.io.Error.{Error}
 use Rattle.std.specs.declared.vec.IntoIter.{IntoIter}
 use Rattle.streams.specs.Saying.{Says}
 use Rattle.streams.specs.declared.writer.Watched.{Watched}
-use Rattle.commandline.specs.Asking.{IsAsked}
+use Rattle.commandline.specs.Arguments.{ReadsArgs}
+use Rattle.commandline.specs.CommandLines.{AreWordsOf}
+use Rattle.commandline.specs.Hints.{Hints, hint_text, is_due, is_hinted, word_of}
+use Rattle.commandline.specs.Mistakes.{RefusesWords, IsExplained}
 use Rattle.commandline.specs.Statuses.{EndsByWords}
 use Rattle.commandline.specs.Tasks.{path_of, schedule_path_of, over}
+use Rattle.commandline.specs.Wishes.{command_in, is_wanted}
+use Rattle.commandline.specs.declared.wishes.Call.{Call}
 use Rattle.commandline.specs.declared.fault.TaskFault.{TaskFault}
-use Rattle.commandline.specs.declared.requests.Request.{Request}
 use Rattle.commandline.specs.declared.tasks.Task.{Task}
 use Rattle.commandline.specs.declared.tasks.Turns.{Turns}
 use Rattle.poolprogram.specs.Explanations.{IsSubjectOf, Explains, IsPlain}
@@ -74,14 +78,14 @@ pub record SaysEnd {E : Type 0} (errors : E → Option (List ℕ)) (subject : Re
   pub says : Says errors before after (report_text done ++ why)
 
 -- the text explains how the task ended, by what it is about
-pub record IsExplained (task : Task) (file : List ℕ) (done : Result Bool RunFault) (explained : Bool) (text : List ℕ) : Type 0 where
+pub record IsExplainedTask (task : Task) (file : List ℕ) (done : Result Bool RunFault) (explained : Bool) (text : List ℕ) : Type 0 where
   pub subject : Result Subject AllocError
   pub about : IfOk subject (IsSubjectOf task)
   pub is : IsWhy subject file done explained text
 
 -- the text explains how the task ended, where that is wanted, and is empty where it isn't
 abbrev pub ExplainsIf : Bool → Task → List ℕ → Result Bool RunFault → Bool → List ℕ → Type 0
-ExplainsIf true task file done explained text = IsExplained task file done explained text
+ExplainsIf true task file done explained text = IsExplainedTask task file done explained text
 ExplainsIf false task file done explained text = (explained ≡ true) × (text ≡ [])
 
 -- how the program ends after a task: with its status; what it says is on the output, and the line of its fault, and behind it why, are said as errors
@@ -157,9 +161,34 @@ EndsRequest contents errors left (Ok task) explain old new before after ending =
 EndsRequest contents errors left (Err fault) explain old new before after ending =
     (ending.explained ≡ true) × EndsByWords errors fault explain old new before after ending.status
 
+-- the path of the file of a task that is asked for
+abbrev pub asked_path : Result Task TaskFault → Option (List ℕ)
+asked_path (Ok task) = path_of task
+asked_path (Err fault) = None
+
+-- how the program ends that was called so, with hints or not: what the words ask for is done, and a hint given behind a mistake
+pub record EndsCall {O E : Type 0} (contents : O → Option (List ℕ)) (errors : E → Option (List ℕ)) (left : Option (List ℕ)) (call : Call) (hints : Bool)
+    (old new : Watched O) (before after : Watched E) (ending : Ending) : Type 0 where
+  pub task : Result Task TaskFault
+  pub flag : Bool
+  pub asked : IfOk task (AreWordsOf (map string_bytes call.words.items))
+  pub refused : IfErr task (RefusesWords (map string_bytes call.words.items))
+  pub flagged : IsExplained (map string_bytes call.words.items) flag task
+  pub middle : Watched E
+  pub ends : EndsRequest contents errors left task (is_wanted call.wish flag hints) old new before middle ending
+  pub hinted : Hints errors (is_hinted hints (is_due task) (is_wanted call.wish flag hints) ending.status)
+      (hint_text (codes "poolrun") (command_in (map string_bytes call.words.items)) (word_of (map string_bytes call.words.items) (asked_path task))) middle after
+
+-- how the program ends, by what the words were read as
+abbrev pub EndsRead : {O E : Type 0} → (O → Option (List ℕ)) → (E → Option (List ℕ)) → Option (List ℕ) → Result Call TaskFault → Bool
+    → Watched O → Watched O → Watched E → Watched E → Ending → Type 0
+EndsRead contents errors left (Ok call) hints old new before after ending = EndsCall contents errors left call hints old new before after ending
+EndsRead contents errors left (Err fault) hints old new before after ending =
+    (ending.explained ≡ true) × EndsByWords errors fault hints old new before after ending.status
+
 -- how the program ends, by what it was called with
 pub record EndsProgram {O E : Type 0} (contents : O → Option (List ℕ)) (errors : E → Option (List ℕ)) (left : Option (List ℕ)) (args : Result (IntoIter (String Global) Global) Error)
-    (old new : Watched O) (before after : Watched E) (ending : Ending) : Type 0 where
-  pub request : Request
-  pub asked : IsAsked args request
-  pub ends : EndsRequest contents errors left request.task request.explain old new before after ending
+    (hints : Bool) (old new : Watched O) (before after : Watched E) (ending : Ending) : Type 0 where
+  pub call : Result Call TaskFault
+  pub read : ReadsArgs args call
+  pub ends : EndsRead contents errors left call hints old new before after ending

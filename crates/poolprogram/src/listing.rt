@@ -80,7 +80,7 @@ pub(crate) fn end_unlisted<O: Write, E: Write>(
     match why {
         Unlisted::Unread(fault) => end_unread(alloc, path, fault, explain, errors),
         Unlisted::Words(fault) => Ending {
-            status: end_by_words(&fault, explain, out, errors),
+            status: end_by_words(alloc, &fault, explain, out, errors),
             explained: true,
         },
     }

@@ -1,16 +1,20 @@
 //! The whole program over any input and writers: what the words ask for is done, and said on the output and as errors.
 ghost use Rattle.std.specs.Prelude.{◌≡◌, true, false, Ok, IfOk, IfErr};
 ghost use Rattle.streams.specs.Saying.{Says};
+ghost use Rattle.commandline.specs.Readings.{text_of};
 ghost use Rattle.commandline.specs.Tasks.{path_of, schedule_path_of};
 ghost use Rattle.poolprogram.specs.Tasks.{task_status, report_text};
 ghost use Rattle.poolprogram.specs.Reading.{IsFileOf, IsUnread};
-ghost use Rattle.poolprogram.specs.Program.{SaysWhy, SaysEnd, EndsTask, EndsFor, EndsProgram};
+ghost use Rattle.poolprogram.specs.Program.{SaysWhy, SaysEnd, EndsTask, EndsFor, EndsRequest, EndsCall, EndsProgram, asked_path};
 
 use crate::explanation::{Subject, explain, subject_of};
 use crate::listing::{end_unlisted, turns_at};
 use crate::run_fault::RunFault;
 use crate::tasks::{do_task, status_of, write_report};
-use commandline::{Request, Task, end_by_words, request_of_args};
+use commandline::{
+    Call, Request, Task, TaskFault, end_by_words, hint, is_due, is_hinted, is_wanted, read_args,
+    read_request, word_of,
+};
 use std::alloc::{AllocError, Global};
 use std::env::Args;
 use std::fs::Files;
@@ -203,26 +207,80 @@ fn run_listed<R: Files + AllocGlobal + Threads + Wait + Sync, I: Read, O: Write,
     }
 }
 
-/// Does what the words ask for, which are those that `env::args` answers. A task's file is read, or `input` where it is
-/// named `-`, and before it that of its turns, where they are in one; what it says is written on `out`. The line of its
-/// fault is written on `errors`, and behind it, where that is wanted, why; or else why the words ask for nothing. The
-/// exit status is 0 where it is done and after help, 1 after a fault, an illegal act and where there is no key, and 2
-/// after a mistake in the words. Workers run on the threads of `rt`.
-pub fn run_program<R: Files + AllocGlobal + Threads + Wait + Sync, I: Read, O: Write, E: Write>(
+/// Does a task that is asked for, with mistakes explained or not; or writes on `errors` why there is none.
+fn run_request<R: Files + AllocGlobal + Threads + Wait + Sync, I: Read, O: Write, E: Write>(
     rt: &R,
-    args: io::Result<Args>,
+    task: Result<Task, TaskFault>,
+    explain: bool,
     input: &mut I,
     out: &mut Watched<O>,
     errors: &mut Watched<E>,
 ) -> Ending
     requires { out.old.failed ≡ false }
-    ensures { EndsProgram O.contents E.contents (I.remaining input.old) args out.old out.new errors.old errors.new result }
+    ensures { EndsRequest O.contents E.contents (I.remaining input.old) task explain out.old out.new errors.old errors.new result }
 {
-    let Request { task, explain } = request_of_args(rt.alloc(), args);
     match task {
         Ok(task) => run_listed(rt, task, explain, input, out, errors),
         Err(fault) => Ending {
-            status: end_by_words(&fault, explain, out, errors),
+            status: end_by_words(rt.alloc(), &fault, explain, out, errors),
+            explained: true,
+        },
+    }
+}
+
+/// The path of the file of a task, where there is one.
+fn task_path(task: &Result<Task, TaskFault>) -> Option<&str>
+    ensures { text_of result ≡ asked_path task.now }
+{
+    match task {
+        Ok(task) => task.path(),
+        Err(_) => None,
+    }
+}
+
+/// Does what the program was called for, and gives a hint behind a mistake.
+fn run_call<R: Files + AllocGlobal + Threads + Wait + Sync, I: Read, O: Write, E: Write>(
+    rt: &R,
+    call: &Call,
+    hints: bool,
+    input: &mut I,
+    out: &mut Watched<O>,
+    errors: &mut Watched<E>,
+) -> Ending
+    requires { out.old.failed ≡ false }
+    ensures { EndsCall O.contents E.contents (I.remaining input.old) call.now hints out.old out.new errors.old errors.new result }
+{
+    let Request { task, explain } = read_request(rt.alloc(), call.words.as_slice());
+    let explain = is_wanted(call.wish, explain, hints);
+    let file = word_of(call.words.as_slice(), task_path(&task));
+    let due = is_due(&task);
+    let ending = run_request(rt, task, explain, input, out, errors);
+    let hinted = is_hinted(hints, due, explain, ending.status);
+    hint(hinted, "poolrun", call.command(), file, errors);
+    ending
+}
+
+/// Does what the words ask for, which are those that `env::args` answers. A task's file is read, or `input` where it is
+/// named `-`, and before it that of its turns, where they are in one; what it says is written on `out`. The line of its
+/// fault is written on `errors`, and behind it, where that is wanted, why; or else why the words ask for nothing. With
+/// `hints`, that is where someone reads `errors` at a terminal, mistakes are explained unless the words say otherwise,
+/// and behind them stands where to read on. The exit status is 0 where it is done and after help, 1 after a fault, an
+/// illegal act and where there is no key, and 2 after a mistake in the words. Workers run on the threads of `rt`.
+pub fn run_program<R: Files + AllocGlobal + Threads + Wait + Sync, I: Read, O: Write, E: Write>(
+    rt: &R,
+    args: io::Result<Args>,
+    hints: bool,
+    input: &mut I,
+    out: &mut Watched<O>,
+    errors: &mut Watched<E>,
+) -> Ending
+    requires { out.old.failed ≡ false }
+    ensures { EndsProgram O.contents E.contents (I.remaining input.old) args hints out.old out.new errors.old errors.new result }
+{
+    match read_args(rt.alloc(), args) {
+        Ok(call) => run_call(rt, &call, hints, input, out, errors),
+        Err(fault) => Ending {
+            status: end_by_words(rt.alloc(), &fault, hints, out, errors),
             explained: true,
         },
     }

@@ -3,13 +3,26 @@
 //! ends with is `run_program`'s, over any input and writers: here are the streams.
 #![tactic(auto)]
 
+use commandline::are_hints_wanted;
 use poolprogram::run_program;
 use std::env;
+use std::io::IsTerminal;
 use std::process::ExitCode;
 use streams::Watched;
 
 fn main(rt: HostRuntime) -> ExitCode {
+    let hints = are_hints_wanted(&rt, rt.stderr().is_terminal());
     let mut out = Watched::new(rt.stdout());
     let mut errors = Watched::new(rt.stderr());
-    ExitCode::from(run_program(&rt, env::args(&rt), &mut rt.stdin(), &mut out, &mut errors).status)
+    ExitCode::from(
+        run_program(
+            &rt,
+            env::args(&rt),
+            hints,
+            &mut rt.stdin(),
+            &mut out,
+            &mut errors,
+        )
+        .status,
+    )
 }

@@ -1,5 +1,5 @@
 -- How the program ends: its status, and what is written on the output and as errors.
-use Rattle.std.specs.Prelude.{◌≡◌, ◌≢◌, ◌⊎◌, ℕ, Bool, false, true, List, [], Option, Result, Ok, Err, String, Vec, map, string_bytes}
+use Rattle.std.specs.Prelude.{◌≡◌, ◌≢◌, ◌⊎◌, ℕ, Bool, false, true, List, [], Option, Some, None, Result, Ok, Err, IfOk, IfErr, String, codes, map, string_bytes}
 use Rattle.std.specs.declared.alloc.Global.{Global}
 use Rattle.std.specs.declared.io.Error.{Error}
 use Rattle.std.specs.declared.vec.IntoIter.{IntoIter}
@@ -8,9 +8,12 @@ use Rattle.streams.specs.Saying.{Says}
 use Rattle.streams.specs.declared.reading.Unread.{Unread}
 use Rattle.streams.specs.declared.writer.Watched.{Watched}
 use Rattle.commandline.specs.Arguments.{ReadsArgs}
+use Rattle.commandline.specs.Hints.{Hints, hint_text, is_due, is_hinted}
 use Rattle.commandline.specs.Statuses.{EndsByWords}
 use Rattle.commandline.specs.ViewLines.{AreViewWordsOf}
 use Rattle.commandline.specs.ViewMistakes.{RefusesViewWords, IsViewExplained}
+use Rattle.commandline.specs.Wishes.{command_in, is_wanted}
+use Rattle.commandline.specs.declared.wishes.Call.{Call}
 use Rattle.commandline.specs.declared.fault.TaskFault.{TaskFault}
 use Rattle.commandline.specs.declared.views.View.{View}
 use Rattle.commandline.specs.declared.views.Viewing.{Viewing}
@@ -29,15 +32,24 @@ pub record EndsShown {O E : Type 0} (contents : O → Option (List ℕ)) (path :
   pub silent : after ≡ before
   pub status_is : status ≡ 0
 
--- it wasn't, by this fault: the status is 1, and the fault's line is said, with its explanation where that is wanted; nothing is on
--- the output, unless it failed
+-- whether a fault is that nobody reads the output any more
+abbrev pub is_silent : Fault → Bool → Bool
+is_silent faults.Output closed = closed
+is_silent fault closed = false
+
+-- how the program ends by a fault: silently, with the status that a shell tells of a closed pipe; or with status 1, and the fault's line
+-- is said, with its explanation where that is wanted
+abbrev pub EndsFault : {E : Type 0} → (E → Option (List ℕ)) → Bool → List ℕ → List ℕ → Fault → Bool → Watched E → Watched E → ℕ → Type 0
+EndsFault errors explain path bytes fault true before after status = (status ≡ 141) × (after ≡ before)
+EndsFault errors explain path bytes fault false before after status = (status ≡ 1) × Says errors before after (refusal_text explain path bytes fault)
+
+-- it wasn't, by this fault; nothing is on the output, unless it failed
 pub record EndsRefused {O E : Type 0} (errors : E → Option (List ℕ)) (explain : Bool) (path : List ℕ) (view : View) (bytes : List ℕ) (old new : Watched O)
     (before after : Watched E) (status : ℕ) : Type 0 where
   pub fault : Fault
   pub output : fault ≡ faults.Output → new.failed ≡ true
   pub refuses : fault ≢ faults.Output → (new ≡ old) × RefusesText view bytes fault
-  pub says : Says errors before after (refusal_text explain path bytes fault)
-  pub status_is : status ≡ 1
+  pub ends : EndsFault errors explain path bytes fault (is_silent fault new.closed) before after status
 
 -- how the program ends that has read these bytes
 abbrev pub EndsBytes : {O E : Type 0} → (O → Option (List ℕ)) → (E → Option (List ℕ)) → Bool → Viewing → List ℕ
@@ -55,7 +67,7 @@ pub record EndsUnread {O E : Type 0} (errors : E → Option (List ℕ)) (explain
   pub status_is : status ≡ 1
 
 -- the file was read
-pub record EndsRead {O E : Type 0} (contents : O → Option (List ℕ)) (errors : E → Option (List ℕ)) (explain : Bool) (left : Option (List ℕ))
+pub record EndsFile {O E : Type 0} (contents : O → Option (List ℕ)) (errors : E → Option (List ℕ)) (explain : Bool) (left : Option (List ℕ))
     (viewing : Viewing) (old new : Watched O) (before after : Watched E) (status : ℕ) : Type 0 where
   pub bytes : List ℕ
   pub read : IsFileAt viewing.file.now left bytes
@@ -65,36 +77,42 @@ pub record EndsRead {O E : Type 0} (contents : O → Option (List ℕ)) (errors 
 abbrev pub EndsView : {O E : Type 0} → (O → Option (List ℕ)) → (E → Option (List ℕ)) → Bool → Option (List ℕ) → Viewing
     → Watched O → Watched O → Watched E → Watched E → ℕ → Type 0
 EndsView contents errors explain left viewing old new before after status =
-    EndsRead contents errors explain left viewing old new before after status
+    EndsFile contents errors explain left viewing old new before after status
     ⊎ EndsUnread errors explain viewing.file.now old new before after status
 
--- the words were read, and ask for this
-pub record EndsViewing {O E : Type 0} (contents : O → Option (List ℕ)) (errors : E → Option (List ℕ)) (args : Result (IntoIter (String Global) Global) Error)
+-- how the program ends that is asked for this; or whose words ask for nothing
+abbrev pub EndsAsked : {O E : Type 0} → (O → Option (List ℕ)) → (E → Option (List ℕ)) → Bool → Option (List ℕ) → Result Viewing TaskFault
+    → Watched O → Watched O → Watched E → Watched E → ℕ → Type 0
+EndsAsked contents errors explain left (Ok viewing) old new before after status = EndsView contents errors explain left viewing old new before after status
+EndsAsked contents errors explain left (Err fault) old new before after status = EndsByWords errors fault explain old new before after status
+
+-- the file that is to be shown, where one is
+abbrev pub file_of : Result Viewing TaskFault → Option (List ℕ)
+file_of (Ok viewing) = Some viewing.file.now
+file_of (Err fault) = None
+
+-- how the program ends that was called so, with hints or not: what the words ask for is done, and a hint given behind a mistake
+pub record EndsCall {O E : Type 0} (contents : O → Option (List ℕ)) (errors : E → Option (List ℕ)) (call : Call) (hints : Bool)
     (left : Option (List ℕ)) (old new : Watched O) (before after : Watched E) (status : ℕ) : Type 0 where
-  pub words : Vec (String Global) Global
-  pub read : ReadsArgs args (Ok words)
-  pub viewing : Viewing
-  pub asked : AreViewWordsOf (map string_bytes words.items) viewing
-  pub explain : Bool
-  pub explained : IsViewExplained (map string_bytes words.items) explain (Ok viewing)
-  pub ends : EndsView contents errors explain left viewing old new before after status
+  pub viewing : Result Viewing TaskFault
+  pub flag : Bool
+  pub asked : IfOk viewing (AreViewWordsOf (map string_bytes call.words.items))
+  pub refused : IfErr viewing (RefusesViewWords (map string_bytes call.words.items))
+  pub flagged : IsViewExplained (map string_bytes call.words.items) flag viewing
+  pub middle : Watched E
+  pub ends : EndsAsked contents errors (is_wanted call.wish flag hints) left viewing old new before middle status
+  pub hinted : Hints errors (is_hinted hints (is_due viewing) (is_wanted call.wish flag hints) status)
+      (hint_text (codes "poolview") (command_in (map string_bytes call.words.items)) (file_of viewing)) middle after
 
--- why the words ask for nothing, and whether that is to be explained: they weren't read, or they are refused
-abbrev pub RefusesProgram : Result (IntoIter (String Global) Global) Error → Bool → TaskFault → Type 0
-RefusesProgram args explain fault =
-    (ReadsArgs args (Err fault) × (explain ≡ false)) ⊎ ((words : Vec (String Global) Global) × ReadsArgs args (Ok words)
-    × RefusesViewWords (map string_bytes words.items) fault × IsViewExplained (map string_bytes words.items) explain (Err fault))
-
--- the words ask for nothing
-pub record EndsWords {O E : Type 0} (errors : E → Option (List ℕ)) (args : Result (IntoIter (String Global) Global) Error)
-    (old new : Watched O) (before after : Watched E) (status : ℕ) : Type 0 where
-  pub fault : TaskFault
-  pub explain : Bool
-  pub refused : RefusesProgram args explain fault
-  pub ends : EndsByWords errors fault explain old new before after status
+-- how the program ends, by what the words were read as
+abbrev pub EndsRead : {O E : Type 0} → (O → Option (List ℕ)) → (E → Option (List ℕ)) → Result Call TaskFault → Bool → Option (List ℕ)
+    → Watched O → Watched O → Watched E → Watched E → ℕ → Type 0
+EndsRead contents errors (Ok call) hints left old new before after status = EndsCall contents errors call hints left old new before after status
+EndsRead contents errors (Err fault) hints left old new before after status = EndsByWords errors fault hints old new before after status
 
 -- how the program ends, by what it was called with
-abbrev pub EndsProgram : {O E : Type 0} → (O → Option (List ℕ)) → (E → Option (List ℕ)) → Result (IntoIter (String Global) Global) Error → Option (List ℕ)
-    → Watched O → Watched O → Watched E → Watched E → ℕ → Type 0
-EndsProgram contents errors args left old new before after status =
-    EndsViewing contents errors args left old new before after status ⊎ EndsWords errors args old new before after status
+pub record EndsProgram {O E : Type 0} (contents : O → Option (List ℕ)) (errors : E → Option (List ℕ)) (args : Result (IntoIter (String Global) Global) Error)
+    (hints : Bool) (left : Option (List ℕ)) (old new : Watched O) (before after : Watched E) (status : ℕ) : Type 0 where
+  pub call : Result Call TaskFault
+  pub read : ReadsArgs args call
+  pub ends : EndsRead contents errors call hints left old new before after status

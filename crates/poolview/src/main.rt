@@ -9,12 +9,22 @@ mod showing;
 mod viewing;
 
 use crate::viewing::view_trace;
+use commandline::are_hints_wanted;
 use std::env;
+use std::io::IsTerminal;
 use std::process::ExitCode;
 use streams::Watched;
 
 fn main(rt: HostRuntime) -> ExitCode {
+    let hints = are_hints_wanted(&rt, rt.stderr().is_terminal());
     let mut out = Watched::new(rt.stdout());
     let mut errors = Watched::new(rt.stderr());
-    ExitCode::from(view_trace(&rt, env::args(&rt), &mut rt.stdin(), &mut out, &mut errors))
+    ExitCode::from(view_trace(
+        &rt,
+        env::args(&rt),
+        hints,
+        &mut rt.stdin(),
+        &mut out,
+        &mut errors,
+    ))
 }

@@ -1,7 +1,7 @@
 -- What is shown can be printed.
-use Rattle.std.proofs.Common.{◌≡◌, ℕ, ◌+◌, ◌≤◌, ◌<◌, ◌/◌, ◌%◌, ◌==◌, ◌&&◌, ◌++◌, List, [], ◌∷◌, All, Bool, true, false, zero, suc, length, take, nat_le, nat_lt, decimal, codes, refl, ap, append_assoc, Option, ◌∙◌, sym, arith, if◌then◌else◌}
+use Rattle.std.proofs.Common.{◌≡◌, ℕ, ◌+◌, ◌≤◌, ◌<◌, ◌/◌, ◌%◌, ◌==◌, ◌&&◌, ◌++◌, List, [], ◌∷◌, All, Bool, true, false, zero, suc, length, take, nat_le, nat_lt, decimal, codes, refl, ap, append_assoc, Option, ◌∙◌, sym, arith, inl, inr, if◌then◌else◌}
 use Rattle.std.specs.Fmt.{digit_glyph, digits, digits_onto}
-use Rattle.std.proofs.lemmas.List.Elements.{All-append, All-cons, All-nil, All-same}
+use Rattle.std.proofs.lemmas.List.Elements.{All-append, All-cons, All-head, All-nil, All-same, All-tail}
 use Rattle.std.proofs.lemmas.List.Concat.{flat_map-cons}
 use Rattle.std.proofs.lemmas.Bool.{leb-true}
 use Rattle.std.proofs.lemmas.Grind.{flat_map-append}
@@ -9,7 +9,7 @@ use Rattle.std.proofs.lemmas.List.{length-append}
 use Rattle.streams.proofs.Sayings.{says_more}
 use Rattle.streams.specs.Saying.{Says}
 use Rattle.streams.specs.declared.writer.Watched.{Watched}
-use Rattle.streams.specs.Shown.{byte_text, bytes_text, cut, line_text, IsPrintable, IsSafeLine}
+use Rattle.streams.specs.Shown.{byte_text, bytes_text, cut, in_lines, line_text, lines_text, IsPrintable, IsPrintableOrEnd, IsSafeLine}
 
 glyph_if : (d : ℕ) (is : Bool) → d < 10 → IsPrintable (if is then 48 + d else 87 + d)
 glyph_if d true small = (omega arith, omega arith)
@@ -56,6 +56,21 @@ printable-bytes [] = All-nil IsPrintable
 printable-bytes (byte ∷ more) =
     All-same IsPrintable _ _ (flat_map-cons byte_text byte more)
     (All-append IsPrintable (byte_text byte) (bytes_text more) (told_byte byte) (printable-bytes more))
+
+end_or : (bytes : List ℕ) → All IsPrintable bytes → All IsPrintableOrEnd bytes
+end_or [] all = All-nil IsPrintableOrEnd
+end_or (byte ∷ more) all = All-cons IsPrintableOrEnd byte more (inl (All-head IsPrintable byte more all)) (end_or more (All-tail IsPrintable byte more all))
+
+line_byte : (byte : ℕ) (is : Bool) → (byte == 10) ≡ is → All IsPrintableOrEnd (if is then 10 ∷ [] else byte_text byte)
+line_byte byte true is = All-cons IsPrintableOrEnd 10 [] (inr refl) (All-nil IsPrintableOrEnd)
+line_byte byte false is = end_or (byte_text byte) (told_byte byte)
+
+-- what is shown of a text of several lines can be printed, but for the ends of lines
+pub printable-lines : (text : List ℕ) → All IsPrintableOrEnd (lines_text text)
+printable-lines [] = All-nil IsPrintableOrEnd
+printable-lines (byte ∷ more) =
+    All-same IsPrintableOrEnd _ _ (flat_map-cons in_lines byte more)
+    (All-append IsPrintableOrEnd (in_lines byte) (lines_text more) (line_byte byte (byte == 10) refl) (printable-lines more))
 
 short : (most : ℕ) (text : List ℕ) → length (take most text) ≤ most
 short zero text = omega arith

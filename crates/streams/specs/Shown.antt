@@ -1,5 +1,5 @@
 -- How bytes are shown in a line that wasn't written by these programs: what a file, a word or a value has.
-use Rattle.std.specs.Prelude.{◌≡◌, ℕ, ◌≤◌, ◌&&◌, List, [], ◌∷◌, ◌++◌, All, length, take, flat_map, nat_le, if◌then◌else◌, decimal, codes}
+use Rattle.std.specs.Prelude.{◌≡◌, ℕ, ◌≤◌, ◌&&◌, ◌==◌, ◌⊎◌, List, [], ◌∷◌, ◌++◌, All, length, take, flat_map, nat_le, if◌then◌else◌, decimal, codes}
 
 -- a byte: as it is where it is a character of ASCII that can be printed, and else its number
 abbrev pub byte_text : ℕ → List ℕ
@@ -21,6 +21,14 @@ cut_text bytes = bytes_text (cut bytes)
 abbrev pub shown_bytes : List ℕ → List ℕ
 shown_bytes bytes = codes "\"" ++ cut_text bytes ++ codes "\""
 
+-- a byte of a text of several lines: the end of a line is as it is
+abbrev pub in_lines : ℕ → List ℕ
+in_lines byte = if byte == 10 then 10 ∷ [] else byte_text byte
+
+-- what is shown of a text of several lines
+abbrev pub lines_text : List ℕ → List ℕ
+lines_text text = flat_map in_lines text
+
 -- a line that can be printed: what is shown of a text, of which only the first 2000 bytes, and the line's end
 abbrev pub line_text : List ℕ → List ℕ
 line_text text = bytes_text (take 2000 text) ++ codes "\n"
@@ -35,3 +43,7 @@ pub record IsSafeLine (text : List ℕ) : Type 0 where
   pub short : length told ≤ 2000
   pub is : text ≡ bytes_text told ++ codes "\n"
   pub printable : All IsPrintable (bytes_text told)
+
+-- a byte of a text of lines that can be printed
+abbrev pub IsPrintableOrEnd : ℕ → Type 0
+IsPrintableOrEnd byte = IsPrintable byte ⊎ (byte ≡ 10)

@@ -11,7 +11,7 @@ mod writing;
 
 pub use lines::{after_line, line_at};
 pub use reading::{Unread, Unreadable, load, load_input, read_path};
-pub use shown::{line_of, push_bytes, push_cut, push_shown, write_bytes, write_cut};
+pub use shown::{line_of, push_bytes, push_cut, push_shown, write_bytes, write_cut, write_lines};
 pub use write_failed::WriteFailed;
 pub use writer::Watched;
 pub use writing::{write_and_flush, write_text};

@@ -1,8 +1,8 @@
 //! Bytes that weren't written by these programs, as they are shown in a line: whatever a file or a word has, the line
 //! is one, and no byte of it steers a terminal.
-ghost use Rattle.std.specs.Prelude.{◌≡◌, ◌++◌, take, IfOk, OnOk, string_bytes};
+ghost use Rattle.std.specs.Prelude.{◌≡◌, ◌++◌, All, take, IfOk, OnOk, string_bytes};
 ghost use Rattle.streams.specs.Saying.{Says};
-ghost use Rattle.streams.specs.Shown.{byte_text, bytes_text, cut_text, shown_bytes, line_text, IsSafeLine};
+ghost use Rattle.streams.specs.Shown.{byte_text, bytes_text, cut_text, shown_bytes, line_text, in_lines, lines_text, IsSafeLine, IsPrintableOrEnd};
 
 use crate::writer::Watched;
 use crate::writing::write_text;
@@ -110,4 +110,24 @@ pub fn write_cut<W: Write>(bytes: &[u8], out: &mut Watched<W>)
     }
     write_bytes(front(bytes, FRONT), out);
     write_bytes(b"..", out);
+}
+
+/// Writes a byte as `write_byte` does, but the end of a line as it is.
+fn write_in_lines<W: Write>(byte: u8, out: &mut Watched<W>)
+    ensures { Says W.contents out.old out.new (in_lines byte) }
+{
+    if byte == b'\n' {
+        return write_text(b"\n", out);
+    }
+    write_byte(byte, out);
+}
+
+/// Writes a text of several lines as `write_bytes` writes each line. Nothing is allocated.
+pub fn write_lines<W: Write>(text: &[u8], out: &mut Watched<W>)
+    ensures says { Says W.contents out.old out.new (lines_text text.now) }
+    ensures safe { All IsPrintableOrEnd (lines_text text.now) }
+{
+    for byte in text {
+        write_in_lines(*byte, out);
+    }
 }

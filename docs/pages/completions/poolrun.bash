@@ -10,7 +10,7 @@ _poolrun() {
     replay)
         case $before in --schedule | --seed | --turns | --stop) return ;; esac
         if [[ $word == -* ]]; then
-            mapfile -t COMPREPLY < <(compgen -W '--schedule --seed --turns --stop --acts --print-schedule --explain --help' -- "$word")
+            mapfile -t COMPREPLY < <(compgen -W '--schedule --seed --turns --stop --acts --print-schedule --explain --explain=never --explain=always --explain=auto --help' -- "$word")
         else
             mapfile -t COMPREPLY < <(compgen -f -- "$word")
         fi
@@ -18,28 +18,28 @@ _poolrun() {
     shorten)
         case $before in --until | --schedule | --seed | --turns | --stop) return ;; esac
         if [[ $word == -* ]]; then
-            mapfile -t COMPREPLY < <(compgen -W '--until --schedule --seed --turns --stop --explain --help' -- "$word")
+            mapfile -t COMPREPLY < <(compgen -W '--until --schedule --seed --turns --stop --explain --explain=never --explain=always --explain=auto --help' -- "$word")
         else
             mapfile -t COMPREPLY < <(compgen -f -- "$word")
         fi
         ;;
     check)
         if [[ $word == -* ]]; then
-            mapfile -t COMPREPLY < <(compgen -W '--explain --help' -- "$word")
+            mapfile -t COMPREPLY < <(compgen -W '--explain --explain=never --explain=always --explain=auto --help' -- "$word")
         else
             mapfile -t COMPREPLY < <(compgen -f -- "$word")
         fi
         ;;
     run)
         if [[ $word == -* ]]; then
-            mapfile -t COMPREPLY < <(compgen -W '--explain --help' -- "$word")
+            mapfile -t COMPREPLY < <(compgen -W '--explain --explain=never --explain=always --explain=auto --help' -- "$word")
         else
             mapfile -t COMPREPLY < <(compgen -f -- "$word")
         fi
         ;;
     key)
         if [[ $word == -* ]]; then
-            mapfile -t COMPREPLY < <(compgen -W '--hex --word --explain --help' -- "$word")
+            mapfile -t COMPREPLY < <(compgen -W '--hex --word --explain --explain=never --explain=always --explain=auto --help' -- "$word")
         fi
         ;;
     esac

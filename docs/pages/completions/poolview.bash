@@ -10,49 +10,49 @@ _poolview() {
     picture)
         case $before in --from | --turns) return ;; esac
         if [[ $word == -* ]]; then
-            mapfile -t COMPREPLY < <(compgen -W '--from --turns --fit --whole --explain --help' -- "$word")
+            mapfile -t COMPREPLY < <(compgen -W '--from --turns --fit --whole --explain --explain=never --explain=always --explain=auto --help' -- "$word")
         else
             mapfile -t COMPREPLY < <(compgen -f -- "$word")
         fi
         ;;
     words)
         if [[ $word == -* ]]; then
-            mapfile -t COMPREPLY < <(compgen -W '--keys --numbers --explain --help' -- "$word")
+            mapfile -t COMPREPLY < <(compgen -W '--keys --numbers --explain --explain=never --explain=always --explain=auto --help' -- "$word")
         else
             mapfile -t COMPREPLY < <(compgen -f -- "$word")
         fi
         ;;
     summary)
         if [[ $word == -* ]]; then
-            mapfile -t COMPREPLY < <(compgen -W '--explain --help' -- "$word")
+            mapfile -t COMPREPLY < <(compgen -W '--explain --explain=never --explain=always --explain=auto --help' -- "$word")
         else
             mapfile -t COMPREPLY < <(compgen -f -- "$word")
         fi
         ;;
     json)
         if [[ $word == -* ]]; then
-            mapfile -t COMPREPLY < <(compgen -W '--explain --help' -- "$word")
+            mapfile -t COMPREPLY < <(compgen -W '--explain --explain=never --explain=always --explain=auto --help' -- "$word")
         else
             mapfile -t COMPREPLY < <(compgen -f -- "$word")
         fi
         ;;
     events)
         if [[ $word == -* ]]; then
-            mapfile -t COMPREPLY < <(compgen -W '--explain --help' -- "$word")
+            mapfile -t COMPREPLY < <(compgen -W '--explain --explain=never --explain=always --explain=auto --help' -- "$word")
         else
             mapfile -t COMPREPLY < <(compgen -f -- "$word")
         fi
         ;;
     page)
         if [[ $word == -* ]]; then
-            mapfile -t COMPREPLY < <(compgen -W '--explain --help' -- "$word")
+            mapfile -t COMPREPLY < <(compgen -W '--explain --explain=never --explain=always --explain=auto --help' -- "$word")
         else
             mapfile -t COMPREPLY < <(compgen -f -- "$word")
         fi
         ;;
     check)
         if [[ $word == -* ]]; then
-            mapfile -t COMPREPLY < <(compgen -W '--explain --help' -- "$word")
+            mapfile -t COMPREPLY < <(compgen -W '--explain --explain=never --explain=always --explain=auto --help' -- "$word")
         else
             mapfile -t COMPREPLY < <(compgen -f -- "$word")
         fi

@@ -5,9 +5,9 @@ use std::ptr;
 
 /// A block, or a refusal.
 #[repr(C)]
-struct Block {
-    ok: u8,
-    at: *mut c_void,
+pub(crate) struct Block {
+    pub(crate) ok: u8,
+    pub(crate) at: *mut c_void,
 }
 
 extern "C" {
@@ -16,10 +16,11 @@ extern "C" {
     fn pardz_dealloc(at: *mut c_void);
 }
 
-/// The program's heap.
+/// The program's heap. (A test has no program.)
 struct Heap;
 
-#[global_allocator]
+#[cfg_attr(not(test), global_allocator)]
+#[cfg_attr(test, allow(dead_code))]
 static HEAP: Heap = Heap;
 
 /// The most that a block is aligned to.

@@ -4,6 +4,8 @@
 //! proved. What the header asks of a program nothing here tests, so each call is `unsafe`.
 #![deny(unsafe_op_in_unsafe_fn)]
 
+#[cfg(test)]
+mod abi;
 mod bytes;
 mod code;
 mod counts;

@@ -7,8 +7,8 @@ use std::ptr::{self, NonNull};
 /// A slot: empty, or with a lane. It is moved by plain copies.
 #[repr(C)]
 pub(crate) struct Slot {
-    at: *mut Handle,
-    full: u64,
+    pub(crate) at: *mut Handle,
+    pub(crate) full: u64,
 }
 
 impl Slot {

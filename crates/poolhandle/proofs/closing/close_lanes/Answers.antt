@@ -35,14 +35,14 @@ module _ (lanes : List LaneOf) (count : ℕ) where
   }
 
 pub loop-index-init : goal.loop-index-init
-loop-index-init c = λ i lane low there. absurd (omega (arith, low))
+loop-index-init g c = λ i lane low there. absurd (omega (arith, low))
 
 pub loop-index-preserved : goal.loop-index-preserved
-loop-index-preserved c =
+loop-index-preserved g c =
     one-more c.args.lanes.items c.len-count.result c.loop-index.index c.index.result.now c.index.ensures (search rules) c.loop-index.invariant
 
 pub close-requires : goal.close-requires
-close-requires c =
+close-requires g c =
     let end : c.loop-index.index ≡ c.len-count.result = omega arith in
     record {
       lanes = all-lanes c.args.lanes.items c.len-count.result c.args.pool (search rules) (search rules) c.requires.owned
@@ -50,7 +50,7 @@ close-requires c =
     }
 
 pub returns : goal.returns
-returns c =
+returns g c =
     let end : c.loop-index.index ≡ c.len-count.result = omega arith in
     record {
       closes = (

@@ -1,0 +1,130 @@
+#!/usr/bin/env python3
+"""The pool from Python, by ctypes alone: a thread puts lines, and another reads them where they stand and clears them.
+
+usage: python3 example.py [LIBPARDZ.so LIBPARDZ-HEAP.so]
+
+Without words it takes the libraries that `install` puts where the system looks for them.
+"""
+import ctypes
+import queue
+import sys
+import threading
+
+OK, GONE = 0, 8
+
+
+class Lane(ctypes.Structure):
+    """pardz_lane: a lane, or PARDZ_EMPTY."""
+
+    _fields_ = [("at", ctypes.c_void_p), ("full", ctypes.c_uint64)]
+
+
+class Shape(ctypes.Structure):
+    """pardz_shape."""
+
+    _fields_ = [(name, ctypes.c_uint32) for name in ("lanes", "first_page", "pages", "last_generation", "tag")]
+
+
+class Census(ctypes.Structure):
+    """pardz_census."""
+
+    _fields_ = [(name, ctypes.c_uint32) for name in ("free", "unopened", "filling", "present", "marked", "retired")]
+
+
+class Refused(Exception):
+    """A call answered a code that isn't PARDZ_OK."""
+
+
+def load(library, heap):
+    """The library, over the heap that it calls."""
+    names = ctypes.CDLL(heap, mode=ctypes.RTLD_GLOBAL)
+    names.pardz_next_number.restype = ctypes.c_uint64
+    pardz = ctypes.CDLL(library)
+    lane, key, size, bytes_at = ctypes.POINTER(Lane), ctypes.c_uint64, ctypes.c_size_t, ctypes.POINTER(ctypes.c_void_p)
+    for name, arguments in {
+        "open_numbered": [ctypes.POINTER(Shape), lane, size, ctypes.c_uint64],
+        "put": [lane, ctypes.c_char_p, size, ctypes.POINTER(key)],
+        "get": [lane, key, bytes_at, ctypes.POINTER(size)],
+        "release": [lane, key],
+        "clear": [lane, key],
+        "join": [lane, lane],
+        "close": [lane, ctypes.POINTER(Census)],
+    }.items():
+        call = getattr(pardz, "pardz_" + name)
+        call.argtypes, call.restype = arguments, ctypes.c_uint32
+    return pardz, names.pardz_next_number
+
+
+def must(code):
+    """Raises what a code says."""
+    if code != OK:
+        raise Refused(f"code {code}: pardz.h says what it means")
+
+
+class Pool:
+    """A pool with its lanes. A lane is in one call at a time."""
+
+    def __init__(self, library, heap, shape):
+        self.pardz, next_number = load(library, heap)
+        self.lanes = (Lane * shape.lanes)()
+        must(self.pardz.pardz_open_numbered(ctypes.byref(shape), self.lanes, shape.lanes, next_number()))
+
+    def put(self, number, data):
+        """Publishes bytes by the lane of this number, and answers their key."""
+        key = ctypes.c_uint64()
+        must(self.pardz.pardz_put(self.lanes[number], data, len(data), ctypes.byref(key)))
+        return key.value
+
+    def read(self, number, key, reader):
+        """What `reader` makes of a view of the bytes, where they stand; None where nothing is published under the key."""
+        at, length = ctypes.c_void_p(), ctypes.c_size_t()
+        code = self.pardz.pardz_get(self.lanes[number], key, ctypes.byref(at), ctypes.byref(length))
+        if code == GONE:
+            return None
+        must(code)
+        try:
+            view = (ctypes.c_ubyte * length.value).from_address(at.value) if length.value else b""
+            return reader(memoryview(view).toreadonly())
+        finally:
+            must(self.pardz.pardz_release(self.lanes[number], key))
+
+    def clear(self, number, key):
+        """Whether this call cleared the key."""
+        code = self.pardz.pardz_clear(self.lanes[number], key)
+        if code != GONE:
+            must(code)
+        return code == OK
+
+    def close(self):
+        """Joins the lanes, closes the pool, and answers what its places were."""
+        census = Census()
+        for number in range(len(self.lanes) - 1, 0, -1):
+            must(self.pardz.pardz_join(self.lanes[0], self.lanes[number]))
+        must(self.pardz.pardz_close(self.lanes[0], ctypes.byref(census)))
+        return {name: getattr(census, name) for name, _ in Census._fields_}
+
+
+def main():
+    library, heap = sys.argv[1:] or ("libpardz.so.0.2", "libpardz-heap.so.0.2")
+    pool = Pool(library, heap, Shape(lanes=2, first_page=8, pages=2, last_generation=2**32 - 1, tag=1))
+    keys = queue.Queue(maxsize=4)
+
+    def put_lines():
+        for line in range(1000):
+            keys.put(pool.put(1, f"line {line}".encode()))
+        keys.put(None)
+
+    writer = threading.Thread(target=put_lines)
+    writer.start()
+    for line, key in enumerate(iter(keys.get, None)):
+        text = pool.read(0, key, lambda view: str(view, "utf-8"))
+        assert text == f"line {line}" and pool.clear(0, key) and not pool.clear(0, key)
+        if line % 250 == 0:
+            print(text)
+    writer.join()
+    assert pool.read(0, pool.put(0, b""), bytes) == b"" and pool.read(0, 1, bytes) is None
+    print(pool.close())
+
+
+if __name__ == "__main__":
+    main()

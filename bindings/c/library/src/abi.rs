@@ -1,0 +1,162 @@
+//! Tests: types and codes are laid out and numbered here as the lines of `tests/abi.def` say, which the header is compared with too; and
+//! each call has the parameters that the header declares.
+use crate::code::{Refusal, OK};
+use crate::heap::Block;
+use crate::slot::Slot;
+use crate::{PoolCensus, PoolShape};
+use std::ffi::c_char;
+use std::mem::{align_of, offset_of, size_of};
+
+/// The size of a field.
+fn size_of_field<S, F>(_: impl FnOnce(&S) -> &F) -> usize {
+    size_of::<F>()
+}
+
+/// The lines of a type and of its fields.
+macro_rules! lines {
+    ($name:literal is $type:ty: $($field:ident)*) => {
+        [
+            format!("TYPE({}, {}, {})", $name, size_of::<$type>(), align_of::<$type>()),
+            $(format!(
+                "FIELD({}, {}, {}, {})",
+                $name,
+                stringify!($field),
+                offset_of!($type, $field),
+                size_of_field(|value: &$type| &value.$field)
+            ),)*
+        ]
+    };
+}
+
+const CODES: [(&str, u32); 15] = [
+    ("OK", OK),
+    ("MEMORY", Refusal::Memory as u32),
+    ("EMPTY_LANE", Refusal::EmptyLane as u32),
+    ("FULL_LANE", Refusal::FullLane as u32),
+    ("FULL", Refusal::Full as u32),
+    ("FILLINGS", Refusal::Fillings as u32),
+    ("NO_FILLING", Refusal::NoFilling as u32),
+    ("NO_REFERENCE", Refusal::NoReference as u32),
+    ("GONE", Refusal::Gone as u32),
+    ("REFERENCES", Refusal::References as u32),
+    ("OTHER_POOL", Refusal::OtherPool as u32),
+    ("LANES", Refusal::Lanes as u32),
+    ("SHAPE", Refusal::Shape as u32),
+    ("ROOM", Refusal::Room as u32),
+    ("SHARED", Refusal::Shared as u32),
+];
+
+#[test]
+fn is_as_the_header_says() {
+    let mut here = Vec::new();
+    here.extend(lines!("pardz_lane" is Slot: at full));
+    here.extend(lines!("pardz_shape" is PoolShape: lanes first_page pages last_generation tag));
+    here.extend(lines!("pardz_census" is PoolCensus: free unopened filling present marked retired));
+    here.extend(lines!("pardz_block" is Block: ok at));
+    here.extend(CODES.map(|(name, number)| format!("CODE({name}, {number})")));
+    let said = include_str!("../../tests/abi.def").lines();
+    let said: Vec<&str> = said.filter(|line| line.ends_with(')')).collect();
+    assert_eq!(here, said);
+}
+
+/// A type, as the header writes it.
+trait InC {
+    const NAME: &'static str;
+}
+
+macro_rules! in_c {
+    ($($type:ty: $name:literal,)*) => {
+        $(impl InC for $type {
+            const NAME: &'static str = $name;
+        })*
+    };
+}
+
+in_c! {
+    u32: "uint32_t",
+    u64: "uint64_t",
+    usize: "size_t",
+    *mut usize: "size_t *",
+    *mut u64: "uint64_t *",
+    *const u8: "const uint8_t *",
+    *mut *mut u8: "uint8_t **",
+    *mut *const u8: "const uint8_t **",
+    *const c_char: "const char *",
+    *mut Slot: "pardz_lane *",
+    *const PoolShape: "const pardz_shape *",
+    *mut PoolCensus: "pardz_census *",
+}
+
+/// The types of what a call answers and of its parameters.
+trait Prototype {
+    fn types(self) -> (&'static str, Vec<&'static str>);
+}
+
+macro_rules! prototypes {
+    ($(($($parameter:ident)*))*) => {
+        $(impl<Answer: InC, $($parameter: InC),*> Prototype for unsafe extern "C" fn($($parameter),*) -> Answer {
+            fn types(self) -> (&'static str, Vec<&'static str>) {
+                (Answer::NAME, vec![$($parameter::NAME),*])
+            }
+        })*
+    };
+}
+
+prototypes! { () (A) (A B) (A B C) (A B C D) }
+
+/// The prototype of a call, without the names of its parameters.
+macro_rules! prototype {
+    ($name:ident($($any:tt)*)) => {{
+        let (answer, parameters) = (crate::$name as unsafe extern "C" fn($($any),*) -> _).types();
+        (stringify!($name).to_string(), answer.to_string(), parameters.join(", "))
+    }};
+}
+
+/// A prototype of the header, likewise; None for a line that isn't one.
+fn declared(line: &str) -> Option<(String, String, String)> {
+    let (head, parameters) = line.strip_suffix(");")?.split_once('(')?;
+    let (answer, name) = head.split_at(head.rfind("pardz_")?);
+    let unnamed = |parameter: &str| {
+        let name = parameter.rfind(['*', ' '])?;
+        Some(parameter[..=name].trim().to_string())
+    };
+    let parameters: Option<Vec<String>> = match parameters {
+        "void" => Some(Vec::new()),
+        _ => parameters.split(", ").map(unnamed).collect(),
+    };
+    Some((
+        name.to_string(),
+        answer.trim().to_string(),
+        parameters?.join(", "),
+    ))
+}
+
+#[test]
+fn has_the_parameters_that_the_header_declares() {
+    let here = [
+        prototype!(pardz_version()),
+        prototype!(pardz_open_numbered(_ _ _ _)),
+        prototype!(pardz_create(_ _)),
+        prototype!(pardz_append(_ _ _ _)),
+        prototype!(pardz_room(_ _ _ _)),
+        prototype!(pardz_wrote(_ _ _)),
+        prototype!(pardz_publish(_ _)),
+        prototype!(pardz_downgrade(_ _)),
+        prototype!(pardz_put(_ _ _ _)),
+        prototype!(pardz_leave(_ _)),
+        prototype!(pardz_get(_ _ _ _)),
+        prototype!(pardz_read(_ _ _ _)),
+        prototype!(pardz_release(_ _)),
+        prototype!(pardz_clear(_ _)),
+        prototype!(pardz_join(_ _)),
+        prototype!(pardz_close(_ _)),
+    ];
+    let header = include_str!("../../pardz.h").lines();
+    let of_heap = ["alloc", "realloc", "dealloc", "next_number", "set_heap"]
+        .map(|name| format!("pardz_{name}"));
+    let said: Vec<_> = header
+        .filter_map(declared)
+        .filter(|(name, ..)| !of_heap.contains(name))
+        .collect();
+    assert_eq!(here, said.as_slice());
+}

@@ -1,0 +1,17 @@
+//! A pool with its lanes in places, each had by one call at a time: so any number of threads use a pool of few lanes.
+#![tactic(auto)]
+
+mod calls;
+mod closing;
+mod lent;
+mod place;
+mod refusal;
+mod store;
+#[cfg(test)]
+mod test_store;
+mod visit;
+
+pub use lent::Lent;
+pub use refusal::Refusal;
+pub use store::Store;
+pub use visit::Visit;

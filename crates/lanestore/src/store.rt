@@ -1,0 +1,205 @@
+//! A pool with its lanes in places.
+ghost use Rattle.std.specs.Prelude.{◌≡◌, ◌<◌, ◌≤◌, All, IfSome, length};
+ghost use Rattle.shardpool.specs.Lanes.{Owns};
+ghost use Rattle.shardpool.specs.Opened.{AreFirstLanes};
+ghost use Rattle.lanestore.specs.Visits.{IsNew};
+
+use crate::place::{Spare, give, take};
+use crate::visit::Visit;
+use counted_slot::Counted;
+use keybits::Shape;
+use poolhandle::CountingLane;
+use shardpool::{Lane, Note, OpenFault, Pool, open, open_wide};
+use slotcell::Clear;
+use std::alloc::Global;
+
+/// A pool, and a place for each of its lanes, from which one call at a time has it. Threads share it.
+#[derive(Drop)]
+pub struct Store<T: Clear> {
+    pub(crate) pool: Pool<T>,
+    pub(crate) places: Vec<Counted<Option<Spare<T>>>>,
+    ghost of_pool: { All (λ tag. tag ≡ pool) places.items },
+    ghost all: { length places.items ≡ pool.shape.lanes },
+}
+
+impl<T: Clear + Drop> Store<T> {
+    ghost use Rattle.std.specs.Prelude.{◌≡◌, ◌≤◌, ◌↔◌, ℕ, IfOk, IfErr, IfSome, IsErrOf};
+    ghost use mathlib.Core.List.{IsPrefix};
+    ghost use Rattle.keybits.specs.Shapes.{IsShape, IsNarrow};
+    ghost use Rattle.keybits.specs.ShapeFaults.{IsFirstFault, IsFirstWideFault};
+    ghost use Rattle.keybits.specs.declared.shape.ShapeFault.{ShapeFault as Fault};
+    ghost use Rattle.shardpool.specs.declared.fault.OpenFault.TheVariants as faults;
+    ghost use Rattle.shardpool.specs.Lanes.{Owns, Issued};
+    ghost use Rattle.lanestore.specs.Visits.{lane_of};
+
+    /// Opens a pool of this shape, which is within the narrow limits, with all its lanes here.
+    ///
+    /// # Errors
+    ///
+    /// The first fault of the shape; and the want of memory, for a shape within its limits alone. What of the pool was
+    /// made by then is left.
+    pub fn open(alloc: Global, shape: Shape) -> Result<Store<T>, OpenFault>
+        ensures opened { IfOk result (λ store. store.pool.shape ≡ shape) }
+        ensures faults { (fault : Fault) → IsErrOf result (faults.Shape fault) ↔ IsFirstFault shape fault }
+        ensures memory { IsErrOf result faults.Memory → IsNarrow shape }
+    {
+        shape.check()?;
+        match open(alloc, shape) {
+            Ok((pool, lanes)) => stored(alloc, pool, lanes).ok_or(OpenFault::Memory),
+            Err(fault) => Err(fault),
+        }
+    }
+
+    /// Opens a pool of this shape as `open` does, by the wide limits.
+    ///
+    /// # Errors
+    ///
+    /// As `open`, by the wide limits.
+    pub fn open_wide(alloc: Global, shape: Shape) -> Result<Store<T>, OpenFault>
+        ensures opened { IfOk result (λ store. store.pool.shape ≡ shape) }
+        ensures faults { (fault : Fault) → IsErrOf result (faults.Shape fault) ↔ IsFirstWideFault shape fault }
+        ensures memory { IsErrOf result faults.Memory → IsShape shape }
+    {
+        shape.check_wide()?;
+        match open_wide(alloc, shape) {
+            Ok((pool, lanes)) => stored(alloc, pool, lanes).ok_or(OpenFault::Memory),
+            Err(fault) => Err(fault),
+        }
+    }
+
+    /// The pool, for the calls of a visit.
+    pub fn pool(&self) -> &Pool<T>
+        ensures { result.now ≡ self.now.pool }
+    {
+        &self.pool
+    }
+
+    /// A first note, for who was told nothing yet: of what some lane has seen, from this one on. None where all are had.
+    pub fn enter(&self, from: u32) -> Option<Note<T>>
+        ensures { IfSome result (λ note. Issued self.now.pool note) }
+    {
+        let visit = self.take_any(from as usize)?;
+        Some(self.leave(visit))
+    }
+
+    /// Takes the lane of this number, and tells it what the caller was told. Where it is had by another call the note
+    /// comes back.
+    pub fn visit(&self, number: u32, told: Note<T>) -> Result<Visit<T>, Note<T>>
+        requires { Issued self.now.pool told }
+        ensures lane { IfOk result (λ visit. Owns self.now.pool (lane_of visit) × ((lane_of visit).number ≡ number)) }
+        ensures heard { IfOk result (λ visit. IsPrefix told.book.seen (lane_of visit).book.seen) }
+        ensures busy { IfErr result (λ back. back ≡ told) }
+    {
+        let Some(mut visit) = self.take_at(number as usize) else {
+            return Err(told);
+        };
+        if visit.number() != number {
+            // (Never: each lane lies in the place of its number.)
+            self.give_back(visit);
+            return Err(told);
+        }
+        visit.hear(&self.pool, told);
+        Ok(visit)
+    }
+
+    /// Takes a lane that nobody has, from this number on and then from the first, and tells it what the caller was told.
+    /// Where all are had the note comes back.
+    pub fn visit_any(&self, from: u32, told: Note<T>) -> Result<Visit<T>, Note<T>>
+        requires { Issued self.now.pool told }
+        ensures lane { IfOk result (λ visit. Owns self.now.pool (lane_of visit)) }
+        ensures heard { IfOk result (λ visit. IsPrefix told.book.seen (lane_of visit).book.seen) }
+        ensures busy { IfErr result (λ back. back ≡ told) }
+    {
+        match self.take_any(from as usize) {
+            Some(mut visit) => {
+                visit.hear(&self.pool, told);
+                Ok(visit)
+            }
+            None => Err(told),
+        }
+    }
+
+    /// Gives a lane back. The note has all that it has seen: what the caller was told, and what its calls did since.
+    pub fn leave(&self, visit: Visit<T>) -> Note<T>
+        requires { Owns self.now.pool (lane_of visit) }
+        ensures note { Issued self.now.pool result }
+        ensures seen { result.book.seen ≡ (lane_of visit).book.seen }
+    {
+        let mut visit = visit;
+        let note = visit.tell(&self.pool);
+        self.give_back(visit);
+        note
+    }
+
+    fn give_back(&self, visit: Visit<T>)
+        requires { Owns self.now.pool (lane_of visit) }
+    {
+        visit.lane.lane().seen_law();
+        let at = visit.number() as usize;
+        give(&self.places[at], &self.pool, visit);
+    }
+
+    /// The lane in this place, where there is one.
+    fn take_at(&self, at: usize) -> Option<Visit<T>>
+        ensures { IfSome result (λ visit. Owns self.now.pool (lane_of visit)) }
+    {
+        if at >= self.places.len() {
+            return None;
+        }
+        take(&self.places[at], &self.pool)
+    }
+
+    /// The first lane that nobody has, from this place on and then from the first.
+    fn take_any(&self, from: usize) -> Option<Visit<T>>
+        ensures { IfSome result (λ visit. Owns self.now.pool (lane_of visit)) }
+    {
+        match self.take_between(from, self.places.len()) {
+            Some(visit) => Some(visit),
+            None => self.take_between(0, from),
+        }
+    }
+
+    /// The first lane that nobody has, from one place up to another.
+    fn take_between(&self, low: usize, high: usize) -> Option<Visit<T>>
+        ensures { IfSome result (λ visit. Owns self.now.pool (lane_of visit)) }
+    {
+        for at in low..high {
+            if let Some(visit) = self.take_at(at) {
+                return Some(visit);
+            }
+        }
+        None
+    }
+}
+
+/// The pool with its lanes in places. None where memory was refused.
+fn stored<T: Clear + Drop>(alloc: Global, pool: Pool<T>, lanes: Vec<Lane<T>>) -> Option<Store<T>>
+    requires { AreFirstLanes pool lanes.items }
+    ensures { IfSome result (λ store. store.pool ≡ pool) }
+{
+    let places = places_of(alloc, &pool, lanes)?;
+    if places.len() != pool.shape().lanes as usize {
+        return None;
+    }
+    Some(Store { pool, places })
+}
+
+/// A place for each of these lanes, in which it is. None where memory was refused.
+fn places_of<T: Clear + Drop>(
+    alloc: Global,
+    pool: &Pool<T>,
+    lanes: Vec<Lane<T>>,
+) -> Option<Vec<Counted<Option<Spare<T>>>>>
+    requires { All (λ lane. IsNew pool.now lane) lanes.items }
+    ensures { IfSome result (λ places. All (λ tag. tag ≡ pool.now) places.items) }
+{
+    let mut places = Vec::with_capacity(alloc, lanes.len()).ok()?;
+    for lane in lanes {
+        let counting = CountingLane::new(alloc, lane).ok()?;
+        let boxed = Box::new(alloc, counting).ok()?;
+        let spare = Spare::new(boxed);
+        let place = Counted::new(Some(spare), pool);
+        places.push(place).ok()?;
+    }
+    Some(places)
+}
