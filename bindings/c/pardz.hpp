@@ -54,6 +54,12 @@ struct in_hand {
 class reference {
 public:
     reference(reference &&) noexcept = default;
+    reference &operator=(reference other) noexcept {
+        std::swap(held_.lane, other.held_.lane);
+        std::swap(held_.key, other.held_.key);
+        std::swap(bytes_, other.bytes_);
+        return *this;
+    }
     ~reference() {
         if (held_.lane != nullptr)
             pardz_release(held_.lane, held_.key);

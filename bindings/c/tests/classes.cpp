@@ -40,6 +40,11 @@ static void references() {
         CHECK(moved && !found && text(moved) == "hello");
         CHECK(pool[0].clear(key) && !pool[0].clear(key) && !pool[1].get(key));
         CHECK(text(moved) == "hello");
+        const std::uint64_t other = pool[0].put("other", 5);
+        found = std::move(moved);
+        CHECK(found && !moved && text(found) == "hello");
+        found = pool[1].get(other);
+        CHECK(text(found) == "other" && pardz_release(pool[1].slot(), key) == PARDZ_NO_REFERENCE && pool[0].clear(other));
     }
     CHECK(pardz_release(pool[1].slot(), key) == PARDZ_NO_REFERENCE);
     const pardz::reference empty = pool[1].get(pool[1].put(nullptr, 0));

@@ -33,25 +33,29 @@ impl Counts {
         count > 0 && generation == generation_of(key)
     }
 
-    /// One reference more to this key.
+    /// One reference more to this key, whose place stands here.
     #[inline]
     pub(crate) fn gain(&mut self, start: u32, key: u64) {
         let at = &mut self.0[start as usize];
         let generation = generation_of(key);
-        let before = if at.generation == generation {
-            at.count
+        if at.generation == generation {
+            at.count += 1;
         } else {
-            0
-        };
-        *at = KeyCount {
-            generation,
-            count: before + 1,
-        };
+            *at = KeyCount {
+                generation,
+                count: 1,
+            };
+        }
     }
 
-    /// One reference less to a key of this place, to which the lane has one.
+    /// One reference less to this key, whose place stands here. Answers whether the lane had one.
     #[inline]
-    pub(crate) fn lose(&mut self, start: u32) {
-        self.0[start as usize].count -= 1;
+    pub(crate) fn lose(&mut self, start: u32, key: u64) -> bool {
+        let at = &mut self.0[start as usize];
+        let has = at.count > 0 && at.generation == generation_of(key);
+        if has {
+            at.count -= 1;
+        }
+        has
     }
 }

@@ -106,8 +106,8 @@ impl Handle {
         self.has_reference_left()?;
         let filling = self.take(key)?;
         let reference = self.share.pool.downgrade(&mut self.lane, filling);
-        if let Some(start) = self.lane.start_of_key(reference.key()) {
-            self.counts.gain(start, reference.key());
+        if let Ok(start) = self.start_of(key) {
+            self.counts.gain(start, key);
         }
         reference.forget();
         Ok(())
@@ -146,24 +146,25 @@ impl Handle {
 
     /// The bytes of a key to which the lane has a reference.
     pub(crate) fn read(&mut self, key: u64) -> Result<&[u8], Refusal> {
-        let start = self.held(key)?;
+        let start = self.start_of(key)?;
+        done(self.counts.has(start, key), Refusal::NoReference)?;
         Ok(self.lane.read_at(start, key).as_slice())
     }
 
-    /// Where the place of a key stands, to which the lane has a reference.
+    /// Where the place of a key stands. A number that is no key of the pool has no reference.
+    ///
+    /// As the pool finds it, by the rows of its pages: `Lane::start_of_key` asks the shape, and takes twice as long.
     #[inline]
-    fn held(&self, key: u64) -> Result<u32, Refusal> {
-        let start = self.lane.start_of_key(key);
-        start
-            .filter(|start| self.counts.has(*start, key))
-            .ok_or(Refusal::NoReference)
+    fn start_of(&self, key: u64) -> Result<u32, Refusal> {
+        let spot = self.share.pool.find(key);
+        spot.map(|spot| spot.start).ok_or(Refusal::NoReference)
     }
 
     /// Gives a reference back.
     pub(crate) fn release(&mut self, key: u64) -> Result<(), Refusal> {
-        let start = self.held(key)?;
+        let start = self.start_of(key)?;
+        done(self.counts.lose(start, key), Refusal::NoReference)?;
         self.share.pool.release_at(&mut self.lane, start, key);
-        self.counts.lose(start);
         Ok(())
     }
 
