@@ -1,5 +1,6 @@
 -- Why a text of acts is refused, or an act is illegal, in words.
-use Rattle.std.specs.Prelude.{◌≡◌, ◌≢◌, ◌⊎◌, ℕ, ◌+◌, ◌-◌, ◌==◌, List, [], take, ◌++◌, if◌then◌else◌, decimal, codes}
+use Rattle.std.specs.Prelude.{◌≡◌, ◌≢◌, ◌⊎◌, ℕ, ◌+◌, ◌-◌, ◌==◌, Bool, true, false, List, [], take, ◌++◌, if◌then◌else◌, decimal, codes}
+use Rattle.std.specs.Io.BufRead.{ends_with_byte}
 use Rattle.keybits.specs.declared.shape.Shape.{Shape}
 use Rattle.scripts.specs.ScriptPlaces.{field_text, faulty_field}
 use Rattle.seqpool.specs.ActsPlaces.{RefusesText}
@@ -20,9 +21,14 @@ use Rattle.explanations.specs.ActsFields.{shape_line_told, act_line_told}
 use Rattle.explanations.specs.Reasons.{TellsReason}
 use Rattle.explanations.specs.Wanted.{shape_wanted}
 
+-- what is wrong with a line of which this is the last byte, and which has this number
+abbrev pub line_by : Bool → ℕ → List ℕ → List ℕ
+line_by true number line = codes "the line ends with a carriage return and a line feed; lines end with a line feed alone"
+line_by false number line = if number == 1 then shape_line_told line else act_line_told line
+
 -- what is wrong with this line, which has this number, by the fault of the text
 abbrev pub line_told : ActsFault → ℕ → List ℕ → List ℕ
-line_told faults.ActsLine number line = if number == 1 then shape_line_told line else act_line_told line
+line_told faults.ActsLine number line = line_by (ends_with_byte 13 line) number line
 line_told (faults.Shape fault) number line = codes "field " ++ field_text (faulty_field fault) ++ codes " " ++ shape_wanted fault
 line_told faults.Memory number line = codes "memory was refused"
 

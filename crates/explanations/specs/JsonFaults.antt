@@ -1,13 +1,16 @@
 -- Where bytes stop being a JSON text, and why, in words.
-use Rattle.std.specs.Prelude.{◌≡◌, ◌≤◌, ℕ, ◌==◌, ◌&&◌, ◌||◌, Bool, false, List, [], ◌∷◌, ◌++◌, length, take, drop, Option, Some, None, if◌then◌else◌, nat_eq, fold, decimal, codes}
+use Rattle.std.specs.Prelude.{◌≡◌, ◌≤◌, ℕ, ◌==◌, ◌&&◌, ◌||◌, Bool, true, false, List, [], ◌∷◌, ◌++◌, length, take, drop, Option, Some, None, if◌then◌else◌, nat_eq, fold, decimal, codes}
 use Rattle.std.specs.List.{starts_with, list_all}
 use Rattle.std.specs.Str.{IsUtf8, IsValidUpTo}
 use Rattle.streams.specs.Shown.{cut_text, line_text}
+use Rattle.explanations.specs.JsonFlaws.{first_is, escape_length, IsFlaw}
 use Rattle.explanations.specs.Places.{line_number, column_number}
+use Rattle.explanations.specs.declared.json_flaw.Flaw.{Flaw}
+use Rattle.explanations.specs.declared.json_flaw.Flaw.TheVariants.{Control, Escape, Half, Zero, Digit}
 use Rattle.explanations.specs.declared.json_fault.Opened.{Opened}
 use Rattle.explanations.specs.declared.json_fault.Opened.TheVariants.{Nothing, Array, Object}
 use Rattle.explanations.specs.declared.json_fault.Halt.{Halt}
-use Rattle.explanations.specs.declared.json_fault.Halt.TheVariants.{Token, Large, Deep, NoText}
+use Rattle.explanations.specs.declared.json_fault.Halt.TheVariants.{Token, Large, Deep, NoText, Open, Flawed}
 
 -- a byte that JSON passes over
 abbrev pub is_space : ℕ → Bool
@@ -20,11 +23,6 @@ last_with last byte = if is_space byte then last else Some byte
 -- the last of some bytes that isn't passed over
 abbrev pub last_of : List ℕ → Option ℕ
 last_of bytes = fold last_with None bytes
-
--- the first of some bytes is this
-abbrev pub first_is : ℕ → List ℕ → Bool
-first_is byte [] = false
-first_is byte (first ∷ more) = first == byte
 
 -- it is a comma
 abbrev pub is_comma : Option ℕ → Bool
@@ -85,12 +83,34 @@ token_by None opened last rest = found_told rest (wanted_by opened last)
 abbrev pub token_told : Opened → Option ℕ → List ℕ → List ℕ
 token_told opened last rest = token_by (named_told last rest) opened last rest
 
+-- what is wrong with a control character within a string
+abbrev pub control_told : ℕ → List ℕ
+control_told byte =
+    if byte == 9 then codes "a tab stands in a string, where \\t has to stand for it" else
+    (if (byte == 10) || (byte == 13) then codes "the line ends within a string" else
+    codes "byte " ++ decimal byte ++ codes " stands in a string, where an escape has to stand for it")
+
+-- what is wrong within a string or a number, by what stands there
+abbrev pub flaw_told : Flaw → List ℕ → List ℕ
+flaw_told (Control byte) rest = control_told byte
+flaw_told Escape rest =
+    codes "\"" ++ cut_text (take (escape_length rest) rest) ++ codes "\" is no escape: behind a backslash stands \", \\, /, b, f, n, r, t, or u and four hexadecimal digits"
+flaw_told Half rest = codes "\"" ++ cut_text (take 6 rest) ++ codes "\" is half of a character, and its other half isn't there"
+flaw_told Zero rest = codes "a number of several digits begins with 0"
+flaw_told Digit rest = found_told rest (codes "a digit")
+
+-- that the text ends within the string that begins at this place
+abbrev pub open_told : ℕ → List ℕ → List ℕ
+open_told begin file = codes "the text ends within the string that begins in line " ++ decimal (line_number begin file) ++ codes ", column " ++ decimal (column_number begin file)
+
 -- why a text ends being JSON at this place
 abbrev pub halt_told : Halt → ℕ → List ℕ → List ℕ
 halt_told (Token opened) at file = token_told opened (last_of (take at file)) (drop at file)
 halt_told Large at file = codes "the number is too large"
 halt_told Deep at file = codes "more than 127 lists and objects are in one another"
 halt_told NoText at file = codes "the bytes are no text in UTF-8"
+halt_told (Open begin) at file = open_told begin file
+halt_told (Flawed flaw) at file = flaw_told flaw (drop at file)
 
 -- where bytes stop being a JSON text, and why
 abbrev pub json_told : Halt → ℕ → List ℕ → List ℕ
@@ -103,13 +123,17 @@ IsOfText NoText = ⊥
 IsOfText (Token opened) = Unit {0}
 IsOfText Large = Unit {0}
 IsOfText Deep = Unit {0}
+IsOfText (Open begin) = ⊥
+IsOfText (Flawed flaw) = ⊥
 
--- bytes stop being a JSON text at this place: where they are no text it is the first at which they aren't; of a text it is some place of its
+-- bytes stop being a JSON text at this place: where they are no text it is the first at which they aren't; of a text it is some place of its, where the flaw stands that is told, or else its end, behind the quote that is told
 abbrev pub HaltsAt : Halt → ℕ → List ℕ → Type 0
 HaltsAt NoText at file = (IsUtf8 file → ⊥) × IsValidUpTo file at
 HaltsAt (Token opened) at file = IsUtf8 file × (at ≤ length file)
 HaltsAt Large at file = IsUtf8 file × (at ≤ length file)
 HaltsAt Deep at file = IsUtf8 file × (at ≤ length file)
+HaltsAt (Open begin) at file = IsUtf8 file × (at ≡ length file) × (first_is 34 (drop begin file) ≡ true)
+HaltsAt (Flawed flaw) at file = IsUtf8 file × (at ≤ length file) × IsFlaw flaw (drop at file)
 
 -- the text explains why bytes are no JSON text: it names the place where they stop being one, and why they do there
 pub record ExplainsJson (file text : List ℕ) : Type 0 where

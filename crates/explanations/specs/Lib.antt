@@ -2,6 +2,7 @@ pub mod Said
 pub mod Found
 pub mod Wanted
 pub mod Places
+pub mod JsonFlaws
 pub mod JsonFaults
 pub mod ScriptTexts
 pub mod ActsFields

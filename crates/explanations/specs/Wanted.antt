@@ -63,11 +63,22 @@ extra_told fields (Some name) = codes "has the field \"" ++ cut_text name ++ cod
 abbrev pub object_told : Owner → Json → List ℕ
 object_told owner value = extra_told (known_text owner) (extra_of owner value)
 
--- what is wrong with a field, by the value that it has
-abbrev pub named_wanted : FieldName → Option Json → List ℕ
-named_wanted names.Shape (Some found) = object_told Shape found
-named_wanted names.Scripts (Some found) = codes "is no list of scripts"
-named_wanted name found = codes "is missing"
+-- a field that isn't known beside a field that is missing: the first of the file, or of its shape
+abbrev pub stray_of : FieldName → Json → Option (List ℕ)
+stray_of names.Shape whole = extra_of File whole
+stray_of names.Scripts whole = extra_of File whole
+stray_of name whole = option_and_then (extra_of Shape) (get (codes "shape") whole)
+
+-- that a field is missing, where there is this one, or none, that isn't known
+abbrev pub missing_told : Option (List ℕ) → List ℕ
+missing_told None = codes "is missing"
+missing_told (Some stray) = codes "is missing; there is \"" ++ cut_text stray ++ codes "\""
+
+-- what is wrong with a field of a file with this value, by the value that it has itself
+abbrev pub named_wanted : FieldName → Json → Option Json → List ℕ
+named_wanted names.Shape whole (Some found) = object_told Shape found
+named_wanted names.Scripts whole (Some found) = codes "is no list of scripts"
+named_wanted name whole found = missing_told (stray_of name whole)
 
 -- how many items there are
 abbrev pub items_count : json.Items → ℕ
@@ -131,7 +142,7 @@ operand_wanted name item = register_wanted
 -- what is wrong where a field, a list or a line is none, or has too much or too little
 abbrev pub field_wanted : ScriptPlace → Json → List ℕ
 field_wanted places.File whole = object_told File whole
-field_wanted (places.Field name) whole = named_wanted name (field_at name whole)
+field_wanted (places.Field name) whole = named_wanted name whole (field_at name whole)
 field_wanted places.Scripts whole = counts_told whole
 field_wanted (places.Script lane) whole = codes "is no list of commands"
 field_wanted (places.Line lane line) whole = line_wanted (name_in (value_of (places.Line lane line) whole))

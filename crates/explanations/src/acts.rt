@@ -1,12 +1,13 @@
 //! Why a text of acts is refused, or an act is illegal, in words.
 ghost use Rattle.std.specs.Prelude.{◌≡◌, ◌++◌, IfOk, codes, string_bytes};
+ghost use Rattle.std.specs.Io.BufRead.{ends_with_byte};
 ghost use Rattle.scripts.specs.ScriptPlaces.{field_text, faulty_field};
 ghost use Rattle.seqpool.specs.ActsText.{StandsFor};
 ghost use Rattle.seqpool.specs.Checker.{IsIllegalAt};
 ghost use Rattle.streams.specs.Shown.{IsSafeLine};
 ghost use Rattle.explanations.specs.Said.{IsLineOrNone};
 ghost use Rattle.explanations.specs.Wanted.{shape_wanted};
-ghost use Rattle.explanations.specs.ActsTexts.{line_told, numbered_told, told_at, acts_explanation, illegal_told, ExplainsIllegal, ExplainsCheck};
+ghost use Rattle.explanations.specs.ActsTexts.{line_by, line_told, numbered_told, told_at, acts_explanation, illegal_told, ExplainsIllegal, ExplainsCheck};
 
 use crate::acts_fields::{act_line_told, shape_line_told};
 use crate::found::cut_of;
@@ -27,6 +28,30 @@ fn shape_told(alloc: Global, fault: ShapeFault) -> Result<String, AllocError>
     format!(in alloc; "field {name} {wanted}")
 }
 
+/// Whether a line has a carriage return at its end.
+fn ends_with_return(line: &[u8]) -> bool
+    ensures { result ≡ ends_with_byte 13 line.now }
+{
+    !line.is_empty() && line[line.len() - 1] == b'\r'
+}
+
+/// What is wrong with a line that is none of acts, and has this number.
+fn line_by(alloc: Global, number: usize, line: &[u8]) -> Result<String, AllocError>
+    ensures { IfOk result (λ text. string_bytes text ≡ line_by (ends_with_byte 13 line.now) number line.now) }
+{
+    if ends_with_return(line) {
+        return String::from_str(
+            alloc,
+            "the line ends with a carriage return and a line feed; lines end with a line feed alone",
+        );
+    }
+    if number == 1 {
+        shape_line_told(alloc, line)
+    } else {
+        act_line_told(alloc, line)
+    }
+}
+
 /// What is wrong with this line, which has this number, by the fault of the text.
 fn line_told(
     alloc: Global,
@@ -37,8 +62,7 @@ fn line_told(
     ensures { IfOk result (λ text. string_bytes text ≡ line_told fault number line.now) }
 {
     match fault {
-        ActsFault::ActsLine if number == 1 => shape_line_told(alloc, line),
-        ActsFault::ActsLine => act_line_told(alloc, line),
+        ActsFault::ActsLine => line_by(alloc, number, line),
         ActsFault::Shape(fault) => shape_told(alloc, fault),
         ActsFault::Memory => String::from_str(alloc, "memory was refused"),
     }

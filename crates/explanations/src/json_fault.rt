@@ -1,11 +1,14 @@
 //! Where bytes stop being a JSON text, and why, in words.
-ghost use Rattle.std.specs.Prelude.{◌≡◌, ◌≤◌, length, IfOk, IfSome, option_map, string_bytes};
+ghost use Rattle.std.specs.Prelude.{◌≡◌, ◌≤◌, ◌<◌, true, length, drop, IfOk, IfSome, option_map, string_bytes};
 ghost use Rattle.std.specs.List.{list_all};
+ghost use Rattle.std.specs.Str.{IsUtf8};
 ghost use Rattle.streams.specs.Shown.{IsSafeLine};
-ghost use Rattle.explanations.specs.JsonFaults.{is_space, last_with, last_of, is_comma, wanted_behind, wanted_next, wanted_by, has_mark, has_comment, has_end, found_told, named_told, token_told, halt_told, json_told, IsOfText, HaltsAt, ExplainsJson};
+ghost use Rattle.explanations.specs.JsonFlaws.{first_is, escape_length};
+ghost use Rattle.explanations.specs.JsonFaults.{is_space, last_with, last_of, is_comma, wanted_behind, wanted_next, wanted_by, has_mark, has_comment, has_end, found_told, named_told, token_told, halt_told, json_told, IsOfText, control_told, flaw_told, open_told, HaltsAt, ExplainsJson};
 
 use crate::found::cut_of;
-use crate::places::{column_number, line_number};
+use crate::json_flaw::{Flaw, char_flaw, escape_length, number_stop, string_stop};
+use crate::places::{column_number, front, line_number};
 use json::{Reader, Scratch, Token};
 use std::alloc::{AllocError, Global};
 use std::str::from_utf8;
@@ -33,6 +36,10 @@ pub enum Halt {
     Deep,
     /// Bytes are no text.
     NoText,
+    /// The text ends within the string that begins here.
+    Open(usize),
+    /// A string or a number has this flaw.
+    Flawed(Flaw),
 }
 
 /// What may come next.
@@ -150,6 +157,89 @@ fn halt_of(alloc: Global, text: &str) -> Result<(usize, Halt), AllocError>
     Ok((at, Halt::Token(nesting.inmost())))
 }
 
+/// Whether a string may stand behind this byte, the last that isn't passed over, by what is open there.
+fn may_begin_text(opened: Opened, last: Option<u8>) -> bool {
+    match (opened, last) {
+        (_, None | Some(b':' | b'[' | b'{')) => true,
+        (Opened::Array | Opened::Object, Some(b',')) => true,
+        _ => false,
+    }
+}
+
+/// Whether a number may stand there.
+fn may_begin_number(opened: Opened, last: Option<u8>) -> bool {
+    match (opened, last) {
+        (_, None | Some(b':' | b'[')) => true,
+        (Opened::Array, Some(b',')) => true,
+        _ => false,
+    }
+}
+
+/// Where the string stops being one that begins here, and why, unless it is whole.
+fn text_halt(file: &[u8], begin: usize) -> Option<(usize, Halt)>
+    requires begins { begin < length file.now }
+    requires quote { first_is 34 (drop begin file.now) ≡ true }
+    requires text { IsUtf8 file.now }
+    ensures within { IfSome result (λ found. found.0 ≤ length file.now) }
+    ensures halts { IfSome result (λ found. HaltsAt found.1 found.0 file.now) }
+{
+    let at = string_stop(file, begin);
+    if at >= file.len() {
+        return Some((file.len(), Halt::Open(begin)));
+    }
+    match char_flaw(&file[at..]) {
+        Some(flaw) => Some((at, Halt::Flawed(flaw))),
+        None => None,
+    }
+}
+
+/// Where the number stops being one that begins here, and why: a flaw of it, or what stands behind it.
+fn number_halt(file: &[u8], begin: usize, opened: Opened) -> (usize, Halt)
+    requires begins { begin < length file.now }
+    requires text { IsUtf8 file.now }
+    ensures within { result.0 ≤ length file.now }
+    ensures halts { HaltsAt result.1 result.0 file.now }
+{
+    match number_stop(file, begin) {
+        (at, Some(flaw)) => (at, Halt::Flawed(flaw)),
+        (at, None) => (at, Halt::Token(opened)),
+    }
+}
+
+/// Where a text stops being JSON by a token that isn't what may stand there, or within it, where it is a string or a
+/// number that may stand there.
+fn token_halt(file: &[u8], at: usize, opened: Opened) -> (usize, Halt)
+    requires within { at ≤ length file.now }
+    requires text { IsUtf8 file.now }
+    ensures within { result.0 ≤ length file.now }
+    ensures halts { HaltsAt result.1 result.0 file.now }
+{
+    let last = last_of(&file[..at]);
+    match &file[at..] {
+        [b'"', ..] if may_begin_text(opened, last) => {
+            text_halt(file, at).unwrap_or((at, Halt::Token(opened)))
+        }
+        [b'-' | b'0'..=b'9', ..] if may_begin_number(opened, last) => {
+            number_halt(file, at, opened)
+        }
+        _ => (at, Halt::Token(opened)),
+    }
+}
+
+/// Where a text stops being JSON, and why, if at a token then within it.
+fn halt_within(file: &[u8], at: usize, halt: Halt) -> (usize, Halt)
+    requires within { at ≤ length file.now }
+    requires text { IsUtf8 file.now }
+    requires of { IsOfText halt }
+    ensures within { result.0 ≤ length file.now }
+    ensures halts { HaltsAt result.1 result.0 file.now }
+{
+    match halt {
+        Halt::Token(opened) => token_halt(file, at, opened),
+        _ => (at, halt),
+    }
+}
+
 /// Where bytes stop being a JSON text, and why.
 fn halt_in(alloc: Global, file: &[u8]) -> Result<(usize, Halt), AllocError>
     ensures within { IfOk result (λ found. found.0 ≤ length file.now) }
@@ -158,7 +248,7 @@ fn halt_in(alloc: Global, file: &[u8]) -> Result<(usize, Halt), AllocError>
     match from_utf8(file) {
         Ok(text) => {
             let (at, halt) = halt_of(alloc, text)?;
-            Ok((at.min(file.len()), halt))
+            Ok(halt_within(file, at.min(file.len()), halt))
         }
         Err(error) => Ok((error.valid_up_to(), Halt::NoText)),
     }
@@ -311,6 +401,62 @@ fn token_told(
     }
 }
 
+/// What is wrong with a control character.
+fn control_told(alloc: Global, byte: u8) -> Result<String, AllocError>
+    ensures { IfOk result (λ text. string_bytes text ≡ control_told byte) }
+{
+    match byte {
+        9 => String::from_str(
+            alloc,
+            "a tab stands in a string, where \\t has to stand for it",
+        ),
+        10 | 13 => String::from_str(alloc, "the line ends within a string"),
+        _ => format!(in alloc;
+            "byte {byte} stands in a string, where an escape has to stand for it"
+        ),
+    }
+}
+
+/// That what stands in front is no escape.
+fn escape_told(alloc: Global, rest: &[u8]) -> Result<String, AllocError>
+    ensures { IfOk result (λ text. string_bytes text ≡ flaw_told Flaw.Escape rest.now) }
+{
+    let found = cut_of(alloc, front(rest, escape_length(rest)))?;
+    format!(in alloc;
+        "\"{found}\" is no escape: behind a backslash stands \", \\, /, b, f, n, r, t, or u and four hexadecimal digits"
+    )
+}
+
+/// That what stands in front is half of a character.
+fn half_told(alloc: Global, rest: &[u8]) -> Result<String, AllocError>
+    ensures { IfOk result (λ text. string_bytes text ≡ flaw_told Flaw.Half rest.now) }
+{
+    let found = cut_of(alloc, front(rest, 6))?;
+    format!(in alloc; "\"{found}\" is half of a character, and its other half isn't there")
+}
+
+/// What is wrong within a string or a number, by what stands there.
+fn flaw_told(alloc: Global, flaw: Flaw, rest: &[u8]) -> Result<String, AllocError>
+    ensures { IfOk result (λ text. string_bytes text ≡ flaw_told flaw rest.now) }
+{
+    match flaw {
+        Flaw::Control(byte) => control_told(alloc, byte),
+        Flaw::Escape => escape_told(alloc, rest),
+        Flaw::Half => half_told(alloc, rest),
+        Flaw::Zero => String::from_str(alloc, "a number of several digits begins with 0"),
+        Flaw::Digit => found_told(alloc, rest, "a digit"),
+    }
+}
+
+/// That the text ends within the string that begins at this place.
+fn open_told(alloc: Global, begin: usize, file: &[u8]) -> Result<String, AllocError>
+    ensures { IfOk result (λ text. string_bytes text ≡ open_told begin file.now) }
+{
+    let line = line_number(file, begin);
+    let column = column_number(file, begin);
+    format!(in alloc; "the text ends within the string that begins in line {line}, column {column}")
+}
+
 /// Why a text stops being JSON at a place.
 fn halt_told(alloc: Global, halt: Halt, at: usize, file: &[u8]) -> Result<String, AllocError>
     requires { at ≤ length file.now }
@@ -323,6 +469,8 @@ fn halt_told(alloc: Global, halt: Halt, at: usize, file: &[u8]) -> Result<String
             String::from_str(alloc, "more than 127 lists and objects are in one another")
         }
         Halt::NoText => String::from_str(alloc, "the bytes are no text in UTF-8"),
+        Halt::Open(begin) => open_told(alloc, begin, file),
+        Halt::Flawed(flaw) => flaw_told(alloc, flaw, &file[at..]),
     }
 }
 

@@ -7,6 +7,7 @@ mod acts_fields;
 mod found;
 mod half_run;
 mod json_fault;
+mod json_flaw;
 mod places;
 mod plain;
 mod reasons;

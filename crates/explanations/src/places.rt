@@ -16,7 +16,7 @@ fn ends_in(text: &[u8]) -> usize
 }
 
 /// The bytes before a place; all where it is past them.
-fn front(text: &[u8], at: usize) -> &[u8]
+pub(crate) fn front(text: &[u8], at: usize) -> &[u8]
     ensures { result.now ≡ take at text.now }
 {
     &text[..at.min(text.len())]

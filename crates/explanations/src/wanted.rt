@@ -2,8 +2,8 @@
 ghost use Rattle.std.specs.Prelude.{◌≡◌, IfOk, option_map, string_bytes};
 ghost use Rattle.json.specs.Tree.{HasNumbers};
 ghost use Rattle.json.specs.Value.{value_view, members_view};
-ghost use Rattle.explanations.specs.Found.{command_at};
-ghost use Rattle.explanations.specs.Wanted.{shape_wanted, is_known, extra_in, extra_of, known_text, extra_told, object_told, named_wanted, item_count, script_count, counts_told, form_text, name_in, line_wanted, operand_wanted, field_wanted, number_wanted, script_wanted};
+ghost use Rattle.explanations.specs.Found.{command_at, field_at};
+ghost use Rattle.explanations.specs.Wanted.{shape_wanted, is_known, extra_in, extra_of, known_text, extra_told, object_told, stray_of, missing_told, named_wanted, item_count, script_count, counts_told, form_text, name_in, line_wanted, operand_wanted, field_wanted, number_wanted, script_wanted};
 
 use crate::found::{command_at, cut_of, field_at, value_told};
 use json::Value;
@@ -118,18 +118,43 @@ fn object_told(alloc: Global, owner: Owner, value: &Value<'_>) -> Result<String,
     }
 }
 
-/// What is wrong with a field, by the value that it has.
-fn named_wanted(
-    alloc: Global,
-    name: FieldName,
-    found: Option<&Value<'_>>,
-) -> Result<String, AllocError>
-    ensures { IfOk result (λ text. string_bytes text ≡ named_wanted name (option_map (λ v. value_view v.now) found.entry)) }
+/// The first field of a file's shape that isn't known, by its name.
+fn stray_in_shape<'a>(whole: &Value<'a>) -> Option<&'a str>
+    ensures { option_map (λ name. name.now) result ≡ stray_of FieldName.Lanes (value_view whole.now) }
 {
-    match (name, found) {
+    let shape = whole.get("shape")?;
+    extra_of(Owner::Shape, shape)
+}
+
+/// A field that isn't known beside this one, which is missing, by its name.
+fn stray_of<'a>(name: FieldName, whole: &Value<'a>) -> Option<&'a str>
+    ensures { option_map (λ name. name.now) result ≡ stray_of name (value_view whole.now) }
+{
+    match name {
+        FieldName::Shape | FieldName::Scripts => extra_of(Owner::File, whole),
+        _ => stray_in_shape(whole),
+    }
+}
+
+/// That a field is missing, where there is this one, or none, that isn't known.
+fn missing_told(alloc: Global, stray: Option<&str>) -> Result<String, AllocError>
+    ensures { IfOk result (λ text. string_bytes text ≡ missing_told (option_map (λ name. name.now) stray.entry)) }
+{
+    let Some(stray) = stray else {
+        return String::from_str(alloc, "is missing");
+    };
+    let stray = cut_of(alloc, stray.as_bytes())?;
+    format!(in alloc; "is missing; there is \"{stray}\"")
+}
+
+/// What is wrong with a field of a file with this value, by the value that it has itself.
+fn named_wanted(alloc: Global, name: FieldName, whole: &Value<'_>) -> Result<String, AllocError>
+    ensures { IfOk result (λ text. string_bytes text ≡ named_wanted name (value_view whole.now) (field_at name (value_view whole.now))) }
+{
+    match (name, field_at(whole, name)) {
         (FieldName::Shape, Some(found)) => object_told(alloc, Owner::Shape, found),
         (FieldName::Scripts, Some(_)) => String::from_str(alloc, "is no list of scripts"),
-        _ => String::from_str(alloc, "is missing"),
+        _ => missing_told(alloc, stray_of(name, whole)),
     }
 }
 
@@ -229,7 +254,7 @@ fn field_wanted(alloc: Global, place: ScriptPlace, whole: &Value<'_>) -> Result<
 {
     match place {
         ScriptPlace::File => object_told(alloc, Owner::File, whole),
-        ScriptPlace::Field(name) => named_wanted(alloc, name, field_at(whole, name)),
+        ScriptPlace::Field(name) => named_wanted(alloc, name, whole),
         ScriptPlace::Scripts => counts_told(alloc, whole),
         ScriptPlace::Script { .. } => String::from_str(alloc, "is no list of commands"),
         ScriptPlace::Line { lane, line } => line_wanted(alloc, name_at(whole, lane, line)),
