@@ -22,6 +22,8 @@ thread_local! {
 }
 
 static HOOKED: AtomicUsize = AtomicUsize::new(0);
+/// How many blocks of memory there are.
+static BLOCKS: AtomicUsize = AtomicUsize::new(0);
 
 fn hooked() {
     fn nothing() {}
@@ -36,12 +38,14 @@ fn hooked() {
 unsafe impl GlobalAlloc for Hooked {
     unsafe fn alloc(&self, layout: Layout) -> *mut u8 {
         hooked();
+        BLOCKS.fetch_add(1, SeqCst);
         // SAFETY: the caller keeps what `System` asks.
         unsafe { System.alloc(layout) }
     }
 
     unsafe fn alloc_zeroed(&self, layout: Layout) -> *mut u8 {
         hooked();
+        BLOCKS.fetch_add(1, SeqCst);
         // SAFETY: the caller keeps what `System` asks.
         unsafe { System.alloc_zeroed(layout) }
     }
@@ -54,6 +58,7 @@ unsafe impl GlobalAlloc for Hooked {
 
     unsafe fn dealloc(&self, block: *mut u8, layout: Layout) {
         hooked();
+        BLOCKS.fetch_sub(1, SeqCst);
         // SAFETY: the caller keeps what `System` asks.
         unsafe { System.dealloc(block, layout) }
     }
@@ -241,5 +246,72 @@ fn a_hook_creates_while_a_segment_opens() {
         let hooked = HOOKED.load(SeqCst);
         assert!(hooked > 1000);
         assert_eq!(pool.census().present as usize, hooked);
+    });
+}
+
+/// The row of the lanes that a thread keeps grows, and the hook looks for one of them there.
+#[test]
+fn a_hook_calls_while_a_thread_keeps_lanes() {
+    alone("a_hook_calls_while_a_thread_keeps_lanes", || {
+        let pools: Vec<_> = (0..20).map(|_| small()).collect();
+        at_once([|| with_hook(|| pools.iter().for_each(|pool| use_once(pool)))]);
+        assert!(HOOKED.load(SeqCst) > 20);
+        for pool in &pools {
+            assert!(pool.lane().is_some(), "its lane came home");
+        }
+    });
+}
+
+fn small() -> Pool<String> {
+    let shape = Shape {
+        lanes: 1,
+        first_page: 2,
+        pages: 1,
+        ..Shape::default()
+    };
+    Pool::open(shape).unwrap()
+}
+
+fn use_once(pool: &Pool<String>) {
+    let key = pool.put("x").unwrap();
+    assert!(pool.clear(key));
+}
+
+/// A thread that goes on keeps nothing of pools that have ended, but of the last ones.
+#[test]
+fn pools_that_ended_leave_nothing() {
+    alone("pools_that_ended_leave_nothing", || {
+        let rounds = |count: usize| (0..count).for_each(|_| use_once(&small()));
+        rounds(10);
+        let before = BLOCKS.load(SeqCst);
+        rounds(500);
+        let left = BLOCKS.load(SeqCst).saturating_sub(before);
+        assert!(left < 10, "{left} blocks are left");
+    });
+}
+
+/// When a thread has left its lanes, the hook takes up one of them, and calls the pool by another one.
+#[test]
+fn a_hook_calls_while_a_thread_leaves_its_lanes() {
+    static LEFT: OnceLock<Pool<String>> = OnceLock::new();
+    fn takes() {
+        let pool = LEFT.get().expect("it is set");
+        let Some(lane) = pool.lane() else { return };
+        let key = pool.put("by the hook").expect("a place");
+        let number = u64::from(key) >> 16 & 0xff;
+        assert_ne!(number, u64::from(lane.number()), "a lane that it left");
+        assert!(lane.clear(key));
+        HOOKED.fetch_add(1, SeqCst);
+    }
+    alone("a_hook_calls_while_a_thread_leaves_its_lanes", || {
+        let pool = LEFT.get_or_init(small);
+        let ending = std::thread::spawn(|| {
+            HOOK.set(|| ());
+            use_once(pool);
+            HOOK.set(takes);
+        });
+        ending.join().unwrap();
+        assert!(HOOKED.load(SeqCst) > 0, "the thread's row is freed");
+        assert!(pool.lane().is_some());
     });
 }

@@ -1,8 +1,8 @@
 //! What once crashed or hung the process: each in a process of its own.
 mod common;
 
-use common::{alone, at_once};
-use pardz::{Clear, Key, OwnedRef, Pool, PoolRef, Shape};
+use common::{alone, at_once, limit};
+use pardz::{Clear, CreateError, Key, OwnedRef, Pool, PoolRef, Shape};
 use std::cell::{Cell, RefCell};
 use std::panic::{self, catch_unwind, panic_any, AssertUnwindSafe};
 use std::sync::atomic::{AtomicUsize, Ordering::SeqCst};
@@ -18,14 +18,12 @@ fn shape(lanes: u32, first_page: u32, pages: u32) -> Shape {
     }
 }
 
-/// A panic's payload, whose drop panics.
-struct Bomb;
+/// A panic's payload, whose drop panics: also while its thread unwinds, which ends the process.
+struct Bomb(&'static str);
 
 impl Drop for Bomb {
     fn drop(&mut self) {
-        if !thread::panicking() {
-            panic!("the payload is dropped");
-        }
+        panic!("the payload is dropped");
     }
 }
 
@@ -40,6 +38,19 @@ fn panics<R>(work: impl FnOnce() -> R) -> bool {
     }
 }
 
+/// What the work panics with.
+fn payload_of<R>(work: impl FnOnce() -> R) -> &'static str {
+    let Err(payload) = catch_unwind(AssertUnwindSafe(work)) else {
+        panic!("it doesn't panic");
+    };
+    let told = payload.downcast_ref::<Bomb>().map(|bomb| bomb.0);
+    mem::forget(payload);
+    told.expect("a bomb")
+}
+
+/// How many nodes were emptied.
+static EMPTIED: AtomicUsize = AtomicUsize::new(0);
+
 /// Lets go of others when it is emptied, and panics with a bomb.
 #[derive(Default)]
 struct Node {
@@ -47,6 +58,7 @@ struct Node {
     keys: Vec<Key>,
     text: String,
     explodes: bool,
+    name: &'static str,
 }
 
 fn nodes() -> &'static Pool<Node> {
@@ -61,8 +73,9 @@ impl Clear for Node {
             .drain(..)
             .for_each(|key| assert!(nodes().clear(key)));
         self.text.clear();
+        EMPTIED.fetch_add(1, SeqCst);
         if mem::take(&mut self.explodes) {
-            panic_any(Bomb);
+            panic_any(Bomb(self.name));
         }
     }
 }
@@ -115,6 +128,45 @@ fn two_payloads_of_one_clear() {
         let inner = vec![exploding(vec![]), exploding(vec![])];
         let outer = exploding(inner);
         assert!(panics(|| nodes().clear(outer)));
+        works_on();
+    });
+}
+
+fn exploding(name: &'static str, fill: impl FnOnce(&mut Node)) -> impl FnOnce(&mut Node) {
+    move |node| {
+        fill(node);
+        node.explodes = true;
+        node.name = name;
+    }
+}
+
+/// Of several panics of one call the first is handed on, and all objects are emptied: by an owned handle, whose lane is shared.
+#[test]
+fn the_first_of_several_payloads_of_a_release() {
+    alone("the_first_of_several_payloads_of_a_release", || {
+        let quiet = cleared(|node| node.text.push_str("quiet"));
+        let third = cleared(exploding("third", |node| node.held = Some(quiet)));
+        let second = cleared(exploding("second", |node| node.held = Some(third)));
+        let first = cleared(exploding("first", |node| node.held = Some(second)));
+        EMPTIED.store(0, SeqCst);
+        assert_eq!(payload_of(|| drop(first)), "first");
+        assert_eq!(EMPTIED.load(SeqCst), 4);
+        works_on();
+    });
+}
+
+/// The same by a clear of the thread's own lane.
+#[test]
+fn the_first_of_several_payloads_of_a_clear() {
+    alone("the_first_of_several_payloads_of_a_clear", || {
+        let quiet = nodes().create_with(|node| node.text.push_str("quiet"));
+        let others =
+            ["second", "third"].map(|name| nodes().create_with(exploding(name, |_| ())).unwrap());
+        let keys = vec![others[0], others[1], quiet.unwrap()];
+        let first = nodes().create_with(exploding("first", |node| node.keys = keys));
+        EMPTIED.store(0, SeqCst);
+        assert_eq!(payload_of(|| nodes().clear(first.unwrap())), "first");
+        assert_eq!(EMPTIED.load(SeqCst), 4);
         works_on();
     });
 }
@@ -237,6 +289,123 @@ fn a_panic_hook_calls_the_pool() {
         assert_eq!(HOOKED.load(SeqCst), 9);
         assert!(lane.clear(key));
     });
+}
+
+/// An owned lane keeps its pool.
+#[test]
+fn an_owned_lane_keeps_its_pool() {
+    let _limit = limit();
+    let pool = Arc::new(Pool::<String>::open(shape(1, 4, 1)).unwrap());
+    let lane = pool.lane_owned().unwrap();
+    let ended = Arc::downgrade(&pool);
+    drop(pool);
+    assert!(ended.upgrade().is_some(), "the lane has a share of it");
+    let key = lane.put("abc").unwrap();
+    let text = lane.get(key).unwrap();
+    assert!(lane.clear(key));
+    assert_eq!(*text, "abc");
+    drop(text);
+    drop(lane);
+    assert!(ended.upgrade().is_none());
+}
+
+/// A thread that ends leaves a reference to what stands in a further segment: its lane doesn't come home.
+#[test]
+fn a_lane_that_is_used_in_a_further_segment_stays_shared() {
+    let _limit = limit();
+    let pool = Pool::<String>::growing().unwrap();
+    let lanes = || (0..).map_while(|_| pool.lane()).collect::<Vec<_>>().len();
+    at_once([|| {
+        // (Its own 32 places of the first segment, and those of the shared lanes.)
+        let keys: Vec<_> = (0..32 * 6).map(|_| pool.put("x").unwrap()).collect();
+        let further: Vec<_> = keys
+            .iter()
+            .filter(|key| u64::from(**key) >> 56 == 1)
+            .collect();
+        assert!(!further.is_empty(), "a further segment");
+        mem::forget(pool.get(*further[0]).unwrap());
+    }]);
+    // 12 are no shared ones, and its reference keeps the thread's lane shared.
+    for _ in 0..3 {
+        assert_eq!(lanes(), 11);
+    }
+    // Threads that share lanes choose this one too, and it is shared in all segments.
+    let keys = [(); 2].map(|()| pool.create_owned().unwrap().publish());
+    assert!(keys.iter().all(|key| u64::from(*key) >> 56 == 1));
+    let _lanes: Vec<_> = (0..).map_while(|_| pool.lane()).collect();
+    at_once((0..10).map(|_| {
+        || {
+            for key in keys {
+                assert!(pool.get(key).is_some());
+                assert!(pool.get_owned(key).is_some());
+            }
+            for _ in 0..200 {
+                let key = pool.put("y").unwrap();
+                assert!(pool.clear(key));
+            }
+        }
+    }));
+}
+
+/// The first call of a pool of 16 lanes, of which none is shared before, is for an owned handle.
+#[test]
+fn an_owned_handle_by_the_first_call() {
+    let _limit = limit();
+    let pool = Pool::<String>::open(shape(16, 2, 1)).unwrap();
+    drop(pool.create_owned().unwrap());
+    let pool = Pool::<String>::open(shape(16, 2, 1)).unwrap();
+    assert!(pool.get_owned(Key::try_from(1 << 24).unwrap()).is_none());
+}
+
+/// A thread's first call takes up the lane that another thread has left, in front of all shared ones.
+#[test]
+fn a_lane_that_was_left_is_taken_up() {
+    let _limit = limit();
+    let pool = Pool::<String>::open(shape(1, 4, 1)).unwrap();
+    for _ in 0..3 {
+        let key = at_once([|| pool.put("x").unwrap()])[0];
+        assert_eq!(u64::from(key) >> 16 & 0xff, 0, "the lane's own shard");
+        assert!(pool.create_owned().is_ok());
+        at_once([|| assert!(pool.clear(key))]);
+    }
+}
+
+// Segments.
+
+/// A lane that is full in all segments has places again in the first one, and takes these before the pool grows.
+#[test]
+fn places_of_earlier_segments_are_taken_again() {
+    let _limit = limit();
+    let pool = Pool::<String>::growing().unwrap();
+    let lane = pool.lane().unwrap();
+    let segment = |key: &Key| u64::from(*key) >> 56;
+    let keys: Vec<_> = (0..32 + 64 + 1).map(|_| lane.put("x").unwrap()).collect();
+    assert_eq!(keys.iter().map(segment).max(), Some(2));
+    assert!(keys[..32 + 64].iter().all(|key| lane.clear(*key)));
+    for _ in 0..3 {
+        // (Of the third one a place is taken.)
+        let again = (0..32 + 64 + 191).map(|_| lane.put("y").unwrap());
+        let again: Vec<_> = again.collect();
+        assert_eq!(again.iter().map(segment).max(), Some(2));
+        assert!(again.iter().all(|key| lane.clear(*key)));
+    }
+}
+
+/// Segments are larger and larger, up to the largest.
+#[test]
+fn a_lane_in_eight_segments() {
+    let _limit = limit();
+    let pool = Pool::<String>::growing().unwrap();
+    let lane = pool.lane().unwrap();
+    let places = [32, 64, 192, 448, 960, 1984, 4032, 4032];
+    for (segment, places) in places.into_iter().enumerate() {
+        for _ in 0..places {
+            let key = lane.create().unwrap().publish();
+            assert_eq!(u64::from(key) >> 56, segment as u64);
+        }
+    }
+    drop(lane);
+    assert_eq!(pool.close().present, places.iter().sum::<u32>());
 }
 
 // Threads that end.
@@ -388,6 +557,7 @@ fn a_late_clear_meets_no_lane() {
 
 #[test]
 fn lanes_that_were_shared_come_home() {
+    let _limit = limit();
     let pool = Pool::<String>::open(shape(4, 4, 1)).unwrap();
     for _ in 0..3 {
         let keys: Vec<_> = (0..).map_while(|_| pool.put("x").ok()).collect();
@@ -409,9 +579,44 @@ fn lanes_that_were_shared_come_home() {
     assert_eq!(pool.close().free, 20);
 }
 
+/// A full pool is asked many times, by the thread's own lane and by shared ones: it says so each time, and gives its places again.
+#[test]
+fn a_full_pool_is_asked_many_times() {
+    let _limit = limit();
+    let pool = Pool::<String>::open(shape(2, 1, 1)).unwrap();
+    for _ in 0..2 {
+        let keys: Vec<_> = (0..).map_while(|_| pool.put("x").ok()).collect();
+        assert_eq!(keys.len(), 3);
+        for _ in 0..100 {
+            assert_eq!(pool.put("y").err(), Some(CreateError::Full));
+            assert_eq!(pool.create_owned().err(), Some(CreateError::Full));
+        }
+        assert!(keys.iter().all(|key| pool.clear(*key)));
+    }
+}
+
+/// A pool that ends goes out of the row of a thread's lanes, and no other one does.
+#[test]
+fn a_pool_that_ends_leaves_others_their_lanes() {
+    let _limit = limit();
+    let small = || Pool::<String>::open(shape(1, 2, 1)).unwrap();
+    let use_once = |pool: &Pool<String>| assert!(pool.clear(pool.put("x").unwrap()));
+    let (first, last) = (small(), small());
+    at_once([|| {
+        use_once(&first);
+        use_once(&small());
+        use_once(&last);
+        use_once(&first);
+    }]);
+    for pool in [&first, &last] {
+        assert!(pool.lane().is_some(), "its lane came home");
+    }
+}
+
 /// While a filling, a reference or an owned handle of a shared lane lives, it stays shared; keys alone don't keep it.
 #[test]
 fn lanes_that_are_used_stay_shared() {
+    let _limit = limit();
     let pool = Pool::<String>::open(shape(2, 1, 1)).unwrap();
     let lanes = || (0..).map_while(|_| pool.lane()).collect::<Vec<_>>().len();
     for _ in 0..3 {
@@ -436,6 +641,7 @@ fn lanes_that_are_used_stay_shared() {
 
 #[test]
 fn threads_that_start_together_share_no_more() {
+    let _limit = limit();
     for _ in 0..200 {
         let pool = Arc::new(Pool::<String>::open(shape(12, 2, 1)).unwrap());
         let gate = common::Gate::new(4);
@@ -466,6 +672,7 @@ fn threads_that_start_together_share_no_more() {
 /// A filling that is forgotten costs its place, and no lane.
 #[test]
 fn a_forgotten_filling_costs_no_lane() {
+    let _limit = limit();
     let pool = Arc::new(Pool::<String>::open(shape(4, 4, 1)).unwrap());
     let forget = |lane: &pardz::Lane<'_, String>| {
         lane.create().unwrap().forget();
@@ -492,6 +699,7 @@ fn a_forgotten_filling_costs_no_lane() {
 
 #[test]
 fn references_of_all_segments() {
+    let _limit = limit();
     let pool = Pool::<String>::growing().unwrap();
     let lane = pool.lane().unwrap();
     let keys: Vec<_> = (0..200).map(|_| lane.put("x").unwrap()).collect();
@@ -520,6 +728,7 @@ fn references_of_all_segments() {
 /// Keeps what it is told from being optimised away.
 #[test]
 fn clones_of_many_threads() {
+    let _limit = limit();
     let pool = Arc::new(Pool::<String>::growing().unwrap());
     let key = pool.put("abc").unwrap();
     let first = pool.get_owned(key).unwrap();
