@@ -1,10 +1,11 @@
 //! Pools.
 use crate::buffer::Buffer;
 use crate::clear::Clear;
-use crate::erased::{keybits, shardpool};
+use crate::erased::keybits::{self, MOST_LANES};
+use crate::erased::shardpool;
 use crate::errors::OpenError;
 use crate::lane::Lane;
-use crate::lanes::{Share, LANES};
+use crate::lanes::Share;
 use std::fmt;
 use std::sync::Arc;
 
@@ -44,7 +45,7 @@ impl Shape {
             last_generation: self.last_generation,
             tag: self.tag,
         };
-        match shape.check() {
+        match shape.check_wide() {
             Ok(()) => Ok(shape),
             Err(_) => Err(OpenError::Shape),
         }
@@ -131,12 +132,12 @@ impl<T: Clear> Pool<T> {
     /// use pardz::{OpenError, Pool, Shape};
     ///
     /// let pool = Pool::<String>::open(Shape::default())?;
-    /// let wrong = Pool::<String>::open(Shape { lanes: 17, ..Shape::default() });
+    /// let wrong = Pool::<String>::open(Shape { lanes: 65, ..Shape::default() });
     /// assert_eq!(wrong.err(), Some(OpenError::Shape));
     /// # Ok::<(), OpenError>(())
     /// ```
     pub fn open(shape: Shape) -> Result<Pool<T>, OpenError> {
-        Pool::open_with(shape, shape.lanes < LANES)
+        Pool::open_with(shape, shape.lanes < MOST_LANES)
     }
 
     /// The same; with `one_more` it has a lane more than its shape, for calls without a lane.

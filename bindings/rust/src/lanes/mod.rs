@@ -34,7 +34,6 @@ mod who;
 
 pub(crate) use far::{FarBegun, FarHeld};
 pub(crate) use in_hand::Hand;
-pub(crate) use room::LANES;
 pub(crate) use share::Share;
 pub(crate) use token::{Begun, Held, InHand, OfThread, Spent};
 

@@ -2,9 +2,9 @@
 use super::lock::rest;
 use super::seat::Post;
 use super::segment::{row_for, Segment};
-use super::who::Lanes;
+use super::who::{first_bits, Lanes};
 use crate::clear::Clear;
-use crate::erased::keybits::{GREATEST_TAG, LARGEST_FIRST_PAGE, NARROW_LANES, NARROW_PAGES};
+use crate::erased::keybits::{GREATEST_TAG, LARGEST_FIRST_PAGE, MOST_LANES, MOST_PAGES};
 use crate::errors::{CreateError, OpenError};
 use crate::key::Key;
 use crate::object::{Fixed, Later};
@@ -15,7 +15,7 @@ use crate::sync::{AtomicU32, AtomicU64, AtomicUsize, Ordering};
 const MOST_SEGMENTS: usize = GREATEST_TAG as usize + 1;
 
 /// The lanes of a growing pool, and those of them that are shared from the start.
-pub(crate) const LANES: u32 = NARROW_LANES;
+const LANES: u32 = 16;
 const SHARED: u32 = 4;
 
 /// How many creates pass by a lane that was found full in all segments: twice as many each time, since each look costs as many steps as
@@ -41,17 +41,18 @@ pub(crate) struct Room<T: Clear> {
     /// How many have the pool's memory: it, and lanes of owned handles that outlive it.
     shares: AtomicUsize,
     /// By lane: the segment that had a place last; how many creates still pass it by, and how many will when it is found full next.
-    hints: [AtomicUsize; LANES as usize],
-    passed: [AtomicU32; LANES as usize],
-    next_passed: [AtomicU32; LANES as usize],
+    hints: [AtomicUsize; MOST_LANES as usize],
+    passed: [AtomicU32; MOST_LANES as usize],
+    next_passed: [AtomicU32; MOST_LANES as usize],
 }
 
-/// The shape of the segment of this tag: each is larger than the one before, up to the largest.
+/// The shape of the segment of this tag: the first is small, and each is larger than the one before, up to the widest, which is the sixth.
+/// (To open and close one takes time for each of its places.)
 fn shape_of(tag: usize, last_generation: u32) -> Shape {
     let tag = tag as u32;
-    let (first_page, pages) = match tag {
-        0 => (LARGEST_FIRST_PAGE / 2, 1),
-        _ => (LARGEST_FIRST_PAGE, tag.min(NARROW_PAGES)),
+    let (first_page, pages) = match tag.checked_sub(1) {
+        None => (LARGEST_FIRST_PAGE / 2, 1),
+        Some(further) => (LARGEST_FIRST_PAGE, 1 << further.min(MOST_PAGES.ilog2())),
     };
     Shape {
         lanes: LANES,
@@ -71,7 +72,7 @@ impl<T: Clear> Room<T> {
     /// A pool that grows, and its first shape.
     pub(super) fn open_growing(last_generation: u32) -> Result<(Fixed<Room<T>>, Shape), OpenError> {
         let shape = shape_of(0, last_generation);
-        let shared = ((1 << SHARED) - 1) << (LANES - SHARED);
+        let shared = first_bits(LANES) & !first_bits(LANES - SHARED);
         let room = Room::of(shape, false, MOST_SEGMENTS - 1, shared)?;
         Ok((room, shape))
     }
@@ -80,7 +81,7 @@ impl<T: Clear> Room<T> {
         shape: Shape,
         one_more: bool,
         further: usize,
-        shared: u32,
+        shared: u64,
     ) -> Result<Fixed<Room<T>>, OpenError> {
         static NEXT: AtomicU64 = AtomicU64::new(1);
         let first = Segment::open(shape, one_more)?;
@@ -96,9 +97,9 @@ impl<T: Clear> Room<T> {
             tag: shape.tag as usize,
             last_generation: shape.last_generation,
             shares: AtomicUsize::new(1),
-            hints: Default::default(),
-            passed: Default::default(),
-            next_passed: [const { AtomicU32::new(PASSED) }; LANES as usize],
+            hints: [const { AtomicUsize::new(0) }; MOST_LANES as usize],
+            passed: [const { AtomicU32::new(0) }; MOST_LANES as usize],
+            next_passed: [const { AtomicU32::new(PASSED) }; MOST_LANES as usize],
         })?;
         // SAFETY: the segment stands in the pool, which doesn't move, and ends with it.
         unsafe { room.first.settle(room.pointer()) };

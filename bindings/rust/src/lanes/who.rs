@@ -10,7 +10,8 @@ use super::threads;
 use crate::clear::Clear;
 use crate::errors::{MemoryRefused, OpenError};
 use crate::object::Counted;
-use crate::sync::{AtomicBool, AtomicU32, Mutex, Ordering};
+use crate::sync::{AtomicBool, AtomicU64, Mutex, Ordering};
+use std::iter;
 use std::ptr::NonNull;
 use std::sync::PoisonError;
 
@@ -23,7 +24,7 @@ impl Number {
         self.0
     }
 
-    fn bit(&self) -> u32 {
+    fn bit(&self) -> u64 {
         1 << self.0
     }
 }
@@ -32,7 +33,7 @@ impl Number {
 #[derive(Default)]
 pub(super) struct Homes {
     /// A bit for each lane whose thread has ended.
-    left: AtomicU32,
+    left: AtomicU64,
     /// Whether the pool is closed.
     closed: AtomicBool,
 }
@@ -60,11 +61,11 @@ impl Drop for Told {
 /// Who has the lanes of a pool.
 pub(super) struct Lanes {
     /// A bit for each lane that nobody has.
-    home: AtomicU32,
+    home: AtomicU64,
     /// A bit for each lane that is shared.
-    shared: AtomicU32,
+    shared: AtomicU64,
     /// Those of them that are so from the start, and stay it.
-    always: u32,
+    always: u64,
     /// How many are shared where calls need it: a quarter, and one at least.
     few: u32,
     /// Who takes lanes that were left, shares one or takes it back, or puts a segment in its place.
@@ -74,12 +75,12 @@ pub(super) struct Lanes {
 
 impl Lanes {
     /// So many, of which these are shared.
-    pub(super) fn new(count: u32, shared: u32) -> Result<Lanes, OpenError> {
+    pub(super) fn new(count: u32, shared: u64) -> Result<Lanes, OpenError> {
         let homes = Counted::new(Homes::default());
         let homes = homes.map_err(|MemoryRefused| OpenError::Memory)?;
         Ok(Lanes {
-            home: AtomicU32::new(((1 << count) - 1) & !shared),
-            shared: AtomicU32::new(shared),
+            home: AtomicU64::new(first_bits(count) & !shared),
+            shared: AtomicU64::new(shared),
             always: shared,
             few: (count / 4).max(1),
             lock: Mutex::new(()),
@@ -93,7 +94,7 @@ impl Lanes {
 
     /// Takes a lane that is at home.
     fn take_home(&self) -> Option<Number> {
-        let take = |home: u32| (home != 0).then(|| home & (home - 1));
+        let take = |home: u64| (home != 0).then(|| home & (home - 1));
         let home = self
             .home
             .fetch_update(Ordering::SeqCst, Ordering::SeqCst, take);
@@ -263,7 +264,7 @@ impl<T: Clear> Room<T> {
         // (Calls that choose a lane choose others meanwhile.)
         self.lanes
             .shared
-            .fetch_and(!(1 << number), Ordering::SeqCst);
+            .fetch_and(!Number(number).bit(), Ordering::SeqCst);
         // SAFETY: it is shared.
         let owned = self
             .posts_of(number)
@@ -275,7 +276,7 @@ impl<T: Clear> Room<T> {
         None
     }
 
-    /// The numbers of the shared lanes, from the thread's own choice on. None where there is none: all 16 lanes are in hand.
+    /// The numbers of the shared lanes, from the thread's own choice on. None where there is none: all lanes are in hand.
     pub(super) fn shared_numbers(&self) -> Option<impl Iterator<Item = u32>> {
         if self.lanes.shared.load(Ordering::SeqCst) == 0 {
             self.welcome_back();
@@ -303,13 +304,23 @@ impl<T: Clear> Room<T> {
     #[inline(never)]
     fn choose_shared(&self) -> u32 {
         let first = self.shared_numbers().and_then(|mut numbers| numbers.next());
-        let number = first.expect("all 16 lanes of the pool are in hand");
+        let number = first.expect("all lanes of the pool are in hand");
         threads::set_last_shared(self.id(), number);
         number
     }
 }
 
+/// The bits of so many lanes, from the first on.
+pub(super) fn first_bits(count: u32) -> u64 {
+    u64::MAX.checked_shr(u64::BITS - count).unwrap_or(0)
+}
+
 /// The numbers of the bits of a word.
-fn bits(word: u32) -> impl Iterator<Item = u32> {
-    (0..u32::BITS).filter(move |number| word >> number & 1 == 1)
+fn bits(word: u64) -> impl Iterator<Item = u32> {
+    let mut left = word;
+    iter::from_fn(move || {
+        let number = (left != 0).then(|| left.trailing_zeros());
+        left &= left.wrapping_sub(1);
+        number
+    })
 }
