@@ -11,7 +11,8 @@ use std::sync::Arc;
 
 /// What a pool is opened with. [`Default`] has 4 lanes of 224 places each.
 ///
-/// Page `p` of a lane has `first_page << p` places, so a lane has `(first_page << pages) - first_page` in all.
+/// Page `p` of a lane has `first_page << p` places, but 4,096 at most. So a lane has `(first_page << pages) - first_page` in all, where no
+/// page has more than 4,096; and 44,992 in the largest shape, whose 64 lanes have 2.9 million.
 ///
 /// ```
 /// use pardz::{Pool, Shape};
@@ -23,11 +24,11 @@ use std::sync::Arc;
 /// ```
 #[derive(Clone, Copy, Debug, PartialEq, Eq)]
 pub struct Shape {
-    /// How many threads call at once: 1 to 16.
+    /// How many threads call at once: 1 to 64.
     pub lanes: u32,
     /// Places of a lane's first page: 1, 2, 4, 8, 16, 32 or 64.
     pub first_page: u32,
-    /// Pages of a lane: 1 to 6.
+    /// Pages of a lane: 1 to 16.
     pub pages: u32,
     /// How often a place is used before it is retired for good: from 1.
     pub last_generation: u32,
@@ -152,7 +153,7 @@ impl<T: Clear> Pool<T> {
     /// want of memory, or at their end.
     ///
     /// It has 16 lanes, of which 12 may be kept by threads or taken in hand, and 4 are shared by all other threads. Its segments have
-    /// the tags from 0 on; it has 16 * 32 places at first, and 16 * 4,032 more with each of the later ones.
+    /// the tags from 0 on; it has 16 * 32 places at first, and 16 * 64, 192, 960, 12,224 and 44,992 more with those that follow.
     ///
     /// # Errors
     ///

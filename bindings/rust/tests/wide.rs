@@ -3,7 +3,6 @@ mod common;
 
 use common::{at_once, limit, lock};
 use pardz::{Clear, CreateError, Key, Lane, OpenError, Pool, Shape};
-use std::mem;
 use std::sync::Mutex;
 
 const MOST_LANES: u32 = 64;
@@ -111,7 +110,7 @@ fn sixty_four_threads_have_lanes() {
                 filling.0 = place(filling.key());
                 let key = filling.publish();
                 let to = (u64::from(lane.number()) + round) % u64::from(MOST_LANES);
-                let before = mem::replace(&mut *lock(&passed[to as usize]), Some(key));
+                let before = lock(&passed[to as usize]).replace(key);
                 before
                     .into_iter()
                     .for_each(|key| take_and_clear(&lane, key));
@@ -178,11 +177,9 @@ fn empty(lane: &Lane<Number>, keys: &[Key]) {
 fn fill_and_empty(threads: usize) {
     let _limit = limit();
     let pool = opened(LANES, 64, 16);
-    let mut lanes: Vec<_> = (0..).map_while(|_| pool.lane()).collect();
     let of_each = LANES as usize / threads;
-    let shares: Vec<_> = (0..threads)
-        .map(|_| lanes.drain(..of_each).collect::<Vec<_>>())
-        .collect();
+    let share = |_| (0..of_each).map_while(|_| pool.lane()).collect::<Vec<_>>();
+    let shares: Vec<_> = (0..threads).map(share).collect();
     let filled = at_once(
         shares
             .into_iter()

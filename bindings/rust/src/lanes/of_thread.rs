@@ -72,7 +72,10 @@ impl<T: Clear> Room<T> {
             if let Some(own) = own.filter(|own| !self.passes(own.post().number())) {
                 match own.create_in_any() {
                     Err(CreateError::Full) => (),
-                    created => return created,
+                    created => {
+                        // SAFETY: it is of the thread's own lane.
+                        return created.inspect(|begun| unsafe { self.had_place(begun.post()) });
+                    }
                 }
             }
             self.create_in_shared(|_| ())
@@ -82,10 +85,7 @@ impl<T: Clear> Room<T> {
     #[inline(always)]
     pub(crate) fn get(&self, key: Key) -> Option<Spent<Held<'_, T, OfThread>>> {
         let held = match self.caller() {
-            Caller::Own(own) => match own.get_here(key) {
-                Some(held) => Some(held),
-                None => own.get_elsewhere(key),
-            },
+            Caller::Own(own) => own.of_key(self, key).and_then(|own| own.get_here(key)),
             Caller::Sharing => self.get_by_shared(key),
         };
         held.map(Spent::new)
@@ -94,23 +94,23 @@ impl<T: Clear> Room<T> {
     /// A get by a shared lane.
     #[inline(never)]
     fn get_by_shared(&self, key: Key) -> Option<Held<'_, T, OfThread>> {
-        let segment = self.segment_of(key)?;
+        let segment = self.segment_of(key).filter(|segment| !segment.lacks(key))?;
         self.by_shared(|number| segment.post(number).shared_get(key, |_| ()))
     }
 
     #[inline(always)]
     pub(crate) fn clear(&self, key: Key) -> bool {
         match self.caller() {
-            Caller::Own(own) => own.clear(key),
+            Caller::Own(own) => own.of_key(self, key).is_some_and(|own| own.clear_here(key)),
             Caller::Sharing => self.clear_by_shared(key),
         }
     }
 
     /// A clear by a shared lane.
-    #[cold]
     #[inline(never)]
     fn clear_by_shared(&self, key: Key) -> bool {
-        let Some(segment) = self.segment_of(key) else {
+        let segment = self.segment_of(key).filter(|segment| !segment.lacks(key));
+        let Some(segment) = segment else {
             return false;
         };
         self.by_shared(|number| segment.post(number).shared_clear(key))
@@ -201,7 +201,7 @@ impl<'p, T: Clear> Held<'p, T, OfThread> {
     /// One reference more, by a get of the key.
     pub(crate) fn try_clone(&self) -> Option<Spent<Held<'p, T, OfThread>>> {
         let held = match self.way() {
-            Way::Own(own) => own.get_and_finish(self.key()),
+            Way::Own(own) => own.get_here(self.key()),
             // SAFETY: no thread has such a lane alone.
             Way::Shared(post) | Way::Left(post) => unsafe { post.locked_get(self.key()) },
         };

@@ -1,6 +1,6 @@
 //! Calls of a lane that the thread has alone: without a lock.
 use super::room::Room;
-use super::seat::{Post, Stands};
+use super::seat::{Near, Post, Stands};
 use super::token::{Begun, By, Held};
 use super::turn::{with_page, Short, TooMany, Turn};
 use crate::clear::Clear;
@@ -10,7 +10,7 @@ use crate::object::{self, Block};
 use std::marker::PhantomData;
 use std::mem;
 use std::panic::{self, AssertUnwindSafe};
-use std::ptr;
+use std::ptr::{self, NonNull};
 use std::thread;
 
 /// The thread has the lane of this number alone, in each segment of the pool.
@@ -175,70 +175,72 @@ impl<'s, T: Clear, P: Stands<'s, T>> Own<'s, T, P> {
         with_page(block, |block, ready| self.turn().create_apart(block, ready))
     }
 
-    /// The same, which says that the shard is full where another segment had a place last.
+    /// The same, which says that the shard is full where it was found full in all segments a while ago.
     #[cold]
     #[inline(never)]
     pub(super) fn create_apart_or_pass<W: By<T>>(
         self,
         block: Block<T>,
     ) -> Result<Begun<'s, T, W>, CreateError> {
-        if self.room().is_elsewhere(self.post().number()) {
+        if self.room().is_passed(self.post().number()) {
             self.turn().put_away(block);
             return Err(CreateError::Full);
         }
         self.create_apart(block)
     }
 
-    /// The lane in another segment, of which a key tells.
-    fn elsewhere(self, key: Key) -> Option<Own<'s, T>> {
-        let segment = self.room().segment_of(key)?;
-        if ptr::eq(segment, self.at.segment()) {
-            return None;
-        }
+    /// The lane in the segment of which a key tells.
+    #[inline(always)]
+    pub(super) fn of_key(self, room: &Room<T>, key: Key) -> Option<Own<'s, T, Near<'s, T>>> {
+        let segment = room.segment_of(key)?;
         let post = segment.post(self.post().number());
-        // SAFETY: a segment is there as long as the others; who has a lane has it in each.
-        Some(unsafe { Own::of(post.keep()) })
+        // SAFETY: a segment is there as long as the others, and this is that of the post; who has a lane has it in each.
+        Some(unsafe { Own::of(Near::new(post.keep(), NonNull::from(segment))) })
+    }
+
+    /// The same, where that is another segment.
+    fn elsewhere(self, key: Key) -> Option<Own<'s, T, Near<'s, T>>> {
+        let own = self.of_key(self.room(), key)?;
+        (!ptr::eq(own.at.segment(), self.at.segment())).then_some(own)
     }
 
     /// A get of this segment.
     #[inline(always)]
     pub(super) fn get_here<W: By<T>>(self, key: Key) -> Option<Held<'s, T, W>> {
+        if self.at.segment().lacks(key) {
+            return None;
+        }
         match self.turn().get(key) {
-            Ok(got) => got,
+            Ok(Some(held)) => Some(held),
+            Ok(None) => {
+                self.finish_rare();
+                None
+            }
             Err(TooMany) => too_many(),
         }
-    }
-
-    /// A get of this segment alone, whose miss may have been the last to let go of something.
-    #[inline]
-    pub(super) fn get_and_finish<W: By<T>>(self, key: Key) -> Option<Held<'s, T, W>> {
-        let got = self.get_here(key);
-        if got.is_none() {
-            self.finish_rare();
-        }
-        got
     }
 
     /// A get that missed in this segment.
     #[inline(never)]
     pub(super) fn get_elsewhere<W: By<T>>(self, key: Key) -> Option<Held<'s, T, W>> {
-        self.finish_rare();
-        self.elsewhere(key)?.get_and_finish(key)
+        self.elsewhere(key)?.get_here(key)
     }
 
-    /// A clear.
+    /// A clear of this segment.
     #[inline(always)]
-    pub(super) fn clear(self, key: Key) -> bool {
+    pub(super) fn clear_here(self, key: Key) -> bool {
+        if self.at.segment().lacks(key) {
+            return false;
+        }
         let cleared = self.turn().clear(key);
         self.finish();
-        cleared || self.clear_elsewhere(key)
+        cleared
     }
 
     /// A clear that missed in this segment.
-    #[cold]
     #[inline(never)]
-    fn clear_elsewhere(self, key: Key) -> bool {
-        self.elsewhere(key).is_some_and(|own| own.clear(key))
+    pub(super) fn clear_elsewhere(self, key: Key) -> bool {
+        self.elsewhere(key).is_some_and(|own| own.clear_here(key))
     }
 
     /// A create of the lane's shards in all segments.

@@ -5,10 +5,11 @@ use super::turn::Call;
 use super::who::first_bits;
 use super::{ProvedLane, ProvedPool};
 use crate::clear::Clear;
-use crate::erased::keybits::{self, Life, State};
+use crate::erased::keybits::{self, generation_of, Life, State};
 use crate::erased::poolsteps::life_word;
 use crate::erased::shardpool;
 use crate::errors::OpenError;
+use crate::key::Key;
 use crate::object::{self, Returned};
 use crate::pool::{Census, Shape};
 use crate::shim::{self, Global};
@@ -138,6 +139,22 @@ impl<T: Clear> Segment<T> {
         untold
             .map(|seat| shape.shard_places() - seat.opened_places(&shape))
             .sum()
+    }
+
+    /// Whether the segment has no object of this key: it is no key of it, or its place has another generation by now. That is told by loads
+    /// alone, and is so as of the last.
+    #[inline(always)]
+    pub(super) fn lacks(&self, key: Key) -> bool {
+        let number = u64::from(key);
+        let Some(spot) = self.proved.find(number) else {
+            return true;
+        };
+        // (The life word of this place: those of all stand side by side.)
+        let word = life_word(&self.proved.grid.shape, 0, spot.start as usize);
+        let words = &self.proved.grid.table.shared;
+        // The first load is a hint. A place's generation grows alone, so where it says no, the second does, which stands among the steps.
+        (words.peek(word) >> 32) as u32 != generation_of(number)
+            && words.look(word) >> 32 != u64::from(generation_of(number))
     }
 
     /// What the places are now.

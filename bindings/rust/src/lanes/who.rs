@@ -136,11 +136,22 @@ impl<T: Clear> Room<T> {
         let Some(number) = self.thread_number() else {
             return Caller::Sharing;
         };
-        let post = self.first().post(number);
+        let post = self.last_post(number);
         // SAFETY: the thread keeps the lane of this number.
-        unsafe { threads::set_last(self.id(), post.pointer().as_ptr().cast_const().cast()) };
+        unsafe { self.had_place(post) };
         // SAFETY: as above.
         Caller::Own(unsafe { Own::of(post) })
+    }
+
+    /// The thread's lane had a place last in the segment of this seat.
+    ///
+    /// # Safety
+    ///
+    /// The thread keeps the lane of this seat.
+    pub(super) unsafe fn had_place(&self, post: Post<'_, T>) {
+        let at = post.pointer().as_ptr().cast_const().cast();
+        // SAFETY: the caller's, and it is of this pool.
+        unsafe { threads::set_last(self.id(), at) };
     }
 
     /// The lane that the thread keeps, or is to keep from now on. None where it shares.
