@@ -197,5 +197,5 @@ pub use errors::{CreateError, KeyError, MemoryRefused, OpenError};
 pub use filling::{Filling, OwnedFilling, PoolFilling};
 pub use key::Key;
 pub use lane::Lane;
-pub use pool::{Census, Pool, Shape};
+pub use pool::{Census, Growth, Pool, Shape};
 pub use reference::{OwnedRef, PoolRef, Ref};

@@ -1,7 +1,7 @@
 //! Pools.
 use crate::buffer::Buffer;
 use crate::clear::Clear;
-use crate::erased::keybits::{self, MOST_LANES};
+use crate::erased::keybits::{self, GREATEST_TAG, MOST_LANES};
 use crate::erased::shardpool;
 use crate::errors::OpenError;
 use crate::lane::Lane;
@@ -65,6 +65,79 @@ impl Default for Shape {
     }
 }
 
+/// How a pool grows, for other than [`Pool::growing`] has it.
+///
+/// ```
+/// use pardz::{CreateError, Growth, Pool};
+///
+/// // Two pools of one program, whose keys differ; each has 16 * (32 + 64) places at most.
+/// let growth = Growth::new().most_segments(2);
+/// let one: Pool<String> = growth.open()?;
+/// let other: Pool<String> = growth.first_tag(2).open()?;
+/// let key = one.put("abc")?;
+/// assert!(other.get(key).is_none());
+/// assert_ne!(other.put("abc")?, key);
+/// let full = (0..16 * (32 + 64)).find_map(|_| one.put("more").err());
+/// assert_eq!(full, Some(CreateError::Full));
+/// # Ok::<(), Box<dyn std::error::Error>>(())
+/// ```
+#[derive(Clone, Copy, Debug, PartialEq, Eq)]
+#[must_use = "it opens a pool by `open`"]
+pub struct Growth {
+    pub(crate) most_segments: u32,
+    pub(crate) first_tag: u32,
+    pub(crate) last_generation: u32,
+}
+
+impl Growth {
+    /// As [`Pool::growing`]: up to 256 segments, by the tags from 0 on, of places that are used 4,294,967,295 times.
+    pub const fn new() -> Growth {
+        Growth {
+            most_segments: GREATEST_TAG + 1,
+            first_tag: 0,
+            last_generation: u32::MAX,
+        }
+    }
+
+    /// With so many segments at most, from 1 on: behind them a create is refused.
+    pub const fn most_segments(self, most_segments: u32) -> Growth {
+        Growth {
+            most_segments,
+            ..self
+        }
+    }
+
+    /// With segments by the tags from this one on. A key has room for the tags 0 to 255.
+    pub const fn first_tag(self, first_tag: u32) -> Growth {
+        Growth { first_tag, ..self }
+    }
+
+    /// With places that are used so often before they are retired for good: from 1 on.
+    pub const fn last_generation(self, last_generation: u32) -> Growth {
+        Growth {
+            last_generation,
+            ..self
+        }
+    }
+
+    /// Opens a pool.
+    ///
+    /// # Errors
+    ///
+    /// [`OpenError::Shape`] where there is no segment, no generation, or a segment without a tag; [`OpenError::Memory`] where memory was
+    /// refused.
+    pub fn open<T: Clear>(self) -> Result<Pool<T>, OpenError> {
+        let (room, shape) = Share::open_growing(self)?;
+        Ok(Pool { room, shape })
+    }
+}
+
+impl Default for Growth {
+    fn default() -> Growth {
+        Growth::new()
+    }
+}
+
 /// What the places of a pool are. The six add up to all places of the pool, and those that calls without a lane opened beside them.
 #[derive(Clone, Copy, Debug, Default, PartialEq, Eq)]
 pub struct Census {
@@ -83,6 +156,19 @@ pub struct Census {
 }
 
 impl Census {
+    /// All places.
+    ///
+    /// ```
+    /// use pardz::{Pool, Shape};
+    ///
+    /// let pool = Pool::<String>::open(Shape { lanes: 2, first_page: 8, pages: 3, ..Shape::default() })?;
+    /// assert_eq!(pool.census().total(), 2 * (8 + 16 + 32));
+    /// # Ok::<(), pardz::OpenError>(())
+    /// ```
+    pub fn total(&self) -> u32 {
+        self.free + self.unopened + self.filling + self.present + self.marked + self.retired
+    }
+
     /// With the places of a further segment.
     pub(crate) fn with(self, other: Census) -> Census {
         Census {
@@ -169,13 +255,7 @@ impl<T: Clear> Pool<T> {
     /// # Ok::<(), Box<dyn std::error::Error>>(())
     /// ```
     pub fn growing() -> Result<Pool<T>, OpenError> {
-        Pool::growing_until(u32::MAX)
-    }
-
-    /// As `growing`, with this last generation of each place.
-    pub(crate) fn growing_until(last_generation: u32) -> Result<Pool<T>, OpenError> {
-        let (room, shape) = Share::open_growing(last_generation)?;
-        Ok(Pool { room, shape })
+        Growth::new().open()
     }
 
     /// A lane that nobody has, for as long as the pool is borrowed. `None` where all are taken.
@@ -243,6 +323,25 @@ impl<T: Clear> Pool<T> {
     /// ```
     pub fn census(&self) -> Census {
         self.room.census()
+    }
+
+    /// How many objects are published and not cleared, by a look at each place of an opened page, as [`census`](Pool::census).
+    ///
+    /// ```
+    /// let pool = pardz::Pool::<String>::growing()?;
+    /// assert!(pool.is_empty());
+    /// let key = pool.put("abc")?;
+    /// assert_eq!(pool.len(), 1);
+    /// assert!(pool.clear(key) && pool.is_empty());
+    /// # Ok::<(), Box<dyn std::error::Error>>(())
+    /// ```
+    pub fn len(&self) -> usize {
+        self.census().present as usize
+    }
+
+    /// Whether none is, likewise.
+    pub fn is_empty(&self) -> bool {
+        self.len() == 0
     }
 
     /// Closes the pool, drops its objects, and counts its places. A filling or a reference that was leaked ([`std::mem::forget`]) is

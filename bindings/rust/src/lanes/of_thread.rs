@@ -1,4 +1,5 @@
 //! Calls of a pool, and what they give: by the thread's lane, or by lanes that threads share.
+use super::far::FarHeld;
 use super::give_back::give_back;
 use super::own::{too_many, Own};
 use super::room::Room;
@@ -206,6 +207,11 @@ impl<'p, T: Clear> Held<'p, T, OfThread> {
             Way::Shared(post) | Way::Left(post) => unsafe { post.locked_get(self.key()) },
         };
         held.map(Spent::new)
+    }
+
+    /// One more, for an owned handle, by a get of the key.
+    pub(crate) fn get_owned(&self) -> Option<FarHeld<T>> {
+        self.post().segment().room().get_owned(self.key())
     }
 }
 

@@ -8,7 +8,7 @@ use crate::erased::keybits::{tag_of, GREATEST_TAG, LARGEST_FIRST_PAGE, MOST_PAGE
 use crate::errors::{CreateError, OpenError};
 use crate::key::Key;
 use crate::object::{Fixed, Later};
-use crate::pool::{Census, Shape};
+use crate::pool::{Census, Growth, Shape};
 use crate::sync::{AtomicU32, AtomicU64, AtomicUsize, Ordering};
 
 /// The tags for which a key has room, and so the most segments.
@@ -31,14 +31,13 @@ pub(crate) struct Room<T: Clear> {
     id: u64,
     /// The segments, by the tag in each key of theirs.
     segments: [Later<Segment<T>>; TAGS],
+    /// How it grows, where it does.
+    growth: Option<Growth>,
     /// The tag of the first.
     tag: usize,
-    /// Whether there may be more than one.
-    grows: bool,
     /// How many segments are open, and for how many threads have begun to.
     count: AtomicUsize,
     begun: AtomicUsize,
-    last_generation: u32,
     pub(super) lanes: Lanes,
     /// How many have the pool's memory: it, and lanes of owned handles that outlive it.
     shares: AtomicUsize,
@@ -65,11 +64,11 @@ impl Creates {
     }
 }
 
-/// The shape of the segment of this tag: the first is small, and each is larger than the one before, up to the widest, which is the sixth.
-/// (To open and close one takes time for each of its places.)
-fn shape_of(tag: usize, last_generation: u32) -> Shape {
-    let tag = tag as u32;
-    let (first_page, pages) = match tag.checked_sub(1) {
+/// The shape of a segment, counted from the first: that is small, and each is larger than the one before, up to the widest, which is the
+/// sixth. (To open and close one takes time for each of its places.)
+fn shape_of(index: usize, growth: Growth) -> Shape {
+    let index = index as u32;
+    let (first_page, pages) = match index.checked_sub(1) {
         None => (LARGEST_FIRST_PAGE / 2, 1),
         Some(further) => (LARGEST_FIRST_PAGE, 1 << further.min(MOST_PAGES.ilog2())),
     };
@@ -77,29 +76,38 @@ fn shape_of(tag: usize, last_generation: u32) -> Shape {
         lanes: LANES,
         first_page,
         pages,
-        last_generation,
-        tag,
+        last_generation: growth.last_generation,
+        tag: growth.first_tag + index,
     }
+}
+
+fn open_segment<T: Clear>(shape: Shape) -> Result<Fixed<Segment<T>>, CreateError> {
+    let segment = Segment::open(shape, false).map_err(|_| CreateError::Memory)?;
+    Ok(Fixed::new(segment)?)
 }
 
 impl<T: Clear> Room<T> {
     /// A pool that doesn't grow. With `one_more` it has a lane more than its shape, which is shared.
     pub(super) fn open(shape: Shape, one_more: bool) -> Result<Fixed<Room<T>>, OpenError> {
-        Room::of(shape, one_more, false, 0)
+        Room::of(shape, one_more, None, 0)
     }
 
     /// A pool that grows, and its first shape.
-    pub(super) fn open_growing(last_generation: u32) -> Result<(Fixed<Room<T>>, Shape), OpenError> {
-        let shape = shape_of(0, last_generation);
+    pub(super) fn open_growing(growth: Growth) -> Result<(Fixed<Room<T>>, Shape), OpenError> {
+        let tags = growth.first_tag as usize..TAGS;
+        if growth.most_segments == 0 || tags.len() < growth.most_segments as usize {
+            return Err(OpenError::Shape);
+        }
+        let shape = shape_of(0, growth);
         let shared = first_bits(LANES) & !first_bits(LANES - SHARED);
-        let room = Room::of(shape, false, true, shared)?;
+        let room = Room::of(shape, false, Some(growth), shared)?;
         Ok((room, shape))
     }
 
     fn of(
         shape: Shape,
         one_more: bool,
-        grows: bool,
+        growth: Option<Growth>,
         shared: u64,
     ) -> Result<Fixed<Room<T>>, OpenError> {
         static NEXT: AtomicU64 = AtomicU64::new(1);
@@ -110,11 +118,10 @@ impl<T: Clear> Room<T> {
             id: NEXT.fetch_add(1, Ordering::Relaxed),
             lanes: Lanes::new(first.lanes(), shared | first.untold_bits())?,
             segments: [const { Later::new() }; TAGS],
+            growth,
             tag: shape.tag as usize,
-            grows,
             count: AtomicUsize::new(1),
             begun: AtomicUsize::new(1),
-            last_generation: shape.last_generation,
             shares: AtomicUsize::new(1),
             creates,
         })?;
@@ -132,7 +139,7 @@ impl<T: Clear> Room<T> {
     }
 
     pub(super) fn grows(&self) -> bool {
-        self.grows
+        self.growth.is_some()
     }
 
     /// How many segments are open.
@@ -177,12 +184,13 @@ impl<T: Clear> Room<T> {
     /// Opens a further segment, unless there are other than so many by now. Where another thread opens one, it waits a while for that:
     /// no longer, as that may run code of the program's allocator.
     pub(super) fn grow(&self, count: usize) -> Result<(), CreateError> {
-        let place = self.segments.get(self.tag + count).filter(|_| self.grows);
-        let place = place.ok_or(CreateError::Full)?;
+        let may_grow = |growth: &Growth| count < growth.most_segments as usize;
+        let growth = self.growth.filter(may_grow).ok_or(CreateError::Full)?;
+        let place = &self.segments[self.tag + count];
         if !self.begins(count) && self.waits_for_other(count) {
             return Ok(());
         }
-        let opened = self.open_further(count);
+        let opened = open_segment(shape_of(count, growth));
         if opened.is_err() {
             // (Others may try.)
             self.begun.store(count, Ordering::Relaxed);
@@ -213,12 +221,6 @@ impl<T: Clear> Room<T> {
                 .begun
                 .compare_exchange(before, count + 1, relaxed, relaxed)
                 .is_ok()
-    }
-
-    fn open_further(&self, count: usize) -> Result<Fixed<Segment<T>>, CreateError> {
-        let segment = Segment::open(shape_of(count, self.last_generation), false)
-            .map_err(|_| CreateError::Memory)?;
-        Ok(Fixed::new(segment)?)
     }
 
     /// Waits while another thread opens a segment. Whether there are others now than so many.
