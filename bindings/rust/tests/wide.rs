@@ -92,7 +92,8 @@ fn each_page_of_a_lane() {
 fn sixty_four_threads_have_lanes() {
     const ROUNDS: u64 = 300;
     let _limit = limit();
-    let pool = opened(MOST_LANES, 2, 3);
+    // (Of each lane 64 objects may be passed, and each other thread may have one.)
+    let pool = opened(MOST_LANES, 64, 2);
     let passed: Vec<_> = (0..MOST_LANES).map(|_| Mutex::new(None::<Key>)).collect();
     let take_and_clear = |lane: &Lane<Number>, key: Key| {
         let object = lane.get(key).expect("published");
@@ -129,7 +130,7 @@ fn sixty_four_threads_have_lanes() {
     drop(lane);
     let closed = pool.close();
     assert_eq!((closed.present, closed.marked, closed.filling), (0, 0, 0));
-    assert_eq!(closed.free + closed.unopened, MOST_LANES * (2 + 4 + 8));
+    assert_eq!(closed.free + closed.unopened, MOST_LANES * (64 + 128));
 }
 
 /// Beside 63 lanes there is one more, for calls without a lane; beside 64 there is none.
