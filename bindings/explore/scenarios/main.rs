@@ -14,6 +14,7 @@ mod growing;
 mod lanes;
 mod late;
 mod lock;
+mod misses;
 mod owned;
 mod pools;
 mod world;
@@ -43,6 +44,7 @@ fn all() -> Vec<Scenario> {
         pools::all(),
         clears::all(),
         lock::all(),
+        misses::all(),
     ];
     all.into_iter().flatten().collect()
 }

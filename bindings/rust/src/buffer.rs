@@ -3,10 +3,10 @@ use crate::clear::Clear;
 use crate::errors::{CreateError, MemoryRefused};
 use crate::key::Key;
 use crate::lane::Lane;
-use std::borrow::Borrow;
+use std::borrow::{Borrow, BorrowMut};
 use std::fmt;
 use std::io::{self, Read, Write};
-use std::ops::Deref;
+use std::ops::{Deref, DerefMut};
 
 /// A buffer of bytes, which is appended to by [`append`](Buffer::append), as an [`io::Write`] or as a [`fmt::Write`], or written to
 /// in place by [`room`](Buffer::room); it is read as a slice. It answers a refusal of memory, where a `Vec<u8>` ends the process
@@ -67,9 +67,20 @@ impl Buffer {
         self.bytes.truncate(self.len);
     }
 
-    /// Ends what was lent, and makes room for so many bytes more.
+    /// Takes memory for so many bytes more, where it has less. What [`room`](Buffer::room) lent ends.
+    ///
+    /// # Errors
+    ///
+    /// [`MemoryRefused`]: the bytes are then as before.
+    ///
+    /// ```
+    /// let mut bytes = pardz::Buffer::new();
+    /// bytes.reserve(100)?;
+    /// assert!(bytes.is_empty() && bytes.capacity() >= 100);
+    /// # Ok::<(), pardz::MemoryRefused>(())
+    /// ```
     #[inline]
-    fn reserve(&mut self, count: usize) -> Result<(), MemoryRefused> {
+    pub fn reserve(&mut self, count: usize) -> Result<(), MemoryRefused> {
         self.end_room();
         if self.bytes.capacity() - self.len < count {
             return grow(&mut self.bytes, count);
@@ -176,6 +187,37 @@ impl Deref for Buffer {
     #[inline]
     fn deref(&self) -> &[u8] {
         &self.bytes[..self.len()]
+    }
+}
+
+/// Its bytes are written in place: a `Buffer` is a `&mut [u8]`, as long as it is.
+///
+/// ```
+/// let mut bytes = pardz::Buffer::new();
+/// bytes.append(b"abc")?;
+/// bytes[1] = b'x';
+/// bytes.reverse();
+/// assert_eq!(bytes[..], *b"cxa");
+/// # Ok::<(), pardz::MemoryRefused>(())
+/// ```
+impl DerefMut for Buffer {
+    #[inline]
+    fn deref_mut(&mut self) -> &mut [u8] {
+        &mut self.bytes[..self.len]
+    }
+}
+
+impl AsMut<[u8]> for Buffer {
+    #[inline]
+    fn as_mut(&mut self) -> &mut [u8] {
+        self
+    }
+}
+
+impl BorrowMut<[u8]> for Buffer {
+    #[inline]
+    fn borrow_mut(&mut self) -> &mut [u8] {
+        self
     }
 }
 

@@ -17,7 +17,7 @@ use crate::reference::{OwnedRef, PoolRef};
 /// A pool of [`open`](Pool::open) has a lane more than its shape, which is shared: so no call is refused where all lanes are in hand. Its
 /// places are counted as its pages are opened. From 8 lanes on, more are shared as these calls need them: a quarter of all.
 ///
-/// A pool of 16 lanes has none more. Where all 16 are in hand, a create answers [`CreateError::NoLane`], and a get or a clear panics; where
+/// A pool of 64 lanes has none more. Where all 64 are in hand, a create answers [`CreateError::NoLane`], and a get or a clear panics; where
 /// one is at home, it is shared from then on.
 impl<T: Clear> Pool<T> {
     /// Begins an empty object, to be filled and published. Where the thread's own shard is full it goes to one of the shared lanes, and
@@ -26,7 +26,7 @@ impl<T: Clear> Pool<T> {
     /// # Errors
     ///
     /// [`CreateError::Full`] where no place is free, but in shards of other lanes that threads have; [`CreateError::Memory`] where memory was
-    /// refused; [`CreateError::NoLane`] where all lanes of a pool of 16 are in hand.
+    /// refused; [`CreateError::NoLane`] where all lanes of a pool of 64 are in hand.
     ///
     /// ```
     /// use pardz::{Buffer, Pool};
@@ -79,7 +79,7 @@ impl<T: Clear> Pool<T> {
     ///
     /// # Panics
     ///
-    /// Where the lane has 1,048,575 references, or all lanes of a pool of 16 are in hand.
+    /// Where the lane has 1,048,575 references, or all lanes of a pool of 64 are in hand.
     ///
     /// ```
     /// let pool = pardz::Pool::<String>::growing()?;

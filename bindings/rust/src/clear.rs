@@ -1,5 +1,7 @@
 //! What a type needs for its objects to be pooled.
 use std::collections::{BTreeMap, BTreeSet, BinaryHeap, HashMap, HashSet, VecDeque};
+use std::ffi::OsString;
+use std::path::PathBuf;
 use std::sync::{Mutex, PoisonError, RwLock};
 
 /// A type whose objects can be emptied in place, so that they keep their memory and are used again.
@@ -58,6 +60,20 @@ impl Clear for String {
     #[inline]
     fn clear(&mut self) {
         String::clear(self);
+    }
+}
+
+/// Keeps its capacity.
+impl Clear for OsString {
+    fn clear(&mut self) {
+        OsString::clear(self);
+    }
+}
+
+/// Keeps its capacity.
+impl Clear for PathBuf {
+    fn clear(&mut self) {
+        PathBuf::clear(self);
     }
 }
 
@@ -123,6 +139,26 @@ impl<T: Clear + ?Sized> Clear for RwLock<T> {
     }
 }
 
+macro_rules! clear_of_tuples {
+    ($(($($part:ident $number:tt),+))+) => {$(
+        /// Each part is emptied, the first at first.
+        impl<$($part: Clear),+> Clear for ($($part,)+) {
+            fn clear(&mut self) {
+                $(self.$number.clear();)+
+            }
+        }
+    )+};
+}
+
+clear_of_tuples! {
+    (A 0)
+    (A 0, B 1)
+    (A 0, B 1, C 2)
+    (A 0, B 1, C 2, D 3)
+    (A 0, B 1, C 2, D 3, E 4)
+    (A 0, B 1, C 2, D 3, E 4, F 5)
+}
+
 #[cfg(test)]
 mod tests {
     use super::*;
@@ -151,6 +187,18 @@ mod tests {
         Clear::clear(&mut heap);
         Clear::clear(&mut map);
         assert!(heap.is_empty() && map.is_empty());
+        let mut parts = (PathBuf::from("a/b"), OsString::from("c"), vec![1]);
+        let capacity = parts.0.capacity();
+        Clear::clear(&mut parts);
+        assert_eq!(parts, (PathBuf::new(), OsString::new(), Vec::new()));
+        assert_eq!(parts.0.capacity(), capacity);
+        let mut all = (vec![1], vec![2], vec![3], vec![4], vec![5], vec![6]);
+        Clear::clear(&mut all);
+        assert_eq!(all, Default::default());
+        let (mut one, mut two) = ((vec![1],), (vec![1], Some(2)));
+        Clear::clear(&mut one);
+        Clear::clear(&mut two);
+        assert_eq!((one, two), Default::default());
     }
 
     #[test]

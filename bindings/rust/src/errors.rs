@@ -36,7 +36,7 @@ pub enum CreateError {
     Full,
     /// Memory was refused.
     Memory,
-    /// The call was made without a lane, and all 16 lanes of the pool are in hand.
+    /// The call was made without a lane, and all 64 lanes of the pool are in hand.
     NoLane,
 }
 

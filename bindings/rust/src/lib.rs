@@ -91,7 +91,7 @@
 //!
 //! There are three ways to call, and each finds the keys of the others:
 //!
-//! - A [`Lane`] in hand ([`Pool::lane`]): for a fixed set of threads, 16 at most, and for calls that must be quickest or never wait. Its
+//! - A [`Lane`] in hand ([`Pool::lane`]): for a fixed set of threads, 64 at most, and for calls that must be quickest or never wait. Its
 //!   [`Filling`] and [`Ref`] borrow the lane.
 //! - The pool's own calls ([`Pool::get`] and its like): for threads that come and go, even while they exit. [`PoolFilling`] and [`PoolRef`]
 //!   borrow the pool.
@@ -101,11 +101,11 @@
 //! README compares them: what a get costs, which calls may wait for a lock, and where a create goes whose shard is full.
 //!
 //! No call is refused for want of a lane: a growing pool shares four of its 16 lanes, and a pool of [`Pool::open`] has a lane more than
-//! its shape for that. One of 16 lanes has none more: where all are in hand, a create answers [`CreateError::NoLane`], and a get or a
+//! its shape for that. One of 64 lanes has none more: where all are in hand, a create answers [`CreateError::NoLane`], and a get or a
 //! clear of the pool panics.
 //!
 //! A growing pool has up to 256 segments, each a pool of the proved kind with a tag of its own, by which a key tells its segment. The
-//! first has 16 * 32 places and takes less than 256 KiB; from the seventh on each has 16 * 4,032. All ways of calling find keys of
+//! first has 16 * 32 places and takes less than 256 KiB; from the sixth on each has 16 * 44,992. All ways of calling find keys of
 //! all segments.
 //!
 //! # A pool for the whole program
@@ -146,6 +146,8 @@
 //!   `src/object`. The others can't: what they get of these moves, so that a second release of a reference doesn't compile.
 //! - What the proofs take for granted: that all threads see the words of a pool read and written in one order (each step is sequentially
 //!   consistent); that no count goes beyond its bits; that the stack is large enough; that `usize` has 64 bits.
+//! - That a place whose word has another generation than a key has no object of that key any more, or not yet: so one load tells a get or
+//!   a clear that the key isn't there. (A word's generation grows alone, and the load stands in one order with all steps on it.)
 //! - That the allocator calls no pool while one is closed or dropped. In all other calls it may.
 //!
 //! What ties it to the proofs, at each run of the repository's tests: the translator writes the committed files again, and they are
@@ -155,7 +157,7 @@
 //! Indices are looked at, so that an error of the translator would end in a panic rather than in a wild access. The feature `unchecked`
 //! leaves these looks out.
 //!
-//! Not there: more than 16 lanes, that is threads without a lock at once; a `Ref` that goes to another lane, which gets its own by the
+//! Not there: more than 64 lanes, that is threads without a lock at once; a `Ref` that goes to another lane, which gets its own by the
 //! key.
 #![deny(missing_docs)]
 #![deny(unsafe_code)]
@@ -195,5 +197,5 @@ pub use errors::{CreateError, KeyError, MemoryRefused, OpenError};
 pub use filling::{Filling, OwnedFilling, PoolFilling};
 pub use key::Key;
 pub use lane::Lane;
-pub use pool::{Census, Pool, Shape};
+pub use pool::{Census, Growth, Pool, Shape};
 pub use reference::{OwnedRef, PoolRef, Ref};

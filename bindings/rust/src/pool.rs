@@ -1,16 +1,18 @@
 //! Pools.
 use crate::buffer::Buffer;
 use crate::clear::Clear;
-use crate::erased::{keybits, shardpool};
+use crate::erased::keybits::{self, GREATEST_TAG, MOST_LANES};
+use crate::erased::shardpool;
 use crate::errors::OpenError;
 use crate::lane::Lane;
-use crate::lanes::{Share, LANES};
+use crate::lanes::Share;
 use std::fmt;
 use std::sync::Arc;
 
 /// What a pool is opened with. [`Default`] has 4 lanes of 224 places each.
 ///
-/// Page `p` of a lane has `first_page << p` places, so a lane has `(first_page << pages) - first_page` in all.
+/// Page `p` of a lane has `first_page << p` places, but 4,096 at most. So a lane has `(first_page << pages) - first_page` in all, where no
+/// page has more than 4,096; and 44,992 in the largest shape, whose 64 lanes have 2.9 million.
 ///
 /// ```
 /// use pardz::{Pool, Shape};
@@ -22,11 +24,11 @@ use std::sync::Arc;
 /// ```
 #[derive(Clone, Copy, Debug, PartialEq, Eq)]
 pub struct Shape {
-    /// How many threads call at once: 1 to 16.
+    /// How many threads call at once: 1 to 64.
     pub lanes: u32,
     /// Places of a lane's first page: 1, 2, 4, 8, 16, 32 or 64.
     pub first_page: u32,
-    /// Pages of a lane: 1 to 6.
+    /// Pages of a lane: 1 to 16.
     pub pages: u32,
     /// How often a place is used before it is retired for good: from 1.
     pub last_generation: u32,
@@ -44,7 +46,7 @@ impl Shape {
             last_generation: self.last_generation,
             tag: self.tag,
         };
-        match shape.check() {
+        match shape.check_wide() {
             Ok(()) => Ok(shape),
             Err(_) => Err(OpenError::Shape),
         }
@@ -60,6 +62,79 @@ impl Default for Shape {
             last_generation: u32::MAX,
             tag: 0,
         }
+    }
+}
+
+/// How a pool grows, for other than [`Pool::growing`] has it.
+///
+/// ```
+/// use pardz::{CreateError, Growth, Pool};
+///
+/// // Two pools of one program, whose keys differ; each has 16 * (32 + 64) places at most.
+/// let growth = Growth::new().most_segments(2);
+/// let one: Pool<String> = growth.open()?;
+/// let other: Pool<String> = growth.first_tag(2).open()?;
+/// let key = one.put("abc")?;
+/// assert!(other.get(key).is_none());
+/// assert_ne!(other.put("abc")?, key);
+/// let full = (0..16 * (32 + 64)).find_map(|_| one.put("more").err());
+/// assert_eq!(full, Some(CreateError::Full));
+/// # Ok::<(), Box<dyn std::error::Error>>(())
+/// ```
+#[derive(Clone, Copy, Debug, PartialEq, Eq)]
+#[must_use = "it opens a pool by `open`"]
+pub struct Growth {
+    pub(crate) most_segments: u32,
+    pub(crate) first_tag: u32,
+    pub(crate) last_generation: u32,
+}
+
+impl Growth {
+    /// As [`Pool::growing`]: up to 256 segments, by the tags from 0 on, of places that are used 4,294,967,295 times.
+    pub const fn new() -> Growth {
+        Growth {
+            most_segments: GREATEST_TAG + 1,
+            first_tag: 0,
+            last_generation: u32::MAX,
+        }
+    }
+
+    /// With so many segments at most, from 1 on: behind them a create is refused.
+    pub const fn most_segments(self, most_segments: u32) -> Growth {
+        Growth {
+            most_segments,
+            ..self
+        }
+    }
+
+    /// With segments by the tags from this one on. A key has room for the tags 0 to 255.
+    pub const fn first_tag(self, first_tag: u32) -> Growth {
+        Growth { first_tag, ..self }
+    }
+
+    /// With places that are used so often before they are retired for good: from 1 on.
+    pub const fn last_generation(self, last_generation: u32) -> Growth {
+        Growth {
+            last_generation,
+            ..self
+        }
+    }
+
+    /// Opens a pool.
+    ///
+    /// # Errors
+    ///
+    /// [`OpenError::Shape`] where there is no segment, no generation, or a segment without a tag; [`OpenError::Memory`] where memory was
+    /// refused.
+    pub fn open<T: Clear>(self) -> Result<Pool<T>, OpenError> {
+        let (room, shape) = Share::open_growing(self)?;
+        Ok(Pool { room, shape })
+    }
+}
+
+impl Default for Growth {
+    fn default() -> Growth {
+        Growth::new()
     }
 }
 
@@ -81,6 +156,19 @@ pub struct Census {
 }
 
 impl Census {
+    /// All places.
+    ///
+    /// ```
+    /// use pardz::{Pool, Shape};
+    ///
+    /// let pool = Pool::<String>::open(Shape { lanes: 2, first_page: 8, pages: 3, ..Shape::default() })?;
+    /// assert_eq!(pool.census().total(), 2 * (8 + 16 + 32));
+    /// # Ok::<(), pardz::OpenError>(())
+    /// ```
+    pub fn total(&self) -> u32 {
+        self.free + self.unopened + self.filling + self.present + self.marked + self.retired
+    }
+
     /// With the places of a further segment.
     pub(crate) fn with(self, other: Census) -> Census {
         Census {
@@ -131,12 +219,12 @@ impl<T: Clear> Pool<T> {
     /// use pardz::{OpenError, Pool, Shape};
     ///
     /// let pool = Pool::<String>::open(Shape::default())?;
-    /// let wrong = Pool::<String>::open(Shape { lanes: 17, ..Shape::default() });
+    /// let wrong = Pool::<String>::open(Shape { lanes: 65, ..Shape::default() });
     /// assert_eq!(wrong.err(), Some(OpenError::Shape));
     /// # Ok::<(), OpenError>(())
     /// ```
     pub fn open(shape: Shape) -> Result<Pool<T>, OpenError> {
-        Pool::open_with(shape, shape.lanes < LANES)
+        Pool::open_with(shape, shape.lanes < MOST_LANES)
     }
 
     /// The same; with `one_more` it has a lane more than its shape, for calls without a lane.
@@ -151,7 +239,7 @@ impl<T: Clear> Pool<T> {
     /// want of memory, or at their end.
     ///
     /// It has 16 lanes, of which 12 may be kept by threads or taken in hand, and 4 are shared by all other threads. Its segments have
-    /// the tags from 0 on; it has 16 * 32 places at first, and 16 * 4,032 more with each of the later ones.
+    /// the tags from 0 on; it has 16 * 32 places at first, and 16 * 64, 192, 960, 12,224 and 44,992 more with those that follow.
     ///
     /// # Errors
     ///
@@ -167,13 +255,7 @@ impl<T: Clear> Pool<T> {
     /// # Ok::<(), Box<dyn std::error::Error>>(())
     /// ```
     pub fn growing() -> Result<Pool<T>, OpenError> {
-        Pool::growing_until(u32::MAX)
-    }
-
-    /// As `growing`, with this last generation of each place.
-    pub(crate) fn growing_until(last_generation: u32) -> Result<Pool<T>, OpenError> {
-        let (room, shape) = Share::open_growing(last_generation)?;
-        Ok(Pool { room, shape })
+        Growth::new().open()
     }
 
     /// A lane that nobody has, for as long as the pool is borrowed. `None` where all are taken.
@@ -241,6 +323,25 @@ impl<T: Clear> Pool<T> {
     /// ```
     pub fn census(&self) -> Census {
         self.room.census()
+    }
+
+    /// How many objects are published and not cleared, by a look at each place of an opened page, as [`census`](Pool::census).
+    ///
+    /// ```
+    /// let pool = pardz::Pool::<String>::growing()?;
+    /// assert!(pool.is_empty());
+    /// let key = pool.put("abc")?;
+    /// assert_eq!(pool.len(), 1);
+    /// assert!(pool.clear(key) && pool.is_empty());
+    /// # Ok::<(), Box<dyn std::error::Error>>(())
+    /// ```
+    pub fn len(&self) -> usize {
+        self.census().present as usize
+    }
+
+    /// Whether none is, likewise.
+    pub fn is_empty(&self) -> bool {
+        self.len() == 0
     }
 
     /// Closes the pool, drops its objects, and counts its places. A filling or a reference that was leaked ([`std::mem::forget`]) is

@@ -8,6 +8,7 @@ use std::cmp::Ordering;
 use std::fmt;
 use std::hash::{Hash, Hasher};
 use std::ops::Deref;
+use std::panic::{RefUnwindSafe, UnwindSafe};
 
 /// A reference to a published object. It is given back when it is dropped, on the thread of its lane.
 ///
@@ -103,6 +104,37 @@ impl<'p, T: Clear> PoolRef<'p, T> {
     pub fn try_clone(&self) -> Option<PoolRef<'p, T>> {
         Some(PoolRef::new(self.held.try_clone()?))
     }
+
+    /// An owned reference to the same object, by a get of the key, in place of this one. This one comes back where the key was cleared
+    /// meanwhile.
+    ///
+    /// # Errors
+    ///
+    /// Itself, where the key was cleared.
+    ///
+    /// # Panics
+    ///
+    /// As [`Pool::get_owned`](crate::Pool::get_owned).
+    ///
+    /// ```
+    /// use std::thread;
+    ///
+    /// let pool = pardz::Pool::<String>::growing()?;
+    /// let key = pool.put("abc")?;
+    /// let text = pool.get(key).expect("published").into_owned().expect("it isn't cleared");
+    /// let here = pool.get(key).expect("published");
+    /// assert!(pool.clear(key));
+    /// let here = here.into_owned().expect_err("it is cleared");
+    /// assert_eq!(*here, "abc");
+    /// thread::spawn(move || assert_eq!(*text, "abc")).join().expect("no panic");
+    /// # Ok::<(), Box<dyn std::error::Error>>(())
+    /// ```
+    pub fn into_owned(self) -> Result<OwnedRef<T>, PoolRef<'p, T>> {
+        match self.held.get_owned() {
+            Some(held) => Ok(OwnedRef::new(held)),
+            None => Err(self),
+        }
+    }
 }
 
 /// A reference with a share of the pool's memory: it may go to any thread, and is let go on whichever drops it. Where the pool is dropped
@@ -121,6 +153,15 @@ impl<'p, T: Clear> PoolRef<'p, T> {
 /// assert_eq!(slice, b"abc");
 /// # Ok::<(), Box<dyn std::error::Error>>(())
 /// ```
+///
+/// It may be used behind a panic that was caught, if `&T` may.
+///
+/// ```
+/// let pool = pardz::Pool::<String>::growing()?;
+/// let text = pool.get_owned(pool.put("abc")?).expect("published");
+/// assert!(std::panic::catch_unwind(move || assert_eq!(*text, "abc")).is_ok());
+/// # Ok::<(), Box<dyn std::error::Error>>(())
+/// ```
 pub struct OwnedRef<T: Clear = Buffer> {
     held: FarHeld<T>,
 }
@@ -136,6 +177,10 @@ impl<T: Clear> OwnedRef<T> {
         self.held.key()
     }
 }
+
+// What it has of the pool no panic leaves half done; the object it only reads.
+impl<T: Clear + RefUnwindSafe> UnwindSafe for OwnedRef<T> {}
+impl<T: Clear + RefUnwindSafe> RefUnwindSafe for OwnedRef<T> {}
 
 impl<T: Clear> Clone for OwnedRef<T> {
     fn clone(&self) -> Self {

@@ -41,6 +41,7 @@
 //! `Slab` with its entries and iterators. Of [`Config`], `MAX_THREADS`, `MAX_PAGES` and `INITIAL_PAGE_SIZE` are taken and not used.
 pub use crate::clear::Clear;
 use crate::key::Key;
+use crate::pool::Growth;
 use crate::{OwnedFilling, OwnedRef as OwnedItem, PoolFilling, PoolRef};
 use std::fmt;
 use std::marker::PhantomData;
@@ -160,7 +161,7 @@ impl<T: Clear + Default> Pool<T> {
     /// assert!(pool.get(key | 3 << 62).is_some());
     /// ```
     pub fn new_with_config<C: Config>() -> Pool<T, C> {
-        match crate::Pool::growing_until(last_generation::<C>()) {
+        match Growth::new().last_generation(last_generation::<C>()).open() {
             Ok(inner) => Pool {
                 inner: Arc::new(inner),
                 config: PhantomData,

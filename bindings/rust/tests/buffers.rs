@@ -42,7 +42,7 @@ fn wrong_shapes() {
             ..Shape::default()
         },
         Shape {
-            lanes: 17,
+            lanes: 65,
             ..Shape::default()
         },
         Shape {
@@ -62,7 +62,7 @@ fn wrong_shapes() {
             ..Shape::default()
         },
         Shape {
-            pages: 7,
+            pages: 17,
             ..Shape::default()
         },
         Shape {

@@ -67,7 +67,7 @@ fn an_object_is_empty_when_its_place_is_given_again() {
 #[test]
 fn wrong_shapes() {
     assert_eq!(
-        Pool::<String>::open(shape(17)).err(),
+        Pool::<String>::open(shape(65)).err(),
         Some(OpenError::Shape)
     );
     assert_eq!(

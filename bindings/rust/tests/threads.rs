@@ -228,11 +228,11 @@ fn all_lanes_in_hand() {
     calls_beside(&growing, &lanes);
 }
 
-/// A pool of 16 lanes has none more to share: where all are in hand, a create tells it, and other calls panic.
+/// A pool of 64 lanes has none more to share: where all are in hand, a create tells it, and other calls panic.
 #[test]
-fn all_sixteen_lanes_in_hand() {
-    let pool = Pool::<String>::open(shape(16, 2, 1)).unwrap();
-    let mut lanes: Vec<_> = (0..16).map(|_| pool.lane().unwrap()).collect();
+fn all_sixty_four_lanes_in_hand() {
+    let pool = Pool::<String>::open(shape(64, 2, 1)).unwrap();
+    let mut lanes: Vec<_> = (0..64).map(|_| pool.lane().unwrap()).collect();
     let key = lanes[0].put("x").unwrap();
     assert_eq!(pool.put("y").err(), Some(CreateError::NoLane));
     assert_eq!(pool.create_owned().err(), Some(CreateError::NoLane));

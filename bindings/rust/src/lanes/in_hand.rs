@@ -117,6 +117,10 @@ fn create_apart_in_any<'s, T: Clear + Default>(
     own: Own<'s, T, Near<'s, T>>,
     block: Block<T>,
 ) -> Result<Begun<'s, T, InHand<T>>, CreateError> {
+    if own.room().is_elsewhere(own.post().number()) {
+        own.put_away(block);
+        return create_further(own);
+    }
     match own.create_apart(block) {
         Err(CreateError::Full) => create_further(own),
         created => created,
@@ -208,7 +212,7 @@ impl<'l, T: Clear> Held<'l, T, InHand<T>> {
     pub(crate) fn try_clone(&self) -> Option<Spent<Held<'l, T, InHand<T>>>> {
         // SAFETY: a hand gave it, and is borrowed.
         let own = unsafe { Own::of(self.post()) };
-        let mut held = own.get_and_finish::<InHand<T>>(self.key())?;
+        let mut held = own.get_here::<InHand<T>>(self.key())?;
         held.way = self.way;
         Some(Spent::new(held))
     }

@@ -12,6 +12,8 @@
 //! | `close` | all lanes of the pool, each once | `Segment::end` takes the seats as `open` gave them; that the pool is ours alone then is told by `&mut`, for a lane in hand borrows it, or has a share of it, and by `Room::shares`, for a lane of owned handles has a share of its memory |
 //! | the trait of objects | a clear that empties, keeps the room, takes no memory and ends | `Object`, of which a clear moves one word |
 //!
+//! A get or a clear of a key that its segment [lacks](segment::Segment::lacks), as a load tells, makes no call.
+//!
 //! Outside of this module there are [`Hand`], a pool's [`Share`] of its [`Room`](room::Room), and what their calls give, all of which
 //! move: so that a filling is published once, and a reference is released once. None of its functions that are `pub(crate)` asks anything
 //! of its caller.
@@ -34,7 +36,6 @@ mod who;
 
 pub(crate) use far::{FarBegun, FarHeld};
 pub(crate) use in_hand::Hand;
-pub(crate) use room::LANES;
 pub(crate) use share::Share;
 pub(crate) use token::{Begun, Held, InHand, OfThread, Spent};
 

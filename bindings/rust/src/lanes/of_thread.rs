@@ -1,4 +1,5 @@
 //! Calls of a pool, and what they give: by the thread's lane, or by lanes that threads share.
+use super::far::FarHeld;
 use super::give_back::give_back;
 use super::own::{too_many, Own};
 use super::room::Room;
@@ -72,7 +73,10 @@ impl<T: Clear> Room<T> {
             if let Some(own) = own.filter(|own| !self.passes(own.post().number())) {
                 match own.create_in_any() {
                     Err(CreateError::Full) => (),
-                    created => return created,
+                    created => {
+                        // SAFETY: it is of the thread's own lane.
+                        return created.inspect(|begun| unsafe { self.had_place(begun.post()) });
+                    }
                 }
             }
             self.create_in_shared(|_| ())
@@ -94,7 +98,7 @@ impl<T: Clear> Room<T> {
     /// A get by a shared lane.
     #[inline(never)]
     fn get_by_shared(&self, key: Key) -> Option<Held<'_, T, OfThread>> {
-        let segment = self.segment_of(key)?;
+        let segment = self.segment_of(key).filter(|segment| !segment.lacks(key))?;
         self.by_shared(|number| segment.post(number).shared_get(key, |_| ()))
     }
 
@@ -107,10 +111,10 @@ impl<T: Clear> Room<T> {
     }
 
     /// A clear by a shared lane.
-    #[cold]
     #[inline(never)]
     fn clear_by_shared(&self, key: Key) -> bool {
-        let Some(segment) = self.segment_of(key) else {
+        let segment = self.segment_of(key).filter(|segment| !segment.lacks(key));
+        let Some(segment) = segment else {
             return false;
         };
         self.by_shared(|number| segment.post(number).shared_clear(key))
@@ -201,11 +205,16 @@ impl<'p, T: Clear> Held<'p, T, OfThread> {
     /// One reference more, by a get of the key.
     pub(crate) fn try_clone(&self) -> Option<Spent<Held<'p, T, OfThread>>> {
         let held = match self.way() {
-            Way::Own(own) => own.get_and_finish(self.key()),
+            Way::Own(own) => own.get_here(self.key()),
             // SAFETY: no thread has such a lane alone.
             Way::Shared(post) | Way::Left(post) => unsafe { post.locked_get(self.key()) },
         };
         held.map(Spent::new)
+    }
+
+    /// One more, for an owned handle, by a get of the key.
+    pub(crate) fn get_owned(&self) -> Option<FarHeld<T>> {
+        self.post().segment().room().get_owned(self.key())
     }
 }
 

@@ -175,21 +175,21 @@ impl<'s, T: Clear, P: Stands<'s, T>> Own<'s, T, P> {
         with_page(block, |block, ready| self.turn().create_apart(block, ready))
     }
 
-    /// The same, which says that the shard is full where another segment had a place last.
+    /// The same, which says that the shard is full where it was found full in all segments a while ago.
     #[cold]
     #[inline(never)]
     pub(super) fn create_apart_or_pass<W: By<T>>(
         self,
         block: Block<T>,
     ) -> Result<Begun<'s, T, W>, CreateError> {
-        if self.room().is_elsewhere(self.post().number()) {
+        if self.room().is_passed(self.post().number()) {
             self.turn().put_away(block);
             return Err(CreateError::Full);
         }
         self.create_apart(block)
     }
 
-    /// The lane in another segment, of which a key tells.
+    /// The lane in the segment of which a key tells, where that is another one.
     fn elsewhere(self, key: Key) -> Option<Own<'s, T>> {
         let segment = self.room().segment_of(key)?;
         if ptr::eq(segment, self.at.segment()) {
@@ -203,38 +203,37 @@ impl<'s, T: Clear, P: Stands<'s, T>> Own<'s, T, P> {
     /// A get of this segment.
     #[inline(always)]
     pub(super) fn get_here<W: By<T>>(self, key: Key) -> Option<Held<'s, T, W>> {
+        if self.at.segment().lacks(key) {
+            return None;
+        }
         match self.turn().get(key) {
-            Ok(got) => got,
+            Ok(Some(held)) => Some(held),
+            Ok(None) => {
+                self.finish_rare();
+                None
+            }
             Err(TooMany) => too_many(),
         }
-    }
-
-    /// A get of this segment alone, whose miss may have been the last to let go of something.
-    #[inline]
-    pub(super) fn get_and_finish<W: By<T>>(self, key: Key) -> Option<Held<'s, T, W>> {
-        let got = self.get_here(key);
-        if got.is_none() {
-            self.finish_rare();
-        }
-        got
     }
 
     /// A get that missed in this segment.
     #[inline(never)]
     pub(super) fn get_elsewhere<W: By<T>>(self, key: Key) -> Option<Held<'s, T, W>> {
-        self.finish_rare();
-        self.elsewhere(key)?.get_and_finish(key)
+        self.elsewhere(key)?.get_here(key)
     }
 
     /// A clear.
     #[inline(always)]
     pub(super) fn clear(self, key: Key) -> bool {
+        if self.at.segment().lacks(key) {
+            return self.clear_elsewhere(key);
+        }
         let cleared = self.turn().clear(key);
         self.finish();
-        cleared || self.clear_elsewhere(key)
+        cleared
     }
 
-    /// A clear that missed in this segment.
+    /// A clear of a key that this segment lacks.
     #[cold]
     #[inline(never)]
     fn clear_elsewhere(self, key: Key) -> bool {

@@ -2,20 +2,20 @@
 use super::lock::rest;
 use super::seat::Post;
 use super::segment::{row_for, Segment};
-use super::who::Lanes;
+use super::who::{first_bits, Lanes};
 use crate::clear::Clear;
-use crate::erased::keybits::{GREATEST_TAG, LARGEST_FIRST_PAGE, NARROW_LANES, NARROW_PAGES};
+use crate::erased::keybits::{tag_of, GREATEST_TAG, LARGEST_FIRST_PAGE, MOST_PAGES};
 use crate::errors::{CreateError, OpenError};
 use crate::key::Key;
 use crate::object::{Fixed, Later};
-use crate::pool::{Census, Shape};
+use crate::pool::{Census, Growth, Shape};
 use crate::sync::{AtomicU32, AtomicU64, AtomicUsize, Ordering};
 
-/// The most segments: a key has room for so many tags.
-const MOST_SEGMENTS: usize = GREATEST_TAG as usize + 1;
+/// The tags for which a key has room, and so the most segments.
+const TAGS: usize = GREATEST_TAG as usize + 1;
 
 /// The lanes of a growing pool, and those of them that are shared from the start.
-pub(crate) const LANES: u32 = NARROW_LANES;
+const LANES: u32 = 16;
 const SHARED: u32 = 4;
 
 /// How many creates pass by a lane that was found full in all segments: twice as many each time, since each look costs as many steps as
@@ -29,80 +29,107 @@ const MOST_LOOKS: u32 = 1000;
 pub(crate) struct Room<T: Clear> {
     /// Another for each pool of the process.
     id: u64,
-    first: Segment<T>,
-    /// The further segments, by their tag from 1; none where the pool doesn't grow.
-    more: Vec<Later<Segment<T>>>,
+    /// The segments, by the tag in each key of theirs.
+    segments: [Later<Segment<T>>; TAGS],
+    /// How it grows, where it does.
+    growth: Option<Growth>,
+    /// The tag of the first.
+    tag: usize,
     /// How many segments are open, and for how many threads have begun to.
     count: AtomicUsize,
     begun: AtomicUsize,
-    tag: usize,
-    last_generation: u32,
     pub(super) lanes: Lanes,
     /// How many have the pool's memory: it, and lanes of owned handles that outlive it.
     shares: AtomicUsize,
-    /// By lane: the segment that had a place last; how many creates still pass it by, and how many will when it is found full next.
-    hints: [AtomicUsize; LANES as usize],
-    passed: [AtomicU32; LANES as usize],
-    next_passed: [AtomicU32; LANES as usize],
+    /// By lane.
+    creates: Vec<Creates>,
 }
 
-/// The shape of the segment of this tag: each is larger than the one before, up to the largest.
-fn shape_of(tag: usize, last_generation: u32) -> Shape {
-    let tag = tag as u32;
-    let (first_page, pages) = match tag {
-        0 => (LARGEST_FIRST_PAGE / 2, 1),
-        _ => (LARGEST_FIRST_PAGE, tag.min(NARROW_PAGES)),
+/// Where creates of a lane go.
+struct Creates {
+    /// The segment that had a place last.
+    last: AtomicUsize,
+    /// How many creates still pass the lane by, and how many will when it is found full next.
+    passed: AtomicU32,
+    next_passed: AtomicU32,
+}
+
+impl Creates {
+    fn new() -> Creates {
+        Creates {
+            last: AtomicUsize::new(0),
+            passed: AtomicU32::new(0),
+            next_passed: AtomicU32::new(PASSED),
+        }
+    }
+}
+
+/// The shape of a segment, counted from the first: that is small, and each is larger than the one before, up to the widest, which is the
+/// sixth. (To open and close one takes time for each of its places.)
+fn shape_of(index: usize, growth: Growth) -> Shape {
+    let index = index as u32;
+    let (first_page, pages) = match index.checked_sub(1) {
+        None => (LARGEST_FIRST_PAGE / 2, 1),
+        Some(further) => (LARGEST_FIRST_PAGE, 1 << further.min(MOST_PAGES.ilog2())),
     };
     Shape {
         lanes: LANES,
         first_page,
         pages,
-        last_generation,
-        tag,
+        last_generation: growth.last_generation,
+        tag: growth.first_tag + index,
     }
+}
+
+fn open_segment<T: Clear>(shape: Shape) -> Result<Fixed<Segment<T>>, CreateError> {
+    let segment = Segment::open(shape, false).map_err(|_| CreateError::Memory)?;
+    Ok(Fixed::new(segment)?)
 }
 
 impl<T: Clear> Room<T> {
     /// A pool that doesn't grow. With `one_more` it has a lane more than its shape, which is shared.
     pub(super) fn open(shape: Shape, one_more: bool) -> Result<Fixed<Room<T>>, OpenError> {
-        Room::of(shape, one_more, 0, 0)
+        Room::of(shape, one_more, None, 0)
     }
 
     /// A pool that grows, and its first shape.
-    pub(super) fn open_growing(last_generation: u32) -> Result<(Fixed<Room<T>>, Shape), OpenError> {
-        let shape = shape_of(0, last_generation);
-        let shared = ((1 << SHARED) - 1) << (LANES - SHARED);
-        let room = Room::of(shape, false, MOST_SEGMENTS - 1, shared)?;
+    pub(super) fn open_growing(growth: Growth) -> Result<(Fixed<Room<T>>, Shape), OpenError> {
+        let tags = growth.first_tag as usize..TAGS;
+        if growth.most_segments == 0 || tags.len() < growth.most_segments as usize {
+            return Err(OpenError::Shape);
+        }
+        let shape = shape_of(0, growth);
+        let shared = first_bits(LANES) & !first_bits(LANES - SHARED);
+        let room = Room::of(shape, false, Some(growth), shared)?;
         Ok((room, shape))
     }
 
     fn of(
         shape: Shape,
         one_more: bool,
-        further: usize,
-        shared: u32,
+        growth: Option<Growth>,
+        shared: u64,
     ) -> Result<Fixed<Room<T>>, OpenError> {
         static NEXT: AtomicU64 = AtomicU64::new(1);
-        let first = Segment::open(shape, one_more)?;
-        let mut more = row_for(further)?;
-        more.resize_with(further, Later::new);
+        let first = Fixed::new(Segment::open(shape, one_more)?)?;
+        let mut creates = row_for(first.lanes() as usize)?;
+        creates.resize_with(first.lanes() as usize, Creates::new);
         let room = Fixed::new(Room {
             id: NEXT.fetch_add(1, Ordering::Relaxed),
             lanes: Lanes::new(first.lanes(), shared | first.untold_bits())?,
-            first,
-            more,
+            segments: [const { Later::new() }; TAGS],
+            growth,
+            tag: shape.tag as usize,
             count: AtomicUsize::new(1),
             begun: AtomicUsize::new(1),
-            tag: shape.tag as usize,
-            last_generation: shape.last_generation,
             shares: AtomicUsize::new(1),
-            hints: Default::default(),
-            passed: Default::default(),
-            next_passed: [const { AtomicU32::new(PASSED) }; LANES as usize],
+            creates,
         })?;
-        // SAFETY: the segment stands in the pool, which doesn't move, and ends with it.
-        unsafe { room.first.settle(room.pointer()) };
-        room.share_in(&room.first);
+        // SAFETY: the segment doesn't move any more, and ends with the pool, which doesn't move.
+        unsafe { first.settle(room.pointer()) };
+        room.share_in(&first);
+        let set = room.segments[room.tag].set(first);
+        debug_assert!(set.is_ok(), "it is the first");
         Ok(room)
     }
 
@@ -111,13 +138,8 @@ impl<T: Clear> Room<T> {
         self.id
     }
 
-    #[inline(always)]
-    pub(super) fn first(&self) -> &Segment<T> {
-        &self.first
-    }
-
     pub(super) fn grows(&self) -> bool {
-        !self.more.is_empty()
+        self.growth.is_some()
     }
 
     /// How many segments are open.
@@ -125,11 +147,13 @@ impl<T: Clear> Room<T> {
         self.count.load(Ordering::Acquire)
     }
 
+    /// A segment, counted from the first.
     pub(super) fn segment(&self, index: usize) -> Option<&Segment<T>> {
-        match index.checked_sub(1) {
-            None => Some(&self.first),
-            Some(further) => self.more.get(further)?.get(),
-        }
+        self.segments.get(self.tag + index)?.get()
+    }
+
+    pub(super) fn first(&self) -> &Segment<T> {
+        self.segment(0).expect("a pool has a segment")
     }
 
     pub(super) fn shares(&self) -> &AtomicUsize {
@@ -152,20 +176,21 @@ impl<T: Clear> Room<T> {
     }
 
     /// The segment of which a key's tag tells.
-    #[inline]
+    #[inline(always)]
     pub(super) fn segment_of(&self, key: Key) -> Option<&Segment<T>> {
-        let tag = (u64::from(key) >> 56) as usize;
-        self.segment(tag.checked_sub(self.tag)?)
+        self.segments[usize::from(tag_of(u64::from(key)))].get()
     }
 
     /// Opens a further segment, unless there are other than so many by now. Where another thread opens one, it waits a while for that:
     /// no longer, as that may run code of the program's allocator.
     pub(super) fn grow(&self, count: usize) -> Result<(), CreateError> {
-        let place = self.more.get(count - 1).ok_or(CreateError::Full)?;
+        let may_grow = |growth: &Growth| count < growth.most_segments as usize;
+        let growth = self.growth.filter(may_grow).ok_or(CreateError::Full)?;
+        let place = &self.segments[self.tag + count];
         if !self.begins(count) && self.waits_for_other(count) {
             return Ok(());
         }
-        let opened = self.open_further(count);
+        let opened = open_segment(shape_of(count, growth));
         if opened.is_err() {
             // (Others may try.)
             self.begun.store(count, Ordering::Relaxed);
@@ -176,7 +201,7 @@ impl<T: Clear> Room<T> {
                 return Some(segment);
             }
             // SAFETY: the segment doesn't move any more, and ends with the pool, whose pointer is the first one's.
-            unsafe { segment.settle_as(&self.first) };
+            unsafe { segment.settle_as(self.first()) };
             self.share_in(&segment);
             let not_used = place.set(segment).err();
             self.count.store(count + 1, Ordering::Release);
@@ -196,12 +221,6 @@ impl<T: Clear> Room<T> {
                 .begun
                 .compare_exchange(before, count + 1, relaxed, relaxed)
                 .is_ok()
-    }
-
-    fn open_further(&self, count: usize) -> Result<Fixed<Segment<T>>, CreateError> {
-        let segment = Segment::open(shape_of(count, self.last_generation), false)
-            .map_err(|_| CreateError::Memory)?;
-        Ok(Fixed::new(segment)?)
     }
 
     /// Waits while another thread opens a segment. Whether there are others now than so many.
@@ -225,9 +244,8 @@ impl<T: Clear> Room<T> {
         number: u32,
         create: impl Fn(Post<'r, T>) -> Result<F, CreateError>,
     ) -> Result<F, CreateError> {
-        let hint = &self.hints[number as usize];
-        let next = &self.next_passed[number as usize];
-        let (from, count) = (hint.load(Ordering::Relaxed), self.count());
+        let creates = &self.creates[number as usize];
+        let (from, count) = (creates.last.load(Ordering::Relaxed), self.count());
         for step in 0..count {
             let index = (from + step) % count;
             let Some(segment) = self.segment(index) else {
@@ -236,32 +254,39 @@ impl<T: Clear> Room<T> {
             match create(segment.post(number)) {
                 Err(CreateError::Full) => (),
                 created => {
-                    hint.store(index, Ordering::Relaxed);
-                    next.store(PASSED, Ordering::Relaxed);
+                    creates.last.store(index, Ordering::Relaxed);
+                    creates.next_passed.store(PASSED, Ordering::Relaxed);
                     return created;
                 }
             }
         }
-        let passed = next.load(Ordering::Relaxed);
-        self.passed[number as usize].store(passed, Ordering::Relaxed);
-        next.store((2 * passed).min(MOST_PASSED), Ordering::Relaxed);
+        let passed = creates.next_passed.load(Ordering::Relaxed);
+        creates.passed.store(passed, Ordering::Relaxed);
+        let next = (2 * passed).min(MOST_PASSED);
+        creates.next_passed.store(next, Ordering::Relaxed);
         Err(CreateError::Full)
     }
 
     /// The seat of a lane in the segment where it had its last place.
-    pub(super) fn last_post(&self, number: u32) -> Option<Post<'_, T>> {
-        let hint = self.hints[number as usize].load(Ordering::Relaxed);
-        Some(self.segment(hint)?.post(number))
+    pub(super) fn last_post(&self, number: u32) -> Post<'_, T> {
+        let last = self.creates[number as usize].last.load(Ordering::Relaxed);
+        let segment = self.segment(last);
+        segment.unwrap_or_else(|| self.first()).post(number)
     }
 
     /// Whether a lane had its last place in another segment than the first.
     pub(super) fn is_elsewhere(&self, number: u32) -> bool {
-        self.hints[number as usize].load(Ordering::Relaxed) != 0
+        self.creates[number as usize].last.load(Ordering::Relaxed) != 0
     }
 
-    /// Whether a create passes a lane by, since it was found full a while ago.
+    /// Whether creates pass a lane by, since it was found full a while ago.
+    pub(super) fn is_passed(&self, number: u32) -> bool {
+        self.creates[number as usize].passed.load(Ordering::Relaxed) > 0
+    }
+
+    /// Whether this create passes a lane by.
     pub(super) fn passes(&self, number: u32) -> bool {
-        let passed = &self.passed[number as usize];
+        let passed = &self.creates[number as usize].passed;
         let left = passed.load(Ordering::Relaxed);
         if left > 0 {
             passed.store(left - 1, Ordering::Relaxed);
@@ -271,8 +296,8 @@ impl<T: Clear> Room<T> {
 
     /// No lane is passed by any more.
     pub(super) fn look_again(&self) {
-        for passed in &self.passed {
-            passed.store(0, Ordering::Relaxed);
+        for creates in &self.creates {
+            creates.passed.store(0, Ordering::Relaxed);
         }
     }
 
@@ -283,14 +308,13 @@ impl<T: Clear> Room<T> {
 
     pub(super) fn close(self) -> Census {
         let Room {
-            first,
-            mut more,
+            mut segments,
             lanes,
             ..
         } = self;
         drop(lanes);
-        let further = more.iter_mut().filter_map(Later::take);
-        let further = further.map(|segment| segment.into_inner().close());
-        further.fold(first.close(), Census::with)
+        let open = segments.iter_mut().filter_map(Later::take);
+        let closed = open.map(|segment| segment.into_inner().close());
+        closed.fold(Census::default(), Census::with)
     }
 }

@@ -4,8 +4,9 @@ use super::segment::Segment;
 use super::turn::Turn;
 use super::ProvedLane;
 use crate::clear::Clear;
+use crate::erased::keybits;
 use crate::object::{Chain, Returned};
-use crate::sync::{self, AtomicU32};
+use crate::sync::{self, AtomicU32, Ordering};
 use std::cell::UnsafeCell;
 use std::marker::PhantomData;
 use std::mem::ManuallyDrop;
@@ -95,6 +96,12 @@ impl<T: Clear> Seat<T> {
             joint: UnsafeCell::new(Joint::default()),
             segment: UnsafeCell::new(ptr::null()),
         }
+    }
+
+    /// How many places the pages have that its lane opened.
+    pub(super) fn opened_places(&self, shape: &keybits::Shape) -> u32 {
+        let opened = self.opened.load(Ordering::Relaxed);
+        (0..opened).map(|page| shape.page_size(page)).sum()
     }
 
     /// Its segment stands where it stays.

@@ -2,12 +2,14 @@
 use super::room::Room;
 use super::seat::{Post, Seat};
 use super::turn::Call;
+use super::who::first_bits;
 use super::{ProvedLane, ProvedPool};
 use crate::clear::Clear;
-use crate::erased::keybits::{Life, Place, State};
-use crate::erased::poolsteps::life_word;
+use crate::erased::keybits::{self, generation_of, Life, State};
+use crate::erased::poolsteps::{life_word, Spot};
 use crate::erased::shardpool;
 use crate::errors::OpenError;
+use crate::key::Key;
 use crate::object::{self, Returned};
 use crate::pool::{Census, Shape};
 use crate::shim::{self, Global};
@@ -51,7 +53,7 @@ impl<T: Clear> Segment<T> {
             all_returned.push(returned);
         }
         let call = Call;
-        let opened = shardpool::open(Global, checked);
+        let opened = shardpool::open_wide(Global, checked);
         call.end();
         let (proved, mut lanes) = opened?;
         while let (Some(lane), Some(returned)) = (lanes.pop(), all_returned.pop()) {
@@ -114,8 +116,8 @@ impl<T: Clear> Segment<T> {
     }
 
     /// A bit for the lane that isn't of the pool's shape.
-    pub(super) fn untold_bits(&self) -> u32 {
-        (1 << self.lanes()) - (1 << self.told)
+    pub(super) fn untold_bits(&self) -> u64 {
+        first_bits(self.lanes()) & !first_bits(self.told)
     }
 
     /// The pool.
@@ -135,29 +137,51 @@ impl<T: Clear> Segment<T> {
         let shape = self.proved.shape();
         let untold = self.seats.iter().skip(self.told as usize);
         untold
-            .map(|seat| {
-                let opened = seat.opened.load(Ordering::Relaxed);
-                shape.shard_places() - ((shape.first_page << opened) - shape.first_page)
-            })
+            .map(|seat| shape.shard_places() - seat.opened_places(&shape))
             .sum()
+    }
+
+    /// Whether the segment has no object of this key, as loads tell: it is no key of it, or its place has a later generation.
+    #[inline(always)]
+    pub(super) fn lacks(&self, key: Key) -> bool {
+        let number = u64::from(key);
+        let Some(spot) = self.proved.find(number) else {
+            return true;
+        };
+        // (Where tests watch the steps, those of a miss are made.)
+        let word = self.proved.grid.table.shared.peek(self.life_of(spot));
+        let is_gone = !cfg!(pardz_trace) && (word >> 32) as u32 > generation_of(number);
+        if is_gone {
+            self.look_at(spot.place);
+        }
+        is_gone
+    }
+
+    /// Where the life word of a place stands. (Those of all stand side by side, so it is that of a position of the first shard.)
+    #[inline(always)]
+    fn life_of(&self, spot: Spot) -> usize {
+        life_word(&self.proved.grid.shape, 0, spot.start as usize)
+    }
+
+    /// A generation grows alone, so a key that is gone stays it. This load stands among the steps, and so does what is answered then. (It
+    /// is told the place, so that a get and its proved call find that alike, which the compiler sees.)
+    #[cold]
+    #[inline(never)]
+    fn look_at(&self, place: u32) {
+        let grid = &self.proved.grid;
+        grid.table.shared.look(self.life_of(grid.spot(place)));
     }
 
     /// What the places are now.
     pub(super) fn census(&self) -> Census {
-        let mut census = Census::default();
         let shape = self.proved.shape();
+        let mut census = Census::default();
         for (shard, seat) in self.seats.iter().enumerate() {
-            let opened = seat.opened.load(Ordering::Relaxed);
+            let (places, opened) = (shape.shard_places(), seat.opened_places(&shape));
+            let first = shard * places as usize;
             let mut idle = 0;
-            let places = shape.shard_places() as usize;
-            for position in shard * places..(shard + 1) * places {
-                let place = shape.place_at(position);
-                let word = life_word(&shape, place, position);
-                let life = Life::of_word(self.proved.grid.table.shared.peek(word));
-                match life.state {
-                    State::Idle if u32::from(Place::of_number(place).page) >= opened => {
-                        census.unopened += 1;
-                    }
+            for position in first..first + opened as usize {
+                match self.state_at(&shape, position) {
                     State::Idle => idle += 1,
                     State::Present => census.present += 1,
                     State::Marked => census.marked += 1,
@@ -167,9 +191,16 @@ impl<T: Clear> Segment<T> {
             let filling = seat.fillings.load(Ordering::Relaxed).min(idle);
             census.filling += filling;
             census.free += idle - filling;
+            census.unopened += places - opened;
         }
         census.unopened -= self.untold().min(census.unopened);
         census
+    }
+
+    /// What the place of this position is now.
+    fn state_at(&self, shape: &keybits::Shape, position: usize) -> State {
+        let word = life_word(shape, shape.place_at(position), position);
+        Life::of_word(self.proved.grid.table.shared.peek(word)).state
     }
 
     /// Closes the pool. No lane is out, for each borrows the pool, or has a share of it.

@@ -4,7 +4,7 @@ use super::seat::Post;
 use crate::clear::Clear;
 use crate::errors::OpenError;
 use crate::object::Fixed;
-use crate::pool::{Census, Shape};
+use crate::pool::{Census, Growth, Shape};
 use crate::sync::Ordering;
 use std::mem::ManuallyDrop;
 use std::ops::Deref;
@@ -20,8 +20,8 @@ impl<T: Clear> Share<T> {
     }
 
     /// Opens a pool that grows, whose first shape it tells.
-    pub(crate) fn open_growing(last_generation: u32) -> Result<(Share<T>, Shape), OpenError> {
-        let (room, shape) = Room::open_growing(last_generation)?;
+    pub(crate) fn open_growing(growth: Growth) -> Result<(Share<T>, Shape), OpenError> {
+        let (room, shape) = Room::open_growing(growth)?;
         Ok((Share(ManuallyDrop::new(room)), shape))
     }
 

@@ -14,7 +14,7 @@ impl<T: Clear> Room<T> {
         loop {
             match call(self.shared_number()) {
                 Ok(answer) => return answer,
-                Err(NotShared) => threads::unset_last_shared(),
+                Err(NotShared) => threads::unset_last_shared(self.id()),
             }
         }
     }
@@ -29,8 +29,7 @@ impl<T: Clear> Room<T> {
         T: Default,
     {
         let number = threads::last_shared(self.id())?;
-        let post = self.last_post(number)?;
-        post.shared_create(come).ok()?.ok()
+        self.last_post(number).shared_create(come).ok()?.ok()
     }
 
     /// A create by any of the shared lanes, in any segment.

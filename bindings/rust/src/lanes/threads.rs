@@ -19,18 +19,22 @@ struct Kept(RefCell<Vec<Entry>>);
 impl Drop for Kept {
     fn drop(&mut self) {
         ENDED.set(true);
-        LAST.set((0, ptr::null()));
+        LAST.with(|all| all.iter().for_each(|one| one.set((0, ptr::null()))));
         for Entry { number, homes, .. } in self.0.take() {
             homes.leave(number);
         }
     }
 }
 
+/// Of how many pools a thread knows at once which lane is its own, and which shared one it called last.
+const POOLS: usize = 8;
+
 thread_local! {
-    /// The pool that was called last by a lane of the thread, and where that lane's seat stands.
-    static LAST: Cell<(u64, *const ())> = const { Cell::new((0, ptr::null())) };
-    /// The pool that was called last by a shared lane, and its number.
-    static LAST_SHARED: Cell<(u64, u32)> = const { Cell::new((0, 0)) };
+    /// By the last digit of a pool's number: the pool, and where the seat stands of the thread's lane that had a place last; null where it
+    /// found none, and shares.
+    static LAST: [Cell<(u64, *const ())>; POOLS] = const { [const { Cell::new((0, ptr::null())) }; POOLS] };
+    /// Likewise: the pool, and the number of the shared lane that the thread called last.
+    static LAST_SHARED: [Cell<(u64, u32)>; POOLS] = const { [const { Cell::new((0, 0)) }; POOLS] };
     /// Whether the thread has left its lanes.
     static ENDED: Cell<bool> = const { Cell::new(false) };
     /// Which of the shared lanes is the thread's first choice.
@@ -38,10 +42,10 @@ thread_local! {
     static KEPT: Kept = const { Kept(RefCell::new(Vec::new())) };
 }
 
-/// Where the seat of the thread's lane of this pool stands, if it called it last.
+/// Where the seat stands of the thread's lane of this pool that had a place last, or null where it shares; if that is known.
 #[inline(always)]
 pub(super) fn last(pool: u64) -> Option<*const ()> {
-    let (last, at) = LAST.get();
+    let (last, at) = LAST.with(|all| all[pool as usize % POOLS].get());
     (last == pool).then_some(at)
 }
 
@@ -49,23 +53,28 @@ pub(super) fn last(pool: u64) -> Option<*const ()> {
 ///
 /// The thread keeps the lane of this seat, in the pool of this number.
 pub(super) unsafe fn set_last(pool: u64, at: *const ()) {
-    LAST.set((pool, at));
+    LAST.with(|all| all[pool as usize % POOLS].set((pool, at)));
 }
 
-/// The shared lane of this pool that the thread chose, if it called it last by such a one.
+/// The thread has no lane of this pool.
+pub(super) fn set_shares(pool: u64) {
+    LAST.with(|all| all[pool as usize % POOLS].set((pool, ptr::null())));
+}
+
+/// The shared lane of this pool that the thread called last, where that is known.
 #[inline(always)]
 pub(super) fn last_shared(pool: u64) -> Option<u32> {
-    let (last, number) = LAST_SHARED.get();
+    let (last, number) = LAST_SHARED.with(|all| all[pool as usize % POOLS].get());
     (last == pool).then_some(number)
 }
 
 pub(super) fn set_last_shared(pool: u64, number: u32) {
-    LAST_SHARED.set((pool, number));
+    LAST_SHARED.with(|all| all[pool as usize % POOLS].set((pool, number)));
 }
 
 /// The lane isn't shared any more.
-pub(super) fn unset_last_shared() {
-    LAST_SHARED.set((0, 0));
+pub(super) fn unset_last_shared(pool: u64) {
+    LAST_SHARED.with(|all| all[pool as usize % POOLS].set((0, 0)));
 }
 
 /// Whether the thread has left its lanes: it runs the last drops of its thread-locals.

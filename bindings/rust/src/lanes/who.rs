@@ -10,7 +10,8 @@ use super::threads;
 use crate::clear::Clear;
 use crate::errors::{MemoryRefused, OpenError};
 use crate::object::Counted;
-use crate::sync::{AtomicBool, AtomicU32, Mutex, Ordering};
+use crate::sync::{AtomicBool, AtomicU64, Mutex, Ordering};
+use std::iter;
 use std::ptr::NonNull;
 use std::sync::PoisonError;
 
@@ -23,7 +24,7 @@ impl Number {
         self.0
     }
 
-    fn bit(&self) -> u32 {
+    fn bit(&self) -> u64 {
         1 << self.0
     }
 }
@@ -32,7 +33,7 @@ impl Number {
 #[derive(Default)]
 pub(super) struct Homes {
     /// A bit for each lane whose thread has ended.
-    left: AtomicU32,
+    left: AtomicU64,
     /// Whether the pool is closed.
     closed: AtomicBool,
 }
@@ -60,11 +61,11 @@ impl Drop for Told {
 /// Who has the lanes of a pool.
 pub(super) struct Lanes {
     /// A bit for each lane that nobody has.
-    home: AtomicU32,
+    home: AtomicU64,
     /// A bit for each lane that is shared.
-    shared: AtomicU32,
+    shared: AtomicU64,
     /// Those of them that are so from the start, and stay it.
-    always: u32,
+    always: u64,
     /// How many are shared where calls need it: a quarter, and one at least.
     few: u32,
     /// Who takes lanes that were left, shares one or takes it back, or puts a segment in its place.
@@ -74,17 +75,23 @@ pub(super) struct Lanes {
 
 impl Lanes {
     /// So many, of which these are shared.
-    pub(super) fn new(count: u32, shared: u32) -> Result<Lanes, OpenError> {
+    pub(super) fn new(count: u32, shared: u64) -> Result<Lanes, OpenError> {
         let homes = Counted::new(Homes::default());
         let homes = homes.map_err(|MemoryRefused| OpenError::Memory)?;
         Ok(Lanes {
-            home: AtomicU32::new(((1 << count) - 1) & !shared),
-            shared: AtomicU32::new(shared),
+            home: AtomicU64::new(first_bits(count) & !shared),
+            shared: AtomicU64::new(shared),
             always: shared,
             few: (count / 4).max(1),
             lock: Mutex::new(()),
             homes: Told(homes),
         })
+    }
+
+    /// Whether no lane is at home, or left.
+    fn none_is_home(&self) -> bool {
+        let left = self.homes.0.left.load(Ordering::Relaxed);
+        left == 0 && self.home.load(Ordering::Relaxed) == 0
     }
 
     fn are_many_shared(&self) -> bool {
@@ -93,7 +100,7 @@ impl Lanes {
 
     /// Takes a lane that is at home.
     fn take_home(&self) -> Option<Number> {
-        let take = |home: u32| (home != 0).then(|| home & (home - 1));
+        let take = |home: u64| (home != 0).then(|| home & (home - 1));
         let home = self
             .home
             .fetch_update(Ordering::SeqCst, Ordering::SeqCst, take);
@@ -117,14 +124,18 @@ impl<T: Clear> Room<T> {
     /// Which way the thread calls the pool. Its first call finds it a lane.
     #[inline(always)]
     pub(super) fn caller(&self) -> Caller<'_, T> {
-        match threads::last(self.id()) {
-            Some(at) => {
+        let Some(at) = threads::last(self.id()) else {
+            return self.find_caller();
+        };
+        match NonNull::new(at.cast_mut().cast()) {
+            Some(seat) => {
                 // SAFETY: `set_last` was told that the thread keeps the lane of this seat, of the pool of this number, which is borrowed.
                 // Where the thread has left it, it isn't found here any more.
-                let post = unsafe { Post::at(NonNull::new_unchecked(at.cast_mut().cast())) };
+                let post = unsafe { Post::at(seat) };
                 // SAFETY: as above.
                 Caller::Own(unsafe { Own::of(post) })
             }
+            None if self.lanes.none_is_home() => Caller::Sharing,
             None => self.find_caller(),
         }
     }
@@ -133,13 +144,25 @@ impl<T: Clear> Room<T> {
     #[inline(never)]
     fn find_caller(&self) -> Caller<'_, T> {
         let Some(number) = self.thread_number() else {
+            threads::set_shares(self.id());
             return Caller::Sharing;
         };
-        let post = self.first().post(number);
+        let post = self.last_post(number);
         // SAFETY: the thread keeps the lane of this number.
-        unsafe { threads::set_last(self.id(), post.pointer().as_ptr().cast_const().cast()) };
+        unsafe { self.had_place(post) };
         // SAFETY: as above.
         Caller::Own(unsafe { Own::of(post) })
+    }
+
+    /// The thread's lane had a place last in the segment of this seat.
+    ///
+    /// # Safety
+    ///
+    /// The thread keeps the lane of this seat.
+    pub(super) unsafe fn had_place(&self, post: Post<'_, T>) {
+        let at = post.pointer().as_ptr().cast_const().cast();
+        // SAFETY: the caller's, and it is of this pool.
+        unsafe { threads::set_last(self.id(), at) };
     }
 
     /// The lane that the thread keeps, or is to keep from now on. None where it shares.
@@ -148,10 +171,8 @@ impl<T: Clear> Room<T> {
             return Some(number);
         }
         let lanes = &self.lanes;
-        let left = lanes.homes.0.left.load(Ordering::Relaxed);
-        let none_is_home = left == 0 && lanes.home.load(Ordering::Relaxed) == 0;
         let is_first = threads::last_shared(self.id()).is_none();
-        if threads::has_ended() || none_is_home && !(is_first && lanes.are_many_shared()) {
+        if threads::has_ended() || lanes.none_is_home() && !(is_first && lanes.are_many_shared()) {
             return None;
         }
         self.welcome_back();
@@ -263,7 +284,7 @@ impl<T: Clear> Room<T> {
         // (Calls that choose a lane choose others meanwhile.)
         self.lanes
             .shared
-            .fetch_and(!(1 << number), Ordering::SeqCst);
+            .fetch_and(!Number(number).bit(), Ordering::SeqCst);
         // SAFETY: it is shared.
         let owned = self
             .posts_of(number)
@@ -275,7 +296,7 @@ impl<T: Clear> Room<T> {
         None
     }
 
-    /// The numbers of the shared lanes, from the thread's own choice on. None where there is none: all 16 lanes are in hand.
+    /// The numbers of the shared lanes, from the thread's own choice on. None where there is none: all lanes are in hand.
     pub(super) fn shared_numbers(&self) -> Option<impl Iterator<Item = u32>> {
         if self.lanes.shared.load(Ordering::SeqCst) == 0 {
             self.welcome_back();
@@ -303,13 +324,23 @@ impl<T: Clear> Room<T> {
     #[inline(never)]
     fn choose_shared(&self) -> u32 {
         let first = self.shared_numbers().and_then(|mut numbers| numbers.next());
-        let number = first.expect("all 16 lanes of the pool are in hand");
+        let number = first.expect("all lanes of the pool are in hand");
         threads::set_last_shared(self.id(), number);
         number
     }
 }
 
+/// The bits of so many lanes, from the first on.
+pub(super) fn first_bits(count: u32) -> u64 {
+    u64::MAX.checked_shr(u64::BITS - count).unwrap_or(0)
+}
+
 /// The numbers of the bits of a word.
-fn bits(word: u32) -> impl Iterator<Item = u32> {
-    (0..u32::BITS).filter(move |number| word >> number & 1 == 1)
+fn bits(word: u64) -> impl Iterator<Item = u32> {
+    let mut left = word;
+    iter::from_fn(move || {
+        let number = (left != 0).then(|| left.trailing_zeros());
+        left &= left.wrapping_sub(1);
+        number
+    })
 }

@@ -80,7 +80,7 @@ pub(crate) struct Later<V> {
 }
 
 impl<V> Later<V> {
-    pub(crate) fn new() -> Later<V> {
+    pub(crate) const fn new() -> Later<V> {
         Later {
             at: AtomicPtr::new(ptr::null_mut()),
             owns: PhantomData,

@@ -186,18 +186,18 @@ impl<T> Index<usize> for Vec<T> {
 
     #[inline(always)]
     fn index(&self, index: usize) -> &T {
-        check!(index < self.items.len());
-        // SAFETY: the index is in range: it was looked at, or is proved.
-        unsafe { self.items.get_unchecked(index) }
+        check!(mem::size_of::<T>() == 0 || index < self.items.len());
+        // SAFETY: the index is in range: it was looked at, or is proved, or the values have no bytes.
+        unsafe { &*self.items.as_ptr().add(index) }
     }
 }
 
 impl<T> IndexMut<usize> for Vec<T> {
     #[inline(always)]
     fn index_mut(&mut self, index: usize) -> &mut T {
-        check!(index < self.items.len());
-        // SAFETY: the index is in range: it was looked at, or is proved.
-        unsafe { self.items.get_unchecked_mut(index) }
+        check!(mem::size_of::<T>() == 0 || index < self.items.len());
+        // SAFETY: the index is in range: it was looked at, or is proved, or the values have no bytes.
+        unsafe { &mut *self.items.as_mut_ptr().add(index) }
     }
 }
 
@@ -397,8 +397,8 @@ impl<T> Slots<T> {
 
     #[inline]
     fn spot(&self, index: usize) -> *mut T {
-        check!(index < self.count);
-        // SAFETY: the index is in range: it was looked at, or is proved.
+        check!(mem::size_of::<T>() == 0 || index < self.count);
+        // SAFETY: the index is in range: it was looked at, or is proved, or the values have no bytes.
         unsafe { self.at.add(index) }
     }
 
