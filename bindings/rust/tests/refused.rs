@@ -281,6 +281,43 @@ fn without_lanes() {
 }
 
 /// The thread keeps two blocks until it ends: the list of its lanes, and a word of the pool that it called last.
+/// A place keeps the memory of its object.
+#[test]
+fn the_next_filling_of_a_place_takes_no_memory() {
+    let shape = Shape {
+        lanes: 1,
+        first_page: 1,
+        pages: 1,
+        ..SHAPE
+    };
+    let pool = Pool::<Buffer>::open(shape).expect("memory for a pool");
+    let lane = pool.lane().expect("a lane");
+    let mut filling = lane.create().expect("a place");
+    filling.append(&[1; 4096]).expect("memory for the bytes");
+    assert!(lane.clear(filling.publish()));
+    let mut filling = takes_none(|| lane.create()).expect("the same place");
+    assert!(filling.is_empty());
+    takes_none(|| filling.append(&[2; 4096])).expect("the room of the first");
+}
+
+/// A create that is refused the memory for a page goes on where there is some.
+#[test]
+fn a_page_is_opened_when_there_is_memory() {
+    let shape = Shape {
+        lanes: 1,
+        tag: 0,
+        ..SHAPE
+    };
+    let pool = Pool::<Buffer>::open(shape).expect("memory for a pool");
+    let lane = pool.lane().expect("a lane");
+    let first = [lane.create(), lane.create()].map(|it| it.expect("a place of the first page"));
+    GRANTED.set(0);
+    assert!(matches!(tried(|| lane.create()), Err(CreateError::Memory)));
+    let filling = lane.create().expect("a place of the second page");
+    assert_eq!(u64::from(filling.key()), 16_781_312);
+    drop((first, filling));
+}
+
 #[test]
 fn each_request_of_calls_without_a_lane_is_refused() {
     let tried = (0..).take_while(|granted| {
