@@ -1,7 +1,7 @@
 //! A lane of a store that a caller has for a while.
 use crate::lent::Lent;
 use poolhandle::CountingLane;
-use shardpool::{CreateFault, MOST_REFERENCES, Note, Pool};
+use shardpool::{CreateFault, Filling, MOST_REFERENCES, Note, Pool};
 use slotcell::Clear;
 use std::mem;
 
@@ -16,8 +16,8 @@ impl<T: Clear + Drop> Visit<T> {
     ghost use mathlib.Core.List.{IsPrefix};
     ghost use Rattle.seqpool.specs.Histories.{PublishedAt};
     ghost use Rattle.steplaws.specs.Facts.{most_references};
-    ghost use Rattle.shardpool.specs.Lanes.{Owns, Issued, holds, refs};
-    ghost use Rattle.shardpool.specs.AfterCalls.{AfterGet, AfterReleaseKey, AfterClear};
+    ghost use Rattle.shardpool.specs.Lanes.{Owns, Issued, Made, holds, refs};
+    ghost use Rattle.shardpool.specs.AfterCalls.{KeepsFillings, AfterCreate, AfterPublish, AfterDowngrade, AfterReleaseKey, AfterClear};
     ghost use Rattle.lanestore.specs.Visits.{lane_of, Hears, Tells, Lends, Puts};
 
     /// The number of the lane.
@@ -34,19 +34,21 @@ impl<T: Clear + Drop> Visit<T> {
         self.lane.lane().refs() < MOST_REFERENCES
     }
 
-    /// Takes in a note.
-    pub(crate) fn hear(&mut self, pool: &Pool<T>, note: Note<T>)
+    /// Takes in a note, as `Pool::hear`: of another thread, beside the one with which the lane was taken.
+    pub fn hear(&mut self, pool: &Pool<T>, note: Note<T>)
         requires owns { Owns pool.now (lane_of self.old) }
         requires note { Issued pool.now note }
-        ensures { Hears pool.now note (lane_of self.old) (lane_of self.new) }
+        ensures hears { Hears pool.now note (lane_of self.old) (lane_of self.new) }
+        ensures fillings { KeepsFillings T (lane_of self.old) (lane_of self.new) }
     {
         self.lane.hear(pool, note);
     }
 
-    /// A note of all that the lane has seen.
-    pub(crate) fn tell(&mut self, pool: &Pool<T>) -> Note<T>
+    /// A note of all that the lane has seen, as `Pool::tell`: for another thread, while the lane is had.
+    pub fn tell(&mut self, pool: &Pool<T>) -> Note<T>
         requires { Owns pool.now (lane_of self.old) }
-        ensures { Tells pool.now (lane_of self.old) (lane_of self.new) result }
+        ensures tells { Tells pool.now (lane_of self.old) (lane_of self.new) result }
+        ensures fillings { KeepsFillings T (lane_of self.old) (lane_of self.new) }
     {
         self.lane.tell(pool)
     }
@@ -97,6 +99,39 @@ impl<T: Clear + Drop> Visit<T> {
         ensures { AfterClear T pool.now key (lane_of self.old) (lane_of self.new) result }
     {
         self.lane.clear(pool, key)
+    }
+
+    /// As `Pool::create`: a place to be filled, and published by `publish` or `downgrade` while the lane is had. A filling
+    /// that is kept beyond can't be published any more.
+    pub fn create(&mut self, pool: &Pool<T>) -> Result<Filling<T>, CreateFault>
+        requires owns { Owns pool.now (lane_of self.old) }
+        ensures { AfterCreate T.content T.room pool.now (lane_of self.old) (lane_of self.new) result }
+    {
+        self.lane.create(pool)
+    }
+
+    /// As `Pool::publish`.
+    pub fn publish(&mut self, pool: &Pool<T>, filling: Filling<T>) -> u64
+        requires owns { Owns pool.now (lane_of self.old) }
+        requires made { Made (lane_of self.old) filling }
+        ensures { AfterPublish T.content T.room pool.now filling (lane_of self.old) (lane_of self.new) result }
+    {
+        self.lane.publish(pool, filling)
+    }
+
+    /// As `Pool::downgrade`: the lane keeps the reference for the caller.
+    pub fn downgrade(&mut self, pool: &Pool<T>, filling: Filling<T>) -> Lent
+        requires owns { Owns pool.now (lane_of self.old) }
+        requires made { Made (lane_of self.old) filling }
+        requires room { refs (lane_of self.old) < most_references }
+        ensures downgrades { AfterDowngrade T.content T.room pool.now filling (lane_of self.old) (lane_of self.new) (record { key = result.key }) }
+        ensures lane { result.lane ≡ (lane_of self.old).number }
+    {
+        let lane = self.number();
+        let reference = self.lane.downgrade(pool, filling);
+        let key = reference.key();
+        reference.forget();
+        Lent { lane, key }
     }
 
     /// Publishes this object in a place of its own: a create and a publish. Answers the key. The object of the place,
