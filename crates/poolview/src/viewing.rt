@@ -118,7 +118,7 @@ fn end_by_viewing<R: Files + AllocGlobal, I: Read, O: Write, E: Write>(
     errors: &mut Watched<E>,
 ) -> u8
     requires { out.old.failed ≡ false }
-    ensures { EndsAsked O.contents E.contents explain (I.remaining input.old) viewing out.old out.new errors.old errors.new result }
+    ensures { EndsAsked O.contents E.contents explain (I.remaining input.old) viewing.entry out.old out.new errors.old errors.new result }
 {
     match viewing {
         Ok(viewing) => end_by_view(rt, &viewing, explain, input, out, errors),

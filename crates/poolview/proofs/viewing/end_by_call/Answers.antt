@@ -1,6 +1,7 @@
 use Rattle.std.proofs.Common.{◌≡◌, ◌∙◌, ℕ, Bool, List, Option, IfOk, IfErr, String, map, codes, string_bytes, ap, subst}
 use Rattle.std.specs.declared.alloc.Global.{Global}
 use Rattle.commandline.specs.Hints.{Hints, hint_text, is_due, is_hinted}
+use Rattle.commandline.specs.Readings.{text_of}
 use Rattle.commandline.specs.ViewLines.{AreViewWordsOf}
 use Rattle.commandline.specs.ViewMistakes.{RefusesViewWords, IsViewExplained}
 use Rattle.commandline.specs.Wishes.{command_in, is_wanted}
@@ -26,7 +27,16 @@ returns g c =
     let told : c.is_hinted-hinted.result ≡ is_hinted hints (is_due viewing) wanted status =
     c.is_hinted-hinted.ensures
     ∙ ap (λ (due : Bool). is_hinted hints due c.is_wanted-explain.result status) c.is_due-due.ensures
-    ∙ ap (λ (explain : Bool). is_hinted hints (is_due viewing) explain status) c.is_wanted-explain.ensures in record {
+    ∙ ap (λ (explain : Bool). is_hinted hints (is_due viewing) explain status) c.is_wanted-explain.ensures in
+    let hinted = is_hinted hints (is_due viewing) wanted status in
+    let name = text_of c.command.result in
+    let path = text_of c.file_of-file.result in
+    let first : Hints errors hinted (hint_text (codes "poolview") name path) middle after =
+    subst (λ (is : Bool). Hints errors is (hint_text (codes "poolview") name path) middle after) told c.hint.ensures in
+    let second : Hints errors hinted (hint_text (codes "poolview") command path) middle after =
+    subst (λ (named : Option (List ℕ)). Hints errors hinted (hint_text (codes "poolview") named path) middle after) c.command.ensures first in
+    let last : Hints errors hinted (hint_text (codes "poolview") command (file_of viewing)) middle after =
+    subst (λ (file : Option (List ℕ)). Hints errors hinted (hint_text (codes "poolview") command file) middle after) c.file_of-file.ensures second in record {
       viewing = viewing;
       flag = flag;
       asked = subst (λ (words : List (String Global)). IfOk viewing (AreViewWordsOf (map string_bytes words))) same asked.ensures.ok;
@@ -34,7 +44,5 @@ returns g c =
       flagged = subst (λ (words : List (String Global)). IsViewExplained (map string_bytes words) flag viewing) same asked.ensures.explain;
       middle = middle;
       ends = subst (λ (explain : Bool). EndsAsked contents errors explain left viewing c.args.out.now ends.new.out c.args.errors.now middle status) c.is_wanted-explain.ensures ends.ensures;
-      hinted = subst (λ (file : Option (List ℕ)). Hints errors (is_hinted hints (is_due viewing) wanted status) (hint_text (codes "poolview") command file) middle after) c.file_of-file.ensures
-          (subst (λ (name : Option (List ℕ)). Hints errors (is_hinted hints (is_due viewing) wanted status) (hint_text (codes "poolview") name _) middle after) c.command.ensures
-          (subst (λ (is : Bool). Hints errors is (hint_text (codes "poolview") _ _) middle after) told c.hint.ensures));
+      hinted = last;
     }
