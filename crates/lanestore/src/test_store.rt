@@ -1,5 +1,8 @@
 // What no clause says: a lane that was given back is there again, a call is busy only where all lanes are had, and what
 // one thread puts another finds.
+ghost use Rattle.std.specs.Prelude.{◌≡◌};
+ghost use Rattle.shardpool.specs.Lanes.{Issued};
+
 use crate::Store;
 use keybits::Shape;
 use shardpool::Note;
@@ -17,7 +20,9 @@ const SHAPE: Shape = Shape {
 };
 
 // Whether all lanes are had.
-fn is_busy(store: &Store<ByteBuf>, told: Note<ByteBuf>) -> bool {
+fn is_busy(store: &Store<ByteBuf>, told: Note<ByteBuf>) -> bool
+    requires { Issued store.now.pool told }
+{
     match store.visit_any(0, told) {
         Ok(visit) => {
             store.leave(visit);
@@ -48,23 +53,21 @@ fn have_both(store: &Store<ByteBuf>) -> Option<(u32, u32, bool)> {
     had
 }
 
-// Puts a word. Answers its key, and a note that has the put.
-fn put(store: &Store<ByteBuf>, alloc: Global, from: u32) -> Option<(u64, Note<ByteBuf>)> {
+// Puts a word. Answers its key.
+fn put(store: &Store<ByteBuf>, alloc: Global, from: u32) -> Option<u64> {
     let told = store.enter(from)?;
     let mut word = ByteBuf::fresh(alloc);
     word.append(b"word").ok()?;
     match store.put(from, told, &mut word) {
-        Ok((Ok(key), told)) => Some((key, told)),
+        Ok((Ok(key), _told)) => Some(key),
         _ => None,
     }
 }
 
 // Gets a key, looks at it, clears it, gives the reference back, and gets it once more.
-fn take_word(
-    store: &Store<ByteBuf>,
-    key: u64,
-    told: Note<ByteBuf>,
-) -> Option<(bool, bool, bool, bool)> {
+fn take_word(store: &Store<ByteBuf>, key: u64, told: Note<ByteBuf>) -> Option<(bool, bool, bool)>
+    requires { Issued store.now.pool told }
+{
     let Ok((Some(lent), told)) = store.get(1, told, key) else {
         return None;
     };
@@ -92,7 +95,7 @@ fn take_word(
             lent.forget();
             None
         }
-        Ok((None, _told)) => Some((shows == Some(true), cleared, released, true)),
+        Ok((None, _told)) => Some((shows == Some(true), cleared, released)),
         Err(_refused) => None,
     }
 }
@@ -115,11 +118,15 @@ fn what_one_thread_puts_another_finds(rt: HostRuntime) -> Result<(), Fail> {
         return Ok(());
     };
     let (one, two) = thread::join(&rt, || put(&store, alloc, 0), || put(&store, alloc, 1));
-    let (Some((first, told)), Some((second, other))) = (one, two) else {
+    let (Some(first), Some(second)) = (one, two) else {
         return Ok(());
     };
-    assert!(rt; take_word(&store, first, told) == Some((true, true, true, true)));
-    assert!(rt; take_word(&store, second, other) == Some((true, true, true, true)));
+    for key in [first, second] {
+        let Some(told) = store.enter(0) else {
+            return Ok(());
+        };
+        assert!(rt; take_word(&store, key, told) == Some((true, true, true)));
+    }
     let Some(told) = store.enter(0) else {
         return Ok(());
     };
