@@ -24,20 +24,40 @@ import time
 HERE = os.path.dirname(os.path.abspath(__file__))
 BINDINGS = os.path.dirname(HERE)
 PLANTED = '''
-/// Which fault is planted: that of the number in the environment.
+/// Which fault is planted: that of the number in the environment. (No memory is asked for, which a test may refuse.)
+#[allow(unsafe_code)]
 pub fn planted(number: u32) -> bool {
+    extern "C" {
+        fn getenv(name: *const std::ffi::c_char) -> *const std::ffi::c_char;
+    }
     static PLANTED: std::sync::OnceLock<u32> = std::sync::OnceLock::new();
-    let read = || std::env::var("PLANTED").map_or(0, |number| number.parse().expect("a number"));
+    let read = || {
+        // SAFETY: the name ends with a null, and nobody changes the environment.
+        let found = unsafe { getenv(c"PLANTED".as_ptr()) };
+        // SAFETY: it points to a text that ends with a null.
+        let found = (!found.is_null()).then(|| unsafe { std::ffi::CStr::from_ptr(found) });
+        found.map_or(0, |text| text.to_str().expect("ASCII").parse().expect("a number"))
+    };
     *PLANTED.get_or_init(read) == number
 }
 '''
 # A search passes by the scenarios that take longer.
 SECONDS_OF_A_SEARCH = 5
 SCENARIOS_ALONE = "SCENARIOS_ALONE" in os.environ
-# A test that runs longer than this hangs.
+# A program of which few seconds are run isn't worth more to its compiler.
+QUICK = ["-Copt-level=0"]
+# A test that runs longer than this hangs, and no test with a fault waits longer for a thread.
 SECONDS = 240
+SECONDS_OF_A_TEST = 30
+# So many schedules of a scenario are run where no fault is planted: `scenarios` runs them all.
+SCHEDULES_WITHOUT_A_FAULT = 200
 
-Fault = collections.namedtuple("Fault", "number file what old new alone finder")
+
+
+class Fault(collections.namedtuple("Fault", "number file what old new alone finder")):
+    def is_of_types(self):
+        """Whether the compiler alone sees it: such can't be branched on, and tell of types that don't meet."""
+        return self.finder.startswith("misuse ")
 
 
 def read_faults(lists):
@@ -75,8 +95,8 @@ def branch(fault, old):
     return f"(if crate::planted({fault.number}) {{ {fault.new} }} else {{ {old} }})"
 
 
-def plant(faults, sources):
-    """Plants those that can be planted together. Answers the others."""
+def plant(faults, sources, always):
+    """Plants those that can be planted together, each with a branch, or `always`. Answers the others."""
     left, by_file = [], collections.defaultdict(list)
     for fault in faults:
         by_file[fault.file].append(fault)
@@ -87,7 +107,7 @@ def plant(faults, sources):
         spans = {}
         for fault in some:
             start, end = place_of(fault, text)
-            meets = [span for span in spans if span != (start, end) and span[0] < end and start < span[1]]
+            meets = [span for span in spans if (always or span != (start, end)) and span[0] < end and start < span[1]]
             if fault.alone or meets:
                 left.append(fault)
             else:
@@ -95,7 +115,7 @@ def plant(faults, sources):
         for (start, end), here in sorted(spans.items(), reverse=True):
             new = text[start:end]
             for fault in here:
-                new = fault.new if len(faults) == 1 else branch(fault, new)
+                new = fault.new if always else branch(fault, new)
             text = text[:start] + new + text[end:]
         with open(path, "w", encoding="utf-8") as file:
             file.write(text)
@@ -117,11 +137,9 @@ class Build:
 
     def write(self):
         """Plants; answers the faults that need a copy of their own."""
-        if self.faults == [None]:
-            return []
         one = len(self.faults) == 1 and self.faults[0].alone
         faults = [fault._replace(alone=False) for fault in self.faults] if one else self.faults
-        left = plant(faults, self.sources)
+        left = plant(faults, self.sources, one or faults[0].is_of_types())
         with open(os.path.join(self.sources, "lib.rs"), "a", encoding="utf-8") as file:
             file.write(PLANTED)
         with open(os.path.join(self.folder, "explore", "scenarios", "main.rs"), "a", encoding="utf-8") as file:
@@ -158,14 +176,14 @@ class Build:
         library, more = self.crate("explored", ["--cfg=pardz_explore", extern])
         out = os.path.join(self.folder, "scenarios")
         main = os.path.join(folder, "scenarios", "main.rs")
-        wrong = wrong or more or self.rustc(extern, f"--extern=pardz={library}", main, "-o", out)
+        wrong = wrong or more or self.rustc(*QUICK, extern, f"--extern=pardz={library}", main, "-o", out)
         return out, wrong
 
     def make_test(self, name):
         library, wrong = self.crate("tested", [])
         out = os.path.join(self.folder, "test_" + name)
         source = os.path.join(self.rust, "tests", name + ".rs")
-        return out, wrong or self.rustc("--test", f"--extern=pardz={library}", source, "-o", out)
+        return out, wrong or self.rustc("--test", *QUICK, f"--extern=pardz={library}", source, "-o", out)
 
     def make_address(self, name):
         flags = ["-Zsanitizer=address", "-Cunsafe-allow-abi-mismatch=sanitizer", "--target=x86_64-unknown-linux-gnu"]
@@ -176,7 +194,11 @@ class Build:
 
     def misuse(self, number, heading):
         """What the compiler says where it refuses some lines."""
-        library, wrong = self.crate("tested", [])
+        library = os.path.join(self.folder, "libpardz.rmeta")
+        if "types" not in self.built:
+            root = os.path.join(self.sources, "lib.rs")
+            self.built["types"] = self.rustc("--emit=metadata", "--crate-type=rlib", "--crate-name=pardz", root, "-o", library)
+        wrong = self.built["types"]
         if wrong:
             return wrong
         source = os.path.join(self.folder, f"misuse{number}.rs")
@@ -198,12 +220,16 @@ def run(build, finder, number):
     """What a finder says with a fault planted: None where it passes."""
     kind, *words = finder.split(" ")
     if kind == "misuse":
-        return None if build.misuse(int(words[0]), " ".join(words[1:])) else "it compiles"
+        refused = build.misuse(int(words[0]), " ".join(words[1:]))
+        return None if refused else "it compiles"
     program, wrong = build.program(kind, "" if kind == "explore" else words[0])
     if wrong:
         sys.exit(f"FAIL {finder}: {wrong}")
     command = [program, words[0]] if kind == "explore" else [program, "--exact", "--test-threads=1", words[1]]
+    if kind == "explore" and number == 0:
+        command[1:1] = ["--at-most", str(SCHEDULES_WITHOUT_A_FAULT)]
     env = dict(os.environ, PLANTED=str(number), RUST_BACKTRACE="0", ASAN_OPTIONS="detect_leaks=0")
+    env["PARDZ_TEST_SECONDS"] = str(SECONDS_OF_A_TEST)
     try:
         made = subprocess.run(command, capture_output=True, text=True, errors="replace", timeout=SECONDS, env=env)
     except subprocess.TimeoutExpired:
@@ -278,7 +304,8 @@ def plant_all(folder, faults, words):
     wanted = lambda fault: not words.only or fault.number in words.only
     good, left, copies = 0, faults, 0
     while left:
-        together = [fault for fault in left if not fault.alone] or left[:1]
+        of_types = [fault for fault in left if fault.is_of_types()]
+        together = [fault for fault in left if not fault.alone and not fault.is_of_types()] or of_types or left[:1]
         build = Build(os.path.join(folder, str(copies)), together)
         apart = build.write()
         here = [fault for fault in together if fault not in apart]
@@ -291,7 +318,7 @@ def plant_all(folder, faults, words):
 
 
 def judge_all(build, faults, words):
-    finders = sorted({fault.finder for fault in faults if fault.finder and not fault.alone})
+    finders = sorted({fault.finder for fault in faults if fault.finder and not fault.alone and not fault.is_of_types()})
     for finder in [] if words.search else finders:
         said = run(build, finder, 0)
         if said:

@@ -17,8 +17,51 @@ fn effect(order: Ordering, reads: bool, writes: bool) -> Effect {
         releases: writes && matches!(order, Release | AcqRel | SeqCst),
         reads,
         writes,
+        in_one_order: order == SeqCst,
     }
 }
+
+/// What a word's value is as a number, and back.
+trait Bits {
+    fn bits(self) -> u64;
+    fn of(bits: u64) -> Self;
+}
+
+impl Bits for bool {
+    fn bits(self) -> u64 {
+        self.into()
+    }
+
+    fn of(bits: u64) -> bool {
+        bits != 0
+    }
+}
+
+impl<T> Bits for *mut T {
+    fn bits(self) -> u64 {
+        self as u64
+    }
+
+    fn of(bits: u64) -> *mut T {
+        bits as *mut T
+    }
+}
+
+macro_rules! bits {
+    ($($value:ty)*) => { $(
+        impl Bits for $value {
+            fn bits(self) -> u64 {
+                self as u64
+            }
+
+            fn of(bits: u64) -> $value {
+                bits as $value
+            }
+        }
+    )* };
+}
+
+bits!(u32 u64 usize);
 
 /// What each atomic type has.
 macro_rules! atomic {
@@ -31,24 +74,28 @@ macro_rules! atomic {
                 Self(atomic::$name::new(value))
             }
 
+            fn bits(&self) -> u64 {
+                self.0.load(SeqCst).bits()
+            }
+
             fn at(&self) -> usize {
                 std::ptr::from_ref(self).cast::<()>() as usize
             }
 
             pub fn load(&self, order: Ordering) -> $value {
-                run::step(Kind::Read, self.at(), "load", || (self.0.load(SeqCst), effect(order, true, false)))
+                Bits::of(run::look(self.at(), || self.bits(), effect(order, true, false)))
             }
 
             pub fn store(&self, value: $value, order: Ordering) {
-                run::step(Kind::Write, self.at(), "store", || (self.0.store(value, SeqCst), effect(order, false, true)))
+                run::step(Kind::Write, self.at(), "store", || self.bits(), || (self.0.store(value, SeqCst), effect(order, false, true)))
             }
 
             pub fn swap(&self, value: $value, order: Ordering) -> $value {
-                run::step(Kind::Write, self.at(), "swap", || (self.0.swap(value, SeqCst), effect(order, true, true)))
+                run::step(Kind::Write, self.at(), "swap", || self.bits(), || (self.0.swap(value, SeqCst), effect(order, true, true)))
             }
 
             pub fn compare_exchange(&self, old: $value, new: $value, order: Ordering, failed: Ordering) -> Result<$value, $value> {
-                run::step(Kind::Write, self.at(), "compare_exchange", || {
+                run::step(Kind::Write, self.at(), "compare_exchange", || self.bits(), || {
                     let found = self.0.compare_exchange(old, new, SeqCst, SeqCst);
                     let order = if found.is_ok() { order } else { failed };
                     (found, effect(order, true, found.is_ok()))
@@ -78,6 +125,7 @@ macro_rules! atomic {
 
             pub fn get_mut(&mut self) -> &mut $value {
                 crate::writes(self, "an atomic word that is one's own");
+                run::is_own(self.at());
                 self.0.get_mut()
             }
         }
@@ -102,7 +150,7 @@ macro_rules! numbers {
 
         impl $name { $(
             pub fn $operation(&self, value: $value, order: Ordering) -> $value {
-                run::step(Kind::Write, self.at(), stringify!($operation), || {
+                run::step(Kind::Write, self.at(), stringify!($operation), || self.bits(), || {
                     (self.0.$operation(value, SeqCst), effect(order, true, true))
                 })
             }
@@ -179,9 +227,13 @@ impl<T> Mutex<T> {
     pub fn lock(&self) -> LockResult<MutexGuard<'_, T>> {
         let at = std::ptr::from_ref(self).cast::<()>() as usize;
         let have = || self.0.lock().unwrap_or_else(PoisonError::into_inner);
-        let value = run::step(Kind::Lock, at, "lock", || {
-            (have(), effect(Acquire, true, false))
-        });
+        let value = run::step(
+            Kind::Lock,
+            at,
+            "lock",
+            || 0,
+            || (have(), effect(Acquire, true, false)),
+        );
         Ok(MutexGuard { value, at })
     }
 }
@@ -202,8 +254,12 @@ impl<T> DerefMut for MutexGuard<'_, T> {
 
 impl<T> Drop for MutexGuard<'_, T> {
     fn drop(&mut self) {
-        run::step(Kind::Unlock, self.at, "unlock", || {
-            ((), effect(Release, false, true))
-        });
+        run::step(
+            Kind::Unlock,
+            self.at,
+            "unlock",
+            || 0,
+            || ((), effect(Release, false, true)),
+        );
     }
 }

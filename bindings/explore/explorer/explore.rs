@@ -53,6 +53,10 @@ pub struct Plan<'n> {
     pub extent: Extent,
     /// Whether a thread forgets something, so that memory is left.
     pub forgets: bool,
+    /// How many schedules are run at most, where not all are wanted.
+    pub most: Option<u64>,
+    /// How many looks of a schedule may find an older value of their word than the newest.
+    pub old_looks: usize,
 }
 
 /// Runs the works, each on a thread of its own, in one schedule after the other. Each begins with what `set_up` gives, and `finish` looks at
@@ -68,7 +72,7 @@ pub fn explore<W: Send + Sync + 'static>(
         Extent::All => None,
         Extent::Preemptions(most) => Some(most),
     };
-    let mut walk = Walk::new(bound);
+    let mut walk = Walk::new(bound, plan.old_looks);
     let mut report = Report {
         schedules: 0,
         left: 0,
@@ -94,7 +98,8 @@ pub fn explore<W: Send + Sync + 'static>(
             .or(leaks)
             .map(|what| format!("{what}\n{}", outcome.schedule)));
         walk = outcome.walk;
-        if report.failure.is_some() || !walk.turn_back() {
+        let is_enough = plan.most.is_some_and(|most| report.schedules >= most);
+        if report.failure.is_some() || is_enough || !walk.turn_back() {
             report.seconds = start.elapsed().as_secs_f64();
             return report;
         }
@@ -162,6 +167,30 @@ pub(crate) fn give_up(what: &str) -> ! {
     println!("FAIL {}: {what}", under_way().0);
     process::exit(1);
 }
+
+/// Keeps the program on the processor where it is now, if the system has the call: its threads take turns, so none other serves it, and
+/// from one to another a turn takes several times as long.
+#[cfg(all(target_os = "linux", target_pointer_width = "64"))]
+pub fn stay() {
+    extern "C" {
+        fn sched_getcpu() -> i32;
+        fn sched_setaffinity(process: i32, bytes: usize, processors: *const u64) -> i32;
+    }
+    let mut processors = [0u64; 16];
+    // SAFETY: it asks nothing.
+    let here = unsafe { sched_getcpu() };
+    if let Some(word) = usize::try_from(here)
+        .ok()
+        .and_then(|here| processors.get_mut(here / 64))
+    {
+        *word = 1 << (here % 64);
+        // SAFETY: there are so many bytes. Where it refuses, all stays as it was.
+        unsafe { sched_setaffinity(0, size_of_val(&processors), processors.as_ptr()) };
+    }
+}
+
+#[cfg(not(all(target_os = "linux", target_pointer_width = "64")))]
+pub fn stay() {}
 
 /// Ends the program where no step is made for so long, and keeps the panics of schedules quiet: their text is in the report.
 pub fn watch(patience: Duration) {

@@ -16,7 +16,7 @@ mod walk;
 pub use atomics::{
     AtomicBool, AtomicPtr, AtomicU32, AtomicU64, AtomicUsize, Counter, Mutex, MutexGuard, Ordering,
 };
-pub use explore::{explore, watch, Extent, Plan, Report, Work};
+pub use explore::{explore, stay, watch, Extent, Plan, Report, Work};
 pub use heap::Heap;
 
 use memory::Access;

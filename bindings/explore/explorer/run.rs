@@ -96,6 +96,36 @@ pub(crate) struct Effect {
     pub(crate) releases: bool,
     pub(crate) reads: bool,
     pub(crate) writes: bool,
+    /// All threads see it and others of its kind in one order.
+    pub(crate) in_one_order: bool,
+}
+
+/// A value that a word had.
+struct Value {
+    bits: u64,
+    by: usize,
+    moment: u32,
+    /// What it tells those who acquire it.
+    passed_on: Clock,
+    in_one_order: bool,
+}
+
+/// The values of a word in their order, and the last that each thread has seen.
+#[derive(Default)]
+struct Values {
+    all: Vec<Value>,
+    seen: [usize; MOST_THREADS],
+}
+
+impl Values {
+    /// Which is the oldest that a thread may see, which knows so much.
+    fn oldest(&self, thread: usize, known: &Clock, in_one_order: bool) -> usize {
+        let is_known = |value: &Value| value.moment <= known.of(value.by);
+        let known = self.all.iter().rposition(is_known);
+        let ordered = self.all.iter().rposition(|value| value.in_one_order);
+        let ordered = ordered.filter(|_| in_one_order);
+        self.seen[thread].max(known.max(ordered).unwrap_or(0))
+    }
 }
 
 struct State {
@@ -104,6 +134,7 @@ struct State {
     running: Option<usize>,
     made: Vec<Made>,
     words: HashMap<usize, Word>,
+    values: HashMap<usize, Values>,
     had: HashMap<usize, usize>,
     memory: Memory,
     walk: Walk,
@@ -137,6 +168,7 @@ impl State {
             running: None,
             made: Vec::new(),
             words: HashMap::new(),
+            values: HashMap::new(),
             had: HashMap::new(),
             memory: Memory::default(),
             walk,
@@ -334,6 +366,51 @@ impl State {
         });
     }
 
+    /// The thread looks at a word whose newest value is this one. Answers how many values back it looks, and what it finds there.
+    fn look(&mut self, thread: usize, at: usize, effect: Effect, newest: u64) -> (u32, u64) {
+        let Some(values) = self.values.get_mut(&at).filter(|_| !self.is_seen) else {
+            return (0, newest);
+        };
+        let own = &mut self.threads[thread];
+        let oldest = values.oldest(thread, &own.known, effect.in_one_order);
+        let last = values.all.len() - 1;
+        let age = self.walk.age(last - oldest);
+        let value = &values.all[last - age];
+        values.seen[thread] = last - age;
+        if effect.acquires {
+            own.known.join(&value.passed_on);
+        }
+        (age as u32, value.bits)
+    }
+
+    /// A write by the thread's last step, which replaced a value by this one.
+    fn note_value(
+        &mut self,
+        thread: usize,
+        at: usize,
+        (before, after): (u64, u64),
+        effect: Effect,
+    ) {
+        let values = self.values.entry(at).or_default();
+        if values.all.is_empty() {
+            values.all.push(Value {
+                bits: before,
+                by: thread,
+                moment: 0,
+                passed_on: Clock::default(),
+                in_one_order: true,
+            });
+        }
+        values.seen[thread] = values.all.len();
+        values.all.push(Value {
+            bits: after,
+            by: thread,
+            moment: self.threads[thread].count,
+            passed_on: self.memory.acquired(at),
+            in_one_order: effect.in_one_order,
+        });
+    }
+
     /// What a step on an atomic word tells by its ordering.
     fn take_effect(&mut self, thread: usize, at: usize, effect: Effect) {
         let acquired = effect.acquires.then(|| self.memory.acquired(at));
@@ -506,11 +583,14 @@ pub(crate) fn step<R>(
     kind: Kind,
     at: usize,
     name: &'static str,
+    bits: impl Fn() -> u64,
     make: impl FnOnce() -> (R, Effect),
 ) -> R {
     let step = Step { kind, at, name };
     with_run(|run, thread| run.turn(thread, step));
+    let before = bits();
     let (answer, effect) = make();
+    let after = bits();
     with_run(|run, thread| {
         let mut state = run.lock();
         // (An exchange that fails was a look.)
@@ -521,8 +601,38 @@ pub(crate) fn step<R>(
         };
         state.end(thread, Step { kind, ..step });
         state.take_effect(thread, at, effect);
+        if effect.writes {
+            state.note_value(thread, at, (before, after), effect);
+        }
     });
     answer
+}
+
+/// Looks at an atomic word, which may have been written meanwhile by steps that the thread doesn't know of.
+pub(crate) fn look(at: usize, bits: impl Fn() -> u64, effect: Effect) -> u64 {
+    let step = Step {
+        kind: Kind::Read,
+        at,
+        name: "load",
+    };
+    with_run(|run, thread| run.turn(thread, step));
+    let newest = bits();
+    let found = with_run(|run, thread| {
+        let mut state = run.lock();
+        let (age, found) = state.look(thread, at, effect, newest);
+        state.end(thread, step);
+        // (A thread that waits for the word to be written finds that it was.)
+        if let Some((_, times)) = state.threads[thread].read.last_mut() {
+            *times = times.wrapping_sub(age);
+        }
+        found
+    });
+    found.unwrap_or(newest)
+}
+
+/// The word was written by who has it alone.
+pub(crate) fn is_own(at: usize) {
+    with_run(|run, _| run.lock().values.remove(&at));
 }
 
 fn step_without_word(kind: Kind, name: &'static str) {

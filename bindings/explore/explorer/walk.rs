@@ -56,6 +56,9 @@ struct Fork {
     asleep: Threads,
     /// How often, up to here, a thread was chosen though the last one could have gone on.
     preemptions: u32,
+    /// How many values back the step looks, and how many it may.
+    age: usize,
+    most_age: usize,
 }
 
 /// What a walk chooses.
@@ -72,14 +75,28 @@ pub(crate) struct Walk {
     asleep: Threads,
     /// The most preemptions, where they are bounded.
     bound: Option<u32>,
+    /// How many steps of a schedule may look at an old value.
+    old_looks: usize,
 }
 
 impl Walk {
-    pub(crate) fn new(bound: Option<u32>) -> Walk {
+    pub(crate) fn new(bound: Option<u32>, old_looks: usize) -> Walk {
         Walk {
             bound,
+            old_looks,
             ..Walk::default()
         }
+    }
+
+    /// How many values back the step that was chosen last looks, of so many that it may.
+    pub(crate) fn age(&mut self, most: usize) -> usize {
+        let (fork, before) = match self.forks[..self.depth].split_last_mut() {
+            Some(split) => split,
+            None => return 0,
+        };
+        let old_looks = before.iter().filter(|fork| fork.age > 0).count();
+        fork.most_age = if old_looks < self.old_looks { most } else { 0 };
+        fork.age
     }
 
     /// Who makes the next step, of those who could.
@@ -102,6 +119,8 @@ impl Walk {
                 tried: Threads::default(),
                 asleep: self.asleep,
                 preemptions: preemptions + preempts(last, chosen, able),
+                age: 0,
+                most_age: 0,
             });
         }
         self.depth += 1;
@@ -153,6 +172,12 @@ impl Walk {
         self.depth = 0;
         self.asleep = Threads::default();
         while let Some(mut fork) = self.forks.pop() {
+            if fork.age < fork.most_age {
+                fork.age += 1;
+                self.forks.push(fork);
+                return true;
+            }
+            (fork.age, fork.most_age) = (0, 0);
             fork.tried = fork.tried.with(fork.chosen);
             if self.bound.is_none() {
                 fork.asleep = fork.asleep.with(fork.chosen);

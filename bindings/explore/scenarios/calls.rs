@@ -10,6 +10,7 @@ pub fn all() -> Vec<Scenario> {
     let shared = || lanes_in_hand(shape(1, 2, 1), 1);
     vec![
         Scenario::new("shared-create", shared, [make_and_clear; 2], drop).bounded(2),
+        Scenario::new("shared-downgrade", shared, [downgrade_and_clone; 2], drop).bounded(2),
         Scenario::new("shared-get", shared, [get, get], drop).bounded(2),
         Scenario::new("shared-clear", shared, [get, clear], drop).bounded(2),
         Scenario::new(
@@ -62,6 +63,12 @@ pub fn all() -> Vec<Scenario> {
         )
         .bounded(2),
         Scenario::new(
+            "taken-back-at-once",
+            shared_and_idle,
+            [take_and_make, take_and_make],
+            settled,
+        ),
+        Scenario::new(
             "left-by-three",
             || lanes_at_home(shape(3, 1, 1), 1),
             [get, get, get],
@@ -70,6 +77,25 @@ pub fn all() -> Vec<Scenario> {
         .bounded(2),
         Scenario::new("come-and-go", two_lanes, [get, get, clear], cleared_once).bounded(2),
     ]
+}
+
+/// All places were taken by shared lanes, so that the one lane of the pool's shape is shared too; and are free again.
+fn shared_and_idle() -> World {
+    let world = lanes_at_home(shape(1, 1, 1), 0);
+    let handles = [(); 2].map(|()| world.pool.create_owned().expect("a place").downgrade());
+    for object in &handles {
+        assert!(world.pool.clear(object.key()));
+    }
+    drop(handles);
+    world
+}
+
+fn take_and_make(world: &World) {
+    if let Some(lane) = world.pool.lane() {
+        if let Some(key) = world.make(&lane, 3) {
+            world.clear(&lane, key);
+        }
+    }
 }
 
 fn get(world: &World) {
@@ -133,6 +159,15 @@ fn make_and_clear(world: &World) {
         assert_eq!(world.pool.get(key).expect("it is published").get(), 1);
         assert!(world.pool.clear(key));
         world.count(true);
+    }
+}
+
+fn downgrade_and_clone(world: &World) {
+    if let Ok(filling) = world.pool.create() {
+        let object = filling.downgrade();
+        let more = object.try_clone();
+        assert!(world.pool.clear(object.key()));
+        drop((object, more));
     }
 }
 

@@ -1,5 +1,5 @@
 //! What the explorer itself is to find, and that it leaves no outcome out.
-use crate::world::Scenario;
+use crate::world::{Scenario, Within};
 use explorer::{
     explore, reads, writes, AtomicPtr, AtomicU32, AtomicUsize, Extent, Mutex, Ordering, Plan,
 };
@@ -195,7 +195,12 @@ pub fn check() {
         );
     }
     for scenario in sound() {
-        assert_eq!(scenario.explore().failure, None, "{}", scenario.name);
+        assert_eq!(
+            scenario.explore(Within::default()).failure,
+            None,
+            "{}",
+            scenario.name
+        );
     }
     let programs = (0..PROGRAMS).map(compare).sum::<usize>();
     println!("ok   the explorer finds {} faults, and all {programs} outcomes of {PROGRAMS} drawn programs", faults.len());
@@ -335,6 +340,8 @@ fn compare(seed: u64) -> usize {
         extent: Extent::All,
         // What the threads found is kept beyond the schedule.
         forgets: true,
+        most: None,
+        old_looks: 0,
     };
     let report = explore(plan, set_up, &works, finish);
     assert_eq!(report.failure, None);

@@ -1,6 +1,6 @@
 //! Pools that grow: threads that open a segment at once, and what is held of a further one.
 use crate::late::{leave_reference, take_twice};
-use crate::world::{growing, look, look_by_call, number_of, Scenario, Tracked, World};
+use crate::world::{emptied, growing, look, look_by_call, number_of, Scenario, Tracked, World};
 use pardz::{Key, OwnedRef, Pool};
 use std::sync::Mutex;
 
@@ -8,6 +8,8 @@ use std::sync::Mutex;
 const FIRST: usize = 32;
 const OF_ONE_SEGMENT: u32 = 16 * 32;
 const OF_TWO_SEGMENTS: u32 = OF_ONE_SEGMENT + 16 * 64;
+const OF_THREE_SEGMENTS: u32 = OF_TWO_SEGMENTS + 16 * (64 + 128);
+const OF_A_LANE_IN_SECOND: usize = 64;
 
 pub fn all() -> Vec<Scenario> {
     vec![
@@ -22,6 +24,19 @@ pub fn all() -> Vec<Scenario> {
             || full_lanes(2),
             [|w| grow(w, 0), look_further],
             two_segments,
+        ),
+        Scenario::new(
+            "grow-twice-at-once",
+            || full_lanes(2),
+            [grow_twice, |w| grow(w, 1)],
+            three_segments,
+        )
+        .bounded(1),
+        Scenario::new(
+            "further-get-clear",
+            || further_lanes(2),
+            [|w| get_by_lane(w, 0), |w| clear_by_lane(w, 1)],
+            emptied_once,
         ),
         Scenario::new("grow-by-calls", full_calls, [make, make], two_segments).bounded(1),
         Scenario::new(
@@ -82,15 +97,21 @@ fn full_calls() -> World {
     world
 }
 
-/// All lanes are at home, and an object stands in the second segment.
-fn grown() -> World {
-    let mut world = full_lanes(1);
+/// So many lanes in hand, and an object stands in the second segment.
+fn further_lanes(lanes: usize) -> World {
+    let mut world = full_lanes(lanes);
     world.by_lane(0, |lane| {
         let key = lane.create_with(|object| object.set(number_of(0)));
         assert_eq!(key, Ok(further_key(0)));
     });
-    world.leave_lanes();
     world.keys = vec![further_key(0)];
+    world
+}
+
+/// The same with all lanes at home.
+fn grown() -> World {
+    let mut world = further_lanes(1);
+    world.leave_lanes();
     world
 }
 
@@ -100,6 +121,26 @@ fn grow(world: &World, lane: usize) {
         assert_eq!(u64::from(key) >> 56, 1, "a further segment");
         look(lane, key, 7);
     });
+}
+
+/// Fills its part of a further segment, and has a third one opened.
+fn grow_twice(world: &World) {
+    world.by_lane(0, |lane| {
+        for _ in 0..OF_A_LANE_IN_SECOND {
+            world.make(lane, 7).expect("it grows");
+        }
+        let key = world.make(lane, 8).expect("it grows");
+        assert_eq!(u64::from(key) >> 56, 2, "a third segment");
+        look(lane, key, 8);
+    });
+}
+
+fn get_by_lane(world: &World, lane: usize) {
+    world.by_lane(lane, |lane| look(lane, world.keys[0], number_of(0)));
+}
+
+fn clear_by_lane(world: &World, lane: usize) {
+    world.by_lane(lane, |lane| world.clear(lane, world.keys[0]));
 }
 
 /// A key of the further segment, got and cleared by who was told nothing.
@@ -134,6 +175,19 @@ fn clear_and_take(world: &World) {
 }
 
 fn two_segments(world: World) {
+    segments(world, OF_TWO_SEGMENTS);
+}
+
+fn three_segments(world: World) {
+    segments(world, OF_THREE_SEGMENTS);
+}
+
+fn emptied_once(world: World) {
+    assert_eq!(emptied(), 1, "the object is emptied once");
+    two_segments(world);
+}
+
+fn segments(world: World, places: u32) {
     let (left, census) = (world.published() - world.cleared(), world.close());
     let all = census.free
         + census.unopened
@@ -145,7 +199,7 @@ fn two_segments(world: World) {
         (census.present as usize, census.filling, census.marked),
         (left, 0, 0)
     );
-    assert_eq!(all, OF_TWO_SEGMENTS, "places of two segments");
+    assert_eq!(all, places, "places of all segments");
 }
 
 /// A pool, and two handles to an object of its second segment.

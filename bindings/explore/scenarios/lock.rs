@@ -45,6 +45,12 @@ pub fn all() -> Vec<Scenario> {
             |locked| locked.settle(1),
         ),
         Scenario::new(
+            "lock-shared-meanwhile-3",
+            own,
+            [Locked::share, Locked::count_any, Locked::count],
+            |locked| assert!(locked.number.into_inner() <= 2),
+        ),
+        Scenario::new(
             "lock-taken-back",
             shared,
             [Locked::take_back, Locked::count],

@@ -1,8 +1,10 @@
 //! Scenarios of the crate `pardz`, which the explorer runs through their schedules.
 //!
-//! usage: scenarios [NAME..]   a line for each of them, or of those that are named, and one for all
-//!        scenarios --list     their names
-//!        scenarios --check    small programs with faults that the explorer must find
+//! usage: scenarios [NAME..]               a line for each of them, or of those that are named, and one for all
+//!        scenarios --old [NAME..]         one look of each schedule may find an old value
+//!        scenarios --at-most COUNT NAME..  so many of their schedules
+//!        scenarios --list                 their names
+//!        scenarios --check                small programs with faults that the explorer must find
 use std::env;
 use std::process::ExitCode;
 use std::time::Duration;
@@ -24,14 +26,14 @@ mod sync {
     pub(crate) use explorer::{sleep, spin_loop, yield_now, AtomicU32, Ordering};
 }
 
-use world::Scenario;
+use world::{Scenario, Within};
 
 #[global_allocator]
 static HEAP: explorer::Heap = explorer::Heap;
 
 /// For so long no thread may be without a step.
 const PATIENCE: Duration = Duration::from_secs(20);
-/// The same for a thread that is known to make none.
+/// The same where a fault is planted.
 const LITTLE_PATIENCE: Duration = Duration::from_secs(3);
 
 fn all() -> Vec<Scenario> {
@@ -52,6 +54,7 @@ fn all() -> Vec<Scenario> {
 fn main() -> ExitCode {
     let words: Vec<String> = env::args().skip(1).collect();
     let words: Vec<&str> = words.iter().map(String::as_str).collect();
+    explorer::stay();
     match words[..] {
         ["--list"] => all()
             .iter()
@@ -59,15 +62,29 @@ fn main() -> ExitCode {
         ["--check"] => checks::check(),
         ["--faulty", name] => {
             explorer::watch(LITTLE_PATIENCE);
-            return run(checks::run_faulty(name).as_slice());
+            return run(checks::run_faulty(name).as_slice(), Within::default());
         }
-        _ => return run_named(&words),
+        ["--old", ref names @ ..] => {
+            let within = Within {
+                old_looks: 1,
+                ..Within::default()
+            };
+            return run_named(names, within);
+        }
+        ["--at-most", count, ref names @ ..] => {
+            let within = Within {
+                most: Some(count.parse().expect("a count")),
+                ..Within::default()
+            };
+            return run_named(names, within);
+        }
+        _ => return run_named(&words, Within::default()),
     }
     ExitCode::SUCCESS
 }
 
 /// Runs the scenarios of these names, or all.
-fn run_named(wanted: &[&str]) -> ExitCode {
+fn run_named(wanted: &[&str], within: Within) -> ExitCode {
     let mut scenarios = all();
     if let Some(name) = wanted
         .iter()
@@ -79,14 +96,15 @@ fn run_named(wanted: &[&str]) -> ExitCode {
     if !wanted.is_empty() {
         scenarios.retain(|scenario| wanted.contains(&scenario.name));
     }
-    explorer::watch(PATIENCE);
-    run(&scenarios)
+    let has_fault = env::var_os("PLANTED").is_some_and(|number| number != "0");
+    explorer::watch(if has_fault { LITTLE_PATIENCE } else { PATIENCE });
+    run(&scenarios, within)
 }
 
-fn run(scenarios: &[Scenario]) -> ExitCode {
+fn run(scenarios: &[Scenario], within: Within) -> ExitCode {
     let (mut schedules, mut steps, mut seconds) = (0, 0, 0.0);
     for scenario in scenarios {
-        let report = scenario.explore();
+        let report = scenario.explore(within);
         let told = format!(
             "{} schedules, {}, {} steps",
             report.schedules, scenario.extent, report.steps

@@ -10,6 +10,7 @@ pub fn all() -> Vec<Scenario> {
     let two_places = || lanes_at_home(shape(1, 2, 1), 1);
     vec![
         Scenario::new("owned-both", two_places, [get, get], drop),
+        Scenario::new("owned-filled", two_places, [fill, fill_and_drop], drop).bounded(2),
         Scenario::new("owned", one_place, [get_and_clone, clear], cleared_once),
         Scenario::new(
             "owned-two",
@@ -59,6 +60,22 @@ pub fn all() -> Vec<Scenario> {
 
 fn get(world: &World) {
     drop(world.pool.get_owned(world.keys[0]));
+}
+
+/// Publishes by an owned filling, and by another one with a handle.
+fn fill(world: &World) {
+    if let Ok(filling) = world.pool.create_owned() {
+        assert!(world.pool.clear(filling.publish()));
+    }
+    if let Ok(filling) = world.pool.create_owned() {
+        let object = filling.downgrade();
+        assert!(world.pool.clear(object.key()));
+    }
+}
+
+fn fill_and_drop(world: &World) {
+    drop(world.pool.create_owned());
+    fill(world);
 }
 
 fn get_and_clone(world: &World) {

@@ -7,8 +7,21 @@ use std::sync::{Arc, Mutex};
 
 pub fn all() -> Vec<Scenario> {
     vec![
-        Scenario::new("two-pools", || two(1, 2), [call_both, call_other], drop),
-        Scenario::new("two-pools-in-turn", || two(1, 1), [in_turn, in_turn], drop).bounded(2),
+        Scenario::new("two-pools", || two(1, 2), [call_both, call_other], all_home),
+        Scenario::new(
+            "two-pools-in-turn",
+            || two(1, 1),
+            [in_turn, in_turn],
+            all_home,
+        )
+        .bounded(2),
+        Scenario::new(
+            "two-pools-owned",
+            || two(1, 3),
+            [own_both, call_other],
+            all_home,
+        )
+        .bounded(2),
         Scenario::new(
             "two-pools-late",
             || two(1, 2),
@@ -82,6 +95,28 @@ fn call_other(world: &Two) {
     for _ in 0..2 {
         let key = pool.create_with(|object| object.set(8)).expect("a place");
         assert!(pool.clear(key));
+    }
+}
+
+/// By the shared lane of the larger pool, then by that of the smaller one: several times each, as each is remembered.
+fn own_both(world: &Two) {
+    for index in [1, 0, 1] {
+        let pool = world.pool(index);
+        let object = pool.get_owned(world.keys[index]).expect("published");
+        assert_eq!(object.get(), NUMBERS[index]);
+        for _ in 0..2 {
+            let filling = pool.create_owned();
+            drop(filling.ok());
+        }
+    }
+}
+
+/// All lanes are at home when the threads have ended.
+fn all_home(world: Two) {
+    for index in [0, 1] {
+        let pool = world.pool(index);
+        let lanes: Vec<_> = (0..).map_while(|_| pool.lane()).collect();
+        assert_eq!(lanes.len() as u32, pool.shape().lanes, "lanes at home");
     }
 }
 

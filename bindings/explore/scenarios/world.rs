@@ -57,6 +57,15 @@ pub fn emptied() -> usize {
     EMPTIED.load(SeqCst)
 }
 
+/// How far a scenario is run.
+#[derive(Clone, Copy, Default)]
+pub struct Within {
+    /// So many schedules at most.
+    pub most: Option<u64>,
+    /// So many looks of each may find an old value.
+    pub old_looks: usize,
+}
+
 /// A scenario, and which of its schedules are run.
 pub struct Scenario {
     pub name: &'static str,
@@ -65,7 +74,7 @@ pub struct Scenario {
     left: usize,
     /// Whether memory is left that is of no object, as a payload that the crate forgets.
     forgets: bool,
-    run: Box<dyn Fn(Extent, usize, bool) -> Report>,
+    run: Box<dyn Fn(Plan<'_>, usize) -> Report>,
 }
 
 impl Scenario {
@@ -81,15 +90,10 @@ impl Scenario {
             EMPTIED.store(0, SeqCst);
             set_up()
         };
-        let run = move |extent, left, forgets| {
+        let run = move |plan: Plan<'_>, left| {
             let end = |world| {
                 finish(world);
                 assert_eq!(ALIVE.swap(0, SeqCst), left, "objects are left");
-            };
-            let plan = Plan {
-                name,
-                extent,
-                forgets: forgets || left > 0,
             };
             explorer::explore(plan, begin, &works, end)
         };
@@ -121,8 +125,15 @@ impl Scenario {
         }
     }
 
-    pub fn explore(&self) -> Report {
-        (self.run)(self.extent, self.left, self.forgets)
+    pub fn explore(&self, within: Within) -> Report {
+        let plan = Plan {
+            name: self.name,
+            extent: self.extent,
+            forgets: self.forgets || self.left > 0,
+            most: within.most,
+            old_looks: within.old_looks,
+        };
+        (self.run)(plan, self.left)
     }
 }
 
