@@ -8,6 +8,7 @@
 //!
 //! - `slab`: the `Pool` of the real sharded-slab, as Debian has it; `slab16k` with buffers of 16 KiB, `slab192` with objects of 192
 //!   bytes;
+//! - `pardz`: the Rust crate, by calls of a growing pool;
 //! - `map`: a hash map of buffers behind a `Mutex`;
 //! - `stack`: a stack of spare buffers behind a `Mutex`, from which a thread takes one to own it;
 //! - `local`: a list of spare buffers for each thread, each an `Arc<Mutex<..>>`, of which a handle is a clone;
@@ -21,10 +22,11 @@
 //! - `get-two`, `cycle-two`: `get-many` and `cycle` from two places of call, one after the other;
 //! - `cycle`: a buffer is put and taken away;
 //! - `held`: a buffer is put, and taken away while it is read;
-//! - `miss`: a buffer that was taken away is taken away again (`slab`, `map`);
-//! - `churn`: 24 buffers are live: the oldest is taken away, and a new one put;
-//! - `pass`: a buffer is put by one thread and taken away by another, for an even number of threads (`slab`, `map`);
-//! - `page`: a fresh store is given 1,985 buffers, and dropped (`slab`, `map`).
+//! - `miss`, `get-miss`: a buffer that was taken away is taken away again, or read (`slab`, `pardz`, `map`);
+//! - `churn`, `churn-1000`, `churn-20000`: 24 buffers are live, or 1,000, or 20,000: the oldest is taken away, and a new one put;
+//! - `at-once-1000`: a thousand buffers are put, read, and taken away;
+//! - `pass`: a buffer is put by one thread and taken away by another, for an even number of threads (`slab`, `pardz`, `map`);
+//! - `page`, `hundred`, `open`: a fresh store is given 1,985 buffers, or 100, or none, and dropped (`slab`, `pardz`, `map`).
 //!
 //! It reads no clock: it is timed from outside.
 use std::env;
@@ -34,10 +36,12 @@ use std::sync::atomic::{AtomicU64, Ordering::SeqCst};
 use std::sync::{Barrier, OnceLock};
 use std::thread;
 
+mod pardz;
 #[cfg(sharded_slab)]
 mod slab;
 mod stores;
 
+use self::pardz::Pardz;
 use stores::{Arcs, Local, Map, Stack, Store};
 
 /// How many buffers are read in turn.
@@ -48,6 +52,9 @@ const LIVE: usize = 24;
 
 /// How many keys may be under way from one thread to another.
 const UNDER_WAY: usize = 16;
+
+/// How many buffers are put one after the other in a round of `at-once-1000`.
+const AT_ONCE: usize = 1000;
 
 /// How many buffers a store is given in a round of `page`.
 const PAGE_ROUND: usize = 1985;
@@ -188,18 +195,62 @@ fn miss<S: Store<Handle = u64>>(store: &S, plan: Plan) -> u64 {
     })
 }
 
+/// Each thread puts a buffer and takes it away, and reads it again and again.
+fn get_miss<S: Store<Handle = u64>>(store: &S, plan: Plan) -> u64 {
+    on_threads(plan.threads, |_| {
+        let key = store.put();
+        store.take(key);
+        (0..plan.rounds)
+            .map(|_| store.read(&black_box(key)) as u64)
+            .sum()
+    })
+}
+
+/// Each thread puts a thousand buffers, reads them, and takes them away.
+fn at_once<S: Store>(store: &S, plan: Plan) -> u64 {
+    on_threads(plan.threads, |_| {
+        let mut handles = Vec::with_capacity(AT_ONCE);
+        (0..plan.rounds)
+            .map(|_| {
+                handles.extend((0..AT_ONCE).map(|_| store.put()));
+                let bytes: usize = handles.iter().map(|handle| store.read(handle)).sum();
+                bytes
+                    + handles
+                        .drain(..)
+                        .map(|handle| usize::from(store.take(handle)))
+                        .sum::<usize>()
+            })
+            .sum::<usize>() as u64
+    })
+}
+
+/// In turn the oldest of these is taken away, and a new one put.
+#[inline(always)]
+fn replace_oldest<S: Store>(store: &S, handles: &mut [Option<S::Handle>], rounds: u64) -> u64 {
+    let live = handles.len() as u64;
+    (0..rounds)
+        .filter(|round| {
+            let oldest = &mut handles[(round % live) as usize];
+            let taken = oldest.take().is_some_and(|handle| store.take(handle));
+            *oldest = Some(store.put());
+            taken
+        })
+        .count() as u64
+}
+
 /// Each thread has 24 buffers, takes the oldest away and puts a new one.
 fn churn<S: Store>(store: &S, plan: Plan) -> u64 {
     on_threads(plan.threads, |_| {
         let mut handles: [Option<S::Handle>; LIVE] = std::array::from_fn(|_| Some(store.put()));
-        (0..plan.rounds)
-            .filter(|round| {
-                let oldest = &mut handles[(round % LIVE as u64) as usize];
-                let taken = oldest.take().is_some_and(|handle| store.take(handle));
-                *oldest = Some(store.put());
-                taken
-            })
-            .count() as u64
+        replace_oldest(store, &mut handles, plan.rounds)
+    })
+}
+
+/// The same with so many buffers.
+fn churn_of<S: Store>(store: &S, plan: Plan, live: usize) -> u64 {
+    on_threads(plan.threads, |_| {
+        let mut handles: Vec<Option<S::Handle>> = (0..live).map(|_| Some(store.put())).collect();
+        replace_oldest(store, &mut handles, plan.rounds)
     })
 }
 
@@ -235,13 +286,13 @@ fn pass<S: Store<Handle = u64>>(store: &S, plan: Plan) -> u64 {
     })
 }
 
-/// Each thread gives a fresh store 1,985 buffers, and drops it.
-fn page<S: Store + Default>(plan: Plan) -> u64 {
+/// Each thread gives a fresh store so many buffers, and drops it.
+fn page<S: Store + Default>(plan: Plan, count: usize) -> u64 {
     on_threads(plan.threads, |_| {
         (0..plan.rounds)
             .map(|_| {
                 let store = S::default();
-                (0..PAGE_ROUND).map(|_| store.put()).count() as u64
+                (0..count).map(|_| black_box(store.put())).count() as u64
             })
             .sum()
     })
@@ -259,6 +310,9 @@ fn do_rounds<S: Store>(store: &S, rounds: &str, plan: Plan) -> Option<u64> {
         "cycle-two" => Some(cycle_two(store, plan)),
         "held" => Some(held(store, plan)),
         "churn" => Some(churn(store, plan)),
+        "churn-1000" => Some(churn_of(store, plan, 1000)),
+        "churn-20000" => Some(churn_of(store, plan, 20_000)),
+        "at-once-1000" => Some(at_once(store, plan)),
         _ => None,
     }
 }
@@ -269,7 +323,10 @@ fn do_keyed<S: Store<Handle = u64> + Default>(rounds: &str, plan: Plan) -> Optio
         "pass" if plan.threads % 2 == 0 => Some(pass(&S::default(), plan)),
         "pass" => None,
         "miss" => Some(miss(&S::default(), plan)),
-        "page" => Some(page::<S>(plan)),
+        "get-miss" => Some(get_miss(&S::default(), plan)),
+        "page" => Some(page::<S>(plan, PAGE_ROUND)),
+        "hundred" => Some(page::<S>(plan, 100)),
+        "open" => Some(page::<S>(plan, 0)),
         _ => do_rounds(&S::default(), rounds, plan),
     }
 }
@@ -289,6 +346,7 @@ fn do_case(case: &str, plan: Plan) -> Option<u64> {
         "slab16k" => do_keyed::<slab::Slab<slab::Large>>(rounds, plan),
         #[cfg(sharded_slab)]
         "slab192" => do_keyed::<slab::Slab<slab::Record>>(rounds, plan),
+        "pardz" => do_keyed::<Pardz>(rounds, plan),
         "map" => do_keyed::<Map>(rounds, plan),
         "stack" => do_rounds(&Stack::default(), rounds, plan),
         "local" => do_rounds(&Local, rounds, plan),

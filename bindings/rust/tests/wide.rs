@@ -90,9 +90,10 @@ fn each_page_of_a_lane() {
 /// Each of 64 threads has a lane, and finds and clears what others published.
 #[test]
 fn sixty_four_threads_have_lanes() {
-    const ROUNDS: u64 = 300;
+    const ROUNDS: u64 = 100;
     let _limit = limit();
-    let pool = opened(MOST_LANES, 2, 3);
+    // (Of each lane 64 objects may be passed, and each other thread may have one.)
+    let pool = opened(MOST_LANES, 64, 2);
     let passed: Vec<_> = (0..MOST_LANES).map(|_| Mutex::new(None::<Key>)).collect();
     let take_and_clear = |lane: &Lane<Number>, key: Key| {
         let object = lane.get(key).expect("published");
@@ -101,8 +102,8 @@ fn sixty_four_threads_have_lanes() {
         assert!(lane.get(key).is_none());
         assert_eq!(object.0, place(key), "as long as there is a reference");
     };
-    let numbers = at_once((0..MOST_LANES).map(|_| {
-        let lane = pool.lane().expect("one for each thread");
+    let lanes: Vec<_> = (0..).map_while(|_| pool.lane()).collect();
+    let numbers = at_once(lanes.into_iter().map(|lane| {
         let (passed, take_and_clear) = (&passed, &take_and_clear);
         move || {
             for round in 0..ROUNDS {
@@ -129,7 +130,7 @@ fn sixty_four_threads_have_lanes() {
     drop(lane);
     let closed = pool.close();
     assert_eq!((closed.present, closed.marked, closed.filling), (0, 0, 0));
-    assert_eq!(closed.free + closed.unopened, MOST_LANES * (2 + 4 + 8));
+    assert_eq!(closed.free + closed.unopened, MOST_LANES * (64 + 128));
 }
 
 /// Beside 63 lanes there is one more, for calls without a lane; beside 64 there is none.

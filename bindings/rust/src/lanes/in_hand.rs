@@ -98,8 +98,7 @@ impl<'p, T: Clear> Hand<'p, T> {
 
     #[inline(always)]
     pub(crate) fn clear(&self, key: Key) -> bool {
-        let own = self.own();
-        own.clear_here(key) || own.clear_elsewhere(key)
+        self.own().clear(key)
     }
 }
 

@@ -86,7 +86,10 @@ impl<T: Clear> Room<T> {
     #[inline(always)]
     pub(crate) fn get(&self, key: Key) -> Option<Spent<Held<'_, T, OfThread>>> {
         let held = match self.caller() {
-            Caller::Own(own) => own.of_key(self, key).and_then(|own| own.get_here(key)),
+            Caller::Own(own) => match own.get_here(key) {
+                Some(held) => Some(held),
+                None => own.get_elsewhere(key),
+            },
             Caller::Sharing => self.get_by_shared(key),
         };
         held.map(Spent::new)
@@ -102,7 +105,7 @@ impl<T: Clear> Room<T> {
     #[inline(always)]
     pub(crate) fn clear(&self, key: Key) -> bool {
         match self.caller() {
-            Caller::Own(own) => own.of_key(self, key).is_some_and(|own| own.clear_here(key)),
+            Caller::Own(own) => own.clear(key),
             Caller::Sharing => self.clear_by_shared(key),
         }
     }

@@ -1,6 +1,6 @@
 //! Calls of a lane that the thread has alone: without a lock.
 use super::room::Room;
-use super::seat::{Near, Post, Stands};
+use super::seat::{Post, Stands};
 use super::token::{Begun, By, Held};
 use super::turn::{with_page, Short, TooMany, Turn};
 use crate::clear::Clear;
@@ -10,7 +10,7 @@ use crate::object::{self, Block};
 use std::marker::PhantomData;
 use std::mem;
 use std::panic::{self, AssertUnwindSafe};
-use std::ptr::{self, NonNull};
+use std::ptr;
 use std::thread;
 
 /// The thread has the lane of this number alone, in each segment of the pool.
@@ -189,19 +189,15 @@ impl<'s, T: Clear, P: Stands<'s, T>> Own<'s, T, P> {
         self.create_apart(block)
     }
 
-    /// The lane in the segment of which a key tells.
-    #[inline(always)]
-    pub(super) fn of_key(self, room: &Room<T>, key: Key) -> Option<Own<'s, T, Near<'s, T>>> {
-        let segment = room.segment_of(key)?;
+    /// The lane in the segment of which a key tells, where that is another one.
+    fn elsewhere(self, key: Key) -> Option<Own<'s, T>> {
+        let segment = self.room().segment_of(key)?;
+        if ptr::eq(segment, self.at.segment()) {
+            return None;
+        }
         let post = segment.post(self.post().number());
-        // SAFETY: a segment is there as long as the others, and this is that of the post; who has a lane has it in each.
-        Some(unsafe { Own::of(Near::new(post.keep(), NonNull::from(segment))) })
-    }
-
-    /// The same, where that is another segment.
-    fn elsewhere(self, key: Key) -> Option<Own<'s, T, Near<'s, T>>> {
-        let own = self.of_key(self.room(), key)?;
-        (!ptr::eq(own.at.segment(), self.at.segment())).then_some(own)
+        // SAFETY: a segment is there as long as the others; who has a lane has it in each.
+        Some(unsafe { Own::of(post.keep()) })
     }
 
     /// A get of this segment.
@@ -226,21 +222,22 @@ impl<'s, T: Clear, P: Stands<'s, T>> Own<'s, T, P> {
         self.elsewhere(key)?.get_here(key)
     }
 
-    /// A clear of this segment.
+    /// A clear.
     #[inline(always)]
-    pub(super) fn clear_here(self, key: Key) -> bool {
+    pub(super) fn clear(self, key: Key) -> bool {
         if self.at.segment().lacks(key) {
-            return false;
+            return self.clear_elsewhere(key);
         }
         let cleared = self.turn().clear(key);
         self.finish();
         cleared
     }
 
-    /// A clear that missed in this segment.
+    /// A clear of a key that this segment lacks.
+    #[cold]
     #[inline(never)]
-    pub(super) fn clear_elsewhere(self, key: Key) -> bool {
-        self.elsewhere(key).is_some_and(|own| own.clear_here(key))
+    fn clear_elsewhere(self, key: Key) -> bool {
+        self.elsewhere(key).is_some_and(|own| own.clear(key))
     }
 
     /// A create of the lane's shards in all segments.

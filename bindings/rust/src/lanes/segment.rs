@@ -6,7 +6,7 @@ use super::who::first_bits;
 use super::{ProvedLane, ProvedPool};
 use crate::clear::Clear;
 use crate::erased::keybits::{self, generation_of, Life, State};
-use crate::erased::poolsteps::life_word;
+use crate::erased::poolsteps::{life_word, Spot};
 use crate::erased::shardpool;
 use crate::errors::OpenError;
 use crate::key::Key;
@@ -141,22 +141,35 @@ impl<T: Clear> Segment<T> {
             .sum()
     }
 
-    /// Whether the segment has no object of this key: it is no key of it, or its place has another generation by now. That is told by loads
-    /// alone, and is so as of the last.
+    /// Whether the segment has no object of this key, as loads tell: it is no key of it, or its place has a later generation.
     #[inline(always)]
     pub(super) fn lacks(&self, key: Key) -> bool {
         let number = u64::from(key);
         let Some(spot) = self.proved.find(number) else {
             return true;
         };
-        // (The life word of this place: those of all stand side by side.)
-        let word = life_word(&self.proved.grid.shape, 0, spot.start as usize);
-        let words = &self.proved.grid.table.shared;
-        // The first load is a hint. A place's generation grows alone, so where it says no, the second does, which stands among the steps.
         // (Where tests watch the steps, those of a miss are made.)
-        !cfg!(pardz_trace)
-            && (words.peek(word) >> 32) as u32 != generation_of(number)
-            && words.look(word) >> 32 != u64::from(generation_of(number))
+        let word = self.proved.grid.table.shared.peek(self.life_of(spot));
+        let is_gone = !cfg!(pardz_trace) && (word >> 32) as u32 > generation_of(number);
+        if is_gone {
+            self.look_at(spot.place);
+        }
+        is_gone
+    }
+
+    /// Where the life word of a place stands. (Those of all stand side by side, so it is that of a position of the first shard.)
+    #[inline(always)]
+    fn life_of(&self, spot: Spot) -> usize {
+        life_word(&self.proved.grid.shape, 0, spot.start as usize)
+    }
+
+    /// A generation grows alone, so a key that is gone stays it. This load stands among the steps, and so does what is answered then. (It
+    /// is told the place, so that a get and its proved call find that alike, which the compiler sees.)
+    #[cold]
+    #[inline(never)]
+    fn look_at(&self, place: u32) {
+        let grid = &self.proved.grid;
+        grid.table.shared.look(self.life_of(grid.spot(place)));
     }
 
     /// What the places are now.

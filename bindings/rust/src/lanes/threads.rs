@@ -30,7 +30,8 @@ impl Drop for Kept {
 const POOLS: usize = 8;
 
 thread_local! {
-    /// By the last digit of a pool's number: the pool, and where the seat stands of the thread's lane that had a place last.
+    /// By the last digit of a pool's number: the pool, and where the seat stands of the thread's lane that had a place last; null where it
+    /// found none, and shares.
     static LAST: [Cell<(u64, *const ())>; POOLS] = const { [const { Cell::new((0, ptr::null())) }; POOLS] };
     /// Likewise: the pool, and the number of the shared lane that the thread called last.
     static LAST_SHARED: [Cell<(u64, u32)>; POOLS] = const { [const { Cell::new((0, 0)) }; POOLS] };
@@ -41,7 +42,7 @@ thread_local! {
     static KEPT: Kept = const { Kept(RefCell::new(Vec::new())) };
 }
 
-/// Where the seat stands of the thread's lane of this pool that had a place last, where that is known.
+/// Where the seat stands of the thread's lane of this pool that had a place last, or null where it shares; if that is known.
 #[inline(always)]
 pub(super) fn last(pool: u64) -> Option<*const ()> {
     let (last, at) = LAST.with(|all| all[pool as usize % POOLS].get());
@@ -53,6 +54,11 @@ pub(super) fn last(pool: u64) -> Option<*const ()> {
 /// The thread keeps the lane of this seat, in the pool of this number.
 pub(super) unsafe fn set_last(pool: u64, at: *const ()) {
     LAST.with(|all| all[pool as usize % POOLS].set((pool, at)));
+}
+
+/// The thread has no lane of this pool.
+pub(super) fn set_shares(pool: u64) {
+    LAST.with(|all| all[pool as usize % POOLS].set((pool, ptr::null())));
 }
 
 /// The shared lane of this pool that the thread called last, where that is known.

@@ -318,7 +318,8 @@ impl<'s, T: Clear, P: Stands<'s, T>> Turn<'s, T, P> {
             call.end();
             return Ok(None);
         };
-        let object = lane.read(&proved).address();
+        // SAFETY: the lane has a reference to the key, so a publish of this file put the object there.
+        let object = unsafe { lane.read(&proved).address() };
         call.end();
         let place = (proved.key, proved.start);
         let way = W::of(self.at.segment());

@@ -88,6 +88,12 @@ impl Lanes {
         })
     }
 
+    /// Whether no lane is at home, or left.
+    fn none_is_home(&self) -> bool {
+        let left = self.homes.0.left.load(Ordering::Relaxed);
+        left == 0 && self.home.load(Ordering::Relaxed) == 0
+    }
+
     fn are_many_shared(&self) -> bool {
         self.shared.load(Ordering::SeqCst).count_ones() > self.few
     }
@@ -118,14 +124,18 @@ impl<T: Clear> Room<T> {
     /// Which way the thread calls the pool. Its first call finds it a lane.
     #[inline(always)]
     pub(super) fn caller(&self) -> Caller<'_, T> {
-        match threads::last(self.id()) {
-            Some(at) => {
+        let Some(at) = threads::last(self.id()) else {
+            return self.find_caller();
+        };
+        match NonNull::new(at.cast_mut().cast()) {
+            Some(seat) => {
                 // SAFETY: `set_last` was told that the thread keeps the lane of this seat, of the pool of this number, which is borrowed.
                 // Where the thread has left it, it isn't found here any more.
-                let post = unsafe { Post::at(NonNull::new_unchecked(at.cast_mut().cast())) };
+                let post = unsafe { Post::at(seat) };
                 // SAFETY: as above.
                 Caller::Own(unsafe { Own::of(post) })
             }
+            None if self.lanes.none_is_home() => Caller::Sharing,
             None => self.find_caller(),
         }
     }
@@ -134,6 +144,7 @@ impl<T: Clear> Room<T> {
     #[inline(never)]
     fn find_caller(&self) -> Caller<'_, T> {
         let Some(number) = self.thread_number() else {
+            threads::set_shares(self.id());
             return Caller::Sharing;
         };
         let post = self.last_post(number);
@@ -160,10 +171,8 @@ impl<T: Clear> Room<T> {
             return Some(number);
         }
         let lanes = &self.lanes;
-        let left = lanes.homes.0.left.load(Ordering::Relaxed);
-        let none_is_home = left == 0 && lanes.home.load(Ordering::Relaxed) == 0;
         let is_first = threads::last_shared(self.id()).is_none();
-        if threads::has_ended() || none_is_home && !(is_first && lanes.are_many_shared()) {
+        if threads::has_ended() || lanes.none_is_home() && !(is_first && lanes.are_many_shared()) {
             return None;
         }
         self.welcome_back();

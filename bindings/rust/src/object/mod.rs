@@ -74,13 +74,16 @@ impl<T> Object<T> {
         }
     }
 
-    /// Where the object of a place stands that is published: it has a block, as a publish puts one there.
-    #[inline]
-    pub(crate) fn address(&self) -> NonNull<T> {
-        match self.body {
-            Some(body) => address(body),
-            None => shim::impossible!(),
-        }
+    /// Where the object stands.
+    ///
+    /// # Safety
+    ///
+    /// It has a block: its place is published, and a publish puts one there.
+    #[inline(always)]
+    pub(crate) unsafe fn address(&self) -> NonNull<T> {
+        debug_assert!(self.body.is_some());
+        // SAFETY: the caller's.
+        address(unsafe { self.body.unwrap_unchecked() })
     }
 
     /// The block goes to those that the call took out.

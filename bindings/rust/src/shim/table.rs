@@ -136,11 +136,10 @@ impl<S> Shared<S> {
         )
     }
 
-    /// What a word is now, by a load that stands in one order with all steps, and changes nothing. The sources don't make it, so it isn't
-    /// told to tests.
+    /// A load of a word that stands in one order with all steps, and changes nothing. The sources don't make it, so it isn't told to tests.
     #[inline(always)]
-    pub(crate) fn look(&self, index: usize) -> u64 {
-        self.word(index).load(SeqCst)
+    pub(crate) fn look(&self, index: usize) {
+        self.word(index).load(SeqCst);
     }
 
     /// What a word is now. No step, so nothing is told by it of what stands behind it.
