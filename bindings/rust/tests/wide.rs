@@ -90,7 +90,7 @@ fn each_page_of_a_lane() {
 /// Each of 64 threads has a lane, and finds and clears what others published.
 #[test]
 fn sixty_four_threads_have_lanes() {
-    const ROUNDS: u64 = 300;
+    const ROUNDS: u64 = 100;
     let _limit = limit();
     // (Of each lane 64 objects may be passed, and each other thread may have one.)
     let pool = opened(MOST_LANES, 64, 2);
@@ -102,8 +102,8 @@ fn sixty_four_threads_have_lanes() {
         assert!(lane.get(key).is_none());
         assert_eq!(object.0, place(key), "as long as there is a reference");
     };
-    let numbers = at_once((0..MOST_LANES).map(|_| {
-        let lane = pool.lane().expect("one for each thread");
+    let lanes: Vec<_> = (0..).map_while(|_| pool.lane()).collect();
+    let numbers = at_once(lanes.into_iter().map(|lane| {
         let (passed, take_and_clear) = (&passed, &take_and_clear);
         move || {
             for round in 0..ROUNDS {
