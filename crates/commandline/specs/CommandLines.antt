@@ -64,7 +64,9 @@ program = program_named (codes "poolrun")
 
 -- the program's command line
 abbrev pub command_line : App
-command_line = with_subcommand (with_subcommand (with_subcommand (with_subcommand (with_subcommand program replay_line.top) shorten_line.top) check_line.top) run_line.top) key_line.top
+command_line = with_subcommand
+    (with_subcommand (with_subcommand (with_subcommand (with_subcommand program replay_line.top) shorten_line.top) check_line.top)
+    run_line.top) key_line.top
 
 -- the file, the turns and the stop of a replay, by matches
 pub record HasTurns (rows : List Row) (file : List ℕ) (turns : Turns) (stop : Option Stop) : Type 0 where
@@ -92,7 +94,8 @@ AreMatchesOf name rows (Shorten file turns stop until) = (name ≡ codes "shorte
     × (first_of (codes "until") rows ≡ Some (string_bytes until))
 AreMatchesOf name rows (Check file) = (name ≡ codes "check") × (first_of (codes "acts") rows ≡ Some (string_bytes file))
 AreMatchesOf name rows (Run file) = (name ≡ codes "run") × (first_of (codes "file") rows ≡ Some (string_bytes file))
-AreMatchesOf name rows (Key number) = (name ≡ codes "key") × (flag_of (first_of (codes "word") rows) ≡ false) × (number_in rows ≡ Some number)
+AreMatchesOf name rows (Key number) = (name ≡ codes "key") × (flag_of (first_of (codes "word") rows) ≡ false)
+    × (number_in rows ≡ Some number)
 AreMatchesOf name rows (Word word) = (name ≡ codes "key") × (flag_of (first_of (codes "word") rows) ≡ true) × (number_in rows ≡ Some word)
 
 -- what clap matched, a subcommand's name and its matches, stands for the task

@@ -5,7 +5,8 @@ use Rattle.std.specs.Prelude.{ℕ, ◌+◌, ◌-◌, ◌*◌, ◌&&◌, ◌==◌
 abbrev pub hex_digit_of : ℕ → Option ℕ
 hex_digit_of byte =
     if nat_le 48 byte && nat_le byte 57 then Some (byte - 48)
-    else (if nat_le 97 byte && nat_le byte 102 then Some (byte - 87) else (if nat_le 65 byte && nat_le byte 70 then Some (byte - 55) else None))
+    else (if nat_le 97 byte && nat_le byte 102 then Some (byte - 87)
+    else (if nat_le 65 byte && nat_le byte 70 then Some (byte - 55) else None))
 
 -- a number with these digits behind it
 abbrev pub with_hex_digits : ℕ → List ℕ → Option ℕ

@@ -59,7 +59,8 @@ where_of reason found = []
 
 -- what is told of a mistake; the text that was found is cut where it is long
 abbrev pub mistake_told : Mistake → List ℕ
-mistake_told mistake = before_of mistake.reason ++ cut mistake.found.items ++ after_of mistake.reason ++ where_of mistake.reason mistake.found.items
+mistake_told mistake = before_of mistake.reason ++ cut mistake.found.items ++ after_of mistake.reason
+    ++ where_of mistake.reason mistake.found.items
 
 -- the line that explains a mistake
 abbrev pub mistake_text : Mistake → List ℕ

@@ -36,7 +36,8 @@ abbrev pub wrong_turns : Option (List ℕ) → Option (List ℕ) → Option (Lis
 wrong_turns None None None = Some (NoTurns, [])
 wrong_turns None (Some seed) None = Some (SeedAlone, seed)
 wrong_turns None None (Some turns) = Some (TurnsAlone, turns)
-wrong_turns None (Some seed) (Some turns) = first_wrong (unless_read (long_number seed) BadSeed seed) (unless_read (turn_count turns) BadTurns turns)
+wrong_turns None (Some seed) (Some turns) = first_wrong (unless_read (long_number seed) BadSeed seed)
+    (unless_read (turn_count turns) BadTurns turns)
 wrong_turns (Some schedule) None None = wrong_schedule (schedule_file schedule) schedule
 wrong_turns (Some schedule) seed turns = Some (ScheduleAndMore, schedule)
 
@@ -69,11 +70,13 @@ wrong_if false reason = None
 abbrev pub wrong_given : List Row → Option Wrong
 wrong_given rows = first_wrong (wrong_file (first_of (codes "file") rows))
     (first_wrong (wrong_turns (first_of (codes "schedule") rows) (first_of (codes "seed") rows) (first_of (codes "turns") rows))
-    (first_wrong (wrong_stop (first_of (codes "stop") rows)) (wrong_if (are_both_input (first_of (codes "file") rows) (first_of (codes "schedule") rows)) InputTwice)))
+    (first_wrong (wrong_stop (first_of (codes "stop") rows))
+    (wrong_if (are_both_input (first_of (codes "file") rows) (first_of (codes "schedule") rows)) InputTwice)))
 
 -- what is wrong with the matches of `replay`: what is wrong with a replay, then that two texts are wanted
 abbrev pub wrong_replay : List Row → Option Wrong
-wrong_replay rows = first_wrong (wrong_given rows) (wrong_if (is_flagged (codes "print-schedule") rows && is_flagged (codes "acts") rows) TwoTexts)
+wrong_replay rows = first_wrong (wrong_given rows) (wrong_if (is_flagged (codes "print-schedule") rows
+    && is_flagged (codes "acts") rows) TwoTexts)
 
 -- what is wrong with the matches of `shorten`: what is wrong with a replay, then with its word
 abbrev pub wrong_shorten : List Row → Option Wrong

@@ -51,14 +51,17 @@ abbrev pub ReportsClap : {E : Type 0} → (E → Option (List ℕ)) → Watched 
 ReportsClap contents before after status = SaysClap contents before after status ⊎ EndsByMemory contents before after status
 
 -- how the program ends by what clap says: nothing is written on the output but help, and what clap says of a mistake is clap's
-pub record EndsByClap {O E : Type 0} (contents : E → Option (List ℕ)) (kind : ErrorKind) (old new : Watched O) (before after : Watched E) (status : ℕ) : Type 0 where
+pub record EndsByClap {O E : Type 0} (contents : E
+    → Option (List ℕ)) (kind : ErrorKind) (old new : Watched O) (before after : Watched E) (status : ℕ) : Type 0 where
   pub memory : IsRefusal kind → (new ≡ old) × EndsByMemory contents before after status
   pub help : IsHelp kind → EndsByHelp contents new.failed before after status
   pub mistake : IsMistake kind → (new ≡ old) × ReportsClap contents before after status
 
 -- how the program ends whose words ask for nothing, by its status, and by what is written on the output and as errors
-abbrev pub EndsByWords : {O E : Type 0} → (E → Option (List ℕ)) → TaskFault → Bool → Watched O → Watched O → Watched E → Watched E → ℕ → Type 0
-EndsByWords contents (faults.Clap error) explain old new before after status = EndsByClap contents (kind_of error) old new before after status
+abbrev pub EndsByWords : {O E : Type 0} → (E → Option (List ℕ)) → TaskFault → Bool → Watched O → Watched O → Watched E → Watched E → ℕ
+    → Type 0
+EndsByWords contents (faults.Clap error) explain old new before after status = EndsByClap contents (kind_of error) old new before after
+    status
 EndsByWords contents (faults.Words mistake) explain old new before after status =
     (status ≡ 2) × (new ≡ old) × Says contents before after (words_text explain mistake)
 EndsByWords contents (faults.Memory refused) explain old new before after status = (new ≡ old) × EndsByMemory contents before after status

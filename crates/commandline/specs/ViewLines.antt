@@ -11,12 +11,14 @@ use Rattle.commandline.specs.declared.views.Viewing.{Viewing}
 -- the subcommand `picture`
 abbrev pub picture_line : App
 picture_line = line_of (codes "picture")
-    (positional (codes "file") ∷ option_named (codes "from") ∷ option_named (codes "turns") ∷ flag_named (codes "fit") ∷ flag_named (codes "whole")
+    (positional (codes "file") ∷ option_named (codes "from") ∷ option_named (codes "turns") ∷ flag_named (codes "fit")
+    ∷ flag_named (codes "whole")
     ∷ flag_named (codes "explain") ∷ [])
 
 -- the subcommand `words`
 abbrev pub words_line : App
-words_line = line_of (codes "words") (positional (codes "file") ∷ flag_named (codes "keys") ∷ flag_named (codes "numbers") ∷ flag_named (codes "explain") ∷ [])
+words_line = line_of (codes "words") (positional (codes "file") ∷ flag_named (codes "keys") ∷ flag_named (codes "numbers")
+    ∷ flag_named (codes "explain") ∷ [])
 
 -- the subcommand of this name, about a file alone
 abbrev pub plain_line : List ℕ → App
@@ -28,11 +30,14 @@ view_program = program_named (codes "poolview")
 
 -- the program with its subcommands of words
 abbrev pub worded_program : App
-worded_program = with_subcommand (with_subcommand (with_subcommand view_program picture_line.top) words_line.top) (plain_line (codes "summary")).top
+worded_program = with_subcommand (with_subcommand (with_subcommand view_program picture_line.top) words_line.top)
+    (plain_line (codes "summary")).top
 
 -- the program with those and its subcommands for other tools
 abbrev pub paged_program : App
-paged_program = with_subcommand (with_subcommand (with_subcommand worded_program (plain_line (codes "json")).top) (plain_line (codes "events")).top) (plain_line (codes "page")).top
+paged_program = with_subcommand
+    (with_subcommand (with_subcommand worded_program (plain_line (codes "json")).top) (plain_line (codes "events")).top)
+    (plain_line (codes "page")).top
 
 -- the program's command line
 abbrev pub view_line : App

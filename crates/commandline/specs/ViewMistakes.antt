@@ -16,7 +16,8 @@ wrong_if_given reason (Some text) = unless_read (turn_number text) reason text
 
 -- what is wrong with the turns of a picture
 abbrev pub wrong_picture : List Row → Option Wrong
-wrong_picture rows = first_wrong (wrong_if_given BadFrom (first_of (codes "from") rows)) (wrong_if_given BadCount (first_of (codes "turns") rows))
+wrong_picture rows = first_wrong (wrong_if_given BadFrom (first_of (codes "from") rows))
+    (wrong_if_given BadCount (first_of (codes "turns") rows))
 
 -- this is wrong with the matches of the subcommand with this name, beside its file
 pub record IsWrongView (name : List ℕ) (rows : List Row) (wrong : Wrong) : Type 0 where

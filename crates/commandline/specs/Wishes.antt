@@ -11,7 +11,8 @@ use Rattle.commandline.specs.declared.wishes.Wish.TheVariants.{Never, Always, Au
 abbrev pub wish_of : List ℕ → Option Wish
 wish_of word =
     if bytes_eq word (codes "--explain=never") then Some Never
-    else (if bytes_eq word (codes "--explain=always") then Some Always else (if bytes_eq word (codes "--explain=auto") then Some Auto else None))
+    else (if bytes_eq word (codes "--explain=always") then Some Always
+    else (if bytes_eq word (codes "--explain=auto") then Some Auto else None))
 
 -- a word by what it says of it: such a word is read as the flag
 abbrev pub plain_by : List ℕ → Option Wish → List ℕ

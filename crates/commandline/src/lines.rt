@@ -128,7 +128,8 @@ pub(crate) fn read_by_lines<'a>(
 ) -> Result<ArgMatches<'a>, ClapError>
     requires { is_simple (with_lines (program_named program.name.now) (map (λ line. line.now) lines.now)) ≡ true }
     ensures { IfOk result (λ m. subcommand_rows_of m
-        ≡ subcommand_of (with_lines (program_named program.entry.name.now) (map (λ line. line.now) lines.now)) (map string_bytes words.now)) }
+        ≡ subcommand_of (with_lines (program_named program.entry.name.now) (map (λ line. line.now) lines.now))
+        (map string_bytes words.now)) }
 {
     let Program {
         name,

@@ -46,7 +46,8 @@ pub record IsTable (z : Shape) (words : Words) (table : Table) : Type 0 where
   pub links_length : length table.links.items ≡ all_places z
   pub links : (place : ℕ) → is_place z place ≡ true → slice_index table.links.items (position_of z place) ≡ words.link place
   pub stacks_length : length table.stacks.items ≡ z.lanes * z.lanes
-  pub stacks : (shard lane : ℕ) → shard < z.lanes → lane < z.lanes → slice_index table.stacks.items (shard * z.lanes + lane) ≡ words.stack shard lane
+  pub stacks : (shard lane : ℕ) → shard < z.lanes → lane < z.lanes
+      → slice_index table.stacks.items (shard * z.lanes + lane) ≡ words.stack shard lane
 
 -- ---- what all lanes share
 
@@ -82,7 +83,8 @@ pub record IsDraft (shared : Shared) (w : World) (made : Option Made) : Type 0 w
   pub places : length shared.published.items ≡ all_places shared.shape
   pub published : (place : ℕ) (content : List ℕ) → is_place shared.shape place ≡ true
       → row_content (pool_after shared.shape w.history place).phase ≡ Some content
-      → IsPublished w.history (index_of_publish shared.shape shared.published.items (length shared.acts.items) (made_acts made) place) content
+      → IsPublished w.history (index_of_publish shared.shape shared.published.items (length shared.acts.items) (made_acts made) place)
+      content
 
 -- ---- a lane
 
@@ -107,7 +109,8 @@ pub record IsLaneAt (z : Shape) (history : List Act) (number : ℕ) (lane : Lane
       → row_content (pool_after z history (place_of key)).phase ≡ Some content
 
 -- a command has its reply, but isn't counted as done yet: the registers and lists are those after it
-pub record IsReplied (z : Shape) (history : List Act) (number : ℕ) (lane : Lane) (b : Book) (command : Command) (reply : Reply) (old new : Progress) : Type 0 where
+pub record IsReplied (z : Shape) (history : List Act) (number : ℕ) (lane : Lane) (b : Book) (command : Command) (reply : Reply)
+    (old new : Progress) : Type 0 where
   pub done : new.done ≡ old.done
   pub slots : AreSlots lane.script (old.done + 1) new.slots (registers_after b command reply)
   pub list : IsOwnList z lane.ring.items new.own
@@ -120,7 +123,8 @@ pub record IsReplied (z : Shape) (history : List Act) (number : ℕ) (lane : Lan
   pub settled : old.own.added ≡ None → new.own.added ≡ None
 
 -- the lane did all its work up to its next step or the script's end, with these replies
-pub record IsWorked (shared : Shared) (w : World) (made : Option Made) (number : ℕ) (lane : Lane) (old : Progress) (replies : List Reply) (new : Progress) : Type 0 where
+pub record IsWorked (shared : Shared) (w : World) (made : Option Made) (number : ℕ) (lane : Lane) (old : Progress) (replies : List Reply)
+    (new : Progress) : Type 0 where
   pub replied : AreReplies shared.shape (pool_after shared.shape w.history) number (w.books number) replies
   pub draft : IsDraft shared (record {
     history = w.history;
@@ -138,7 +142,8 @@ pub record IsWorked (shared : Shared) (w : World) (made : Option Made) (number :
 pub record IsCoreAt (w : World) (most : ℕ → Most) (shared : Shared) (lanes : List Lane) : Type 0 where
   pub draft : IsDraft shared w None
   pub count : length lanes ≡ shared.shape.lanes
-  pub lane : (number : ℕ) (lane : Lane) → slice_get lanes number ≡ Some lane → IsLaneAt shared.shape w.history number lane lane.progress (w.books number)
+  pub lane : (number : ℕ) (lane : Lane) → slice_get lanes number ≡ Some lane
+      → IsLaneAt shared.shape w.history number lane lane.progress (w.books number)
   pub settled : (number : ℕ) (lane : Lane) → slice_get lanes number ≡ Some lane → lane.progress.own.added ≡ None
   pub most_is : (number : ℕ) (lane : Lane) → slice_get lanes number ≡ Some lane → lane.progress.most ≡ most number
   pub bounded : (number : ℕ) → ((most number).create ≤ shared.shape.lanes) × ((most number).other ≤ most_other_steps)
@@ -146,7 +151,8 @@ pub record IsCoreAt (w : World) (most : ℕ → Most) (shared : Shared) (lanes :
 
 -- what all lanes share is as before, but for the room of what grows
 abbrev pub SameShared : Shared → Shared → Type 0
-SameShared old new = (new.shape ≡ old.shape) × (new.words ≡ old.words) × (new.published.items ≡ old.published.items) × (new.acts.items ≡ old.acts.items)
+SameShared old new = (new.shape ≡ old.shape) × (new.words ≡ old.words) × (new.published.items ≡ old.published.items)
+    × (new.acts.items ≡ old.acts.items)
 
 -- a core: what all lanes share, and the lanes
 pub record CoreState : Type 0 where
@@ -178,4 +184,5 @@ Turns old w most lane turn new = MatchBool (is_finished old.shared.shape w lane)
 
 -- the core keeps what these turns have made, which are those of the schedule, and after each of which the facts stand
 abbrev pub IsRun : Shape → World → List ℕ → List Turn → CoreState → Type 0
-IsRun z w schedule turns core = AreTurns z w schedule turns × StandsThroughout z w turns × ((most : ℕ → Most) × IsCore (world_from z w turns) most core)
+IsRun z w schedule turns core = AreTurns z w schedule turns × StandsThroughout z w turns
+    × ((most : ℕ → Most) × IsCore (world_from z w turns) most core)

@@ -42,8 +42,10 @@ impl Shared {
         made: Option<&Made>,
     ) -> Option<Aim>
         requires lane { number < self.now.shape.lanes }
-        requires draft { (w : World) × IsDraft self.now w (option_copied made) × IsLaneAt self.now.shape w.history number lane.now progress.now (w.books number) }
-        ensures { (w : World) → IsDraft self.now w (option_copied made.entry) → IsLaneAt self.now.shape w.history number lane.now progress.now (w.books number)
+        requires draft { (w : World) × IsDraft self.now w (option_copied made)
+            × IsLaneAt self.now.shape w.history number lane.now progress.now (w.books number) }
+        ensures { (w : World) → IsDraft self.now w (option_copied made.entry)
+            → IsLaneAt self.now.shape w.history number lane.now progress.now (w.books number)
             → IsAim result (next_aim self.now.shape number (w.books number)) }
     {
         let Some(command) = lane.script.as_slice().get(progress.done) else {
@@ -118,7 +120,9 @@ impl Shared {
 
     /// The first place of a chain that is still to be followed.
     pub(crate) fn chained(&self, chain: Chain, made: Option<&Made>) -> Option<u32>
-        ensures { (places : List ℕ) → IsChained (self.now.acts.items ++ made_acts (option_copied made.entry)) chain places → MatchOption result (places ≡ []) (λ place. (more : List ℕ) × (places ≡ place ∷ more) × (chain.followed < 18446744073709551615)) }
+        ensures { (places : List ℕ) → IsChained (self.now.acts.items ++ made_acts (option_copied made.entry)) chain places
+            → MatchOption result (places ≡ []) (λ place. (more : List ℕ) × (places ≡ place ∷ more)
+            × (chain.followed < 18446744073709551615)) }
     {
         let Some(index) = chain.collect else {
             return None;
@@ -131,7 +135,8 @@ impl Shared {
 
     /// An act of the history, or the one that is about to be made. Nothing is said of an index beyond these.
     fn act_at<'a>(&'a self, index: usize, made: Option<&'a Made>) -> Option<&'a Act>
-        ensures { (act : Act) → slice_get (self.now.acts.items ++ made_acts (option_copied made.entry)) index ≡ Some act → option_copied result ≡ Some act }
+        ensures { (act : Act) → slice_get (self.now.acts.items ++ made_acts (option_copied made.entry)) index ≡ Some act
+            → option_copied result ≡ Some act }
     {
         if index < self.acts.len() {
             return self.acts.get(index);
@@ -145,7 +150,8 @@ impl Shared {
 
 /// Whether the step is an ENTER that hit the key.
 fn has_hit(key: u64, step: Step) -> bool
-    ensures { MatchBool result ((step.kind ≡ kinds.Enter) × (is_hit key step.before ≡ true)) (step.kind ≡ kinds.Enter → is_hit key step.before ≡ false) }
+    ensures { MatchBool result ((step.kind ≡ kinds.Enter) × (is_hit key step.before ≡ true)) (step.kind ≡ kinds.Enter
+        → is_hit key step.before ≡ false) }
 {
     match step.kind {
         Kind::Enter => is_hit(key, step.before),
@@ -168,7 +174,8 @@ fn next_step(shape: &Shape, lane: u32, pushed: &[u64; LANES], call: Call, step: 
     requires lane { lane < MOST_LANES }
     requires place { (script : List Command) × (done : ℕ) × (b : Book) × (is : calls.Call)
         × IsCall script done b (Some call) (Some is) × (shard_of (place_of (key_in is)) < MOST_LANES) }
-    requires take { (shard from : ℕ) → step.kind ≡ kinds.Take → step.word ≡ words.Stack shard from → (from < MOST_LANES) × (step.before ≤ SHARD_NUMBERS) }
+    requires take { (shard from : ℕ) → step.kind ≡ kinds.Take → step.word ≡ words.Stack shard from → (from < MOST_LANES)
+        × (step.before ≤ SHARD_NUMBERS) }
     ensures { (script : List Command) (done : ℕ) (b : Book) (is : calls.Call) → IsCall script done b (Some call) (Some is)
         → AreSteps (caller shape.now lane b) is [] b.steps → AreFound b.steps → last_step b.steps ≡ Some step
         → ((shard : ℕ) → shard < MOST_LANES → slice_index pushed.now shard ≡ pushed_after b.steps b.pushed shard)
@@ -258,7 +265,8 @@ fn link(expected: u64, place: u32) -> Option<Aim>
 /// The step of a create after this one: the next TAKE where it found none, a FOLLOW where it took a chain.
 fn next_of_create(shape: &Shape, lane: u32, step: Step) -> Option<Aim>
     requires lane { lane < MOST_LANES }
-    requires take { (shard from : ℕ) → step.kind ≡ kinds.Take → step.word ≡ words.Stack shard from → (from < MOST_LANES) × (step.before ≤ SHARD_NUMBERS) }
+    requires take { (shard from : ℕ) → step.kind ≡ kinds.Take → step.word ≡ words.Stack shard from → (from < MOST_LANES)
+        × (step.before ≤ SHARD_NUMBERS) }
     ensures { (b : Book) (own chain : List ℕ) (opened : ℕ) → AreSteps (caller shape.now lane b) (calls.Creating own chain opened) [] b.steps
         → last_step b.steps ≡ Some step
         → IsAim result (calls.next_step (caller shape.now lane b) (calls.Creating own chain opened) b.steps) }

@@ -33,7 +33,8 @@ impl Shared {
         made: Option<&Made>,
     ) -> Result<Replies, CoreFault>
         requires lane { number < self.now.shape.lanes }
-        requires draft { (w : World) × IsDraft self.now w (option_copied made) × IsLaneAt self.now.shape w.history number lane.now progress.old (w.books number) }
+        requires draft { (w : World) × IsDraft self.now w (option_copied made)
+            × IsLaneAt self.now.shape w.history number lane.now progress.old (w.books number) }
         ensures { IfOk result (λ replies. (w : World) → IsDraft self.now w (option_copied made.entry)
             → IsLaneAt self.now.shape w.history number lane.now progress.old (w.books number)
             → IsWorked self.now w (option_copied made.entry) number lane.now progress.old replies progress.new) }
@@ -54,7 +55,8 @@ impl Shared {
         made: Option<&Made>,
     ) -> Result<Option<Reply>, CoreFault>
         requires lane { number < self.now.shape.lanes }
-        requires draft { (w : World) × IsDraft self.now w (option_copied made) × IsLaneAt self.now.shape w.history number lane.now progress.old (w.books number) }
+        requires draft { (w : World) × IsDraft self.now w (option_copied made)
+            × IsLaneAt self.now.shape w.history number lane.now progress.old (w.books number) }
         ensures { IfOk result (λ response. (w : World) → IsDraft self.now w (option_copied made.entry)
             → IsLaneAt self.now.shape w.history number lane.now progress.old (w.books number)
             → MatchOption response
@@ -156,16 +158,21 @@ impl Shared {
         requires lane { number < self.now.shape.lanes }
         requires list { IsOwnList self.now.shape lane.now.ring.items progress.old.own }
         requires chain { (places : List ℕ) × IsChained (self.now.acts.items ++ made_acts (option_copied made)) progress.old.chain places }
-        ensures place { (places : List ℕ) → IsChained (self.now.acts.items ++ made_acts (option_copied made.entry)) progress.old.chain places
+        ensures place { (places : List ℕ)
+            → IsChained (self.now.acts.items ++ made_acts (option_copied made.entry)) progress.old.chain places
             → result ≡ handed_first (own_places self.now.shape number lane.now.ring.items progress.old.own)
-            (handed_first places (if nat_lt progress.old.own.opened self.now.shape.pages then Some (place_at number progress.old.own.opened 0) else None)) }
+            (handed_first places (if nat_lt progress.old.own.opened self.now.shape.pages then Some
+            (place_at number progress.old.own.opened 0) else None)) }
         ensures free { (places : List ℕ) → IsChained (self.now.acts.items ++ made_acts (option_copied made.entry)) progress.old.chain places
             → (own_places self.now.shape number lane.now.ring.items progress.new.own
-            ≡ (after_own self.now.shape number progress.old.own.opened [] places (own_places self.now.shape number lane.now.ring.items progress.old.own)).own)
+            ≡ (after_own self.now.shape number progress.old.own.opened [] places
+            (own_places self.now.shape number lane.now.ring.items progress.old.own)).own)
             × IsChained (self.now.acts.items ++ made_acts (option_copied made.entry)) progress.new.chain
-            (after_own self.now.shape number progress.old.own.opened [] places (own_places self.now.shape number lane.now.ring.items progress.old.own)).chain
+            (after_own self.now.shape number progress.old.own.opened [] places
+            (own_places self.now.shape number lane.now.ring.items progress.old.own)).chain
             × (progress.new.own.opened
-            ≡ (after_own self.now.shape number progress.old.own.opened [] places (own_places self.now.shape number lane.now.ring.items progress.old.own)).opened) }
+            ≡ (after_own self.now.shape number progress.old.own.opened [] places
+            (own_places self.now.shape number lane.now.ring.items progress.old.own)).opened) }
         ensures list { IsOwnList self.now.shape lane.now.ring.items progress.new.own }
         ensures rest { progress.new ≡ record progress.old { own = progress.new.own; chain = progress.new.chain } }
         ensures settled { progress.old.own.added ≡ None → progress.new.own.added ≡ None }

@@ -38,7 +38,8 @@ impl Progress {
             → IsStep shape.now number w.words (w.books number) made.now.step made.now.act
             → IsLegal shape.now (w.history ++ act_list made.now.act)
             → index ≡ length w.history → (w.books number).left ≡ command.now ∷ more → self.old.own.added ≡ None
-            → IsLaneAt shape.now (w.history ++ act_list made.now.act) number lane self.new (stepped (w.books number) made.now.step made.now.act)
+            → IsLaneAt shape.now (w.history
+            ++ act_list made.now.act) number lane self.new (stepped (w.books number) made.now.step made.now.act)
             × (self.new.most ≡ counted (command.now ∷ more) (length (w.books number).steps + 1) self.old.most) }
     {
         self.count(command, made.step);
@@ -68,7 +69,8 @@ impl Progress {
     /// Remembers the word that a PUSH that succeeded left on its stack.
     fn note_push(&mut self, step: Step)
         requires count { length self.old.pushed ≡ LANES }
-        requires shard { (expected link shard lane : ℕ) → step.kind ≡ kinds.Push expected link → step.word ≡ words.Stack shard lane → shard < MOST_LANES }
+        requires shard { (expected link shard lane : ℕ) → step.kind ≡ kinds.Push expected link → step.word ≡ words.Stack shard lane
+            → shard < MOST_LANES }
         ensures others { self.new ≡ record self.old { pushed = self.new.pushed } }
         ensures count { length self.new.pushed ≡ LANES }
         ensures pushed { (shard : ℕ) → slice_index self.new.pushed shard

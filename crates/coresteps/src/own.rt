@@ -66,7 +66,8 @@ impl OwnList {
     pub(crate) fn is_empty(&self, shape: &Shape) -> bool
         requires shape { IsShape shape.now }
         requires pages { self.now.opened ≤ shape.now.pages }
-        ensures { (lane : ℕ) (ring : List ℕ) → IsOwnList shape.now ring self.now → MatchBool result (own_places shape.now lane ring self.now ≡ []) (own_places shape.now lane ring self.now ≢ []) }
+        ensures { (lane : ℕ) (ring : List ℕ) → IsOwnList shape.now ring self.now
+            → MatchBool result (own_places shape.now lane ring self.now ≡ []) (own_places shape.now lane ring self.now ≢ []) }
     {
         let none_unused = self.opened == 0 || self.unused >= shape.page_size(self.opened - 1);
         none_unused && self.length == 0 && self.added.is_none()
@@ -79,7 +80,8 @@ impl OwnList {
         requires pages { self.old.opened ≤ shape.now.pages }
         ensures place { MatchOption result
             ((unused_places shape.now lane self.old.opened self.old.unused ≡ []) × (self.new ≡ self.old))
-            (λ place. (unused_places shape.now lane self.old.opened self.old.unused ≡ place ∷ unused_places shape.now lane self.new.opened self.new.unused)
+            (λ place. (unused_places shape.now lane self.old.opened self.old.unused ≡ place
+            ∷ unused_places shape.now lane self.new.opened self.new.unused)
             × (self.new ≡ record self.old { unused = self.old.unused + 1 })) }
     {
         if self.opened == 0 {
@@ -102,7 +104,8 @@ impl OwnList {
         requires empty { own_places shape.now lane ring.now self.old ≡ [] }
         ensures place { MatchOption result
             ((shape.now.pages ≤ self.old.opened) × (self.new ≡ self.old))
-            (λ place. (self.old.opened < shape.now.pages) × (place ≡ place_at lane self.old.opened 0) × (self.new.opened ≡ self.old.opened + 1)
+            (λ place. (self.old.opened < shape.now.pages) × (place ≡ place_at lane self.old.opened 0)
+            × (self.new.opened ≡ self.old.opened + 1)
             × (own_places shape.now lane ring.now self.new ≡ drop 1 (page_places shape.now lane self.old.opened))) }
         ensures list { IsOwnList shape.now ring.now self.new }
         ensures settled { self.old.added ≡ None → self.new.added ≡ None }

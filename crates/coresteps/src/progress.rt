@@ -128,7 +128,8 @@ impl Progress {
 
     /// Sets what a register holds, and the last key that it had.
     pub(crate) fn set_slot(&mut self, register: Register, held: Held, last_key: Option<u64>)
-        ensures { self.new ≡ record self.old { slots = slice_set self.old.slots register.number (record { held = held; last_key = last_key }) } }
+        ensures { self.new ≡ record self.old
+            { slots = slice_set self.old.slots register.number (record { held = held; last_key = last_key }) } }
     {
         self.slots[register.number as usize] = KeptRegister { held, last_key };
     }

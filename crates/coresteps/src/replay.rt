@@ -70,8 +70,10 @@ impl Core {
     /// turn of a finished lane, or of a number that is no lane, does nothing and takes no memory. Where memory is
     /// refused (25), the core is as before.
     pub fn turn(&mut self, lane: u32) -> Result<Turn, CoreFault>
-        ensures ok { IfOk result (λ turn. (w : World) (most : ℕ → Most) → IsCore w most self.old → Turns self.old w most lane turn self.new) }
-        ensures finished { (w : World) (most : ℕ → Most) → IsCore w most self.old → is_finished self.old.shared.shape w lane ≡ true → IsOk result }
+        ensures ok { IfOk result (λ turn. (w : World) (most : ℕ → Most) → IsCore w most self.old
+            → Turns self.old w most lane turn self.new) }
+        ensures finished { (w : World) (most : ℕ → Most) → IsCore w most self.old → is_finished self.old.shared.shape w lane ≡ true
+            → IsOk result }
         ensures err { OnErr result ((w : World) (most : ℕ → Most) → IsCore w most self.old → IsCore w most self.new) }
         ensures same { OnErr result (SameShared self.old.shared self.new.shared × (self.new.lanes ≡ self.old.lanes)) }
         ensures shape { self.new.shared.shape ≡ self.old.shared.shape }
@@ -163,9 +165,12 @@ impl Shared {
 
 /// The next turn of a lane that isn't finished. Where memory is refused, the core is as before.
 fn next_turn(shared: &mut Shared, lanes: &mut Vec<Lane>, lane: u32) -> Result<Turn, CoreFault>
-    requires { (w : World) × (most : ℕ → Most) × IsCoreAt w most shared.old lanes.old.items × (is_finished shared.old.shape w lane ≡ false) }
-    ensures ok { IfOk result (λ turn. (w : World) (most : ℕ → Most) → IsCoreAt w most shared.old lanes.old.items → is_finished shared.old.shape w lane ≡ false
-        → MakesTurn (record { shared = shared.old; lanes = lanes.old.items }) w most lane turn (record { shared = shared.new; lanes = lanes.new.items })) }
+    requires { (w : World) × (most : ℕ → Most) × IsCoreAt w most shared.old lanes.old.items
+        × (is_finished shared.old.shape w lane ≡ false) }
+    ensures ok { IfOk result (λ turn. (w : World) (most : ℕ → Most) → IsCoreAt w most shared.old lanes.old.items
+        → is_finished shared.old.shape w lane ≡ false
+        → MakesTurn (record { shared = shared.old; lanes = lanes.old.items }) w most lane turn
+        (record { shared = shared.new; lanes = lanes.new.items })) }
     ensures same { OnErr result (SameShared shared.old shared.new × (lanes.new.items ≡ lanes.old.items)) }
     ensures shape { shared.new.shape ≡ shared.old.shape }
 {
@@ -188,10 +193,12 @@ fn advance(
     requires lane { lane < shared.old.shape.lanes }
     requires draft { (w : World) × IsDraft shared.old w None × IsLaneAt shared.old.shape w.history lane of.now progress.old (w.books lane) }
     requires added { progress.old.own.added ≡ None }
-    ensures ok { IfOk result (λ turn. (w : World) → IsDraft shared.old w None → IsLaneAt shared.old.shape w.history lane of.now progress.old (w.books lane)
+    ensures ok { IfOk result (λ turn. (w : World) → IsDraft shared.old w None
+        → IsLaneAt shared.old.shape w.history lane of.now progress.old (w.books lane)
         → is_finished shared.old.shape w lane ≡ false
         → (turn.lane ≡ lane) × IsNextTurn shared.old.shape w turn × IsDraft shared.new (world_after shared.old.shape w turn) None
-        × IsLaneAt shared.old.shape (world_after shared.old.shape w turn).history lane of.now progress.new (book_after shared.old.shape w turn)
+        × IsLaneAt shared.old.shape (world_after shared.old.shape w turn).history lane of.now progress.new
+        (book_after shared.old.shape w turn)
         × (progress.new.most ≡ counted_step (book_before shared.old.shape w turn) turn.step progress.old.most)) }
     ensures same { OnErr result (SameShared shared.old shared.new) }
     ensures shape { shared.new.shape ≡ shared.old.shape }
@@ -230,7 +237,8 @@ fn finish_step(
     made: &Made,
 ) -> Result<Replies, CoreFault>
     requires lane { lane < shared.old.shape.lanes }
-    requires draft { (w : World) × IsDraft shared.old w (Some made.now) × IsLaneAt shared.old.shape w.history lane of.now progress.old (w.books lane) }
+    requires draft { (w : World) × IsDraft shared.old w (Some made.now)
+        × IsLaneAt shared.old.shape w.history lane of.now progress.old (w.books lane) }
     requires word { IsWordOf shared.old.shape made.now.step.word }
     requires place { (lane key : ℕ) (content : List ℕ) (with_ref : Bool) → made.now.act ≡ Some (Publish lane key content with_ref)
         → is_place shared.old.shape (place_of key) ≡ true }
@@ -264,7 +272,8 @@ fn new_lanes(alloc: Global, shape: &Shape, scripts: Vec<Script>) -> Result<Vec<L
     requires { IsShape shape.now }
     ensures { IfOk result (λ lanes. (length lanes.items ≡ length scripts.items)
         × ((number : ℕ) (lane : Lane) → slice_get lanes.items number ≡ Some lane
-        → (slice_get scripts.items number ≡ Some lane.script) × (lane.ring.items ≡ replicate (shard_places shape.now) 0) × (lane.progress ≡ first_progress))) }
+        → (slice_get scripts.items number ≡ Some lane.script) × (lane.ring.items ≡ replicate (shard_places shape.now) 0)
+        × (lane.progress ≡ first_progress))) }
 {
     let mut lanes = Vec::with_capacity(alloc, scripts.len())?;
     for script in scripts {
@@ -276,7 +285,8 @@ fn new_lanes(alloc: Global, shape: &Shape, scripts: Vec<Script>) -> Result<Vec<L
 /// A lane before its first turn.
 fn new_lane(alloc: Global, shape: &Shape, script: Script) -> Result<Lane, CoreFault>
     requires { IsShape shape.now }
-    ensures { IfOk result (λ lane. (lane.script ≡ script) × (lane.ring.items ≡ replicate (shard_places shape.now) 0) × (lane.progress ≡ first_progress)) }
+    ensures { IfOk result (λ lane. (lane.script ≡ script) × (lane.ring.items ≡ replicate (shard_places shape.now) 0)
+        × (lane.progress ≡ first_progress)) }
 {
     let ring = vec![in alloc; 0; shape.shard_places() as usize]?;
     Ok(Lane {
@@ -289,7 +299,8 @@ fn new_lane(alloc: Global, shape: &Shape, script: Script) -> Result<Lane, CoreFa
 /// One more entry of a schedule: the turn that it makes, if it makes one, goes into the trace.
 fn add_turn(core: &mut Core, trace: &mut Trace, lane: u32) -> Result<(), CoreFault>
     ensures run { OnOk result ((w : World) (schedule : List ℕ)
-        → IsRun core.old.shared.shape w schedule trace.old core.old → IsRun core.old.shared.shape w (schedule ++ lane ∷ []) trace.new core.new) }
+        → IsRun core.old.shared.shape w schedule trace.old core.old
+        → IsRun core.old.shared.shape w (schedule ++ lane ∷ []) trace.new core.new) }
     ensures shape { core.new.shared.shape ≡ core.old.shared.shape }
 {
     if core.finished(lane) {

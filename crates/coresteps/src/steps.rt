@@ -42,11 +42,14 @@ impl Shared {
         aim: Aim,
     ) -> Result<Made, CoreFault>
         requires lane { number < self.now.shape.lanes }
-        requires draft { (w : World) × IsDraft self.now w None × IsLaneAt self.now.shape w.history number lane.now progress.now (w.books number)
+        requires draft { (w : World) × IsDraft self.now w None
+            × IsLaneAt self.now.shape w.history number lane.now progress.now (w.books number)
             × (next_aim self.now.shape number (w.books number) ≡ Some (aim_of aim)) }
-        ensures { IfOk result (λ made. (w : World) → IsDraft self.now w None → IsLaneAt self.now.shape w.history number lane.now progress.now (w.books number)
+        ensures { IfOk result (λ made. (w : World) → IsDraft self.now w None
+            → IsLaneAt self.now.shape w.history number lane.now progress.now (w.books number)
             → next_aim self.now.shape number (w.books number) ≡ Some (aim_of aim)
-            → IsStep self.now.shape number w.words (w.books number) made.step made.act × IsLegal self.now.shape (w.history ++ act_list made.act)) }
+            → IsStep self.now.shape number w.words (w.books number) made.step made.act
+            × IsLegal self.now.shape (w.history ++ act_list made.act)) }
     {
         let before = self.words.load(&self.shape, aim.word);
         let after = word_after(aim.kind, before, self.shape.last_generation);
@@ -74,7 +77,8 @@ impl Shared {
             × IsStep self.now.shape number w.words (w.books number) step act × IsLegal self.now.shape (w.history ++ act_list act) }
         ensures { IfOk result (λ made. (w : World) (act : Option Act) → IsDraft self.now w None
             → IsLaneAt self.now.shape w.history number lane.now progress.now (w.books number)
-            → IsStep self.now.shape number w.words (w.books number) step act → IsLegal self.now.shape (w.history ++ act_list act) → made ≡ act) }
+            → IsStep self.now.shape number w.words (w.books number) step act → IsLegal self.now.shape (w.history ++ act_list act)
+            → made ≡ act) }
     {
         let Some(command) = lane.script.as_slice().get(progress.done) else {
             return Ok(None);
@@ -101,7 +105,8 @@ impl Shared {
             × IsStep self.now.shape number w.words (w.books number) step act × IsLegal self.now.shape (w.history ++ act_list act) }
         ensures { IfOk result (λ made. (w : World) (act : Option Act) → IsDraft self.now w None
             → IsCall lane.now.script done (w.books number) (Some call) (call_under_way (w.books number))
-            → IsStep self.now.shape number w.words (w.books number) step act → IsLegal self.now.shape (w.history ++ act_list act) → made ≡ act) }
+            → IsStep self.now.shape number w.words (w.books number) step act → IsLegal self.now.shape (w.history ++ act_list act)
+            → made ≡ act) }
     {
         match step.kind {
             Kind::Enter => self.act_of_enter(number, call, step.before),
@@ -119,10 +124,12 @@ impl Shared {
 
     /// The act of an ENTER that found this word: a get with its content or nothing, or a clear that missed.
     fn act_of_enter(&self, number: u32, call: Call, before: u64) -> Result<Option<Act>, CoreFault>
-        requires draft { (w : World) × (called : steps.Call) × (act : Option Act) × (c : Caller) × (script : List Command) × (done : ℕ) × (b : Book)
+        requires draft { (w : World) × (called : steps.Call) × (act : Option Act) × (c : Caller) × (script : List Command) × (done : ℕ)
+            × (b : Book)
             × IsDraft self.now w None × IsCall script done b (Some call) (Some called) × EnterMakes c called before act
             × IsLegal self.now.shape (w.history ++ act_list act) }
-        ensures { IfOk result (λ made. (w : World) (called : steps.Call) (act : Option Act) (c : Caller) (script : List Command) (done : ℕ) (b : Book)
+        ensures { IfOk result (λ made. (w : World) (called : steps.Call) (act : Option Act) (c : Caller) (script : List Command)
+            (done : ℕ) (b : Book)
             → IsDraft self.now w None → IsCall script done b (Some call) (Some called) → EnterMakes c called before act → c.lane ≡ number
             → IsLegal self.now.shape (w.history ++ act_list act) → made ≡ act) }
     {
@@ -181,9 +188,11 @@ impl Shared {
     fn act_of_claim(&self, number: u32, call: Call, generation: u32, before: u64) -> Option<Act>
         requires shape { IsShape self.now.shape }
         requires claim { is_claimed generation before ≡ true → (called : steps.Call) × (script : List Command) × (done : ℕ) × (b : Book)
-            × IsCall script done b (Some call) (Some called) × (is_place self.now.shape (place_of (key_in called)) ≡ true) × (1 ≤ generation) }
+            × IsCall script done b (Some call) (Some called) × (is_place self.now.shape (place_of (key_in called)) ≡ true)
+            × (1 ≤ generation) }
         ensures { (called : steps.Call) (script : List Command) (done : ℕ) (b : Book) → IsCall script done b (Some call) (Some called)
-            → result ≡ (if is_claimed generation before then Some (acts.Reclaim number (key_number self.now.shape.tag (place_of (key_in called)) generation)) else None) }
+            → result ≡ (if is_claimed generation before then Some
+            (acts.Reclaim number (key_number self.now.shape.tag (place_of (key_in called)) generation)) else None) }
     {
         if before == claimable(generation) {
             Some(Act::Reclaim {
@@ -199,7 +208,8 @@ impl Shared {
     fn act_of_take(&self, number: u32, before: u64) -> Result<Option<Act>, CoreFault>
         requires shape { IsShape self.now.shape }
         requires lane { number < self.now.shape.lanes }
-        requires take { (words : Words) × (c : Caller) × (act : Option Act) × (history : List Act) × IsTable self.now.shape words self.now.words
+        requires take { (words : Words) × (c : Caller) × (act : Option Act) × (history : List Act)
+            × IsTable self.now.shape words self.now.words
             × TakeMakes c words.link before act × (c.lane ≡ number) × IsLegal self.now.shape (history ++ act_list act) }
         ensures { IfOk result (λ made. (words : Words) (c : Caller) (act : Option Act) → IsTable self.now.shape words self.now.words
             → TakeMakes c words.link before act → c.lane ≡ number → made ≡ act) }
@@ -272,7 +282,8 @@ impl Shared {
         requires shape { IsShape self.now.shape }
         requires place { is_place self.now.shape place ≡ true }
         requires published { length self.now.published.items ≡ all_places self.now.shape }
-        ensures { result ≡ index_of_publish self.now.shape self.now.published.items (length self.now.acts.items) (made_acts (option_copied made.entry)) place }
+        ensures { result ≡ index_of_publish self.now.shape self.now.published.items (length self.now.acts.items)
+            (made_acts (option_copied made.entry)) place }
     {
         if let Some(
             Made {
@@ -347,7 +358,8 @@ fn act_of_push(number: u32, call: Call, expected: u64, before: u64) -> Option<Ac
 
 /// The key of a call; 0 of a create.
 fn key_in(call: Call) -> u64
-    ensures { (called : steps.Call) (script : List Command) (done : ℕ) (b : Book) → IsCall script done b (Some call) (Some called) → result ≡ key_in called }
+    ensures { (called : steps.Call) (script : List Command) (done : ℕ) (b : Book) → IsCall script done b (Some call) (Some called)
+        → result ≡ key_in called }
 {
     match call {
         Call::Publish { key, .. }
@@ -360,7 +372,8 @@ fn key_in(call: Call) -> u64
 
 /// The content that an act published.
 fn copied_content(alloc: Global, act: &Act) -> Result<Bytes, CoreFault>
-    ensures { IfOk result (λ bytes. (lane key : ℕ) (text : List ℕ) (with_ref : Bool) → act.now ≡ acts.Publish lane key text with_ref → bytes ≡ text) }
+    ensures { IfOk result (λ bytes. (lane key : ℕ) (text : List ℕ) (with_ref : Bool) → act.now ≡ acts.Publish lane key text with_ref
+        → bytes ≡ text) }
 {
     match act {
         Act::Publish { content, .. } => Ok(content.copy(alloc)?),

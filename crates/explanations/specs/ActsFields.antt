@@ -36,7 +36,9 @@ are_pairs text = not (length text == 0) && (length text % 2 == 0) && list_all is
 -- the name of an act
 abbrev pub is_name : List ℕ → Bool
 is_name text =
-    bytes_eq text (codes "publish") || (bytes_eq text (codes "get") || (bytes_eq text (codes "release") || (bytes_eq text (codes "clear") || (bytes_eq text (codes "reclaim")
+    bytes_eq text (codes "publish")
+    || (bytes_eq text (codes "get")
+    || (bytes_eq text (codes "release") || (bytes_eq text (codes "clear") || (bytes_eq text (codes "reclaim")
     || (bytes_eq text (codes "home") || bytes_eq text (codes "collect"))))))
 
 -- the field is what it is to be
@@ -77,7 +79,8 @@ shape_wants count =
 unfoldable pub wants_by : List ℕ → List ℕ → List Want
 wants_by name fourth =
     if bytes_eq name (codes "publish") then Lane ∷ Name ∷ Key ∷ Content ∷ Flag ∷ [] else
-    (if bytes_eq name (codes "get") then (if bytes_eq fourth (codes "some") then Lane ∷ Name ∷ Key ∷ Reply ∷ Content ∷ [] else Lane ∷ Name ∷ Key ∷ Reply ∷ []) else
+    (if bytes_eq name (codes "get") then (if bytes_eq fourth (codes "some") then Lane ∷ Name ∷ Key ∷ Reply ∷ Content ∷ []
+    else Lane ∷ Name ∷ Key ∷ Reply ∷ []) else
     (if bytes_eq name (codes "clear") then Lane ∷ Name ∷ Key ∷ Truth ∷ [] else
     (if bytes_eq name (codes "home") then Lane ∷ Name ∷ Place ∷ [] else
     (if bytes_eq name (codes "collect") then Lane ∷ Name ∷ Places ∷ [] else Lane ∷ Name ∷ Key ∷ []))))
@@ -105,7 +108,8 @@ abbrev pub first_wrong : ℕ → List Want → List (List ℕ) → Option Wrong
 first_wrong number [] [] = None
 first_wrong number [] (field ∷ more) = Some (Extra number field)
 first_wrong number (want ∷ wants) [] = Some (Missing number want)
-first_wrong number (want ∷ wants) (field ∷ more) = if fits want field then first_wrong (number + 1) wants more else Some (Unfit number want field)
+first_wrong number (want ∷ wants) (field ∷ more) = if fits want field then first_wrong (number + 1) wants more
+    else Some (Unfit number want field)
 
 -- ---- in words
 
@@ -128,7 +132,8 @@ abbrev pub missing_told : ℕ → Want → List ℕ
 missing_told number want = codes "field " ++ decimal (number + 1) ++ codes " is missing: " ++ want_text want
 
 abbrev pub unfit_told : ℕ → Want → List ℕ → List ℕ
-unfit_told number want field = codes "field " ++ decimal (number + 1) ++ codes ", \"" ++ cut_text field ++ codes "\", isn't " ++ want_text want
+unfit_told number want field = codes "field " ++ decimal (number + 1) ++ codes ", \"" ++ cut_text field ++ codes "\", isn't "
+    ++ want_text want
 
 abbrev pub extra_told : ℕ → List ℕ → List ℕ
 extra_told number field = codes "field " ++ decimal (number + 1) ++ codes ", \"" ++ cut_text field ++ codes "\", is too much"

@@ -35,7 +35,8 @@ line_told faults.Memory number line = codes "memory was refused"
 -- the line of this number, and what is wrong with it
 abbrev pub numbered_told : ActsFault → ℕ → List ℕ → List ℕ
 numbered_told fault number bytes =
-    codes "line " ++ decimal number ++ codes ": \"" ++ cut_text (line_at (number - 1) bytes) ++ codes "\": " ++ line_told fault number (line_at (number - 1) bytes)
+    codes "line " ++ decimal number ++ codes ": \"" ++ cut_text (line_at (number - 1) bytes) ++ codes "\": "
+    ++ line_told fault number (line_at (number - 1) bytes)
 
 -- what is wrong with a text, by the place of the fault
 abbrev pub told_at : ActsFault → ActsPlace → List ℕ → List ℕ
@@ -49,7 +50,8 @@ acts_explanation bytes refusal = line_text (told_at refusal.fault refusal.place 
 -- what is told of the act of this index; it stands behind the shape's line
 abbrev pub illegal_told : List ℕ → ℕ → List ℕ → List ℕ
 illegal_told bytes index reason =
-    codes "act " ++ decimal index ++ codes " (line " ++ decimal (index + 2) ++ codes "): \"" ++ cut_text (line_at index (after_line bytes)) ++ codes "\": " ++ reason
+    codes "act " ++ decimal index ++ codes " (line " ++ decimal (index + 2) ++ codes "): \"" ++ cut_text (line_at index (after_line bytes))
+    ++ codes "\": " ++ reason
 
 -- the bytes stand for a history of which an act is refused, and the text explains the first, by its reason
 pub record ExplainsIllegal (bytes text : List ℕ) : Type 0 where

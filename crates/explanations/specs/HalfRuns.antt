@@ -11,7 +11,8 @@ absent_count lanes schedule = count_by (λ entry. nat_le lanes entry) schedule
 abbrev pub absent_by : ℕ → List ℕ → Option ℕ → List ℕ
 absent_by lanes schedule None = []
 absent_by lanes schedule (Some at) =
-    codes "; entry " ++ decimal (at + 1) ++ codes " of the schedule is lane " ++ decimal (slice_index schedule at) ++ codes ", which there isn't; such entries are "
+    codes "; entry " ++ decimal (at + 1) ++ codes " of the schedule is lane " ++ decimal (slice_index schedule at)
+    ++ codes ", which there isn't; such entries are "
     ++ decimal (absent_count lanes schedule)
 
 abbrev pub absent_told : ℕ → List ℕ → List ℕ
@@ -28,7 +29,8 @@ done_in lane turns = sum_by (replies_by lane) turns
 -- that a lane hasn't done all of the commands of its script, which are so many
 abbrev pub lane_told : ℕ → ℕ → ℕ → List ℕ
 lane_told lane count done =
-    if nat_lt done count then codes "; lane " ++ decimal lane ++ codes " did " ++ decimal done ++ codes " of its " ++ decimal count ++ codes " commands" else []
+    if nat_lt done count then codes "; lane " ++ decimal lane ++ codes " did " ++ decimal done ++ codes " of its " ++ decimal count
+    ++ codes " commands" else []
 
 -- the same of the lanes from this one on, whose scripts have so many commands
 abbrev pub left_told : ℕ → List ℕ → List Turn → List ℕ

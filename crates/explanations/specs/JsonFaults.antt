@@ -65,7 +65,8 @@ has_end rest = first_is 93 rest || first_is 125 rest
 -- what stands in front, where this is wanted: nothing but what is passed over, or some bytes
 unfoldable pub found_told : List ℕ → List ℕ → List ℕ
 found_told rest wanted =
-    if list_all is_space rest then codes "the text ends where " ++ wanted ++ codes " is wanted" else codes "\"" ++ cut_text rest ++ codes "\" stands where " ++ wanted ++ codes " is wanted"
+    if list_all is_space rest then codes "the text ends where " ++ wanted ++ codes " is wanted"
+    else codes "\"" ++ cut_text rest ++ codes "\" stands where " ++ wanted ++ codes " is wanted"
 
 -- what is wrong by its name: a mark, a comment, or a comma in front of an end
 unfoldable pub named_told : Option ℕ → List ℕ → Option (List ℕ)
@@ -94,14 +95,16 @@ control_told byte =
 abbrev pub flaw_told : Flaw → List ℕ → List ℕ
 flaw_told (Control byte) rest = control_told byte
 flaw_told Escape rest =
-    codes "\"" ++ cut_text (take (escape_length rest) rest) ++ codes "\" is no escape: behind a backslash stands \", \\, /, b, f, n, r, t, or u and four hexadecimal digits"
+    codes "\"" ++ cut_text (take (escape_length rest) rest)
+    ++ codes "\" is no escape: behind a backslash stands \", \\, /, b, f, n, r, t, or u and four hexadecimal digits"
 flaw_told Half rest = codes "\"" ++ cut_text (take 6 rest) ++ codes "\" is half of a character, and its other half isn't there"
 flaw_told Zero rest = codes "a number of several digits begins with 0"
 flaw_told Digit rest = found_told rest (codes "a digit")
 
 -- that the text ends within the string that begins at this place
 abbrev pub open_told : ℕ → List ℕ → List ℕ
-open_told begin file = codes "the text ends within the string that begins in line " ++ decimal (line_number begin file) ++ codes ", column " ++ decimal (column_number begin file)
+open_told begin file = codes "the text ends within the string that begins in line " ++ decimal (line_number begin file)
+    ++ codes ", column " ++ decimal (column_number begin file)
 
 -- why a text ends being JSON at this place
 abbrev pub halt_told : Halt → ℕ → List ℕ → List ℕ
@@ -115,7 +118,8 @@ halt_told (Flawed flaw) at file = flaw_told flaw (drop at file)
 -- where bytes stop being a JSON text, and why
 abbrev pub json_told : Halt → ℕ → List ℕ → List ℕ
 json_told halt at file =
-    codes "the file, line " ++ decimal (line_number at file) ++ codes ", column " ++ decimal (column_number at file) ++ codes ": " ++ halt_told halt at file
+    codes "the file, line " ++ decimal (line_number at file) ++ codes ", column " ++ decimal (column_number at file) ++ codes ": "
+    ++ halt_told halt at file
 
 -- a text stops being JSON for this
 abbrev pub IsOfText : Halt → Type 0

@@ -32,7 +32,8 @@ is_zero_led (first ∷ second ∷ more) = (first == 48) && is_digit second
 
 -- a byte that makes an escape behind a backslash: ", \, /, b, f, n, r or t
 abbrev pub is_single : ℕ → Bool
-is_single byte = (byte == 34) || ((byte == 92) || ((byte == 47) || ((byte == 98) || ((byte == 102) || ((byte == 110) || ((byte == 114) || (byte == 116)))))))
+is_single byte = (byte == 34) || ((byte == 92)
+    || ((byte == 47) || ((byte == 98) || ((byte == 102) || ((byte == 110) || ((byte == 114) || (byte == 116)))))))
 
 -- four hexadecimal digits stand in front
 abbrev pub is_quad : List ℕ → Bool

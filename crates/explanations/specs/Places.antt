@@ -27,7 +27,8 @@ operand_text item = if item == 0 then [] else codes ", operand " ++ decimal item
 -- a line of a lane's script, which is counted from 1 in words, and stands in this line of the file; and an item of it
 abbrev pub line_place : ℕ → ℕ → ℕ → ℕ → List ℕ
 line_place number lane line item =
-    codes "lane " ++ decimal lane ++ codes ", line " ++ decimal (line + 1) ++ codes " (line " ++ decimal number ++ codes " of the file)" ++ operand_text item
+    codes "lane " ++ decimal lane ++ codes ", line " ++ decimal (line + 1) ++ codes " (line " ++ decimal number ++ codes " of the file)"
+    ++ operand_text item
 
 -- a place of a script file; if in a line of a script, then that stands in this line of the file
 abbrev pub place_text : ℕ → ScriptPlace → List ℕ

@@ -75,7 +75,8 @@ IsClearDue z pool lane key wrong due = ⊥
 abbrev pub IsReclaimDue : Shape → Pool → ℕ → ℕ → Due → Type 0
 IsReclaimDue z pool lane key (HeldBy other) = Allowed z pool (Release other key)
 IsReclaimDue z pool lane key Unmarked = Allowed z pool (Clear lane key true)
-IsReclaimDue z pool lane key General = IsRefused z pool (Clear lane key true) ⊎ ((other : ℕ) → other < z.lanes → IsRefused z pool (Release other key))
+IsReclaimDue z pool lane key General = IsRefused z pool (Clear lane key true)
+    ⊎ ((other : ℕ) → other < z.lanes → IsRefused z pool (Release other key))
 IsReclaimDue z pool lane key due = ⊥
 
 -- what would have been allowed in an act's place
@@ -110,7 +111,8 @@ general_text faults.Memory = codes "memory was refused"
 
 -- that a get finds this content
 abbrev pub found_text : List ℕ → List ℕ
-found_text content = if length content == 0 then codes "the pool's reply is some -" else codes "the pool's reply is some " ++ cut_text (hex content)
+found_text content = if length content == 0 then codes "the pool's reply is some -"
+    else codes "the pool's reply is some " ++ cut_text (hex content)
 
 -- what would have been allowed, in words
 abbrev pub due_text : ApplyFault → Due → List ℕ

@@ -14,7 +14,8 @@ use Rattle.explanations.specs.Wanted.{script_wanted}
 -- what is told of a refusal, of a file with this value, in which what it names begins in this line: the place, what stands there, and what is wanted
 abbrev pub script_told : ScriptRefusal → Json → ℕ → List ℕ
 script_told refusal whole number =
-    place_text number refusal.place ++ codes ": " ++ shown_value (value_of refusal.place whole) ++ codes " " ++ script_wanted refusal.fault refusal.place whole
+    place_text number refusal.place ++ codes ": " ++ shown_value (value_of refusal.place whole) ++ codes " "
+    ++ script_wanted refusal.fault refusal.place whole
 
 -- bytes have this value; it is null where they are no JSON text
 abbrev pub HasValue : List ℕ → Json → Type 0

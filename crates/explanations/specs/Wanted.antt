@@ -96,7 +96,8 @@ script_count whole = unwrap_or (option_map item_count (get (codes "scripts") who
 -- that there isn't one script for each lane: how many there are of both
 abbrev pub counts_told : Json → List ℕ
 counts_told whole =
-    codes "has not one script for each lane of the shape: scripts " ++ decimal (script_count whole) ++ codes ", lanes " ++ shown_value (field_at names.Lanes whole)
+    codes "has not one script for each lane of the shape: scripts " ++ decimal (script_count whole) ++ codes ", lanes "
+    ++ shown_value (field_at names.Lanes whole)
 
 -- ---- commands and their operands
 
@@ -146,7 +147,8 @@ field_wanted (places.Field name) whole = named_wanted name whole (field_at name 
 field_wanted places.Scripts whole = counts_told whole
 field_wanted (places.Script lane) whole = codes "is no list of commands"
 field_wanted (places.Line lane line) whole = line_wanted (name_in (value_of (places.Line lane line) whole))
-field_wanted (places.Item lane line item) whole = codes "is no text; commands are create, write, publish, downgrade, get, read, release, clear"
+field_wanted (places.Item lane line item) whole = codes
+    "is no text; commands are create, write, publish, downgrade, get, read, release, clear"
 
 -- what is wrong where a number, a register or bytes are none
 abbrev pub number_wanted : ScriptPlace → Json → List ℕ

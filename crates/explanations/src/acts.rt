@@ -21,7 +21,8 @@ use streams::{after_line, line_at, line_of};
 
 /// What is wrong with a shape's line that has this fault.
 fn shape_told(alloc: Global, fault: ShapeFault) -> Result<String, AllocError>
-    ensures { IfOk result (λ text. string_bytes text ≡ codes "field " ++ field_text (faulty_field fault) ++ codes " " ++ shape_wanted fault) }
+    ensures { IfOk result (λ text. string_bytes text ≡ codes "field " ++ field_text (faulty_field fault) ++ codes " "
+        ++ shape_wanted fault) }
 {
     let name = FieldName::with_fault(fault).text();
     let wanted = shape_wanted(fault);

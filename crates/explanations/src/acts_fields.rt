@@ -198,7 +198,8 @@ fn shape_wants(count: usize) -> &'static [Want]
 
 /// What the fields of a get's line are to be, by the fourth.
 fn get_wants(fourth: &[u8]) -> &'static [Want]
-    ensures { result.now ≡ (if bytes_eq fourth.now (codes "some") then Want.Lane ∷ Want.Name ∷ Want.Key ∷ Want.Reply ∷ Want.Content ∷ [] else Want.Lane ∷ Want.Name ∷ Want.Key ∷ Want.Reply ∷ []) }
+    ensures { result.now ≡ (if bytes_eq fourth.now (codes "some") then Want.Lane ∷ Want.Name ∷ Want.Key ∷ Want.Reply ∷ Want.Content ∷ []
+        else Want.Lane ∷ Want.Name ∷ Want.Key ∷ Want.Reply ∷ []) }
 {
     if is_word(fourth, "some") { &SOME } else { &GET }
 }

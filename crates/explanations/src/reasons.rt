@@ -248,7 +248,8 @@ fn clear_due(pool: &mut SeqPool, lane: u32, key: u64, reply: bool) -> Result<Due
 /// The first lane that refers to a key, if one does.
 fn holder_of(pool: &mut SeqPool, lanes: u32, key: u64) -> Result<Option<u32>, AllocError>
     ensures held { IfOk result (λ found. IfSome found (λ lane. Allowed pool.old.shape (pool_in pool.old) (Release lane key))) }
-    ensures none { IfOk result (λ found. found ≡ None → (pool.new ≡ pool.old) × ((lane : ℕ) → lane < lanes → IsRefused pool.old.shape (pool_in pool.old) (Release lane key))) }
+    ensures none { IfOk result (λ found. found ≡ None → (pool.new ≡ pool.old)
+        × ((lane : ℕ) → lane < lanes → IsRefused pool.old.shape (pool_in pool.old) (Release lane key))) }
 {
     for lane in 0..lanes {
         if allows(pool, &Act::Release { lane, key })? {

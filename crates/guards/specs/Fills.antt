@@ -11,4 +11,5 @@ use Rattle.guards.specs.contracts.filling.FillGuard.{the_row}
 -- once the borrow `object` ends, the guard's filling has the last object written through it; the guard's lifetime is the second of the signature
 abbrev pub LendsGuarded : (T : RattleType) (g : Ghosts T.Denot) → MutBor (FillGuard T.Denot (FillingOf T.Denot)) → MutBor T.Denot → Fml
 LendsGuarded T g guard object =
-    Lends (the_row (record { mir = named 1; lft = [] }) T (filling.the_row T) g) T guard object (λ x. record guard.now { filling = record guard.now.filling { object = x } })
+    Lends (the_row (record { mir = named 1; lft = [] }) T (filling.the_row T) g) T guard object
+    (λ x. record guard.now { filling = record guard.now.filling { object = x } })

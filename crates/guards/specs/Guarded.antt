@@ -14,7 +14,8 @@ use Rattle.shardpool.specs.Seen.{PublishedSince, MissedSince}
 use Rattle.shardpool.specs.Creates.{Gives, GivesNone}
 
 -- a create, a call of f on its object, and a publish of what the call left, under the key of the filling: the lane made these calls, and nothing more
-pub record CreatesWith {T F : Type 0} (content : T → List ℕ) (room : T → ℕ) (g : Once F (MutBor T × Unit {0}) (Unit {0} × (MutBor T × Unit {0}))) (f : F) (old new : LaneOf) (key : ℕ) : Type 0 where
+pub record CreatesWith {T F : Type 0} (content : T → List ℕ) (room : T
+    → ℕ) (g : Once F (MutBor T × Unit {0}) (Unit {0} × (MutBor T × Unit {0}))) (f : F) (old new : LaneOf) (key : ℕ) : Type 0 where
   pub between : LaneOf
   pub filling : FillingOf T
   pub gives : Gives content room old between filling

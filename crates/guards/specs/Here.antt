@@ -20,7 +20,8 @@ pub record AreSlots (lanes : LanesOf) : Type 0 where
 
 -- each lane of the pool is here, before its first step
 abbrev pub AreFirstHere : LanesOf → Type 0
-AreFirstHere lanes = (number : ℕ) → number < lanes.pool.shape.lanes → (lane : LaneOf) × (lane_at lanes number ≡ Some lane) × IsFirstLane lanes.pool number lane
+AreFirstHere lanes = (number : ℕ) → number < lanes.pool.shape.lanes → (lane : LaneOf) × (lane_at lanes number ≡ Some lane)
+    × IsFirstLane lanes.pool number lane
 
 -- no lane that is here has a reference
 pub record HoldNothing (lanes : LanesOf) : Type 0 where

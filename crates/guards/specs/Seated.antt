@@ -30,7 +30,8 @@ abbrev pub IsNextOf : {T : Type 0} → FillingOf T → ℕ → Type 0
 IsNextOf filling key = (place_of filling.key ≡ place_of key) × (generation_of filling.key ≡ generation_of key + 1)
 
 -- a create, a write of this content, and a publish under this key: the lane made these calls, and nothing more
-pub record Puts {T : Type 0} (content : T → List ℕ) (room : T → ℕ) (z : Shape) (written : List ℕ) (old new : LaneOf) (key : ℕ) : Type 0 where
+pub record Puts {T : Type 0} (content : T → List ℕ) (room : T
+    → ℕ) (z : Shape) (written : List ℕ) (old new : LaneOf) (key : ℕ) : Type 0 where
   pub between : LaneOf
   pub filling : FillingOf T
   pub gives : Gives content room old between filling

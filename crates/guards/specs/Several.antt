@@ -35,7 +35,8 @@ UsesAll z (key ∷ more) old new = (got : LaneOf) × (left : LaneOf) × Got z ke
 -- gets of these keys, one after another up to the first that found nothing, and the releases of the references to those before it, the last first: the lane made these calls, and nothing more
 abbrev pub TriesAll : Shape → List ℕ → LaneOf → LaneOf → Type 0
 TriesAll z [] old new = ⊥
-TriesAll z (key ∷ more) old new = Missed z key old new ⊎ ((got : LaneOf) × (left : LaneOf) × Got z key old got × TriesAll z more got left × Gave z key left new)
+TriesAll z (key ∷ more) old new = Missed z key old new
+    ⊎ ((got : LaneOf) × (left : LaneOf) × Got z key old got × TriesAll z more got left × Gave z key left new)
 
 -- as many as before, and one more for each time that the key stands in the list
 abbrev pub more_of : List ℕ → ℕ → ℕ → ℕ

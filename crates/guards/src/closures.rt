@@ -59,12 +59,14 @@ pub fn with<T: Clear + Drop, R, F: FnOnce(&T) -> R>(
     ensures owns { Owns pool.now lane.new }
     ensures same { SameLane lane.old lane.new }
     ensures outside { is_key pool.now.shape key ≡ false → IsNone result × (lane.new ≡ lane.old) }
-    ensures some { IfSome result (λ r. (x : T) × (j : ℕ) × PublishedAt lane.new.book.seen j key (T.content x) × FnOnceReturnsAt F.FnOnce f x r) }
+    ensures some { IfSome result (λ r. (x : T) × (j : ℕ) × PublishedAt lane.new.book.seen j key (T.content x)
+        × FnOnceReturnsAt F.FnOnce f x r) }
     ensures found { IsSome result → FoundSince key lane.old lane.new }
     ensures missed { IsNone result → MissedSince key lane.old lane.new }
     ensures seen { IsPrefix lane.old.book.seen lane.new.book.seen }
     ensures called { IsNone result → is_key pool.now.shape key ≡ true → Calls pool.now.shape (Getting key) lane.old.book lane.new.book }
-    ensures gets { is_key pool.now.shape key ≡ true → MatchOption result (Gets key lane.old lane.new None) (λ _. Uses key lane.old lane.new) }
+    ensures gets { is_key pool.now.shape key ≡ true
+        → MatchOption result (Gets key lane.old lane.new None) (λ _. Uses key lane.old lane.new) }
     ensures refs { refs lane.new ≡ refs lane.old }
     ensures holds { (other : ℕ) → holds lane.new other ≡ holds lane.old other }
     ensures fillings { (filling : FillingOf T) → Made lane.old filling → Made lane.new filling }

@@ -54,7 +54,8 @@ impl<'a, T: Clear + Drop> FillGuard<'a, T> {
     /// As `Pool::create`. The lane is then as a create that gave no place left it.
     pub fn new(lane: &'a mut Lane<T>, pool: &'a Pool<T>) -> Result<FillGuard<'a, T>, CreateFault>
         requires owns { Owns pool.now lane.old }
-        ensures* refuses { sem 𝓛 (RestsIfErr (the_row T.row T.Clear) lane.entry (λ guard. guard.lane.ghost_name) result (Refuses T.row.Denot pool.now lane.old)) }
+        ensures* refuses { sem 𝓛 (RestsIfErr (the_row T.row T.Clear) lane.entry (λ guard. guard.lane.ghost_name) result
+            (Refuses T.row.Denot pool.now lane.old)) }
         ensures same_reference { IfOk result (λ guard. guard.lane.ghost_name ≡ lane.entry.ghost_name) }
         ensures pool { IfOk result (λ guard. guard.pool.now ≡ pool.now) }
         ensures may { IfOk result (λ guard. MayPublish guard.pool.now guard.lane.now guard.filling) }
@@ -114,15 +115,21 @@ impl<'a, T: Clear + Drop> FillGuard<'a, T> {
         ensures pool { result.pool.now ≡ self.entry.pool.now }
         ensures key { result.reference.key ≡ self.entry.filling.key }
         ensures may { MayRelease result.pool.now result.lane.now result.reference }
-        ensures called { Calls self.entry.pool.now.shape (Publishing self.entry.filling.key (T.content self.entry.filling.object) true) self.entry.lane.now.book result.lane.now.book }
-        ensures publishes { Did (acts.Publish self.entry.lane.now.number self.entry.filling.key (T.content self.entry.filling.object) true ∷ []) self.entry.lane.now result.lane.now }
-        ensures published { PublishedSince self.entry.filling.key (T.content self.entry.filling.object) true self.entry.lane.now result.lane.now }
+        ensures called { Calls self.entry.pool.now.shape (Publishing self.entry.filling.key (T.content self.entry.filling.object) true)
+            self.entry.lane.now.book result.lane.now.book }
+        ensures publishes { Did (acts.Publish self.entry.lane.now.number self.entry.filling.key (T.content self.entry.filling.object) true
+            ∷ []) self.entry.lane.now result.lane.now }
+        ensures published { PublishedSince self.entry.filling.key (T.content self.entry.filling.object) true self.entry.lane.now
+            result.lane.now }
         ensures seen { IsPrefix self.entry.lane.now.book.seen result.lane.now.book.seen }
         ensures same { SameLane self.entry.lane.now result.lane.now }
         ensures refs { refs result.lane.now ≡ refs self.entry.lane.now + 1 }
-        ensures holds { (other : ℕ) → holds result.lane.now other ≡ (if self.entry.filling.key == other then holds self.entry.lane.now other + 1 else holds self.entry.lane.now other) }
-        ensures room { room_of result.lane.now.book.seen result.lane.now.book.rooms (place_of self.entry.filling.key) ≡ T.room self.entry.filling.object }
-        ensures fillings { (other : FillingOf T) → other.key ≢ self.entry.filling.key → Made self.entry.lane.now other → Made result.lane.now other }
+        ensures holds { (other : ℕ) → holds result.lane.now other
+            ≡ (if self.entry.filling.key == other then holds self.entry.lane.now other + 1 else holds self.entry.lane.now other) }
+        ensures room { room_of result.lane.now.book.seen result.lane.now.book.rooms (place_of self.entry.filling.key)
+            ≡ T.room self.entry.filling.object }
+        ensures fillings { (other : FillingOf T) → other.key ≢ self.entry.filling.key → Made self.entry.lane.now other
+            → Made result.lane.now other }
     {
         let FillGuard {
             lane,
@@ -138,15 +145,21 @@ impl<'a, T: Clear + Drop, F: Fills<T>> Drop for FillGuard<'a, T, F> {
     fn drop(self)
         requires may { MayPublish self.pool.now self.lane.now (F.filling self.filling) }
         ensures owns { Owns self.entry.pool.now self.exit.0.now }
-        ensures called { Calls self.entry.pool.now.shape (Publishing (F.filling self.entry.filling).key (T.content (F.filling self.entry.filling).object) false) self.entry.lane.now.book self.exit.0.now.book }
-        ensures publishes { Did (acts.Publish self.entry.lane.now.number (F.filling self.entry.filling).key (T.content (F.filling self.entry.filling).object) false ∷ []) self.entry.lane.now self.exit.0.now }
-        ensures published { PublishedSince (F.filling self.entry.filling).key (T.content (F.filling self.entry.filling).object) false self.entry.lane.now self.exit.0.now }
+        ensures called { Calls self.entry.pool.now.shape
+            (Publishing (F.filling self.entry.filling).key (T.content (F.filling self.entry.filling).object) false)
+            self.entry.lane.now.book self.exit.0.now.book }
+        ensures publishes { Did (acts.Publish self.entry.lane.now.number (F.filling self.entry.filling).key
+            (T.content (F.filling self.entry.filling).object) false ∷ []) self.entry.lane.now self.exit.0.now }
+        ensures published { PublishedSince (F.filling self.entry.filling).key (T.content (F.filling self.entry.filling).object) false
+            self.entry.lane.now self.exit.0.now }
         ensures seen { IsPrefix self.entry.lane.now.book.seen self.exit.0.now.book.seen }
         ensures same { SameLane self.entry.lane.now self.exit.0.now }
         ensures refs { refs self.exit.0.now ≡ refs self.entry.lane.now }
         ensures holds { (key : ℕ) → holds self.exit.0.now key ≡ holds self.entry.lane.now key }
-        ensures room { room_of self.exit.0.now.book.seen self.exit.0.now.book.rooms (place_of (F.filling self.entry.filling).key) ≡ T.room (F.filling self.entry.filling).object }
-        ensures fillings { (other : FillingOf T) → other.key ≢ (F.filling self.entry.filling).key → Made self.entry.lane.now other → Made self.exit.0.now other }
+        ensures room { room_of self.exit.0.now.book.seen self.exit.0.now.book.rooms (place_of (F.filling self.entry.filling).key)
+            ≡ T.room (F.filling self.entry.filling).object }
+        ensures fillings { (other : FillingOf T) → other.key ≢ (F.filling self.entry.filling).key → Made self.entry.lane.now other
+            → Made self.exit.0.now other }
     {
         let FillGuard {
             lane,

@@ -221,7 +221,8 @@ impl<T: Clear + Drop> Opened<T> {
     ///
     /// A lane that isn't here. The pool and the lanes are then as they were.
     pub fn close(self) -> Result<Census, Missing<T>>
-        ensures closes { IfOk result (λ census. (lanes : List LaneOf) × (self.lanes.slots ≡ map Some lanes) × Closes self.pool lanes census × AreLanes self.pool lanes) }
+        ensures closes { IfOk result (λ census. (lanes : List LaneOf) × (self.lanes.slots ≡ map Some lanes) × Closes self.pool lanes census
+            × AreLanes self.pool lanes) }
         ensures adds { IfOk result (λ census. places_counted census ≡ all_places self.pool.shape) }
         ensures missing { IfErr result (λ missing. IsFirstMissing self.lanes missing.number) }
         ensures back { IfErr result (λ missing. (missing.opened.pool ≡ self.pool) × (missing.opened.lanes ≡ self.lanes)) }

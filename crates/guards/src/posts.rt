@@ -110,7 +110,8 @@ pub(crate) fn unseat_all<N: PoolName, T: Clear + Drop, J: Job<N, T>>(
 ) -> Vec<J::Answer>
     requires pool { lanes.old.pool ≡ N.pool }
     requires nothing { HoldNothing lanes.old }
-    requires numbers { (number : ℕ) (lane : LaneOf) → slice_get (map (λ post. post.seat.lane) posts.items) number ≡ Some lane → lane.number ≡ number }
+    requires numbers { (number : ℕ) (lane : LaneOf) → slice_get (map (λ post. post.seat.lane) posts.items) number ≡ Some lane
+        → lane.number ≡ number }
     requires answers { (list : _) × (map (λ post. post.answer) posts.items ≡ map Some list) }
     requires room { (answers.items ≡ []) × (length posts.items ≤ vec_capacity answers) }
     ensures nothing { HoldNothing lanes.new }

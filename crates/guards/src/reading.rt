@@ -29,7 +29,8 @@ impl<'a, T: Clear + Drop> ReadGuard<'a, T> {
     pub fn new(lane: &'a mut Lane<T>, pool: &'a Pool<T>, key: u64) -> Option<ReadGuard<'a, T>>
         requires owns { Owns pool.now lane.old }
         requires room { refs lane.old < most_references }
-        ensures* misses { sem 𝓛 (RestsIfNone (the_row T.row T.Clear) lane.entry (λ guard. guard.lane.ghost_name) result (Misses T.row.Denot pool.now key lane.old)) }
+        ensures* misses { sem 𝓛 (RestsIfNone (the_row T.row T.Clear) lane.entry (λ guard. guard.lane.ghost_name) result
+            (Misses T.row.Denot pool.now key lane.old)) }
         ensures same_reference { IfSome result (λ guard. guard.lane.ghost_name ≡ lane.entry.ghost_name) }
         ensures pool { IfSome result (λ guard. guard.pool.now ≡ pool.now) }
         ensures may { IfSome result (λ guard. MayRelease guard.pool.now guard.lane.now guard.reference) }
@@ -40,7 +41,8 @@ impl<'a, T: Clear + Drop> ReadGuard<'a, T> {
         ensures seen { IfSome result (λ guard. IsPrefix lane.old.book.seen guard.lane.now.book.seen) }
         ensures same { IfSome result (λ guard. SameLane lane.old guard.lane.now) }
         ensures refs { IfSome result (λ guard. refs guard.lane.now ≡ refs lane.old + 1) }
-        ensures holds { IfSome result (λ guard. (other : ℕ) → holds guard.lane.now other ≡ (if key == other then holds lane.old other + 1 else holds lane.old other)) }
+        ensures holds { IfSome result (λ guard. (other : ℕ)
+            → holds guard.lane.now other ≡ (if key == other then holds lane.old other + 1 else holds lane.old other)) }
         ensures fillings { IfSome result (λ guard. (filling : FillingOf T) → Made lane.old filling → Made guard.lane.now filling) }
     {
         let reference = pool.get(lane, key)?;
@@ -83,12 +85,15 @@ impl<'a, T: Clear + Drop> Drop for ReadGuard<'a, T> {
     fn drop(self)
         requires may { MayRelease self.pool.now self.lane.now self.reference }
         ensures owns { Owns self.entry.pool.now self.exit.0.now }
-        ensures called { Calls self.entry.pool.now.shape (Releasing self.entry.reference.key) self.entry.lane.now.book self.exit.0.now.book }
-        ensures releases { (rest : List Act) × Did (acts.Release self.entry.lane.now.number self.entry.reference.key ∷ rest) self.entry.lane.now self.exit.0.now }
+        ensures called { Calls self.entry.pool.now.shape (Releasing self.entry.reference.key) self.entry.lane.now.book
+            self.exit.0.now.book }
+        ensures releases { (rest : List Act)
+            × Did (acts.Release self.entry.lane.now.number self.entry.reference.key ∷ rest) self.entry.lane.now self.exit.0.now }
         ensures seen { IsPrefix self.entry.lane.now.book.seen self.exit.0.now.book.seen }
         ensures same { SameLane self.entry.lane.now self.exit.0.now }
         ensures refs { refs self.exit.0.now + 1 ≡ refs self.entry.lane.now }
-        ensures holds { (other : ℕ) → holds self.exit.0.now other ≡ (if self.entry.reference.key == other then holds self.entry.lane.now other - 1 else holds self.entry.lane.now other) }
+        ensures holds { (other : ℕ) → holds self.exit.0.now other
+            ≡ (if self.entry.reference.key == other then holds self.entry.lane.now other - 1 else holds self.entry.lane.now other) }
         ensures fillings { (filling : FillingOf T) → Made self.entry.lane.now filling → Made self.exit.0.now filling }
     {
         let ReadGuard {

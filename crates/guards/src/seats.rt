@@ -92,7 +92,8 @@ impl<'p, N: PoolName, T: Clear + Drop> Seat<'p, N, T> {
         ensures gives { IfOk result (Gives T.content T.room self.old.lane self.new.lane) }
         ensures made { IfOk result (λ filling. Made self.new.lane filling) }
         ensures empty { IfOk result (λ filling. T.content filling.object ≡ []) }
-        ensures room { IfOk result (λ filling. (last size : ℕ) → KnowsRoom self.old.lane last size → IsNextOf filling last → size ≤ T.room filling.object) }
+        ensures room { IfOk result (λ filling. (last size : ℕ) → KnowsRoom self.old.lane last size → IsNextOf filling last
+            → size ≤ T.room filling.object) }
         ensures none { IsErr result → GivesNone self.old.lane self.new.lane }
         ensures full { IsErrOf result Full → self.old.lane.pages.opened ≡ N.pool.shape.pages }
         ensures memory { IsErrOf result Memory → self.old.lane.pages.opened < N.pool.shape.pages }
@@ -109,8 +110,10 @@ impl<'p, N: PoolName, T: Clear + Drop> Seat<'p, N, T> {
     pub fn publish(&mut self, filling: Filling<T>) -> u64
         requires made { Made self.old.lane filling }
         ensures key { result ≡ filling.key }
-        ensures called { Calls N.pool.shape (Publishing filling.key (T.content filling.object) false) self.old.lane.book self.new.lane.book }
-        ensures publishes { Did (acts.Publish self.old.lane.number filling.key (T.content filling.object) false ∷ []) self.old.lane self.new.lane }
+        ensures called { Calls N.pool.shape (Publishing filling.key (T.content filling.object) false) self.old.lane.book
+            self.new.lane.book }
+        ensures publishes { Did (acts.Publish self.old.lane.number filling.key (T.content filling.object) false
+            ∷ []) self.old.lane self.new.lane }
         ensures published { IsPublished self.new.lane.book.seen filling.key (T.content filling.object) }
         ensures room { KnowsRoom self.new.lane filling.key (T.room filling.object) }
         ensures fillings { (other : FillingOf T) → other.key ≢ filling.key → Made self.old.lane other → Made self.new.lane other }
@@ -178,7 +181,8 @@ impl<'p, N: PoolName, T: Clear + Drop> Seat<'p, N, T> {
             × IsPublished self.new.lane.book.seen keys.1 (T.content y.now)) }
         ensures uses { IsSome result → UsesAll N.pool.shape (keys.0 ∷ keys.1 ∷ []) self.old.lane self.new.lane }
         ensures tries { IsNone result → TriesAll N.pool.shape (keys.0 ∷ keys.1 ∷ []) self.old.lane self.new.lane }
-        ensures gone { IsNone result → (key : ℕ) × Contains (keys.0 ∷ keys.1 ∷ []) key × IsGone self.old.lane.book.seen self.new.lane.book.seen key }
+        ensures gone { IsNone result → (key : ℕ) × Contains (keys.0 ∷ keys.1 ∷ []) key
+            × IsGone self.old.lane.book.seen self.new.lane.book.seen key }
         ensures keeps { Keeps T self.old.lane self.new.lane }
         ensures number { self.new.lane.number ≡ self.old.lane.number }
         ensures goes { GoesOn self.old.lane self.new.lane }
@@ -199,7 +203,8 @@ impl<'p, N: PoolName, T: Clear + Drop> Seat<'p, N, T> {
             × IsPublished self.new.lane.book.seen keys.2 (T.content z.now)) }
         ensures uses { IsSome result → UsesAll N.pool.shape (keys.0 ∷ keys.1 ∷ keys.2 ∷ []) self.old.lane self.new.lane }
         ensures tries { IsNone result → TriesAll N.pool.shape (keys.0 ∷ keys.1 ∷ keys.2 ∷ []) self.old.lane self.new.lane }
-        ensures gone { IsNone result → (key : ℕ) × Contains (keys.0 ∷ keys.1 ∷ keys.2 ∷ []) key × IsGone self.old.lane.book.seen self.new.lane.book.seen key }
+        ensures gone { IsNone result → (key : ℕ) × Contains (keys.0 ∷ keys.1 ∷ keys.2 ∷ []) key
+            × IsGone self.old.lane.book.seen self.new.lane.book.seen key }
         ensures keeps { Keeps T self.old.lane self.new.lane }
         ensures number { self.new.lane.number ≡ self.old.lane.number }
         ensures goes { GoesOn self.old.lane self.new.lane }
@@ -221,7 +226,8 @@ impl<'p, N: PoolName, T: Clear + Drop> Seat<'p, N, T> {
             × IsPublished self.new.lane.book.seen keys.3 (T.content w.now)) }
         ensures uses { IsSome result → UsesAll N.pool.shape (keys.0 ∷ keys.1 ∷ keys.2 ∷ keys.3 ∷ []) self.old.lane self.new.lane }
         ensures tries { IsNone result → TriesAll N.pool.shape (keys.0 ∷ keys.1 ∷ keys.2 ∷ keys.3 ∷ []) self.old.lane self.new.lane }
-        ensures gone { IsNone result → (key : ℕ) × Contains (keys.0 ∷ keys.1 ∷ keys.2 ∷ keys.3 ∷ []) key × IsGone self.old.lane.book.seen self.new.lane.book.seen key }
+        ensures gone { IsNone result → (key : ℕ) × Contains (keys.0 ∷ keys.1 ∷ keys.2 ∷ keys.3 ∷ []) key
+            × IsGone self.old.lane.book.seen self.new.lane.book.seen key }
         ensures keeps { Keeps T self.old.lane self.new.lane }
         ensures number { self.new.lane.number ≡ self.old.lane.number }
         ensures goes { GoesOn self.old.lane self.new.lane }

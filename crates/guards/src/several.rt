@@ -21,7 +21,8 @@ fn get_two<T: Clear + Drop>(
     requires room { refs lane.old + 1 < most_references }
     ensures both { IfSome result (λ both. (both.0.key ≡ first) × (both.1.key ≡ second)) }
     ensures lends { IsSome result → Lends T pool.now (second ∷ first ∷ []) lane.old lane.new }
-    ensures got { IsSome result → (between : LaneOf) × Got pool.now.shape first lane.old between × Got pool.now.shape second between lane.new }
+    ensures got { IsSome result → (between : LaneOf) × Got pool.now.shape first lane.old between
+        × Got pool.now.shape second between lane.new }
     ensures none { IsNone result → Lends T pool.now [] lane.old lane.new }
     ensures tries { IsNone result → TriesAll pool.now.shape (first ∷ second ∷ []) lane.old lane.new }
     ensures gone { IsNone result → (key : ℕ) × Contains (first ∷ second ∷ []) key × IsGone lane.old.book.seen lane.new.book.seen key }
@@ -93,7 +94,8 @@ pub fn with_three<T: Clear + Drop, R, F: FnOnce(&T, &T, &T) -> R>(
         × IsPublished lane.new.book.seen keys.2 (T.content z.now)) }
     ensures uses { IsSome result → UsesAll pool.now.shape (keys.0 ∷ keys.1 ∷ keys.2 ∷ []) lane.old lane.new }
     ensures tries { IsNone result → TriesAll pool.now.shape (keys.0 ∷ keys.1 ∷ keys.2 ∷ []) lane.old lane.new }
-    ensures gone { IsNone result → (key : ℕ) × Contains (keys.0 ∷ keys.1 ∷ keys.2 ∷ []) key × IsGone lane.old.book.seen lane.new.book.seen key }
+    ensures gone { IsNone result → (key : ℕ) × Contains (keys.0 ∷ keys.1 ∷ keys.2 ∷ []) key
+        × IsGone lane.old.book.seen lane.new.book.seen key }
     ensures goes { GoesOn lane.old lane.new }
     ensures refs { refs lane.new ≡ refs lane.old }
     ensures holds { (key : ℕ) → holds lane.new key ≡ holds lane.old key }
@@ -129,7 +131,8 @@ pub fn with_four<T: Clear + Drop, R, F: FnOnce(&T, &T, &T, &T) -> R>(
         × IsPublished lane.new.book.seen keys.3 (T.content w.now)) }
     ensures uses { IsSome result → UsesAll pool.now.shape (keys.0 ∷ keys.1 ∷ keys.2 ∷ keys.3 ∷ []) lane.old lane.new }
     ensures tries { IsNone result → TriesAll pool.now.shape (keys.0 ∷ keys.1 ∷ keys.2 ∷ keys.3 ∷ []) lane.old lane.new }
-    ensures gone { IsNone result → (key : ℕ) × Contains (keys.0 ∷ keys.1 ∷ keys.2 ∷ keys.3 ∷ []) key × IsGone lane.old.book.seen lane.new.book.seen key }
+    ensures gone { IsNone result → (key : ℕ) × Contains (keys.0 ∷ keys.1 ∷ keys.2 ∷ keys.3 ∷ []) key
+        × IsGone lane.old.book.seen lane.new.book.seen key }
     ensures goes { GoesOn lane.old lane.new }
     ensures refs { refs lane.new ≡ refs lane.old }
     ensures holds { (key : ℕ) → holds lane.new key ≡ holds lane.old key }

@@ -26,7 +26,8 @@ impl<N: PoolName, T: Clear> Model for Told<N, T> {
 
     ghost view = { λ told. record { key = told.key; content = content_in told.note.book.seen told.key } };
 
-    ghost invariant = { λ told. (told.note.table ≡ N.pool.table) × IsPublished told.note.book.seen told.key (content_in told.note.book.seen told.key) };
+    ghost invariant = { λ told. (told.note.table ≡ N.pool.table)
+        × IsPublished told.note.book.seen told.key (content_in told.note.book.seen told.key) };
 }
 
 impl<N: PoolName, T: Clear> Told<N, T> {

@@ -24,7 +24,8 @@ tag_of key = key / 72057594037927936
 
 -- a key of the shape has this number; any other number is outside the shape
 abbrev pub is_key : Shape → ℕ → Bool
-is_key z key = (tag_of key == z.tag) && is_place z (place_of key) && nat_le 1 (generation_of key) && nat_le (generation_of key) z.last_generation
+is_key z key = (tag_of key == z.tag) && is_place z (place_of key) && nat_le 1 (generation_of key)
+    && nat_le (generation_of key) z.last_generation
 
 -- the number into which a key is packed
 abbrev pub number_in : Key → ℕ

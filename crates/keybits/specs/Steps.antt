@@ -14,7 +14,8 @@ abbrev pub Changes : ℕ → Kind → ℕ → ℕ → Type 0
 Changes last Enter before after = after ≡ before + 4
 Changes last Leave before after = (1 ≤ count_in before) × (before ≡ after + 4)
 Changes last (Publish with_ref) before after = (state_in before ≡ 0) × (after ≡ (if with_ref then before + 5 else before + 1))
-Changes last Mark before after = ((state_in before ≡ 1) ⊎ (state_in before ≡ 3)) × (1 ≤ count_in before) × (after + state_in before ≡ before + 3)
+Changes last Mark before after = ((state_in before ≡ 1) ⊎ (state_in before ≡ 3)) × (1 ≤ count_in before)
+    × (after + state_in before ≡ before + 3)
 Changes last (Claim generation) before after = after ≡ claim_gives last generation before
 Changes last (Link expected) before after = after ≡ expected
 Changes last (Push expected link) before after = after ≡ (if before == expected then link else before)

@@ -25,5 +25,6 @@ ByLaneAt number pool told note call = ByLane pool told note (λ before after. (b
 -- caller was told, and what that lane has seen
 abbrev pub Refuses : PoolOf → NoteOf → Refusal → NoteOf → Type 0
 Refuses pool told Busy note = note ≡ told
-Refuses pool told References note = (lane : LaneOf) × Owns pool lane × (most_references ≤ refs lane) × IsPrefix told.book.seen note.book.seen × Issued pool note
+Refuses pool told References note = (lane : LaneOf) × Owns pool lane × (most_references ≤ refs lane)
+    × IsPrefix told.book.seen note.book.seen × Issued pool note
     × (note.book.seen ≡ lane.book.seen)

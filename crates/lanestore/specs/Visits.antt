@@ -42,6 +42,7 @@ pub record Lends (T : Type 0) (pool : PoolOf) (key : ℕ) (old new : LaneOf) (re
 
 -- a create and a publish of the object, for which that of the place came back; or no place was had, and it stays
 abbrev pub Puts : {T : Type 0} → (T → List ℕ) → (T → ℕ) → PoolOf → T → T → LaneOf → LaneOf → Result ℕ CreateFault → Type 0
-Puts {T} content room pool object back old new (Ok key) = (middle : LaneOf) × (filling : FillingOf T) × AfterCreate content room pool old middle (Ok filling)
+Puts {T} content room pool object back old new (Ok key) = (middle : LaneOf) × (filling : FillingOf T)
+    × AfterCreate content room pool old middle (Ok filling)
     × AfterPublish content room pool (record filling { object = object }) middle new key × (back ≡ filling.object)
 Puts content room pool object back old new (Err fault) = AfterCreate content room pool old new (Err fault) × (back ≡ object)

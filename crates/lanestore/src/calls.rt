@@ -49,7 +49,8 @@ impl<T: Clear + Drop> Store<T> {
         requires told { Issued self.now.pool told }
         requires may { F.IsAlwaysCallable look }
         ensures ok { IfOk result (λ r. ByLaneAt lent.now.lane self.now.pool told r.1 (λ before after. (after ≡ before)
-            × MatchOption r.0 (holds after lent.now.key ≡ 0) (λ answer. (object : T) × (j : ℕ) × PublishedAt after.book.seen j lent.now.key (T.content object) × FnOnceReturnsAt F.FnOnce look object answer))) }
+            × MatchOption r.0 (holds after lent.now.key ≡ 0) (λ answer. (object : T) × (j : ℕ)
+            × PublishedAt after.book.seen j lent.now.key (T.content object) × FnOnceReturnsAt F.FnOnce look object answer))) }
         ensures busy { IfErr result (λ back. back ≡ told) }
     {
         let visit = self.visit(lent.lane, told)?;
@@ -61,7 +62,8 @@ impl<T: Clear + Drop> Store<T> {
     /// reference and the note come back.
     pub fn release(&self, told: Note<T>, lent: Lent) -> Result<(bool, Note<T>), (Lent, Note<T>)>
         requires { Issued self.now.pool told }
-        ensures ok { IfOk result (λ r. ByLaneAt lent.lane self.now.pool told r.1 (λ before after. AfterReleaseKey T self.now.pool lent.key before after r.0)) }
+        ensures ok { IfOk result (λ r. ByLaneAt lent.lane self.now.pool told r.1
+            (λ before after. AfterReleaseKey T self.now.pool lent.key before after r.0)) }
         ensures busy { IfErr result (λ back. (back.0 ≡ lent) × (back.1 ≡ told)) }
     {
         let mut visit = match self.visit(lent.lane, told) {
@@ -93,7 +95,8 @@ impl<T: Clear + Drop> Store<T> {
         object: &mut T,
     ) -> Result<(Result<u64, CreateFault>, Note<T>), Note<T>>
         requires { Issued self.now.pool told }
-        ensures ok { IfOk result (λ r. ByLane self.now.pool told r.1 (λ before after. Puts T.content T.room self.now.pool object.old object.new before after r.0)) }
+        ensures ok { IfOk result (λ r. ByLane self.now.pool told r.1
+            (λ before after. Puts T.content T.room self.now.pool object.old object.new before after r.0)) }
         ensures busy { IfErr result (λ back. (back ≡ told) × (object.new ≡ object.old)) }
     {
         let mut visit = self.visit_any(from, told)?;

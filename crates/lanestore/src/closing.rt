@@ -29,7 +29,8 @@ impl<T: Clear + Drop> Store<T> {
     /// call has one, which doesn't happen: the others are then dropped.
     pub fn close(self, alloc: Global, told: Note<T>) -> Result<Census, Option<(Store<T>, Note<T>)>>
         requires { Issued self.pool told }
-        ensures closes { IfOk result (λ census. (lanes : List LaneOf) × AreLanes self.pool lanes × Closes self.pool lanes census × ((lane : LaneOf) × Contains lanes lane × IsPrefix told.book.seen lane.book.seen)) }
+        ensures closes { IfOk result (λ census. (lanes : List LaneOf) × AreLanes self.pool lanes × Closes self.pool lanes census
+            × ((lane : LaneOf) × Contains lanes lane × IsPrefix told.book.seen lane.book.seen)) }
         ensures memory { IfErr result (λ back. IfSome back (λ kept. (kept.0 ≡ self) × (kept.1 ≡ told))) }
     {
         let Ok(row) = Vec::with_capacity(alloc, self.places.len()) else {
@@ -51,7 +52,8 @@ fn close_with<T: Clear + Drop>(
 ) -> Option<Census>
     requires lane { Owns store.pool (lane_of visit) }
     requires row { row.items ≡ [] }
-    ensures { IfSome result (λ census. (lanes : List LaneOf) × AreLanes store.pool lanes × Closes store.pool lanes census × Contains lanes (lane_of visit)) }
+    ensures { IfSome result (λ census. (lanes : List LaneOf) × AreLanes store.pool lanes × Closes store.pool lanes census
+        × Contains lanes (lane_of visit)) }
 {
     let Store { pool, places } = store;
     let Visit { lane } = visit;

@@ -79,7 +79,8 @@ impl<T: Clear + Drop> Visit<T> {
     /// none.
     pub fn with<A, F: FnOnce(&T) -> A>(&self, key: u64, look: F) -> Option<A>
         requires { F.IsAlwaysCallable look }
-        ensures { MatchOption result (holds (lane_of self.now) key ≡ 0) (λ answer. (object : T) × (j : ℕ) × PublishedAt (lane_of self.now).book.seen j key (T.content object) × FnOnceReturnsAt F.FnOnce look object answer) }
+        ensures { MatchOption result (holds (lane_of self.now) key ≡ 0) (λ answer. (object : T) × (j : ℕ)
+            × PublishedAt (lane_of self.now).book.seen j key (T.content object) × FnOnceReturnsAt F.FnOnce look object answer) }
     {
         let object = self.read(key)?;
         Some(look(object))
@@ -124,7 +125,8 @@ impl<T: Clear + Drop> Visit<T> {
         requires owns { Owns pool.now (lane_of self.old) }
         requires made { Made (lane_of self.old) filling }
         requires room { refs (lane_of self.old) < most_references }
-        ensures downgrades { AfterDowngrade T.content T.room pool.now filling (lane_of self.old) (lane_of self.new) (record { key = result.key }) }
+        ensures downgrades { AfterDowngrade T.content T.room pool.now filling (lane_of self.old) (lane_of self.new)
+            (record { key = result.key }) }
         ensures lane { result.lane ≡ (lane_of self.old).number }
     {
         let lane = self.number();

@@ -10,5 +10,6 @@ use Rattle.poollaws.specs.Counted.{CountsPresent}
 pub record IsSettled (pool : PoolOf) (lanes : List LaneOf) (census : Census) : Type 0 where
   pub closes : Closes pool lanes census
   pub all : HasAll lanes closes.history
-  pub settled : (key : ℕ) (content : List ℕ) → IsPublished closes.history key content → IsCleared closes.history key ⊎ CountsPresent closes.census_is key
+  pub settled : (key : ℕ) (content : List ℕ) → IsPublished closes.history key content → IsCleared closes.history key
+      ⊎ CountsPresent closes.census_is key
   pub none_left : census.present ≡ 0 → (key : ℕ) (content : List ℕ) → IsPublished closes.history key content → IsCleared closes.history key

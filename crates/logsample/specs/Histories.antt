@@ -30,7 +30,8 @@ IsNext key last = (place_of key ≡ place_of last) × (generation_of key ≡ gen
 abbrev pub LogsNothing : Request → LogFault → LaneOf → LaneOf → Type 0
 LogsNothing request NoStatus old new = new ≡ old
 LogsNothing request (NoPlace fault) old new = GivesNone old new
-LogsNothing request Memory old new = CreatesSuch (λ entry. entry.path.room < length request.path.now) content_of (λ entry. entry.path.room) old new
+LogsNothing request Memory old new = CreatesSuch (λ entry. entry.path.room < length request.path.now) content_of
+    (λ entry. entry.path.room) old new
 LogsNothing request Unheard old new = ⊥
 
 -- the lane heard of the key, looked at it, and cleared it, and did nothing more; where it saw nothing, its clear came behind another, and marked nothing

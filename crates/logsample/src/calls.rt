@@ -42,9 +42,11 @@ pub fn log<N: PoolName>(
 ) -> Result<u64, LogFault>
     ensures published { IfOk result (λ key. IsPublished seat.new.lane.book.seen key (numbers_of request.now)) }
     ensures room { IfOk result (λ key. KnowsRoom seat.new.lane key (length request.now.path.now)) }
-    ensures reused { IfOk result (λ key. (last size : ℕ) → KnowsRoom seat.old.lane last size → IsNext key last → KnowsRoom seat.new.lane key size) }
+    ensures reused { IfOk result (λ key. (last size : ℕ) → KnowsRoom seat.old.lane last size → IsNext key last
+        → KnowsRoom seat.new.lane key size) }
     ensures no_status { IsErrOf result faults.NoStatus ↔ (request.now.status ≡ 0) }
-    ensures logs { IfOk result (Puts content_of (λ entry. entry.path.room) N.pool.shape (numbers_of request.now) seat.old.lane seat.new.lane) }
+    ensures logs { IfOk result (Puts content_of (λ entry. entry.path.room) N.pool.shape (numbers_of request.now) seat.old.lane
+        seat.new.lane) }
     ensures none { IfErr result (λ fault. LogsNothing request.now fault seat.old.lane seat.new.lane) }
     ensures keeps { Keeps Entry seat.old.lane seat.new.lane }
     ensures number { seat.new.lane.number ≡ seat.old.lane.number }

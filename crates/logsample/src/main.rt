@@ -46,7 +46,8 @@ const WAITING: usize = 4;
 ///
 /// As `Opened::close`.
 pub fn close_log(opened: Opened<Entry>) -> Result<Census, Missing<Entry>>
-    ensures settled { IfOk result (λ census. (lanes : List LaneOf) × (opened.lanes.slots ≡ map Some lanes) × IsSettled opened.pool lanes census) }
+    ensures settled { IfOk result (λ census. (lanes : List LaneOf) × (opened.lanes.slots ≡ map Some lanes)
+        × IsSettled opened.pool lanes census) }
 {
     close_law();
     opened.close()

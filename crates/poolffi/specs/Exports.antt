@@ -40,7 +40,8 @@ HasLane items = (handle : Handle) × (items ≡ handle ∷ [])
 -- a slot without a lane answers 2 and stays as it was; else its lane made the call, whose answer the code tells
 abbrev pub Calls : {A : Type 0} → (Handle → Handle → Result A Refusal → Type 0) → List Handle → List Handle → ℕ → Type 0
 Calls {A} R old new code = (HasNoLane old × (code ≡ 2) × (new ≡ old))
-    ⊎ ((before after : Handle) × (old ≡ before ∷ []) × (new ≡ after ∷ []) × (answer : Result A Refusal) × (code ≡ answer_code answer) × R before after answer)
+    ⊎ ((before after : Handle) × (old ≡ before ∷ []) × (new ≡ after ∷ []) × (answer : Result A Refusal) × (code ≡ answer_code answer)
+    × R before after answer)
 
 -- what stands behind a pointer is as before, but where the code is 0
 abbrev pub WritesAtOk : {X : Type 0} → ℕ → X → X → Type 0
@@ -80,12 +81,20 @@ items_of (Some handle) = handle ∷ []
 abbrev pub ClosesSlot : List Handle → List Handle → PoolCensus → ℕ → Type 0
 ClosesSlot old new census code = (HasNoLane old × (code ≡ 2) × (new ≡ old))
     ⊎ ((handle : Handle) × (old ≡ handle ∷ [])
-    × (((code ≡ 0) × (new ≡ []) × ((lanes : List LaneOf) × Contains lanes (lane_of handle) × AreLanes (pool_of handle) lanes × ((counts : Census) × Closes (pool_of handle) lanes counts × AreCounts counts census)))
+    × (((code ≡ 0) × (new ≡ []) × ((lanes : List LaneOf) × Contains lanes (lane_of handle) × AreLanes (pool_of handle) lanes
+    × ((counts : Census) × Closes (pool_of handle) lanes counts × AreCounts counts census)))
     ⊎ ((refusal : Refusal) × (back : Option Handle) × (code ≡ code_of refusal) × (new ≡ items_of back) × ClosesNot handle back refusal)))
 
 -- the shape that a foreign one is
 abbrev pub shape_of : PoolShape → Shape
-shape_of shape = record { lanes = shape.lanes; first_page = shape.first_page; pages = shape.pages; last_generation = shape.last_generation; tag = shape.tag }
+shape_of shape = record {
+  lanes = shape.lanes;
+  first_page = shape.first_page;
+  pages = shape.pages;
+  last_generation =
+      shape.last_generation;
+  tag = shape.tag;
+}
 
 -- some slot has a lane; none has one
 abbrev pub AnyHasLane : List Slot → Type 0
@@ -96,12 +105,14 @@ NoneHasLane slots = All (λ slot. HasNoLane slot.items) slots
 
 -- each slot has the handle of its index
 abbrev pub AreLowered : List (Box Handle Global) → List Slot → Type 0
-AreLowered handles slots = (index : ℕ) (slot : Slot) → slice_get slots index ≡ Some slot → (handle : Box Handle Global) × (slice_get handles index ≡ Some handle) × (slot.items ≡ handle.value ∷ [])
+AreLowered handles slots = (index : ℕ) (slot : Slot) → slice_get slots index ≡ Some slot → (handle : Box Handle Global)
+    × (slice_get handles index ≡ Some handle) × (slot.items ≡ handle.value ∷ [])
 
 -- by rising number the slots have the lanes of one pool, of this shape and opened under this number
 abbrev pub HaveOpened : Shape → ℕ → List Slot → Type 0
 HaveOpened shape number slots = (shared : Shared) × IsOf shape number shared
-    × ((index : ℕ) (slot : Slot) → slice_get slots index ≡ Some slot → (handle : Handle) × (slot.items ≡ handle ∷ []) × IsFirstHandle shared index handle)
+    × ((index : ℕ) (slot : Slot) → slice_get slots index ≡ Some slot → (handle : Handle) × (slot.items ≡ handle ∷ [])
+    × IsFirstHandle shared index handle)
 
 -- an open of a shape into slots: 11 for another number of slots than it has lanes; 3 where one has a lane; 12 for a shape with a fault; 1, for want of memory, for one within its limits; and 0 for a shape without a fault, whose lanes the slots then have. At other codes they are as before
 abbrev pub Opens : Shape → ℕ → List Slot → List Slot → ℕ → Type 0

@@ -75,13 +75,16 @@ Turns key R before after = (lane_of after ≡ lane_of before) × KeepsElse (Turn
 -- no place was had, for this reason: all pages are opened and nothing is free, or memory was refused for a page
 abbrev pub CreatesNone : Handle → Handle → Refusal → Type 0
 CreatesNone before after refusal = (((refusal ≡ Full) × ((lane_of before).pages.opened ≡ (lane_of before).shape.pages))
-    ⊎ ((refusal ≡ Memory) × ((lane_of before).pages.opened < (lane_of before).shape.pages))) × GivesNone (lane_of before) (lane_of after) × Stays before after
+    ⊎ ((refusal ≡ Memory) × ((lane_of before).pages.opened < (lane_of before).shape.pages))) × GivesNone (lane_of before) (lane_of after)
+    × Stays before after
 
 -- a create: the answer is the key of a new filling, which is empty
 abbrev pub Creates : Handle → Handle → Result ℕ Refusal → Type 0
-Creates before after (Ok key) = (filling : FillingOf ByteBuf) × (filling.key ≡ key) × Gives (λ b. b.bytes) (λ b. b.room) (lane_of before) (lane_of after) filling
+Creates before after (Ok key) = (filling : FillingOf ByteBuf) × (filling.key ≡ key)
+    × Gives (λ b. b.bytes) (λ b. b.room) (lane_of before) (lane_of after) filling
     × KeepsElse (Gain filling) as_many before after
-Creates before after (Err refusal) = ((refusal ≡ Fillings) × (MOST_FILLINGS ≤ length (filled before)) × (after ≡ before)) ⊎ CreatesNone before after refusal
+Creates before after (Err refusal) = ((refusal ≡ Fillings) × (MOST_FILLINGS ≤ length (filled before)) × (after ≡ before))
+    ⊎ CreatesNone before after refusal
 
 -- its content is as before, and it has no room more
 abbrev pub EndsRoom : Kept → Kept → Type 0
@@ -89,26 +92,31 @@ EndsRoom was now = (content_of now ≡ content_of was) × (room_of now ≡ [])
 
 -- an append: these bytes stand behind the content; or memory was refused of which there was need, and the content is as before
 abbrev pub Appends : ℕ → List ℕ → Handle → Handle → Result (Unit {0}) Refusal → Type 0
-Appends key bytes before after (Ok done) = Turns key (λ was now. (content_of now ≡ content_of was ++ bytes) × (room_of now ≡ [])) before after
+Appends key bytes before after (Ok done) = Turns key (λ was now. (content_of now ≡ content_of was ++ bytes)
+    × (room_of now ≡ [])) before after
 Appends key bytes before after (Err refusal) = ((refusal ≡ NoFilling) × HasNone key before after)
     ⊎ ((refusal ≡ Memory) × Turns key (λ was now. MustGrow was (length bytes) × EndsRoom was now) before after)
 
 -- room: so many zeros stand behind the content, which is as before; or memory was refused of which there was need
 abbrev pub Rooms : ℕ → ℕ → Handle → Handle → Result (Unit {0}) Refusal → Type 0
-Rooms key count before after (Ok done) = Turns key (λ was now. (content_of now ≡ content_of was) × (room_of now ≡ replicate count 0)) before after
+Rooms key count before after (Ok done) = Turns key (λ was now. (content_of now ≡ content_of was)
+    × (room_of now ≡ replicate count 0)) before after
 Rooms key count before after (Err refusal) = ((refusal ≡ NoFilling) × HasNone key before after)
     ⊎ ((refusal ≡ Memory) × Turns key (λ was now. MustGrow was count × EndsRoom was now) before after)
 
 -- the room was written: the first bytes of it, so many, are content, and the others are gone
 abbrev pub Wrote : ℕ → ℕ → Handle → Handle → Result (Unit {0}) Refusal → Type 0
 Wrote key count before after (Ok done) =
-    Turns key (λ was now. (count ≤ length (room_of was)) × (content_of now ≡ content_of was ++ take count (room_of was)) × (room_of now ≡ [])) before after
+    Turns key (λ was now. (count ≤ length (room_of was)) × (content_of now ≡ content_of was ++ take count (room_of was))
+    × (room_of now ≡ [])) before after
 Wrote key count before after (Err refusal) = ((refusal ≡ NoFilling) × HasNone key before after)
-    ⊎ ((refusal ≡ Room) × ((kept : Kept) × Contains (filled before) kept × (kept.filling.key ≡ key) × (length (room_of kept) < count)) × StaysWhole before after)
+    ⊎ ((refusal ≡ Room) × ((kept : Kept) × Contains (filled before) kept × (kept.filling.key ≡ key) × (length (room_of kept) < count))
+    × StaysWhole before after)
 
 -- the content of the filling under this key is published, with a reference of the lane or without one; the filling is gone, and the place keeps its memory
 abbrev pub Published : ℕ → Bool → (ℕ → ℕ → ℕ) → Handle → Handle → Type 0
-Published key with_ref references before after = (kept : Kept) × LanePublishes key (content_of kept) with_ref kept.filling.object.room (lane_of before) (lane_of after)
+Published key with_ref references before after = (kept : Kept)
+    × LanePublishes key (content_of kept) with_ref kept.filling.object.room (lane_of before) (lane_of after)
     × KeepsElse (Lose key kept) references before after
 
 abbrev pub Publishes : ℕ → Handle → Handle → Result (Unit {0}) Refusal → Type 0
@@ -117,7 +125,8 @@ Publishes key before after (Err refusal) = (refusal ≡ NoFilling) × HasNone ke
 
 abbrev pub Downgrades : ℕ → Handle → Handle → Result (Unit {0}) Refusal → Type 0
 Downgrades key before after (Ok done) = Published key true (one_more key) before after
-Downgrades key before after (Err refusal) = ((refusal ≡ NoFilling) × HasNone key before after) ⊎ ((refusal ≡ References) × HasMost before after)
+Downgrades key before after (Err refusal) = ((refusal ≡ NoFilling) × HasNone key before after)
+    ⊎ ((refusal ≡ References) × HasMost before after)
 
 -- a filling ended unpublished; the lane is as before
 abbrev pub Leaves : ℕ → Handle → Handle → Result (Unit {0}) Refusal → Type 0
@@ -126,12 +135,14 @@ Leaves key before after (Err refusal) = (refusal ≡ NoFilling) × HasNone key b
 
 -- a filling was published with this content and cleared, so that its place can be had again: its key is found no more
 abbrev pub GivesUp : ℕ → List ℕ → ℕ → LaneOf → LaneOf → Type 0
-GivesUp key content room before after = (middle : LaneOf) × LanePublishes key content false room before middle × (LaneClears key middle after ⊎ LaneClearsNone key middle after)
+GivesUp key content room before after = (middle : LaneOf) × LanePublishes key content false room before middle
+    × (LaneClears key middle after ⊎ LaneClearsNone key middle after)
 
 -- a create, an append and a publish in one: the answer is the key under which these bytes are published; or no place was had; or memory was refused for
 -- the bytes, of which there was need, and the place was given up
 abbrev pub Puts : List ℕ → Handle → Handle → Result ℕ Refusal → Type 0
-Puts bytes before after (Ok key) = (middle : LaneOf) × (filling : FillingOf ByteBuf) × (filling.key ≡ key) × Gives (λ b. b.bytes) (λ b. b.room) (lane_of before) middle filling
+Puts bytes before after (Ok key) = (middle : LaneOf) × (filling : FillingOf ByteBuf) × (filling.key ≡ key)
+    × Gives (λ b. b.bytes) (λ b. b.room) (lane_of before) middle filling
     × ((room : ℕ) × (filling.object.room ≤ room) × LanePublishes key bytes false room middle (lane_of after)) × Stays before after
 Puts bytes before after (Err refusal) = CreatesNone before after refusal ⊎ ((refusal ≡ Memory)
     × ((middle : LaneOf) × (filling : FillingOf ByteBuf) × Gives (λ b. b.bytes) (λ b. b.room) (lane_of before) middle filling
@@ -139,7 +150,8 @@ Puts bytes before after (Err refusal) = CreatesNone before after refusal ⊎ ((r
 
 -- a get: one reference more; else the key wasn't found, or the lane has as many references as it can
 abbrev pub Got : ℕ → Handle → Handle → Type 0
-Got key before after = LaneGets key (lane_of before) (lane_of after) × (1 ≤ holds (lane_of after) key) × KeepsElse StayAll (one_more key) before after
+Got key before after = LaneGets key (lane_of before) (lane_of after) × (1 ≤ holds (lane_of after) key)
+    × KeepsElse StayAll (one_more key) before after
 
 abbrev pub NotGot : ℕ → Handle → Handle → Refusal → Type 0
 NotGot key before after refusal = ((refusal ≡ Gone) × LaneMisses key (lane_of before) (lane_of after) × Stays before after)
@@ -151,7 +163,8 @@ AreLent key handle bytes = (1 ≤ holds (lane_of handle) key) × ((j : ℕ) × P
 
 -- a release: one reference less
 abbrev pub Releases : ℕ → Handle → Handle → Result (Unit {0}) Refusal → Type 0
-Releases key before after (Ok done) = (1 ≤ holds (lane_of before) key) × LaneReleases key (lane_of before) (lane_of after) × KeepsElse StayAll (one_less key) before after
+Releases key before after (Ok done) = (1 ≤ holds (lane_of before) key) × LaneReleases key (lane_of before) (lane_of after)
+    × KeepsElse StayAll (one_less key) before after
 Releases key before after (Err refusal) = (refusal ≡ NoReference) × (holds (lane_of before) key ≡ 0) × StaysWhole before after
 
 -- a clear: this call marked the key; else it wasn't found
@@ -173,11 +186,13 @@ pool_number handle = (arc_value handle.shared).number
 
 -- a join: the other lane was the next one, of a pool of the same number, and is given for the close; one more is joined, and all else is as before
 abbrev pub Joins : Handle → Handle → Handle → Type 0
-Joins before other after = IsNext before other × (pool_number other ≡ pool_number before) × (after ≡ record before { joined = before.joined + 1 })
+Joins before other after = IsNext before other × (pool_number other ≡ pool_number before)
+    × (after ≡ record before { joined = before.joined + 1 })
 
 -- no join, for this reason: another lane comes next, or the other is of another pool, which was opened under another number
 abbrev pub JoinsNot : Handle → Handle → Refusal → Type 0
-JoinsNot before other refusal = ((refusal ≡ Lanes) × (IsNext before other → ⊥)) ⊎ ((refusal ≡ OtherPool) × IsNext before other × (pool_number other ≢ pool_number before))
+JoinsNot before other refusal = ((refusal ≡ Lanes) × (IsNext before other → ⊥))
+    ⊎ ((refusal ≡ OtherPool) × IsNext before other × (pool_number other ≢ pool_number before))
 
 -- all other lanes were joined
 abbrev pub AllJoined : Handle → Type 0

@@ -21,7 +21,8 @@ MustGrow kept count = kept.filling.object.room < length (content_of kept) + coun
 
 -- it is the same filling: of the same key, and with no less memory
 abbrev pub SameFilling : Kept → Kept → Type 0
-SameFilling old new = (new.filling.table ≡ old.filling.table) × (new.filling.key ≡ old.filling.key) × (new.filling.start ≡ old.filling.start)
+SameFilling old new = (new.filling.table ≡ old.filling.table) × (new.filling.key ≡ old.filling.key)
+    × (new.filling.start ≡ old.filling.start)
     × (old.filling.object.room ≤ new.filling.object.room)
 
 -- the lane made each
@@ -42,7 +43,8 @@ HaveNot key places = All (λ kept. kept.filling.key ≢ key) places
 
 -- the filling that stands here is the same with other bytes, and the others are as before
 abbrev pub Changes : ℕ → (Kept → Kept → Type 0) → List Kept → List Kept → Type 0
-Changes index R old new = (kept : Kept) × (new ≡ slice_set old index kept) × SameFilling (slice_index_or old index kept) kept × R (slice_index_or old index kept) kept
+Changes index R old new = (kept : Kept) × (new ≡ slice_set old index kept) × SameFilling (slice_index_or old index kept) kept
+    × R (slice_index_or old index kept) kept
 
 -- ---- what a call does with all of them
 

@@ -24,12 +24,14 @@ MakesAtKey key call act old new = ((is_key old.shape key ≡ false) × (new ≡ 
 
 -- the lane published this content under the key, with a reference or without one; its place keeps so much memory
 abbrev pub LanePublishes : ℕ → List ℕ → Bool → ℕ → LaneOf → LaneOf → Type 0
-LanePublishes key content with_ref room old new = MakesOne (Publishing key content with_ref) (acts.Publish old.number key content with_ref) old new
+LanePublishes key content with_ref room old new = MakesOne (Publishing key content with_ref)
+    (acts.Publish old.number key content with_ref) old new
     × PublishedSince key content with_ref old new × (room_of new.book.seen new.book.rooms (place_of key) ≡ room)
 
 -- a get found the key
 abbrev pub LaneGets : ℕ → LaneOf → LaneOf → Type 0
-LaneGets key old new = ((content : List ℕ) × MakesOne (Getting key) (acts.Get old.number key (Some content)) old new) × FoundSince key old new
+LaneGets key old new = ((content : List ℕ) × MakesOne (Getting key) (acts.Get old.number key (Some content)) old new)
+    × FoundSince key old new
 
 -- a get didn't find it
 abbrev pub LaneMisses : ℕ → LaneOf → LaneOf → Type 0

@@ -74,7 +74,8 @@ fn put(place: &Counted<Option<Given>>, pool: &Pool<ByteBuf>, given: Given)
 /// handle, or none where that is seen late: the lanes are then dropped. It happens only where the program opened two
 /// pools under one number.
 pub fn close(handle: Box<Handle>) -> Result<Census, (Refusal, Option<Box<Handle>>)>
-    ensures closes { IfOk result (λ census. (lanes : List LaneOf) × Contains lanes (lane_of handle.value) × AreLanes (pool_of handle.value) lanes × Closes (pool_of handle.value) lanes census) }
+    ensures closes { IfOk result (λ census. (lanes : List LaneOf) × Contains lanes (lane_of handle.value)
+        × AreLanes (pool_of handle.value) lanes × Closes (pool_of handle.value) lanes census) }
     ensures stays { IfErr result (λ back. ClosesNot handle.value (option_map (λ same. same.value) back.1) back.0) }
 {
     let lanes = handle.shared.pool.shape().lanes;
@@ -88,7 +89,8 @@ pub fn close(handle: Box<Handle>) -> Result<Census, (Refusal, Option<Box<Handle>
 }
 
 fn close_handle(handle: Handle) -> Option<Census>
-    ensures { IfSome result (λ census. (lanes : List LaneOf) × Contains lanes (lane_of handle) × AreLanes (pool_of handle) lanes × Closes (pool_of handle) lanes census) }
+    ensures { IfSome result (λ census. (lanes : List LaneOf) × Contains lanes (lane_of handle) × AreLanes (pool_of handle) lanes
+        × Closes (pool_of handle) lanes census) }
 {
     let (shared, lane, row) = handle.into_parts();
     let Shared {

@@ -244,7 +244,8 @@ fn count_to(counts: &Vec<KeyCount>, start: u32, generation: u32) -> u32
 fn gain(counts: &mut Vec<KeyCount>, start: u32, generation: u32)
     requires start { start < length counts.old.items }
     requires room { (row : Row) → slice_get counts.old.items start ≡ Some row → generation ≡ row.generation → row.count < most_references }
-    ensures { (row : Row) → slice_get counts.old.items start ≡ Some row → counts.new.items ≡ slice_set counts.old.items start (gained generation row) }
+    ensures { (row : Row) → slice_get counts.old.items start ≡ Some row
+        → counts.new.items ≡ slice_set counts.old.items start (gained generation row) }
 {
     let row = counts[start as usize];
     counts[start as usize] = if row.generation == generation {
@@ -265,7 +266,8 @@ fn gain(counts: &mut Vec<KeyCount>, start: u32, generation: u32)
 fn lose(counts: &mut Vec<KeyCount>, start: u32)
     requires start { start < length counts.old.items }
     requires some { (row : Row) → slice_get counts.old.items start ≡ Some row → 1 ≤ row.count }
-    ensures { (row : Row) → slice_get counts.old.items start ≡ Some row → counts.new.items ≡ slice_set counts.old.items start (record row { count = row.count - 1 }) }
+    ensures { (row : Row) → slice_get counts.old.items start ≡ Some row
+        → counts.new.items ≡ slice_set counts.old.items start (record row { count = row.count - 1 }) }
 {
     counts[start as usize].count -= 1;
 }

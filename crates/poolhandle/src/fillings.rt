@@ -40,7 +40,8 @@ impl Fillings {
 
     /// Where the filling of a key stands. None where there is none.
     pub(crate) fn find(&self, key: u64) -> Option<usize>
-        ensures some { IfSome result (λ index. (index < length self.now.list.items) × ((d : One) → (slice_index_or self.now.list.items index d).filling.key ≡ key)) }
+        ensures some { IfSome result (λ index. (index < length self.now.list.items)
+            × ((d : One) → (slice_index_or self.now.list.items index d).filling.key ≡ key)) }
         ensures none { IsNone result → HaveNot key self.now.list.items }
     {
         for index in 0..self.list.len() {
@@ -73,7 +74,8 @@ impl Fillings {
     /// Appends to a filling: whether there was memory.
     pub(crate) fn append(&mut self, index: usize, bytes: &[u8]) -> bool
         requires { index < length self.old.list.items }
-        ensures changes { Changes index (λ old new. (new.filling.object.bytes ≡ (if result then content_of old ++ bytes.now else content_of old)) × (new.room ≡ 0)) self.old.list.items self.new.list.items }
+        ensures changes { Changes index (λ old new. (new.filling.object.bytes
+            ≡ (if result then content_of old ++ bytes.now else content_of old)) × (new.room ≡ 0)) self.old.list.items self.new.list.items }
         ensures grown { IsFalse result → (d : One) → MustGrow (slice_index_or self.old.list.items index d) (length bytes.now) }
     {
         self.list[index].append(bytes)
@@ -82,7 +84,8 @@ impl Fillings {
     /// Gives room behind the content of a filling: whether there was memory.
     pub(crate) fn grow(&mut self, index: usize, count: usize) -> bool
         requires { index < length self.old.list.items }
-        ensures changes { Changes index (λ old new. (content_of new ≡ content_of old) × (room_of new ≡ replicate new.room 0) × (new.room ≡ (if result then count else 0))) self.old.list.items self.new.list.items }
+        ensures changes { Changes index (λ old new. (content_of new ≡ content_of old) × (room_of new ≡ replicate new.room 0)
+            × (new.room ≡ (if result then count else 0))) self.old.list.items self.new.list.items }
         ensures grown { IsFalse result → (d : One) → MustGrow (slice_index_or self.old.list.items index d) count }
     {
         self.list[index].grow(count)
@@ -99,7 +102,8 @@ impl Fillings {
     /// The first so many bytes of the room of a filling are content: whether there are so many.
     pub(crate) fn wrote(&mut self, index: usize, count: usize) -> bool
         requires { index < length self.old.list.items }
-        ensures yes { IsTrue result → Changes index (λ old new. (count ≤ old.room) × (content_of new ≡ content_of old ++ take count (room_of old)) × (new.room ≡ 0)) self.old.list.items self.new.list.items }
+        ensures yes { IsTrue result → Changes index (λ old new. (count ≤ old.room)
+            × (content_of new ≡ content_of old ++ take count (room_of old)) × (new.room ≡ 0)) self.old.list.items self.new.list.items }
         ensures no { IsFalse result → (self.new ≡ self.old) × ((d : One) → (slice_index_or self.old.list.items index d).room < count) }
     {
         self.list[index].wrote(count)

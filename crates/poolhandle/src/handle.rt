@@ -193,7 +193,8 @@ impl Handle {
 
     /// The bytes of a key to which the lane has a reference.
     pub fn read(&self, key: u64) -> Result<&[u8], Refusal>
-        ensures { MatchResult result (λ bytes. AreLent key self.now bytes.now) (λ refusal. (refusal ≡ NoReference) × (holds (lane_of self.now) key ≡ 0)) }
+        ensures { MatchResult result (λ bytes. AreLent key self.now bytes.now) (λ refusal. (refusal ≡ NoReference)
+            × (holds (lane_of self.now) key ≡ 0)) }
     {
         let Some(reference) = self.lane.reference(key) else {
             return Err(Refusal::NoReference);

@@ -52,7 +52,8 @@ impl Kept {
     pub(crate) fn end_room(&mut self, unwritten: usize)
         requires { unwritten ≤ self.old.room }
         ensures same { SameFilling self.old self.new }
-        ensures bytes { self.new.filling.object.bytes ≡ take (length self.old.filling.object.bytes - unwritten) self.old.filling.object.bytes }
+        ensures bytes { self.new.filling.object.bytes
+            ≡ take (length self.old.filling.object.bytes - unwritten) self.old.filling.object.bytes }
         ensures capacity { self.new.filling.object.room ≡ self.old.filling.object.room }
         ensures none { self.new.room ≡ 0 }
     {
@@ -106,7 +107,8 @@ impl Kept {
     /// nothing changes.
     pub(crate) fn wrote(&mut self, count: usize) -> bool
         ensures same { SameFilling self.old self.new }
-        ensures yes { IsTrue result → (count ≤ self.old.room) × (content_of self.new ≡ content_of self.old ++ take count (room_of self.old)) × (self.new.room ≡ 0) }
+        ensures yes { IsTrue result → (count ≤ self.old.room)
+            × (content_of self.new ≡ content_of self.old ++ take count (room_of self.old)) × (self.new.room ≡ 0) }
         ensures no { IsFalse result → (self.new ≡ self.old) × (self.old.room < count) }
     {
         if count > self.room {

@@ -12,7 +12,8 @@ use Rattle.shardpool.specs.Tokens.{LaneOf}
 use Rattle.shardpool.specs.Closings.{IsCensus}
 
 -- the census counts the place of the key as present
-pub record CountsPresent {z : Shape} {history : List Act} {lanes : List LaneOf} {census : Census} (is : IsCensus z history lanes census) (key : ℕ) : Type 0 where
+pub record CountsPresent {z : Shape} {history : List Act} {lanes : List LaneOf} {census : Census} (is : IsCensus z history lanes census)
+    (key : ℕ) : Type 0 where
   pub index : ℕ
   pub lane : LaneOf
   pub stands : slice_get lanes index ≡ Some lane

@@ -25,11 +25,13 @@ use Rattle.poollaws.specs.Counted.{CountsPresent}
 
 -- an act of a history stands where it stood in each that goes on from it
 abbrev pub StandsLaw : Type 0
-StandsLaw = (beginning history : List Act) → IsPrefix beginning history → (i : ℕ) (act : Act) → At beginning i act → (i < length beginning) × At history i act
+StandsLaw = (beginning history : List Act) → IsPrefix beginning history → (i : ℕ) (act : Act) → At beginning i act → (i < length beginning)
+    × At history i act
 
 -- what was published still is
 abbrev pub StaysPublishedLaw : Type 0
-StaysPublishedLaw = (beginning history : List Act) → IsPrefix beginning history → (key : ℕ) (content : List ℕ) → IsPublished beginning key content → IsPublished history key content
+StaysPublishedLaw = (beginning history : List Act) → IsPrefix beginning history → (key : ℕ) (content : List ℕ)
+    → IsPublished beginning key content → IsPublished history key content
 
 -- what was cleared still is
 abbrev pub StaysClearedLaw : Type 0
@@ -42,7 +44,8 @@ OwnActsLaw = (made : List Act) (old new : LaneOf) → SeesOn made old new
 
 -- what is published is a key of the shape
 abbrev pub KeyLaw : Type 0
-KeyLaw = (z : Shape) (history : List Act) (key : ℕ) (content : List ℕ) → IsLegal z history → IsPublished history key content → is_key z key ≡ true
+KeyLaw = (z : Shape) (history : List Act) (key : ℕ) (content : List ℕ) → IsLegal z history → IsPublished history key content
+    → is_key z key ≡ true
 
 -- ---- keys that are gone
 
@@ -57,11 +60,13 @@ UnfoundLaw = (key : ℕ) (old new : LaneOf) → IsPrefix old.book.seen new.book.
 
 -- a call of a lane that finds nothing comes behind a clear of the key, if the lane saw it published
 abbrev pub MissedLaw : Type 0
-MissedLaw = (key : ℕ) (old new : LaneOf) → IsPrefix old.book.seen new.book.seen → MissedSince key old new → IsGone old.book.seen new.book.seen key
+MissedLaw = (key : ℕ) (old new : LaneOf) → IsPrefix old.book.seen new.book.seen → MissedSince key old new
+    → IsGone old.book.seen new.book.seen key
 
 -- a clear of a key that the lane has seen cleared marks nothing
 abbrev pub MarksOnceLaw : Type 0
-MarksOnceLaw = (key : ℕ) (old new : LaneOf) (marked : Bool) → IsPrefix old.book.seen new.book.seen → IsCleared old.book.seen key → (IsTrue marked → ClearedSince key old new) → marked ≡ false
+MarksOnceLaw = (key : ℕ) (old new : LaneOf) (marked : Bool) → IsPrefix old.book.seen new.book.seen → IsCleared old.book.seen key
+    → (IsTrue marked → ClearedSince key old new) → marked ≡ false
 
 -- ---- the end of a history, and the close
 
@@ -77,18 +82,21 @@ LastLaw = (pool : PoolOf) (lanes : List LaneOf) (census : Census) (closes : Clos
 -- a key that was published is cleared when its pool is closed, or its place is counted as present
 abbrev pub CountedLaw : Type 0
 CountedLaw = (pool : PoolOf) (lanes : List LaneOf) (census : Census) → AreLanes pool lanes → (closes : Closes pool lanes census)
-    → (key : ℕ) (content : List ℕ) → IsPublished closes.history key content → IsCleared closes.history key ⊎ CountsPresent closes.census_is key
+    → (key : ℕ) (content : List ℕ) → IsPublished closes.history key content → IsCleared closes.history key
+    ⊎ CountsPresent closes.census_is key
 
 -- where none is counted as present, each key that was published is cleared
 abbrev pub NoneLeftLaw : Type 0
-NoneLeftLaw = (pool : PoolOf) (lanes : List LaneOf) (census : Census) → AreLanes pool lanes → (closes : Closes pool lanes census) → census.present ≡ 0
+NoneLeftLaw = (pool : PoolOf) (lanes : List LaneOf) (census : Census) → AreLanes pool lanes → (closes : Closes pool lanes census)
+    → census.present ≡ 0
     → (key : ℕ) (content : List ℕ) → IsPublished closes.history key content → IsCleared closes.history key
 
 -- ---- rooms
 
 -- a lane that has just published a key knows the room of its place
 abbrev pub FirstRoomLaw : Type 0
-FirstRoomLaw = (lane : LaneOf) (key size : ℕ) (content : List ℕ) → IsPublished lane.book.seen key content → length lane.book.rooms ≡ length lane.book.seen
+FirstRoomLaw = (lane : LaneOf) (key size : ℕ) (content : List ℕ) → IsPublished lane.book.seen key content
+    → length lane.book.rooms ≡ length lane.book.seen
     → size ≤ room_of lane.book.seen lane.book.rooms (place_of key) → KnowsRoom lane key size
 
 -- what has room for some has room for less
@@ -101,7 +109,8 @@ KeptRoomLaw = (made : List Act) (old new : LaneOf) (key size : ℕ) → SeesOn m
 
 -- what a lane knows of rooms its note tells
 abbrev pub ToldRoomLaw : Type 0
-ToldRoomLaw = (teller note : View) (key size : ℕ) → note.seen ≡ teller.seen → note.rooms ≡ teller.rooms → SawRoom teller key size → SawRoom note key size
+ToldRoomLaw = (teller note : View) (key size : ℕ) → note.seen ≡ teller.seen → note.rooms ≡ teller.rooms → SawRoom teller key size
+    → SawRoom note key size
 
 -- and whoever hears the note, or meets the lane, knows it too
 abbrev pub HeardRoomLaw : Type 0
@@ -110,7 +119,8 @@ HeardRoomLaw = (note hearer : View) (key size : ℕ) → IsPrefix note.seen hear
 
 -- the object of a filling has the room that its place had under the key before: a key's next has its place and the next generation
 abbrev pub ReusedRoomLaw : {T : Type 0} → (T → List ℕ) → (T → ℕ) → Type 0
-ReusedRoomLaw {T} content room = (old new : LaneOf) (filling : FillingOf T) (key size : ℕ) → Gives content room old new filling → KnowsRoom old key size
+ReusedRoomLaw {T} content room = (old new : LaneOf) (filling : FillingOf T) (key size : ℕ) → Gives content room old new filling
+    → KnowsRoom old key size
     → place_of filling.key ≡ place_of key → generation_of filling.key ≡ generation_of key + 1 → size ≤ room filling.object
 
 -- a lane fills places of its own shard

@@ -26,5 +26,7 @@ IsPresent z history key content = (is_current z (pool_after z history) key ≡ t
 
 -- the history has all that these lanes have seen
 pub record HasAll (lanes : List LaneOf) (history : List Act) : Type 0 where
-  pub published : (number : ℕ) (lane : LaneOf) (key : ℕ) (content : List ℕ) → slice_get lanes number ≡ Some lane → IsPublished lane.book.seen key content → IsPublished history key content
-  pub cleared : (number : ℕ) (lane : LaneOf) (key : ℕ) → slice_get lanes number ≡ Some lane → IsCleared lane.book.seen key → IsCleared history key
+  pub published : (number : ℕ) (lane : LaneOf) (key : ℕ) (content : List ℕ) → slice_get lanes number ≡ Some lane
+      → IsPublished lane.book.seen key content → IsPublished history key content
+  pub cleared : (number : ℕ) (lane : LaneOf) (key : ℕ) → slice_get lanes number ≡ Some lane → IsCleared lane.book.seen key
+      → IsCleared history key

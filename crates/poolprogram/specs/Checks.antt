@@ -23,7 +23,8 @@ summary_text s =
 
 -- the line of a history whose act at this index, counted from 0, is the first that is refused
 abbrev pub illegal_text : ℕ → ApplyFault → List ℕ
-illegal_text index fault = codes "illegal " ++ decimal index ++ codes " " ++ decimal (apply_fault_number fault) ++ codes " " ++ apply_fault_name fault ++ codes "\n"
+illegal_text index fault = codes "illegal " ++ decimal index ++ codes " " ++ decimal (apply_fault_number fault) ++ codes " "
+    ++ apply_fault_name fault ++ codes "\n"
 
 -- the bytes stand for a legal history, and the text is the line of its summary
 pub record IsLegalLine (bytes text : List ℕ) : Type 0 where

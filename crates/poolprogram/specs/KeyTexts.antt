@@ -22,7 +22,8 @@ is_some_key number = nat_le 1 (generation_of number)
 abbrev pub key_line : ℕ → List ℕ
 key_line number =
     if is_some_key number
-    then parts_text (shard_of (place_of number)) (page_of (place_of number)) (slot_of (place_of number)) (generation_of number) (tag_of number)
+    then parts_text (shard_of (place_of number)) (page_of (place_of number)) (slot_of (place_of number)) (generation_of number)
+    (tag_of number)
     else codes "no key\n"
 
 -- known bytes grow by the line of the number, and it is told whether a key has it

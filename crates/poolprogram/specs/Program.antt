@@ -31,15 +31,18 @@ use Rattle.poolprogram.specs.declared.run_fault.RunFault.{RunFault}
 use Rattle.poolprogram.specs.declared.run_fault.RunFault.TheVariants as runs
 
 -- a task was done on these bytes, or refused: nothing was written, but where the output failed
-pub record Does {O : Type 0} (contents : O → Option (List ℕ)) (task : Task) (file : List ℕ) (done : Result Bool RunFault) (old new : Watched O) : Type 0 where
+pub record Does {O : Type 0} (contents : O
+    → Option (List ℕ)) (task : Task) (file : List ℕ) (done : Result Bool RunFault) (old new : Watched O) : Type 0 where
   pub ok : IfOk done (λ good. WritesTask task file good (contents old.inner) (contents new.inner))
   pub output : IsErrOf done runs.Output ↔ (new.failed ≡ true)
   pub refused : IfErr done (λ fault. fault ≢ runs.Output → (new ≡ old) × RefusesTask task file fault)
 
 -- a task was done on the bytes of its file
-pub record DoesFile {O : Type 0} (contents : O → Option (List ℕ)) (left : Option (List ℕ)) (task : Task) (file : List ℕ) (done : Result Bool RunFault) (old new : Watched O) : Type 0 where
-  pub read : IsFileOf (path_of task) left file
-  pub does : Does contents task file done old new
+pub record DoesFile {O : Type 0} (contents : O
+    → Option (List ℕ)) (left : Option (List ℕ)) (task : Task) (file : List ℕ) (done : Result Bool RunFault) (old new : Watched O) : Type 0
+  where
+    pub read : IsFileOf (path_of task) left file
+    pub does : Does contents task file done old new
 
 -- its file wasn't read, and nothing was written
 pub record LacksFile {O : Type 0} (task : Task) (file : List ℕ) (done : Result Bool RunFault) (old new : Watched O) : Type 0 where
@@ -50,7 +53,8 @@ pub record LacksFile {O : Type 0} (task : Task) (file : List ℕ) (done : Result
   pub kept : new ≡ old
 
 -- what came of a task
-abbrev pub DoesTask : {O : Type 0} → (O → Option (List ℕ)) → Option (List ℕ) → Task → List ℕ → Result Bool RunFault → Watched O → Watched O → Type 0
+abbrev pub DoesTask : {O : Type 0} → (O → Option (List ℕ)) → Option (List ℕ) → Task → List ℕ → Result Bool RunFault → Watched O → Watched O
+    → Type 0
 DoesTask contents left task file done old new = DoesFile contents left task file done old new ⊎ LacksFile task file done old new
 
 -- the text, which is one line that can be printed, or empty, explains how a task ended that is about this
@@ -61,17 +65,22 @@ pub record ExplainsEnd (subject : Subject) (file : List ℕ) (done : Result Bool
 
 -- it does; or it is empty, as memory was refused for what there is to explain, and that is told
 abbrev pub IsWhy : Result Subject AllocError → List ℕ → Result Bool RunFault → Bool → List ℕ → Type 0
-IsWhy (Ok subject) file done explained text = ExplainsEnd subject file done explained text ⊎ ((explained ≡ false) × (text ≡ []) × (IsPlain subject done → ⊥))
+IsWhy (Ok subject) file done explained text = ExplainsEnd subject file done explained text
+    ⊎ ((explained ≡ false) × (text ≡ []) × (IsPlain subject done → ⊥))
 IsWhy (Err refused) file done explained text = (explained ≡ false) × (text ≡ [])
 
 -- such a text is said
-pub record SaysWhy {E : Type 0} (errors : E → Option (List ℕ)) (subject : Result Subject AllocError) (file : List ℕ) (done : Result Bool RunFault) (explained : Bool) (before after : Watched E) : Type 0 where
+pub record SaysWhy {E : Type 0} (errors : E
+    → Option (List ℕ)) (subject : Result Subject AllocError) (file : List ℕ) (done : Result Bool RunFault) (explained : Bool)
+    (before after : Watched E) : Type 0 where
   pub why : List ℕ
   pub is : IsWhy subject file done explained why
   pub says : Says errors before after why
 
 -- the line of a task's fault is said, where it has one, and such a text behind it
-pub record SaysEnd {E : Type 0} (errors : E → Option (List ℕ)) (subject : Result Subject AllocError) (file : List ℕ) (done : Result Bool RunFault) (ending : Ending) (before after : Watched E) : Type 0 where
+pub record SaysEnd {E : Type 0} (errors : E
+    → Option (List ℕ)) (subject : Result Subject AllocError) (file : List ℕ) (done : Result Bool RunFault) (ending : Ending)
+    (before after : Watched E) : Type 0 where
   pub status_is : ending.status ≡ task_status done
   pub why : List ℕ
   pub is : IsWhy subject file done ending.explained why
@@ -89,7 +98,8 @@ ExplainsIf true task file done explained text = IsExplainedTask task file done e
 ExplainsIf false task file done explained text = (explained ≡ true) × (text ≡ [])
 
 -- how the program ends after a task: with its status; what it says is on the output, and the line of its fault, and behind it why, are said as errors
-pub record EndsTask {O E : Type 0} (contents : O → Option (List ℕ)) (errors : E → Option (List ℕ)) (left : Option (List ℕ)) (task : Task) (explain : Bool)
+pub record EndsTask {O E : Type 0} (contents : O → Option (List ℕ)) (errors : E
+    → Option (List ℕ)) (left : Option (List ℕ)) (task : Task) (explain : Bool)
     (old new : Watched O) (before after : Watched E) (ending : Ending) : Type 0 where
   pub file : List ℕ
   pub done : Result Bool RunFault
@@ -125,13 +135,16 @@ pub record EndsUnread {E : Type 0} (errors : E → Option (List ℕ)) (path : Li
   pub says : Says errors before after (fault_line fault ++ why)
 
 -- how the program ends that has no turns
-abbrev pub EndsUnlisted : {O E : Type 0} → (E → Option (List ℕ)) → List ℕ → Unlisted → Bool → Watched O → Watched O → Watched E → Watched E → Ending → Type 0
-EndsUnlisted errors path (Unread fault) explain old new before after ending = (new ≡ old) × EndsUnread errors path fault explain before after ending
+abbrev pub EndsUnlisted : {O E : Type 0} → (E → Option (List ℕ)) → List ℕ → Unlisted → Bool → Watched O → Watched O → Watched E → Watched E
+    → Ending → Type 0
+EndsUnlisted errors path (Unread fault) explain old new before after ending = (new ≡ old)
+    × EndsUnread errors path fault explain before after ending
 EndsUnlisted errors path (Words fault) explain old new before after ending =
     (ending.explained ≡ true) × EndsByWords errors fault explain old new before after ending.status
 
 -- how the program ends after a task whose turns are in the file at this path: they are read, and then it is done
-pub record EndsListed {O E : Type 0} (contents : O → Option (List ℕ)) (errors : E → Option (List ℕ)) (left : Option (List ℕ)) (path : List ℕ) (task : Task) (explain : Bool)
+pub record EndsListed {O E : Type 0} (contents : O → Option (List ℕ)) (errors : E
+    → Option (List ℕ)) (left : Option (List ℕ)) (path : List ℕ) (task : Task) (explain : Bool)
     (old new : Watched O) (before after : Watched E) (ending : Ending) : Type 0 where
   pub turns : Turns
   pub reads : ListsTurns path left turns
@@ -150,14 +163,17 @@ pub record EndsWithout {O E : Type 0} (errors : E → Option (List ℕ)) (left :
 -- how the program ends after a task, by the path of the file that its turns are in
 abbrev pub EndsFor : {O E : Type 0} → (O → Option (List ℕ)) → (E → Option (List ℕ)) → Option (List ℕ) → Option (List ℕ) → Task → Bool
     → Watched O → Watched O → Watched E → Watched E → Ending → Type 0
-EndsFor contents errors left None task explain old new before after ending = EndsTask contents errors left task explain old new before after ending
+EndsFor contents errors left None task explain old new before after ending = EndsTask contents errors left task explain old new before
+    after ending
 EndsFor contents errors left (Some path) task explain old new before after ending =
-    EndsListed contents errors left path task explain old new before after ending ⊎ EndsWithout errors left path explain old new before after ending
+    EndsListed contents errors left path task explain old new before after ending
+    ⊎ EndsWithout errors left path explain old new before after ending
 
 -- how the program ends, by what is asked for
 abbrev pub EndsRequest : {O E : Type 0} → (O → Option (List ℕ)) → (E → Option (List ℕ)) → Option (List ℕ) → Result Task TaskFault → Bool
     → Watched O → Watched O → Watched E → Watched E → Ending → Type 0
-EndsRequest contents errors left (Ok task) explain old new before after ending = EndsFor contents errors left (schedule_path_of task) task explain old new before after ending
+EndsRequest contents errors left (Ok task) explain old new before after ending = EndsFor contents errors left (schedule_path_of task) task
+    explain old new before after ending
 EndsRequest contents errors left (Err fault) explain old new before after ending =
     (ending.explained ≡ true) × EndsByWords errors fault explain old new before after ending.status
 
@@ -167,7 +183,8 @@ asked_path (Ok task) = path_of task
 asked_path (Err fault) = None
 
 -- how the program ends that was called so, with hints or not: what the words ask for is done, and a hint given behind a mistake
-pub record EndsCall {O E : Type 0} (contents : O → Option (List ℕ)) (errors : E → Option (List ℕ)) (left : Option (List ℕ)) (call : Call) (hints : Bool)
+pub record EndsCall {O E : Type 0} (contents : O → Option (List ℕ)) (errors : E
+    → Option (List ℕ)) (left : Option (List ℕ)) (call : Call) (hints : Bool)
     (old new : Watched O) (before after : Watched E) (ending : Ending) : Type 0 where
   pub task : Result Task TaskFault
   pub flag : Bool
@@ -177,17 +194,20 @@ pub record EndsCall {O E : Type 0} (contents : O → Option (List ℕ)) (errors 
   pub middle : Watched E
   pub ends : EndsRequest contents errors left task (is_wanted call.wish flag hints) old new before middle ending
   pub hinted : Hints errors (is_hinted hints (is_due task) (is_wanted call.wish flag hints) ending.status)
-      (hint_text (codes "poolrun") (command_in (map string_bytes call.words.items)) (word_of (map string_bytes call.words.items) (asked_path task))) middle after
+      (hint_text (codes "poolrun") (command_in (map string_bytes call.words.items))
+      (word_of (map string_bytes call.words.items) (asked_path task))) middle after
 
 -- how the program ends, by what the words were read as
 abbrev pub EndsRead : {O E : Type 0} → (O → Option (List ℕ)) → (E → Option (List ℕ)) → Option (List ℕ) → Result Call TaskFault → Bool
     → Watched O → Watched O → Watched E → Watched E → Ending → Type 0
-EndsRead contents errors left (Ok call) hints old new before after ending = EndsCall contents errors left call hints old new before after ending
+EndsRead contents errors left (Ok call) hints old new before after ending = EndsCall contents errors left call hints old new before after
+    ending
 EndsRead contents errors left (Err fault) hints old new before after ending =
     (ending.explained ≡ true) × EndsByWords errors fault hints old new before after ending.status
 
 -- how the program ends, by what it was called with
-pub record EndsProgram {O E : Type 0} (contents : O → Option (List ℕ)) (errors : E → Option (List ℕ)) (left : Option (List ℕ)) (args : Result (IntoIter (String Global) Global) Error)
+pub record EndsProgram {O E : Type 0} (contents : O → Option (List ℕ)) (errors : E
+    → Option (List ℕ)) (left : Option (List ℕ)) (args : Result (IntoIter (String Global) Global) Error)
     (hints : Bool) (old new : Watched O) (before after : Watched E) (ending : Ending) : Type 0 where
   pub call : Result Call TaskFault
   pub read : ReadsArgs args call

@@ -23,7 +23,8 @@ use Rattle.poolprogram.specs.declared.run_fault.RunFault.TheVariants as runs
 abbrev pub census_text : Census → List ℕ
 census_text c =
     codes "census free " ++ decimal c.free ++ codes " unopened " ++ decimal c.unopened ++ codes " filling " ++ decimal c.filling
-    ++ codes " present " ++ decimal c.present ++ codes " marked " ++ decimal c.marked ++ codes " retired " ++ decimal c.retired ++ codes "\n"
+    ++ codes " present " ++ decimal c.present ++ codes " marked " ++ decimal c.marked ++ codes " retired " ++ decimal c.retired
+    ++ codes "\n"
 
 -- a line for each reply of the worker of this number; none where its report was refused
 abbrev pub report_text : ℕ → Result Report AllocError → List ℕ

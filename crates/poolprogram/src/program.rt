@@ -196,7 +196,8 @@ fn run_listed<R: Files + AllocGlobal + Threads + Wait + Sync, I: Read, O: Write,
     errors: &mut Watched<E>,
 ) -> Ending
     requires { out.old.failed ≡ false }
-    ensures { EndsFor O.contents E.contents (I.remaining input.old) (schedule_path_of task) task explain out.old out.new errors.old errors.new result }
+    ensures { EndsFor O.contents E.contents (I.remaining input.old) (schedule_path_of task) task explain out.old out.new errors.old
+        errors.new result }
 {
     let Some(path) = task.schedule_path() else {
         return run_to_end(rt, task, explain, input, out, errors);

@@ -22,7 +22,8 @@ module _ {S : Type 0} (z : Shape) (key : ℕ) where
   -- the ENTER, MARK and LEAVE of a clear, from this word, which has references to the key
   abbrev pub MakesStrike : ℕ → Me S View → Me S View → Type 0
   MakesStrike word before after =
-      (entered : Me S View) × EntersClear z key before word entered × ((marked : Me S View) × Marks z key entered (word + 4) marked × Leaves z key marked (word + 6) after)
+      (entered : Me S View) × EntersClear z key before word entered
+      × ((marked : Me S View) × Marks z key entered (word + 4) marked × Leaves z key marked (word + 6) after)
 
   -- the ENTER and LEAVE of a clear that misses, at this word, which is then as it was
   abbrev pub MakesMiss : ℕ → Me S View → Me S View → Type 0

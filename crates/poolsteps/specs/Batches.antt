@@ -51,7 +51,8 @@ pub record GoesAll (z : Shape) (place : ℕ) (status : Status) (c : Stored) (loo
 module _ {T : Type 0} (content : T → List ℕ) (room : T → ℕ) (spots : ℕ → CellSpot) where
   -- what the slots of a place have that a lane left so
   abbrev pub AreLeft : ℕ → Shape → Status → Stored → (ℕ → Option (Share T)) → Type 0
-  AreLeft place z status c values = (number : ℕ) → number < z.lanes → Leaves content room spots place z number c status (at_home (values number))
+  AreLeft place z status c values = (number : ℕ) → number < z.lanes
+      → Leaves content room spots place z number c status (at_home (values number))
 
   -- a look at which the seat takes all slots of a place, which its lane left so
   pub record LiftsAll (z : Shape) (place : ℕ) (order : ℕ → ℕ) (status : Status) (before after : Me (Option (Share T)) View) : Type 0 where
@@ -73,12 +74,14 @@ module _ {T : Type 0} (content : T → List ℕ) (room : T → ℕ) (spots : ℕ
     pub cell_is : stored_of content room (lowest_share rest) ≡ c
 
   -- OUT of all shares of a place
-  pub record OutsAll (z : Shape) (place : ℕ) (before : Me (Option (Share T)) View) (rest : Rest T) (after : Me (Option (Share T)) View) : Type 0 where
+  pub record OutsAll (z : Shape) (place : ℕ) (before : Me (Option (Share T)) View) (rest : Rest T) (after : Me (Option (Share T)) View) :
+      Type 0 where
     pub are : AreOf place z (known_of (the_lane before.0) place) rest
     pub goes : GoesAll z place Emptied (known_of (the_lane before.0) place) 2 before.0 after.0
     pub held : after.1 ≡ []
 
   -- BACK of all shares of a cell
-  pub record BacksAll (z : Shape) (place : ℕ) (before : Me (Option (Share T)) View) (rest : Rest T) (after : Me (Option (Share T)) View) : Type 0 where
+  pub record BacksAll (z : Shape) (place : ℕ) (before : Me (Option (Share T)) View) (rest : Rest T) (after : Me (Option (Share T)) View) :
+      Type 0 where
     pub goes : GoesAll z place Untouched (stored_of content room (lowest_share rest)) 2 before.0 after.0
     pub held : after.1 ≡ []

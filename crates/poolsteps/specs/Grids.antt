@@ -30,7 +30,8 @@ SameSeat old new = (new.table_id ≡ old.table_id) × (new.id ≡ old.id)
 
 -- the hand of this lane of the grid, before its first step
 abbrev pub IsFirstHand : {T : Type 0} → Grid T → ℕ → Seat (Option (Share T)) View → Type 0
-IsFirstHand grid lane hand = IsOf grid hand × (hand.me ≡ (record { lanes = first_record lane ∷ []; seen = []; rooms = []; told = []; steps = 0; looks = 0 }, []))
+IsFirstHand grid lane hand = IsOf grid hand
+    × (hand.me ≡ (record { lanes = first_record lane ∷ []; seen = []; rooms = []; told = []; steps = 0; looks = 0 }, []))
 
 -- these are the hands of all lanes of the grid, by rising number, before their first steps
 pub record AreFirstHands {T : Type 0} (grid : Grid T) (hands : List (Seat (Option (Share T)) View)) : Type 0 where
@@ -40,17 +41,21 @@ pub record AreFirstHands {T : Type 0} (grid : Grid T) (hands : List (Seat (Optio
 -- these are hands of the grid, at least one
 pub record AreHands {T : Type 0} (grid : Grid T) (hands : List (Seat (Option (Share T)) View)) : Type 0 where
   pub some_hand : 0 < length hands
-  pub each : (index : ℕ) (hand : Seat (Option (Share T)) View) → slice_get hands index ≡ Some hand → IsOf grid hand × IsOne hand.me.0 × (hand.me.1 ≡ [])
+  pub each : (index : ℕ) (hand : Seat (Option (Share T)) View) → slice_get hands index ≡ Some hand → IsOf grid hand × IsOne hand.me.0
+      × (hand.me.1 ≡ [])
 
 -- the rule holds of these last words and slots with this world, whose history begins with what each hand saw, with the rooms beside it, and has just the acts of its lane
 pub record EndsWith {T : Type 0} (content : T → List ℕ) (room : T → ℕ) (grid : Grid T) (hands : List (Seat (Option (Share T)) View))
     (words : List ℕ) (slots : List (Option (Share T))) (w : World) : Type 0 where
   -- the slots that no hand has
   pub homes : List (maybe.Option (Option (Share T)))
-  pub at_home : (index : ℕ) (value : Option (Share T)) → get_elem? homes index ≡ maybe.some (maybe.some value) → get_elem? slots index ≡ maybe.some value
+  pub at_home : (index : ℕ) (value : Option (Share T)) → get_elem? homes index ≡ maybe.some (maybe.some value)
+      → get_elem? slots index ≡ maybe.some value
   pub views : List View
   pub stands : Stands content room (spots_at grid.objects.ptr grid.shape) grid.shape w homes words views
   pub seen : (index : ℕ) (hand : Seat (Option (Share T)) View) → slice_get hands index ≡ Some hand → IsPrefix hand.me.0.seen w.history
   pub rooms : (index : ℕ) (hand : Seat (Option (Share T)) View) → slice_get hands index ≡ Some hand → IsPrefix hand.me.0.rooms w.kept
-  pub paired : (index : ℕ) (hand : Seat (Option (Share T)) View) → slice_get hands index ≡ Some hand → length hand.me.0.rooms ≡ length hand.me.0.seen
-  pub records : (index : ℕ) (hand : Seat (Option (Share T)) View) → slice_get hands index ≡ Some hand → IsRecord grid.shape w (the_lane hand.me.0)
+  pub paired : (index : ℕ) (hand : Seat (Option (Share T)) View) → slice_get hands index ≡ Some hand
+      → length hand.me.0.rooms ≡ length hand.me.0.seen
+  pub records : (index : ℕ) (hand : Seat (Option (Share T)) View) → slice_get hands index ≡ Some hand
+      → IsRecord grid.shape w (the_lane hand.me.0)

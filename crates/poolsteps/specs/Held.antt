@@ -19,16 +19,53 @@ pub record Held (T : Type 0) : Type 0 where
   pub of : ℕ
 
 abbrev pub held_code : {T : Type 0} → Coded T → Coded (Held T)
-held_code {T} code = code_by (((Ptr × ℕ) × (T × ℕ)) × ((ℕ × ℕ) × (Bool × (ℕ × ℕ)))) (coded× (coded× (coded× coded_ptr coded_ℕ) (coded× code coded_ℕ)) (coded× (coded× coded_ℕ coded_ℕ) (coded× coded_bool (coded× coded_ℕ coded_ℕ))))
+held_code {T} code = code_by (((Ptr × ℕ) × (T × ℕ))
+    × ((ℕ × ℕ) × (Bool × (ℕ × ℕ))))
+    (coded× (coded× (coded× coded_ptr coded_ℕ) (coded× code coded_ℕ))
+    (coded× (coded× coded_ℕ coded_ℕ) (coded× coded_bool (coded× coded_ℕ coded_ℕ))))
     (λ h. (((h.base, h.index), (h.object, h.cell)), ((h.lifetime, h.parts), (h.owner, (h.number, h.of)))))
-    (λ p. record { base = p.0.0.0; index = p.0.0.1; object = p.0.1.0; cell = p.0.1.1; lifetime = p.1.0.0; parts = p.1.0.1; owner = p.1.1.0; number = p.1.1.1.0; of = p.1.1.1.1 }) (λ _. refl)
+    (λ p. record {
+      base = p.0.0.0;
+      index = p.0.0.1;
+      object = p.0.1.0;
+      cell = p.0.1.1;
+      lifetime = p.1.0.0;
+      parts = p.1.0.1;
+      owner =
+          p.1.1.0;
+      number = p.1.1.1.0;
+      of = p.1.1.1.1;
+    }) (λ _. refl)
 
 module _ {T : Type 0} where
   abbrev pub held_of : Portion T → Held T
-  held_of p = record { base = p.base; index = p.index; object = p.object; cell = p.cell; lifetime = p.lifetime; parts = p.parts; owner = p.owner; number = p.number; of = p.of }
+  held_of p = record {
+    base = p.base;
+    index = p.index;
+    object = p.object;
+    cell = p.cell;
+    lifetime = p.lifetime;
+    parts = p.parts;
+    owner =
+        p.owner;
+    number = p.number;
+    of = p.of;
+  }
 
   abbrev pub portion_of : Held T → Portion T
-  portion_of h = record { mark = record {}; base = h.base; index = h.index; object = h.object; cell = h.cell; lifetime = h.lifetime; parts = h.parts; owner = h.owner; number = h.number; of = h.of }
+  portion_of h = record {
+    mark = record {};
+    base = h.base;
+    index = h.index;
+    object = h.object;
+    cell = h.cell;
+    lifetime = h.lifetime;
+    parts
+        = h.parts;
+    owner = h.owner;
+    number = h.number;
+    of = h.of;
+  }
 
 abbrev pub held_owns : (R : RattleType) → Option (Held R.Denot) → Fml
 held_owns R None = ftrue

@@ -66,4 +66,5 @@ module _ {T : Type 0} where
   pub record Drains (z : Shape) (place : ℕ) (old new : Slots (Option (Share T))) : Type 0 where
     pub row : IsSlotRow z new
     pub start : slots_ptr new ≡ slots_ptr old
-    pub kept : (index : ℕ) → ((lane : ℕ) → lane < z.lanes → index ≢ slot_index z place lane) → slice_get (slots_items new) index ≡ slice_get (slots_items old) index
+    pub kept : (index : ℕ) → ((lane : ℕ) → lane < z.lanes → index ≢ slot_index z place lane)
+        → slice_get (slots_items new) index ≡ slice_get (slots_items old) index

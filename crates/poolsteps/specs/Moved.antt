@@ -26,7 +26,8 @@ moved_record r place number status c = record r { deeds = Left place number stat
 -- the lane may put a share of this cell in a slot: of the cell that it knows, or of a new one, where all shares are with it and no other slot of the place has any
 abbrev pub MayStore : Shape → View → ℕ → ℕ → Stored → Type 0
 MayStore z v place number c = (c ≡ known_of (the_lane v) place)
-    ⊎ (HasPlace z v place × ((k : ℕ) → k < z.lanes → k ≢ number → (status_of (the_lane v) place k ≡ Emptied) ⊎ (status_of (the_lane v) place k ≡ InHand)))
+    ⊎ (HasPlace z v place × ((k : ℕ) → k < z.lanes → k ≢ number → (status_of (the_lane v) place k ≡ Emptied)
+    ⊎ (status_of (the_lane v) place k ≡ InHand)))
 
 -- ---- what they tell: an object's content and room are as its type has them
 module _ {T : Type 0} (content : T → List ℕ) (room : T → ℕ) where
@@ -64,10 +65,12 @@ module _ {T : Type 0} (content : T → List ℕ) (room : T → ℕ) (spots : ℕ
     pub looks : after.0.looks ≡ before.0.looks + 1
 
   -- OUT: the share that stood in a slot that the lane left so is in its hands, and the slot is empty
-  pub record Outs (z : Shape) (place number : ℕ) (status : Status) (before : Me (Option (Share T)) View) (share : Share T) (after : Me (Option (Share T)) View) : Type 0 where
+  pub record Outs (z : Shape) (place number : ℕ) (status : Status) (before : Me (Option (Share T)) View) (share : Share T)
+      (after : Me (Option (Share T)) View) : Type 0 where
     pub is_left : IsLeft place z number (stored_of content room share) status share
     pub goes : GoesOn z before.0 after.0 [] []
-        (moved_record (moved_record (the_lane before.0) place number InHand (stored_of content room share)) place number Emptied (stored_of content room share))
+        (moved_record (moved_record (the_lane before.0) place number InHand (stored_of content room share)) place number Emptied
+        (stored_of content room share))
     pub held : after.1 ≡ before.1
     pub kept : IsKept (stored_of content room share) (room_of after.0.seen after.0.rooms place) (pool_after z after.0.seen place).phase
     pub known : HasPlace z before.0 place ⊎ (status ≢ Untouched) → stored_of content room share ≡ known_of (the_lane before.0) place
@@ -75,9 +78,11 @@ module _ {T : Type 0} (content : T → List ℕ) (room : T → ℕ) (spots : ℕ
     pub looks : after.0.looks ≡ before.0.looks + 2
 
   -- BACK: a share is put in a slot that was empty, and the lane leaves it so
-  pub record Backs (z : Shape) (place number : ℕ) (status : Status) (before : Me (Option (Share T)) View) (share : Share T) (after : Me (Option (Share T)) View) : Type 0 where
+  pub record Backs (z : Shape) (place number : ℕ) (status : Status) (before : Me (Option (Share T)) View) (share : Share T)
+      (after : Me (Option (Share T)) View) : Type 0 where
     pub goes : GoesOn z before.0 after.0 [] []
-        (moved_record (moved_record (the_lane before.0) place number InHand (known_of (the_lane before.0) place)) place number status (stored_of content room share))
+        (moved_record (moved_record (the_lane before.0) place number InHand (known_of (the_lane before.0) place)) place number status
+        (stored_of content room share))
     pub held : after.1 ≡ before.1
     pub steps : after.0.steps ≡ before.0.steps
     pub looks : after.0.looks ≡ before.0.looks + 2
@@ -85,17 +90,21 @@ module _ {T : Type 0} (content : T → List ℕ) (room : T → ℕ) (spots : ℕ
   -- two looks at a slot that the lane has emptied, which stays so
   pub record Peeks (z : Shape) (place number : ℕ) (before after : Me (Option (Share T)) View) : Type 0 where
     pub goes : GoesOn z before.0 after.0 [] []
-        (moved_record (moved_record (the_lane before.0) place number InHand (known_of (the_lane before.0) place)) place number Emptied (known_of (the_lane before.0) place))
+        (moved_record (moved_record (the_lane before.0) place number InHand (known_of (the_lane before.0) place)) place number Emptied
+        (known_of (the_lane before.0) place))
     pub held : after.1 ≡ before.1
     pub steps : after.0.steps ≡ before.0.steps
     pub looks : after.0.looks ≡ before.0.looks + 2
 
   -- FETCH: OUT where the lane left the slot alone, and else what the lane has stays with it
-  pub record Fetches (z : Shape) (place number : ℕ) (before : Me (Option (Share T)) View) (own fetched : Option (Share T)) (after : Me (Option (Share T)) View) : Type 0 where
-    pub first : status_of (the_lane before.0) place number ≡ Untouched → (share : Share T) × (fetched ≡ Some share) × Outs z place number Untouched before share after
+  pub record Fetches (z : Shape) (place number : ℕ) (before : Me (Option (Share T)) View) (own fetched : Option (Share T))
+      (after : Me (Option (Share T)) View) : Type 0 where
+    pub first : status_of (the_lane before.0) place number ≡ Untouched → (share : Share T) × (fetched ≡ Some share)
+        × Outs z place number Untouched before share after
     pub again : status_of (the_lane before.0) place number ≡ Emptied → (fetched ≡ own) × Peeks z place number before after
 
   -- SETTLE: BACK of a share where one is given, and else nothing is moved
-  pub record Settles (z : Shape) (place number : ℕ) (before : Me (Option (Share T)) View) (given : Option (Share T)) (after : Me (Option (Share T)) View) : Type 0 where
+  pub record Settles (z : Shape) (place number : ℕ) (before : Me (Option (Share T)) View) (given : Option (Share T))
+      (after : Me (Option (Share T)) View) : Type 0 where
     pub back : (share : Share T) → given ≡ Some share → Backs z place number Untouched before share after
     pub none : given ≡ None → Peeks z place number before after

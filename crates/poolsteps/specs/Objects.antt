@@ -15,8 +15,11 @@ pub record ObjectsOf (T : Type 0) : Type 0 where
 
 -- a code for these, by one for the objects
 abbrev pub objects_code : {T : Type 0} → Coded T → Coded (ObjectsOf T)
-objects_code {T} code = code_by ((Ptr × ℕ) × (List (Option T) × (List Bool × ℕ))) (coded× (coded× coded_ptr coded_ℕ) (coded× (coded_list (coded_option code)) (coded× (coded_list coded_bool) coded_ℕ)))
-    (λ o. ((o.directory, o.first), (o.items, (o.rights, o.wide)))) (λ p. record { directory = p.0.0; first = p.0.1; items = p.1.0; rights = p.1.1.0; wide = p.1.1.1 }) (λ _. refl)
+objects_code {T} code = code_by ((Ptr × ℕ)
+    × (List (Option T) × (List Bool
+    × ℕ))) (coded× (coded× coded_ptr coded_ℕ) (coded× (coded_list (coded_option code)) (coded× (coded_list coded_bool) coded_ℕ)))
+    (λ o. ((o.directory, o.first), (o.items, (o.rights, o.wide))))
+    (λ p. record { directory = p.0.0; first = p.0.1; items = p.1.0; rights = p.1.1.0; wide = p.1.1.1 }) (λ _. refl)
 
 -- a place of a directory, by the directory's address and the place's number
 abbrev pub spot_at : Ptr → ℕ → Spot

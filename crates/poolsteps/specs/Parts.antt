@@ -28,11 +28,25 @@ module _ {T : Type 0} where
 
   -- what is seen of a share
   abbrev pub shown_by : Portion (Box T Global) → Share T
-  shown_by p = record { cell = p.cell; spot = record { directory = p.base; index = p.index }; number = p.number; of = p.of; object = p.object.value }
+  shown_by p = record {
+    cell = p.cell;
+    spot = record { directory = p.base; index = p.index };
+    number = p.number;
+    of = p.of;
+    object =
+        p.object.value;
+  }
 
   -- what is seen of a rest
   abbrev pub rest_shown_by : Portion (Box T Global) → Rest T
-  rest_shown_by p = record { cell = p.cell; spot = record { directory = p.base; index = p.index }; number = p.number; of = p.of; object = p.object.value }
+  rest_shown_by p = record {
+    cell = p.cell;
+    spot = record { directory = p.base; index = p.index };
+    number = p.number;
+    of = p.of;
+    object =
+        p.object.value;
+  }
 
   -- what is seen of a whole
   abbrev pub whole_shown_by : Loose (Box T Global) → Whole T

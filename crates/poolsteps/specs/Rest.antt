@@ -14,7 +14,9 @@ pub record Rest (T : Type 0) : Type 0 where
 
 -- a code for rests, by one for their objects
 abbrev pub rest_code : {T : Type 0} → Coded T → Coded (Rest T)
-rest_code {T} code = code_by (((ℕ × Spot) × ℕ) × (ℕ × T)) (coded× (coded× (coded× coded_ℕ spot_code) coded_ℕ) (coded× coded_ℕ code)) (λ r. (((r.cell, r.spot), r.number), (r.of, r.object)))
+rest_code {T} code = code_by (((ℕ × Spot) × ℕ)
+    × (ℕ × T)) (coded× (coded× (coded× coded_ℕ spot_code) coded_ℕ) (coded× coded_ℕ code))
+    (λ r. (((r.cell, r.spot), r.number), (r.of, r.object)))
     (λ p. record { cell = p.0.0.0; spot = p.0.0.1; number = p.0.1; of = p.1.0; object = p.1.1 }) (λ _. refl)
 
 -- the share of the lowest number among them

@@ -84,7 +84,8 @@ IsToReturn v place linked = (the_lane v).under ≡ Returns place linked (failed_
 
 -- the top that a PUSH of the lane expects: the word that it last pushed there, and 0 after a PUSH that failed
 abbrev pub AimsAt : LaneRecord → ℕ → ℕ → Type 0
-AimsAt r place top = ((failed_under r.under ≡ false) × (top ≡ pushed_in r.pushed (shard_of place))) ⊎ ((failed_under r.under ≡ true) × (top ≡ 0))
+AimsAt r place top = ((failed_under r.under ≡ false) × (top ≡ pushed_in r.pushed (shard_of place)))
+    ⊎ ((failed_under r.under ≡ true) × (top ≡ 0))
 
 -- by what the seat saw and knows, the place is at rest: whole, with empty content and at least its room
 pub record IsAtRest (z : Shape) (v : View) (place : ℕ) : Type 0 where
@@ -108,20 +109,24 @@ module _ {S : Type 0} (z : Shape) where
   -- LINK: the link word of the place to return becomes the expected top
   abbrev pub Links : ℕ → Me S View → Me S View → Type 0
   Links top before after = let r : LaneRecord = the_lane before.0 in
-      (found : ℕ) × Steps z (kinds.Link top) found top before after None (with_return r (place_under r.under) (Some top) (failed_under r.under))
+      (found : ℕ) × Steps z (kinds.Link top) found top before after None
+      (with_return r (place_under r.under) (Some top) (failed_under r.under))
 
   -- PUSH: from the expected top the place is home; any other word is 0, after the first PUSH alone
   abbrev pub Pushes : ℕ → Me S View → ℕ → Me S View → Type 0
-  Pushes top before found after = let r : LaneRecord = the_lane before.0 in let place : ℕ = place_under r.under in let link : ℕ = link_to place in
+  Pushes top before found after = let r : LaneRecord = the_lane before.0 in let place : ℕ = place_under r.under in let link : ℕ = link_to
+      place in
       (found ≡ top → Steps z (kinds.Push top link) found link before after (Some (acts.Home r.lane place)) (pushed_record r place))
-      × (found ≢ top → (found ≡ 0) × (failed_under r.under ≡ false) × Steps z (kinds.Push top link) found found before after None (with_return r place None true))
+      × (found ≢ top → (found ≡ 0) × (failed_under r.under ≡ false)
+      × Steps z (kinds.Push top link) found found before after None (with_return r place None true))
 
   -- TAKE of the stack of another lane: what it pushed there becomes the taken chain, with all shares of its places, at rest, whose cells are then known; where it is empty, none of its returns is home
   abbrev pub Takes : ℕ → Me S View → ℕ → Me S View → Type 0
   Takes from before found after = let r : LaneRecord = the_lane before.0 in
       (found ≡ 0 → NoneFrom z after.0.seen r.lane from × Steps z kinds.Take found 0 before after None r)
       × (found ≢ 0 → (places : List ℕ) × (stored : ℕ → Stored) × (0 < length places) × LeadsTo z r.lane found places
-      × ((place : ℕ) → has places place ≡ true → HasPlace z after.0 place × ((stored place).content ≡ []) × (room_of after.0.seen after.0.rooms place ≤ (stored place).room))
+      × ((place : ℕ) → has places place ≡ true → HasPlace z after.0 place × ((stored place).content ≡ [])
+      × (room_of after.0.seen after.0.rooms place ≤ (stored place).room))
       × Steps z kinds.Take found 0 before after (Some (acts.Collect r.lane places)) (taken_record r places stored))
 
   -- FOLLOW: the link word of the chain's first place leads to its rest

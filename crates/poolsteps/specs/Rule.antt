@@ -60,14 +60,15 @@ pub record AreSeats (z : Shape) (w : World) (views : List View) : Type 0 where
 -- the rule: an object's content and room are as its type has them
 module _ {T : Type 0} (content : T → List ℕ) (room : T → ℕ) (spots : ℕ → CellSpot) where
   -- these words, slots and views tell of this world, and the rule holds
-  pub record Stands (z : Shape) (w : World) (homes : List (maybe.Option (Option (Share T)))) (words : List ℕ) (views : List View) : Type 0 where
-    pub count : length words ≡ word_count z
-    pub deep : length homes ≡ slot_count z
-    pub paired : length w.kept ≡ length w.history
-    pub rule : Rule z (moment (words_in z words) w.history w.lanes)
-    pub owners : ArePublishedByOwners w.history
-    pub shared : Shared content room spots z w.history w.kept (slots_in z homes) w.stock
-    pub seats : AreSeats z w views
+  pub record Stands (z : Shape) (w : World) (homes : List (maybe.Option (Option (Share T)))) (words : List ℕ) (views : List View) : Type 0
+    where
+      pub count : length words ≡ word_count z
+      pub deep : length homes ≡ slot_count z
+      pub paired : length w.kept ≡ length w.history
+      pub rule : Rule z (moment (words_in z words) w.history w.lanes)
+      pub owners : ArePublishedByOwners w.history
+      pub shared : Shared content room spots z w.history w.kept (slots_in z homes) w.stock
+      pub seats : AreSeats z w views
 
   -- what holds of a table between any two steps
   abbrev pub Kept : Shape → State (Option (Share T)) View → Type 0

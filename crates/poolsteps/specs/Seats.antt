@@ -55,7 +55,13 @@ SawLonger before heard after = (after.seen ≡ longer before.seen heard.seen) ×
 
 -- the lanes of two seats at one; it is told what both saw
 abbrev pub both_of : View → View → View
-both_of v w = record v { lanes = v.lanes ++ w.lanes; seen = longer v.seen w.seen; rooms = longer v.rooms w.rooms; told = heard_of v ∷ heard_of w ∷ v.told ++ w.told }
+both_of v w = record v {
+  lanes = v.lanes ++ w.lanes;
+  seen = longer v.seen w.seen;
+  rooms = longer v.rooms w.rooms;
+  told = heard_of v
+      ∷ heard_of w ∷ v.told ++ w.told;
+}
 
 -- a seat that was joined to another
 abbrev pub spent : View

@@ -13,7 +13,9 @@ pub record Share (T : Type 0) : Type 0 where
 
 -- a code for shares, by one for their objects
 abbrev pub share_code : {T : Type 0} → Coded T → Coded (Share T)
-share_code {T} code = code_by (((ℕ × Spot) × ℕ) × (ℕ × T)) (coded× (coded× (coded× coded_ℕ spot_code) coded_ℕ) (coded× coded_ℕ code)) (λ s. (((s.cell, s.spot), s.number), (s.of, s.object)))
+share_code {T} code = code_by (((ℕ × Spot) × ℕ)
+    × (ℕ × T)) (coded× (coded× (coded× coded_ℕ spot_code) coded_ℕ) (coded× coded_ℕ code))
+    (λ s. (((s.cell, s.spot), s.number), (s.of, s.object)))
     (λ p. record { cell = p.0.0.0; spot = p.0.0.1; number = p.0.1; of = p.1.0; object = p.1.1 }) (λ _. refl)
 
 module _ {T : Type 0} where

@@ -127,16 +127,19 @@ module _ {T : Type 0} (content : T → List ℕ) (room : T → ℕ) (spots : ℕ
   -- Share
   pub record Shared (z : Shape) (history : List Act) (kept : List ℕ) (slots : Slots T) (q : Stock) : Type 0 where
     -- what stands in the slots
-    pub untouched : (place lane : ℕ) → is_place z place ≡ true → lane < z.lanes → ((l : ℕ) → l < z.lanes → q.status l place lane ≡ Untouched)
+    pub untouched : (place lane : ℕ) → is_place z place ≡ true → lane < z.lanes
+        → ((l : ℕ) → l < z.lanes → q.status l place lane ≡ Untouched)
         → StandsAs z slots place lane (q.stored place) (is_home (pool_after z history place).phase)
-    pub emptied : (l place lane : ℕ) → l < z.lanes → is_place z place ≡ true → lane < z.lanes → q.status l place lane ≡ Emptied → IsEmpty slots place lane
+    pub emptied : (l place lane : ℕ) → l < z.lanes → is_place z place ≡ true → lane < z.lanes → q.status l place lane ≡ Emptied
+        → IsEmpty slots place lane
     pub whole : (l place lane : ℕ) → l < z.lanes → is_place z place ≡ true → lane < z.lanes → q.status l place lane ≡ Whole
         → HasShare slots place lane (q.stored place) 0 1
     -- only a lane that may have a share touches its slot, and it knows the cell
     pub touched : (l place lane : ℕ) → l < z.lanes → lane < z.lanes → q.status l place lane ≢ Untouched
         → MayHave (reclaimer history place) l lane (pool_after z history place).phase × (q.knows l place ≡ q.stored place)
     -- a lane that has all shares knows the cell
-    pub owned : (l place : ℕ) → l < z.lanes → HasAll (reclaimer history place) l (pool_after z history place).phase → q.knows l place ≡ q.stored place
+    pub owned : (l place : ℕ) → l < z.lanes → HasAll (reclaimer history place) l (pool_after z history place).phase
+        → q.knows l place ≡ q.stored place
     -- the cell has the content and the room of its key, or rests empty with at least its room
     pub contents : (place : ℕ) → IsKept (q.stored place) (room_of history kept place) (pool_after z history place).phase
 

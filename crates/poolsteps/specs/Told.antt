@@ -30,7 +30,8 @@ use Rattle.poolsteps.specs.Views.{the_lane, status_of, known_of, acts_in, rooms_
 
 -- a pool's only lane, which has nothing under way, has a reference to each marked key
 abbrev pub Quiet : Shape → View → Type 0
-Quiet z v = z.lanes ≡ 1 → (the_lane v).under ≡ Nothing → (place : ℕ) → is_place z place ≡ true → is_marked (pool_after z v.seen place).phase ≡ true
+Quiet z v = z.lanes ≡ 1 → (the_lane v).under ≡ Nothing → (place : ℕ) → is_place z place ≡ true
+    → is_marked (pool_after z v.seen place).phase ≡ true
     → 0 < references_in (pool_after z v.seen place).phase (the_lane v).lane
 
 -- the lane goes on with these acts of its own, and the rooms beside them, behind what other lanes did, and its record is then this
@@ -48,7 +49,8 @@ pub record GoesOn (z : Shape) (before after : View) (made : List Act) (rooms_mad
   pub quiet : Quiet z after
 
 -- the seat made one step of this kind, which found the one word and left the other, with this act or none
-pub record Steps {S : Type 0} (z : Shape) (kind : Kind) (found left : ℕ) (before after : Me S View) (act : Option Act) (r : LaneRecord) : Type 0 where
+pub record Steps {S : Type 0} (z : Shape) (kind : Kind) (found left : ℕ) (before after : Me S View) (act : Option Act) (r : LaneRecord) :
+    Type 0 where
   -- the step relation
   pub changes : Changes z.last_generation kind found left
   pub goes : GoesOn z before.0 after.0 (acts_in act) (rooms_in r act) r
@@ -83,7 +85,8 @@ generation_owed (Returns place linked failed) = 0
 
 -- what a lane has under way after its claim of this place and generation succeeded: the place to return, where it is of another shard and didn't retire
 abbrev pub claimed_under : Shape → ℕ → ℕ → ℕ → Pending
-claimed_under z lane place generation = if generation == z.last_generation then Nothing else (if shard_of place == lane then Nothing else Returns place None false)
+claimed_under z lane place generation = if generation == z.last_generation then Nothing
+    else (if shard_of place == lane then Nothing else Returns place None false)
 
 -- how many references to a key the lane has, as it saw
 abbrev pub references_seen : Shape → View → ℕ → ℕ
@@ -118,7 +121,8 @@ module _ {S : Type 0} (z : Shape) where
   abbrev pub EntersClear : ℕ → Me S View → ℕ → Me S View → Type 0
   EntersClear key before found after = let lane : ℕ = (the_lane before.0).lane in
       (is_hit key found ≡ true → LifeSteps kinds.Enter found (found + 4) before after None (Undo key true))
-      × (is_hit key found ≡ false → LifeSteps kinds.Enter found (found + 4) before after (Some (acts.Clear lane key false)) (Undo key false))
+      × (is_hit key found ≡ false → LifeSteps kinds.Enter found (found + 4) before after (Some (acts.Clear lane key false))
+      (Undo key false))
 
   -- ENTER, of a get or of a clear
   abbrev pub Enters : Purpose → ℕ → Me S View → ℕ → Me S View → Type 0
@@ -133,13 +137,16 @@ module _ {S : Type 0} (z : Shape) where
 
   -- PUBLISH of a cell's content, with a reference or without one
   abbrev pub Publishes : ℕ → Stored → Bool → Me S View → ℕ → Me S View → Type 0
-  Publishes key c with_ref before found after = let r : LaneRecord = the_lane before.0 in let act : Option Act = Some (acts.Publish r.lane key c.content with_ref) in
-      Steps z (kinds.Publish with_ref) found (if with_ref then found + 5 else found + 1) before after act (with_cell (after_step r act Nothing) (place_of key) c)
+  Publishes key c with_ref before found after = let r : LaneRecord = the_lane before.0 in let act : Option Act = Some
+      (acts.Publish r.lane key c.content with_ref) in
+      Steps z (kinds.Publish with_ref) found (if with_ref then found + 5
+      else found + 1) before after act (with_cell (after_step r act Nothing) (place_of key) c)
 
   -- MARK: the reply is whether the state was PRESENT
   abbrev pub Marks : ℕ → Me S View → ℕ → Me S View → Type 0
   Marks key before found after =
-      LifeSteps kinds.Mark found (found + 3 - state_in found) before after (Some (acts.Clear (the_lane before.0).lane key (state_in found == 1))) (Undo key true)
+      LifeSteps kinds.Mark found (found + 3 - state_in found) before after
+      (Some (acts.Clear (the_lane before.0).lane key (state_in found == 1))) (Undo key true)
 
   -- MARK from the one word that is expected; where another is found it was a look
   abbrev pub MarksFrom : ℕ → ℕ → Me S View → ℕ → Me S View → Type 0
@@ -147,8 +154,10 @@ module _ {S : Type 0} (z : Shape) where
 
   -- CLAIM: it succeeds from the one word alone; the lane then has all shares of the place, in slots that it left alone, and knows their cell, whose room is the place's
   abbrev pub Claims : ℕ → ℕ → Me S View → ℕ → Me S View → Type 0
-  Claims place generation before found after = let r : LaneRecord = the_lane before.0 in let act : Option Act = Some (reclaim z r.lane place generation) in
-      (found ≡ claimable generation → (c : Stored) × HasPlace z after.0 place × (c.room ≡ room_of after.0.seen after.0.rooms place) × LeftAlone z r place
+  Claims place generation before found after = let r : LaneRecord = the_lane before.0 in let act : Option Act = Some
+      (reclaim z r.lane place generation) in
+      (found ≡ claimable generation → (c : Stored) × HasPlace z after.0 place × (c.room ≡ room_of after.0.seen after.0.rooms place)
+      × LeftAlone z r place
       × Steps z (kinds.Claim generation) found (claim_gives z.last_generation generation found) before after
       act (with_cell (after_step r act (claimed_under z r.lane place generation)) place c))
       × (found ≢ claimable generation → LifeSteps (kinds.Claim generation) found found before after None Nothing)
@@ -180,7 +189,8 @@ MayRenew z v place c = (c ≡ known_of (the_lane v) place)
 
 -- each slot of the place is left alone, but perhaps the lane's own where it gets a reference
 abbrev pub IsShared : Shape → View → ℕ → Bool → Type 0
-IsShared z v place with_ref = (number : ℕ) → number < z.lanes → status_of (the_lane v) place number ≢ Untouched → (number ≡ (the_lane v).lane) × (with_ref ≡ true)
+IsShared z v place with_ref = (number : ℕ) → number < z.lanes → status_of (the_lane v) place number ≢ Untouched
+    → (number ≡ (the_lane v).lane) × (with_ref ≡ true)
 
 -- the key is one that the lane may publish: its place is of the lane's shard and with the lane, at this generation, and is not on its taken chain
 pub record MayPublish (z : Shape) (v : View) (key : ℕ) : Type 0 where

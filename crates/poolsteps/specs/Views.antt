@@ -42,9 +42,11 @@ pushed_in (x ∷ more) shard = if shard == x.0 then x.1 else pushed_in more shar
 -- how a lane that did this left the slot of a place and a lane
 abbrev pub status_in : ℕ → List Deed → ℕ → ℕ → Status
 status_in lane [] place number = first_status lane place number
-status_in lane (Left at n status ∷ earlier) place number = if (place == at) && (number == n) then status else status_in lane earlier place number
+status_in lane (Left at n status ∷ earlier) place number = if (place == at) && (number == n) then status
+    else status_in lane earlier place number
 status_in lane (Returned at ∷ earlier) place number = if place == at then Untouched else status_in lane earlier place number
-status_in lane (Collected places ∷ earlier) place number = if has places place then at_rest place number else status_in lane earlier place number
+status_in lane (Collected places ∷ earlier) place number = if has places place then at_rest place number
+    else status_in lane earlier place number
 
 -- the cell of a place, as it is known by these
 abbrev pub known_in : List (ℕ × Stored) → ℕ → Stored

@@ -8,4 +8,5 @@ pub record Whole (T : Type 0) : Type 0 where
   pub object : T
 
 abbrev pub whole_code : {T : Type 0} → Coded T → Coded (Whole T)
-whole_code {T} code = code_by (Spot × T) (coded× spot_code code) (λ w. (w.spot, w.object)) (λ p. record { spot = p.0; object = p.1 }) (λ _. refl)
+whole_code {T} code = code_by (Spot
+    × T) (coded× spot_code code) (λ w. (w.spot, w.object)) (λ p. record { spot = p.0; object = p.1 }) (λ _. refl)

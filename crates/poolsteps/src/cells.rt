@@ -192,7 +192,8 @@ impl<T> MaybePortion<T> {
 
     // The portion is with the first of the two where the tally has one reference, and else with the second.
     pub(crate) fn deal(self, tally: &Tally) -> (MaybePortion<T>, MaybePortion<T>)
-        ensures { (result.0.held ≡ if_chosen (tally.now.count == 1) self.held) × (result.1.held ≡ unless_chosen (tally.now.count == 1) self.held) }
+        ensures { (result.0.held ≡ if_chosen (tally.now.count == 1) self.held)
+            × (result.1.held ≡ unless_chosen (tally.now.count == 1) self.held) }
     {
         let MaybePortion { mark: _ } = self;
         (
@@ -333,7 +334,8 @@ impl<T> Rest<T> {
 
     /// Takes in the share of the number below the lowest. It showed the same object, as it is of the same loan.
     pub fn merge(&mut self, share: Share<T>)
-        requires { (share.cell ≡ self.old.cell) × (share.spot ≡ self.old.spot) × (share.of ≡ self.old.of) × (share.number + 1 ≡ self.old.number) }
+        requires { (share.cell ≡ self.old.cell) × (share.spot ≡ self.old.spot) × (share.of ≡ self.old.of)
+            × (share.number + 1 ≡ self.old.number) }
         ensures object { share.object ≡ self.old.object }
         ensures rest { self.new ≡ record self.old { number = share.number } }
     {

@@ -33,7 +33,8 @@ impl<T> Model for Directory<T> {
 
 fn write_all<T: Drop>(row: &mut Slots<T>, mut words: Vec<T>)
     requires { slots_len row.old ≡ length words.items }
-    ensures { IsFull row.new × (slots_items row.new ≡ words.items) × (slots_ptr row.new ≡ slots_ptr row.old) × (slots_len row.new ≡ slots_len row.old) }
+    ensures { IsFull row.new × (slots_items row.new ≡ words.items) × (slots_ptr row.new ≡ slots_ptr row.old)
+        × (slots_len row.new ≡ slots_len row.old) }
 {
     while let Some(word) = words.pop() {
         row.put(words.len(), word);
@@ -85,7 +86,8 @@ impl<T> Directory<T> {
     /// Takes the place of the lowest number out.
     pub fn next(&mut self) -> Vacancy<T>
         requires { self.old.next < self.old.count }
-        ensures { (result.directory ≡ self.old.at) × (result.index ≡ self.old.next) × (self.new ≡ record self.old { next = self.old.next + 1 }) }
+        ensures { (result.directory ≡ self.old.at) × (result.index ≡ self.old.next)
+            × (self.new ≡ record self.old { next = self.old.next + 1 }) }
     {
         Vacancy {
             word: self.run.cut(),

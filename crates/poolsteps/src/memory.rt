@@ -78,7 +78,8 @@ impl<T> Model for Portion<T> {
 impl<T> Portion<T> {
     // All the parts of a new cell, which is to have `of` shares. The next share to be cut off has the number 0.
     pub(crate) fn lend(loose: Loose<T>, of: usize) -> Portion<T>
-        ensures { (result.base ≡ loose.base) × (result.index ≡ loose.index) × (result.object ≡ loose.object) × (result.parts ≡ 2 ^ 63) × (result.owner ≡ true) × (result.number ≡ 0) × (result.of ≡ of) }
+        ensures { (result.base ≡ loose.base) × (result.index ≡ loose.index) × (result.object ≡ loose.object) × (result.parts ≡ 2 ^ 63)
+            × (result.owner ≡ true) × (result.number ≡ 0) × (result.of ≡ of) }
     {
         let Loose { mark: _ } = loose;
         Portion { mark: PhantomData }
@@ -96,7 +97,8 @@ impl<T> Portion<T> {
     // Cuts so many parts off, under the next number.
     pub(crate) fn cut(&mut self, count: usize) -> Portion<T>
         requires { (0 < count) × (count < self.old.parts) × (self.old.parts ≤ 2 ^ 63) }
-        ensures { (self.new ≡ record self.old { parts = self.old.parts - count; number = self.old.number + 1 }) × (result ≡ record self.old { parts = count; owner = false }) }
+        ensures { (self.new ≡ record self.old { parts = self.old.parts - count; number = self.old.number + 1 })
+            × (result ≡ record self.old { parts = count; owner = false }) }
     {
         Portion { mark: PhantomData }
     }
@@ -104,7 +106,8 @@ impl<T> Portion<T> {
     // Takes in a portion of the same cell, which has the same object.
     pub(crate) fn merge(&mut self, other: Portion<T>)
         requires { (other.cell ≡ self.old.cell) × (0 < self.old.parts) × (self.old.parts + other.parts ≤ 2 ^ 63) }
-        ensures { (other.object ≡ self.old.object) × (self.new ≡ record self.old { parts = self.old.parts + other.parts; owner = self.old.owner || other.owner }) }
+        ensures { (other.object ≡ self.old.object)
+            × (self.new ≡ record self.old { parts = self.old.parts + other.parts; owner = self.old.owner || other.owner }) }
     {
         let Portion { mark: _ } = other;
     }
@@ -259,7 +262,9 @@ impl<T> Run<T> {
 
     pub(crate) fn cut(&mut self) -> Loose<T>
         requires { 0 < length self.old.items }
-        ensures { (result.base ≡ self.old.ptr) × (result.index ≡ self.old.first) × (self.old ≡ record self.new { first = self.old.first; items = result.object ∷ self.new.items }) × (self.new.first ≡ self.old.first + 1) }
+        ensures { (result.base ≡ self.old.ptr) × (result.index ≡ self.old.first)
+            × (self.old ≡ record self.new { first = self.old.first; items = result.object ∷ self.new.items })
+            × (self.new.first ≡ self.old.first + 1) }
     {
         Loose { mark: PhantomData }
     }

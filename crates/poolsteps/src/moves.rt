@@ -110,7 +110,8 @@ impl<T: Clear, J: Move> Play<Slot<T>, View> for Lift<T, J> {
     ghost use Rattle.poolsteps.specs.Layout.{spots_at};
     ghost use Rattle.poolsteps.specs.Moved.{Lifts};
 
-    ghost then = { λ step before found after. Lifts T.content T.room (spots_at J.directory J.shape) J.shape J.place J.number J.status before after };
+    ghost then = { λ step before found after. Lifts T.content T.room (spots_at J.directory J.shape) J.shape J.place J.number J.status
+        before after };
 }
 
 /// A look that gives a slot back.
@@ -122,7 +123,8 @@ impl<T: Clear, J: Move> Play<Slot<T>, View> for Lay<T, J> {
     ghost use Rattle.poolsteps.specs.Layout.{spots_at};
     ghost use Rattle.poolsteps.specs.Moved.{Lays};
 
-    ghost then = { λ step before found after. Lays T.content T.room (spots_at J.directory J.shape) J.shape J.place J.number J.status J.stored before after };
+    ghost then = { λ step before found after. Lays T.content T.room (spots_at J.directory J.shape) J.shape J.place J.number J.status
+        J.stored before after };
 }
 
 /// A look that takes all slots of a place.
@@ -134,7 +136,8 @@ impl<T: Clear, J: MoveAll> Play<Slot<T>, View> for LiftAll<T, J> {
     ghost use Rattle.poolsteps.specs.Layout.{spots_at};
     ghost use Rattle.poolsteps.specs.Batches.{LiftsAll};
 
-    ghost then = { λ step before found after. LiftsAll T.content T.room (spots_at J.directory J.shape) J.shape J.place J.order J.status before after };
+    ghost then = { λ step before found after. LiftsAll T.content T.room (spots_at J.directory J.shape) J.shape J.place J.order J.status
+        before after };
 }
 
 /// A look that gives all slots of a place back.
@@ -146,7 +149,8 @@ impl<T: Clear, J: MoveAll> Play<Slot<T>, View> for LayAll<T, J> {
     ghost use Rattle.poolsteps.specs.Layout.{spots_at};
     ghost use Rattle.poolsteps.specs.Batches.{LaysAll};
 
-    ghost then = { λ step before found after. LaysAll T.content T.room (spots_at J.directory J.shape) J.shape J.place J.status J.stored before after };
+    ghost then = { λ step before found after. LaysAll T.content T.room (spots_at J.directory J.shape) J.shape J.place J.status J.stored
+        before after };
 }
 
 impl<T: Clear> Grid<T> {
@@ -160,7 +164,8 @@ impl<T: Clear> Grid<T> {
         requires may { MayTouch self.now.shape hand.old.me.0 spot.place number }
         requires left { status_of (the_lane hand.old.me.0) spot.place number ≡ Untouched }
         ensures hand { SameSeat hand.old hand.new }
-        ensures outs { Outs T.content T.room (spots_at self.now.objects.ptr self.now.shape) self.now.shape spot.place number Untouched hand.old.me result hand.new.me }
+        ensures outs { Outs T.content T.room (spots_at self.now.objects.ptr self.now.shape) self.now.shape spot.place number Untouched
+            hand.old.me result hand.new.me }
     {
         self.out_as::<Brand>(hand, spot, lane, number)
     }
@@ -174,7 +179,8 @@ impl<T: Clear> Grid<T> {
         requires may { MayTouch self.now.shape hand.old.me.0 spot.place (shard_number spot.place) }
         requires left { status_of (the_lane hand.old.me.0) spot.place (shard_number spot.place) ≡ Whole }
         ensures hand { SameSeat hand.old hand.new }
-        ensures outs { Outs T.content T.room (spots_at self.now.objects.ptr self.now.shape) self.now.shape spot.place (shard_number spot.place) Whole hand.old.me result hand.new.me }
+        ensures outs { Outs T.content T.room (spots_at self.now.objects.ptr self.now.shape) self.now.shape spot.place
+            (shard_number spot.place) Whole hand.old.me result hand.new.me }
     {
         self.out_as::<Brand>(hand, spot, lane, shard_of(spot.place))
     }
@@ -188,7 +194,8 @@ impl<T: Clear> Grid<T> {
         requires may { MayTouch self.now.shape hand.old.me.0 spot.place number }
         requires left { status_of (the_lane hand.old.me.0) spot.place number ≡ J.status }
         ensures hand { SameSeat hand.old hand.new }
-        ensures outs { Outs T.content T.room (spots_at self.now.objects.ptr self.now.shape) self.now.shape spot.place number J.status hand.old.me result hand.new.me }
+        ensures outs { Outs T.content T.room (spots_at self.now.objects.ptr self.now.shape) self.now.shape spot.place number J.status
+            hand.old.me result hand.new.me }
     {
         let slot = self.slot_of(spot, number);
         self.lift::<Brand>(hand, spot, lane, number);
@@ -216,9 +223,11 @@ impl<T: Clear> Grid<T> {
         requires spot { IsSpot self.now.shape spot spot.place }
         requires lanes { (lane < self.now.shape.lanes) × (number < self.now.shape.lanes) }
         requires may { MayTouch self.now.shape hand.old.me.0 spot.place number }
-        requires left { (status_of (the_lane hand.old.me.0) spot.place number ≡ Untouched) ⊎ (status_of (the_lane hand.old.me.0) spot.place number ≡ Emptied) }
+        requires left { (status_of (the_lane hand.old.me.0) spot.place number ≡ Untouched)
+            ⊎ (status_of (the_lane hand.old.me.0) spot.place number ≡ Emptied) }
         ensures hand { SameSeat hand.old hand.new }
-        ensures fetches { Fetches T.content T.room (spots_at self.now.objects.ptr self.now.shape) self.now.shape spot.place number hand.old.me own result hand.new.me }
+        ensures fetches { Fetches T.content T.room (spots_at self.now.objects.ptr self.now.shape) self.now.shape spot.place number
+            hand.old.me own result hand.new.me }
     {
         let slot = self.slot_of(spot, number);
         self.lift::<Brand>(hand, spot, lane, number);
@@ -237,10 +246,12 @@ impl<T: Clear> Grid<T> {
         requires lanes { (lane < self.now.shape.lanes) × (number < self.now.shape.lanes) }
         requires may { MayTouch self.now.shape hand.old.me.0 spot.place number }
         requires left { status_of (the_lane hand.old.me.0) spot.place number ≡ Emptied }
-        requires share { IfSome given (λ share. (share.number ≡ number) × (share.of ≡ self.now.shape.lanes) × (share.spot ≡ spots_at self.now.objects.ptr self.now.shape spot.place)) }
+        requires share { IfSome given (λ share. (share.number ≡ number) × (share.of ≡ self.now.shape.lanes)
+            × (share.spot ≡ spots_at self.now.objects.ptr self.now.shape spot.place)) }
         requires cell { IfSome given (λ share. MayStore self.now.shape hand.old.me.0 spot.place number (stored_of T.content T.room share)) }
         ensures hand { SameSeat hand.old hand.new }
-        ensures settles { Settles T.content T.room (spots_at self.now.objects.ptr self.now.shape) self.now.shape spot.place number hand.old.me given hand.new.me }
+        ensures settles { Settles T.content T.room (spots_at self.now.objects.ptr self.now.shape) self.now.shape spot.place number
+            hand.old.me given hand.new.me }
     {
         let slot = self.slot_of(spot, number);
         self.lift::<Brand>(hand, spot, lane, number);
@@ -259,7 +270,8 @@ impl<T: Clear> Grid<T> {
         requires share { (share.number ≡ 0) × (share.of ≡ 1) × (share.spot ≡ spots_at self.now.objects.ptr self.now.shape spot.place) }
         requires cell { MayStore self.now.shape hand.old.me.0 spot.place (shard_number spot.place) (stored_of T.content T.room share) }
         ensures hand { SameSeat hand.old hand.new }
-        ensures backs { Backs T.content T.room (spots_at self.now.objects.ptr self.now.shape) self.now.shape spot.place (shard_number spot.place) Whole hand.old.me share hand.new.me }
+        ensures backs { Backs T.content T.room (spots_at self.now.objects.ptr self.now.shape) self.now.shape spot.place
+            (shard_number spot.place) Whole hand.old.me share hand.new.me }
     {
         self.back_as::<Brand>(hand, spot, lane, shard_of(spot.place), share)
     }
@@ -278,10 +290,12 @@ impl<T: Clear> Grid<T> {
         requires lanes { (lane < self.now.shape.lanes) × (number < self.now.shape.lanes) }
         requires may { MayTouch self.now.shape hand.old.me.0 spot.place number }
         requires left { status_of (the_lane hand.old.me.0) spot.place number ≡ Emptied }
-        requires share { IsLeft T.content T.room (spots_at self.now.objects.ptr self.now.shape) spot.place self.now.shape number (stored_of T.content T.room share) J.status share }
+        requires share { IsLeft T.content T.room (spots_at self.now.objects.ptr self.now.shape) spot.place self.now.shape number
+            (stored_of T.content T.room share) J.status share }
         requires cell { MayStore self.now.shape hand.old.me.0 spot.place number (stored_of T.content T.room share) }
         ensures hand { SameSeat hand.old hand.new }
-        ensures backs { Backs T.content T.room (spots_at self.now.objects.ptr self.now.shape) self.now.shape spot.place number J.status hand.old.me share hand.new.me }
+        ensures backs { Backs T.content T.room (spots_at self.now.objects.ptr self.now.shape) self.now.shape spot.place number J.status
+            hand.old.me share hand.new.me }
     {
         let slot = self.slot_of(spot, number);
         self.lift::<Brand>(hand, spot, lane, number);
@@ -292,14 +306,16 @@ impl<T: Clear> Grid<T> {
     /// A look that takes a slot which the lane left so.
     #[inline]
     fn lift<J: Move>(&self, hand: &mut Hand<T>, spot: Spot, lane: u32, number: u32)
-        requires aim { (J.shape ≡ self.now.shape) × (J.directory ≡ self.now.objects.ptr) × (J.place ≡ spot.place) × (J.number ≡ number) × (J.status ≢ InHand) }
+        requires aim { (J.shape ≡ self.now.shape) × (J.directory ≡ self.now.objects.ptr) × (J.place ≡ spot.place) × (J.number ≡ number)
+            × (J.status ≢ InHand) }
         requires hand { IsOf self.now hand.old × IsOne hand.old.me.0 }
         requires spot { IsSpot self.now.shape spot spot.place }
         requires lanes { (lane < self.now.shape.lanes) × (number < self.now.shape.lanes) }
         requires may { MayTouch self.now.shape hand.old.me.0 spot.place number }
         requires left { status_of (the_lane hand.old.me.0) spot.place number ≡ J.status }
         ensures hand { SameSeat hand.old hand.new }
-        ensures lifts { Lifts T.content T.room (spots_at self.now.objects.ptr self.now.shape) self.now.shape spot.place number J.status hand.old.me hand.new.me }
+        ensures lifts { Lifts T.content T.room (spots_at self.now.objects.ptr self.now.shape) self.now.shape spot.place number J.status
+            hand.old.me hand.new.me }
     {
         let _ = (spot, number);
         self.table.shared.load::<Lift<T, J>>(hand, look_word(lane));
@@ -314,10 +330,14 @@ impl<T: Clear> Grid<T> {
         requires lanes { (lane < self.now.shape.lanes) × (number < self.now.shape.lanes) }
         requires may { MayTouch self.now.shape hand.old.me.0 spot.place number }
         requires left { status_of (the_lane hand.old.me.0) spot.place number ≡ InHand }
-        requires value { (value : Option (Shown T)) × (hand.old.me.1 ≡ (slot_index self.now.shape spot.place number, value) ∷ rest hand.old.me.1) × Leaves T.content T.room (spots_at self.now.objects.ptr self.now.shape) spot.place self.now.shape number J.stored J.status (at_home value) }
+        requires value { (value : Option (Shown T))
+            × (hand.old.me.1 ≡ (slot_index self.now.shape spot.place number, value) ∷ rest hand.old.me.1)
+            × Leaves T.content T.room (spots_at self.now.objects.ptr self.now.shape) spot.place self.now.shape number J.stored J.status
+            (at_home value) }
         requires cell { MayStore self.now.shape hand.old.me.0 spot.place number J.stored }
         ensures hand { SameSeat hand.old hand.new }
-        ensures lays { Lays T.content T.room (spots_at self.now.objects.ptr self.now.shape) self.now.shape spot.place number J.status J.stored hand.old.me hand.new.me }
+        ensures lays { Lays T.content T.room (spots_at self.now.objects.ptr self.now.shape) self.now.shape spot.place number J.status
+            J.stored hand.old.me hand.new.me }
     {
         let _ = (spot, number);
         self.table.shared.load::<Lay<T, J>>(hand, look_word(lane));
@@ -326,14 +346,16 @@ impl<T: Clear> Grid<T> {
     /// A look that takes all slots of a place, which the lane left so.
     #[inline]
     fn lift_all<J: MoveAll>(&self, hand: &mut Hand<T>, spot: Spot, lane: u32)
-        requires aim { (J.shape ≡ self.now.shape) × (J.directory ≡ self.now.objects.ptr) × (J.place ≡ spot.place) × IsOrder self.now.shape J.order × (J.status ≢ InHand) }
+        requires aim { (J.shape ≡ self.now.shape) × (J.directory ≡ self.now.objects.ptr) × (J.place ≡ spot.place)
+            × IsOrder self.now.shape J.order × (J.status ≢ InHand) }
         requires hand { IsOf self.now hand.old × IsOne hand.old.me.0 × (hand.old.me.1 ≡ []) }
         requires spot { IsSpot self.now.shape spot spot.place }
         requires lane { lane < self.now.shape.lanes }
         requires place { HasPlace self.now.shape hand.old.me.0 spot.place }
         requires left { (number : ℕ) → number < self.now.shape.lanes → status_of (the_lane hand.old.me.0) spot.place number ≡ J.status }
         ensures hand { SameSeat hand.old hand.new }
-        ensures lifts { LiftsAll T.content T.room (spots_at self.now.objects.ptr self.now.shape) self.now.shape spot.place J.order J.status hand.old.me hand.new.me }
+        ensures lifts { LiftsAll T.content T.room (spots_at self.now.objects.ptr self.now.shape) self.now.shape spot.place J.order
+            J.status hand.old.me hand.new.me }
     {
         let _ = spot;
         self.table
@@ -344,15 +366,19 @@ impl<T: Clear> Grid<T> {
     /// A look that gives back all slots of a place, which the lane took, and leaves them so.
     #[inline]
     fn lay_all<J: MoveAll>(&self, hand: &mut Hand<T>, spot: Spot, lane: u32)
-        requires aim { (J.shape ≡ self.now.shape) × (J.directory ≡ self.now.objects.ptr) × (J.place ≡ spot.place) × IsOrder self.now.shape J.order }
+        requires aim { (J.shape ≡ self.now.shape) × (J.directory ≡ self.now.objects.ptr) × (J.place ≡ spot.place)
+            × IsOrder self.now.shape J.order }
         requires hand { IsOf self.now hand.old × IsOne hand.old.me.0 }
         requires spot { IsSpot self.now.shape spot spot.place }
         requires lane { lane < self.now.shape.lanes }
         requires place { HasPlace self.now.shape hand.old.me.0 spot.place }
         requires left { (number : ℕ) → number < self.now.shape.lanes → status_of (the_lane hand.old.me.0) spot.place number ≡ InHand }
-        requires values { (values : ℕ → Option (Shown T)) × AreLeft T.content T.room (spots_at self.now.objects.ptr self.now.shape) spot.place self.now.shape J.status J.stored values × (hand.old.me.1 ≡ held_of self.now.shape spot.place J.order values self.now.shape.lanes) }
+        requires values { (values : ℕ → Option (Shown T))
+            × AreLeft T.content T.room (spots_at self.now.objects.ptr self.now.shape) spot.place self.now.shape J.status J.stored values
+            × (hand.old.me.1 ≡ held_of self.now.shape spot.place J.order values self.now.shape.lanes) }
         ensures hand { SameSeat hand.old hand.new }
-        ensures lays { LaysAll T.content T.room (spots_at self.now.objects.ptr self.now.shape) self.now.shape spot.place J.status J.stored hand.old.me hand.new.me }
+        ensures lays { LaysAll T.content T.room (spots_at self.now.objects.ptr self.now.shape) self.now.shape spot.place J.status J.stored
+            hand.old.me hand.new.me }
     {
         let _ = spot;
         self.table
@@ -368,7 +394,8 @@ impl<T: Clear> Grid<T> {
         requires spot { IsSpot self.now.shape spot spot.place }
         requires row { row ≡ self.now.row }
         requires number { number < self.now.shape.lanes }
-        requires held { (share : Shown T) × (hand.old.me.1 ≡ (slot_index self.now.shape spot.place number, Some share) ∷ rest hand.old.me.1) }
+        requires held { (share : Shown T)
+            × (hand.old.me.1 ≡ (slot_index self.now.shape spot.place number, Some share) ∷ rest hand.old.me.1) }
         ensures hand { SameSeat hand.old hand.new }
         ensures share { hand.old.me.1 ≡ (slot_index self.now.shape spot.place number, Some result) ∷ rest hand.old.me.1 }
         ensures held { hand.new.me ≡ (hand.old.me.0, rest hand.old.me.1 ++ (slot_index self.now.shape spot.place number, None) ∷ []) }
@@ -390,7 +417,8 @@ impl<T: Clear> Grid<T> {
         requires spot { IsSpot self.now.shape spot spot.place }
         requires row { row ≡ self.now.row }
         requires number { number < self.now.shape.lanes }
-        requires held { (value : Option (Shown T)) × (hand.old.me.1 ≡ (slot_index self.now.shape spot.place number, value) ∷ rest hand.old.me.1) }
+        requires held { (value : Option (Shown T))
+            × (hand.old.me.1 ≡ (slot_index self.now.shape spot.place number, value) ∷ rest hand.old.me.1) }
         ensures hand { SameSeat hand.old hand.new }
         ensures held { hand.new.me ≡ (hand.old.me.0, rest hand.old.me.1 ++ (slot_index self.now.shape spot.place number, Some share) ∷ []) }
     {
@@ -404,9 +432,15 @@ impl<T: Clear> Grid<T> {
     fn take_all<J: MoveAll>(&self, hand: &mut Hand<T>, spot: Spot) -> Rest<T>
         requires hand { IsOf self.now hand.old }
         requires spot { IsSpot self.now.shape spot spot.place }
-        requires held { (values : ℕ → Option (Shown T)) × AreLeft T.content T.room (spots_at self.now.objects.ptr self.now.shape) spot.place self.now.shape Untouched J.stored values × (hand.old.me.1 ≡ held_of self.now.shape spot.place (λ position. position) values self.now.shape.lanes) }
+        requires held { (values : ℕ → Option (Shown T))
+            × AreLeft T.content T.room (spots_at self.now.objects.ptr self.now.shape) spot.place self.now.shape Untouched J.stored values
+            × (hand.old.me.1 ≡ held_of self.now.shape spot.place (λ position. position) values self.now.shape.lanes) }
         ensures hand { SameSeat hand.old hand.new }
-        ensures held { hand.new.me ≡ (hand.old.me.0, held_of self.now.shape spot.place (λ position. position) (λ _. None) self.now.shape.lanes) }
+        ensures held { hand.new.me ≡ (
+          hand.old.me.0,
+          held_of self.now.shape spot.place (λ position. position) (λ _. None)
+              self.now.shape.lanes,
+        ) }
         ensures rest { AreOf T.content T.room (spots_at self.now.objects.ptr self.now.shape) spot.place self.now.shape J.stored result }
     {
         let row = self.row;
@@ -425,10 +459,15 @@ impl<T: Clear> Grid<T> {
     fn put_all<J: MoveAll>(&self, hand: &mut Hand<T>, spot: Spot, rest: Rest<T>)
         requires hand { IsOf self.now hand.old }
         requires spot { IsSpot self.now.shape spot spot.place }
-        requires held { (values : ℕ → Option (Shown T)) × (hand.old.me.1 ≡ held_of self.now.shape spot.place (λ position. self.now.shape.lanes - 1 - position) values self.now.shape.lanes) }
+        requires held { (values : ℕ → Option (Shown T))
+            × (hand.old.me.1 ≡ held_of self.now.shape spot.place (λ position. self.now.shape.lanes - 1 - position) values
+            self.now.shape.lanes) }
         requires rest { AreOf T.content T.room (spots_at self.now.objects.ptr self.now.shape) spot.place self.now.shape J.stored rest }
         ensures hand { SameSeat hand.old hand.new × (hand.new.me.0 ≡ hand.old.me.0) }
-        ensures held { (values : ℕ → Option (Shown T)) × AreLeft T.content T.room (spots_at self.now.objects.ptr self.now.shape) spot.place self.now.shape Untouched J.stored values × (hand.new.me.1 ≡ held_of self.now.shape spot.place (λ position. self.now.shape.lanes - 1 - position) values self.now.shape.lanes) }
+        ensures held { (values : ℕ → Option (Shown T))
+            × AreLeft T.content T.room (spots_at self.now.objects.ptr self.now.shape) spot.place self.now.shape Untouched J.stored values
+            × (hand.new.me.1 ≡ held_of self.now.shape spot.place (λ position. self.now.shape.lanes - 1 - position) values
+            self.now.shape.lanes) }
     {
         let row = self.row;
         let last = self.shape.lanes - 1;
@@ -449,7 +488,8 @@ impl<T: Clear> Grid<T> {
         requires place { HasPlace self.now.shape hand.old.me.0 spot.place }
         requires left { LeftAlone self.now.shape (the_lane hand.old.me.0) spot.place }
         ensures hand { SameSeat hand.old hand.new }
-        ensures outs { OutsAll T.content T.room (spots_at self.now.objects.ptr self.now.shape) self.now.shape spot.place hand.old.me result hand.new.me }
+        ensures outs { OutsAll T.content T.room (spots_at self.now.objects.ptr self.now.shape) self.now.shape spot.place hand.old.me
+            result hand.new.me }
     {
         self.lift_all::<Brand>(hand, spot, lane);
         let rest = self.take_all::<Brand>(hand, spot);
@@ -466,9 +506,11 @@ impl<T: Clear> Grid<T> {
         requires lane { lane < self.now.shape.lanes }
         requires place { HasPlace self.now.shape hand.old.me.0 spot.place }
         requires left { (number : ℕ) → number < self.now.shape.lanes → status_of (the_lane hand.old.me.0) spot.place number ≡ Emptied }
-        requires rest { (rest.number ≡ 0) × (rest.of ≡ self.now.shape.lanes) × (rest.spot ≡ spots_at self.now.objects.ptr self.now.shape spot.place) }
+        requires rest { (rest.number ≡ 0) × (rest.of ≡ self.now.shape.lanes)
+            × (rest.spot ≡ spots_at self.now.objects.ptr self.now.shape spot.place) }
         ensures hand { SameSeat hand.old hand.new }
-        ensures backs { BacksAll T.content T.room (spots_at self.now.objects.ptr self.now.shape) self.now.shape spot.place hand.old.me rest hand.new.me }
+        ensures backs { BacksAll T.content T.room (spots_at self.now.objects.ptr self.now.shape) self.now.shape spot.place hand.old.me
+            rest hand.new.me }
     {
         self.lift_all::<Brand>(hand, spot, lane);
         self.put_all::<Brand>(hand, spot, rest);

@@ -36,7 +36,14 @@ impl<T> Model for Objects<T> {
 
     ghost coded = { objects_code T.code };
 
-    ghost view = { λ o. record { directory = o.directory.ptr; first = o.first; items = take o.places (map object_in o.row.items); rights = take o.places (map is_here o.row.items); wide = o.total } };
+    ghost view = { λ o. record {
+      directory = o.directory.ptr;
+      first = o.first;
+      items = take o.places (map object_in o.row.items);
+      rights =
+          take o.places (map is_here o.row.items);
+      wide = o.total;
+    } };
 
     ghost invariant = { λ o. AreRows o.directory.ptr o.first o.places o.row.items o.kept };
 }
@@ -62,7 +69,8 @@ impl<T: Drop> Objects<T> {
         total: usize,
     ) -> Option<Objects<T>>
         requires { first + places + SHARDS_APART ≤ total }
-        ensures { IfSome result (λ made. (made.directory ≡ directory.ptr) × (made.first ≡ first) × (made.items ≡ replicate places None) × (made.rights ≡ replicate places false) × (made.wide ≡ total)) }
+        ensures { IfSome result (λ made. (made.directory ≡ directory.ptr) × (made.first ≡ first) × (made.items ≡ replicate places None)
+            × (made.rights ≡ replicate places false) × (made.wide ≡ total)) }
     {
         let row = none_own(alloc, places + SHARDS_APART)?;
         let kept = Kept::new(alloc, directory, total)?;
@@ -82,7 +90,8 @@ impl<T: Drop> Objects<T> {
         requires at { self.old.directory ≡ directory.old.at }
         requires first { self.old.first ≡ directory.old.next }
         requires count { directory.old.next + length self.old.items + SHARDS_APART ≤ directory.old.count }
-        ensures objects { self.new ≡ record self.old { items = replicate (length self.old.items) None; rights = replicate (length self.old.items) true } }
+        ensures objects { self.new ≡ record self.old
+            { items = replicate (length self.old.items) None; rights = replicate (length self.old.items) true } }
         ensures directory { directory.new ≡ record directory.old { next = directory.old.next + length self.old.items + SHARDS_APART } }
     {
         endow_row(&mut self.row, directory, self.places + SHARDS_APART);
@@ -120,7 +129,11 @@ impl<T: Drop> Objects<T> {
     pub fn keep(&mut self, start: usize, whole: Whole<T>)
         requires start { (self.old.first ≤ start) × (start < self.old.first + length self.old.items) }
         requires spot { whole.spot ≡ spot_at self.old.directory start }
-        ensures { self.new ≡ record self.old { items = slice_set self.old.items (start - self.old.first) (Some whole.object); rights = slice_set self.old.rights (start - self.old.first) true } }
+        ensures { self.new ≡ record self.old {
+          items = slice_set self.old.items (start - self.old.first) (Some whole.object);
+          rights = slice_set self.old.rights
+              (start - self.old.first) true;
+        } }
     {
         let index = start - self.first;
         self.row[index] = Own::Whole(whole);
@@ -146,7 +159,11 @@ impl<T: Drop> Objects<T> {
         requires start { (self.old.first ≤ start) × (start < self.old.first + length self.old.items) }
         requires spot { whole.spot ≡ spot_at self.old.directory start }
         ensures object { result.value ≡ whole.object }
-        ensures objects { self.new ≡ record self.old { items = slice_set self.old.items (start - self.old.first) None; rights = slice_set self.old.rights (start - self.old.first) true } }
+        ensures objects { self.new ≡ record self.old {
+          items = slice_set self.old.items (start - self.old.first) None;
+          rights = slice_set self.old.rights (start - self.old.first)
+              true;
+        } }
     {
         let (vacancy, object) = whole.take(self.directory, start);
         let index = start - self.first;
@@ -160,7 +177,11 @@ impl<T: Drop> Objects<T> {
         requires start { self.old.first ≤ start }
         requires right { slice_get self.old.rights (start - self.old.first) ≡ Some true }
         ensures whole { (result.spot ≡ spot_at self.old.directory start) × (result.object ≡ object.value) }
-        ensures objects { self.new ≡ record self.old { items = slice_set self.old.items (start - self.old.first) None; rights = slice_set self.old.rights (start - self.old.first) false } }
+        ensures objects { self.new ≡ record self.old {
+          items = slice_set self.old.items (start - self.old.first) None;
+          rights = slice_set self.old.rights (start - self.old.first)
+              false;
+        } }
     {
         let index = start - self.first;
         let Some(vacancy) = claim(&mut self.row, self.directory, start, index) else {

@@ -54,7 +54,8 @@ pub(crate) fn endow_row<T: Drop>(row: &mut Vec<Own<T>>, directory: &mut Director
     requires room { count ≤ length row.old.items }
     requires own { AreOwn directory.old.at directory.old.next row.old.items }
     ensures own { AreOwn directory.old.at directory.old.next row.new.items }
-    ensures here { (index : ℕ) (own : Own T) → slice_get row.new.items index ≡ Some own → index < count → own ≡ owns.Vacant (spot_at directory.old.at (directory.old.next + index)) }
+    ensures here { (index : ℕ) (own : Own T) → slice_get row.new.items index ≡ Some own → index < count
+        → own ≡ owns.Vacant (spot_at directory.old.at (directory.old.next + index)) }
     ensures room { length row.new.items ≡ length row.old.items }
     ensures directory { directory.new ≡ record directory.old { next = directory.old.next + count } }
 {

@@ -200,7 +200,8 @@ impl<T: Clear> Grid<T> {
         requires may { MayPublish self.now.shape hand.old.me.0 key }
         requires shares { IsShared self.now.shape hand.old.me.0 (place_of key) false }
         ensures hand { SameSeat hand.old hand.new }
-        ensures publishes { Publishes self.now.shape key (known_of (the_lane hand.old.me.0) (place_of key)) false hand.old.me result hand.new.me }
+        ensures publishes { Publishes self.now.shape key (known_of (the_lane hand.old.me.0) (place_of key)) false hand.old.me result
+            hand.new.me }
     {
         self.publish_as::<Brand>(hand, spot, key, false)
     }
@@ -228,7 +229,8 @@ impl<T: Clear> Grid<T> {
         key: u64,
         share: &Share<T>,
     ) -> u64
-        requires aim { (J.shape ≡ self.now.shape) × (J.key ≡ key) × (J.with_ref ≡ true) × (J.stored ≡ stored_of T.content T.room share.now) }
+        requires aim { (J.shape ≡ self.now.shape) × (J.key ≡ key) × (J.with_ref ≡ true)
+            × (J.stored ≡ stored_of T.content T.room share.now) }
         requires hand { IsOf self.now hand.old × IsOne hand.old.me.0 }
         requires spot { IsSpot self.now.shape spot (place_of key) }
         requires may { MayPublish self.now.shape hand.old.me.0 key }

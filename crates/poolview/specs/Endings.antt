@@ -23,7 +23,8 @@ use Rattle.poolview.specs.declared.fault.Fault.{Fault}
 use Rattle.poolview.specs.declared.fault.Fault.TheVariants as faults
 
 -- of these bytes what is asked for was shown: the status is 0, and no error is said
-pub record EndsShown {O E : Type 0} (contents : O → Option (List ℕ)) (path : List ℕ) (view : View) (bytes : List ℕ) (old new : Watched O) (before after : Watched E)
+pub record EndsShown {O E : Type 0} (contents : O
+    → Option (List ℕ)) (path : List ℕ) (view : View) (bytes : List ℕ) (old new : Watched O) (before after : Watched E)
     (status : ℕ) : Type 0 where
   pub text : List ℕ
   pub shows : ShowsText path view bytes text
@@ -41,10 +42,12 @@ is_silent fault closed = false
 -- is said, with its explanation where that is wanted
 abbrev pub EndsFault : {E : Type 0} → (E → Option (List ℕ)) → Bool → List ℕ → List ℕ → Fault → Bool → Watched E → Watched E → ℕ → Type 0
 EndsFault errors explain path bytes fault true before after status = (status ≡ 141) × (after ≡ before)
-EndsFault errors explain path bytes fault false before after status = (status ≡ 1) × Says errors before after (refusal_text explain path bytes fault)
+EndsFault errors explain path bytes fault false before after status = (status ≡ 1)
+    × Says errors before after (refusal_text explain path bytes fault)
 
 -- it wasn't, by this fault; nothing is on the output, unless it failed
-pub record EndsRefused {O E : Type 0} (errors : E → Option (List ℕ)) (explain : Bool) (path : List ℕ) (view : View) (bytes : List ℕ) (old new : Watched O)
+pub record EndsRefused {O E : Type 0} (errors : E
+    → Option (List ℕ)) (explain : Bool) (path : List ℕ) (view : View) (bytes : List ℕ) (old new : Watched O)
     (before after : Watched E) (status : ℕ) : Type 0 where
   pub fault : Fault
   pub output : fault ≡ faults.Output → new.failed ≡ true
@@ -83,8 +86,10 @@ EndsView contents errors explain left viewing old new before after status =
 -- how the program ends that is asked for this; or whose words ask for nothing
 abbrev pub EndsAsked : {O E : Type 0} → (O → Option (List ℕ)) → (E → Option (List ℕ)) → Bool → Option (List ℕ) → Result Viewing TaskFault
     → Watched O → Watched O → Watched E → Watched E → ℕ → Type 0
-EndsAsked contents errors explain left (Ok viewing) old new before after status = EndsView contents errors explain left viewing old new before after status
-EndsAsked contents errors explain left (Err fault) old new before after status = EndsByWords errors fault explain old new before after status
+EndsAsked contents errors explain left (Ok viewing) old new before after status = EndsView contents errors explain left viewing old new
+    before after status
+EndsAsked contents errors explain left (Err fault) old new before after status = EndsByWords errors fault explain old new before after
+    status
 
 -- the file that is to be shown, where one is
 abbrev pub file_of : Result Viewing TaskFault → Option (List ℕ)
@@ -107,11 +112,13 @@ pub record EndsCall {O E : Type 0} (contents : O → Option (List ℕ)) (errors 
 -- how the program ends, by what the words were read as
 abbrev pub EndsRead : {O E : Type 0} → (O → Option (List ℕ)) → (E → Option (List ℕ)) → Result Call TaskFault → Bool → Option (List ℕ)
     → Watched O → Watched O → Watched E → Watched E → ℕ → Type 0
-EndsRead contents errors (Ok call) hints left old new before after status = EndsCall contents errors call hints left old new before after status
+EndsRead contents errors (Ok call) hints left old new before after status = EndsCall contents errors call hints left old new before after
+    status
 EndsRead contents errors (Err fault) hints left old new before after status = EndsByWords errors fault hints old new before after status
 
 -- how the program ends, by what it was called with
-pub record EndsProgram {O E : Type 0} (contents : O → Option (List ℕ)) (errors : E → Option (List ℕ)) (args : Result (IntoIter (String Global) Global) Error)
+pub record EndsProgram {O E : Type 0} (contents : O → Option (List ℕ)) (errors : E
+    → Option (List ℕ)) (args : Result (IntoIter (String Global) Global) Error)
     (hints : Bool) (left : Option (List ℕ)) (old new : Watched O) (before after : Watched E) (status : ℕ) : Type 0 where
   pub call : Result Call TaskFault
   pub read : ReadsArgs args call

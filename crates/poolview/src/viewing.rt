@@ -28,7 +28,8 @@ fn show<O: Write>(
     out: &mut Watched<O>,
 ) -> Result<(), Fault>
     requires { out.old.failed ≡ false }
-    ensures ok { OnOk result ((text : List ℕ) × ShowsText viewing.now.file.now viewing.now.view bytes.now text × Appends (O.contents out.old.inner) (O.contents out.new.inner) text) }
+    ensures ok { OnOk result ((text : List ℕ) × ShowsText viewing.now.file.now viewing.now.view bytes.now text
+        × Appends (O.contents out.old.inner) (O.contents out.new.inner) text) }
     ensures output { IsErrOf result Fault.Output ↔ (out.new.failed ≡ true) }
     ensures refused { IfErr result (λ fault. fault ≢ Fault.Output → (out.new ≡ out.old) × RefusesText viewing.now.view bytes.now fault) }
 {

@@ -84,7 +84,8 @@ shape_fields_of d = do
 -- this field, which is a whole number from 0 to 4294967295; else Number there
 abbrev pub number_at : FieldName → Data → Result ℕ ScriptRefusal
 number_at name d =
-    ok_or (option_and_then (at_most 4294967295) (option_and_then whole_of (get (field_text name) d))) (refusal faults.Number (places.Field name))
+    ok_or (option_and_then (at_most 4294967295) (option_and_then whole_of (get (field_text name) d)))
+    (refusal faults.Number (places.Field name))
 
 -- the tag, which is 0 where there is no such field
 abbrev pub tag_of : Data → Result ℕ ScriptRefusal

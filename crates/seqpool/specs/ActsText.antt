@@ -64,7 +64,8 @@ act_text act = act_line act ++ codes "\n"
 
 -- the four numbers of a shape that are always written
 abbrev pub numbers_text : Shape → List ℕ
-numbers_text z = codes "shape " ++ decimal z.lanes ++ codes " " ++ decimal z.first_page ++ codes " " ++ decimal z.pages ++ codes " " ++ decimal z.last_generation
+numbers_text z = codes "shape " ++ decimal z.lanes ++ codes " " ++ decimal z.first_page ++ codes " " ++ decimal z.pages ++ codes " "
+    ++ decimal z.last_generation
 
 -- a shape, with its tag as a fifth number or without it, and without a line feed
 abbrev pub shape_line : Shape → Bool → List ℕ
@@ -77,12 +78,14 @@ shape_text z tagged = shape_line z tagged ++ codes "\n"
 
 -- the act as it is written: the same, with the places of a Collect in rising order
 abbrev pub IsWritten : Act → Act → Type 0
-IsWritten (Collect lane places) written = (risen : List ℕ) × IsPermutation places risen × IsSorted nat_cmp risen × (written ≡ Collect lane risen)
+IsWritten (Collect lane places) written = (risen : List ℕ) × IsPermutation places risen × IsSorted nat_cmp risen
+    × (written ≡ Collect lane risen)
 IsWritten act written = written ≡ act
 
 -- the text that the writer makes: the tag stands where it isn't 0
 abbrev pub IsTextOf : Shape → List Act → List ℕ → Type 0
-IsTextOf z acts text = (written : List Act) × AllZip IsWritten acts written × (text ≡ shape_text z (not (z.tag == 0)) ++ flat_map act_text written)
+IsTextOf z acts text = (written : List Act) × AllZip IsWritten acts written
+    × (text ≡ shape_text z (not (z.tag == 0)) ++ flat_map act_text written)
 
 -- a number of a lane or of a shape
 abbrev pub IsU32 : ℕ → Type 0

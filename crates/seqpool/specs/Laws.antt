@@ -40,7 +40,8 @@ OnceLawOf history = (i j key : ℕ) (content more : List ℕ) → PublishedAt hi
 
 -- a key has one content, wherever its Publish stands
 abbrev pub ContentLawOf : List Act → Type 0
-ContentLawOf history = (i j key : ℕ) (content more : List ℕ) → PublishedAt history i key content → PublishedAt history j key more → content ≡ more
+ContentLawOf history = (i j key : ℕ) (content more : List ℕ) → PublishedAt history i key content → PublishedAt history j key more
+    → content ≡ more
 
 -- no key of a place is published after the Reclaim of its last generation
 abbrev pub RetiredLawOf : Shape → List Act → Type 0
@@ -50,7 +51,8 @@ RetiredLawOf z history = (i j key other : ℕ) (content : List ℕ) → Reclaime
 -- an act of another lane changes neither which places are with a lane, nor its references
 abbrev pub OwnLawOf : Shape → List Act → Type 0
 OwnLawOf z history = (i lane : ℕ) (act : Act) → At history i act → lane_of act ≢ lane
-    → ((place : ℕ) → (((pool_after z (take i history) place).phase ≡ with lane) ↔ ((pool_after z (take (i + 1) history) place).phase ≡ with lane)))
+    → ((place : ℕ) → (((pool_after z (take i history) place).phase ≡ with lane)
+    ↔ ((pool_after z (take (i + 1) history) place).phase ≡ with lane)))
     × ((key : ℕ) → references z (pool_after z (take (i + 1) history)) lane key ≡ references z (pool_after z (take i history)) lane key)
 
 -- the Get law: of every legal history

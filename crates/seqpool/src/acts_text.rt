@@ -144,7 +144,8 @@ fn write_clear(text: &mut String, lane: u32, key: u64, reply: bool) -> Result<()
 
 /// The line of an act that has a number alone.
 fn write_short(text: &mut String, lane: u32, name: &str, number: u64) -> Result<(), AllocError>
-    ensures { OnOk result (string_bytes text.new ≡ string_bytes text.old ++ (spaced (decimal lane) (spaced name.now (decimal number)) ++ codes "\n")) }
+    ensures { OnOk result (string_bytes text.new ≡ string_bytes text.old
+        ++ (spaced (decimal lane) (spaced name.now (decimal number)) ++ codes "\n")) }
 {
     write_head(text, lane, name, number)?;
     text.push_str("\n")
@@ -174,7 +175,8 @@ fn write_risen(
 }
 
 fn write_act(alloc: Global, text: &mut String, act: &Act) -> Result<(), AllocError>
-    ensures { OnOk result ((written : Act) × IsWritten act.now written × (string_bytes text.new ≡ string_bytes text.old ++ act_text written)) }
+    ensures { OnOk result ((written : Act) × IsWritten act.now written
+        × (string_bytes text.new ≡ string_bytes text.old ++ act_text written)) }
 {
     match act {
         Act::Publish {

@@ -125,7 +125,8 @@ impl SeqPool {
     fn place_to_fill(&self, lane: u32, key: u64) -> Result<u32, ApplyFault>
         ensures ok { IfOk result (λ place. IsPlaceOf self.now key place × ((pool_in self.now place).phase ≡ with lane)) }
         ensures err { (content : List ℕ) (with_ref : Bool)
-            → IfErr result (λ fault. (fault ≢ faults.Memory) × Wrong self.now.shape (pool_in self.now) (acts.Publish lane key content with_ref) fault) }
+            → IfErr result (λ fault. (fault ≢ faults.Memory)
+            × Wrong self.now.shape (pool_in self.now) (acts.Publish lane key content with_ref) fault) }
     {
         if !fits(key, &self.shape) {
             return Err(ApplyFault::NotWithLane);
@@ -275,7 +276,8 @@ impl SeqPool {
     /// Whether one of the places is home, of the lane's shard, and not named before.
     fn may_take(&self, lane: u32, places: &[u32], i: usize) -> bool
         requires { i < length places.now }
-        ensures { IsTrue result ↔ (IsHomeFor self.now lane (slice_index places.now i) × (has (take i places.now) (slice_index places.now i) ≡ false)) }
+        ensures { IsTrue result ↔ (IsHomeFor self.now lane (slice_index places.now i)
+            × (has (take i places.now) (slice_index places.now i) ≡ false)) }
     {
         self.is_home_for(lane, places[i]) && !is_among(places[i], &places[..i])
     }

@@ -36,7 +36,8 @@ caller_of z v = record { shape = z; lane = (the_lane v).lane; pushed = pushed_in
 abbrev pub Make : Shape → Caller → Call → List Step → List Act → Type 0
 Make z c call [] made = made ≡ []
 Make z c call (step ∷ more) made = (act : Option Act) × (links : ℕ → ℕ) × (rest : List Act)
-    × Changes z.last_generation step.kind step.before step.after × Makes c call links step act × Make z c call more rest × (made ≡ acts_in act ++ rest)
+    × Changes z.last_generation step.kind step.before step.after × Makes c call links step act × Make z c call more rest
+    × (made ≡ acts_in act ++ rest)
 
 -- what the lane did with the slots of the place, and what it knows of its cell, are as before
 pub record IsUnmoved (place : ℕ) (r s : LaneRecord) : Type 0 where
@@ -76,16 +77,19 @@ pub record GoesToEnd {S : Type 0} (z : Shape) (place : ℕ) (done : List Step) (
 -- the return of a place, after a LEAVE and a CLAIM that succeeded below the last generation, at a place of another shard
 abbrev pub GivesHome : {S : Type 0} → Shape → ℕ → Me S View → Me S View → Type 0
 GivesHome z place before after = (leave claim : Step) → is_claimed (generation_in leave.before) claim.before ≡ true
-    → generation_in leave.before ≢ z.last_generation → shard_of place ≢ (the_lane before.0).lane → GoesToEnd z place (leave ∷ claim ∷ []) most_return_steps 0 before after
+    → generation_in leave.before ≢ z.last_generation → shard_of place ≢ (the_lane before.0).lane
+    → GoesToEnd z place (leave ∷ claim ∷ []) most_return_steps 0 before after
 
 -- what follows a CLAIM of this generation that succeeded
 abbrev pub Tails : {S : Type 0} → Shape → ℕ → ℕ → Me S View → Me S View → Type 0
-Tails z place generation before after = (leave claim : Step) → generation_in leave.before ≡ generation → is_claimed generation claim.before ≡ true
+Tails z place generation before after = (leave claim : Step) → generation_in leave.before ≡ generation
+    → is_claimed generation claim.before ≡ true
     → GoesToEnd z place (leave ∷ claim ∷ []) most_return_steps most_end_looks before after
 
 -- what follows a LEAVE that found this word
 abbrev pub Ends : {S : Type 0} → Shape → ℕ → ℕ → Me S View → Me S View → Type 0
-Ends z place found before after = (leave : Step) → leave.before ≡ found → GoesToEnd z place (leave ∷ []) most_end_steps most_end_looks before after
+Ends z place found before after = (leave : Step) → leave.before ≡ found
+    → GoesToEnd z place (leave ∷ []) most_end_steps most_end_looks before after
 
 -- what became of the place, by what the seat then saw and knows: the object of an own place is empty, with at least the place's room
 abbrev pub IsReclaimed : {T : Type 0} → (T → List ℕ) → (T → ℕ) → Shape → ℕ → ℕ → View → Reclaimed T → Type 0
@@ -130,7 +134,8 @@ end_pushed pushed place (Some (Retired vacancy)) = pushed
 -- the lane made these acts, and after them those by which the place was reclaimed, if it was, and pushed it where it was returned; where it was not, the lane moved nothing
 abbrev pub EndsWithActs : {T : Type 0} → Shape → ℕ → List Act → View → View → Option (Reclaimed T) → Type 0
 EndsWithActs z place first before after reclaimed = let r : LaneRecord = the_lane before in
-    ((generation : ℕ) × ((the_lane after).mine ≡ r.mine ++ (first ++ end_acts z r.lane place generation reclaimed)) × FitsGeneration z generation reclaimed)
+    ((generation : ℕ) × ((the_lane after).mine ≡ r.mine ++ (first ++ end_acts z r.lane place generation reclaimed))
+    × FitsGeneration z generation reclaimed)
     × ((the_lane after).pushed ≡ end_pushed r.pushed place reclaimed) × MovedNothing z place r (the_lane after) reclaimed
 
 -- the lane returned the place
@@ -140,13 +145,16 @@ MadeHome place before after = let r : LaneRecord = the_lane before in
 
 -- what it made and pushed behind its CLAIM of this generation
 abbrev pub TailActs : {T : Type 0} → Shape → ℕ → ℕ → View → View → Reclaimed T → Type 0
-TailActs z place generation before after (Own whole) = (generation ≢ z.last_generation) × ((the_lane after).mine ≡ (the_lane before).mine) × ((the_lane after).pushed ≡ (the_lane before).pushed)
+TailActs z place generation before after (Own whole) = (generation ≢ z.last_generation) × ((the_lane after).mine ≡ (the_lane before).mine)
+    × ((the_lane after).pushed ≡ (the_lane before).pushed)
 TailActs z place generation before after Returned = (generation ≢ z.last_generation) × MadeHome place before after
-TailActs z place generation before after (Retired vacancy) = (generation ≡ z.last_generation) × ((the_lane after).mine ≡ (the_lane before).mine) × ((the_lane after).pushed ≡ (the_lane before).pushed)
+TailActs z place generation before after (Retired vacancy) = (generation ≡ z.last_generation)
+    × ((the_lane after).mine ≡ (the_lane before).mine) × ((the_lane after).pushed ≡ (the_lane before).pushed)
 
 -- the lane made just this act, and pushed nothing
 abbrev pub MadeOne : View → View → Act → Type 0
-MadeOne before after act = ((the_lane after).mine ≡ (the_lane before).mine ++ act ∷ []) × ((the_lane after).pushed ≡ (the_lane before).pushed)
+MadeOne before after act = ((the_lane after).mine ≡ (the_lane before).mine ++ act ∷ [])
+    × ((the_lane after).pushed ≡ (the_lane before).pushed)
 
 -- the lane made one call: its steps, the acts of these, and nothing more, in at most so many looks
 pub record Called {S : Type 0} (z : Shape) (call : Call) (looks : ℕ) (before after : Me S View) : Type 0 where
@@ -161,7 +169,8 @@ pub record Called {S : Type 0} (z : Shape) (call : Call) (looks : ℕ) (before a
 
 -- the lane made its MARK, at once or after a look that moved nothing
 abbrev pub MarksAtLast : {S : Type 0} → Shape → ℕ → Me S View → ℕ → Me S View → Type 0
-MarksAtLast z key before found after = Marks z key before found after ⊎ ((between : Me _ View) × Sees z before between × Marks z key between found after)
+MarksAtLast z key before found after = Marks z key before found after
+    ⊎ ((between : Me _ View) × Sees z before between × Marks z key between found after)
 
 -- a get hit: the reply is a content, the lane moved nothing, and its slot is left alone where it had no reference
 abbrev pub GetHits : {S : Type 0} → Shape → ℕ → Me S View → Me S View → Type 0
@@ -172,4 +181,5 @@ GetHits z key before after = let r : LaneRecord = the_lane before.0 in
 -- a get missed: the reply is none, and this became of its place
 abbrev pub GetMisses : {S T : Type 0} → (T → List ℕ) → (T → ℕ) → Shape → ℕ → Me S View → Me S View → Option (Reclaimed T) → Type 0
 GetMisses content room z key before after reclaimed = let r : LaneRecord = the_lane before.0 in
-    EndsWithActs z (place_of key) (acts.Get r.lane key None ∷ []) before.0 after.0 reclaimed × IfSome reclaimed (IsReclaimed content room z (place_of key) r.lane after.0)
+    EndsWithActs z (place_of key) (acts.Get r.lane key None ∷ []) before.0 after.0 reclaimed
+    × IfSome reclaimed (IsReclaimed content room z (place_of key) r.lane after.0)

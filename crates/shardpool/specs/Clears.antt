@@ -12,7 +12,8 @@ use Rattle.shardpool.specs.declared.reclaim.Reclaimed.{Reclaimed}
 use Rattle.shardpool.specs.Called.{Called, EndsWithActs, IsReclaimed, StandsAt}
 
 -- the lane made a clear of the key, in so many looks at most: this is its reply, and this became of the place, whose object stands in this word
-pub record Clears {S T : Type 0} (content : T → List ℕ) (room : T → ℕ) (z : Shape) (spot : CellSpot) (key lane looks : ℕ) (before after : Me S View) (marked : Bool)
+pub record Clears {S T : Type 0} (content : T → List ℕ) (room : T
+    → ℕ) (z : Shape) (spot : CellSpot) (key lane looks : ℕ) (before after : Me S View) (marked : Bool)
     (reclaimed : Option (Reclaimed T)) : Type 0 where
   pub called : Called z (Clearing key) looks before after
   pub acts : EndsWithActs z (place_of key) (acts.Clear lane key marked ∷ []) before.0 after.0 reclaimed

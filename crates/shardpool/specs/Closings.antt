@@ -25,7 +25,8 @@ use Rattle.shardpool.specs.LaneStates.{IsFirst}
 pub record AreLanes (pool : PoolOf) (lanes : List LaneOf) : Type 0 where
   pub count : length lanes ≡ pool.shape.lanes
   pub owned : (index : ℕ) (lane : LaneOf) → slice_get lanes index ≡ Some lane → Owns pool lane
-  pub all : (number : ℕ) → number < pool.shape.lanes → (index : ℕ) × (lane : LaneOf) × (slice_get lanes index ≡ Some lane) × (lane.number ≡ number)
+  pub all : (number : ℕ) → number < pool.shape.lanes → (index : ℕ) × (lane : LaneOf) × (slice_get lanes index ≡ Some lane)
+      × (lane.number ≡ number)
 
 -- where a place is after a history
 abbrev pub phase_at : List Act → LaneOf → ℕ → Phase
@@ -44,11 +45,14 @@ IsOnChain lane place = has (the_lane lane.book).chain place ≡ true
 abbrev pub IsPart : List Act → LaneOf → ℕ → Part → Type 0
 IsPart history lane place Unopened = (phase_at history lane place ≡ with lane.number) × (lane.pages.opened ≤ page_of place)
 IsPart history lane place Free = (phase_at history lane place ≡ home)
-    ⊎ ((phase_at history lane place ≡ with lane.number) × (page_of place < lane.pages.opened) × (IsOnList lane place ⊎ IsOnChain lane place))
+    ⊎ ((phase_at history lane place ≡ with lane.number) × (page_of place < lane.pages.opened)
+    × (IsOnList lane place ⊎ IsOnChain lane place))
 IsPart history lane place Filling = (phase_at history lane place ≡ with lane.number) × (page_of place < lane.pages.opened)
     × (IsOnList lane place → ⊥) × (IsOnChain lane place → ⊥)
-IsPart history lane place Present = (content : List ℕ) × (references : ℕ → ℕ) × (phase_at history lane place ≡ published content references false)
-IsPart history lane place Marked = (content : List ℕ) × (references : ℕ → ℕ) × (phase_at history lane place ≡ published content references true)
+IsPart history lane place Present = (content : List ℕ) × (references : ℕ → ℕ)
+    × (phase_at history lane place ≡ published content references false)
+IsPart history lane place Marked = (content : List ℕ) × (references : ℕ → ℕ)
+    × (phase_at history lane place ≡ published content references true)
 IsPart history lane place Retired = phase_at history lane place ≡ retired
 
 -- a census of no place
@@ -77,7 +81,8 @@ places_counted census = census.free + census.unopened + census.filling + census.
 pub record IsCensus (z : Shape) (history : List Act) (lanes : List LaneOf) (census : Census) : Type 0 where
   pub parts : List Part
   pub wide : length parts ≡ all_places z
-  pub each : (index : ℕ) (lane : LaneOf) (place : ℕ) (part : Part) → slice_get lanes index ≡ Some lane → is_place z place ≡ true → shard_of place ≡ lane.number
+  pub each : (index : ℕ) (lane : LaneOf) (place : ℕ) (part : Part) → slice_get lanes index ≡ Some lane → is_place z place ≡ true
+      → shard_of place ≡ lane.number
       → slice_get parts (index * shard_places z + index_of z place) ≡ Some part → IsPart history lane place part
   pub counts : census ≡ all_counted none_counted parts
 
@@ -89,7 +94,8 @@ pub record IsLastHistory (pool : PoolOf) (lanes : List LaneOf) (history : List A
   pub own : (index : ℕ) (lane : LaneOf) → slice_get lanes index ≡ Some lane → (the_lane lane.book).mine ≡ acts_of lane.number history
   -- every marked key has a reference
   pub held : (place : ℕ) (content : List ℕ) (references : ℕ → ℕ) → is_place pool.shape place ≡ true
-      → (pool_after pool.shape history place).phase ≡ published content references true → (lane : ℕ) × (lane < pool.shape.lanes) × (0 < references lane)
+      → (pool_after pool.shape history place).phase ≡ published content references true → (lane : ℕ) × (lane < pool.shape.lanes)
+      × (0 < references lane)
 
 -- a pool with these lanes is closed: one history stands, and the census is that of its places
 pub record Closes (pool : PoolOf) (lanes : List LaneOf) (census : Census) : Type 0 where
@@ -108,22 +114,26 @@ pub record IsLast {T : Type 0} (z : Shape) (history : List Act) (words : Words) 
   pub pages_is : state.pages ≡ lane.pages
   pub listed : (place : Place) → Contains lane.free.own place → IsKept z history lane (number_of place)
   pub chained : (place : ℕ) → has (the_lane lane.book).chain place ≡ true → IsKept z history lane place
-  pub unopened : (place : ℕ) → is_place z place ≡ true → shard_of place ≡ lane.number → lane.pages.opened ≤ page_of place → (pool_after z history place).phase ≡ with lane.number
+  pub unopened : (place : ℕ) → is_place z place ≡ true → shard_of place ≡ lane.number → lane.pages.opened ≤ page_of place
+      → (pool_after z history place).phase ≡ with lane.number
   pub first : IsFirst lane.free.chain (the_lane lane.book).chain
   pub leads : (word : ℕ) × Leads words.link lane.number word (the_lane lane.book).chain
 
 -- what the lanes keep, the last words of the pool and a history tell of each other
-pub record AreLast {T : Type 0} (z : Shape) (history : List Act) (lanes : List LaneOf) (states : List (LaneState T)) (words : Words) : Type 0 where
+pub record AreLast {T : Type 0} (z : Shape) (history : List Act) (lanes : List LaneOf) (states : List (LaneState T)) (words : Words) :
+    Type 0 where
   pub legal : IsLegal z history
   pub state : State z words history
   pub homes : (shard : ℕ) → shard < z.lanes → AreHome z shard words.link (words.stack shard) (home_in z history shard)
   pub alone : (place owner : ℕ) → is_place z place ≡ true → (pool_after z history place).phase ≡ with owner → shard_of place ≡ owner
   pub count : (length lanes ≡ z.lanes) × (length states ≡ z.lanes)
   pub all : (number : ℕ) → number < z.lanes → (index : ℕ) × (lane : LaneOf) × (slice_get lanes index ≡ Some lane) × (lane.number ≡ number)
-  pub each : (index : ℕ) (lane : LaneOf) (state : LaneState T) → slice_get lanes index ≡ Some lane → slice_get states index ≡ Some state → IsLast z history words lane state
+  pub each : (index : ℕ) (lane : LaneOf) (state : LaneState T) → slice_get lanes index ≡ Some lane → slice_get states index ≡ Some state
+      → IsLast z history words lane state
 
 -- ---- a place is one thing alone
 
 -- a place is in one part at most
 abbrev pub PartsLaw : Type 0
-PartsLaw = (history : List Act) (lane : LaneOf) (place : ℕ) (one other : Part) → IsPart history lane place one → IsPart history lane place other → one ≡ other
+PartsLaw = (history : List Act) (lane : LaneOf) (place : ℕ) (one other : Part) → IsPart history lane place one
+    → IsPart history lane place other → one ≡ other

@@ -89,7 +89,8 @@ pub record FromPage (place : ℕ) (made : List Act) (old new : LaneOf) : Type 0 
 
 -- which place a create hands out
 abbrev pub HandsOut : ℕ → List Act → LaneOf → LaneOf → Type 0
-HandsOut place made old new = FromList place made old new ⊎ (FromChain place made old new ⊎ (FromStack place made old new ⊎ FromPage place made old new))
+HandsOut place made old new = FromList place made old new
+    ⊎ (FromChain place made old new ⊎ (FromStack place made old new ⊎ FromPage place made old new))
 
 -- the list, the chain and the pages are as before
 abbrev pub SameFree : LaneOf → LaneOf → Type 0
@@ -129,7 +130,8 @@ Pops content room old new place object = (first : Place) × (place ≡ number_of
 pub record TakesReturned (old new : LaneOf) : Type 0 where
   pub none : ((the_lane old.book).chain ≢ []) ⊎ (old.pages.opened ≡ 0) → new ≡ old
   pub some : (the_lane old.book).chain ≡ [] → 0 < old.pages.opened
-      → (found : ℕ) × Collects {S = Unit {0}} old.shape old.pages.opened found (old.book, []) (new.book, []) × (found ≡ 0 → new.free ≡ old.free)
+      → (found : ℕ) × Collects {S = Unit {0}} old.shape old.pages.opened found (old.book, []) (new.book, [])
+      × (found ≡ 0 → new.free ≡ old.free)
   pub same : SameLane old new
   pub list : new.free.own ≡ old.free.own
   pub pages : new.pages ≡ old.pages

@@ -41,8 +41,10 @@ pub record IsKeeper {T : Type 0} (z : Shape) (directory : Ptr) (place : ℕ) (v 
 module _ {S T : Type 0} (content : T → List ℕ) (room : T → ℕ) (z : Shape) (place found : ℕ) where
   -- whatever follows the LEAVE that found this word: an own place that is then reclaimed isn't on the lane's list
   abbrev pub MayFinish : Me S View → LaneState T → Type 0
-  MayFinish before s = (after : Me S View) (reclaimed : Option (Reclaimed T)) → Ends z place found before after → EndsWithActs z place [] before.0 after.0 reclaimed
-      → IfSome reclaimed (IsReclaimed content room z place s.number after.0) → (whole : Whole T) → reclaimed ≡ Some (Own whole) → IsAway s.free (place_numbered place)
+  MayFinish before s = (after : Me S View) (reclaimed : Option (Reclaimed T)) → Ends z place found before after
+      → EndsWithActs z place [] before.0 after.0 reclaimed
+      → IfSome reclaimed (IsReclaimed content room z place s.number after.0) → (whole : Whole T) → reclaimed ≡ Some (Own whole)
+      → IsAway s.free (place_numbered place)
 
   -- what follows the LEAVE was done, and what became of the place is kept
   pub record Finishes (before after : Me S View) (s t : LaneState T) : Type 0 where
@@ -79,7 +81,8 @@ module _ {S T : Type 0} (content : T → List ℕ) (room : T → ℕ) (z : Shape
     pub clears : Clears content room z (spots_at directory z (place_of key)) key s.number looks before after marked reclaimed
     pub kept : Keeps (place_of key) reclaimed s t
 
-module _ {T : Type 0} (content : T → List ℕ) (room : T → ℕ) (grid : Grid T) (seat : Seat (Option (Share T)) View) (s : LaneState T) (here key : ℕ) where
+module _ {T : Type 0} (content : T → List ℕ) (room : T
+    → ℕ) (grid : Grid T) (seat : Seat (Option (Share T)) View) (s : LaneState T) (here key : ℕ) where
   -- the hand is one lane's of the grid, with no share in it; the key's place stands here, and the lane can keep what becomes of it
   pub record MayKeep : Type 0 where
     pub hand : IsOf grid seat × IsOne seat.me.0

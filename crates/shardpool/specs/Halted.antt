@@ -39,11 +39,13 @@ pub record GoesWithin {S : Type 0} (z : Shape) (place : ℕ) (done : List Step) 
 -- the first so many steps of the return of a place, after a LEAVE and a CLAIM that succeeded below the last generation, at a place of another shard
 abbrev pub GivesWithin : {S : Type 0} → Shape → ℕ → ℕ → Me S View → Me S View → Type 0
 GivesWithin z place limit before after = (leave claim : Step) → is_claimed (generation_in leave.before) claim.before ≡ true
-    → generation_in leave.before ≢ z.last_generation → shard_of place ≢ (the_lane before.0).lane → GoesWithin z place (leave ∷ claim ∷ []) limit before after
+    → generation_in leave.before ≢ z.last_generation → shard_of place ≢ (the_lane before.0).lane
+    → GoesWithin z place (leave ∷ claim ∷ []) limit before after
 
 -- the first so many of what follows a CLAIM of this generation that succeeded
 abbrev pub TailsWithin : {S : Type 0} → Shape → ℕ → ℕ → ℕ → Me S View → Me S View → Type 0
-TailsWithin z place generation limit before after = (leave claim : Step) → generation_in leave.before ≡ generation → is_claimed generation claim.before ≡ true
+TailsWithin z place generation limit before after = (leave claim : Step) → generation_in leave.before ≡ generation
+    → is_claimed generation claim.before ≡ true
     → GoesWithin z place (leave ∷ claim ∷ []) limit before after
 
 -- the first so many of what follows a LEAVE that found this word
@@ -53,7 +55,8 @@ EndsWithin z place found limit before after = (leave : Step) → leave.before �
 -- the first so many of a LEAVE of a key's place and what follows it: nothing where that is none
 abbrev pub LeavesWithin : {S : Type 0} → Shape → ℕ → ℕ → Me S View → Me S View → Type 0
 LeavesWithin {S = S} z key limit before after = ((limit ≡ 0) × (after ≡ before))
-    ⊎ ((found : ℕ) × (between : Me S View) × (0 < limit) × Leaves z key before found between × EndsWithin z (place_of key) found (limit - 1) between after)
+    ⊎ ((found : ℕ) × (between : Me S View) × (0 < limit) × Leaves z key before found between
+    × EndsWithin z (place_of key) found (limit - 1) between after)
 
 -- a FOLLOW, or nothing where no step may be made
 abbrev pub FollowsWithin : {S : Type 0} → Shape → ℕ → Me S View → Me S View → Type 0

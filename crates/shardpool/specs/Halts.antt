@@ -54,7 +54,8 @@ pub record HaltsIn {T : Type 0} (lane : LaneOf) (call : LastCall T) (limit : ℕ
 -- ---- the parts of a halt
 
 -- the hand and the state are those of a lane of the pool
-pub record AreParts {T : Type 0} (content : T → List ℕ) (room : T → ℕ) (pool : PoolOf) (hand : Seat (Option (Share T)) View) (state : LaneState T) : Type 0 where
+pub record AreParts {T : Type 0} (content : T → List ℕ) (room : T
+    → ℕ) (pool : PoolOf) (hand : Seat (Option (Share T)) View) (state : LaneState T) : Type 0 where
   pub table : hand.table_id ≡ pool.table
   pub directory : state.objects.directory ≡ pool.directory
   pub bare : hand.me.1 ≡ []

@@ -10,5 +10,6 @@ pub record HeldKey (T : Type 0) : Type 0 where
 
 -- a code for rows, by one for objects
 abbrev pub held_key_code : {T : Type 0} → Coded T → Coded (HeldKey T)
-held_key_code {T} code = code_by ((ℕ × ℕ) × Option (Share T)) (coded× (coded× coded_ℕ coded_ℕ) (coded_option (share_code code))) (λ h. ((h.generation, h.count), h.share))
+held_key_code {T} code = code_by ((ℕ × ℕ)
+    × Option (Share T)) (coded× (coded× coded_ℕ coded_ℕ) (coded_option (share_code code))) (λ h. ((h.generation, h.count), h.share))
     (λ p. record { generation = p.0.0; count = p.0.1; share = p.1 }) (λ _. refl)

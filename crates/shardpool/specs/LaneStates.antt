@@ -53,7 +53,8 @@ pub record FitsRights {T : Type 0} (z : Shape) (v : View) (objects : ObjectsOf T
   pub first_is : objects.first ≡ shard_start z (the_lane v).lane
   pub wide : objects.wide ≡ slot_row z
   pub narrow : length objects.rights ≡ shard_places z
-  pub has_right : (place : ℕ) → is_place z place ≡ true → shard_of place ≡ (the_lane v).lane → left_with z place (the_lane v).mine true ≡ true
+  pub has_right : (place : ℕ) → is_place z place ≡ true → shard_of place ≡ (the_lane v).lane
+      → left_with z place (the_lane v).mine true ≡ true
       → has (the_lane v).chain place ≡ false → slice_get objects.rights (index_of z place) ≡ Some true
 
 module _ {T : Type 0} (content : T → List ℕ) (room : T → ℕ) (z : Shape) where
@@ -78,7 +79,8 @@ module _ {T : Type 0} (content : T → List ℕ) (room : T → ℕ) (z : Shape) 
     pub wide : length rows ≡ slot_row z
     pub total : sum_by (λ row. row.count) rows ≡ references
     pub by_acts : references ≡ held_after (the_lane v).mine 0
-    pub each : (place : ℕ) (row : HeldKey T) → is_place z place ≡ true → slice_get rows (slot_start z place) ≡ Some row → FitsRow v place row
+    pub each : (place : ℕ) (row : HeldKey T) → is_place z place ≡ true → slice_get rows (slot_start z place) ≡ Some row
+        → FitsRow v place row
 
   -- a place of the own list: of an opened page, and blank; its object is with the lane, empty and with at least its room
   pub record IsListed (v : View) (opened : ℕ) (objects : List (Option T)) (place : Place) : Type 0 where
@@ -94,7 +96,8 @@ module _ {T : Type 0} (content : T → List ℕ) (room : T → ℕ) (z : Shape) 
     pub paged : (pages.shard ≡ (the_lane v).lane) × (pages.shape ≡ shape_of z.first_page z.pages)
     pub narrow : length objects ≡ shard_places z
     pub listed : (place : Place) → Contains free.own place → IsListed v pages.opened objects place
-    pub unopened : (place : ℕ) → is_place z place ≡ true → shard_of place ≡ (the_lane v).lane → pages.opened ≤ page_of place → IsBlank z v place 0
+    pub unopened : (place : ℕ) → is_place z place ≡ true → shard_of place ≡ (the_lane v).lane → pages.opened ≤ page_of place
+        → IsBlank z v place 0
     pub chained : (place : ℕ) → has (the_lane v).chain place ≡ true → IsResting z v place × (page_of place < pages.opened)
     pub unrepeated : NoRepeats (the_lane v).chain
     pub first : IsFirst free.chain (the_lane v).chain

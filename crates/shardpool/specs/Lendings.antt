@@ -32,7 +32,10 @@ pub record LendsHome {T : Type 0} (z : Shape) (key : ℕ) (before after : Me (Op
   pub still : 1 < row.count → IsUnmoved (place_of key) (the_lane before.0) (the_lane after.0) × (share ≡ row.share)
 
 -- the row of the key's place has one reference more, to this key, with what was fetched of its share
-pub record Gains {T : Type 0} (content : T → List ℕ) (room : T → ℕ) (spots : ℕ → CellSpot) (z : Shape) (spot : Spot) (key : ℕ) (row : HeldKey T) (before after : Me (Option (Share T)) View) (old new : LaneState T) : Type 0 where
+pub record Gains {T : Type 0} (content : T → List ℕ) (room : T → ℕ) (spots : ℕ
+    → CellSpot) (z : Shape) (spot : Spot) (key : ℕ) (row : HeldKey T) (before after : Me (Option (Share T)) View) (old new : LaneState T)
+    : Type 0 where
   pub share : Option (Share T)
   pub fetches : Fetches content room spots z spot.place old.number before row.share share after
-  pub rows : new.rows.items ≡ slice_set old.rows.items spot.start (record { generation = generation_of key; count = row.count + 1; share = share })
+  pub rows : new.rows.items ≡ slice_set old.rows.items spot.start
+      (record { generation = generation_of key; count = row.count + 1; share = share })

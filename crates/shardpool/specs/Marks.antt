@@ -40,7 +40,8 @@ pub record IsThread (z : Shape) (words : List ℕ) (shard word : ℕ) (thread : 
 
 -- these are the places on the stacks of a shard, for each other lane a list
 abbrev pub AreThreads : Shape → List ℕ → ℕ → (ℕ → List ℕ) → Type 0
-AreThreads z words shard threads = (lane : ℕ) → lane < z.lanes → lane ≢ shard → IsThread z words shard ((words_in z words).stack shard lane) (threads lane)
+AreThreads z words shard threads = (lane : ℕ) → lane < z.lanes → lane ≢ shard
+    → IsThread z words shard ((words_in z words).stack shard lane) (threads lane)
 
 -- the places of all these lists, but for the one that the shard itself would have
 abbrev pub stacked : ℕ → (ℕ → List ℕ) → ℕ → List ℕ

@@ -52,7 +52,14 @@ pub record IsFirstState {T : Type 0} (z : PoolShape) (directory : Ptr) (number :
   pub last_pushed : s.last_pushed.items ≡ replicate z.lanes 0
   pub free : s.free ≡ record { shard = number; shape = shape_of z.first_page z.pages; own = []; chain = None; room = s.free.room }
   pub pages : s.pages ≡ record { shard = number; shape = shape_of z.first_page z.pages; opened = 0 }
-  pub objects : s.objects ≡ record { directory = directory; first = shard_start z number; items = replicate (shard_places z) None; rights = replicate (shard_places z) false; wide = slot_row z }
+  pub objects : s.objects ≡ record {
+    directory = directory;
+    first = shard_start z number;
+    items = replicate (shard_places z) None;
+    rights = replicate (shard_places z)
+        false;
+    wide = slot_row z;
+  }
   pub places : s.places.shape ≡ z
 
 -- these are the hands of the lanes of the table, by rising number, with what each keeps before it has a right to a place

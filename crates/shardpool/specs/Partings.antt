@@ -11,7 +11,15 @@ use Rattle.shardpool.specs.LaneStates.{Fits}
 module _ {T : Type 0} (content : T → List ℕ) (room : T → ℕ) where
   -- the lane is that of this hand and this state, which fit each other, and the places of its list are its own
   pub record IsParted (lane : LaneOf) (hand : Seat (Option (Share T)) View) (state : LaneState T) : Type 0 where
-    pub lane_is : lane ≡ record { table = hand.table_id; directory = state.objects.directory; shape = state.shape; number = state.number; book = hand.me.0; free = state.free; pages = state.pages }
+    pub lane_is : lane ≡ record {
+      table = hand.table_id;
+      directory = state.objects.directory;
+      shape = state.shape;
+      number = state.number;
+      book = hand.me.0;
+      free = state.free;
+      pages = state.pages;
+    }
     pub empty : hand.me.1 ≡ []
     pub fits : Fits content room state.shape hand.me.0 state
     pub free : AreFree state.free

@@ -28,12 +28,14 @@ module _ {T : Type 0} where
 
   -- the share under a lane's references to a place is in the lane's slot of it
   abbrev pub IsBack : Shape → ℕ → List (HeldKey T) → List (Option (Share T)) → Type 0
-  IsBack z number rows slots = (place : ℕ) → is_place z place ≡ true → (row : HeldKey T) (s : Share T) → slice_get rows (slot_start z place) ≡ Some row → 0 < row.count → row.share ≡ Some s
+  IsBack z number rows slots = (place : ℕ) → is_place z place ≡ true → (row : HeldKey T) (s : Share T)
+      → slice_get rows (slot_start z place) ≡ Some row → 0 < row.count → row.share ≡ Some s
       → slice_get slots (slot_index z place number) ≡ Some (Some s)
 
   -- no row of the lane that counts a reference has its slot at this index
   abbrev pub IsOff : Shape → ℕ → List (HeldKey T) → ℕ → Type 0
-  IsOff z number rows index = (place : ℕ) → is_place z place ≡ true → (row : HeldKey T) → slice_get rows (slot_start z place) ≡ Some row → 0 < row.count → index ≢ slot_index z place number
+  IsOff z number rows index = (place : ℕ) → is_place z place ≡ true → (row : HeldKey T) → slice_get rows (slot_start z place) ≡ Some row
+      → 0 < row.count → index ≢ slot_index z place number
 
   -- the shares of a lane's rows are in the lane's slots, and every other slot is as before
   pub record GivesBack (z : Shape) (number : ℕ) (rows : List (HeldKey T)) (old new : Slots (Option (Share T))) : Type 0 where
@@ -43,11 +45,14 @@ module _ {T : Type 0} where
     pub start : slots_ptr new ≡ slots_ptr old
 
   -- the shares of the rows of the first places are in the lane's slots, and the others are left
-  pub record GivesTo (z : Shape) (number : ℕ) (rows : List (HeldKey T)) (count : ℕ) (left : List (HeldKey T)) (old new : Slots (Option (Share T))) : Type 0 where
-    pub back : (place : ℕ) → is_place z place ≡ true → position_of z place < count → (row : HeldKey T) (s : Share T) → slice_get rows (slot_start z place) ≡ Some row
+  pub record GivesTo (z : Shape) (number : ℕ) (rows : List (HeldKey T)) (count : ℕ) (left : List (HeldKey T))
+      (old new : Slots (Option (Share T))) : Type 0 where
+    pub back : (place : ℕ) → is_place z place ≡ true → position_of z place < count → (row : HeldKey T) (s : Share T)
+        → slice_get rows (slot_start z place) ≡ Some row
         → 0 < row.count → row.share ≡ Some s → slice_get (slots_items new) (slot_index z place number) ≡ Some (Some s)
     pub kept : (index : ℕ) → IsOff z number rows index → slice_get (slots_items new) index ≡ slice_get (slots_items old) index
-    pub stay : (place : ℕ) → is_place z place ≡ true → count ≤ position_of z place → slice_get left (slot_start z place) ≡ slice_get rows (slot_start z place)
+    pub stay : (place : ℕ) → is_place z place ≡ true → count ≤ position_of z place
+        → slice_get left (slot_start z place) ≡ slice_get rows (slot_start z place)
     pub wide : length left ≡ length rows
     pub row : IsSlotRow z new
     pub start : slots_ptr new ≡ slots_ptr old
@@ -56,7 +61,8 @@ module _ {T : Type 0} where
   pub record MayHandBack (z : Shape) (states : List (LaneState T)) : Type 0 where
     pub below : (i : ℕ) (state : LaneState T) → slice_get states i ≡ Some state → state.number < z.lanes
     pub wide : (i : ℕ) (state : LaneState T) → slice_get states i ≡ Some state → length state.rows.items ≡ slot_row z
-    pub once : (i j : ℕ) (one other : LaneState T) → slice_get states i ≡ Some one → slice_get states j ≡ Some other → one.number ≡ other.number → i ≡ j
+    pub once : (i j : ℕ) (one other : LaneState T) → slice_get states i ≡ Some one → slice_get states j ≡ Some other
+        → one.number ≡ other.number → i ≡ j
 
   -- it is the state without its rows
   abbrev pub IsStripped : LaneState T → LaneState T → Type 0
@@ -65,7 +71,8 @@ module _ {T : Type 0} where
   -- each of these is a state of those, but for its rows
   abbrev pub AreStripped : List (LaneState T) → List (LaneState T) → Type 0
   AreStripped states left = (length left ≡ length states)
-      × ((i : ℕ) (one : LaneState T) → slice_get left i ≡ Some one → (state : LaneState T) × (slice_get states i ≡ Some state) × IsStripped state one)
+      × ((i : ℕ) (one : LaneState T) → slice_get left i ≡ Some one → (state : LaneState T) × (slice_get states i ≡ Some state)
+      × IsStripped state one)
 
   -- so the shares of all rows are in their slots, and every other slot is as before
   pub record HandsBack (z : Shape) (states : List (LaneState T)) (old new : Slots (Option (Share T))) : Type 0 where
@@ -76,18 +83,22 @@ module _ {T : Type 0} where
     pub start : slots_ptr new ≡ slots_ptr old
 
   -- what the slots have when all shares are back: each published place its shares, and each place that is home or on a lane's taken chain its cell
-  pub record HasCells (spots : ℕ → CellSpot) (z : Shape) (history : List Act) (lanes : List LaneOf) (slots : List (Option (Share T))) : Type 0 where
+  pub record HasCells (spots : ℕ
+      → CellSpot) (z : Shape) (history : List Act) (lanes : List LaneOf) (slots : List (Option (Share T))) : Type 0 where
     pub spread : (place : ℕ) → is_place z place ≡ true → (content : List ℕ) (references : ℕ → ℕ) (mark : Bool)
         → (pool_after z history place).phase ≡ published content references mark → IsSpread spots z slots place
     pub returned : (place : ℕ) → is_place z place ≡ true → (pool_after z history place).phase ≡ home → IsResting spots z slots place
-    pub taken : (index : ℕ) (lane : LaneOf) (place : ℕ) → is_place z place ≡ true → slice_get lanes index ≡ Some lane → has (the_lane lane.book).chain place ≡ true
+    pub taken : (index : ℕ) (lane : LaneOf) (place : ℕ) → is_place z place ≡ true → slice_get lanes index ≡ Some lane
+        → has (the_lane lane.book).chain place ≡ true
         → IsResting spots z slots place
 
   -- the slots of a place have no cell more, where they had one
   pub record IsDrained (z : Shape) (history : List Act) (lanes : List LaneOf) (slots : List (Option (Share T))) (place : ℕ) : Type 0 where
-    pub spread : (content : List ℕ) (references : ℕ → ℕ) (mark : Bool) → (pool_after z history place).phase ≡ published content references mark → IsUnspread z slots place
+    pub spread : (content : List ℕ) (references : ℕ → ℕ) (mark : Bool)
+        → (pool_after z history place).phase ≡ published content references mark → IsUnspread z slots place
     pub returned : (pool_after z history place).phase ≡ home → IsUnrested z slots place
-    pub taken : (index : ℕ) (lane : LaneOf) → slice_get lanes index ≡ Some lane → has (the_lane lane.book).chain place ≡ true → IsUnrested z slots place
+    pub taken : (index : ℕ) (lane : LaneOf) → slice_get lanes index ≡ Some lane → has (the_lane lane.book).chain place ≡ true
+        → IsUnrested z slots place
 
   -- the slots are as before, but perhaps those of the shard's places, which have no cell more by these lifecycle words
   pub record DrainsShard (z : Shape) (shard : ℕ) (life : ℕ → ℕ) (old new : Slots (Option (Share T))) : Type 0 where

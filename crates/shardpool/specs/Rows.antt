@@ -10,7 +10,8 @@ use Rattle.shardpool.specs.HeldKeys.{HeldKey}
 
 -- the share of a row is of the cell whose word has the row's number
 abbrev pub AreStanding : {T : Type 0} → Ptr → List (HeldKey T) → Type 0
-AreStanding {T} directory rows = (at : ℕ) (row : HeldKey T) (s : Share T) → slice_get rows at ≡ Some row → row.share ≡ Some s → s.spot ≡ record { directory = directory; index = at }
+AreStanding {T} directory rows = (at : ℕ) (row : HeldKey T) (s : Share T) → slice_get rows at ≡ Some row → row.share ≡ Some s
+    → s.spot ≡ record { directory = directory; index = at }
 
 -- the number that tells where the places of a pool stand: how large the first page of a shard is, and how many pages it has
 abbrev pub pages_code : Shape → ℕ

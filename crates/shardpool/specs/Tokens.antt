@@ -33,7 +33,8 @@ pub record FillingOf (T : Type 0) : Type 0 where
 
 -- a code for fillings, by one for their objects
 abbrev pub filling_code : {T : Type 0} → Coded T → Coded (FillingOf T)
-filling_code {T} code = code_by ((TableId × ℕ) × (ℕ × T)) (coded× (coded× table_id_coded coded_ℕ) (coded× coded_ℕ code)) (λ s. ((s.table, s.key), (s.start, s.object)))
+filling_code {T} code = code_by ((TableId × ℕ)
+    × (ℕ × T)) (coded× (coded× table_id_coded coded_ℕ) (coded× coded_ℕ code)) (λ s. ((s.table, s.key), (s.start, s.object)))
     (λ p. record { table = p.0.0; key = p.0.1; start = p.1.0; object = p.1.1 }) (λ _. refl)
 
 -- a reference: its key

@@ -30,7 +30,8 @@ pub(crate) fn take_cell<T: Clear + Drop>(
     ensures place { HasPlace grid.now.shape hand.new.me.0 spot.place }
     ensures carries { Carries grid.now.shape spot.place 2 hand.old.me hand.new.me }
     ensures slots { AreEmptied grid.now.shape (the_lane hand.new.me.0) spot.place }
-    ensures cell { ShowsCell T.content T.room (spots_at grid.now.objects.ptr grid.now.shape) spot.place (known_of (the_lane hand.old.me.0) spot.place) result }
+    ensures cell { ShowsCell T.content T.room (spots_at grid.now.objects.ptr grid.now.shape) spot.place
+        (known_of (the_lane hand.old.me.0) spot.place) result }
 {
     shares_law();
     grid.out_all(hand, spot, lane).into_whole()
@@ -53,7 +54,8 @@ pub(crate) fn take_resting<T: Clear + Drop>(
     ensures place { HasPlace grid.now.shape hand.new.me.0 spot.place }
     ensures carries { Carries grid.now.shape spot.place 2 hand.old.me hand.new.me }
     ensures slots { AreEmptied grid.now.shape (the_lane hand.new.me.0) spot.place }
-    ensures cell { ShowsCell T.content T.room (spots_at grid.now.objects.ptr grid.now.shape) spot.place (known_of (the_lane hand.old.me.0) spot.place) result }
+    ensures cell { ShowsCell T.content T.room (spots_at grid.now.objects.ptr grid.now.shape) spot.place
+        (known_of (the_lane hand.old.me.0) spot.place) result }
 {
     shares_law();
     Rest::of_last(grid.out_whole(hand, spot, lane)).into_whole()
@@ -79,7 +81,8 @@ pub(crate) fn spread_cell<T: Clear + Drop>(
     ensures place { HasPlace grid.now.shape hand.new.me.0 spot.place }
     ensures carries { Carries grid.now.shape spot.place 2 hand.old.me hand.new.me }
     ensures slots { LeftAlone grid.now.shape (the_lane hand.new.me.0) spot.place }
-    ensures cell { ShowsCell T.content T.room (spots_at grid.now.objects.ptr grid.now.shape) spot.place (known_of (the_lane hand.new.me.0) spot.place) whole }
+    ensures cell { ShowsCell T.content T.room (spots_at grid.now.objects.ptr grid.now.shape) spot.place
+        (known_of (the_lane hand.new.me.0) spot.place) whole }
 {
     shares_law();
     grid.back_all(hand, spot, lane, whole.lend(grid.shape.lanes as usize));
@@ -104,9 +107,11 @@ pub(crate) fn spread_others<T: Clear + Drop>(
     ensures hand { SameSeat hand.old hand.new × IsOne hand.new.me.0 }
     ensures place { HasPlace grid.now.shape hand.new.me.0 spot.place }
     ensures carries { Carries grid.now.shape spot.place 4 hand.old.me hand.new.me }
-    ensures others { (number : ℕ) → number < grid.now.shape.lanes → number ≢ lane → status_of (the_lane hand.new.me.0) spot.place number ≡ Untouched }
+    ensures others { (number : ℕ) → number < grid.now.shape.lanes → number ≢ lane
+        → status_of (the_lane hand.new.me.0) spot.place number ≡ Untouched }
     ensures own { status_of (the_lane hand.new.me.0) spot.place lane ≡ Emptied }
-    ensures share { (result.number ≡ lane) × (result.of ≡ grid.now.shape.lanes) × (T.content result.object ≡ T.content whole.object) × (T.room result.object ≡ T.room whole.object) × (result.spot ≡ spots_at grid.now.objects.ptr grid.now.shape spot.place) }
+    ensures share { (result.number ≡ lane) × (result.of ≡ grid.now.shape.lanes) × (T.content result.object ≡ T.content whole.object)
+        × (T.room result.object ≡ T.room whole.object) × (result.spot ≡ spots_at grid.now.objects.ptr grid.now.shape spot.place) }
     ensures cell { MayRenew grid.now.shape hand.new.me.0 spot.place (stored_of T.content T.room result) }
 {
     shares_law();
@@ -133,7 +138,8 @@ pub(crate) fn rest_cell<T: Clear + Drop>(
     ensures place { HasPlace grid.now.shape hand.new.me.0 spot.place }
     ensures carries { Carries grid.now.shape spot.place 2 hand.old.me hand.new.me }
     ensures slots { AreAtRest grid.now.shape (the_lane hand.new.me.0) spot.place }
-    ensures cell { ShowsCell T.content T.room (spots_at grid.now.objects.ptr grid.now.shape) spot.place (known_of (the_lane hand.new.me.0) spot.place) whole }
+    ensures cell { ShowsCell T.content T.room (spots_at grid.now.objects.ptr grid.now.shape) spot.place
+        (known_of (the_lane hand.new.me.0) spot.place) whole }
 {
     shares_law();
     grid.back_whole(hand, spot, lane, whole.lend(1).into_share());

@@ -92,17 +92,20 @@ pub(crate) fn take_census<T: Drop>(
     requires shape { IsShape shape.now }
     requires words { IsFull words.old × (slots_len words.old ≡ word_count shape.now) }
     requires slots { IsSlotRow shape.now slots.old }
-    requires last { (history : List Act) × (lanes : List LaneOf) × AreLast shape.now history lanes states.items (words_in shape.now (slots_items words.old))
+    requires last { (history : List Act) × (lanes : List LaneOf)
+        × AreLast shape.now history lanes states.items (words_in shape.now (slots_items words.old))
         × HasCells (spots_at directory.ptr shape.now) shape.now history lanes (slots_items slots.old) }
     requires objects { All (λ state. (state.objects.directory ≡ directory.ptr) × (state.objects.wide ≡ slot_row shape.now)) states.items }
     requires rights { (rights.old.items ≡ []) × (length states.items ≤ vec_capacity rights.old) }
     ensures rights { All (λ lane. lane.directory ≡ directory.ptr) rights.new.items }
-    ensures census { (history : List Act) (lanes : List LaneOf) → AreLast shape.now history lanes states.items (words_in shape.now (slots_items words.old))
+    ensures census { (history : List Act) (lanes : List LaneOf)
+        → AreLast shape.now history lanes states.items (words_in shape.now (slots_items words.old))
         → IsCensus shape.now history lanes result }
     ensures adds { places_counted result ≡ all_places shape.now }
     ensures words { IsFull words.new × (slots_len words.new ≡ slots_len words.old) × (slots_ptr words.new ≡ slots_ptr words.old) }
     ensures slots { IsSlotRow shape.now slots.new × (slots_ptr slots.new ≡ slots_ptr slots.old) }
-    ensures gone { (history : List Act) (lanes : List LaneOf) → AreLast shape.now history lanes states.items (words_in shape.now (slots_items words.old))
+    ensures gone { (history : List Act) (lanes : List LaneOf)
+        → AreLast shape.now history lanes states.items (words_in shape.now (slots_items words.old))
         → (place : ℕ) → is_place shape.now place ≡ true → IsDrained shape.now history lanes (slots_items slots.new) place }
 {
     let mut census = Census::none();
@@ -142,7 +145,8 @@ fn mark_returned(shape: &Shape, shard: u32, free: &LocalFree, words: &mut Slots<
     requires shape { IsShape shape.now }
     requires shard { shard < shape.now.lanes }
     requires row { IsRow shape.now words.old }
-    requires free { (chain : List ℕ) × (threads : ℕ → List ℕ) × AreFreePlaces shape.now (slots_items words.old) shard free.now chain threads }
+    requires free { (chain : List ℕ) × (threads : ℕ → List ℕ)
+        × AreFreePlaces shape.now (slots_items words.old) shard free.now chain threads }
     ensures { (chain : List ℕ) (threads : ℕ → List ℕ) → AreFreePlaces shape.now (slots_items words.old) shard free.now chain threads
         → Blanks shape.now (returned_places shape.now shard chain threads) words.old words.new }
 {
@@ -189,7 +193,8 @@ fn mark_thread(shape: &Shape, shard: u32, mut word: u64, words: &mut Slots<u64>)
     requires shard { shard < shape.now.lanes }
     requires row { IsRow shape.now words.old }
     requires thread { (thread : List ℕ) × IsThread shape.now (slots_items words.old) shard word thread }
-    ensures { (thread : List ℕ) → IsThread shape.now (slots_items words.old) shard word thread → Blanks shape.now thread words.old words.new }
+    ensures { (thread : List ℕ) → IsThread shape.now (slots_items words.old) shard word thread
+        → Blanks shape.now thread words.old words.new }
 {
     while word != 0 {
         let place = linked_place(shard, word);
@@ -223,7 +228,8 @@ fn drop_cells<T: Drop>(
     requires words { IsRow shape.now words.now }
     requires row { IsSlotRow shape.now slots.old }
     requires cells { (place : ℕ) → is_place shape.now place ≡ true → shard_of place ≡ shard
-        → HasCell (spots_at directory.ptr shape.now) shape.now (slots_items slots.old) place ((words_in shape.now (slots_items words.now)).life place) }
+        → HasCell (spots_at directory.ptr shape.now) shape.now (slots_items slots.old) place
+        ((words_in shape.now (slots_items words.now)).life place) }
     requires objects { (objects.old.directory ≡ directory.ptr) × (objects.old.wide ≡ slot_row shape.now) }
     ensures objects { objects.new ≡ objects.old }
     ensures drains { DrainsShard shape.now shard (words_in shape.now (slots_items words.now)).life slots.old slots.new }

@@ -49,7 +49,8 @@ pub(crate) fn clear_and_keep<T: Clear + Drop>(
 ) -> bool
     requires call { MayClearAndKeep T.content T.room grid.now hand.old state.old start key }
     ensures hand { SameSeat hand.old hand.new }
-    ensures clears { ClearsAndKeeps T.content T.room grid.now.shape key grid.now.objects.ptr (most_call_looks + 2) hand.old.me hand.new.me state.old state.new result }
+    ensures clears { ClearsAndKeeps T.content T.room grid.now.shape key grid.now.objects.ptr (most_call_looks + 2) hand.old.me hand.new.me
+        state.old state.new result }
 {
     let spot = Spot {
         place: place_of(key),
@@ -80,7 +81,8 @@ fn clear_by_steps_and_keep<T: Clear + Drop>(
 ) -> bool
     requires call { MayClearAndKeep T.content T.room grid.now hand.old state.old start key }
     ensures hand { SameSeat hand.old hand.new }
-    ensures clears { ClearsAndKeeps T.content T.room grid.now.shape key grid.now.objects.ptr most_call_looks hand.old.me hand.new.me state.old state.new result }
+    ensures clears { ClearsAndKeeps T.content T.room grid.now.shape key grid.now.objects.ptr most_call_looks hand.old.me hand.new.me
+        state.old state.new result }
 {
     let spot = Spot {
         place: place_of(key),
@@ -109,7 +111,9 @@ pub(crate) fn try_clear<T: Clear + Drop>(
     requires call { MayCall grid.now hand.old key at }
     requires key { is_key grid.now.shape key ≡ true }
     ensures hand { SameSeat hand.old hand.new }
-    ensures clears { IfSome result (λ answer. Clears T.content T.room grid.now.shape (spots_at grid.now.objects.ptr grid.now.shape (place_of key)) key at.entry.lane (most_call_looks + 1)
+    ensures clears { IfSome result
+        (λ answer. Clears T.content T.room grid.now.shape (spots_at grid.now.objects.ptr grid.now.shape (place_of key)) key at.entry.lane
+        (most_call_looks + 1)
         hand.old.me hand.new.me answer.0 answer.1) }
     ensures looks { IsNone result → LooksTwice grid.now.shape hand.old.me hand.new.me }
 {
@@ -143,7 +147,8 @@ pub(crate) fn clear_by_steps<T: Clear + Drop>(
     requires call { MayCall grid.now hand.old key at }
     requires key { is_key grid.now.shape key ≡ true }
     ensures hand { SameSeat hand.old hand.new }
-    ensures clears { Clears T.content T.room grid.now.shape (spots_at grid.now.objects.ptr grid.now.shape (place_of key)) key at.entry.lane most_call_looks
+    ensures clears { Clears T.content T.room grid.now.shape (spots_at grid.now.objects.ptr grid.now.shape (place_of key)) key
+        at.entry.lane most_call_looks
         hand.old.me hand.new.me result.0 result.1 }
 {
     let found = grid.enter(hand, at.spot, key, Purpose::ToClear);

@@ -329,7 +329,8 @@ pub(crate) fn follow<T: Clear + Drop>(
     ensures hand { SameSeat hand.old hand.new }
     ensures follows { FollowsOut grid.now.shape spot.place result.0 hand.old.me hand.new.me }
     ensures place { (pool_after grid.now.shape hand.new.me.0.seen spot.place).phase ≡ with lane }
-    ensures cell { ShowsCell T.content T.room (spots_at grid.now.objects.ptr grid.now.shape) spot.place (known_of (the_lane hand.old.me.0) spot.place) result.1 }
+    ensures cell { ShowsCell T.content T.room (spots_at grid.now.objects.ptr grid.now.shape) spot.place
+        (known_of (the_lane hand.old.me.0) spot.place) result.1 }
 {
     let link = grid.follow(hand, spot);
     (link, take_resting(grid, hand, spot, lane))

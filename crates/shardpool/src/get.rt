@@ -139,10 +139,12 @@ pub(crate) fn gain_reference<T: Clear + Drop>(
     requires at { spot.start < length state.old.rows.items }
     requires room { state.old.references < most_references }
     requires may { MayTouch grid.now.shape hand.old.me.0 spot.place state.old.number }
-    requires left { (status_of (the_lane hand.old.me.0) spot.place state.old.number ≡ Untouched) ⊎ (status_of (the_lane hand.old.me.0) spot.place state.old.number ≡ Emptied) }
+    requires left { (status_of (the_lane hand.old.me.0) spot.place state.old.number ≡ Untouched)
+        ⊎ (status_of (the_lane hand.old.me.0) spot.place state.old.number ≡ Emptied) }
     ensures hand { SameSeat hand.old hand.new }
     ensures gains { (row : Shown T) → slice_get state.old.rows.items spot.start ≡ Some row
-        → Gains T.content T.room (spots_at grid.now.objects.ptr grid.now.shape) grid.now.shape spot key row hand.old.me hand.new.me state.old state.new }
+        → Gains T.content T.room (spots_at grid.now.objects.ptr grid.now.shape) grid.now.shape spot key row hand.old.me hand.new.me
+        state.old state.new }
     ensures rest { state.new ≡ record state.old { rows = state.new.rows; references = state.old.references + 1 } }
 {
     let number = state.number;
@@ -166,7 +168,8 @@ pub(crate) fn add_first_reference<T: Drop>(
 )
     requires at { at < length state.old.rows.items }
     requires room { state.old.references < most_references }
-    ensures rows { state.new.rows.items ≡ slice_set state.old.rows.items at (record { generation = generation_of key; count = 1; share = Some share }) }
+    ensures rows { state.new.rows.items
+        ≡ slice_set state.old.rows.items at (record { generation = generation_of key; count = 1; share = Some share }) }
     ensures rest { state.new ≡ record state.old { rows = state.new.rows; references = state.old.references + 1 } }
 {
     state.rows[at] = HeldKey {

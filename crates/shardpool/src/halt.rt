@@ -158,7 +158,9 @@ impl<T: Clear + Drop> Pool<T> {
     fn halt_create(&self, hand: &mut Hand<T>, state: &LaneState<T>, limit: u32)
         requires parts { AreParts T.content T.room self.now hand.old state.now }
         ensures table { hand.new.table_id ≡ hand.old.table_id }
-        ensures called { CalledWithin self.now.shape (Creating (map number_of state.now.free.own) (the_lane hand.old.me.0).chain state.now.pages.opened) limit hand.old.me hand.new.me }
+        ensures called { CalledWithin self.now.shape
+            (Creating (map number_of state.now.free.own) (the_lane hand.old.me.0).chain state.now.pages.opened) limit hand.old.me
+            hand.new.me }
     {
         if state.free.len() > 0 {
             return;
@@ -210,7 +212,8 @@ pub(crate) fn release_within<T: Clear + Drop>(
     requires call { MayCall grid.now hand.old key at }
     requires seen { IsLawful grid.now.shape hand.old.me.0 }
     requires held { 0 < references_seen grid.now.shape hand.old.me.0 key }
-    requires share { 0 < limit → status_of (the_lane hand.old.me.0) (place_of key) at.lane ≢ Untouched → 1 < references_seen grid.now.shape hand.old.me.0 key }
+    requires share { 0 < limit → status_of (the_lane hand.old.me.0) (place_of key) at.lane ≢ Untouched
+        → 1 < references_seen grid.now.shape hand.old.me.0 key }
     ensures hand { SameSeat hand.old hand.new }
     ensures called { CalledWithin grid.now.shape (Releasing key) limit hand.old.me hand.new.me }
 {
@@ -280,7 +283,8 @@ pub(crate) fn follow_within<T: Clear>(grid: &Grid<T>, hand: &mut Hand<T>, spot: 
     requires chain { (the_lane hand.old.me.0).chain ≡ spot.place ∷ rest_of (the_lane hand.old.me.0).chain }
     requires seen { IsLawful grid.now.shape hand.old.me.0 }
     ensures hand { SameSeat hand.old hand.new }
-    ensures called { (opened : ℕ) → CalledWithin grid.now.shape (Creating [] (the_lane hand.old.me.0).chain opened) limit hand.old.me hand.new.me }
+    ensures called { (opened : ℕ) → CalledWithin grid.now.shape (Creating [] (the_lane hand.old.me.0).chain opened) limit hand.old.me
+        hand.new.me }
     ensures follows { FollowsWithin grid.now.shape limit hand.old.me hand.new.me }
 {
     if limit > 0 {

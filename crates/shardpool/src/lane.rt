@@ -94,12 +94,15 @@ impl<T: Clear> Lane<T> {
     /// the lane, and no place stands there twice; the chain hangs by its first place; each place of an unopened page is
     /// with the lane; and the references to a key are among all that the lane has.
     pub fn places_law(&self)
-        ensures listed { (place : Place) → Contains self.now.free.own place → IsKept self.now.shape self.now.book.seen self.now (number_of place) }
-        ensures chained { (place : ℕ) → has (the_lane self.now.book).chain place ≡ true → IsKept self.now.shape self.now.book.seen self.now place }
+        ensures listed { (place : Place) → Contains self.now.free.own place
+            → IsKept self.now.shape self.now.book.seen self.now (number_of place) }
+        ensures chained { (place : ℕ) → has (the_lane self.now.book).chain place ≡ true
+            → IsKept self.now.shape self.now.book.seen self.now place }
         ensures once { NoRepeats (numbers self.now.free.own) × NoRepeats (the_lane self.now.book).chain }
         ensures apart { (place : Place) → Contains self.now.free.own place → has (the_lane self.now.book).chain (number_of place) ≡ false }
         ensures first { self.now.free.chain ≡ first_place (the_lane self.now.book).chain }
-        ensures unopened { (place : ℕ) → is_place self.now.shape place ≡ true → shard_of place ≡ self.now.number → self.now.pages.opened ≤ page_of place
+        ensures unopened { (place : ℕ) → is_place self.now.shape place ≡ true → shard_of place ≡ self.now.number
+            → self.now.pages.opened ≤ page_of place
             → (pool_after self.now.shape self.now.book.seen place).phase ≡ with self.now.number }
         ensures held { (key : ℕ) → holds self.now key ≤ refs self.now }
     {

@@ -117,8 +117,10 @@ fn endow<T: Clear + Drop>(
 ) -> Vec<Lane<T>>
     requires parts { AreFirstParts grid.now parts.items }
     requires lanes { (lanes.items ≡ []) × (grid.now.shape.lanes ≤ vec_capacity lanes) }
-    requires directory { (directory.old.at ≡ grid.now.objects.ptr) × (directory.old.next ≡ 0) × (directory.old.count ≡ slot_row grid.now.shape) }
-    ensures lanes { AreFirstLanes (record { table = grid.now.table.shared.table_id; directory = grid.now.objects.ptr; shape = grid.now.shape }) result.items }
+    requires directory { (directory.old.at ≡ grid.now.objects.ptr) × (directory.old.next ≡ 0)
+        × (directory.old.count ≡ slot_row grid.now.shape) }
+    ensures lanes { AreFirstLanes (record
+        { table = grid.now.table.shared.table_id; directory = grid.now.objects.ptr; shape = grid.now.shape }) result.items }
     ensures directory { (directory.new.at ≡ directory.old.at) × (directory.new.next ≡ directory.new.count) }
 {
     let _ = grid;

@@ -39,7 +39,8 @@ impl<T: Clear> Model for Pool<T> {
 
     ghost view = { λ p. record { table = p.grid.table.shared.table_id; directory = p.grid.objects.ptr; shape = p.grid.shape } };
 
-    ghost invariant = { λ p. (p.states.items ≡ []) × (p.grid.shape.lanes ≤ vec_capacity p.states) × (p.rights.items ≡ []) × (p.grid.shape.lanes ≤ vec_capacity p.rights)
+    ghost invariant = { λ p. (p.states.items ≡ []) × (p.grid.shape.lanes ≤ vec_capacity p.states) × (p.rights.items ≡ [])
+        × (p.grid.shape.lanes ≤ vec_capacity p.rights)
         × (p.directory.at ≡ p.grid.objects.ptr) × (p.directory.next ≡ p.directory.count) };
 }
 

@@ -86,7 +86,8 @@ pub(crate) fn publish<T: Clear + Drop>(
     ensures acts { MadeOne hand.old.me.0 hand.new.me.0 (acts.Publish lane key (T.content whole.object) false) }
     ensures room { room_of hand.new.me.0.seen hand.new.me.0.rooms (place_of key) ≡ T.room whole.object }
     ensures slots { LeftAlone grid.now.shape (the_lane hand.new.me.0) (place_of key) }
-    ensures cell { ShowsCell T.content T.room (spots_at grid.now.objects.ptr grid.now.shape) (place_of key) (known_of (the_lane hand.new.me.0) (place_of key)) whole }
+    ensures cell { ShowsCell T.content T.room (spots_at grid.now.objects.ptr grid.now.shape) (place_of key)
+        (known_of (the_lane hand.new.me.0) (place_of key)) whole }
 {
     shares_law();
     spread_cell(grid, hand, spot, lane, whole);
@@ -115,7 +116,8 @@ pub(crate) fn downgrade<T: Clear + Drop>(
     ensures acts { MadeOne hand.old.me.0 hand.new.me.0 (acts.Publish lane key (T.content whole.object) true) }
     ensures room { room_of hand.new.me.0.seen hand.new.me.0.rooms (place_of key) ≡ T.room whole.object }
     ensures slot { status_of (the_lane hand.new.me.0) (place_of key) lane ≡ Emptied }
-    ensures share { (result.number ≡ lane) × (result.of ≡ grid.now.shape.lanes) × (T.content result.object ≡ T.content whole.object) × (result.spot ≡ spots_at grid.now.objects.ptr grid.now.shape (place_of key)) }
+    ensures share { (result.number ≡ lane) × (result.of ≡ grid.now.shape.lanes) × (T.content result.object ≡ T.content whole.object)
+        × (result.spot ≡ spots_at grid.now.objects.ptr grid.now.shape (place_of key)) }
     ensures cell { known_of (the_lane hand.new.me.0) (place_of key) ≡ stored_of T.content T.room result }
 {
     shares_law();

@@ -232,7 +232,8 @@ pub(crate) fn keep_reclaimed<T: Drop>(
     requires spot { IsSpot state.old.shape spot spot.place }
     requires narrow { length state.old.objects.items ≡ shard_places state.old.shape }
     requires wide { length state.old.last_pushed.items ≡ state.old.shape.lanes }
-    requires begins { (state.old.objects.first ≡ shard_start state.old.shape state.old.free.shard) × (state.old.objects.wide ≡ slot_row state.old.shape) }
+    requires begins { (state.old.objects.first ≡ shard_start state.old.shape state.old.free.shard)
+        × (state.old.objects.wide ≡ slot_row state.old.shape) }
     requires at { StandsAt (spots_at state.old.objects.directory state.old.shape spot.place) reclaimed }
     requires away { (whole : Cell T) → reclaimed ≡ Some (Own whole) → IsAway state.old.free (place_numbered spot.place) }
     ensures { Keeps spot.place reclaimed state.old state.new }

@@ -91,7 +91,8 @@ pub(crate) fn take_last_share<T: Drop>(state: &mut LaneState<T>, at: usize) -> S
     requires at { at < length state.old.rows.items }
     ensures some { (row : Shown T) → slice_get state.old.rows.items at ≡ Some row → row.count ≡ 1
         → (result ≡ row.share) × (state.new.rows.items ≡ slice_set state.old.rows.items at (record row { share = None })) }
-    ensures none { (row : Shown T) → slice_get state.old.rows.items at ≡ Some row → row.count ≢ 1 → (result ≡ None) × (state.new.rows.items ≡ state.old.rows.items) }
+    ensures none { (row : Shown T) → slice_get state.old.rows.items at ≡ Some row → row.count ≢ 1 → (result ≡ None)
+        × (state.new.rows.items ≡ state.old.rows.items) }
     ensures rest { state.new ≡ record state.old { rows = state.new.rows } }
 {
     let row = &mut state.rows[at];
@@ -107,7 +108,8 @@ pub(crate) fn drop_reference<T: Drop>(state: &mut LaneState<T>, at: usize)
     requires at { at < length state.old.rows.items }
     requires more { (row : Shown T) → slice_get state.old.rows.items at ≡ Some row → 0 < row.count }
     requires within { 0 < state.old.references }
-    ensures rows { (row : Shown T) → slice_get state.old.rows.items at ≡ Some row → state.new.rows.items ≡ slice_set state.old.rows.items at (record row { count = row.count - 1 }) }
+    ensures rows { (row : Shown T) → slice_get state.old.rows.items at ≡ Some row
+        → state.new.rows.items ≡ slice_set state.old.rows.items at (record row { count = row.count - 1 }) }
     ensures rest { state.new ≡ record state.old { rows = state.new.rows; references = state.old.references - 1 } }
 {
     let row = &mut state.rows[at];

@@ -37,7 +37,8 @@ pub(crate) fn hand_back<T: Drop>(
 /// The number of a lane, and its rows, which are taken out of its state.
 fn take_rows<T: Drop>(states: &mut Vec<LaneState<T>>, index: usize) -> (u32, Vec<HeldKey<T>>)
     requires { index < length states.old.items }
-    ensures taken { (state : Shown T) → slice_get states.old.items index ≡ Some state → (result.0 ≡ state.number) × (result.1.items ≡ state.rows.items) }
+    ensures taken { (state : Shown T) → slice_get states.old.items index ≡ Some state → (result.0 ≡ state.number)
+        × (result.1.items ≡ state.rows.items) }
     ensures left { (state : Shown T) → slice_get states.old.items index ≡ Some state
         → (left : Shown T) × IsStripped state left × (states.new.items ≡ slice_set states.old.items index left) }
 {
@@ -78,7 +79,8 @@ fn give_shard<T: Drop>(
     requires row { IsSlotRow shape.now slots.old }
     ensures wide { length rows.new.items ≡ slot_row shape.now }
     ensures row { IsSlotRow shape.now slots.new }
-    ensures gives { (all : List (Row T)) (first : SlotsOf (Option (Share T))) → GivesTo shape.now number all (shard * shard_places shape.now) rows.old.items first slots.old
+    ensures gives { (all : List (Row T)) (first : SlotsOf (Option (Share T)))
+        → GivesTo shape.now number all (shard * shard_places shape.now) rows.old.items first slots.old
         → GivesTo shape.now number all ((shard + 1) * shard_places shape.now) rows.new.items first slots.new }
 {
     let places = shape.shard_places() as usize;

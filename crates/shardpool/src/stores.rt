@@ -63,7 +63,8 @@ pub(crate) fn take_own<T: Drop>(state: &mut LaneState<T>) -> Option<(Place, u32,
     requires begins { state.old.objects.first ≡ shard_start state.old.shape state.old.free.shard }
     requires objects { (place : Shown) → Contains state.old.free.own place
         → (object : T) × (slice_get state.old.objects.items (index_of state.old.shape (number_of place)) ≡ Some (Some object)) }
-    ensures { MatchOption result ((state.old.free.own ≡ []) × (state.new ≡ state.old)) (λ taken. TakesOwn taken.0 taken.2.value state.old state.new
+    ensures { MatchOption result ((state.old.free.own ≡ [])
+        × (state.new ≡ state.old)) (λ taken. TakesOwn taken.0 taken.2.value state.old state.new
         × (taken.1 ≡ slot_start state.old.shape (number_of taken.0))) }
 {
     let place = state.free.pop()?;
@@ -133,7 +134,8 @@ pub(crate) fn hang<T: Drop>(state: &mut LaneState<T>, found: u64)
 pub(crate) fn open_next<T: Clear + Drop>(state: &mut LaneState<T>, objects: Vec<Box<T, Global>>)
     requires shape { IsShape state.old.shape }
     requires lane { state.old.number < state.old.shape.lanes }
-    requires lists { (state.old.free.shard ≡ state.old.number) × (state.old.free.shape ≡ shape_of state.old.shape.first_page state.old.shape.pages) }
+    requires lists { (state.old.free.shard ≡ state.old.number)
+        × (state.old.free.shape ≡ shape_of state.old.shape.first_page state.old.shape.pages) }
     requires paged { state.old.pages.shape ≡ shape_of state.old.shape.first_page state.old.shape.pages }
     requires placed { state.old.places.shape ≡ state.old.shape }
     requires begins { state.old.objects.first ≡ shard_start state.old.shape state.old.number }
@@ -143,7 +145,8 @@ pub(crate) fn open_next<T: Clear + Drop>(state: &mut LaneState<T>, objects: Vec<
     requires chain { state.old.free.chain ≡ None }
     requires count { length objects.items ≡ page_size state.old.shape state.old.pages.opened }
     requires empty { All (λ object. T.content object.value ≡ []) objects.items }
-    requires rights { (place : ℕ) → is_place state.old.shape place ≡ true → shard_of place ≡ state.old.number → page_of place ≡ state.old.pages.opened
+    requires rights { (place : ℕ) → is_place state.old.shape place ≡ true → shard_of place ≡ state.old.number
+        → page_of place ≡ state.old.pages.opened
         → slice_get state.old.objects.rights (index_of state.old.shape place) ≡ Some true }
     ensures { OpensNext T.content T.room state.old state.new }
 {

@@ -76,7 +76,8 @@ fn without_one<T: Trial>(
 ) -> Result<Option<Vec<u32>>, Unshortened>
     ensures some { IfOk result (λ found. IfSome found (λ left. IsPart left.items schedule.now × T.passes trial.old left.items
         × (length left.items < length schedule.now))) }
-    ensures none { IfOk result (λ found. found ≡ None → (at : ℕ) → at < length schedule.now → T.fails trial.old (without at 1 schedule.now)) }
+    ensures none { IfOk result (λ found. found ≡ None → (at : ℕ) → at < length schedule.now
+        → T.fails trial.old (without at 1 schedule.now)) }
     ensures err { IfErr result (GivesUp (T.is_spent trial.new)) }
     ensures same { IsSameTrial (T.passes trial.old) (T.fails trial.old) (T.passes trial.new) (T.fails trial.new) }
 {

@@ -29,7 +29,8 @@ impl<T> Model for Portion<T> {
 impl<T> Portion<T> {
     // All the parts of a new cell, which is to have `of` shares. The next share to be cut off has the number 0.
     pub(crate) fn lend(whole: Unboxed<T, Global>, of: usize) -> Portion<T>
-        ensures { (result.object ≡ whole.object) × (result.parts ≡ 2 ^ 63) × (result.owner ≡ true) × (result.number ≡ 0) × (result.of ≡ of) }
+        ensures { (result.object ≡ whole.object) × (result.parts ≡ 2 ^ 63) × (result.owner ≡ true) × (result.number ≡ 0)
+            × (result.of ≡ of) }
     {
         let Unboxed { at, alloc: _ } = whole;
         Portion { at }
@@ -53,7 +54,8 @@ impl<T> Portion<T> {
     // Cuts one part off, under the next number.
     pub(crate) fn cut(&mut self) -> Portion<T>
         requires { (1 < self.old.parts) × (self.old.parts ≤ 2 ^ 63) }
-        ensures { (self.new ≡ record self.old { parts = self.old.parts - 1; number = self.old.number + 1 }) × (result ≡ record self.old { parts = 1; owner = false }) }
+        ensures { (self.new ≡ record self.old { parts = self.old.parts - 1; number = self.old.number + 1 })
+            × (result ≡ record self.old { parts = 1; owner = false }) }
     {
         Portion { at: self.at }
     }
@@ -61,7 +63,8 @@ impl<T> Portion<T> {
     // Takes in a portion of the same cell, which has the same object.
     pub(crate) fn merge(&mut self, other: Portion<T>)
         requires { (other.cell ≡ self.old.cell) × (0 < self.old.parts) × (self.old.parts + other.parts ≤ 2 ^ 63) }
-        ensures { (other.object ≡ self.old.object) × (self.new ≡ record self.old { parts = self.old.parts + other.parts; owner = self.old.owner || other.owner }) }
+        ensures { (other.object ≡ self.old.object)
+            × (self.new ≡ record self.old { parts = self.old.parts + other.parts; owner = self.old.owner || other.owner }) }
     {
         let Portion { at: _ } = other;
     }

@@ -87,7 +87,8 @@ to_undo place (Returns at linked failed) = 0
 abbrev pub Count : Shape → Words → List Act → (ℕ → Pending) → Type 0
 Count z words history under = (place : ℕ) → is_place z place ≡ true
     → count_in (words.life place)
-    ≡ sum_below z.lanes (λ lane. references_in (pool_after z history place).phase lane) + sum_below z.lanes (λ lane. to_undo place (under lane))
+    ≡ sum_below z.lanes (λ lane. references_in (pool_after z history place).phase lane) + sum_below z.lanes
+    (λ lane. to_undo place (under lane))
 
 -- the key of a clear that hit is in the map until its ENTER is undone
 abbrev pub Pinned : Shape → List Act → (ℕ → Pending) → Type 0
@@ -190,7 +191,8 @@ pub record Home (z : Shape) (words : Words) (history : List Act) (lanes : Lanes)
   pub stacks : (shard : ℕ) → shard < z.lanes → AreHome z shard words.link (words.stack shard) (home_in z history shard)
   -- those on a lane's stack were returned last by that lane
   pub returned : (shard lane : ℕ) → shard < z.lanes → lane < z.lanes → lane ≢ shard
-      → (thread : List ℕ) → Leads words.link shard (words.stack shard lane) thread → (place : ℕ) → 0 < times place thread → returner history place ≡ lane
+      → (thread : List ℕ) → Leads words.link shard (words.stack shard lane) thread → (place : ℕ) → 0 < times place thread
+      → returner history place ≡ lane
   -- a stack word is 0 or the word that its lane last pushed there
   pub last_pushed : (shard lane : ℕ) → shard < z.lanes → lane < z.lanes → lane ≢ shard
       → (words.stack shard lane ≡ 0) ⊎ (words.stack shard lane ≡ lanes.pushed shard lane)

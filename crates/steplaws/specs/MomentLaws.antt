@@ -41,7 +41,8 @@ ReturnerLaw = (z : Shape) (m : Moment) → Rule z m → (shard place : ℕ) → 
 -- a home place, and who returned it last, stay while the shard's lane makes no act
 abbrev pub HomeStaysLaw : Type 0
 HomeStaysLaw = (z : Shape) (history more : List Act) (lane place : ℕ) → IsLegal z (history ++ more) → acts_of lane more ≡ []
-    → home_in z history lane place ≡ true → (home_in z (history ++ more) lane place ≡ true) × (returner (history ++ more) place ≡ returner history place)
+    → home_in z history lane place ≡ true → (home_in z (history ++ more) lane place ≡ true)
+    × (returner (history ++ more) place ≡ returner history place)
 
 -- the places with a lane, and its references, stay while it makes no act
 abbrev pub OwnActsLaw : Type 0

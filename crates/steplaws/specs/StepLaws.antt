@@ -64,7 +64,8 @@ abbrev pub GetHitsLaw : Type 0
 GetHitsLaw = (z : Shape) (m : Moment) (lane key : ℕ) → Rule z m → HasUnderWay z m lane Nothing → is_key z key ≡ true
     → references z (pool_after z m.history) lane key < most_references
     → let word = m.words.life (place_of key) in is_hit key word ≡ true
-    → (content : List ℕ) × Keeps z m kinds.Enter (Life (place_of key)) (word + 4) (Some (acts.Get lane key (Some content))) (with_under m.lanes lane Nothing)
+    → (content : List ℕ) × Keeps z m kinds.Enter (Life (place_of key)) (word + 4) (Some (acts.Get lane key (Some content)))
+    (with_under m.lanes lane Nothing)
 
 -- ENTER of a get that misses: the reply is none, and the ENTER is to be undone
 abbrev pub GetMissesLaw : Type 0
@@ -95,7 +96,8 @@ abbrev pub ReleaseLaw : Type 0
 ReleaseLaw = (z : Shape) (m : Moment) (lane key : ℕ) → Rule z m → HasUnderWay z m lane Nothing
     → 0 < references z (pool_after z m.history) lane key
     → let word = m.words.life (place_of key) in
-    Keeps z m kinds.Leave (Life (place_of key)) (word - 4) (Some (acts.Release lane key)) (with_under m.lanes lane (owed_after (place_of key) word))
+    Keeps z m kinds.Leave (Life (place_of key)) (word - 4) (Some (acts.Release lane key))
+    (with_under m.lanes lane (owed_after (place_of key) word))
 
 -- LEAVE that undoes an ENTER: no act
 abbrev pub UndoLaw : Type 0
@@ -117,7 +119,8 @@ abbrev pub PublishLaw : Type 0
 PublishLaw = (z : Shape) (m : Moment) (lane key : ℕ) (content : List ℕ) (with_ref : Bool) → Rule z m → HasUnderWay z m lane Nothing
     → IsFilling z m lane key
     → let word = m.words.life (place_of key) in
-    Keeps z m (kinds.Publish with_ref) (Life (place_of key)) (if with_ref then word + 5 else word + 1) (Some (acts.Publish lane key content with_ref)) (with_under m.lanes lane Nothing)
+    Keeps z m (kinds.Publish with_ref) (Life (place_of key)) (if with_ref then word + 5
+    else word + 1) (Some (acts.Publish lane key content with_ref)) (with_under m.lanes lane Nothing)
 
 -- ---- MARK
 
@@ -125,7 +128,8 @@ PublishLaw = (z : Shape) (m : Moment) (lane key : ℕ) (content : List ℕ) (wit
 abbrev pub MarkLaw : Type 0
 MarkLaw = (z : Shape) (m : Moment) (lane key : ℕ) → Rule z m → HasUnderWay z m lane (Undo key true)
     → let word = m.words.life (place_of key) in
-    Keeps z m kinds.Mark (Life (place_of key)) (word + 3 - state_in word) (Some (acts.Clear lane key (state_in word == 1))) (with_under m.lanes lane (Undo key true))
+    Keeps z m kinds.Mark (Life (place_of key)) (word + 3 - state_in word) (Some (acts.Clear lane key (state_in word == 1)))
+    (with_under m.lanes lane (Undo key true))
 
 -- ---- CLAIM
 
@@ -135,25 +139,32 @@ reclaim z lane place generation = acts.Reclaim lane (key_number z.tag place gene
 
 -- CLAIM that succeeds below the last generation, at a place of the lane's own shard: the place is with the lane
 abbrev pub ClaimOwnLaw : Type 0
-ClaimOwnLaw = (z : Shape) (m : Moment) (lane place generation : ℕ) → Rule z m → HasUnderWay z m lane (Owes place generation) → is_place z place ≡ true
+ClaimOwnLaw = (z : Shape) (m : Moment) (lane place generation : ℕ) → Rule z m → HasUnderWay z m lane (Owes place generation)
+    → is_place z place ≡ true
     → generation ≢ z.last_generation → shard_of place ≡ lane → m.words.life place ≡ claimable generation
-    → Keeps z m (kinds.Claim generation) (Life place) (word_with 0 0 (generation + 1)) (Some (reclaim z lane place generation)) (with_under m.lanes lane Nothing)
+    → Keeps z m (kinds.Claim generation) (Life place) (word_with 0 0 (generation + 1)) (Some (reclaim z lane place generation))
+    (with_under m.lanes lane Nothing)
 
 -- CLAIM that succeeds below the last generation, at a place of another shard: the place is to be returned
 abbrev pub ClaimOtherLaw : Type 0
-ClaimOtherLaw = (z : Shape) (m : Moment) (lane place generation : ℕ) → Rule z m → HasUnderWay z m lane (Owes place generation) → is_place z place ≡ true
+ClaimOtherLaw = (z : Shape) (m : Moment) (lane place generation : ℕ) → Rule z m → HasUnderWay z m lane (Owes place generation)
+    → is_place z place ≡ true
     → generation ≢ z.last_generation → shard_of place ≢ lane → m.words.life place ≡ claimable generation
-    → Keeps z m (kinds.Claim generation) (Life place) (word_with 0 0 (generation + 1)) (Some (reclaim z lane place generation)) (with_under m.lanes lane (Returns place None false))
+    → Keeps z m (kinds.Claim generation) (Life place) (word_with 0 0 (generation + 1)) (Some (reclaim z lane place generation))
+    (with_under m.lanes lane (Returns place None false))
 
 -- CLAIM that succeeds at the last generation: the place retires
 abbrev pub ClaimLastLaw : Type 0
-ClaimLastLaw = (z : Shape) (m : Moment) (lane place generation : ℕ) → Rule z m → HasUnderWay z m lane (Owes place generation) → is_place z place ≡ true
+ClaimLastLaw = (z : Shape) (m : Moment) (lane place generation : ℕ) → Rule z m → HasUnderWay z m lane (Owes place generation)
+    → is_place z place ≡ true
     → generation ≡ z.last_generation → m.words.life place ≡ claimable generation
-    → Keeps z m (kinds.Claim generation) (Life place) (word_with 2 0 generation) (Some (reclaim z lane place generation)) (with_under m.lanes lane Nothing)
+    → Keeps z m (kinds.Claim generation) (Life place) (word_with 2 0 generation) (Some (reclaim z lane place generation))
+    (with_under m.lanes lane Nothing)
 
 -- CLAIM that finds another word: it changes nothing, and nothing is owed
 abbrev pub ClaimFailsLaw : Type 0
-ClaimFailsLaw = (z : Shape) (m : Moment) (lane place generation : ℕ) → Rule z m → HasUnderWay z m lane (Owes place generation) → is_place z place ≡ true
+ClaimFailsLaw = (z : Shape) (m : Moment) (lane place generation : ℕ) → Rule z m → HasUnderWay z m lane (Owes place generation)
+    → is_place z place ≡ true
     → m.words.life place ≢ claimable generation
     → Keeps z m (kinds.Claim generation) (Life place) (m.words.life place) None (with_under m.lanes lane Nothing)
 
@@ -161,14 +172,17 @@ ClaimFailsLaw = (z : Shape) (m : Moment) (lane place generation : ℕ) → Rule 
 
 -- LINK of a place to return, to any top
 abbrev pub LinkLaw : Type 0
-LinkLaw = (z : Shape) (m : Moment) (lane place top : ℕ) (linked : Option ℕ) (failed : Bool) → Rule z m → HasUnderWay z m lane (Returns place linked failed)
+LinkLaw = (z : Shape) (m : Moment) (lane place top : ℕ) (linked : Option ℕ) (failed : Bool) → Rule z m
+    → HasUnderWay z m lane (Returns place linked failed)
     → Keeps z m (kinds.Link top) (Link place) top None (with_under m.lanes lane (Returns place (Some top) failed))
 
 -- PUSH that finds the top that was linked: the place is home
 abbrev pub PushSucceedsLaw : Type 0
-PushSucceedsLaw = (z : Shape) (m : Moment) (lane place top : ℕ) (failed : Bool) → Rule z m → HasUnderWay z m lane (Returns place (Some top) failed)
+PushSucceedsLaw = (z : Shape) (m : Moment) (lane place top : ℕ) (failed : Bool) → Rule z m
+    → HasUnderWay z m lane (Returns place (Some top) failed)
     → m.words.stack (shard_of place) lane ≡ top
-    → Keeps z m (kinds.Push top (link_to place)) (Stack (shard_of place) lane) (link_to place) (Some (acts.Home lane place)) (with_pushed m.lanes (shard_of place) lane (link_to place))
+    → Keeps z m (kinds.Push top (link_to place)) (Stack (shard_of place) lane) (link_to place) (Some (acts.Home lane place))
+    (with_pushed m.lanes (shard_of place) lane (link_to place))
 
 -- PUSH that finds another word than the one that the lane last pushed: it finds 0, as the stack was taken
 abbrev pub PushFailsLaw : Type 0
@@ -182,19 +196,22 @@ PushFailsLaw = (z : Shape) (m : Moment) (lane place : ℕ) (failed : Bool) → R
 abbrev pub PushAgainLaw : Type 0
 PushAgainLaw = (z : Shape) (m : Moment) (lane place : ℕ) → Rule z m → HasUnderWay z m lane (Returns place (Some 0) true)
     → (m.words.stack (shard_of place) lane ≡ 0)
-    × Keeps z m (kinds.Push 0 (link_to place)) (Stack (shard_of place) lane) (link_to place) (Some (acts.Home lane place)) (with_pushed m.lanes (shard_of place) lane (link_to place))
+    × Keeps z m (kinds.Push 0 (link_to place)) (Stack (shard_of place) lane) (link_to place) (Some (acts.Home lane place))
+    (with_pushed m.lanes (shard_of place) lane (link_to place))
 
 -- ---- TAKE and FOLLOW
 
 -- TAKE of a stack that is empty: no home place of the lane's shard was returned last by the lane whose stack it is
 abbrev pub TakeNoneLaw : Type 0
-TakeNoneLaw = (z : Shape) (m : Moment) (lane from : ℕ) → Rule z m → lane < z.lanes → from < z.lanes → from ≢ lane → m.words.stack lane from ≡ 0
+TakeNoneLaw = (z : Shape) (m : Moment) (lane from : ℕ) → Rule z m → lane < z.lanes → from < z.lanes → from ≢ lane
+    → m.words.stack lane from ≡ 0
     → Keeps z m kinds.Take (Stack lane from) 0 None m.lanes
     × ((place : ℕ) → home_in z m.history lane place ≡ true → returner m.history place ≢ from)
 
 -- TAKE of a stack that isn't empty: the act is Collect of just the places that the links lead through, and these are then the taken chain
 abbrev pub TakeChainLaw : Type 0
-TakeChainLaw = (z : Shape) (m : Moment) (lane from : ℕ) → Rule z m → lane < z.lanes → from < z.lanes → from ≢ lane → m.words.stack lane from ≢ 0
+TakeChainLaw = (z : Shape) (m : Moment) (lane from : ℕ) → Rule z m → lane < z.lanes → from < z.lanes → from ≢ lane
+    → m.words.stack lane from ≢ 0
     → (places : List ℕ) × Leads m.words.link lane (m.words.stack lane from) places × (m.words.stack lane from ≤ 65536)
     × Keeps z m kinds.Take (Stack lane from) 0 (Some (acts.Collect lane places)) (with_chain m.lanes lane places)
 

@@ -38,7 +38,17 @@ pub record Book : Type 0 where
 -- before the first turn: no page is opened, and all registers are empty
 abbrev pub first_book : List Command → Book
 first_book script =
-    record { left = script; registers = replicate 16 empty_register; own = []; chain = []; opened = 0; pushed = λ _. 0; steps = []; acts = [] }
+    record {
+      left = script;
+      registers = replicate 16 empty_register;
+      own = [];
+      chain = [];
+      opened = 0;
+      pushed = λ _. 0;
+      steps = [];
+      acts =
+          [];
+    }
 
 -- the call of a publish or a downgrade: only of a filling
 abbrev pub publishing : Bool → Holding → Option Call
@@ -248,7 +258,8 @@ with_register b number register = slice_set b.registers number register
 abbrev pub registers_after : Book → Command → Reply → List RegisterState
 registers_after b (Create register) (replies.Filling key) = with_register b register.number (register_with (Filling key []) (Some key))
 registers_after b (Write register bytes) replies.Done =
-    let old = register_at b.registers register.number in with_register b register.number (register_with (written bytes old.holding) old.last_key)
+    let old = register_at b.registers register.number in with_register b register.number
+    (register_with (written bytes old.holding) old.last_key)
 registers_after b (Publish register) (replies.Key key) =
     let old = register_at b.registers register.number in with_register b register.number (register_with Empty old.last_key)
 registers_after b (Downgrade register) (replies.Key key) =
@@ -270,7 +281,8 @@ free_after z lane b command reply = free_left z lane (free_with b.own b.chain b.
 
 -- for each shard the word last pushed, after one step more: a PUSH that succeeded is the last of its stack
 abbrev pub pushed_by : Step → Kind → Word → (ℕ → ℕ) → ℕ → ℕ
-pushed_by step (kinds.Push expected link) (words.Stack shard lane) pushed = if step.before == expected then put pushed shard link else pushed
+pushed_by step (kinds.Push expected link) (words.Stack shard lane) pushed = if step.before == expected then put pushed shard link
+    else pushed
 pushed_by step kind word pushed = pushed
 
 -- for each shard the word last pushed, after these steps

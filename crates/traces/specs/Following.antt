@@ -70,7 +70,8 @@ CommandReplies z pool lane b (Downgrade register) reply =
 CommandReplies z pool lane b (Get register key) reply =
     WhereEmpty (holding_at b register.number) reply (WhereKey (operand_key b.registers key) reply (λ at. reply ≡ get_reply (shown b.acts)))
 CommandReplies z pool lane b (Read register) reply =
-    WhereReference (holding_at b register.number) reply (λ key. (content : List ℕ) × HasContent z pool key content × (reply ≡ replies.Content content))
+    WhereReference (holding_at b register.number) reply (λ key. (content : List ℕ) × HasContent z pool key content
+    × (reply ≡ replies.Content content))
 CommandReplies z pool lane b (Release register) reply =
     WhereReference (holding_at b register.number) reply (λ key. reply ≡ replies.Done)
 CommandReplies z pool lane b (Clear key) reply =

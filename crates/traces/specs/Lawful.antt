@@ -59,7 +59,12 @@ with_book books lane b other = if other == lane then b else books other
 -- what the turns have made, one turn later
 abbrev pub world_after : Shape → World → Turn → World
 world_after z w t =
-    record { history = w.history ++ act_list t.act; words = words_after w.words t.step; books = with_book w.books t.lane (book_after z w t) }
+    record {
+      history = w.history ++ act_list t.act;
+      words = words_after w.words t.step;
+      books = with_book w.books t.lane
+          (book_after z w t);
+    }
 
 -- no command is left
 abbrev pub at_end : List Command → Bool

@@ -82,7 +82,8 @@ kept_in place lane b = unopened_of place lane b.opened + times place b.own + tim
 -- what a register holds is of a key of the shape; a filling's key is current until it is published
 abbrev pub IsHolding : Shape → Pool → List Act → Holding → Type 0
 IsHolding z pool made Empty = Unit {0}
-IsHolding z pool made (Filling key content) = (is_key z key ≡ true) × (times (place_of key) (publishes made) ≡ 0 → is_current z pool key ≡ true)
+IsHolding z pool made (Filling key content) = (is_key z key ≡ true)
+    × (times (place_of key) (publishes made) ≡ 0 → is_current z pool key ≡ true)
 IsHolding z pool made (Reference key content) = is_key z key ≡ true
 
 -- so does each register
@@ -99,16 +100,22 @@ pub record IsOwned (z : Shape) (pool : Pool) (lane : ℕ) (b : Book) : Type 0 wh
       → kept_in place lane b + times place (reclaimed z.last_generation b.acts) + times place (collected b.acts)
       ≡ count_if (is_with lane (pool place).phase) + times place (returned b.acts) + times place (publishes b.acts)
   -- the lane's references to a key are its registers with it: the call's acts gave some and gave some back
-  pub references : (key : ℕ) → held_references key b.registers + times key (gains b.acts) ≡ references z pool lane key + times key (releases b.acts)
+  pub references : (key : ℕ) → held_references key b.registers + times key (gains b.acts)
+      ≡ references z pool lane key + times key (releases b.acts)
   -- what is in the lists are places of the shape
-  pub inside : (place : ℕ) → 0 < times place b.own + times place b.chain + times place (reclaimed z.last_generation b.acts) + times place (collected b.acts)
+  pub inside : (place : ℕ) → 0 < times place b.own + times place b.chain + times place (reclaimed z.last_generation b.acts) + times place
+      (collected b.acts)
       → is_place z place ≡ true
   pub sixteen : length b.registers ≡ 16
   pub holding : AreHolding z pool b.acts b.registers
 
 -- the lanes as they are after the steps of their calls under way: also what these have pushed
 abbrev pub lanes_now : Shape → World → Lanes
-lanes_now z w = record { under = under_way z w; pushed = λ shard lane. pushed_after (w.books lane).steps (w.books lane).pushed shard; chain = chain_of w }
+lanes_now z w = record {
+  under = under_way z w;
+  pushed = λ shard lane. pushed_after (w.books lane).steps (w.books lane).pushed shard;
+  chain = chain_of w;
+}
 
 -- what holds before each step and each reply: the rule, and what each lane's book and the pool tell of each other
 pub record Holds (z : Shape) (w : World) : Type 0 where

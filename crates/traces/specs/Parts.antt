@@ -53,7 +53,8 @@ abbrev pub under_end : Shape → ℕ → ℕ → List Step → Pending
 under_end z lane place [] = Nothing
 under_end z lane place (leave ∷ []) = if owes_claim leave.before then Owes place (generation_in leave.before) else Nothing
 under_end z lane place (leave ∷ claim ∷ []) =
-    if is_claimed (generation_in leave.before) claim.before && not (generation_in leave.before == z.last_generation) && not (shard_of place == lane)
+    if is_claimed (generation_in leave.before) claim.before && not (generation_in leave.before == z.last_generation)
+    && not (shard_of place == lane)
     then Returns place None false else Nothing
 under_end z lane place (leave ∷ claim ∷ link ∷ []) = Returns place (Some link.after) false
 under_end z lane place (leave ∷ claim ∷ link ∷ push ∷ []) = if push.before == link.after then Nothing else Returns place None true

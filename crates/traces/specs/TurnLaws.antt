@@ -72,7 +72,8 @@ turns_of lane (t ∷ more) = if t.lane == lane then t ∷ turns_of lane more els
 
 -- the acts of a lawful trace, in order, are a legal history of the pool of one thread
 abbrev pub ActsLaw : Type 0
-ActsLaw = (z : Shape) (scripts : List (List Command)) (schedule : List ℕ) (trace : List Turn) → IsLawful z scripts schedule trace → IsLegal z (all_acts trace)
+ActsLaw = (z : Shape) (scripts : List (List Command)) (schedule : List ℕ) (trace : List Turn) → IsLawful z scripts schedule trace
+    → IsLegal z (all_acts trace)
 
 -- the acts of a lane in that history are those of its turns
 abbrev pub LaneActsLaw : Type 0
@@ -195,8 +196,10 @@ free_of z lane older = free_from z lane (free_with [] [] 0) older
 -- create, release of the last key that it had
 abbrev pub IsCallOf : Shape → ℕ → List DoneCommand → Command → Call → Type 0
 IsCallOf z lane older (Create register) (Creating own chain opened) = free_of z lane older ≡ free_with own chain opened
-IsCallOf z lane older (Publish register) (Publishing key content with_ref) = IsWritten older register.number key content × (with_ref ≡ false)
-IsCallOf z lane older (Downgrade register) (Publishing key content with_ref) = IsWritten older register.number key content × (with_ref ≡ true)
+IsCallOf z lane older (Publish register) (Publishing key content with_ref) = IsWritten older register.number key content
+    × (with_ref ≡ false)
+IsCallOf z lane older (Downgrade register) (Publishing key content with_ref) = IsWritten older register.number key content
+    × (with_ref ≡ true)
 IsCallOf z lane older (Get register operand) (Getting key) = Names older operand key
 IsCallOf z lane older (Release register) (Releasing key) = HasLast older register.number key
 IsCallOf z lane older (Clear operand) (Clearing key) = Names older operand key
@@ -208,7 +211,8 @@ caller_after z lane older = record { shape = z; lane = lane; pushed = pushed_aft
 
 -- the steps are the first of a lane's call, after these commands, and made these acts
 abbrev pub IsBegun : Shape → ℕ → List DoneCommand → Call → List Step → List Act → Type 0
-IsBegun z lane older call steps made = AreSteps (caller_after z lane older) call [] steps × AreMade (caller_after z lane older) call steps made
+IsBegun z lane older call steps made = AreSteps (caller_after z lane older) call [] steps
+    × AreMade (caller_after z lane older) call steps made
 
 -- the steps are those of a lane's call, from the first to the last, after these commands, and made these acts
 abbrev pub IsWhole : Shape → ℕ → List DoneCommand → Call → List Step → List Act → Type 0
@@ -226,7 +230,8 @@ IsMoment history lane own past = IsPrefix past history × (acts_of lane past ≡
 -- the key is of its next generation; and that the shard is full where there is no place
 abbrev pub CreateReplies : Shape → List Act → ℕ → List Act → Option ℕ → Reply → Type 0
 CreateReplies z history lane own (Some place) reply = (past : List Act) × IsMoment history lane own past
-    × ((pool_after z past place).phase ≡ with lane) × (reply ≡ replies.Filling (key_number z.tag place (pool_after z past place).generation))
+    × ((pool_after z past place).phase ≡ with lane)
+    × (reply ≡ replies.Filling (key_number z.tag place (pool_after z past place).generation))
 CreateReplies z history lane own None reply = reply ≡ replies.Full
 
 -- a get replies the content that its Get shows, and that is then its one act; none where its Get shows none, or the key is none of the shape
@@ -245,13 +250,16 @@ ClearReplies z lane key made reply =
 -- the reply of a call that made these acts, after these of its lane; a publish made its Publish alone, and a release its Release before all others; a
 -- create hands out the first of its own list, else of its taken chain, else of what its TAKE collected, else slot 0 of its next unopened page
 abbrev pub CallReplies : Shape → List Act → ℕ → List Act → Call → List Act → Reply → Type 0
-CallReplies z history lane before (Publishing key content with_ref) made reply = (made ≡ acts.Publish lane key content with_ref ∷ []) × (reply ≡ replies.Key key)
+CallReplies z history lane before (Publishing key content with_ref) made reply = (made ≡ acts.Publish lane key content with_ref ∷ [])
+    × (reply ≡ replies.Key key)
 CallReplies z history lane before (Getting key) made reply = GetReplies z lane key made reply
-CallReplies z history lane before (Releasing key) made reply = ((rest : List Act) × (made ≡ acts.Release lane key ∷ rest)) × (reply ≡ replies.Done)
+CallReplies z history lane before (Releasing key) made reply = ((rest : List Act) × (made ≡ acts.Release lane key ∷ rest))
+    × (reply ≡ replies.Done)
 CallReplies z history lane before (Clearing key) made reply = ClearReplies z lane key made reply
 CallReplies z history lane before (Creating own chain opened) made reply =
     CreateReplies z history lane (before ++ made)
-    (handed_first own (handed_first chain (handed_first (taken made) (if nat_lt opened z.pages then Some (place_at lane opened 0) else None)))) reply
+    (handed_first own (handed_first chain (handed_first (taken made) (if nat_lt opened z.pages then Some (place_at lane opened 0)
+    else None)))) reply
 
 -- ---- the commands that are done
 
@@ -266,15 +274,18 @@ RepliesAtOnce history older command reply = ⊥
 -- call, or it made its call, from the first step to the last, and the reply is the call's
 pub data IsDone (z : Shape) (history : List Act) (lane : ℕ) (older : List DoneCommand) (d : DoneCommand) : Type 0 where
   skipped : (Needs older d.command → ⊥) → d.steps ≡ [] → d.acts ≡ [] → d.reply ≡ replies.Skip → IsDone z history lane older d
-  at_once : Needs older d.command → d.steps ≡ [] → d.acts ≡ [] → RepliesAtOnce history older d.command d.reply → IsDone z history lane older d
+  at_once : Needs older d.command → d.steps ≡ [] → d.acts ≡ [] → RepliesAtOnce history older d.command d.reply
+      → IsDone z history lane older d
   by_call : Needs older d.command → (call : Call) → IsCallOf z lane older d.command call → IsWhole z lane older call d.steps d.acts
       → CallReplies z history lane (flat_map (λ o. o.acts) older) call d.acts d.reply → IsDone z history lane older d
 
 -- what a lane has begun and not done: nothing, or the call of the first command that is left
-pub data IsUnderWay (z : Shape) (lane : ℕ) (older : List DoneCommand) (left : List Command) (steps : List Step) (made : List Act) : Type 0 where
-  at_rest : steps ≡ [] → made ≡ [] → IsUnderWay z lane older left steps made
-  within : (command : Command) (more : List Command) (call : Call) → left ≡ command ∷ more → Needs older command → IsCallOf z lane older command call
-      → IsBegun z lane older call steps made → IsUnderWay z lane older left steps made
+pub data IsUnderWay (z : Shape) (lane : ℕ) (older : List DoneCommand) (left : List Command) (steps : List Step) (made : List Act) : Type 0
+  where
+    at_rest : steps ≡ [] → made ≡ [] → IsUnderWay z lane older left steps made
+    within : (command : Command) (more : List Command) (call : Call) → left ≡ command ∷ more → Needs older command
+        → IsCallOf z lane older command call
+        → IsBegun z lane older call steps made → IsUnderWay z lane older left steps made
 
 -- a lane's turns in a trace follow its script: they are those of its commands, in order, each done but for those that are left
 pub record Follows (z : Shape) (lane : ℕ) (script : List Command) (trace : List Turn) : Type 0 where
@@ -304,7 +315,8 @@ SkipLaw = (z : Shape) (history : List Act) (lane : ℕ) (older : List DoneComman
 -- a publish or a downgrade that replied a key published it, with the bytes that were written to its register since the create of that key, in order
 abbrev pub PublishedLaw : Type 0
 PublishedLaw = (z : Shape) (history : List Act) (lane : ℕ) (older : List DoneCommand) (d : DoneCommand) → IsDone z history lane older d
-    → (register : Register) (key : ℕ) (with_ref : Bool) → d.command ≡ (if with_ref then Downgrade register else Publish register) → d.reply ≡ replies.Key key
+    → (register : Register) (key : ℕ) (with_ref : Bool) → d.command ≡ (if with_ref then Downgrade register else Publish register)
+    → d.reply ≡ replies.Key key
     → (content : List ℕ) × IsWritten older register.number key content × (d.acts ≡ acts.Publish lane key content with_ref ∷ [])
 
 -- a read replies a content that the last key of its register was published with

@@ -21,7 +21,8 @@ state_text states.Marked = codes "MARKED"
 
 -- the state that these two bits stand for
 abbrev pub state_with : ℕ → State
-state_with bits = if bits == 0 then states.Idle else (if bits == 1 then states.Present else (if bits == 2 then states.Retired else states.Marked))
+state_with bits = if bits == 0 then states.Idle
+    else (if bits == 1 then states.Present else (if bits == 2 then states.Retired else states.Marked))
 
 -- a shard, a page and a slot
 abbrev pub triple_text : ℕ → ℕ → ℕ → List ℕ
@@ -42,7 +43,8 @@ life_text word = state_text (state_with (state_in word)) ++ counts_text (count_i
 -- a link or stack word of a shard: the end, or the place that it stands for; a number that stands for none as it is
 abbrev pub link_text : ℕ → ℕ → List ℕ
 link_text shard word =
-    if word == 0 then codes "end" else (if nat_lt 65536 word then decimal word else triple_text shard (page_of (word - 1)) (slot_of (word - 1)))
+    if word == 0 then codes "end" else (if nat_lt 65536 word then decimal word
+    else triple_text shard (page_of (word - 1)) (slot_of (word - 1)))
 
 -- a value of a word
 abbrev pub value_text : Word → ℕ → List ℕ

@@ -50,7 +50,8 @@ turn_title (line ∷ more) = entry_title line.entry
 -- the slice of a turn, with the turn's object as its arguments
 abbrev pub slice_event : ℕ → List Line → List ℕ
 slice_event number turn =
-    codes ",\n{\"ph\":\"X\",\"dur\":1" ++ track_fields (lane_of turn) number ++ codes ",\"name\":\"" ++ turn_title (behind turn) ++ codes "\",\"args\":" ++ turn_object number turn ++ codes "}"
+    codes ",\n{\"ph\":\"X\",\"dur\":1" ++ track_fields (lane_of turn) number ++ codes ",\"name\":\"" ++ turn_title (behind turn)
+    ++ codes "\",\"args\":" ++ turn_object number turn ++ codes "}"
 
 -- an end of a flow, on the track of a lane at a turn: that of the object that has this number
 abbrev pub flow_event : List ℕ → ℕ → ℕ → ℕ → List ℕ

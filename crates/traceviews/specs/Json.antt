@@ -43,7 +43,8 @@ failed_field false = codes ",\"failed\":false}"
 -- a step: its kind, on which word, what it found and left, and whether it failed
 abbrev pub step_object : NamedStep → List ℕ
 step_object s =
-    codes "{\"kind\":\"" ++ kind_text (kind_of s.name) ++ codes "\",\"at\":\"" ++ aim_text s.word ++ codes "\",\"found\":" ++ value_object s.word s.before
+    codes "{\"kind\":\"" ++ kind_text (kind_of s.name) ++ codes "\",\"at\":\"" ++ aim_text s.word ++ codes "\",\"found\":"
+    ++ value_object s.word s.before
     ++ codes ",\"left\":" ++ value_object s.word s.after ++ failed_field (is_failed s)
 
 -- a reply without more
@@ -98,7 +99,8 @@ step_fields (line ∷ more) = codes ",\"step\":" ++ entry_object line.entry ++ c
 -- a turn: its number, its lane, the replies before its step, the step, and the replies behind it
 abbrev pub turn_object : ℕ → List Line → List ℕ
 turn_object number turn =
-    codes "{\"turn\":" ++ decimal number ++ (codes ",\"lane\":" ++ decimal (lane_of turn)) ++ codes ",\"before\":" ++ items_text (front turn)
+    codes "{\"turn\":" ++ decimal number ++ (codes ",\"lane\":" ++ decimal (lane_of turn)) ++ codes ",\"before\":"
+    ++ items_text (front turn)
     ++ step_fields (behind turn) ++ codes "}"
 
 -- each turn on a line of its own, with a comma behind the line before

@@ -18,7 +18,8 @@ tag_words tag = (if tag == 0 then [] else codes " tag " ++ decimal tag) ++ codes
 
 -- the line of a reply with a key: its place, its generation and its tag
 abbrev pub key_line : ℕ → List ℕ → ℕ → List ℕ
-key_line lane name key = decimal lane ++ name ++ place_text (place_of key) ++ (codes " generation " ++ decimal (generation_of key)) ++ tag_words (tag_of key)
+key_line lane name key = decimal lane ++ name ++ place_text (place_of key) ++ (codes " generation " ++ decimal (generation_of key))
+    ++ tag_words (tag_of key)
 
 -- the line of a reply of this lane, with its key decoded
 abbrev pub decoded_reply : ℕ → Reply → List ℕ

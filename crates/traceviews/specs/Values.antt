@@ -14,4 +14,5 @@ stack_number shard lane = shard * 4294967296 + lane
 pub record AreValues (values : Values) (words : Words) : Type 0 where
   pub life : (place : ℕ) → unwrap_or (get nat_cmp values.lives place) fresh_word ≡ words.life place
   pub link : (place : ℕ) → unwrap_or (get nat_cmp values.links place) 0 ≡ words.link place
-  pub stack : (shard lane : ℕ) → lane < 4294967296 → unwrap_or (get nat_cmp values.stacks (stack_number shard lane)) 0 ≡ words.stack shard lane
+  pub stack : (shard lane : ℕ) → lane < 4294967296
+      → unwrap_or (get nat_cmp values.stacks (stack_number shard lane)) 0 ≡ words.stack shard lane

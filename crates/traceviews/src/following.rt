@@ -106,7 +106,8 @@ fn may_change(last: u64, name: StepName, before: u64, after: u64) -> bool
 
 /// The generation in which a line's claim leaves a place retired, if it does.
 fn retired_in(line: &Line) -> Option<u64>
-    ensures { (later : ℕ) → MatchOption result (last_by line.now.entry later ≡ later) (λ generation. last_by line.now.entry later ≡ generation) }
+    ensures { (later : ℕ) → MatchOption result (last_by line.now.entry later ≡ later) (λ generation. last_by line.now.entry later
+        ≡ generation) }
 {
     let Entry::Step(step) = &line.entry else {
         return None;

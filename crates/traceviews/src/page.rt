@@ -64,7 +64,8 @@ impl Page {
 
     /// Appends a text and a number behind it.
     pub(crate) fn named(&mut self, text: &str, number: u64)
-        ensures { self.new.refused ≡ false → (self.old.refused ≡ false) × (self.new.bytes.items ≡ self.old.bytes.items ++ (text.now ++ decimal number)) }
+        ensures { self.new.refused ≡ false → (self.old.refused ≡ false)
+            × (self.new.bytes.items ≡ self.old.bytes.items ++ (text.now ++ decimal number)) }
     {
         self.text(text);
         self.number(number);
@@ -95,14 +96,16 @@ impl Page {
 
     /// Appends a place, as its shard, page and slot with slashes between them.
     pub(crate) fn place(&mut self, place: u32)
-        ensures { self.new.refused ≡ false → (self.old.refused ≡ false) × (self.new.bytes.items ≡ self.old.bytes.items ++ place_text place) }
+        ensures { self.new.refused ≡ false → (self.old.refused ≡ false)
+            × (self.new.bytes.items ≡ self.old.bytes.items ++ place_text place) }
     {
         self.triple(place >> 16, place >> 12 & 0xf, place & 0xfff);
     }
 
     /// Appends a count and a generation.
     fn counts(&mut self, count: u32, generation: u32)
-        ensures { self.new.refused ≡ false → (self.old.refused ≡ false) × (self.new.bytes.items ≡ self.old.bytes.items ++ counts_text count generation) }
+        ensures { self.new.refused ≡ false → (self.old.refused ≡ false)
+            × (self.new.bytes.items ≡ self.old.bytes.items ++ counts_text count generation) }
     {
         self.named(" count ", u64::from(count));
         self.named(" generation ", u64::from(generation));
@@ -119,7 +122,8 @@ impl Page {
 
     /// Appends the place of a shard that a link or stack word stands for.
     pub(crate) fn link(&mut self, shard: u32, word: u64)
-        ensures { self.new.refused ≡ false → (self.old.refused ≡ false) × (self.new.bytes.items ≡ self.old.bytes.items ++ link_text shard word) }
+        ensures { self.new.refused ≡ false → (self.old.refused ≡ false)
+            × (self.new.bytes.items ≡ self.old.bytes.items ++ link_text shard word) }
     {
         if word == 0 {
             return self.text("end");
@@ -133,7 +137,8 @@ impl Page {
 
     /// Appends what a value of a word says.
     pub(crate) fn value(&mut self, word: Word, value: u64)
-        ensures { self.new.refused ≡ false → (self.old.refused ≡ false) × (self.new.bytes.items ≡ self.old.bytes.items ++ value_text word value) }
+        ensures { self.new.refused ≡ false → (self.old.refused ≡ false)
+            × (self.new.bytes.items ≡ self.old.bytes.items ++ value_text word value) }
     {
         match word {
             Word::Life { .. } => self.life(value),
@@ -157,7 +162,8 @@ impl Page {
 
     /// Appends the line of a reply, as the trace has it.
     pub(crate) fn reply_line(&mut self, lane: u32, reply: &Reply)
-        ensures { self.new.refused ≡ false → (self.old.refused ≡ false) × (self.new.bytes.items ≡ self.old.bytes.items ++ reply_line lane reply.now) }
+        ensures { self.new.refused ≡ false → (self.old.refused ≡ false)
+            × (self.new.bytes.items ≡ self.old.bytes.items ++ reply_line lane reply.now) }
     {
         let done = write_reply_line(lane, reply, &mut self.bytes);
         self.note(done);
@@ -174,7 +180,8 @@ impl Page {
 
     /// Appends another text.
     pub(crate) fn page(&mut self, other: &Page)
-        ensures { self.new.refused ≡ false → (self.old.refused ≡ false) × (self.new.bytes.items ≡ self.old.bytes.items ++ other.now.bytes.items) }
+        ensures { self.new.refused ≡ false → (self.old.refused ≡ false)
+            × (self.new.bytes.items ≡ self.old.bytes.items ++ other.now.bytes.items) }
     {
         if other.refused {
             self.refused = true;

@@ -37,7 +37,8 @@ fn push_values(step: &NamedStep, out: &mut Page)
 
 /// Appends the line of a step.
 fn push_step(lane: u32, step: &NamedStep, out: &mut Page)
-    ensures { out.new.refused ≡ false → (out.old.refused ≡ false) × (out.new.bytes.items ≡ out.old.bytes.items ++ step_words lane step.now) }
+    ensures { out.new.refused ≡ false → (out.old.refused ≡ false)
+        × (out.new.bytes.items ≡ out.old.bytes.items ++ step_words lane step.now) }
 {
     out.number(u64::from(lane));
     out.text(" ");

@@ -68,13 +68,15 @@ Creates register old reply new =
     ((filling : FillingOf ByteBuf) × Gives (λ b. b.bytes) (λ b. b.room) old.lane new.lane filling × (reply ≡ replies.Filling filling.key)
     × (new.registers ≡ with_new old.registers register filling.key (Filling filling)))
     ⊎ (GivesNone old.lane new.lane × (new.registers ≡ old.registers)
-    × (((reply ≡ replies.Full) × (old.lane.pages.opened ≡ old.lane.shape.pages)) ⊎ ((reply ≡ replies.Memory) × (old.lane.pages.opened < old.lane.shape.pages))))
+    × (((reply ≡ replies.Full) × (old.lane.pages.opened ≡ old.lane.shape.pages))
+    ⊎ ((reply ≡ replies.Memory) × (old.lane.pages.opened < old.lane.shape.pages))))
 
 -- bytes are appended to a filling, whose room stays or grows; or the room was too small, memory was refused, and the filling is as before
 abbrev pub Writes : ℕ → List ℕ → FillingOf ByteBuf → Desk → Reply → Desk → Type 0
 Writes register bytes filling old reply new = (new.lane ≡ old.lane)
     × (((object : ByteBuf) × (object.bytes ≡ filling.object.bytes ++ bytes) × (reply ≡ replies.Done)
-    × (new.registers ≡ with_held old.registers register (Filling (record filling { object = object }))) × (filling.object.room ≤ object.room))
+    × (new.registers ≡ with_held old.registers register (Filling (record filling { object = object })))
+    × (filling.object.room ≤ object.room))
     ⊎ ((reply ≡ replies.Memory) × (new.registers ≡ old.registers) × (filling.object.room < length filling.object.bytes + length bytes)))
 
 -- a filling is published, with its content and its room; with a reference, which the register then has
@@ -98,7 +100,8 @@ GetsInto register key old reply new = Calls old.lane.shape (Getting key) old.lan
 -- a read: the content with which the reference's key was published; or the copy for the reply was refused memory
 abbrev pub Reads : RefOf → Desk → Reply → Desk → Type 0
 Reads reference old reply new = (new ≡ old)
-    × (((content : List ℕ) × (at : ℕ) × PublishedAt old.lane.book.seen at reference.key content × (reply ≡ replies.Content content)) ⊎ (reply ≡ replies.Memory))
+    × (((content : List ℕ) × (at : ℕ) × PublishedAt old.lane.book.seen at reference.key content × (reply ≡ replies.Content content))
+    ⊎ (reply ≡ replies.Memory))
 
 -- a reference is given back
 abbrev pub Releases : ℕ → RefOf → Desk → Reply → Desk → Type 0
@@ -109,7 +112,8 @@ Releases register reference old reply new = Calls old.lane.shape (Releasing refe
 -- a clear of a key of the pool: the reply is its act's
 abbrev pub Clears : ℕ → Desk → Reply → Desk → Type 0
 Clears key old reply new = Calls old.lane.shape (Clearing key) old.lane.book new.lane.book
-    × ((marked : Bool) × ((rest : List Act) × Did (acts.Clear old.lane.number key marked ∷ rest) old.lane new.lane) × (reply ≡ replies.Cleared marked))
+    × ((marked : Bool) × ((rest : List Act) × Did (acts.Clear old.lane.number key marked ∷ rest) old.lane new.lane)
+    × (reply ≡ replies.Cleared marked))
     × (new.registers ≡ old.registers)
 
 -- for a key of the pool what is said; any other number has this reply, and does nothing
@@ -143,21 +147,27 @@ abbrev pub IsLine : Desk → Command → Reply → Desk → Type 0
 IsLine old (Create register) reply new =
     WhereEmpty (register_at old.registers register.number).held (Creates register.number old reply new) (Skips old reply new)
 IsLine old (Write register bytes) reply new =
-    WhereFilling (register_at old.registers register.number).held (λ filling. Writes register.number bytes filling old reply new) (Skips old reply new)
+    WhereFilling (register_at old.registers register.number).held (λ filling. Writes register.number bytes filling old reply new)
+    (Skips old reply new)
 IsLine old (Publish register) reply new =
-    WhereFilling (register_at old.registers register.number).held (λ filling. Publishes register.number false filling old reply new) (Skips old reply new)
+    WhereFilling (register_at old.registers register.number).held (λ filling. Publishes register.number false filling old reply new)
+    (Skips old reply new)
 IsLine old (Downgrade register) reply new =
-    WhereFilling (register_at old.registers register.number).held (λ filling. Publishes register.number true filling old reply new) (Skips old reply new)
+    WhereFilling (register_at old.registers register.number).held (λ filling. Publishes register.number true filling old reply new)
+    (Skips old reply new)
 IsLine old (Get register operand) reply new =
     WhereEmpty (register_at old.registers register.number).held
-    (WhereKey (operand_key old.registers operand) (λ key. WhereInside key old reply new replies.Missing (GetsInto register.number key old reply new)) (Skips old reply new))
+    (WhereKey (operand_key old.registers operand)
+    (λ key. WhereInside key old reply new replies.Missing (GetsInto register.number key old reply new)) (Skips old reply new))
     (Skips old reply new)
 IsLine old (Read register) reply new =
     WhereReference (register_at old.registers register.number).held (λ reference. Reads reference old reply new) (Skips old reply new)
 IsLine old (Release register) reply new =
-    WhereReference (register_at old.registers register.number).held (λ reference. Releases register.number reference old reply new) (Skips old reply new)
+    WhereReference (register_at old.registers register.number).held (λ reference. Releases register.number reference old reply new)
+    (Skips old reply new)
 IsLine old (Clear operand) reply new =
-    WhereKey (operand_key old.registers operand) (λ key. WhereInside key old reply new (replies.Cleared false) (Clears key old reply new)) (Skips old reply new)
+    WhereKey (operand_key old.registers operand) (λ key. WhereInside key old reply new (replies.Cleared false) (Clears key old reply new))
+    (Skips old reply new)
 
 -- these lines were run, one after another, each with its reply
 abbrev pub AreLines : Desk → List Command → List Reply → Desk → Type 0

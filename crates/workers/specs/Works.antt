@@ -49,4 +49,5 @@ MayBegin pool jobs = (index : ℕ) (job : Job) → slice_get jobs index ≡ Some
 -- each answer is that of its job, in the order of the jobs
 pub record Answers (says : ℕ → ℕ → Bool → Type 0) (jobs : List Job) (dones : List Done) : Type 0 where
   pub count : length dones ≡ length jobs
-  pub each : (index : ℕ) (job : Job) (done : Done) → slice_get jobs index ≡ Some job → slice_get dones index ≡ Some done → Answer says job done
+  pub each : (index : ℕ) (job : Job) (done : Done) → slice_get jobs index ≡ Some job → slice_get dones index ≡ Some done
+      → Answer says job done

@@ -198,6 +198,7 @@ impl Shape {
         if past < 2 * MOST_PAGE_PLACES {
             (past / self.first_page).ilog2()
         } else {
+            // Pages have 4096 = 2^12 places from number 12 - log2(first_page) on, and 11 is one less.
             past / MOST_PAGE_PLACES + 11 - self.first_page.ilog2()
         }
     }
