@@ -87,6 +87,15 @@ fn each_page_of_a_lane() {
     assert_eq!(pool.close(), counted);
 }
 
+/// Finds a key whose object has the number of its place, and clears it.
+fn take_and_clear(lane: &Lane<Number>, key: Key) {
+    let object = lane.get(key).expect("published");
+    assert_eq!(object.0, place(key));
+    assert!(lane.clear(key), "by one thread alone");
+    assert!(lane.get(key).is_none());
+    assert_eq!(object.0, place(key), "as long as there is a reference");
+}
+
 /// Each of 64 threads has a lane, and finds and clears what others published.
 #[test]
 fn sixty_four_threads_have_lanes() {
@@ -95,16 +104,9 @@ fn sixty_four_threads_have_lanes() {
     // (Of each lane 64 objects may be passed, and each other thread may have one.)
     let pool = opened(MOST_LANES, 64, 2);
     let passed: Vec<_> = (0..MOST_LANES).map(|_| Mutex::new(None::<Key>)).collect();
-    let take_and_clear = |lane: &Lane<Number>, key: Key| {
-        let object = lane.get(key).expect("published");
-        assert_eq!(object.0, place(key));
-        assert!(lane.clear(key), "by one thread alone");
-        assert!(lane.get(key).is_none());
-        assert_eq!(object.0, place(key), "as long as there is a reference");
-    };
     let lanes: Vec<_> = (0..).map_while(|_| pool.lane()).collect();
     let numbers = at_once(lanes.into_iter().map(|lane| {
-        let (passed, take_and_clear) = (&passed, &take_and_clear);
+        let passed = &passed;
         move || {
             for round in 0..ROUNDS {
                 let mut filling = lane.create().expect("a place");
