@@ -30,6 +30,25 @@
 //! println!("{}", slice.len());
 //! ```
 //!
+//! What a reference shows is read, and not written:
+//!
+//! ```compile_fail,E0596
+//! # let pool = pardz::Pool::<String>::open(pardz::Shape::default()).unwrap();
+//! # let lane = pool.lane().unwrap();
+//! let filling = lane.create().unwrap();
+//! let mut text = filling.downgrade();
+//! text.push('x');
+//! ```
+//!
+//! ```
+//! # let pool = pardz::Pool::<String>::open(pardz::Shape::default()).unwrap();
+//! # let lane = pool.lane().unwrap();
+//! let mut filling = lane.create().unwrap();
+//! filling.push('x');
+//! let text = filling.downgrade();
+//! assert_eq!(*text, "x");
+//! ```
+//!
 //! A lane isn't shared between threads by reference; it may move:
 //!
 //! ```compile_fail,E0277
