@@ -1,4 +1,4 @@
-/* A lock-free, sharded pool of byte buffers that are cleared in place and used again.
+/* A sharded pool of byte buffers that are cleared in place and used again.
  *
  * A thread fills a buffer and publishes it under a key; any thread with a lane reads it under a reference; a clear makes the key
  * unknown at once, and whoever lets go last empties the buffer, which keeps its memory and is filled again under a new key.

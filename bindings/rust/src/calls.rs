@@ -98,6 +98,10 @@ impl<T: Clear> Pool<T> {
     /// Clears a key: no get finds it any more. Answers whether this call did. The object stays for those who have a reference; the last
     /// of them empties it.
     ///
+    /// # Panics
+    ///
+    /// Where all lanes of a pool of 64 are in hand.
+    ///
     /// ```
     /// let pool = pardz::Pool::<String>::growing()?;
     /// let key = pool.put("abc")?;
@@ -140,7 +144,7 @@ impl<T: Clear> Pool<T> {
     ///
     /// # Panics
     ///
-    /// Where the lane has 1,048,575 references.
+    /// Where the shared lane has 1,048,575 references, or all lanes of a pool of 64 are in hand.
     ///
     /// ```
     /// use pardz::Pool;

@@ -1,4 +1,4 @@
-//! A lock-free, sharded pool of buffers and objects that are emptied in place and used again.
+//! A sharded pool of buffers and objects that are emptied in place and used again.
 //!
 //! One thread fills an object and publishes it under a [`Key`]; any thread with a [`Lane`] reads it under a reference; a clear makes
 //! the key unknown at once, and whoever lets go last empties the object, which keeps its memory and is filled again under a new
