@@ -1,7 +1,7 @@
 /* A sharded pool of byte buffers that are cleared in place and used again.
  *
- * A thread fills a buffer and publishes it under a key; any thread with a lane reads it under a reference; a clear makes the key
- * unknown at once, and whoever lets go last empties the buffer, which keeps its memory and is filled again under a new key.
+ * A thread fills a buffer and publishes it under a key; any thread with a lane reads it by a reference. A clear hides the key at
+ * once, and whoever lets go last empties the buffer, which keeps its memory and is filled again under a new key.
  * No call locks anything or waits for another thread, unless the heap does: pardz_open, pardz_create where it opens a page,
  * pardz_append, pardz_room and pardz_put take memory, and pardz_close, a pardz_open that is refused and whoever lets go last of a
  * place that is used up give it back.

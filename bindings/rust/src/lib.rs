@@ -1,8 +1,7 @@
 //! A sharded pool of buffers and objects that are emptied in place and used again.
 //!
-//! One thread fills an object and publishes it under a [`Key`]; any thread with a [`Lane`] reads it under a reference; a clear makes
-//! the key unknown at once, and whoever lets go last empties the object, which keeps its memory and is filled again under a new
-//! key. No call by a lane in hand waits for another thread, but a create that opens a segment. Each makes a bounded number of steps, but a
+//! One thread fills an object and publishes it under a [`Key`]; any thread with a [`Lane`] reads it by a reference. A clear hides the
+//! key at once, and whoever lets go last empties the object, which keeps its memory and is filled again under a new key. No call by a lane in hand waits for another thread, but a create that opens a segment. Each makes a bounded number of steps, but a
 //! clear while others step on the same key: then it may try its exchange again.
 //!
 //! ```
@@ -145,7 +144,7 @@
 //! - Each file in which a mistake would break memory, which are those with `unsafe`: `src/erased`, `src/shim`, `src/lanes` and
 //!   `src/object`. The others can't: what they get of these moves, so that a second release of a reference doesn't compile.
 //! - What the proofs take for granted: that all threads see the words of a pool read and written in one order (each step is sequentially
-//!   consistent); that no count goes beyond its bits; that the stack is large enough; that `usize` has 64 bits.
+//!   consistent); that the stack is large enough; that `usize` has 64 bits.
 //! - That a place whose word has another generation than a key has no object of that key any more, or not yet: so one load tells a get or
 //!   a clear that the key isn't there. (A word's generation grows alone, and the load stands in one order with all steps on it.)
 //! - That the allocator calls no pool while one is closed or dropped. In all other calls it may.
