@@ -1,8 +1,9 @@
 //! A sharded pool of buffers and objects that are emptied in place and used again.
 //!
 //! One thread fills an object and publishes it under a [`Key`]; any thread with a [`Lane`] reads it by a reference. A clear hides the
-//! key at once, and whoever lets go last empties the object, which keeps its memory and is filled again under a new key. No call by a lane in hand waits for another thread, but a create that opens a segment. Each makes a bounded number of steps, but a
-//! clear while others step on the same key: then it may try its exchange again.
+//! key at once, and whoever lets go last empties the object, which keeps its memory and is filled again under a new key. No call by a
+//! lane in hand waits for another thread, but a create that opens a segment. Each makes a bounded number of steps, but a clear while
+//! others step on the same key: then it may try its exchange again.
 //!
 //! ```
 //! use pardz::{Buffer, Pool, Shape};
