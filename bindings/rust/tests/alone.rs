@@ -347,13 +347,13 @@ fn a_lane_that_is_used_in_a_further_segment_stays_shared() {
     }));
 }
 
-/// The first call of a pool of 16 lanes, of which none is shared before, is for an owned handle.
+/// The first call of a pool of 64 lanes, of which none is shared before, is for an owned handle.
 #[test]
 fn an_owned_handle_by_the_first_call() {
     let _limit = limit();
-    let pool = Pool::<String>::open(shape(16, 2, 1)).unwrap();
+    let pool = Pool::<String>::open(shape(64, 2, 1)).unwrap();
     drop(pool.create_owned().unwrap());
-    let pool = Pool::<String>::open(shape(16, 2, 1)).unwrap();
+    let pool = Pool::<String>::open(shape(64, 2, 1)).unwrap();
     assert!(pool.get_owned(Key::try_from(1 << 24).unwrap()).is_none());
 }
 
