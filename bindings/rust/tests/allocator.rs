@@ -254,7 +254,7 @@ fn a_hook_creates_while_a_segment_opens() {
 fn a_hook_calls_while_a_thread_keeps_lanes() {
     alone("a_hook_calls_while_a_thread_keeps_lanes", || {
         let pools: Vec<_> = (0..20).map(|_| small()).collect();
-        at_once([|| with_hook(|| pools.iter().for_each(|pool| use_once(pool)))]);
+        at_once([|| with_hook(|| pools.iter().for_each(use_once))]);
         assert!(HOOKED.load(SeqCst) > 20);
         for pool in &pools {
             assert!(pool.lane().is_some(), "its lane came home");
