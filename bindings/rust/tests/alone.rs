@@ -391,24 +391,6 @@ fn places_of_earlier_segments_are_taken_again() {
     }
 }
 
-/// Segments are larger and larger, up to the largest, which is the sixth.
-#[test]
-fn a_lane_in_six_segments() {
-    let _limit = limit();
-    let pool = Pool::<String>::growing().unwrap();
-    let lane = pool.lane().unwrap();
-    // (Pages of 64 places and twice as many each, of 4,096 at most: 1, 2, 4, 8 of them. One place of the sixth, which has 16.)
-    let places = [32, 64, 192, 960, 12_224, 1];
-    for (segment, places) in places.into_iter().enumerate() {
-        for _ in 0..places {
-            let key = lane.create().unwrap().publish();
-            assert_eq!(u64::from(key) >> 56, segment as u64);
-        }
-    }
-    drop(lane);
-    assert_eq!(pool.close().present, places.iter().sum::<u32>());
-}
-
 // Threads that end.
 
 fn two_pools() -> &'static [Pool<String>; 2] {
