@@ -3,8 +3,9 @@
 Usage: python3 docs/bench/interleaved.py REPEATS THREADS PROGRAM:CASE:ROUNDS..
 
 Of each case it prints the processor time of a round on one thread, and the wall time of a round over all threads, in
-nanoseconds: the lower quartile and the median of the runs, less those of runs of one round. The runs of all cases are made in
-turns, so that a slow hour of the machine falls on all of them alike. Where it may, a run has a real-time priority.
+nanoseconds: the lower quartile and the median of the runs, less those of runs of one round; and the memory of a run of all
+rounds at its peak, in KiB. The runs of all cases are made in turns, so that a slow hour of the machine falls on all of them
+alike. Where it may, a run has a real-time priority.
 """
 
 import os
@@ -16,7 +17,7 @@ PRIORITY = 10
 
 
 class Case:
-    """A case of a program, with its runs: each a processor time and a wall time, in seconds."""
+    """A case of a program, with its runs: each a processor time and a wall time, in seconds, and the memory at its peak."""
 
     def __init__(self, text):
         self.program, self.name, rounds = text.rsplit(":", 2)
@@ -30,7 +31,7 @@ class Case:
         self.long_runs.append(self.run(threads, self.rounds))
 
     def run(self, threads, rounds):
-        """Returns the processor time and the wall time of one run."""
+        """Returns the processor time and the wall time of one run, and its memory."""
         words = [self.program, self.name, str(threads), str(rounds)]
         begin = time.perf_counter()
         child = os.fork()
@@ -40,7 +41,7 @@ class Case:
         wall = time.perf_counter() - begin
         if status != 0:
             sys.exit(f"{' '.join(words)} failed")
-        return usage.ru_utime + usage.ru_stime, wall
+        return usage.ru_utime + usage.ru_stime, wall, usage.ru_maxrss
 
     def line(self, threads):
         """Returns the line that tells what a round costs."""
@@ -48,10 +49,11 @@ class Case:
         for index in range(2):
             short = quartiles(run[index] for run in self.short_runs)
             long = quartiles(run[index] for run in self.long_runs)
-            rounds = threads * self.rounds
+            rounds = threads * (self.rounds - 1)
             cells += [(after - before) / rounds * 1e9 for before, after in zip(short, long)]
         numbers = "".join(f"{cell:14.1f}" for cell in cells)
-        return f"{os.path.basename(self.program):12} {self.name:14} {threads:7}{numbers}"
+        memory = statistics.median(run[2] for run in self.long_runs)
+        return f"{os.path.basename(self.program):12} {self.name:20} {threads:7}{numbers}{memory:12.0f}"
 
 
 def start(words):
@@ -78,7 +80,7 @@ def main():
         for case in cases:
             case.run_both(threads)
     heads = "".join(f"{head:>14}" for head in ("cpu q25", "cpu med", "wall q25", "wall med"))
-    print(f"{'program':12} {'case':14} threads{heads}")
+    print(f"{'program':12} {'case':20} threads{heads}{'KiB':>12}")
     for case in cases:
         print(case.line(threads))
 

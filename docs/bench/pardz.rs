@@ -1,41 +1,102 @@
 //! The Rust crate, by calls of a growing pool.
-use crate::stores::{Store, BYTES};
+use crate::stores::{Keyed, Store, BYTES};
 use pardz::{Buffer, Key, Pool};
+
+fn growing() -> Pool<Buffer> {
+    Pool::growing().expect("memory")
+}
+
+fn key_of(word: u64) -> Key {
+    Key::try_from(word).expect("a key")
+}
 
 pub struct Pardz(Pool<Buffer>);
 
 impl Default for Pardz {
     fn default() -> Pardz {
-        Pardz(Pool::growing().expect("memory"))
+        Pardz(growing())
     }
-}
-
-fn key_of(number: u64) -> Key {
-    Key::try_from(number).expect("a key")
 }
 
 impl Store for Pardz {
-    type Handle = u64;
+    type Handle = Key;
 
     #[inline]
-    fn put(&self) -> u64 {
-        self.0.put(&BYTES).expect("memory").into()
+    fn put(&self) -> Key {
+        self.0.put(&BYTES).expect("memory")
     }
 
     #[inline]
-    fn read(&self, key: &u64) -> usize {
-        self.0.get(key_of(*key)).map_or(0, |bytes| bytes.len())
+    fn read(&self, key: &Key) -> usize {
+        self.0.get(*key).map_or(0, |bytes| bytes.len())
     }
 
     #[inline]
-    fn take(&self, key: u64) -> bool {
-        self.0.clear(key_of(key))
+    fn take(&self, key: Key) -> bool {
+        self.0.clear(key)
     }
 
     #[inline]
-    fn read_last(&self, key: u64) -> usize {
-        let bytes = self.0.get(key_of(key));
-        self.0.clear(key_of(key));
+    fn read_last(&self, key: Key) -> usize {
+        let bytes = self.0.get(key);
+        self.0.clear(key);
         bytes.map_or(0, |bytes| bytes.len())
+    }
+}
+
+impl Keyed for Pardz {
+    fn word(key: Key) -> u64 {
+        key.into()
+    }
+
+    fn key(word: u64) -> Key {
+        key_of(word)
+    }
+}
+
+/// By owned handles.
+pub struct Owned(Pool<Buffer>);
+
+impl Default for Owned {
+    fn default() -> Owned {
+        Owned(growing())
+    }
+}
+
+impl Store for Owned {
+    type Handle = Key;
+
+    #[inline]
+    fn put(&self) -> Key {
+        let mut filling = self.0.create_owned().expect("memory");
+        filling.append(&BYTES).expect("memory");
+        filling.publish()
+    }
+
+    #[inline]
+    fn read(&self, key: &Key) -> usize {
+        self.0.get_owned(*key).map_or(0, |bytes| bytes.len())
+    }
+
+    #[inline]
+    fn take(&self, key: Key) -> bool {
+        self.0.clear(key)
+    }
+
+    #[inline]
+    fn read_last(&self, key: Key) -> usize {
+        let bytes = self.0.get_owned(key);
+        self.0.clear(key);
+        bytes.map_or(0, |bytes| bytes.len())
+    }
+}
+
+impl Keyed for Owned {
+    fn word(key: Key) -> u64 {
+        key.into()
+    }
+
+    fn key(word: u64) -> Key {
+        key_of(word)
     }
 }

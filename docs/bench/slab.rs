@@ -1,6 +1,6 @@
-//! The `Pool` of the real sharded-slab.
-use crate::stores::{Store, BYTES};
-use sharded_slab::{Clear, Pool};
+// A `Pool` of sharded-slab's names, which the file that takes this text in imports.
+use crate::stores::{Keyed, Store, BYTES};
+use std::sync::Arc;
 
 /// What is pooled: how it is filled, and what a reader sees of it.
 pub trait Pooled: Clear + Default + Send + Sync {
@@ -110,5 +110,59 @@ impl<T: Pooled> Store for Slab<T> {
         let object = self.0.get(key as usize);
         self.0.clear(key as usize);
         object.map_or(0, |object| object.size())
+    }
+}
+
+impl<T: Pooled> Keyed for Slab<T> {
+    fn word(key: u64) -> u64 {
+        key
+    }
+
+    fn key(word: u64) -> u64 {
+        word
+    }
+}
+
+/// The pool, by owned handles.
+#[derive(Default)]
+pub struct Owned<T: Pooled>(Arc<Pool<T>>);
+
+impl<T: Pooled> Store for Owned<T> {
+    type Handle = u64;
+
+    #[inline]
+    fn put(&self) -> u64 {
+        let item = Arc::clone(&self.0).create_owned();
+        let mut item = item.expect("the pool isn't full");
+        item.fill();
+        item.key() as u64
+    }
+
+    #[inline]
+    fn read(&self, key: &u64) -> usize {
+        let item = Arc::clone(&self.0).get_owned(*key as usize);
+        item.map_or(0, |object| object.size())
+    }
+
+    #[inline]
+    fn take(&self, key: u64) -> bool {
+        self.0.clear(key as usize)
+    }
+
+    #[inline]
+    fn read_last(&self, key: u64) -> usize {
+        let item = Arc::clone(&self.0).get_owned(key as usize);
+        self.0.clear(key as usize);
+        item.map_or(0, |object| object.size())
+    }
+}
+
+impl<T: Pooled> Keyed for Owned<T> {
+    fn word(key: u64) -> u64 {
+        key
+    }
+
+    fn key(word: u64) -> u64 {
+        word
     }
 }

@@ -1,6 +1,6 @@
 //! What one would take in the pool's place, with std alone.
 use std::cell::RefCell;
-use std::collections::HashMap;
+use std::collections::{HashMap, VecDeque};
 use std::hint::black_box;
 use std::sync::{Arc, Mutex, MutexGuard};
 
@@ -28,6 +28,13 @@ pub trait Store: Sync {
         self.take(handle);
         bytes
     }
+}
+
+/// A store whose handles are keys, which are copied, and may be words.
+pub trait Keyed: Store<Handle: Copy> {
+    fn word(key: Self::Handle) -> u64;
+
+    fn key(word: u64) -> Self::Handle;
 }
 
 /// What a lock guards. No thread panics under it.
@@ -69,6 +76,126 @@ impl Store for Map {
     fn take(&self, key: u64) -> bool {
         let taken = locked(&self.0).by_key.remove(&key);
         taken.is_some()
+    }
+}
+
+impl Keyed for Map {
+    fn word(key: u64) -> u64 {
+        key
+    }
+
+    fn key(word: u64) -> u64 {
+        word
+    }
+}
+
+/// A row of boxed buffers behind a lock. They are emptied in place, and filled again: each time with the next generation, which stands in
+/// the key beside the place.
+#[derive(Default)]
+pub struct Row(Mutex<Places>);
+
+#[derive(Default)]
+struct Places {
+    all: Vec<Place>,
+    free: Vec<u32>,
+}
+
+struct Place {
+    generation: u32,
+    is_there: bool,
+    buffer: Box<Vec<u8>>,
+}
+
+impl Places {
+    /// The place of a key whose buffer is there.
+    #[inline]
+    fn at(&mut self, key: u64) -> Option<&mut Place> {
+        let place = self.all.get_mut(key as u32 as usize)?;
+        (place.is_there && place.generation == (key >> 32) as u32).then_some(place)
+    }
+
+    /// A place that is free.
+    #[inline]
+    fn free(&mut self) -> u32 {
+        self.free.pop().unwrap_or_else(|| {
+            self.all.push(Place {
+                generation: 0,
+                is_there: false,
+                buffer: Box::default(),
+            });
+            self.all.len() as u32 - 1
+        })
+    }
+}
+
+impl Store for Row {
+    type Handle = u64;
+
+    #[inline]
+    fn put(&self) -> u64 {
+        let mut places = locked(&self.0);
+        let number = places.free();
+        let place = &mut places.all[number as usize];
+        place.generation = place.generation.wrapping_add(1);
+        place.is_there = true;
+        place.buffer.extend_from_slice(&BYTES);
+        u64::from(place.generation) << 32 | u64::from(number)
+    }
+
+    #[inline]
+    fn read(&self, key: &u64) -> usize {
+        let mut places = locked(&self.0);
+        places.at(*key).map_or(0, |place| place.buffer.len())
+    }
+
+    #[inline]
+    fn take(&self, key: u64) -> bool {
+        let mut places = locked(&self.0);
+        let Some(place) = places.at(key) else {
+            return false;
+        };
+        place.is_there = false;
+        place.buffer.clear();
+        places.free.push(key as u32);
+        true
+    }
+}
+
+impl Keyed for Row {
+    fn word(key: u64) -> u64 {
+        key
+    }
+
+    fn key(word: u64) -> u64 {
+        word
+    }
+}
+
+/// A queue of boxed spare buffers behind a lock. A thread owns what it takes, so there are no keys.
+#[derive(Default)]
+pub struct Queue(Mutex<VecDeque<Box<Vec<u8>>>>);
+
+impl Store for Queue {
+    type Handle = Box<Vec<u8>>;
+
+    #[inline]
+    fn put(&self) -> Box<Vec<u8>> {
+        let spare = locked(&self.0).pop_front();
+        let mut buffer = spare.unwrap_or_default();
+        buffer.extend_from_slice(&BYTES);
+        buffer
+    }
+
+    #[inline]
+    fn read(&self, buffer: &Box<Vec<u8>>) -> usize {
+        black_box(buffer).len()
+    }
+
+    #[inline]
+    fn take(&self, mut buffer: Box<Vec<u8>>) -> bool {
+        buffer.clear();
+        locked(&self.0).push_back(buffer);
+        true
     }
 }
 

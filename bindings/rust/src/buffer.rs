@@ -67,6 +67,12 @@ impl Buffer {
         self.bytes.truncate(self.len);
     }
 
+    #[cold]
+    #[inline(never)]
+    fn end_room_apart(&mut self) {
+        self.end_room();
+    }
+
     /// Takes memory for so many bytes more, where it has less. What [`room`](Buffer::room) lent ends.
     ///
     /// # Errors
@@ -81,8 +87,11 @@ impl Buffer {
     /// ```
     #[inline]
     pub fn reserve(&mut self, count: usize) -> Result<(), MemoryRefused> {
-        self.end_room();
-        if self.bytes.capacity() - self.len < count {
+        // (By the vector's own numbers, so that its look at its room is this one.)
+        if self.bytes.len() != self.len {
+            self.end_room_apart();
+        }
+        if self.bytes.capacity() - self.bytes.len() < count {
             return grow(&mut self.bytes, count);
         }
         Ok(())
@@ -97,7 +106,7 @@ impl Buffer {
     pub fn append(&mut self, bytes: &[u8]) -> Result<(), MemoryRefused> {
         self.reserve(bytes.len())?;
         self.bytes.extend_from_slice(bytes);
-        self.len += bytes.len();
+        self.len = self.bytes.len();
         Ok(())
     }
 

@@ -197,7 +197,7 @@ impl<T: Clear> Spend for Begun<'_, T, InHand<T>> {
 
 #[cold]
 #[inline(never)]
-fn give_back_in_hand<T: Clear>(post: Post<'_, T>, words: (u64, u64), block: Block<T>) {
+fn give_back_in_hand<T: Clear>(post: Post<'_, T>, words: (Key, u64), block: Block<T>) {
     let way = InHand::of(post.segment());
     let begun = Begun::from_words(post, words, block, way);
     let own = begun.own();
@@ -235,7 +235,7 @@ impl<T: Clear> Spend for Held<'_, T, InHand<T>> {
 
 /// Gives back a reference of another segment than the one that was asked.
 #[inline(never)]
-fn release_elsewhere<T: Clear>(post: Post<'_, T>, words: (NonNull<T>, u64, u64)) {
+fn release_elsewhere<T: Clear>(post: Post<'_, T>, words: (NonNull<T>, Key, u64)) {
     // SAFETY: they are those of a reference, which is spent here.
     let held = unsafe { Held::from_words(post, words, InHand::of(post.segment())) };
     // SAFETY: a hand gave it, and is borrowed; it is of its own lane.

@@ -47,16 +47,39 @@ impl<T: Clear> Room<T> {
         T: Default,
     {
         let begun = match self.caller() {
-            Caller::Own(own) => match own.create(Own::create_apart_or_pass) {
-                Err(CreateError::Full) => self.create_further(Some(own)),
-                created => created,
-            },
-            Caller::Sharing => match self.create_by_last(|_| ()) {
-                Some(begun) => Ok(begun),
-                None => self.create_further(None),
-            },
+            Caller::Own(own) => own.create(|own, block| self.create_apart(own, block))?,
+            Caller::Sharing => self.create_by_sharing()?,
         };
-        begun.map(Spent::new)
+        Ok(Spent::new(begun))
+    }
+
+    /// A create where the thread's lane has no place on its own list.
+    #[cold]
+    #[inline(never)]
+    fn create_apart<'s>(
+        &'s self,
+        own: Own<'s, T>,
+        block: Block<T>,
+    ) -> Result<Begun<'s, T, OfThread>, CreateError>
+    where
+        T: Default,
+    {
+        match own.create_apart_or_pass(block) {
+            Err(CreateError::Full) => self.create_further(Some(own)),
+            created => created,
+        }
+    }
+
+    /// A create by a shared lane.
+    #[inline(never)]
+    fn create_by_sharing(&self) -> Result<Begun<'_, T, OfThread>, CreateError>
+    where
+        T: Default,
+    {
+        match self.create_by_last(|_| ()) {
+            Some(begun) => Ok(begun),
+            None => self.create_further(None),
+        }
     }
 
     /// A create by one of the shared lanes, or by the thread's own in another segment.
@@ -166,7 +189,7 @@ impl<'p, T: Clear> Begun<'p, T, OfThread> {
 
 /// A publish under the lock. (By its parts, which stay in registers.)
 #[inline(never)]
-fn publish_locked<T: Clear>(post: Post<'_, T>, words: (u64, u64), block: Block<T>) -> Key {
+fn publish_locked<T: Clear>(post: Post<'_, T>, words: (Key, u64), block: Block<T>) -> Key {
     let begun = Begun::from_words(post, words, block, OfThread);
     // SAFETY: no thread has such a lane alone, and it is of its own lane.
     unsafe { post.locked(|turn, _| turn.publish(begun)) }
@@ -183,7 +206,7 @@ impl<T: Clear> Spend for Begun<'_, T, OfThread> {
 
 #[cold]
 #[inline(never)]
-fn give_back_of_thread<T: Clear>(post: Post<'_, T>, words: (u64, u64), block: Block<T>) {
+fn give_back_of_thread<T: Clear>(post: Post<'_, T>, words: (Key, u64), block: Block<T>) {
     let begun = Begun::from_words(post, words, block, OfThread);
     give_back(begun, |begun, is_empty| match begun.way() {
         // SAFETY: it is of its own lane.
@@ -228,7 +251,7 @@ impl<T: Clear> Spend for Held<'_, T, OfThread> {
 /// The drop of a reference. (Apart, so that a caller with several places where one is dropped has it in none; by its words, so that a
 /// reference whose address isn't told stays in registers.)
 #[inline(never)]
-fn release<T: Clear>(post: Post<'_, T>, words: (NonNull<T>, u64, u64)) {
+fn release<T: Clear>(post: Post<'_, T>, words: (NonNull<T>, Key, u64)) {
     // SAFETY: they are those of a reference, which is spent here.
     let held = unsafe { Held::from_words(post, words, OfThread) };
     match held.way() {
@@ -239,7 +262,7 @@ fn release<T: Clear>(post: Post<'_, T>, words: (NonNull<T>, u64, u64)) {
 }
 
 #[inline(never)]
-fn release_locked<T: Clear>(post: Post<'_, T>, words: (NonNull<T>, u64, u64)) {
+fn release_locked<T: Clear>(post: Post<'_, T>, words: (NonNull<T>, Key, u64)) {
     // SAFETY: they are those of a reference, which is spent here.
     let held = unsafe { Held::from_words(post, words, OfThread) };
     // SAFETY: no thread has such a lane alone, and it is of its own lane.

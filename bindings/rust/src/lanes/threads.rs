@@ -4,7 +4,7 @@ use crate::object::Counted;
 use crate::sync::{thread_local, Counter};
 use std::cell::{Cell, RefCell};
 use std::mem;
-use std::ptr;
+use std::ptr::NonNull;
 
 /// A lane of a pool that the thread has.
 struct Entry {
@@ -19,7 +19,7 @@ struct Kept(RefCell<Vec<Entry>>);
 impl Drop for Kept {
     fn drop(&mut self) {
         ENDED.set(true);
-        LAST.with(|all| all.iter().for_each(|one| one.set((0, ptr::null()))));
+        LAST.with(|all| all.iter().for_each(|one| one.set(NONE)));
         for Entry { number, homes, .. } in self.0.take() {
             homes.leave(number);
         }
@@ -29,10 +29,13 @@ impl Drop for Kept {
 /// Of how many pools a thread knows at once which lane is its own, and which shared one it called last.
 const POOLS: usize = 8;
 
+/// An entry of no pool.
+const NONE: (u64, NonNull<()>) = (0, NonNull::dangling());
+
 thread_local! {
-    /// By the last digit of a pool's number: the pool, and where the seat stands of the thread's lane that had a place last; null where it
-    /// found none, and shares.
-    static LAST: [Cell<(u64, *const ())>; POOLS] = const { [const { Cell::new((0, ptr::null())) }; POOLS] };
+    /// By the last digit of a pool's number: the pool, and where the seat stands of the thread's lane that had a place last. The number
+    /// with each bit turned over, where it found none, and shares.
+    static LAST: [Cell<(u64, NonNull<()>)>; POOLS] = const { [const { Cell::new(NONE) }; POOLS] };
     /// Likewise: the pool, and the number of the shared lane that the thread called last.
     static LAST_SHARED: [Cell<(u64, u32)>; POOLS] = const { [const { Cell::new((0, 0)) }; POOLS] };
     /// Whether the thread has left its lanes.
@@ -42,23 +45,28 @@ thread_local! {
     static KEPT: Kept = const { Kept(RefCell::new(Vec::new())) };
 }
 
-/// Where the seat stands of the thread's lane of this pool that had a place last, or null where it shares; if that is known.
+/// Where the seat stands of the thread's lane of this pool that had a place last; if that is known.
 #[inline(always)]
-pub(super) fn last(pool: u64) -> Option<*const ()> {
+pub(super) fn last(pool: u64) -> Option<NonNull<()>> {
     let (last, at) = LAST.with(|all| all[pool as usize % POOLS].get());
     (last == pool).then_some(at)
+}
+
+/// Whether the thread found no lane of this pool, and shares; if that is known.
+pub(super) fn shares(pool: u64) -> bool {
+    LAST.with(|all| all[pool as usize % POOLS].get()).0 == !pool
 }
 
 /// # Safety
 ///
 /// The thread keeps the lane of this seat, in the pool of this number.
-pub(super) unsafe fn set_last(pool: u64, at: *const ()) {
+pub(super) unsafe fn set_last(pool: u64, at: NonNull<()>) {
     LAST.with(|all| all[pool as usize % POOLS].set((pool, at)));
 }
 
 /// The thread has no lane of this pool.
 pub(super) fn set_shares(pool: u64) {
-    LAST.with(|all| all[pool as usize % POOLS].set((pool, ptr::null())));
+    LAST.with(|all| all[pool as usize % POOLS].set((!pool, NONE.1)));
 }
 
 /// The shared lane of this pool that the thread called last, where that is known.

@@ -64,13 +64,13 @@ impl<T: Clear> By<T> for Far {
     }
 }
 
-/// In `start`: the lane is one that threads share. (One word, so that a move reads what was written.)
-const SHARED: u64 = 1 << 32;
+/// In `start`: the lane is one that threads share. (One word, so that a move reads what was written; its sign, which is told by one look.)
+const SHARED: u64 = 1 << 63;
 
 /// A proved reference, taken apart: its key, where the key's place stands in the lane's pool, and where its object does.
 pub(crate) struct Held<'s, T: Clear, W> {
     post: Post<'s, T>,
-    key: u64,
+    key: Key,
     start: u64,
     object: NonNull<T>,
     pub(super) way: W,
@@ -80,7 +80,7 @@ impl<'s, T: Clear, W> Held<'s, T, W> {
     #[inline(always)]
     pub(super) fn new(
         post: Post<'s, T>,
-        (key, start): (u64, u32),
+        (key, start): (Key, u32),
         object: NonNull<T>,
         way: W,
     ) -> Self {
@@ -95,7 +95,7 @@ impl<'s, T: Clear, W> Held<'s, T, W> {
 
     #[inline]
     pub(crate) fn key(&self) -> Key {
-        Key::proved(self.key)
+        self.key
     }
 
     #[inline(always)]
@@ -124,12 +124,12 @@ impl<'s, T: Clear, W> Held<'s, T, W> {
     /// What the proved pool knows of it.
     #[inline(always)]
     pub(super) fn into_proved(self) -> (u64, u32) {
-        (self.key, self.start as u32)
+        (self.key.into(), self.start as u32)
     }
 
     /// As words, for calls that have them in registers.
     #[inline(always)]
-    pub(super) fn into_words(self) -> (NonNull<T>, u64, u64) {
+    pub(super) fn into_words(self) -> (NonNull<T>, Key, u64) {
         (self.object, self.key, self.start)
     }
 
@@ -139,7 +139,7 @@ impl<'s, T: Clear, W> Held<'s, T, W> {
     #[inline(always)]
     pub(super) unsafe fn from_words(
         post: Post<'s, T>,
-        (object, key, start): (NonNull<T>, u64, u64),
+        (object, key, start): (NonNull<T>, Key, u64),
         way: W,
     ) -> Self {
         Held {
@@ -155,7 +155,7 @@ impl<'s, T: Clear, W> Held<'s, T, W> {
 /// A proved filling, taken apart: its key, where the key's place stands, and a block with its object.
 pub(crate) struct Begun<'s, T: Clear, W> {
     post: Post<'s, T>,
-    key: u64,
+    key: Key,
     start: u64,
     block: Block<T>,
     pub(super) way: W,
@@ -165,7 +165,7 @@ impl<'s, T: Clear, W> Begun<'s, T, W> {
     #[inline(always)]
     pub(super) fn new(
         post: Post<'s, T>,
-        (key, start): (u64, u32),
+        (key, start): (Key, u32),
         block: Block<T>,
         way: W,
     ) -> Self {
@@ -175,7 +175,7 @@ impl<'s, T: Clear, W> Begun<'s, T, W> {
     #[inline(always)]
     pub(super) fn from_words(
         post: Post<'s, T>,
-        (key, start): (u64, u64),
+        (key, start): (Key, u64),
         block: Block<T>,
         way: W,
     ) -> Self {
@@ -190,7 +190,7 @@ impl<'s, T: Clear, W> Begun<'s, T, W> {
 
     #[inline]
     pub(crate) fn key(&self) -> Key {
-        Key::proved(self.key)
+        self.key
     }
 
     #[inline(always)]
@@ -228,12 +228,12 @@ impl<'s, T: Clear, W> Begun<'s, T, W> {
     /// What the proved pool knows of it, and the block.
     #[inline(always)]
     pub(super) fn into_proved(self) -> (u64, u32, Block<T>) {
-        (self.key, self.start as u32, self.block)
+        (self.key.into(), self.start as u32, self.block)
     }
 
     /// As words and its block, for calls that have them in registers.
     #[inline(always)]
-    pub(super) fn into_words(self) -> (Post<'s, T>, (u64, u64), Block<T>) {
+    pub(super) fn into_words(self) -> (Post<'s, T>, (Key, u64), Block<T>) {
         (self.post, (self.key, self.start), self.block)
     }
 }

@@ -7,7 +7,7 @@ use crate::erased::poolsteps::stack_word;
 use crate::erased::shardpool::{self, CreateFault, MOST_REFERENCES};
 use crate::errors::CreateError;
 use crate::key::Key;
-use crate::object::{self, Block, Object, Returned};
+use crate::object::{self, Block, Chain, Object, Returned};
 use crate::shim::Ready;
 use crate::sync::{self, AtomicU32, Ordering};
 use std::marker::PhantomData;
@@ -92,6 +92,16 @@ fn bring_home<T: Clear>(post: Post<'_, T>, block: Block<T>) {
     home.returned[post.number() as usize].push(block);
 }
 
+/// A block that another lane returned, where the lane has no other. The others that it returned are spare then. (Apart, likewise.)
+#[inline(never)]
+fn returned<T: Clear>(post: Post<'_, T>, spare: &mut Chain<T>) -> Option<Block<T>> {
+    let mut taken = post.seat().returned.iter().map(Returned::take);
+    let mut chain = taken.find(|chain| !chain.is_empty())?;
+    let block = chain.pop();
+    mem::swap(spare, &mut chain);
+    block
+}
+
 impl<'s, T: Clear, P: Stands<'s, T>> Turn<'s, T, P> {
     /// # Safety
     ///
@@ -159,21 +169,12 @@ impl<'s, T: Clear, P: Stands<'s, T>> Turn<'s, T, P> {
     /// A block that was used before.
     #[inline(always)]
     pub(super) fn spare(&mut self) -> Option<Block<T>> {
-        match self.store().spare.pop() {
-            Some(block) => Some(block),
-            None => self.returned(),
-        }
-    }
-
-    /// A block that another lane returned, where the lane has no other. The others that it returned are spare then.
-    #[inline(never)]
-    fn returned(&mut self) -> Option<Block<T>> {
         let post = self.post();
-        let mut taken = post.seat().returned.iter().map(Returned::take);
-        let mut chain = taken.find(|chain| !chain.is_empty())?;
-        let block = chain.pop();
-        mem::swap(&mut self.store().spare, &mut chain);
-        block
+        let spare = &mut self.store().spare;
+        match spare.pop() {
+            Some(block) => Some(block),
+            None => returned(post, spare),
+        }
     }
 
     /// What the last call took out of a place.
@@ -258,7 +259,7 @@ impl<'s, T: Clear, P: Stands<'s, T>> Turn<'s, T, P> {
         add(&self.post().seat().fillings, 1);
         Ok(Begun::new(
             self.post(),
-            (key, start),
+            (Key::proved(key), start),
             block,
             W::of(self.at.segment()),
         ))
@@ -279,11 +280,12 @@ impl<'s, T: Clear, P: Stands<'s, T>> Turn<'s, T, P> {
     /// It is of this lane.
     #[inline(always)]
     pub(super) unsafe fn publish<W>(&mut self, begun: Begun<'_, T, W>) -> Key {
+        let key = begun.key();
         let proved = self.spend(begun);
         let (pool, lane, call) = self.proved();
-        let key = pool.publish(lane, proved);
+        pool.publish(lane, proved);
         call.end();
-        Key::proved(key)
+        key
     }
 
     /// Publishes a filling, with a reference. It comes back where the lane has as many as it may.
@@ -299,12 +301,12 @@ impl<'s, T: Clear, P: Stands<'s, T>> Turn<'s, T, P> {
         if self.references() >= MOST_REFERENCES {
             return Err(begun);
         }
-        let (post, object, way) = (begun.post(), begun.address(), begun.way);
+        let (post, key, object, way) = (begun.post(), begun.key(), begun.address(), begun.way);
         let proved = self.spend(begun);
         let (pool, lane, call) = self.proved();
         let proved = pool.downgrade(lane, proved);
         call.end();
-        Ok(Held::new(post, (proved.key, proved.start), object, way))
+        Ok(Held::new(post, (key, proved.start), object, way))
     }
 
     /// A get of this segment.
@@ -321,7 +323,7 @@ impl<'s, T: Clear, P: Stands<'s, T>> Turn<'s, T, P> {
         // SAFETY: the lane has a reference to the key, so a publish of this file put the object there.
         let object = unsafe { lane.read(&proved).address() };
         call.end();
-        let place = (proved.key, proved.start);
+        let place = (key, proved.start);
         let way = W::of(self.at.segment());
         Ok(Some(Held::new(self.post(), place, object, way)))
     }

@@ -12,7 +12,6 @@ use crate::errors::{MemoryRefused, OpenError};
 use crate::object::Counted;
 use crate::sync::{AtomicBool, AtomicU64, Mutex, Ordering};
 use std::iter;
-use std::ptr::NonNull;
 use std::sync::PoisonError;
 
 /// The number of a lane, for who has taken the lane alone: it moves.
@@ -124,25 +123,27 @@ impl<T: Clear> Room<T> {
     /// Which way the thread calls the pool. Its first call finds it a lane.
     #[inline(always)]
     pub(super) fn caller(&self) -> Caller<'_, T> {
-        let Some(at) = threads::last(self.id()) else {
+        let Some(seat) = threads::last(self.id()) else {
             return self.find_caller();
         };
-        match NonNull::new(at.cast_mut().cast()) {
-            Some(seat) => {
-                // SAFETY: `set_last` was told that the thread keeps the lane of this seat, of the pool of this number, which is borrowed.
-                // Where the thread has left it, it isn't found here any more.
-                let post = unsafe { Post::at(seat) };
-                // SAFETY: as above.
-                Caller::Own(unsafe { Own::of(post) })
-            }
-            None if self.lanes.none_is_home() => Caller::Sharing,
-            None => self.find_caller(),
+        // SAFETY: `set_last` was told that the thread keeps the lane of this seat, of the pool of this number, which is borrowed. Where
+        // the thread has left it, it isn't found here any more.
+        let post = unsafe { Post::at(seat.cast()) };
+        // SAFETY: as above.
+        Caller::Own(unsafe { Own::of(post) })
+    }
+
+    #[inline(never)]
+    fn find_caller(&self) -> Caller<'_, T> {
+        if threads::shares(self.id()) && self.lanes.none_is_home() {
+            return Caller::Sharing;
         }
+        self.look_for_caller()
     }
 
     #[cold]
     #[inline(never)]
-    fn find_caller(&self) -> Caller<'_, T> {
+    fn look_for_caller(&self) -> Caller<'_, T> {
         let Some(number) = self.thread_number() else {
             threads::set_shares(self.id());
             return Caller::Sharing;
@@ -160,9 +161,8 @@ impl<T: Clear> Room<T> {
     ///
     /// The thread keeps the lane of this seat.
     pub(super) unsafe fn had_place(&self, post: Post<'_, T>) {
-        let at = post.pointer().as_ptr().cast_const().cast();
         // SAFETY: the caller's, and it is of this pool.
-        unsafe { threads::set_last(self.id(), at) };
+        unsafe { threads::set_last(self.id(), post.pointer().cast()) };
     }
 
     /// The lane that the thread keeps, or is to keep from now on. None where it shares.
