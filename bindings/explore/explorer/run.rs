@@ -11,7 +11,7 @@ use std::sync::atomic::{AtomicU64, Ordering};
 use std::sync::{Arc, Condvar, Mutex, MutexGuard, PoisonError};
 
 /// More steps than any schedule of a scenario has, unless its threads wait for each other for ever.
-const MOST_STEPS: usize = 50_000;
+const MOST_STEPS: usize = 10_000;
 
 /// So often a thread looks again in vain, when no other can go on: more often than any part of the crate does.
 const MOST_WAITS_IN_VAIN: u32 = 3000;

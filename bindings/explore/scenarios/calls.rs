@@ -11,6 +11,13 @@ pub fn all() -> Vec<Scenario> {
     vec![
         Scenario::new("shared-create", shared, [make_and_clear; 2], drop).bounded(2),
         Scenario::new("shared-downgrade", shared, [downgrade_and_clone; 2], drop).bounded(2),
+        Scenario::new(
+            "shared-give-back",
+            shared,
+            [give_back, make_and_clear],
+            drop,
+        )
+        .bounded(2),
         Scenario::new("shared-get", shared, [get, get], drop).bounded(2),
         Scenario::new("shared-clear", shared, [get, clear], drop).bounded(2),
         Scenario::new(
@@ -69,6 +76,13 @@ pub fn all() -> Vec<Scenario> {
             settled,
         ),
         Scenario::new(
+            "taken-back-and-called",
+            one_lane_idle,
+            [take_and_look, create_and_get],
+            settled,
+        )
+        .bounded(2),
+        Scenario::new(
             "left-by-three",
             || lanes_at_home(shape(3, 1, 1), 1),
             [get, get, get],
@@ -88,6 +102,31 @@ fn shared_and_idle() -> World {
     }
     drop(handles);
     world
+}
+
+/// Both lanes are shared. The one of the pool's shape is idle, and the other one is full.
+fn one_lane_idle() -> World {
+    let mut world = lanes_at_home(shape(1, 2, 1), 0);
+    for _ in 0..4 {
+        let mut filling = world.pool.create_owned().expect("a place");
+        filling.set(number_of(world.keys.len()));
+        let key = filling.publish();
+        if u64::from(key) >> 16 & 0xff == 0 {
+            assert!(world.pool.clear(key));
+        } else {
+            world.keys.push(key);
+        }
+    }
+    assert_eq!(world.keys.len(), 2);
+    world
+}
+
+/// Calls a shared lane twice, which may be another one's meanwhile.
+fn create_and_get(world: &World) {
+    drop(world.pool.create_owned());
+    if let Some(object) = world.pool.get_owned(world.keys[0]) {
+        assert_eq!(object.get(), number_of(0));
+    }
 }
 
 fn take_and_make(world: &World) {
@@ -159,6 +198,13 @@ fn make_and_clear(world: &World) {
         assert_eq!(world.pool.get(key).expect("it is published").get(), 1);
         assert!(world.pool.clear(key));
         world.count(true);
+    }
+}
+
+/// Fills an object, and publishes it not.
+fn give_back(world: &World) {
+    if let Ok(mut filling) = world.pool.create() {
+        filling.set(7);
     }
 }
 

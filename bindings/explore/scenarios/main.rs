@@ -64,23 +64,30 @@ fn main() -> ExitCode {
             explorer::watch(LITTLE_PATIENCE);
             return run(checks::run_faulty(name).as_slice(), Within::default());
         }
-        ["--old", ref names @ ..] => {
-            let within = Within {
-                old_looks: 1,
-                ..Within::default()
-            };
+        _ => {
+            let (names, within) = options(&words);
             return run_named(names, within);
         }
-        ["--at-most", count, ref names @ ..] => {
-            let within = Within {
-                most: Some(count.parse().expect("a count")),
-                ..Within::default()
-            };
-            return run_named(names, within);
-        }
-        _ => return run_named(&words, Within::default()),
     }
     ExitCode::SUCCESS
+}
+
+/// Which schedules the words ask for, and the names behind those.
+fn options<'w, 'n>(words: &'w [&'n str]) -> (&'w [&'n str], Within) {
+    let (mut names, mut within) = (words, Within::default());
+    loop {
+        names = match names {
+            ["--old", rest @ ..] => {
+                within.old_looks = 1;
+                rest
+            }
+            ["--at-most", count, rest @ ..] => {
+                within.most = Some(count.parse().expect("a count"));
+                rest
+            }
+            _ => return (names, within),
+        };
+    }
 }
 
 /// Runs the scenarios of these names, or all.

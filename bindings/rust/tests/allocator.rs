@@ -249,6 +249,37 @@ fn a_hook_creates_while_a_segment_opens() {
     });
 }
 
+/// While a thread opens a segment its hook opens that one, and another one: each is there once.
+#[test]
+fn a_hook_opens_segments_while_one_opens() {
+    static GROWING: OnceLock<Pool<String>> = OnceLock::new();
+    fn opens() {
+        if HOOKED.fetch_add(1, SeqCst) == 0 {
+            let pool = GROWING.get().expect("it is set");
+            let mut keys = (0..).map(|_| pool.put("x").unwrap());
+            let key = keys.find(|key| tag_of(*key) == 2);
+            assert!(pool.clear(key.expect("it grows")));
+        }
+    }
+    fn tag_of(key: Key) -> u64 {
+        u64::from(key) >> 56
+    }
+    alone("a_hook_opens_segments_while_one_opens", || {
+        let pool = GROWING.get_or_init(|| Pool::growing().unwrap());
+        let lane = pool.lane().unwrap();
+        // (The lane is full, and has an object, so that it asks for a segment's memory alone.)
+        let full: Vec<_> = (1..32).map(|_| lane.put("x").unwrap()).collect();
+        lane.create().unwrap().forget();
+        HOOK.set(opens);
+        let created = lane.create();
+        HOOK.set(|| ());
+        let key = created.unwrap().publish();
+        assert_eq!(pool.census().total(), 16 * (32 + 64 + 192));
+        assert!(tag_of(key) > 0 && lane.clear(key));
+        assert!(full.into_iter().all(|key| lane.clear(key)));
+    });
+}
+
 /// The row of the lanes that a thread keeps grows, and the hook looks for one of them there.
 #[test]
 fn a_hook_calls_while_a_thread_keeps_lanes() {
@@ -257,6 +288,37 @@ fn a_hook_calls_while_a_thread_keeps_lanes() {
         at_once([|| with_hook(|| pools.iter().for_each(use_once))]);
         assert!(HOOKED.load(SeqCst) > 20);
         for pool in &pools {
+            assert!(pool.lane().is_some(), "its lane came home");
+        }
+    });
+}
+
+/// The same, where the hook looks for each lane that the thread has, of more pools than it knows at once.
+#[test]
+fn a_hook_asks_for_all_lanes_while_their_row_grows() {
+    static POOLS: OnceLock<Vec<Pool<String>>> = OnceLock::new();
+    thread_local!(static USED: Cell<usize> = const { Cell::new(0) });
+    fn asks() {
+        let pools = POOLS.get().expect("they are set");
+        let unknown = Key::try_from(1).expect("a key");
+        let found = pools[..USED.get()]
+            .iter()
+            .any(|pool| pool.get(unknown).is_some());
+        assert!(!found);
+        HOOKED.fetch_add(1, SeqCst);
+    }
+    alone("a_hook_asks_for_all_lanes_while_their_row_grows", || {
+        let pools = POOLS.get_or_init(|| (0..40).map(|_| small()).collect());
+        at_once([|| {
+            HOOK.set(asks);
+            for (number, pool) in pools.iter().enumerate() {
+                use_once(pool);
+                USED.set(number + 1);
+            }
+            HOOK.set(|| ());
+        }]);
+        assert!(HOOKED.load(SeqCst) > 40);
+        for pool in pools {
             assert!(pool.lane().is_some(), "its lane came home");
         }
     });

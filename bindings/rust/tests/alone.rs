@@ -2,7 +2,7 @@
 mod common;
 
 use common::{alone, at_once, limit};
-use pardz::{Clear, CreateError, Key, OwnedRef, Pool, PoolRef, Shape};
+use pardz::{Clear, CreateError, Growth, Key, OpenError, OwnedRef, Pool, PoolRef, Shape};
 use std::cell::{Cell, RefCell};
 use std::panic::{self, catch_unwind, panic_any, AssertUnwindSafe};
 use std::sync::atomic::{AtomicUsize, Ordering::SeqCst};
@@ -391,6 +391,21 @@ fn places_of_earlier_segments_are_taken_again() {
     }
 }
 
+/// A pool has as many segments as it may, and no more of them than tags.
+#[test]
+fn a_pool_grows_as_far_as_it_may() {
+    let growth = Growth::new().first_tag(254).most_segments(2);
+    let pool = growth.open::<String>().unwrap();
+    let lane = pool.lane().unwrap();
+    let keys: Vec<_> = (0..1000).map_while(|_| lane.put("x").ok()).collect();
+    assert_eq!(keys.len(), 32 + 64);
+    assert_eq!(lane.put("x").err(), Some(CreateError::Full));
+    assert_eq!(pool.census().total(), 16 * (32 + 64));
+    assert!(keys.iter().all(|key| lane.clear(*key)));
+    let wrong = growth.most_segments(3).open::<String>();
+    assert_eq!(wrong.err(), Some(OpenError::Shape));
+}
+
 // Threads that end.
 
 fn two_pools() -> &'static [Pool<String>; 2] {
@@ -620,6 +635,27 @@ fn lanes_that_are_used_stay_shared() {
         assert_eq!(lanes(), 2);
         let lane = pool.lane().unwrap();
         assert!(keys.iter().all(|key| lane.clear(*key)));
+    }
+}
+
+/// Calls of a thread that shares go by another lane when the one that it called last is taken back.
+#[test]
+fn a_lane_that_was_taken_back_is_called_no_more() {
+    let _limit = limit();
+    let pool = Pool::<String>::open(shape(2, 1, 1)).unwrap();
+    let lane_of = |key: Key| u64::from(key) >> 16 & 0xff;
+    for last in 0..3 {
+        let mut fillings = [(); 3].map(|()| Some(pool.create_owned().unwrap()));
+        let key = fillings[last].take().unwrap().publish();
+        assert!(pool.clear(key));
+        // (The lane whose place is free is the one that is called last.)
+        drop(pool.create_owned().unwrap());
+        drop(fillings);
+        let lanes = [(); 2].map(|()| pool.lane().unwrap());
+        let text = pool.create_owned().unwrap().downgrade();
+        assert_eq!(lane_of(text.key()), 2);
+        assert!(pool.clear(text.key()));
+        drop((text, lanes));
     }
 }
 

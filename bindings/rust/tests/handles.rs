@@ -131,7 +131,8 @@ fn a_downgrade_of_a_shared_lane_has_a_limit() {
     assert!(is_too_many(|| filling.downgrade()));
     assert!(is_too_many(|| owned.downgrade()));
     drop(lane);
-    assert_eq!(pool.census().present, 1);
+    let census = pool.census();
+    assert_eq!((census.present, census.filling), (1, 0));
     // (It is there for the references that were forgotten.)
     mem::forget(pool);
 }

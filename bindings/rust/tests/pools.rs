@@ -66,11 +66,89 @@ fn a_thread_that_shares_in_many_pools() {
     in_turn(&pools);
     for (pool, lane) in pools.iter().zip(lanes) {
         let key = pool.put("by a shared lane").expect("a place");
-        assert_eq!(u64::from(key) >> 16 & 0xff, 1);
+        assert_eq!(lane_of(key), 1);
         drop(lane);
         let key = pool.put("by a lane of its own").expect("a place");
-        assert_eq!(u64::from(key) >> 16 & 0xff, 0);
+        assert_eq!(lane_of(key), 0);
         assert!(pool.lane().is_none(), "the thread keeps it");
+    }
+}
+
+fn lane_of(key: Key) -> u64 {
+    u64::from(key) >> 16 & 0xff
+}
+
+/// Of many pools each of two threads keeps the lane that it took, and goes back to it.
+#[test]
+fn each_thread_keeps_its_lane_of_many_pools() {
+    let _limit = limit();
+    let pools: Vec<_> = (0..MANY).map(|_| opened(2)).collect();
+    let lanes = || {
+        pools
+            .iter()
+            .map(|pool| lane_of(pool.put("x").expect("a place")))
+    };
+    let first: Vec<_> = lanes().collect();
+    assert_eq!(first, [0; MANY]);
+    thread::scope(|scope| {
+        let other = || [(); 3].map(|()| lanes().all(|lane| lane == 1));
+        assert_eq!(scope.spawn(other).join().expect("no panic"), [true; 3]);
+    });
+    assert!(lanes().all(|lane| lane == 0));
+    assert!(pools.iter().all(|pool| pool.census().present == 5));
+}
+
+/// A quarter of the lanes is shared, where calls need it, and stays so.
+#[test]
+fn a_quarter_of_the_lanes_is_shared() {
+    let _limit = limit();
+    let pool = opened(12);
+    assert_eq!(
+        lane_of(pool.put("by a lane of its own").expect("a place")),
+        2
+    );
+    let create = |_| pool.create_owned().expect("a place");
+    let fillings: Vec<_> = (0..3 * 8).map(create).collect();
+    let mut lanes: Vec<_> = fillings.iter().map(|text| lane_of(text.key())).collect();
+    lanes.sort_unstable();
+    lanes.dedup();
+    assert_eq!(lanes, [0, 1, 12]);
+    drop(fillings);
+    let lanes: Vec<_> = (0..).map_while(|_| pool.lane()).collect();
+    assert_eq!(lanes.len(), 9);
+}
+
+/// A thread finds the keys of all segments: by a lane of its own, which had its last place in one of them, or in none.
+#[test]
+fn a_thread_reads_all_segments() {
+    let _limit = limit();
+    let pool = Pool::<String>::growing().expect("a pool");
+    let put = |number: usize| pool.put(&text_of(0, number)).expect("a place");
+    let keys: Vec<Key> = (0..600).map(put).collect();
+    let segments = keys.iter().map(|key| u64::from(*key) >> 56);
+    assert_eq!(segments.max(), Some(2));
+    let reads = || {
+        for (number, key) in keys.iter().enumerate() {
+            assert_eq!(*pool.get(*key).expect("published"), text_of(0, number));
+        }
+    };
+    reads();
+    thread::scope(|scope| scope.spawn(reads).join().expect("no panic"));
+}
+
+/// A thread that shares in many pools shares in each a lane of that one: their shared lanes have other numbers.
+#[test]
+fn a_thread_shares_in_pools_of_other_shapes() {
+    let _limit = limit();
+    let pools: Vec<_> = (0..MANY)
+        .map(|number| opened(1 + number as u32 % 7))
+        .collect();
+    for _ in 0..3 {
+        for (number, pool) in pools.iter().enumerate() {
+            let text = pool.create_owned().expect("a place").downgrade();
+            assert_eq!(lane_of(text.key()), 1 + number as u64 % 7);
+            assert!(pool.clear(text.key()));
+        }
     }
 }
 

@@ -328,6 +328,23 @@ fn each_request_of_calls_without_a_lane_is_refused() {
     assert!(tried.count() >= 25);
 }
 
+/// A thread whose list of lanes finds no memory shares: the lane that it took comes home.
+#[test]
+fn a_lane_that_cannot_be_kept_comes_home() {
+    let shape = Shape { lanes: 1, ..SHAPE };
+    let pool = Pool::<Buffer>::open(shape).expect("memory for a pool");
+    let unknown = Key::try_from(1).expect("a key");
+    let calls = || {
+        GRANTED.set(0);
+        assert!(tried(|| pool.get(unknown)).is_none());
+        REFUSED.get()
+    };
+    let refused = std::thread::scope(|scope| scope.spawn(calls).join());
+    assert_eq!(refused.expect("no panic"), 1);
+    let lane = pool.lane().expect("the thread has kept none");
+    assert_eq!(lane.number(), 0);
+}
+
 #[test]
 fn each_request_of_buffers_is_refused() {
     refuse_each(buffers, 30);

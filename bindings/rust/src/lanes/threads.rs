@@ -111,7 +111,10 @@ pub(super) fn keep(pool: u64, number: Number, homes: &Counted<Homes>) -> Result<
             drop(closed);
         }
         let homes = Counted::clone(homes);
-        if let (true, Some(number)) = (kept.has_room(), number.take()) {
+        if !kept.has_room() {
+            return;
+        }
+        if let Some(number) = number.take() {
             kept.0.borrow_mut().push(Entry {
                 pool,
                 number,
