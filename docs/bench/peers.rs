@@ -59,6 +59,9 @@ const AT_ONCE: usize = 1000;
 /// How many buffers a store is given in a round of `page`.
 const PAGE_ROUND: usize = 1985;
 
+/// How many buffers are read at random: as many as the largest narrow pool has places.
+const LARGE: usize = 64_512;
+
 /// What a word says where no key is under way in it.
 const FREE: u64 = u64::MAX;
 
@@ -298,6 +301,24 @@ fn page<S: Store + Default>(plan: Plan, count: usize) -> u64 {
     })
 }
 
+/// Each thread reads one of many buffers at random.
+fn get_large<S: Store>(store: &S, plan: Plan) -> u64 {
+    on_threads(plan.threads, |_| {
+        let handles: Vec<S::Handle> = (0..LARGE).map(|_| store.put()).collect();
+        let count = handles.len() as u64;
+        let mut word = 88_172_645_463_325_252u64;
+        (0..plan.rounds)
+            .map(|_| {
+                word ^= word << 13;
+                word ^= word >> 7;
+                word ^= word << 17;
+                let at = ((word >> 32) * count) >> 32;
+                store.read(&handles[at as usize]) as u64
+            })
+            .sum()
+    })
+}
+
 /// Does the rounds of this name over a store. None where there are none of the name.
 fn do_rounds<S: Store>(store: &S, rounds: &str, plan: Plan) -> Option<u64> {
     match rounds {
@@ -306,6 +327,7 @@ fn do_rounds<S: Store>(store: &S, rounds: &str, plan: Plan) -> Option<u64> {
         "get-others" => Some(get(store, plan, Whose::Others)),
         "get-many" => Some(get_many(store, plan)),
         "get-two" => Some(get_two(store, plan)),
+        "get-large" => Some(get_large(store, plan)),
         "cycle" => Some(cycle(store, plan)),
         "cycle-two" => Some(cycle_two(store, plan)),
         "held" => Some(held(store, plan)),
