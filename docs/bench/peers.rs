@@ -75,6 +75,7 @@ fn do_rounds<S: Store>(store: &S, name: &str, plan: Plan) -> Option<u64> {
         "get-others" => Some(rounds::get(store, plan, Whose::Others)),
         "get-many" => Some(rounds::get_many(store, plan)),
         "get-two" => Some(rounds::get_two(store, plan)),
+        "get-large" => Some(rounds::get_large(store, plan)),
         "cycle" => Some(rounds::cycle(store, plan)),
         "cycle-two" => Some(rounds::cycle_two(store, plan)),
         "held" => Some(rounds::held(store, plan)),

@@ -20,6 +20,9 @@ const AT_ONCE: usize = 1000;
 /// How many buffers are taken away in a random order.
 const RANDOM: usize = 100_000;
 
+/// How many buffers are read at random: as many as the largest narrow pool has places.
+const LARGE: usize = 64_512;
+
 /// How many threads are idle.
 const IDLE: usize = 12;
 
@@ -117,6 +120,22 @@ pub fn get_two<S: Store>(store: &S, plan: Plan) -> u64 {
                 let first = (round % (MANY as u64 / 2)) as usize;
                 let bytes = store.read(&handles[first]) as u64;
                 bytes + store.read(&handles[first + MANY / 2]) as u64
+            })
+            .sum()
+    })
+}
+
+/// Each thread reads one of many buffers at random.
+pub fn get_large<S: Store>(store: &S, plan: Plan) -> u64 {
+    on_threads(plan.threads, |_| {
+        let handles: Vec<S::Handle> = (0..LARGE).map(|_| store.put()).collect();
+        let count = handles.len() as u64;
+        let mut word = 88_172_645_463_325_252;
+        (0..plan.rounds)
+            .map(|_| {
+                word = random_after(word);
+                let at = ((word >> 32) * count) >> 32;
+                store.read(&handles[at as usize]) as u64
             })
             .sum()
     })

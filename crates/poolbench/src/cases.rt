@@ -1,6 +1,6 @@
 //! The cases, and the plans that words name.
 use crate::rounds::{Deed, Own, Solo, Whose};
-use keybits::NARROW_LANES;
+use keybits::{MOST_LANES, NARROW_LANES};
 
 /// What is done in each round.
 #[derive(Clone, Copy)]
@@ -11,10 +11,14 @@ pub enum Case {
     Pool(Deed),
     /// A deed, in a pool of 16 lanes.
     Pool16(Deed),
+    /// A deed, in a pool of 64 lanes.
+    Pool64(Deed),
+    /// The largest wide pool is filled and emptied.
+    Fill,
 }
 
 /// The cases by name.
-pub const CASES: [(&str, Case); 21] = [
+pub const CASES: [(&str, Case); 24] = [
     ("bare", Case::Solo(Solo::Bare)),
     ("alu", Case::Solo(Solo::Alu)),
     ("get-own", Case::Pool(Deed::Get(Whose::Own))),
@@ -34,12 +38,21 @@ pub const CASES: [(&str, Case); 21] = [
     ("pass", Case::Pool(Deed::Pass)),
     ("pass16", Case::Pool16(Deed::Pass)),
     ("full16", Case::Pool16(Deed::Own(Own::Full))),
+    ("cycle64", Case::Pool64(Deed::Own(Own::Cycle))),
+    ("full64", Case::Pool64(Deed::Own(Own::Full))),
     ("open", Case::Solo(Solo::Open)),
     ("page", Case::Solo(Solo::Page)),
+    ("get-large", Case::Solo(Solo::Large)),
 ];
+
+/// The name of the case that fills a pool, which is done where it is named alone, as it takes longest.
+const FILL: &str = "fill";
 
 /// The case of this name.
 fn case_of(name: &str) -> Option<Case> {
+    if name == FILL {
+        return Some(Case::Fill);
+    }
     for (known, case) in &CASES {
         if *known == name {
             return Some(*case);
@@ -55,6 +68,7 @@ impl Case {
             Case::Solo(solo) => solo.lanes(),
             Case::Pool(deed) => deed.lanes(threads),
             Case::Pool16(_) => NARROW_LANES,
+            Case::Pool64(_) | Case::Fill => MOST_LANES,
         }
     }
 
@@ -62,7 +76,8 @@ impl Case {
     fn fits(self, threads: u32) -> bool {
         match self {
             Case::Pool(Deed::Pass) | Case::Pool16(Deed::Pass) if threads % 2 == 1 => threads == 1,
-            _ => 0 < threads && threads <= NARROW_LANES,
+            Case::Pool16(_) => 0 < threads && threads <= NARROW_LANES,
+            _ => 0 < threads && threads <= MOST_LANES,
         }
     }
 }

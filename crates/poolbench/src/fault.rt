@@ -19,7 +19,7 @@ pub enum Fault {
 impl fmt::Display for Fault {
     fn fmt<W: fmt::Write>(&self, f: &mut fmt::Formatter<W>) -> fmt::Result {
         let text = match self {
-            Fault::Words => "words: a case, a number of threads up to 16, and a number of rounds",
+            Fault::Words => "words: a case, a number of threads up to 64, and a number of rounds",
             Fault::Open(fault) => return fault.fmt(f),
             Fault::Memory => "out of memory",
             Fault::Output => "the output can't be written",

@@ -4,6 +4,7 @@
 
 mod cases;
 mod fault;
+mod fills;
 mod openings;
 mod passes;
 mod plans;

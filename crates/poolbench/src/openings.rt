@@ -7,7 +7,7 @@ use shardpool::{Lane, Pool, close, open};
 use slotcell::ByteBuf;
 use std::alloc::Global;
 
-/// The largest pool.
+/// The largest narrow pool.
 pub const LARGEST: Shape = Shape {
     lanes: NARROW_LANES,
     first_page: LARGEST_FIRST_PAGE,
@@ -24,6 +24,9 @@ pub const ONE_LANE: Shape = Shape {
     last_generation: u32::MAX,
     tag: 0,
 };
+
+/// How many places a shard of these shapes has.
+pub const LARGEST_SHARD: u32 = LARGEST_FIRST_PAGE * ((1 << NARROW_PAGES) - 1);
 
 /// How many objects a lane of these shapes puts till its last page is opened: one for each place of the pages before
 /// it, and one more.

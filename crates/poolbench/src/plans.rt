@@ -1,6 +1,7 @@
 //! How a plan is done.
 use crate::cases::{Case, Plan};
 use crate::fault::Fault;
+use crate::fills::fill;
 use crate::passes::Ways;
 use crate::pools::{Worker, open_pool, put_each, workers};
 use crate::rounds::{Deed, Shared, Solo, pass_alone};
@@ -18,7 +19,8 @@ pub fn run_plan<R: Threads + Wait + Sync>(rt: &R, alloc: Global, plan: Plan) -> 
     } = plan;
     match case {
         Case::Solo(solo) => Ok(run_solo(rt, alloc, solo, threads, rounds)?),
-        Case::Pool(deed) | Case::Pool16(deed) => {
+        Case::Fill => Ok(sum_of(&fill(rt, alloc, threads, rounds)?)),
+        Case::Pool(deed) | Case::Pool16(deed) | Case::Pool64(deed) => {
             let (pool, lanes) = open_pool(alloc, case.lanes(threads))?;
             let mut workers = workers(alloc, &pool, lanes)?;
             workers.truncate(deed.lanes(threads) as usize);

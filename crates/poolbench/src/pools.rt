@@ -4,7 +4,7 @@ ghost use Rattle.shardpool.specs.Lanes.{Owns, SameLane, refs};
 ghost use Rattle.shardpool.specs.Opened.{AreFirstLanes};
 
 use keybits::Shape;
-use shardpool::{Lane, OpenFault, Pool, open};
+use shardpool::{Lane, OpenFault, Pool, open_wide};
 use slotcell::{ByteBuf, Clear};
 use std::alloc::{AllocError, Global};
 
@@ -105,7 +105,7 @@ pub fn open_pool(
         last_generation: u32::MAX,
         tag: 0,
     };
-    open(alloc, shape)
+    open_wide(alloc, shape)
 }
 
 /// The lanes of a pool, each with the pool.

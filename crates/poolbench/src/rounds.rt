@@ -1,4 +1,5 @@
 //! What a thread does in each round.
+use crate::fills::read_large;
 use crate::openings::{LARGEST, ONE_LANE, TILL_LAST_PAGE, open_and_close};
 use crate::passes::Ways;
 use crate::pools::{PLACES, Worker};
@@ -24,6 +25,8 @@ pub enum Solo {
     Open,
     /// The largest pool of one lane is opened, used till its last page is opened, and closed.
     Page,
+    /// Objects are read at random in the largest pool, each of whose places has one.
+    Large,
 }
 
 /// What is done with objects of the lane's own.
@@ -82,7 +85,7 @@ impl Solo {
     pub fn lanes(self) -> u32 {
         match self {
             Solo::Bare | Solo::Alu => 0,
-            Solo::Open => LARGEST.lanes,
+            Solo::Open | Solo::Large => LARGEST.lanes,
             Solo::Page => ONE_LANE.lanes,
         }
     }
@@ -94,6 +97,7 @@ impl Solo {
             Solo::Alu => alu(rounds),
             Solo::Open => open(alloc, LARGEST, 0, rounds),
             Solo::Page => open(alloc, ONE_LANE, TILL_LAST_PAGE, rounds),
+            Solo::Large => read_large(alloc, rounds),
         }
     }
 }

@@ -50,7 +50,7 @@ index-apart z (Stack s l) (Link q) hs hq same = let low = in-row z q hq in absur
 value-in : (z : Shape) (words : List ℕ) (word : Word) → has_word z word ≡ true → value_in z words word ≡ slice_index words (index_in z word)
 value-in z words word has = ap (λ (b : Bool). cond b (slice_index words (index_in z word)) 0) has
 
-value-out : (z : Shape) (words : List ℕ) (word : Word) → has_word z word ≡ false → value_in z words word ≡ 0
+pub value-out : (z : Shape) (words : List ℕ) (word : Word) → has_word z word ≡ false → value_in z words word ≡ 0
 value-out z words word hasnt = ap (λ (b : Bool). cond b (slice_index words (index_in z word)) 0) hasnt
 
 -- what a word of the pool has

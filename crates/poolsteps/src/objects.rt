@@ -7,10 +7,10 @@ use crate::cells::{Base, Vacancy, Whole};
 use crate::directory::Directory;
 use crate::kept::Kept;
 use crate::layout::SHARDS_APART;
-use crate::rows::{Own, claim, endow_row, none_own, right_in};
+use crate::rows::{Own, claim, endow_row, none_own, part_with, right_in};
+use core::mem::replace_with;
 use std::alloc::Global;
 use std::marker::Model;
-use std::mem;
 
 /// What a lane has of a directory's places: the rights to its own, whose words stand side by side there, with the
 /// objects that wait in them; and any rights that it keeps until the close. A place is named by its word's number.
@@ -106,22 +106,8 @@ impl<T: Drop> Objects<T> {
         ensures objects { self.new ≡ record self.old { items = slice_set self.old.items (start - self.old.first) None } }
     {
         let index = start - self.first;
-        match mem::replace(&mut self.row[index], Own::Away) {
-            Own::Away => None,
-            Own::Vacant(vacancy) => {
-                self.row[index] = Own::Vacant(vacancy);
-                None
-            }
-            Own::Retired(kept) => {
-                self.row[index] = Own::Retired(kept);
-                None
-            }
-            Own::Whole(whole) => {
-                let (vacancy, object) = whole.take(self.directory, start);
-                self.row[index] = Own::Vacant(vacancy);
-                Some(object)
-            }
-        }
+        let at = (self.directory, start);
+        replace_with(&mut self.row[index], at, part_with)
     }
 
     /// The object of an own place comes back with it, and waits there.
@@ -147,7 +133,7 @@ impl<T: Drop> Objects<T> {
         ensures { self.new ≡ record self.old { items = slice_set self.old.items (start - self.old.first) (Some object.value) } }
     {
         let index = start - self.first;
-        let Some(vacancy) = claim(&mut self.row, self.directory, start, index) else {
+        let Some(vacancy) = claim(&mut self.row, &self.directory, start, index) else {
             unreachable!()
         };
         self.row[index] = Own::Whole(Whole::put(vacancy, object, self.directory, start));
@@ -184,7 +170,7 @@ impl<T: Drop> Objects<T> {
         } }
     {
         let index = start - self.first;
-        let Some(vacancy) = claim(&mut self.row, self.directory, start, index) else {
+        let Some(vacancy) = claim(&mut self.row, &self.directory, start, index) else {
             unreachable!()
         };
         Whole::put(vacancy, object, self.directory, start)

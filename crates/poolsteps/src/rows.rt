@@ -1,8 +1,8 @@
 //! The row of a lane: of each word of its own places in a directory, what the lane has of the place.
-ghost use Rattle.std.specs.Prelude.{◌≡◌, ℕ, ◌+◌, ◌<◌, ◌≤◌, Some, length, replicate, slice_get, slice_set, IfSome, IsNone};
+ghost use Rattle.std.specs.Prelude.{◌≡◌, ℕ, ◌+◌, ◌<◌, ◌≤◌, Some, None, length, replicate, slice_get, slice_set, IfSome, IsNone};
 ghost use Rattle.poolsteps.specs.declared.rows.Own.TheVariants as owns;
 ghost use Rattle.poolsteps.specs.Objects.{spot_at};
-ghost use Rattle.poolsteps.specs.Rows.{IsOwnOf, AreOwn, is_here};
+ghost use Rattle.poolsteps.specs.Rows.{IsOwnOf, AreOwn, is_here, object_in};
 
 use crate::cells::{Base, Vacancy, Whole};
 use crate::directory::Directory;
@@ -69,17 +69,42 @@ pub(crate) fn endow_row<T: Drop>(row: &mut Vec<Own<T>>, directory: &mut Director
 #[inline]
 pub(crate) fn claim<T: Drop>(
     row: &mut Vec<Own<T>>,
-    directory: Base<Box<T, Global>>,
+    directory: &Base<Box<T, Global>>,
     start: usize,
     index: usize,
 ) -> Option<Vacancy<T>>
     requires index { index < length row.old.items }
-    requires own { (own : Own T) → slice_get row.old.items index ≡ Some own → IsOwnOf directory.ptr start own }
-    ensures some { IfSome result (λ vacancy. vacancy ≡ spot_at directory.ptr start) }
+    requires own { (own : Own T) → slice_get row.old.items index ≡ Some own → IsOwnOf directory.now.ptr start own }
+    ensures some { IfSome result (λ vacancy. vacancy ≡ spot_at directory.now.ptr start) }
     ensures none { IsNone result → slice_get row.old.items index ≡ Some owns.Away }
     ensures row { row.new.items ≡ slice_set row.old.items index owns.Away }
 {
-    right_in(mem::replace(&mut row[index], Own::Away), directory, start)
+    // (Where the directory is, is read behind the write, for who reads it once more.)
+    let own = mem::replace(&mut row[index], Own::Away);
+    right_in(own, *directory, start)
+}
+
+// Takes the object that waits at a place out of it, which then is vacant. None where no object waits, which changes nothing.
+#[inline]
+pub(crate) fn part_with<T>(
+    own: Own<T>,
+    at: (Base<Box<T, Global>>, usize),
+) -> (Own<T>, Option<Box<T, Global>>)
+    requires { IsOwnOf at.0.ptr at.1 own }
+    ensures own { IsOwnOf at.0.ptr at.1 result.0 × (is_here result.0 ≡ is_here own) × (object_in result.0 ≡ None) }
+    ensures some { IfSome result.1 (λ object. object_in own ≡ Some object.value) }
+    ensures none { IsNone result.1 → object_in own ≡ None }
+{
+    let (directory, start) = at;
+    match own {
+        Own::Away => (Own::Away, None),
+        Own::Vacant(vacancy) => (Own::Vacant(vacancy), None),
+        Own::Retired(kept) => (Own::Retired(kept), None),
+        Own::Whole(whole) => {
+            let (vacancy, object) = whole.take(directory, start);
+            (Own::Vacant(vacancy), Some(object))
+        }
+    }
 }
 
 // The right that a lane has to a place. None where it is away. An object that waits there is dropped.

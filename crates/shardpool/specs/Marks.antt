@@ -71,6 +71,10 @@ part_by bits = if bits == 1 then Present else (if bits == 2 then Retired else (i
 abbrev pub part_in : ℕ → ℕ → ℕ → Part
 part_in opened page word = if nat_le opened page then Unopened else (if word == 0 then Free else part_by (state_in word))
 
+-- a lifecycle word that is neither 0 nor that of a published or a retired place
+abbrev pub IsIdleWord : ℕ → Type 0
+IsIdleWord word = (word ≢ 0) × (state_in word ≡ 0)
+
 -- the places of a shard are counted, each by its index
 pub record Counts (z : Shape) (shard opened : ℕ) (words : List ℕ) (old new : Census) : Type 0 where
   pub parts : List Part

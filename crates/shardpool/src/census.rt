@@ -1,10 +1,10 @@
 //! What the places of a pool are when it is closed.
-ghost use Rattle.std.specs.Prelude.{◌≡◌, ◌+◌, ◌<◌, ◌≤◌, ℕ, true, List, [], ◌∷◌, map, length, All, Contains};
+ghost use Rattle.std.specs.Prelude.{◌≡◌, ◌+◌, ◌<◌, ◌≤◌, ℕ, true, List, [], ◌∷◌, map, length, min, All, Contains};
 ghost use Rattle.std.specs.Vec.{vec_capacity};
 ghost use Rattle.core.specs.Mem.Slots.{slots_items, slots_len, slots_ptr, IsFull};
 ghost use Rattle.keybits.specs.declared.place.Place.{Place as Shown};
-ghost use Rattle.keybits.specs.Places.{shard_of, number_of};
-ghost use Rattle.keybits.specs.Shapes.{IsShape, is_place, shard_places, all_places};
+ghost use Rattle.keybits.specs.Places.{shard_of, page_of, number_of};
+ghost use Rattle.keybits.specs.Shapes.{IsShape, is_place, page_start, shard_places, all_places};
 ghost use Rattle.freelists.specs.Queues.{AreFree};
 ghost use Rattle.poolsteps.specs.Layout.{word_count, words_in, slot_row, spots_at};
 ghost use Rattle.poolsteps.specs.Joins.{IsSlotRow, HasCell};
@@ -12,7 +12,7 @@ ghost use Rattle.shardpool.specs.Remains.{HasCells, IsDrained, DrainsShard};
 ghost use Rattle.seqpool.specs.declared.act.Act.{Act};
 ghost use Rattle.shardpool.specs.Tokens.{LaneOf};
 ghost use Rattle.shardpool.specs.Closings.{none_counted, counted, places_counted, IsCensus, AreLast};
-ghost use Rattle.shardpool.specs.Marks.{IsRow, Blanks, IsThread, AreThreads, stacked, AreFreePlaces, returned_places, part_in, Counts};
+ghost use Rattle.shardpool.specs.Marks.{IsRow, Blanks, IsThread, AreThreads, stacked, AreFreePlaces, returned_places, part_in, IsIdleWord, Counts};
 
 use crate::pool::LaneState;
 use core::slots::Slots;
@@ -110,23 +110,19 @@ pub(crate) fn take_census<T: Drop>(
 {
     let mut census = Census::none();
     for mut state in states {
+        let opened = state.pages.opened();
         mark_returned(shape, state.number, &state.free, words);
         drop_cells(
             directory,
             shape,
             state.number,
+            opened,
             words,
             slots,
             &mut state.objects,
         );
         mark_list(shape, &mut state.free, words);
-        count_shard(
-            shape,
-            state.number,
-            state.pages.opened(),
-            words,
-            &mut census,
-        );
+        count_shard(shape, state.number, opened, words, &mut census);
         rights.push_reserved(rights_of(state));
     }
     census
@@ -213,12 +209,25 @@ fn mark(shape: &Shape, place: u32, words: &mut Slots<u64>)
     words.put(life_word(shape, place, shape.position(place)), 0);
 }
 
+/// How many places of a shard are of so many pages, the lowest, or of all pages where it has fewer.
+fn places_of_pages(shape: &Shape, pages: u32) -> u32
+    requires { IsShape shape.now }
+    ensures { result ≡ page_start shape.now (min pages shape.now.pages) }
+{
+    let mut places = 0;
+    for page in 0..pages.min(shape.pages) {
+        places += shape.page_size(page);
+    }
+    places
+}
+
 /// The cells that the slots of a shard's places have are dropped, with their objects: of the places whose lifecycle
-/// word is 0, and of published places. The rights to these places are then the lane's.
+/// word is 0, and of published places. The rights to these places are then the lane's. Places of unopened pages have none.
 fn drop_cells<T: Drop>(
     directory: Base<Box<T, Global>>,
     shape: &Shape,
     shard: u32,
+    opened: u32,
     words: &Slots<u64>,
     slots: &mut Slots<Slot<T>>,
     objects: &mut Objects<T>,
@@ -230,12 +239,15 @@ fn drop_cells<T: Drop>(
     requires cells { (place : ℕ) → is_place shape.now place ≡ true → shard_of place ≡ shard
         → HasCell (spots_at directory.ptr shape.now) shape.now (slots_items slots.old) place
         ((words_in shape.now (slots_items words.now)).life place) }
+    requires idle { (place : ℕ) → is_place shape.now place ≡ true → shard_of place ≡ shard → opened ≤ page_of place
+        → IsIdleWord ((words_in shape.now (slots_items words.now)).life place) }
     requires objects { (objects.old.directory ≡ directory.ptr) × (objects.old.wide ≡ slot_row shape.now) }
     ensures objects { objects.new ≡ objects.old }
     ensures drains { DrainsShard shape.now shard (words_in shape.now (slots_items words.now)).life slots.old slots.new }
 {
     let places = shape.shard_places() as usize;
-    for index in 0..places {
+    let opened_places = places_of_pages(shape, opened);
+    for index in 0..opened_places as usize {
         let position = shard as usize * places + index;
         let place = shape.place_at(position);
         let word = *words.get(life_word(shape, place, position));
@@ -254,13 +266,15 @@ fn count_shard(shape: &Shape, shard: u32, opened: u32, words: &Slots<u64>, censu
     ensures { Counts shape.now shard opened (slots_items words.now) census.old census.new }
 {
     let places = shape.shard_places() as usize;
-    for index in 0..places {
+    let opened_places = places_of_pages(shape, opened);
+    for index in 0..opened_places as usize {
         let position = shard as usize * places + index;
         let place = shape.place_at(position);
         let word = *words.get(life_word(shape, place, position));
         let page = u32::from(Place::of_number(place).page);
         census.count(part_of(opened, page, word));
     }
+    census.unopened += shape.shard_places() - opened_places;
 }
 
 /// What a place of this page is, where so many pages are opened, by its lifecycle word, which is 0 where it is marked.

@@ -8,7 +8,9 @@ use Rattle.core.specs.Mem.Slots.{slots_items, slots_ptr}
 use Rattle.keybits.specs.declared.shape.Shape.{Shape}
 use Rattle.keybits.specs.Places.{shard_of}
 use Rattle.keybits.specs.Shapes.{IsShape, is_place, shard_places, index_of}
-use Rattle.keybits.proofs.ShapeLemmas.{is_place-parts, index_of-lt, position_of-injective}
+use Rattle.keybits.proofs.ShapeLemmas.{is_place-parts, position_of-injective}
+use Rattle.std.proofs.lemmas.Bool.{cases_lt}
+use Rattle.shardpool.specs.Marks.{IsIdleWord}
 use Rattle.poolsteps.specs.Share.{Share}
 use Rattle.poolsteps.specs.Spot.{Spot as CellSpot}
 use Rattle.poolsteps.specs.Layout.{slot_index}
@@ -109,10 +111,22 @@ module _ {T : Type 0} (z : Shape) where
       earlier : (other : ℕ) → (shard_of other ≢ shard) ⊎ (index + 1 ≤ index_of z other) → (shard_of other ≢ shard) ⊎ (index ≤ index_of z other)
       earlier other beyond = ⊎_elim (λ off. inl off) (λ far. inr (omega (arith, far))) beyond
 
-  pub drains-all : (shard : ℕ) (life : ℕ → ℕ) (old new : Slots (Option (Share T))) (index : ℕ) → shard_places z ≤ index → DrainsTo shard life index old new → DrainsShard z shard life old new
-  drains-all shard life old new index all h = record {
+  -- the places from the index on have none, by their words
+  pub drains-all : (shard : ℕ) (life : ℕ → ℕ) (old new : Slots (Option (Share T))) (index : ℕ)
+      → ((place : ℕ) → is_place z place ≡ true → shard_of place ≡ shard → index ≤ index_of z place → IsIdleWord (life place))
+      → DrainsTo shard life index old new → DrainsShard z shard life old new
+  drains-all shard life old new index idle h = record {
     row = h.row;
     start = h.start;
     kept = λ place lane inside low off. h.kept place inside (inl off) lane low;
-    gone = λ place inside of_shard. h.gone place inside of_shard (let low = index_of-lt z place inside in omega (arith, low, all));
+    gone = λ place inside of_shard. ⊎_elim
+        (λ (low : index_of z place < index). h.gone place inside of_shard low)
+        (λ (high : index ≤ index_of z place).
+        let some = (idle place inside of_shard high).0 in
+        let bits_are = (idle place inside of_shard high).1 in
+        record {
+          unrested = λ none. absurd (some none);
+          unspread = λ bits. absurd (⊎_elim (λ one. omega (arith, one, bits_are)) (λ three. omega (arith, three, bits_are)) bits);
+        })
+        (cases_lt (index_of z place) index);
   }

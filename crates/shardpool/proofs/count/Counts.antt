@@ -1,21 +1,23 @@
 -- A census counts the places of a shard one after another.
-use Rattle.std.proofs.Common.{◌≡◌, ℕ, ◌+◌, ◌*◌, ◌<◌, true, List, [], ◌∷◌, ◌++◌, length, Some, refl, ap, sym, ◌∙◌, arith, length-append}
-use Rattle.std.specs.Prelude.{slice_get}
+use Rattle.std.proofs.Common.{◌≡◌, ℕ, zero, suc, ◌+◌, ◌-◌, ◌*◌, ◌<◌, ◌≤◌, Bool, true, cond, eqb, List, [], ◌∷◌, ◌++◌, length, replicate, Some, refl, ap, sym, ◌∙◌, ⊎_elim, arith, length-append}
+use Rattle.std.specs.Prelude.{slice_get, min}
+use Rattle.std.proofs.lemmas.Bool.{cases_lt, le-leb}
 use Rattle.std.proofs.lemmas.List.{get_or_append_left, get_or-append-add}
 use Rattle.std.proofs.lemmas.Option.{slice_get-get_or}
 use mathlib.Core.Logic.{dite}
 use native.Mathlib.Decide.{ℕ_discrete}
 use Rattle.keybits.specs.declared.shape.Shape.{Shape}
-use Rattle.keybits.specs.Places.{shard_of, page_of}
-use Rattle.keybits.specs.Shapes.{is_place, all_places, shard_places, index_of, position_of}
-use Rattle.keybits.proofs.ShapeLemmas.{index_of-lt, index_of-injective}
+use Rattle.keybits.specs.Places.{shard_of, page_of, slot_of}
+use Rattle.keybits.specs.Shapes.{is_place, all_places, page_start, shard_places, index_of, position_of}
+use Rattle.keybits.specs.Words.{state_in}
+use Rattle.keybits.proofs.ShapeLemmas.{is_place-parts, index-lt, start-le, index_of-lt, index_of-injective}
 use Rattle.std.proofs.lemmas.Nat.{same_from_place, mul-add-lt}
 use Rattle.poolsteps.specs.Layout.{words_in}
 use Rattle.shardpool.specs.declared.census.Census.{Census}
 use Rattle.shardpool.specs.declared.census.Part.{Part}
 use Rattle.shardpool.specs.declared.census.Part.TheVariants.{Free, Unopened, Filling, Present, Marked, Retired}
 use Rattle.shardpool.specs.Closings.{counted, all_counted, places_counted}
-use Rattle.shardpool.specs.Marks.{part_in, Counts}
+use Rattle.shardpool.specs.Marks.{part_by, part_in, Counts}
 
 -- ---- sums
 
@@ -81,9 +83,61 @@ counts-more z shard opened words index place part old now new h inside own at is
   counts = counts ∙ (ap (λ (c : Census). counted c part) h.counts ∙ sym (counted-append old h.parts (part ∷ [])));
 }
 
-pub counts-all : (z : Shape) (shard opened : ℕ) (words : List ℕ) (old new : Census) → CountsTo z shard opened words (shard_places z) old new → Counts z shard opened words old new
-counts-all z shard opened words old new h =
-    record { parts = h.parts; wide = h.wide; each = λ place inside own. h.each place inside own (index_of-lt z place inside); counts = h.counts }
+-- a place of an unopened page is that, whatever its word
+pub part-unopened : (opened page word : ℕ) → opened ≤ page → part_in opened page word ≡ Unopened
+part-unopened opened page word h = ap (λ (b : Bool). cond b Unopened (cond (eqb word 0) Free (part_by (state_in word)))) (le-leb opened page h)
+
+-- places of unopened pages, counted at once
+all-unopened : (n : ℕ) (census : Census) → all_counted census (replicate n Unopened) ≡ record census { unopened = census.unopened + n }
+all-unopened zero census = let none : census.unopened ≡ census.unopened + 0 = omega arith in λ i. record census { unopened = none i }
+all-unopened (suc n) census =
+    let more : census.unopened + 1 + n ≡ census.unopened + suc n = omega arith in
+    all-unopened n (counted census Unopened) ∙ (λ i. record census { unopened = more i })
+
+wide-unopened : (n : ℕ) → length (replicate n Unopened) ≡ n
+wide-unopened zero = refl
+wide-unopened (suc n) = ap suc (wide-unopened n)
+
+at-unopened : (n k : ℕ) → k < n → slice_get (replicate n Unopened) k ≡ Some Unopened
+at-unopened zero k low = absurd (omega (arith, low))
+at-unopened (suc n) zero low = refl
+at-unopened (suc n) (suc k) low = at-unopened n k (omega (arith, low))
+
+pub counts-all : (z : Shape) (shard opened : ℕ) (words : List ℕ) (index rest : ℕ) (old now new : Census) → CountsTo z shard opened words index old now
+    → index + rest ≡ shard_places z → ((place : ℕ) → is_place z place ≡ true → index ≤ index_of z place → opened ≤ page_of place)
+    → new ≡ record now { unopened = now.unopened + rest } → Counts z shard opened words old new
+counts-all z shard opened words index rest old now new h sum unopened counts =
+    let wide = h.wide in
+    let long = wide-unopened rest in
+    record {
+      parts = h.parts ++ replicate rest Unopened;
+      wide = let both = length-append h.parts (replicate rest Unopened) in omega (arith, both, wide, long, sum);
+      each = λ place inside own. ⊎_elim
+          (λ (low : index_of z place < index). get-front h.parts (replicate rest Unopened) (index_of z place) (omega (arith, low, wide)) ∙ h.each place inside own low)
+          (λ (high : index ≤ index_of z place).
+          let most = index_of-lt z place inside in
+          let back = get-back h.parts (replicate rest Unopened) (index_of z place - index) (omega (arith, high, most, sum, long)) in
+          let to : index_of z place ≡ length h.parts + (index_of z place - index) = omega (arith, high, wide) in
+          ap (λ (n : ℕ). slice_get (h.parts ++ replicate rest Unopened) n) to
+          ∙ (back ∙ (at-unopened rest (index_of z place - index) (omega (arith, high, most, sum))
+          ∙ ap Some (sym (part-unopened opened (page_of place) ((words_in z words).life place) (unopened place inside high))))))
+          (cases_lt (index_of z place) index);
+      counts = counts ∙ (ap (λ (c : Census). record c { unopened = c.unopened + rest }) h.counts
+          ∙ (sym (all-unopened rest (all_counted old h.parts)) ∙ sym (counted-append old h.parts (replicate rest Unopened))));
+    }
+
+-- the places of the lowest pages come first, and are places of the shard
+pub unopened-from : (z : Shape) (opened place : ℕ) → is_place z place ≡ true → page_start z (min opened z.pages) ≤ index_of z place → opened ≤ page_of place
+unopened-from z opened place inside high = ⊎_elim
+    (λ (low : page_of place < opened).
+    let parts = is_place-parts z place inside in
+    let below = index-lt z.first_page (page_of place) (slot_of place) (min opened z.pages) parts.2 (omega (arith, low, parts.1)) in
+    absurd (omega (arith, high, below)))
+    (λ (is : opened ≤ page_of place). is)
+    (cases_lt (page_of place) opened)
+
+pub opened-few : (z : Shape) (opened : ℕ) → page_start z (min opened z.pages) ≤ shard_places z
+opened-few z opened = start-le z.first_page (min opened z.pages) z.pages (omega arith)
 
 -- the census so far has room for the rest
 pub counts-room : (z : Shape) (shard opened : ℕ) (words : List ℕ) (index : ℕ) (old now : Census) → CountsTo z shard opened words index old now

@@ -17,6 +17,7 @@ use Rattle.keybits.specs.Counts.{times}
 use Rattle.keybits.proofs.CountLemmas.{times-append, one_at, none_at, no_times, length_le}
 use Rattle.keybits.proofs.ShapeLemmas.{is_place-parts, index_of-lt, shape_bounds}
 use Rattle.freelists.specs.Queues.{FreePlaces}
+use Rattle.freelists.specs.Shards.{ShardPages}
 use Rattle.keybits.specs.Words.{state_in}
 use Rattle.seqpool.specs.declared.act.Act.{Act}
 use Rattle.seqpool.specs.Pool.{Phase, with, published, home, retired, has, pool_after}
@@ -32,7 +33,7 @@ use Rattle.shardpool.specs.declared.census.Part.{Part}
 use Rattle.shardpool.specs.declared.pool.LaneState.{LaneState}
 use Rattle.shardpool.specs.Tokens.{LaneOf}
 use Rattle.shardpool.specs.Closings.{IsPart, none_counted, all_counted, places_counted, IsCensus, IsLast, AreLast}
-use Rattle.shardpool.specs.Marks.{IsRow, Blanks, stacked, AreFreePlaces, returned_places, free_places, part_in, Counts}
+use Rattle.shardpool.specs.Marks.{IsRow, Blanks, stacked, AreFreePlaces, returned_places, free_places, part_in, IsIdleWord, Counts}
 use Rattle.shardpool.proofs.count.Marks.{AreBlanked, blanks-none, blanks-then, blanks-words}
 use Rattle.shardpool.proofs.count.Lists.{free-stays, among-number, stacked-inside}
 use Rattle.shardpool.proofs.count.Counts.{many-counted, counted-append, get-front, get-back}
@@ -282,6 +283,35 @@ module _ {T : Type 0} (z : Shape) (ok : IsShape z) (history : List Act) (lanes :
       last-word : (place : ℕ) → shard_of place ≡ lane.number → times place (returned_places z lane.number chain threads) ≡ 0
           → (words_in z (slots_items mid)).life place ≡ (words_in z (slots_items old)).life place
       last-word place of_shard none = blanked-mid.kept place none ∙ so_far_blanked.kept place (unmarked place of_shard)
+
+      -- a place of an unopened page was not returned, and is idle by its word
+      pub unopened-idle : (place : ℕ) → is_place z place ≡ true → shard_of place ≡ state.number → state.pages.opened ≤ page_of place
+          → IsIdleWord ((words_in z (slots_items mid)).life place)
+      unopened-idle place inside of_shelf unopened = (
+        λ none. word-some z history lanes states (slots_items old) last lane state own place inside (sym word ∙ none),
+        ap state_in word ∙ ((last.state place inside).0 ∙ ap bits_of is),
+      )
+        where
+          of_shard : shard_of place ≡ lane.number
+          of_shard = of_shelf ∙ own.number_is
+
+          low : lane.pages.opened ≤ page_of place
+          low = let same : state.pages.opened ≡ lane.pages.opened = ap (λ (p : ShardPages). p.opened) own.pages_is in omega (arith, unopened, same)
+
+          is : (pool_after z history place).phase ≡ with lane.number
+          is = own.unopened place inside of_shard low
+
+          unreturned : times place (returned_places z lane.number chain threads) ≡ 0
+          unreturned = no_times (times place (returned_places z lane.number chain threads)) (λ some.
+              let front = times-append place chain (stacked lane.number threads z.lanes) in
+              dite (ℕ_discrete (times place chain) 0)
+              (λ unchained.
+              let at_home : with lane.number ≡ home = sym is ∙ stacked-home z history lanes states (slots_items old) last lane state own place (omega arith) in
+              cc at_home)
+              (λ chained. let opened = (own.chained place (has-some place chain (omega arith))).opened in omega (arith, opened, low)))
+
+          word : (words_in z (slots_items mid)).life place ≡ (words_in z (slots_items old)).life place
+          word = last-word place of_shard unreturned
 
       -- a published place was not returned
       away : (place : ℕ) (content : List ℕ) (references : ℕ → ℕ) (mark : Bool) → (pool_after z history place).phase ≡ published content references mark

@@ -1,6 +1,6 @@
 -- What a place is, by the last words, of which those of the free places are 0.
 use Rattle.std.proofs.Common.{◌≡◌, ◌≢◌, ⊎_elim, ℕ, ◌<◌, ◌≤◌, Bool, true, false, cond, eqb, List, ◌++◌, map, refl, ap, sym, ◌∙◌, subst, arith, eq-eqb, ne_eqb, inl, inr}
-use Rattle.std.proofs.lemmas.Bool.{le-leb, lt-leb, cases_lt}
+use Rattle.std.proofs.lemmas.Bool.{lt-leb, cases_lt}
 use Rattle.std.specs.List.{Contains}
 use mathlib.Core.Logic.{dite}
 use native.Mathlib.Decide.{ℕ_discrete}
@@ -28,12 +28,10 @@ use Rattle.shardpool.specs.Tokens.{LaneOf}
 use Rattle.shardpool.specs.Lanes.{IsKept}
 use Rattle.shardpool.specs.Closings.{phase_at, IsPart, IsLast, AreLast}
 use Rattle.shardpool.specs.Marks.{stacked, AreFreePlaces, free_places, part_by, part_in}
+use Rattle.shardpool.proofs.count.Counts.{part-unopened}
 use Rattle.shardpool.proofs.count.Lists.{number-among, among-number, stands-on, on-stacks}
 
 -- ---- the tests, one after another
-
-pub part-unopened : (opened page word : ℕ) → opened ≤ page → part_in opened page word ≡ Unopened
-part-unopened opened page word h = ap (λ (b : Bool). cond b Unopened (cond (eqb word 0) Free (part_by (state_in word)))) (le-leb opened page h)
 
 pub part-free : (opened page word : ℕ) → page < opened → word ≡ 0 → part_in opened page word ≡ Free
 part-free opened page word h none =

@@ -113,8 +113,8 @@ fn page_row(shape: &Shape, page: u32) -> PageRow {
     }
 }
 
-/// The words before the first step: each lifecycle word is that of generation 1, idle, with count 0, and every other is
-/// 0.
+/// The words before the first step: each lifecycle word is that of generation 1, idle, with count 0, as are the unused ones
+/// behind those of each shard, and every other is 0.
 #[inline]
 pub(crate) fn first_words(alloc: Global, shape: &Shape) -> Option<Vec<u64>> {
     let fresh = Life {
@@ -123,8 +123,8 @@ pub(crate) fn first_words(alloc: Global, shape: &Shape) -> Option<Vec<u64>> {
         state: State::Idle,
     };
     let mut words = Vec::filled(alloc, 0, word_count(shape)).ok()?;
-    for position in 0..shape.all_places() {
-        words[life_word(shape, shape.place_at(position), position)] = fresh.word();
+    for start in 0..slot_row(shape) {
+        words[LIVES_START + start] = fresh.word();
     }
     Some(words)
 }

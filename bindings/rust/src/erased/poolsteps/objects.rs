@@ -2,14 +2,13 @@
 
 //! What a lane has of places.
 
-use crate::shim::{impossible, Box, Global, Vec};
+use crate::shim::{impossible, replace_with, Box, Global, Vec};
 
 use crate::erased::poolsteps::cells::{Base, Vacancy, Whole};
 use crate::erased::poolsteps::directory::Directory;
 use crate::erased::poolsteps::kept::Kept;
 use crate::erased::poolsteps::layout::SHARDS_APART;
-use crate::erased::poolsteps::rows::{claim, endow_row, none_own, right_in, Own};
-use std::mem;
+use crate::erased::poolsteps::rows::{claim, endow_row, none_own, part_with, right_in, Own};
 
 /// What a lane has of a directory's places: the rights to its own, whose words stand side by side there, with the
 /// objects that wait in them; and any rights that it keeps until the close. A place is named by its word's number.
@@ -65,22 +64,8 @@ impl<T> Objects<T> {
     #[inline]
     pub fn take(&mut self, start: usize) -> Option<Box<T, Global>> {
         let index = start - self.first;
-        match mem::replace(&mut self.row[index], Own::Away) {
-            Own::Away => None,
-            Own::Vacant(vacancy) => {
-                self.row[index] = Own::Vacant(vacancy);
-                None
-            }
-            Own::Retired(kept) => {
-                self.row[index] = Own::Retired(kept);
-                None
-            }
-            Own::Whole(whole) => {
-                let (vacancy, object) = whole.take(self.directory, start);
-                self.row[index] = Own::Vacant(vacancy);
-                Some(object)
-            }
-        }
+        let at = (self.directory, start);
+        replace_with(&mut self.row[index], at, part_with)
     }
 
     /// The object of an own place comes back with it, and waits there.
@@ -94,7 +79,7 @@ impl<T> Objects<T> {
     #[inline]
     pub fn fill(&mut self, start: usize, object: Box<T, Global>) {
         let index = start - self.first;
-        let Some(vacancy) = claim(&mut self.row, self.directory, start, index) else {
+        let Some(vacancy) = claim(&mut self.row, &self.directory, start, index) else {
             impossible!()
         };
         self.row[index] = Own::Whole(Whole::put(vacancy, object, self.directory, start));
@@ -113,7 +98,7 @@ impl<T> Objects<T> {
     #[inline]
     pub fn put(&mut self, start: usize, object: Box<T, Global>) -> Whole<T> {
         let index = start - self.first;
-        let Some(vacancy) = claim(&mut self.row, self.directory, start, index) else {
+        let Some(vacancy) = claim(&mut self.row, &self.directory, start, index) else {
             impossible!()
         };
         Whole::put(vacancy, object, self.directory, start)

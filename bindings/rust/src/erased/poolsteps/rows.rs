@@ -58,11 +58,31 @@ pub(crate) fn endow_row<T>(row: &mut Vec<Own<T>>, directory: &mut Directory<T>, 
 #[inline]
 pub(crate) fn claim<T>(
     row: &mut Vec<Own<T>>,
-    directory: Base<Box<T, Global>>,
+    directory: &Base<Box<T, Global>>,
     start: usize,
     index: usize,
 ) -> Option<Vacancy<T>> {
-    right_in(mem::replace(&mut row[index], Own::Away), directory, start)
+    // (Where the directory is, is read behind the write, for who reads it once more.)
+    let own = mem::replace(&mut row[index], Own::Away);
+    right_in(own, *directory, start)
+}
+
+// Takes the object that waits at a place out of it, which then is vacant. None where no object waits, which changes nothing.
+#[inline]
+pub(crate) fn part_with<T>(
+    own: Own<T>,
+    at: (Base<Box<T, Global>>, usize),
+) -> (Own<T>, Option<Box<T, Global>>) {
+    let (directory, start) = at;
+    match own {
+        Own::Away => (Own::Away, None),
+        Own::Vacant(vacancy) => (Own::Vacant(vacancy), None),
+        Own::Retired(kept) => (Own::Retired(kept), None),
+        Own::Whole(whole) => {
+            let (vacancy, object) = whole.take(directory, start);
+            (Own::Vacant(vacancy), Some(object))
+        }
+    }
 }
 
 // The right that a lane has to a place. None where it is away. An object that waits there is dropped.

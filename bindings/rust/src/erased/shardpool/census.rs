@@ -78,23 +78,19 @@ pub(crate) fn take_census<T>(
 ) -> Census {
     let mut census = Census::none();
     for mut state in states {
+        let opened = state.pages.opened();
         mark_returned(shape, state.number, &state.free, words);
         drop_cells(
             directory,
             shape,
             state.number,
+            opened,
             words,
             slots,
             &mut state.objects,
         );
         mark_list(shape, &mut state.free, words);
-        count_shard(
-            shape,
-            state.number,
-            state.pages.opened(),
-            words,
-            &mut census,
-        );
+        count_shard(shape, state.number, opened, words, &mut census);
         rights.push_reserved(rights_of(state));
     }
     census
@@ -150,18 +146,30 @@ fn mark(shape: &Shape, place: u32, words: &mut Slots<u64>) {
     words.put(life_word(shape, place, shape.position(place)), 0);
 }
 
+/// How many places of a shard are of so many pages, the lowest, or of all pages where it has fewer.
+#[inline]
+fn places_of_pages(shape: &Shape, pages: u32) -> u32 {
+    let mut places = 0;
+    for page in 0..pages.min(shape.pages) {
+        places += shape.page_size(page);
+    }
+    places
+}
+
 /// The cells that the slots of a shard's places have are dropped, with their objects: of the places whose lifecycle
-/// word is 0, and of published places. The rights to these places are then the lane's.
+/// word is 0, and of published places. The rights to these places are then the lane's. Places of unopened pages have none.
 fn drop_cells<T>(
     directory: Base<Box<T, Global>>,
     shape: &Shape,
     shard: u32,
+    opened: u32,
     words: &Slots<u64>,
     slots: &mut Slots<Slot<T>>,
     objects: &mut Objects<T>,
 ) {
     let places = shape.shard_places() as usize;
-    for index in 0..places {
+    let opened_places = places_of_pages(shape, opened);
+    for index in 0..opened_places as usize {
         let position = shard as usize * places + index;
         let place = shape.place_at(position);
         let word = *words.get(life_word(shape, place, position));
@@ -175,13 +183,15 @@ fn drop_cells<T>(
 #[inline]
 fn count_shard(shape: &Shape, shard: u32, opened: u32, words: &Slots<u64>, census: &mut Census) {
     let places = shape.shard_places() as usize;
-    for index in 0..places {
+    let opened_places = places_of_pages(shape, opened);
+    for index in 0..opened_places as usize {
         let position = shard as usize * places + index;
         let place = shape.place_at(position);
         let word = *words.get(life_word(shape, place, position));
         let page = u32::from(Place::of_number(place).page);
         census.count(part_of(opened, page, word));
     }
+    census.unopened += shape.shard_places() - opened_places;
 }
 
 /// What a place of this page is, where so many pages are opened, by its lifecycle word, which is 0 where it is marked.

@@ -3,11 +3,13 @@ use Rattle.std.proofs.Common.{◌≡◌, ℕ, ◌+◌, ◌*◌, ◌<◌, inr, re
 use Rattle.core.specs.Mem.Slots.{slots_items}
 use Rattle.keybits.specs.declared.step.Word.TheVariants.{Life}
 use Rattle.keybits.specs.Places.{shard_of}
-use Rattle.keybits.specs.Shapes.{all_places, index_of}
+use Rattle.std.specs.Prelude.{min}
+use Rattle.keybits.specs.Shapes.{all_places, page_start, index_of}
 use Rattle.poolsteps.specs.Layout.{words_in, spots_at, slot_row}
 use Rattle.poolsteps.specs.Joins.{HasCell, HasNoCell}
+use Rattle.keybits.proofs.ShapeLemmas.{shape_bounds}
 use Rattle.shardpool.proofs.count.Marks.{read-word}
-use Rattle.shardpool.proofs.count.Counts.{position-below, at-position}
+use Rattle.shardpool.proofs.count.Counts.{position-below, at-position, unopened-from, opened-few}
 use Rattle.shardpool.proofs.at_close.DroppedCells.{drains-none, drains-more, drains-all, cell-stays}
 use Rattle.shardpool.proofs.census.drop_cells.Given.{Over}
 use Rattle.shardpool.proofs.census.drop_cells.Goals as goal
@@ -18,6 +20,8 @@ at : (g : Over) (c : After-get-word g) → (shard_of c.place_at-place.result ≡
 at g c =
     let z = c.args.shape.now in let shard = c.args.shard in
     let same = c.shard_places-places.ensures in
+    let few = opened-few z c.args.opened in
+    let opened = c.places_of_pages-opened_places.ensures in
     at-position z shard c.loop-index.index c.place_at-place.result (omega arith) c.place_at-place.ensures.place
     (c.place_at-place.ensures.position ∙ ap (λ (n : ℕ). shard * n + c.loop-index.index) same)
 
@@ -27,10 +31,23 @@ loop-index-init g c = record {
   objects = refl;
 }
 
+pub overflow_add-position : goal.overflow_add-position
+overflow_add-position g c =
+    let z = c.args.shape.now in
+    let same = c.shard_places-places.ensures in
+    let few = opened-few z c.args.opened in
+    let opened = c.places_of_pages-opened_places.ensures in
+    let below = position-below z c.args.shard c.loop-index.index c.requires.shard (omega arith) in
+    let most = (shape_bounds z c.requires.shape).all in
+    let at = ap (λ (n : ℕ). c.args.shard * n + c.loop-index.index) same in
+    omega (arith, below, most, at)
+
 pub place_at-place-requires-clause-position : goal.place_at-place-requires-clause-position
 place_at-place-requires-clause-position g c =
     let z = c.args.shape.now in
     let same = c.shard_places-places.ensures in
+    let few = opened-few z c.args.opened in
+    let opened = c.places_of_pages-opened_places.ensures in
     subst (λ (n : ℕ). c.args.shard * n + c.loop-index.index < all_places z) (sym same) (position-below z c.args.shard c.loop-index.index c.requires.shard (omega arith))
 
 pub drop_cell-requires-clause-cell : goal.drop_cell-requires-clause-cell
@@ -72,6 +89,10 @@ retire-requires-clause-spot g c =
 
 pub returns-clause-drains : goal.returns-clause-drains
 returns-clause-drains g c =
-    let over = c.loop-index-test.false in let same = c.shard_places-places.ensures in
-    drains-all c.args.shape.now c.args.shard (words_in c.args.shape.now (slots_items c.args.words.now)).life c.args.slots.now c.loop-index.slots c.loop-index.index
-    (omega (arith, over, same)) c.loop-index.invariant.drains
+    let z = c.args.shape.now in
+    let most = c.loop-index.auto.index-end in
+    let opened = c.places_of_pages-opened_places.ensures in
+    let end : c.loop-index.index ≡ page_start z (min c.args.opened z.pages) = omega arith in
+    drains-all z c.args.shard (words_in z (slots_items c.args.words.now)).life c.args.slots.now c.loop-index.slots c.loop-index.index
+    (λ place inside of_shard high. c.requires.idle place inside of_shard (unopened-from z c.args.opened place inside (omega (arith, end, high))))
+    c.loop-index.invariant.drains

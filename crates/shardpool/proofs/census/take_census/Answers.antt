@@ -11,7 +11,7 @@ use Rattle.poolsteps.specs.Objects.{ObjectsOf}
 use Rattle.poolsteps.specs.Layout.{slot_row}
 use Rattle.shardpool.specs.Marks.{AreFreePlaces, returned_places, Counts}
 use Rattle.shardpool.proofs.count.Marks.{blanks-then}
-use Rattle.shardpool.proofs.count.Rounds.{SlotsSoFar, slots-so-far-none, returned-own, have-cells, slots-more, SoFar, so-far-none, so-far-counts, so-far-room, chain, threads, state-low, count-low, stand-now, so-far-more, all-gone, is-census, all-drained, all-at}
+use Rattle.shardpool.proofs.count.Rounds.{SlotsSoFar, slots-so-far-none, returned-own, unopened-idle, have-cells, slots-more, SoFar, so-far-none, so-far-counts, so-far-room, chain, threads, state-low, count-low, stand-now, so-far-more, all-gone, is-census, all-drained, all-at}
 use Rattle.shardpool.proofs.at_close.ReturnedShares.{next-state, state-moves}
 use Rattle.shardpool.proofs.census.take_census.Given.{Over}
 use Rattle.shardpool.proofs.census.take_census.Goals as goal
@@ -76,6 +76,16 @@ drop_cells-requires-clause-cells g c =
     (returned-own z c.requires.shape q.0 q.1 states old c.requires.words q.2 (length before.yielded) c.in-Some.state here before.words before.census so_far c.mark_returned.new.words
     c.mark_returned.ensures) q.3 (before.invariant.slots q.0 q.1 q.2)
 
+pub drop_cells-requires-clause-idle : goal.drop_cells-requires-clause-idle
+drop_cells-requires-clause-idle g c = λ place inside of_shard unopened.
+    let z = c.args.shape.now in let q = c.requires.last in let before = c.loop-state in let states = c.args.states.items in let old = c.args.words.now in
+    let here = at g (goal.at.drop_cells-requires-clause-idle g c).In-Some in
+    let so_far = before.invariant.so_far q.0 q.1 q.2 in
+    let same = c.opened-opened.ensures.opened in
+    unopened-idle z c.requires.shape q.0 q.1 states old c.requires.words q.2 (length before.yielded) c.in-Some.state here before.words before.census so_far c.mark_returned.new.words
+    (returned-own z c.requires.shape q.0 q.1 states old c.requires.words q.2 (length before.yielded) c.in-Some.state here before.words before.census so_far c.mark_returned.new.words
+    c.mark_returned.ensures) place inside of_shard (omega (arith, unopened, same))
+
 -- its rights
 rights : (g : Over) (c : In-Some g) → (c.in-Some.state.objects.directory ≡ c.args.directory.ptr) × (c.in-Some.state.objects.wide ≡ slot_row c.args.shape.now)
 rights g c = all-at (λ state. (state.objects.directory ≡ c.args.directory.ptr) × (state.objects.wide ≡ slot_row c.args.shape.now)) c.args.states.items
@@ -122,7 +132,7 @@ loop-state-preserved g c =
           (before.invariant.so_far history lanes last) c.mark_list.new.words c.count_shard.new.census
           (λ first others stand. blanks-then z (returned_places z c.in-Some.state.number first others) (map number_of c.in-Some.state.free.own) before.words c.mark_returned.new.words
           c.mark_list.new.words (c.mark_returned.ensures first others stand) c.mark_list.ensures.marks)
-          (subst (λ (n : ℕ). Counts z c.in-Some.state.number n (slots_items c.mark_list.new.words) before.census c.count_shard.new.census) c.opened.ensures.opened c.count_shard.ensures));
+          (subst (λ (n : ℕ). Counts z c.in-Some.state.number n (slots_items c.mark_list.new.words) before.census c.count_shard.new.census) c.opened-opened.ensures.opened c.count_shard.ensures));
       slots = λ history lanes last.
           let here = at g (goal.at.loop-state-preserved g c).In-Some in
           let so_far = before.invariant.so_far history lanes last in
