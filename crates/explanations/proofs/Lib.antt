@@ -2,3 +2,4 @@ pub mod Numbers
 pub mod Fields
 pub mod Counts
 pub mod Dues
+pub mod Insides

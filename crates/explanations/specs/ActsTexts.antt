@@ -6,7 +6,7 @@ use Rattle.scripts.specs.ScriptPlaces.{field_text, faulty_field}
 use Rattle.seqpool.specs.ActsPlaces.{RefusesText}
 use Rattle.seqpool.specs.ActsText.{StandsFor}
 use Rattle.seqpool.specs.Checker.{IsIllegalAt}
-use Rattle.seqpool.specs.Pool.{IsLegal, pool_after}
+use Rattle.seqpool.specs.Pool.{IsLegal}
 use Rattle.seqpool.specs.Histories.{At}
 use Rattle.seqpool.specs.declared.act.Act.{Act}
 use Rattle.seqpool.specs.declared.acts_fault.ActsFault.{ActsFault}
@@ -64,7 +64,7 @@ pub record ExplainsIllegal (bytes text : List ℕ) : Type 0 where
   pub act : Act
   pub at : At history index act
   pub reason : List ℕ
-  pub tells : TellsReason shape (pool_after shape (take index history)) act fault reason
+  pub tells : TellsReason shape (take index history) act fault reason
   pub is : text ≡ line_text (illegal_told bytes index reason)
 
 -- the bytes stand for no acts, by this refusal, which is no want of memory

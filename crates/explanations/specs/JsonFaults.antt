@@ -1,9 +1,9 @@
 -- Where bytes stop being a JSON text, and why, in words.
-use Rattle.std.specs.Prelude.{◌≡◌, ◌≤◌, ℕ, ◌==◌, ◌&&◌, ◌||◌, Bool, true, false, List, [], ◌∷◌, ◌++◌, length, take, drop, Option, Some, None, if◌then◌else◌, nat_eq, fold, decimal, codes}
+use Rattle.std.specs.Prelude.{◌≡◌, ◌≤◌, ℕ, ◌==◌, ◌&&◌, ◌||◌, Bool, true, false, not, List, [], ◌∷◌, ◌++◌, length, take, drop, count_by, Option, Some, None, if◌then◌else◌, nat_eq, nat_le, nat_lt, fold, decimal, codes}
 use Rattle.std.specs.List.{starts_with, list_all}
 use Rattle.std.specs.Str.{IsUtf8, IsValidUpTo}
 use Rattle.streams.specs.Shown.{cut_text, line_text}
-use Rattle.explanations.specs.JsonFlaws.{first_is, escape_length, IsFlaw}
+use Rattle.explanations.specs.JsonFlaws.{first_is, is_digit, escape_length, IsFlaw}
 use Rattle.explanations.specs.Places.{line_number, column_number}
 use Rattle.explanations.specs.declared.json_flaw.Flaw.{Flaw}
 use Rattle.explanations.specs.declared.json_flaw.Flaw.TheVariants.{Control, Escape, Half, Zero, Digit}
@@ -139,9 +139,69 @@ HaltsAt Deep at file = IsUtf8 file × (at ≤ length file)
 HaltsAt (Open begin) at file = IsUtf8 file × (at ≡ length file) × (first_is 34 (drop begin file) ≡ true)
 HaltsAt (Flawed flaw) at file = IsUtf8 file × (at ≤ length file) × IsFlaw flaw (drop at file)
 
+-- ---- what stands at the place where a text stops being JSON
+
+-- the first of some bytes that isn't passed over
+abbrev pub first_of : List ℕ → Option ℕ
+first_of [] = None
+first_of (byte ∷ more) = if is_space byte then first_of more else Some byte
+
+-- a list or an object begins with this byte
+abbrev pub is_opening : ℕ → Bool
+is_opening byte = (byte == 91) || (byte == 123)
+
+-- it does with this, if it is one
+abbrev pub opens : Option ℕ → Bool
+opens None = false
+opens (Some byte) = is_opening byte
+
+-- a number begins with this byte
+abbrev pub begins_number : Option ℕ → Bool
+begins_number None = false
+begins_number (Some byte) = (byte == 45) || is_digit byte
+
+-- behind this byte, the last that isn't passed over, a digit is wanted
+abbrev pub wants_digit : Option ℕ → Bool
+wants_digit None = false
+wants_digit (Some last) = (last == 45) || ((last == 46) || ((last == 101) || ((last == 69) || (last == 43))))
+
+abbrev pub is_array : Opened → Bool
+is_array Nothing = false
+is_array Array = true
+is_array Object = false
+
+-- behind this byte a value is wanted, by what is open there
+abbrev pub wants_value : Opened → Option ℕ → Bool
+wants_value opened None = true
+wants_value opened (Some last) = (last == 58) || ((last == 91) || ((last == 44) && is_array opened))
+
+-- how many lists and objects have begun
+abbrev pub openings_in : List ℕ → ℕ
+openings_in text = count_by is_opening text
+
+-- how many quotes there are
+abbrev pub quotes_in : List ℕ → ℕ
+quotes_in text = count_by (λ byte. byte == 34) text
+
+-- a flaw may stand behind this text: where a digit is wanted; and within a string
+abbrev pub may_flaw : Flaw → List ℕ → Bool
+may_flaw Digit text = wants_digit (last_of text)
+may_flaw Zero text = true
+may_flaw flaw text = nat_lt 0 (quotes_in text)
+
+-- what stands around the place bears out what is told: no list and no object where a value is wanted; a number that is too large; so many lists and objects in front; the flaw of a number, or a string
+unfoldable pub bears_out : Halt → ℕ → List ℕ → Bool
+bears_out (Token opened) at file = not (wants_value opened (last_of (take at file)) && opens (first_of (drop at file)))
+bears_out Large at file = begins_number (first_of (drop at file))
+bears_out Deep at file = nat_le 127 (openings_in (take at file))
+bears_out NoText at file = true
+bears_out (Open begin) at file = true
+bears_out (Flawed flaw) at file = may_flaw flaw (take at file)
+
 -- the text explains why bytes are no JSON text: it names the place where they stop being one, and why they do there
 pub record ExplainsJson (file text : List ℕ) : Type 0 where
   pub at : ℕ
   pub halt : Halt
   pub halts : HaltsAt halt at file
+  pub shown : bears_out halt at file ≡ true
   pub is : text ≡ line_text (json_told halt at file)

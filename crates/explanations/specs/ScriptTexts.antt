@@ -1,13 +1,16 @@
 -- Why a script file is refused, in words.
-use Rattle.std.specs.Prelude.{◌≡◌, ◌⊎◌, ℕ, List, ◌++◌, None, codes}
+use Rattle.std.specs.Prelude.{◌≡◌, ◌⊎◌, ◌==◌, ◌||◌, ℕ, Bool, true, false, List, ◌++◌, drop, Option, Some, None, codes}
 use Rattle.std.specs.Str.{IsUtf8}
 use Rattle.json.specs.Json.{Json, null, document}
+use Rattle.json.specs.Json as json
 use Rattle.scripts.specs.declared.script_fault.ScriptFault.{ScriptFault}
 use Rattle.scripts.specs.declared.script_fault.ScriptFault.TheVariants as faults
+use Rattle.scripts.specs.declared.script_place.ScriptPlace.{ScriptPlace}
+use Rattle.scripts.specs.declared.script_place.ScriptPlace.TheVariants.{Line, Item}
 use Rattle.scripts.specs.declared.script_refusal.ScriptRefusal.{ScriptRefusal}
 use Rattle.streams.specs.Shown.{line_text}
-use Rattle.explanations.specs.Found.{value_of, shown_value, IsValueOf}
-use Rattle.explanations.specs.JsonFaults.{ExplainsJson}
+use Rattle.explanations.specs.Found.{command_at, value_of, shown_value, IsValueOf}
+use Rattle.explanations.specs.JsonFaults.{first_of, begins_number, ExplainsJson}
 use Rattle.explanations.specs.Places.{line_number, place_text}
 use Rattle.explanations.specs.Wanted.{script_wanted}
 
@@ -21,11 +24,37 @@ script_told refusal whole number =
 abbrev pub HasValue : List ℕ → Json → Type 0
 HasValue file whole = IsValueOf file whole ⊎ ((IsUtf8 file → document file ≡ None) × (whole ≡ null))
 
--- the text explains a refusal by the value of the file
+-- the text of a value begins with this byte
+abbrev pub begins_with : Json → ℕ → Bool
+begins_with json.null byte = byte == 110
+begins_with (json.boolean truth) byte = (byte == 116) || (byte == 102)
+begins_with (json.number text) byte = begins_number (Some byte)
+begins_with (json.string text) byte = byte == 34
+begins_with (json.array items) byte = byte == 91
+begins_with (json.object members) byte = byte == 123
+
+-- it does with this, if it is one
+abbrev pub begins : Json → Option ℕ → Bool
+begins value None = false
+begins value (Some byte) = begins_with value byte
+
+-- the line of a script that a place is, or is in
+abbrev pub line_at : ScriptPlace → Json → Option Json
+line_at (Line lane line) whole = command_at lane line whole
+line_at (Item lane line item) whole = command_at lane line whole
+line_at place whole = None
+
+-- the line of a script, if it is one, may begin here
+abbrev pub may_begin : Option Json → List ℕ → Bool
+may_begin None rest = true
+may_begin (Some line) rest = begins line (first_of rest)
+
+-- the text explains a refusal by the value of the file; a line of a script begins where it says
 pub record ExplainsValue (file : List ℕ) (refusal : ScriptRefusal) (text : List ℕ) : Type 0 where
   pub whole : Json
   pub has : HasValue file whole
   pub begin : ℕ
+  pub begins_there : may_begin (line_at refusal.place whole) (drop begin file) ≡ true
   pub is : text ≡ line_text (script_told refusal whole (line_number begin file))
 
 -- the text explains why a script file is refused with this fault: as no JSON text, by its place; else by the file's value

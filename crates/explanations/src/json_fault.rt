@@ -4,11 +4,11 @@ ghost use Rattle.std.specs.List.{list_all};
 ghost use Rattle.std.specs.Str.{IsUtf8};
 ghost use Rattle.streams.specs.Shown.{IsSafeLine};
 ghost use Rattle.explanations.specs.JsonFlaws.{first_is, escape_length};
-ghost use Rattle.explanations.specs.JsonFaults.{is_space, last_with, last_of, is_comma, wanted_behind, wanted_next, wanted_by, has_mark, has_comment, has_end, found_told, named_told, token_told, halt_told, json_told, IsOfText, control_told, flaw_told, open_told, HaltsAt, ExplainsJson};
+ghost use Rattle.explanations.specs.JsonFaults.{is_space, last_with, last_of, is_comma, wanted_behind, wanted_next, wanted_by, has_mark, has_comment, has_end, found_told, named_told, token_told, halt_told, json_told, IsOfText, control_told, flaw_told, open_told, HaltsAt, first_of, is_opening, opens, begins_number, wants_digit, wants_value, openings_in, quotes_in, may_flaw, bears_out, ExplainsJson};
 
 use crate::found::cut_of;
-use crate::json_flaw::{Flaw, char_flaw, escape_length, number_stop, string_stop};
-use crate::places::{column_number, front, line_number};
+use crate::json_flaw::{Flaw, char_flaw, escape_length, is_digit, number_stop, string_stop};
+use crate::places::{behind, column_number, front, line_number};
 use json::{Reader, Scratch, Token};
 use std::alloc::{AllocError, Global};
 use std::str::from_utf8;
@@ -279,6 +279,18 @@ fn last_of(bytes: &[u8]) -> Option<u8>
     last
 }
 
+/// The first of some bytes that JSON doesn't pass over.
+pub(crate) fn first_of(bytes: &[u8]) -> Option<u8>
+    ensures { result ≡ first_of bytes.now }
+{
+    for byte in bytes {
+        if !is_space(*byte) {
+            return Some(*byte);
+        }
+    }
+    None
+}
+
 /// Whether JSON passes over all of some bytes.
 fn are_spaces(bytes: &[u8]) -> bool
     ensures { result ≡ list_all is_space bytes.now }
@@ -485,6 +497,96 @@ fn json_told(alloc: Global, halt: Halt, at: usize, file: &[u8]) -> Result<String
     format!(in alloc; "the file, line {line}, column {column}: {why}")
 }
 
+/// Whether a list or an object begins with a byte.
+fn is_opening(byte: u8) -> bool
+    ensures { result ≡ is_opening byte }
+{
+    byte == b'[' || byte == b'{'
+}
+
+/// Whether one begins with this byte, if it is one.
+fn opens(first: Option<u8>) -> bool
+    ensures { result ≡ opens first }
+{
+    match first {
+        Some(byte) => is_opening(byte),
+        None => false,
+    }
+}
+
+/// Whether a number begins with this byte.
+pub(crate) fn begins_number(first: Option<u8>) -> bool
+    ensures { result ≡ begins_number first }
+{
+    match first {
+        Some(byte) => byte == b'-' || is_digit(byte),
+        None => false,
+    }
+}
+
+/// Whether a digit is wanted behind this byte, the last that isn't passed over.
+fn wants_digit(last: Option<u8>) -> bool
+    ensures { result ≡ wants_digit last }
+{
+    match last {
+        Some(last) => last == b'-' || last == b'.' || last == b'e' || last == b'E' || last == b'+',
+        None => false,
+    }
+}
+
+/// Whether a value is wanted behind this byte, by what is open there.
+fn wants_value(opened: Opened, last: Option<u8>) -> bool
+    ensures { result ≡ wants_value opened last }
+{
+    match last {
+        Some(b':' | b'[') => true,
+        Some(b',') => matches!(opened, Opened::Array),
+        Some(_) => false,
+        None => true,
+    }
+}
+
+/// How many lists and objects have begun.
+fn openings_in(text: &[u8]) -> usize
+    ensures { result ≡ openings_in text.now }
+{
+    text.iter().filter(|byte| is_opening(**byte)).count()
+}
+
+/// How many quotes there are.
+fn quotes_in(text: &[u8]) -> usize
+    ensures { result ≡ quotes_in text.now }
+{
+    text.iter().filter(|byte| **byte == b'"').count()
+}
+
+/// Whether a flaw may stand behind this text.
+fn may_flaw(flaw: Flaw, text: &[u8]) -> bool
+    ensures { result ≡ may_flaw flaw text.now }
+{
+    match flaw {
+        Flaw::Digit => wants_digit(last_of(text)),
+        Flaw::Zero => true,
+        Flaw::Control(_) | Flaw::Escape | Flaw::Half => quotes_in(text) > 0,
+    }
+}
+
+/// Whether what stands around a place bears out why the text stops being JSON there.
+#[tactic(auto, unfolding(crate::specs::JsonFaults::bears_out))]
+fn bears_out(halt: Halt, at: usize, file: &[u8]) -> bool
+    ensures { result ≡ bears_out halt at file.now }
+{
+    let before = front(file, at);
+    let first = first_of(behind(file, at));
+    match halt {
+        Halt::Token(opened) => !(wants_value(opened, last_of(before)) && opens(first)),
+        Halt::Large => begins_number(first),
+        Halt::Deep => openings_in(before) >= MOST_OPEN,
+        Halt::NoText | Halt::Open(_) => true,
+        Halt::Flawed(flaw) => may_flaw(flaw, before),
+    }
+}
+
 /// The line that explains why bytes are no JSON text: where they stop being one, what stands there and what is wanted;
 /// a byte order mark, a comment and a comma that is too much by their names. The error is want of memory.
 pub(crate) fn explain_json(alloc: Global, file: &[u8]) -> Result<String, AllocError>
@@ -492,6 +594,10 @@ pub(crate) fn explain_json(alloc: Global, file: &[u8]) -> Result<String, AllocEr
     ensures safe { IfOk result (λ text. IsSafeLine (string_bytes text)) }
 {
     let (at, halt) = halt_in(alloc, file)?;
+    if !bears_out(halt, at, file) {
+        // (Never: the kit's reader tells where a token stands, which no clause of its says.)
+        return Err(AllocError);
+    }
     let told = json_told(alloc, halt, at, file)?;
     line_of(alloc, told.as_bytes())
 }

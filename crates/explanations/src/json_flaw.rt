@@ -18,7 +18,7 @@ pub enum Flaw {
 }
 
 /// Whether a byte is a digit.
-fn is_digit(byte: u8) -> bool
+pub(crate) fn is_digit(byte: u8) -> bool
     ensures { result ≡ is_digit byte }
 {
     byte >= 48 && byte <= 57

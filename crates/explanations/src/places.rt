@@ -1,5 +1,5 @@
 //! Places of a text, and of a script file, in words.
-ghost use Rattle.std.specs.Prelude.{◌≡◌, ◌^◌, ◌<◌, ◌≤◌, length, take, fold, IfOk, string_bytes};
+ghost use Rattle.std.specs.Prelude.{◌≡◌, ◌^◌, ◌<◌, ◌≤◌, length, take, drop, fold, IfOk, string_bytes};
 ghost use Rattle.explanations.specs.Places.{ends_in, line_number, column_with, column_number, operand_text, line_place, place_text};
 
 use json::{Reader, Scratch, Token};
@@ -20,6 +20,13 @@ pub(crate) fn front(text: &[u8], at: usize) -> &[u8]
     ensures { result.now ≡ take at text.now }
 {
     &text[..at.min(text.len())]
+}
+
+/// The bytes from a place on; none where it is past them.
+pub(crate) fn behind(text: &[u8], at: usize) -> &[u8]
+    ensures { result.now ≡ drop at text.now }
+{
+    &text[at.min(text.len())..]
 }
 
 /// The number of the line that a text's byte stands in, counted from 1.

@@ -1,11 +1,14 @@
 //! Why an act isn't allowed: what of it is outside of the shape, or what would have been allowed in its place.
-ghost use Rattle.std.specs.Prelude.{◌≡◌, ◌<◌, ◌≤◌, ℕ, true, false, None, IfOk, IfSome, string_bytes};
-ghost use Rattle.keybits.specs.Shapes.{IsNarrow};
+ghost use Rattle.std.specs.Prelude.{◌≡◌, ◌≢◌, ◌<◌, ◌≤◌, ℕ, true, false, Some, None, IfOk, IfSome, IsNone, option_map, string_bytes};
+ghost use Rattle.keybits.specs.Keys.{place_of, tag_of};
+ghost use Rattle.keybits.specs.Places.{shard_of};
+ghost use Rattle.keybits.specs.Shapes.{IsNarrow, is_place};
 ghost use Rattle.seqpool.specs.Pool.{Allowed, pool_after};
 ghost use Rattle.seqpool.specs.declared.act.Act.TheVariants.{Get, Release};
 ghost use Rattle.seqpool.specs.Rows.{pool_in};
 ghost use Rattle.seqpool.specs.ActsText.{hex};
-ghost use Rattle.explanations.specs.Reasons.{IsKeyOutside, IsPlaceOutside, IsCollectOutside, IsOutside, IsRefused, IsDueIf, IsPublishDue, IsGetDue, IsClearDue, IsReclaimDue, IsDue, outside_text, general_text, found_text, due_text, TellsReason};
+ghost use Rattle.explanations.specs.declared.reasons.Due.TheVariants.{Found};
+ghost use Rattle.explanations.specs.Reasons.{IsKeyOutside, IsPlaceOutside, IsCollectOutside, IsOutside, AreInside, IsInside, is_reclaim_of, reclaims_of, next_key, with_content, last_content, IsRefused, IsDueIf, IsPublishDue, IsGetDue, IsClearDue, IsReclaimDue, IsDue, outside_text, general_text, found_text, due_text, TellsReason};
 
 use crate::found::cut_of;
 use keybits::{GREATEST_PLACE, Key, Place, Shape, place_of, shard_of, tag_of};
@@ -52,7 +55,8 @@ pub enum Due {
 
 /// What is outside of the shape of a key.
 fn key_outside(shape: &Shape, key: u64) -> Option<Outside>
-    ensures { IfSome result (IsKeyOutside shape.now key) }
+    ensures some { IfSome result (IsKeyOutside shape.now key) }
+    ensures none { IsNone result → (tag_of key ≡ shape.now.tag) × (is_place shape.now (place_of key) ≡ true) }
 {
     if u32::from(tag_of(key)) != shape.tag {
         return Some(Outside::OtherPool(shape.tag));
@@ -65,7 +69,8 @@ fn key_outside(shape: &Shape, key: u64) -> Option<Outside>
 
 /// What is outside of the shape of a place that a lane returns.
 fn place_outside(shape: &Shape, lane: u32, place: u32) -> Option<Outside>
-    ensures { IfSome result (IsPlaceOutside shape.now lane place) }
+    ensures some { IfSome result (IsPlaceOutside shape.now lane place) }
+    ensures none { IsNone result → (is_place shape.now place ≡ true) × (shard_of place ≢ lane) }
 {
     if !shape.is_place(place) {
         return Some(Outside::NoPlace);
@@ -78,7 +83,8 @@ fn place_outside(shape: &Shape, lane: u32, place: u32) -> Option<Outside>
 
 /// What is outside of the shape of places that a lane collects, at the first of them where something is.
 fn collect_outside(shape: &Shape, lane: u32, places: &[u32]) -> Option<Outside>
-    ensures { IfSome result (IsCollectOutside shape.now lane places.now) }
+    ensures some { IfSome result (IsCollectOutside shape.now lane places.now) }
+    ensures none { IsNone result → AreInside shape.now lane places.now }
 {
     for (index, place) in places.iter().enumerate() {
         if !shape.is_place(*place) {
@@ -96,7 +102,8 @@ fn collect_outside(shape: &Shape, lane: u32, places: &[u32]) -> Option<Outside>
 
 /// What of an act is outside of the shape.
 fn outside_of(shape: &Shape, act: &Act) -> Option<Outside>
-    ensures { IfSome result (IsOutside shape.now act.now) }
+    ensures some { IfSome result (IsOutside shape.now act.now) }
+    ensures none { IsNone result → IsInside shape.now act.now }
 {
     if act.lane() >= shape.lanes {
         return Some(Outside::NoLane(shape.lanes));
@@ -131,28 +138,37 @@ fn due_if(pool: &mut SeqPool, act: Act, due: Due) -> Result<Due, AllocError>
     Ok(Due::General)
 }
 
-/// How many of some acts reclaim a key of a place.
-fn reclaims_of(history: &[Act], place: u32) -> u32 {
-    let mut count = 0u32;
-    for act in history {
-        if let Act::Reclaim { key, .. } = act {
-            if place_of(*key) == place {
-                count = count.saturating_add(1);
-            }
-        }
+/// Whether an act reclaims a key of a place.
+fn is_reclaim_of(act: &Act, place: u32) -> bool
+    ensures { result ≡ is_reclaim_of place act.now }
+{
+    match act {
+        Act::Reclaim { key, .. } => place_of(*key) == place,
+        _ => false,
     }
-    count
 }
 
-/// The next key of a place, by the acts so far, with a tag.
-fn next_key(history: &[Act], tag: u8, place: u32) -> u64
-    requires { place ≤ GREATEST_PLACE }
+/// How many of some acts reclaim a key of a place.
+fn reclaims_of(history: &[Act], place: u32) -> usize
+    ensures { result ≡ reclaims_of history.now place }
 {
-    let generation = reclaims_of(history, place).saturating_add(1);
-    match Key::pack_tagged(tag, Place::of_number(place), generation) {
-        Some(key) => key.number(),
-        None => 0,
+    history
+        .iter()
+        .filter(|act| is_reclaim_of(act, place))
+        .count()
+}
+
+/// The next key of a place, by the acts so far, with a tag. None where no key has room for its generation.
+fn next_key(history: &[Act], tag: u8, place: u32) -> Option<u64>
+    requires { place ≤ GREATEST_PLACE }
+    ensures { result ≡ next_key history.now tag place }
+{
+    let reclaims = reclaims_of(history, place);
+    if reclaims >= 4_294_967_295 {
+        return None;
     }
+    let key = Key::pack_tagged(tag, Place::of_number(place), reclaims as u32 + 1)?;
+    Some(key.number())
 }
 
 /// What would have been allowed in place of a publish of a key.
@@ -163,9 +179,11 @@ fn publish_due(
     lane: u32,
     key: u64,
 ) -> Result<Due, AllocError>
-    ensures { IfOk result (IsPublishDue pool.old.shape (pool_in pool.old) lane) }
+    ensures { IfOk result (IsPublishDue pool.old.shape history.now (pool_in pool.old) lane key) }
 {
-    let next = next_key(history, tag_of(key), place_of(key));
+    let Some(next) = next_key(history, tag_of(key), place_of(key)) else {
+        return Ok(Due::General);
+    };
     let act = Act::Publish {
         lane,
         key: next,
@@ -175,21 +193,29 @@ fn publish_due(
     due_if(pool, act, Due::NextKey(next))
 }
 
-/// The content of the last publish of a key.
-fn last_content(history: &[Act], key: u64) -> Option<&Bytes> {
-    for act in history.iter().rev() {
-        if let Act::Publish {
+/// The content that an act publishes under a key, or else what was found before.
+fn with_content<'h>(key: u64, found: Option<&'h Bytes>, act: &'h Act) -> Option<&'h Bytes>
+    ensures { option_map (λ content. content.now) result ≡ with_content key (option_map (λ content. content.now) found.entry) act.now }
+{
+    match act {
+        Act::Publish {
             key: published,
             content,
             ..
-        } = act
-        {
-            if *published == key {
-                return Some(content);
-            }
-        }
+        } if *published == key => Some(content),
+        _ => found,
     }
-    None
+}
+
+/// The content of the last publish of a key.
+fn last_content(history: &[Act], key: u64) -> Option<&Bytes>
+    ensures { option_map (λ content. content.now) result ≡ last_content history.now key }
+{
+    let mut found = None;
+    for act in history {
+        found = with_content(key, found, act);
+    }
+    found
 }
 
 /// What would have been allowed in place of a get: one that finds this content.
@@ -200,8 +226,7 @@ fn found_due(
     lane: u32,
     key: u64,
 ) -> Result<Due, AllocError>
-    requires { IsRefused pool.old.shape (pool_in pool.old) (Get lane key None) }
-    ensures { IfOk result (IsGetDue pool.old.shape (pool_in pool.old) lane key) }
+    ensures { IfOk result (IsDueIf pool.old.shape (pool_in pool.old) (Get lane key (Some content.now)) (Found content.now)) }
 {
     let reply = content.copy(alloc)?;
     let due = Due::Found(content.copy(alloc)?);
@@ -221,7 +246,7 @@ fn get_due(
     lane: u32,
     key: u64,
 ) -> Result<Due, AllocError>
-    ensures { IfOk result (IsGetDue pool.old.shape (pool_in pool.old) lane key) }
+    ensures { IfOk result (IsGetDue pool.old.shape history.now (pool_in pool.old) lane key) }
 {
     let act = Act::Get {
         lane,
@@ -260,28 +285,22 @@ fn holder_of(pool: &mut SeqPool, lanes: u32, key: u64) -> Result<Option<u32>, Al
 }
 
 /// What would have been allowed in place of a reclaim, or before it.
-fn reclaim_due(
-    pool: &mut SeqPool,
-    lanes: u32,
-    lane: u32,
-    key: u64,
-    fault: ApplyFault,
-) -> Result<Due, AllocError>
+fn reclaim_due(pool: &mut SeqPool, lanes: u32, lane: u32, key: u64) -> Result<Due, AllocError>
     requires { lanes ≡ pool.old.shape.lanes }
     ensures { IfOk result (IsReclaimDue pool.old.shape (pool_in pool.old) lane key) }
 {
-    if let ApplyFault::StillHeld = fault {
-        return match holder_of(pool, lanes, key)? {
-            Some(holder) => Ok(Due::HeldBy(holder)),
-            None => Ok(Due::General),
-        };
-    }
     let act = Act::Clear {
         lane,
         key,
         reply: true,
     };
-    due_if(pool, act, Due::Unmarked)
+    if allows(pool, &act)? {
+        return Ok(Due::Unmarked);
+    }
+    match holder_of(pool, lanes, key)? {
+        Some(holder) => Ok(Due::HeldBy(holder)),
+        None => Ok(Due::General),
+    }
 }
 
 /// What would have been allowed in an act's place, behind these acts.
@@ -291,16 +310,15 @@ fn due_of(
     history: &[Act],
     pool: &mut SeqPool,
     act: &Act,
-    fault: ApplyFault,
 ) -> Result<Due, AllocError>
     requires { lanes ≡ pool.old.shape.lanes }
-    ensures { IfOk result (IsDue pool.old.shape (pool_in pool.old) act.now) }
+    ensures { IfOk result (IsDue pool.old.shape history.now (pool_in pool.old) act.now) }
 {
     match act {
         Act::Publish { lane, key, .. } => publish_due(alloc, history, pool, *lane, *key),
         Act::Get { lane, key, .. } => get_due(alloc, history, pool, *lane, *key),
         Act::Clear { lane, key, reply } => clear_due(pool, *lane, *key, *reply),
-        Act::Reclaim { lane, key } => reclaim_due(pool, lanes, *lane, *key, fault),
+        Act::Reclaim { lane, key } => reclaim_due(pool, lanes, *lane, *key),
         _ => Ok(Due::General),
     }
 }
@@ -408,11 +426,12 @@ fn due_behind(
     act: &Act,
     fault: ApplyFault,
 ) -> Result<String, AllocError>
-    requires { IsNarrow shape }
-    ensures { IfOk result (λ text. TellsReason shape (pool_after shape history.now) act.now fault (string_bytes text)) }
+    requires narrow { IsNarrow shape }
+    requires inside { IsInside shape act.now }
+    ensures { IfOk result (λ text. TellsReason shape history.now act.now fault (string_bytes text)) }
 {
     let mut pool = pool_behind(alloc, shape, history)?;
-    let due = due_of(alloc, shape.lanes, history, &mut pool, act, fault)?;
+    let due = due_of(alloc, shape.lanes, history, &mut pool, act)?;
     due_told(alloc, fault, &due)
 }
 
@@ -426,13 +445,9 @@ pub(crate) fn reason_told(
     fault: ApplyFault,
 ) -> Result<String, AllocError>
     requires { IsNarrow shape }
-    ensures { IfOk result (λ text. TellsReason shape (pool_after shape history.now) act.now fault (string_bytes text)) }
+    ensures { IfOk result (λ text. TellsReason shape history.now act.now fault (string_bytes text)) }
 {
-    let outside = match fault {
-        ApplyFault::NotWithLane | ApplyFault::NotHome => outside_of(&shape, act),
-        _ => None,
-    };
-    match outside {
+    match outside_of(&shape, act) {
         Some(outside) => outside_told(alloc, outside),
         None => due_behind(alloc, shape, history, act, fault),
     }

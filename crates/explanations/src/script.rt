@@ -1,16 +1,16 @@
 //! Why a script file is refused, in words.
-ghost use Rattle.std.specs.Prelude.{◌≡◌, IfOk, string_bytes};
+ghost use Rattle.std.specs.Prelude.{◌≡◌, IfOk, option_map, string_bytes};
 ghost use Rattle.json.specs.Tree.{HasNumbers};
 ghost use Rattle.json.specs.Value.{value_view};
 ghost use Rattle.streams.specs.Shown.{IsSafeLine};
-ghost use Rattle.explanations.specs.ScriptTexts.{script_told, HasValue, ExplainsValue, ExplainsScript};
+ghost use Rattle.explanations.specs.ScriptTexts.{script_told, begins_with, begins, line_at, may_begin, HasValue, ExplainsValue, ExplainsScript};
 
-use crate::found::value_told;
-use crate::json_fault::explain_json;
-use crate::places::{begin_of, line_number, place_told};
+use crate::found::{command_at, value_told};
+use crate::json_fault::{begins_number, explain_json, first_of};
+use crate::places::{begin_of, behind, line_number, place_told};
 use crate::wanted::wanted_told;
 use json::{Error, Scratch, Value};
-use scripts::{ScriptFault, ScriptRefusal};
+use scripts::{ScriptFault, ScriptPlace, ScriptRefusal};
 use std::alloc::{AllocError, Global};
 use streams::line_of;
 
@@ -31,6 +31,52 @@ fn script_told(
     format!(in alloc; "{place}: {found} {wanted}")
 }
 
+/// Whether the text of a value begins with this byte.
+fn begins_with(value: &Value<'_>, byte: u8) -> bool
+    ensures { result ≡ begins_with (value_view value.now) byte }
+{
+    match value {
+        Value::Null => byte == b'n',
+        Value::Bool(_) => byte == b't' || byte == b'f',
+        Value::Number(_) => begins_number(Some(byte)),
+        Value::String(_) => byte == b'"',
+        Value::Array(_) => byte == b'[',
+        Value::Object(_) => byte == b'{',
+    }
+}
+
+/// Whether it does with this, if it is one.
+fn begins(value: &Value<'_>, first: Option<u8>) -> bool
+    ensures { result ≡ begins (value_view value.now) first }
+{
+    match first {
+        Some(byte) => begins_with(value, byte),
+        None => false,
+    }
+}
+
+/// The line of a script that a place is, or is in.
+fn line_at<'v, 'a>(whole: &'v Value<'a>, place: ScriptPlace) -> Option<&'v Value<'a>>
+    ensures { option_map (λ v. value_view v.now) result ≡ line_at place (value_view whole.now) }
+{
+    match place {
+        ScriptPlace::Line { lane, line } | ScriptPlace::Item { lane, line, .. } => {
+            command_at(whole, lane, line)
+        }
+        _ => None,
+    }
+}
+
+/// Whether the line of a script, if it is one, may begin here.
+fn may_begin(line: Option<&Value<'_>>, rest: &[u8]) -> bool
+    ensures { result ≡ may_begin (option_map (λ v. value_view v.now) line.entry) rest.now }
+{
+    match line {
+        Some(line) => begins(line, first_of(rest)),
+        None => true,
+    }
+}
+
 /// The line that explains a refusal of a file with this value.
 fn explain_by(
     alloc: Global,
@@ -44,6 +90,10 @@ fn explain_by(
     ensures safe { IfOk result (λ text. IsSafeLine (string_bytes text)) }
 {
     let begin = begin_of(alloc, file, refusal.place)?;
+    if !may_begin(line_at(whole, refusal.place), behind(file, begin)) {
+        // (Never: the kit's reader tells where a token stands, which no clause of its says.)
+        return Err(AllocError);
+    }
     let told = script_told(alloc, refusal, whole, line_number(file, begin))?;
     line_of(alloc, told.as_bytes())
 }

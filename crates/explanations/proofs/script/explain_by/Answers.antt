@@ -1,4 +1,4 @@
-use Rattle.std.proofs.Common.{◌∙◌, ap}
+use Rattle.std.proofs.Common.{rules, ◌∙◌, ap}
 use Rattle.std.proofs.lemmas.Result.{IfOk-weaker}
 use Rattle.json.specs.Value.{value_view}
 use Rattle.streams.specs.Shown.{line_text}
@@ -12,6 +12,7 @@ returns-clause-is c =
       whole = value_view c.args.whole.now;
       has = c.requires.value;
       begin = c.in_ok-begin.begin;
+      begins_there = search rules;
       is = is ∙ ap line_text (c.as_bytes.ensures.value ∙ c.in_ok-told.ensures ∙ ap (script_told c.args.refusal.now (value_view c.args.whole.now)) c.line_number.ensures);
     })
     c.line_of.ensures.is
