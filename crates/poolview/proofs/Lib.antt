@@ -1,1 +1,2 @@
 mod Safe
+mod WordLemmas

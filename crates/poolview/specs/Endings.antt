@@ -18,7 +18,7 @@ use Rattle.commandline.specs.declared.fault.TaskFault.{TaskFault}
 use Rattle.commandline.specs.declared.views.View.{View}
 use Rattle.commandline.specs.declared.views.Viewing.{Viewing}
 use Rattle.poolview.specs.Faults.{refusal_text, unread_fault}
-use Rattle.poolview.specs.Shows.{ShowsText, RefusesText, IsFileAt}
+use Rattle.poolview.specs.Shows.{ShowsText, Leaves, RefusesText, IsFileAt}
 use Rattle.poolview.specs.declared.fault.Fault.{Fault}
 use Rattle.poolview.specs.declared.fault.Fault.TheVariants as faults
 
@@ -45,13 +45,13 @@ EndsFault errors explain path bytes fault true before after status = (status ≡
 EndsFault errors explain path bytes fault false before after status = (status ≡ 1)
     × Says errors before after (refusal_text explain path bytes fault)
 
--- it wasn't, by this fault; nothing is on the output, unless it failed
-pub record EndsRefused {O E : Type 0} (errors : E
+-- it wasn't, by this fault; nothing is on the output, unless it failed, or memory was refused while words were written
+pub record EndsRefused {O E : Type 0} (contents : O → Option (List ℕ)) (errors : E
     → Option (List ℕ)) (explain : Bool) (path : List ℕ) (view : View) (bytes : List ℕ) (old new : Watched O)
     (before after : Watched E) (status : ℕ) : Type 0 where
   pub fault : Fault
   pub output : fault ≡ faults.Output → new.failed ≡ true
-  pub refuses : fault ≢ faults.Output → (new ≡ old) × RefusesText view bytes fault
+  pub refuses : fault ≢ faults.Output → Leaves contents view bytes fault old new × RefusesText view bytes fault
   pub ends : EndsFault errors explain path bytes fault (is_silent fault new.closed) before after status
 
 -- how the program ends that has read these bytes
@@ -59,7 +59,7 @@ abbrev pub EndsBytes : {O E : Type 0} → (O → Option (List ℕ)) → (E → O
     → Watched O → Watched O → Watched E → Watched E → ℕ → Type 0
 EndsBytes contents errors explain viewing bytes old new before after status =
     EndsShown contents viewing.file.now viewing.view bytes old new before after status
-    ⊎ EndsRefused errors explain viewing.file.now viewing.view bytes old new before after status
+    ⊎ EndsRefused contents errors explain viewing.file.now viewing.view bytes old new before after status
 
 -- the file wasn't read: the status is 1, and that is said; nothing is on the output
 pub record EndsUnread {O E : Type 0} (errors : E → Option (List ℕ)) (explain : Bool) (path : List ℕ) (old new : Watched O)

@@ -1,11 +1,13 @@
 -- What is shown of a trace.
-use Rattle.std.specs.Prelude.{◌≡◌, ℕ, List, Option, IfSome, codes, false}
+use Rattle.std.specs.Prelude.{◌≡◌, ◌⊎◌, ℕ, Bool, List, Option, IfSome, codes, false}
+use Rattle.std.specs.Io.KnownBytes.{Appends}
 use Rattle.commandline.specs.declared.views.View.{View}
+use Rattle.streams.specs.declared.writer.Watched.{Watched}
 use Rattle.commandline.specs.declared.views.View.TheVariants as views
 use Rattle.traceviews.specs.Events.{AreEvents}
 use Rattle.traceviews.specs.HtmlPages.{IsHtmlPage}
 use Rattle.traceviews.specs.Json.{json_text}
-use Rattle.traceviews.specs.Lines.{AreLines, IsFirstWrong}
+use Rattle.traceviews.specs.Lines.{AreLines, BeginWith, IsFirstWrong}
 use Rattle.traceviews.specs.Pictures.{IsPicture}
 use Rattle.traceviews.specs.Styles.{lines_words}
 use Rattle.traceviews.specs.Summaries.{IsSummary}
@@ -53,6 +55,25 @@ RefusesText view bytes faults.Large = IsWhole view
 RefusesText view bytes faults.Memory = Unit {0}
 RefusesText view bytes (faults.File why) = ⊥
 RefusesText view bytes faults.Output = ⊥
+
+-- the decoded words of the first lines of the bytes were written
+pub record WritesFront {O : Type 0} (contents : O
+    → Option (List ℕ)) (keys : Bool) (bytes : List ℕ) (old new : Watched O) : Type 0 where
+  pub front : List Line
+  pub rest : List ℕ
+  pub begins : BeginWith front rest bytes
+  pub appended : Appends (contents old.inner) (contents new.inner) (lines_words keys false front)
+
+-- the bytes are refused by their first line that is none, or memory was refused
+abbrev pub RefusesLine : List ℕ → Fault → Type 0
+RefusesLine bytes (faults.Line number wanted) = IsFirstWrong number bytes
+RefusesLine bytes faults.Memory = Unit {0}
+RefusesLine bytes fault = ⊥
+
+-- what a refusal leaves on the output: nothing; or of words without numbers, where memory was refused, those of the first lines
+abbrev pub Leaves : {O : Type 0} → (O → Option (List ℕ)) → View → List ℕ → Fault → Watched O → Watched O → Type 0
+Leaves contents view bytes fault old new = (new ≡ old)
+    ⊎ ((keys : Bool) × (view ≡ views.Words keys false) × (fault ≡ faults.Memory) × WritesFront contents keys bytes old new)
 
 -- the bytes were read of the file at this path: what is left of an input where it is named by a dash; of a file nothing more is said
 abbrev pub IsFileAt : List ℕ → Option (List ℕ) → List ℕ → Type 0

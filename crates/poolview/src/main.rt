@@ -6,6 +6,7 @@
 mod explanation;
 mod fault;
 mod showing;
+mod streaming;
 mod viewing;
 
 use crate::viewing::view_trace;

@@ -1,15 +1,16 @@
 //! The program over any input and writers.
 ghost use Rattle.std.specs.Prelude.{◌≡◌, ◌≢◌, ◌↔◌, ℕ, List, true, false, OnOk, IfErr, IsErrOf};
 ghost use Rattle.std.specs.Io.KnownBytes.{Appends};
-ghost use Rattle.poolview.specs.Shows.{ShowsText, RefusesText};
+ghost use Rattle.poolview.specs.Shows.{ShowsText, Leaves, RefusesText};
 ghost use Rattle.poolview.specs.Endings.{is_silent, file_of, EndsFault, EndsBytes, EndsView, EndsAsked, EndsCall, EndsProgram};
 ghost use Rattle.commandline.specs.Readings.{text_of};
 
 use crate::explanation::write_refusal;
 use crate::fault::Fault;
 use crate::showing::text_shown;
+use crate::streaming::show_words;
 use commandline::{
-    Call, TaskFault, ViewRequest, Viewing, end_by_words, hint, is_due, is_hinted, is_wanted,
+    Call, TaskFault, View, ViewRequest, Viewing, end_by_words, hint, is_due, is_hinted, is_wanted,
     read_args, read_viewing,
 };
 use std::alloc::Global;
@@ -19,8 +20,28 @@ use std::io;
 use std::io::{Read, Write};
 use streams::{Watched, read_path, write_and_flush};
 
-/// Shows what is asked for of a trace, by its bytes. The errors: `Memory` and `Line` come before the first byte;
-/// `Output` comes exactly where `out` failed.
+/// Shows what is asked for of a trace, by its bytes, as one text. All errors but `Output` come before the first byte;
+/// that comes exactly where `out` failed.
+fn show_whole<O: Write>(
+    alloc: Global,
+    viewing: &Viewing,
+    bytes: &[u8],
+    out: &mut Watched<O>,
+) -> Result<(), Fault>
+    requires { out.old.failed ≡ false }
+    ensures ok { OnOk result ((text : List ℕ) × ShowsText viewing.now.file.now viewing.now.view bytes.now text
+        × Appends (O.contents out.old.inner) (O.contents out.new.inner) text) }
+    ensures output { IsErrOf result Fault.Output ↔ (out.new.failed ≡ true) }
+    ensures refused { IfErr result (λ fault. fault ≢ Fault.Output
+        → Leaves O.contents viewing.now.view bytes.now fault out.old out.new × RefusesText viewing.now.view bytes.now fault) }
+{
+    let text = text_shown(alloc, viewing, bytes)?;
+    write_and_flush(text.as_slice(), out)?;
+    Ok(())
+}
+
+/// Shows what is asked for of a trace, by its bytes: words some lines at a time, and all else as one text. `Output` comes
+/// exactly where `out` failed; before any other error nothing is written, but for words where memory is refused.
 fn show<O: Write>(
     alloc: Global,
     viewing: &Viewing,
@@ -31,11 +52,16 @@ fn show<O: Write>(
     ensures ok { OnOk result ((text : List ℕ) × ShowsText viewing.now.file.now viewing.now.view bytes.now text
         × Appends (O.contents out.old.inner) (O.contents out.new.inner) text) }
     ensures output { IsErrOf result Fault.Output ↔ (out.new.failed ≡ true) }
-    ensures refused { IfErr result (λ fault. fault ≢ Fault.Output → (out.new ≡ out.old) × RefusesText viewing.now.view bytes.now fault) }
+    ensures refused { IfErr result (λ fault. fault ≢ Fault.Output
+        → Leaves O.contents viewing.now.view bytes.now fault out.old out.new × RefusesText viewing.now.view bytes.now fault) }
 {
-    let text = text_shown(alloc, viewing, bytes)?;
-    write_and_flush(text.as_slice(), out)?;
-    Ok(())
+    match viewing.view {
+        View::Words {
+            keys,
+            numbers: false,
+        } => show_words(alloc, viewing, keys, bytes, out),
+        _ => show_whole(alloc, viewing, bytes, out),
+    }
 }
 
 /// The status that a shell tells of a program that a closed pipe ended.

@@ -1,12 +1,12 @@
 -- The lines of a trace's text, each with the lane that it is of.
-use Rattle.std.specs.Prelude.{◌≡◌, ◌≢◌, ℕ, ◌+◌, List, [], ◌∷◌, ◌++◌, flat_map, map, length, false, Option, Some, None}
+use Rattle.std.specs.Prelude.{◌≡◌, ◌≢◌, ◌⊎◌, ℕ, ◌+◌, List, [], ◌∷◌, ◌++◌, flat_map, map, length, false, codes, Option, Some, None}
 use Rattle.std.specs.List.{AllByRecursion}
 use Rattle.keybits.specs.declared.step.Kind.{Kind}
 use Rattle.keybits.specs.declared.step.Kind.TheVariants as kinds
 use Rattle.keybits.specs.declared.step.Step.{Step}
 use Rattle.keybits.specs.declared.step.Word.{Word}
 use Rattle.keybits.specs.declared.step.Word.TheVariants as words
-use Rattle.seqpool.specs.ActsText.{AreBytes, IsU32, IsKeyNumber, IsPlaceNumber}
+use Rattle.seqpool.specs.ActsText.{AreBytes, IsU32, IsKeyNumber, IsPlaceNumber, IsUpToLineFeed}
 use Rattle.traces.specs.Text.{reply_line, step_line}
 use Rattle.traces.specs.declared.reply.Reply.{Reply}
 use Rattle.traces.specs.declared.reply.Reply.TheVariants as replies
@@ -115,9 +115,14 @@ HasEntry (entries.Reply r) = HasReply r
 abbrev pub HasLine : Line → Type 0
 HasLine l = IsU32 l.lane × HasEntry l.entry
 
--- the text is that of these lines
+-- the text is that of these lines; the last may lack its line feed
 abbrev pub AreLines : List Line → List ℕ → Type 0
-AreLines lines text = AllByRecursion HasLine lines × (text ≡ lines_text lines)
+AreLines lines text = AllByRecursion HasLine lines × IsUpToLineFeed text (lines_text lines)
+
+-- the text begins with these lines, and this comes after them; where nothing does, the last may lack its line feed
+pub record BeginWith (lines : List Line) (rest text : List ℕ) : Type 0 where
+  pub all : AllByRecursion HasLine lines
+  pub parts : (text ≡ lines_text lines ++ rest) ⊎ ((rest ≡ []) × (text ++ codes "\n" ≡ lines_text lines))
 
 -- the line of this number, counted from 1, is the first that is none: lines stand before it, and no line begins what is left
 pub record IsFirstWrong (number : ℕ) (text : List ℕ) : Type 0 where
@@ -127,7 +132,7 @@ pub record IsFirstWrong (number : ℕ) (text : List ℕ) : Type 0 where
   pub parts : text ≡ lines_text front ++ rest
   pub counted : number ≡ length front + 1
   pub some : rest ≢ []
-  pub wrong : (line : Line) (more : List ℕ) → HasLine line → rest ≡ line_text line ++ more → ⊥
+  pub wrong : (line : Line) (more : List ℕ) → HasLine line → IsUpToLineFeed rest (line_text line ++ more) → ⊥
 
 -- the lines of a turn
 

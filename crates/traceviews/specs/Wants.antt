@@ -1,7 +1,7 @@
 -- What is wanted where a line is none, in words.
 use Rattle.std.specs.Prelude.{ℕ, List, codes}
 use Rattle.traceviews.specs.declared.fault.Wanted.{Wanted}
-use Rattle.traceviews.specs.declared.fault.Wanted.TheVariants.{Lane, Entry, Place, Stack, Before, After, Reply, LineFeed}
+use Rattle.traceviews.specs.declared.fault.Wanted.TheVariants.{Lane, Entry, Place, Stack, Before, After, Reply}
 
 abbrev pub wanted_text : Wanted → List ℕ
 wanted_text Lane = codes "a lane's number"
@@ -11,4 +11,3 @@ wanted_text Stack = codes "a stack, as 0.1,"
 wanted_text Before = codes "a step's word before"
 wanted_text After = codes "a step's word after"
 wanted_text Reply = codes "a reply"
-wanted_text LineFeed = codes "a line feed"

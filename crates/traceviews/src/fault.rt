@@ -23,8 +23,6 @@ pub enum Wanted {
     After,
     /// A reply.
     Reply,
-    /// A line feed, which each line ends with.
-    LineFeed,
 }
 
 impl Wanted {
@@ -43,7 +41,6 @@ impl Wanted {
             Wanted::Before => "a step's word before",
             Wanted::After => "a step's word after",
             Wanted::Reply => "a reply",
-            Wanted::LineFeed => "a line feed",
         }
     }
 }

@@ -52,7 +52,7 @@ pub use html::html_text;
 pub use json::turns_json;
 pub use line::{Entry, Line, NamedStep, StepName};
 pub use picture::{Window, picture_text};
-pub use reader::read_trace;
+pub use reader::{LINES_HELD, check_lines, read_lines, read_trace};
 pub use summary::summary_text;
 pub use turns::turn_count;
 pub use words::{WordStyle, words_text};

@@ -1,9 +1,9 @@
 use Rattle.std.proofs.Common.{length}
-use Rattle.traceviews.proofs.TraceTexts.{IsReadUpTo}
-use Rattle.traceviews.proofs.reader.read_trace.Given as goal
+use Rattle.traceviews.proofs.TraceTexts.{AreReadUpTo}
+use Rattle.traceviews.proofs.reader.check_lines.Given as goal
 
 abbrev pub invariant-loop-rest : goal.invariant-loop-rest
-invariant-loop-rest l = IsReadUpTo l.lines.items l.rest l.text
+invariant-loop-rest l = AreReadUpTo l.before l.rest l.text
 
 abbrev pub decreases-loop-rest : goal.decreases-loop-rest
 decreases-loop-rest l = length l.rest
