@@ -2,7 +2,7 @@
 ghost use Rattle.std.specs.Prelude.{◌≡◌};
 ghost use Rattle.shardpool.specs.Lanes.{Owns, refs};
 
-use crate::test_calls::{open_last, publish, same, shape_of};
+use crate::test_calls::{clear, open_last, publish, same, shape_of};
 use guards::{FillGuard, ReadGuard, create_with, with, with_four, with_three, with_two};
 use shardpool::{CreateFault, Lane, Pool};
 use slotcell::{ByteBuf, Record};
@@ -23,6 +23,9 @@ fn closures_run_between_the_calls(rt: HostRuntime) {
     same(&rt, &create_two_bytes(&pool, &mut lane), &Ok(16777216));
     let length = with(&pool, &mut lane, 16777216, |bytes: &ByteBuf| bytes.len());
     same(&rt, &length, &Some(2));
+    clear(&rt, &pool, &mut lane, 16777216, true);
+    let behind = with(&pool, &mut lane, 16777216, |bytes: &ByteBuf| bytes.len());
+    same(&rt, &behind, &None);
 }
 
 /// Fills a place by a guard. Without a number the guard is dropped in the middle.
@@ -72,6 +75,13 @@ fn guards_end_by_themselves(rt: HostRuntime) {
     same(&rt, &first_of(&pool, &mut lane, 16777216), &None);
     same(&rt, &first_of(&pool, &mut lane, 16777217), &Some(7));
     same(&rt, &downgraded(&pool, &mut lane), &Ok(16777218));
+
+    // A guard that was dropped has given its reference back: the only place can be had again behind a clear.
+    let (pool, mut lane) = open_last(&rt, rt.alloc(), shape_of(1, 1, 1));
+    same(&rt, &filled(&pool, &mut lane, Some(7)), &Ok(16777216));
+    same(&rt, &first_of(&pool, &mut lane, 16777216), &Some(7));
+    clear(&rt, &pool, &mut lane, 16777216, true);
+    same(&rt, &filled(&pool, &mut lane, Some(8)), &Ok(33554432));
 }
 
 #[test]
