@@ -4,7 +4,7 @@
 usage: plant.py LIST.. [--search] [--jobs N] [--only NUMBER..]
 
 A list has for each fault the file, what is wrong then, a text that stands there once (`-`), of which what stands in « » is replaced, or
-all, by what stands there then (`+`), and what finds it (`=`): `explore SCENARIO`, `test FILE NAME`, `address FILE NAME` (a test under AddressSanitizer), `misuse NUMBER HEADING` (lines of misuse.rs
+all, by what stands there then (`+`), and what finds it (`=`): `explore SCENARIO`, `old SCENARIO` (the same, where a look may find an old value), `test FILE NAME`, `address FILE NAME` (a test under AddressSanitizer), `misuse NUMBER HEADING` (lines of misuse.rs
 that the compiler must refuse, counted from 1 behind the heading that begins so). White space doesn't count. All are planted in one copy, each by a branch on the number in
 PLANTED; one whose text can't be branched on is marked `alone`, and is built by itself.
 
@@ -222,11 +222,14 @@ def run(build, finder, number):
     if kind == "misuse":
         refused = build.misuse(int(words[0]), " ".join(words[1:]))
         return None if refused else "it compiles"
-    program, wrong = build.program(kind, "" if kind == "explore" else words[0])
+    is_scenario = kind in ("explore", "old")
+    program, wrong = build.program(*(("explore", "") if is_scenario else (kind, words[0])))
     if wrong:
         sys.exit(f"FAIL {finder}: {wrong}")
-    command = [program, words[0]] if kind == "explore" else [program, "--exact", "--test-threads=1", words[1]]
-    if kind == "explore" and number == 0:
+    command = [program, words[0]] if is_scenario else [program, "--exact", "--test-threads=1", words[1]]
+    if kind == "old":
+        command[1:1] = ["--old"]
+    if is_scenario and number == 0:
         command[1:1] = ["--at-most", str(SCHEDULES_WITHOUT_A_FAULT)]
     env = dict(os.environ, PLANTED=str(number), RUST_BACKTRACE="0", ASAN_OPTIONS="detect_leaks=0")
     env["PARDZ_TEST_SECONDS"] = str(SECONDS_OF_A_TEST)
@@ -234,7 +237,7 @@ def run(build, finder, number):
         made = subprocess.run(command, capture_output=True, text=True, errors="replace", timeout=SECONDS, env=env)
     except subprocess.TimeoutExpired:
         return "HANGS"
-    if kind != "explore" and "running 1 test" not in made.stdout:
+    if not is_scenario and "running 1 test" not in made.stdout:
         sys.exit(f"FAIL {finder}: there is no such test: {made.stdout}{made.stderr}")
     if made.returncode == 0:
         return None

@@ -44,7 +44,8 @@ pub fn all() -> Vec<Scenario> {
                 );
                 assert_eq!(world.close().present, 3);
             },
-        ),
+        )
+        .bounded(3),
         Scenario::new(
             "left-with-filling",
             one_lane,

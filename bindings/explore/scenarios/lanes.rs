@@ -22,7 +22,7 @@ pub fn all() -> Vec<Scenario> {
         Scenario::new(
             "owner-clear-create",
             one_key,
-            [clear_and_create, get_twice_and_next],
+            [clear_and_create, get_and_next],
             cleared_once,
         ),
         Scenario::new(
@@ -144,9 +144,8 @@ fn clear_and_create(world: &World) {
     });
 }
 
-fn get_twice_and_next(world: &World) {
+fn get_and_next(world: &World) {
     world.by_lane(1, |lane| {
-        look(lane, world.keys[0], number_of(0));
         look(lane, world.keys[0], number_of(0));
         look(lane, key_of(2, 0), 7);
     });

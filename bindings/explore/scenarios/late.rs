@@ -43,7 +43,8 @@ pub fn all() -> Vec<Scenario> {
             one_lane,
             [leave_reference_early, take_twice_and_clear],
             at_most_one,
-        ),
+        )
+        .bounded(3),
         Scenario::new("early-call", one_lane, [call_early, take_twice], settled),
         Scenario::new(
             "late-publish",

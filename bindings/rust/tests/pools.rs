@@ -136,17 +136,17 @@ fn a_thread_reads_all_segments() {
     thread::scope(|scope| scope.spawn(reads).join().expect("no panic"));
 }
 
-/// A thread that shares in many pools shares in each a lane of that one: their shared lanes have other numbers.
+/// A thread that shares in many pools shares in each a lane of that one. (With so few lanes one alone is shared, the last.)
 #[test]
 fn a_thread_shares_in_pools_of_other_shapes() {
     let _limit = limit();
     let pools: Vec<_> = (0..MANY)
-        .map(|number| opened(1 + number as u32 % 7))
+        .map(|number| opened(1 + number as u32 % 6))
         .collect();
     for _ in 0..3 {
         for (number, pool) in pools.iter().enumerate() {
             let text = pool.create_owned().expect("a place").downgrade();
-            assert_eq!(lane_of(text.key()), 1 + number as u64 % 7);
+            assert_eq!(lane_of(text.key()), 1 + number as u64 % 6);
             assert!(pool.clear(text.key()));
         }
     }
