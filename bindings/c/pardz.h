@@ -18,8 +18,8 @@
  * - A slot (pardz_lane) is PARDZ_EMPTY before pardz_open. It may be moved by a plain copy, if the old copy isn't used again;
  *   nothing else writes to it or makes one up. Slots of threads that run at once best stand 64 bytes apart.
  * - A pointer that a call is given points to so much memory as the call reads or writes, for the time of the call, and to no slot
- *   and nothing else that the call writes: the slots of a join are two. It is never NULL, but for `bytes` where `len` is 0 and
- *   `lanes` where `count` is 0.
+ *   and nothing else that the call writes: the slots of a join are two. It is never NULL, but for `bytes` where `len` is 0, and
+ *   for `lanes` and `numbers` where `count` is 0.
  * - Bytes that were lent are read or written where, and as long as, the call that lent them says.
  * - No call is made from a signal handler, or in the forked child of a process with threads; none is left by a jump, an exception
  *   of the heap or an asynchronous cancellation.
@@ -61,14 +61,25 @@ typedef struct pardz_lane {
 /* A slot without a lane: pardz_lane slot = PARDZ_EMPTY; */
 #define PARDZ_EMPTY { NULL, 0 }
 
-/* What a pool is opened with. A lane's page p has first_page * 2^p places, so it has first_page * (2^pages - 1) in all. */
+/* What a pool is opened with. A lane's page p has first_page * 2^p places, but no more than 4,096; so a lane has first_page *
+ * (2^pages - 1) in all while they double, and 44,992 at most. A lane counts its references by key: that takes 8 bytes for each place
+ * of the pool, so 8 * lanes for each place, from the open on. With 64 lanes of 4,032 places it is 133 MB, and 1.5 GB at the most. */
 typedef struct pardz_shape {
-    uint32_t lanes;           /* how many threads call at once: 1 to 16 */
+    uint32_t lanes;           /* how many threads call at once: 1 to 64 */
     uint32_t first_page;      /* places of a lane's first page: 1, 2, 4, 8, 16, 32 or 64 */
-    uint32_t pages;           /* pages of a lane: 1 to 6 */
+    uint32_t pages;           /* pages of a lane: 1 to 16 */
     uint32_t last_generation; /* how often a place is used before it is retired: from 1; UINT32_MAX for most programs */
     uint32_t tag;             /* 0 to 255: stands in each key, and tells it from those of pools with another tag */
 } pardz_shape;
+
+/* What a lane tells of its pool and of itself while the pool is open. A later version may have more fields, behind these. */
+typedef struct pardz_stats {
+    pardz_shape shape;   /* what the pool was opened with */
+    uint32_t lane;       /* the lane's number: the index of its slot at the open */
+    uint32_t references; /* how many it has, to all keys together */
+    uint32_t fillings;   /* how many it has */
+    uint32_t joined;     /* how many lanes were joined to it */
+} pardz_stats;
 
 /* What the places of a pool were when it was closed. The six add up to lanes times places of a lane. */
 typedef struct pardz_census {
@@ -215,6 +226,23 @@ uint32_t pardz_release(pardz_lane *lane, uint64_t key);
  * a reference; whoever lets go last empties the buffer, and its place is free again.
  * PARDZ_EMPTY_LANE, PARDZ_GONE. */
 uint32_t pardz_clear(pardz_lane *lane, uint64_t key);
+
+/* Tells the first `count` of the numbers of pardz_stats, in its order; numbers behind those that the library knows stay as they were.
+ * It makes no step, and other lanes may be in calls.
+ * PARDZ_EMPTY_LANE. */
+uint32_t pardz_numbers(pardz_lane *lane, uint32_t *numbers, size_t count);
+
+/* The same, as a struct.
+ * PARDZ_EMPTY_LANE. */
+static inline uint32_t pardz_stats_of(pardz_lane *lane, pardz_stats *stats) {
+    uint32_t n[9] = { 0 };
+    uint32_t code = pardz_numbers(lane, n, sizeof n / sizeof *n);
+    if (code == PARDZ_OK) {
+        const pardz_stats told = { { n[0], n[1], n[2], n[3], n[4] }, n[5], n[6], n[7], n[8] };
+        *stats = told;
+    }
+    return code;
+}
 
 /* Several at once, one after the other: each ends at the first code that isn't PARDZ_OK and answers it, and *done is how many went
  * well before. So they write also where they answer another code.

@@ -143,6 +143,12 @@ public:
     }
     /// Whether this call cleared the key.
     bool clear(std::uint64_t key) { return is_there(pardz_clear(slot(), key)); }
+    /// What the lane tells of its pool and of itself.
+    pardz_stats stats() {
+        pardz_stats told;
+        must(pardz_stats_of(slot(), &told));
+        return told;
+    }
     /// For the calls of pardz.h.
     pardz_lane *slot() noexcept { return &slots_[0]; }
 

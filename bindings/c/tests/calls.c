@@ -5,13 +5,13 @@
 
 #include <string.h>
 
-enum call { OPEN, CREATE, APPEND, ROOM, WROTE, PUBLISH, DOWNGRADE, LEAVE, PUT, GET, READ, RELEASE, CLEAR, JOIN, CLOSE, CALLS };
+enum call { OPEN, CREATE, APPEND, ROOM, WROTE, PUBLISH, DOWNGRADE, LEAVE, PUT, GET, READ, RELEASE, CLEAR, NUMBERS, JOIN, CLOSE, CALLS };
 
 #define CODES 15
 #define BIT(code) (1u << PARDZ_##code)
 
 static const char *const NAMES[CALLS] = { "open", "create", "append", "room", "wrote", "publish", "downgrade", "leave", "put", "get", "read",
-                                          "release", "clear", "join", "close" };
+                                          "release", "clear", "numbers", "join", "close" };
 
 /* The codes that each call can answer, as pardz.h has them. */
 static const uint32_t ALL[CALLS] = {
@@ -28,6 +28,7 @@ static const uint32_t ALL[CALLS] = {
     [READ] = BIT(OK) | BIT(EMPTY_LANE) | BIT(NO_REFERENCE),
     [RELEASE] = BIT(OK) | BIT(EMPTY_LANE) | BIT(NO_REFERENCE),
     [CLEAR] = BIT(OK) | BIT(EMPTY_LANE) | BIT(GONE),
+    [NUMBERS] = BIT(OK) | BIT(EMPTY_LANE),
     [JOIN] = BIT(OK) | BIT(EMPTY_LANE) | BIT(OTHER_POOL) | BIT(LANES),
     [CLOSE] = BIT(OK) | BIT(EMPTY_LANE) | BIT(LANES) | BIT(SHARED),
 };
@@ -73,14 +74,14 @@ static void close_two(pardz_lane *lanes, pardz_census *census) {
 /* A wrong open leaves slots and heap as they were. */
 static void opens(void) {
     pardz_lane lanes[2] = { PARDZ_EMPTY, PARDZ_EMPTY };
-    const pardz_shape wrong[] = { { 0, 2, 2, 1, 0 }, { 17, 2, 2, 1, 0 }, { 2, 0, 2, 1, 0 }, { 2, 3, 2, 1, 0 }, { 2, 128, 2, 1, 0 },
-                                  { 2, 2, 0, 1, 0 }, { 2, 2, 7, 1, 0 },  { 2, 2, 2, 0, 0 }, { 2, 2, 2, 1, 256 } };
+    const pardz_shape wrong[] = { { 0, 2, 2, 1, 0 }, { 65, 2, 2, 1, 0 }, { 2, 0, 2, 1, 0 }, { 2, 3, 2, 1, 0 }, { 2, 128, 2, 1, 0 },
+                                  { 2, 2, 0, 1, 0 }, { 2, 2, 17, 1, 0 }, { 2, 2, 2, 0, 0 }, { 2, 2, 2, 1, 256 } };
     EXPECT(OPEN, LANES, pardz_open(&SHAPE, lanes, 1));
     EXPECT(OPEN, LANES, pardz_open(&SHAPE, NULL, 0));
     for (size_t i = 0; i < sizeof wrong / sizeof *wrong; i++) {
-        pardz_lane slots[17] = { PARDZ_EMPTY };
+        pardz_lane slots[65] = { PARDZ_EMPTY };
         EXPECT(OPEN, SHAPE, pardz_open(&wrong[i], slots, wrong[i].lanes));
-        for (int slot = 0; slot < 17; slot++)
+        for (int slot = 0; slot < 65; slot++)
             CHECK(slots[slot].full == 0);
     }
     heap_begin(1, 1);
@@ -94,6 +95,14 @@ static void opens(void) {
     CHECK(census.unopened == 12);
 }
 
+/* A lane of this number of SHAPE has so much. */
+static void has(pardz_lane *lane, uint32_t number, uint32_t references, uint32_t fillings, uint32_t joined) {
+    pardz_stats stats;
+    EXPECT(NUMBERS, OK, pardz_stats_of(lane, &stats));
+    CHECK(memcmp(&stats.shape, &SHAPE, sizeof SHAPE) == 0 && stats.lane == number && stats.joined == joined);
+    CHECK(stats.references == references && stats.fillings == fillings);
+}
+
 /* A slot without a lane: each call says so. */
 static void empty_lanes(pardz_lane *empty, pardz_lane *full) {
     uint64_t key = 99;
@@ -101,6 +110,8 @@ static void empty_lanes(pardz_lane *empty, pardz_lane *full) {
     const uint8_t *at = nowhere;
     size_t len = 99;
     pardz_census census = NONE;
+    uint32_t number = 99;
+    pardz_stats stats = { { 99, 99, 99, 99, 99 }, 99, 99, 99, 99 };
     EXPECT(CREATE, EMPTY_LANE, pardz_create(empty, &key));
     EXPECT(APPEND, EMPTY_LANE, pardz_append(empty, 1, NULL, 0));
     EXPECT(ROOM, EMPTY_LANE, pardz_room(empty, 1, 1, &to));
@@ -113,11 +124,62 @@ static void empty_lanes(pardz_lane *empty, pardz_lane *full) {
     EXPECT(READ, EMPTY_LANE, pardz_read(empty, 1, &at, &len));
     EXPECT(RELEASE, EMPTY_LANE, pardz_release(empty, 1));
     EXPECT(CLEAR, EMPTY_LANE, pardz_clear(empty, 1));
+    EXPECT(NUMBERS, EMPTY_LANE, pardz_numbers(empty, &number, 1));
+    EXPECT(NUMBERS, EMPTY_LANE, pardz_stats_of(empty, &stats));
+    CHECK(number == 99 && stats.shape.lanes == 99 && stats.joined == 99);
     EXPECT(JOIN, EMPTY_LANE, pardz_join(full, empty));
     EXPECT(JOIN, EMPTY_LANE, pardz_join(empty, full));
     EXPECT(CLOSE, EMPTY_LANE, pardz_close(empty, &census));
     CHECK(key == 99 && to == nowhere && at == nowhere && len == 99 && is_none(&census));
     CHECK(empty->full == 0 && full->full == 1);
+}
+
+/* A lane tells no more numbers than there is room for, and no more than it knows. */
+static void numbers(pardz_lane *lane) {
+    uint32_t few[4] = { 99, 99, 99, 99 }, many[12];
+    for (size_t i = 0; i < 12; i++)
+        many[i] = 99;
+    EXPECT(NUMBERS, OK, pardz_numbers(lane, NULL, 0));
+    EXPECT(NUMBERS, OK, pardz_numbers(lane, few, 3));
+    CHECK(few[0] == SHAPE.lanes && few[1] == SHAPE.first_page && few[2] == SHAPE.pages && few[3] == 99);
+    EXPECT(NUMBERS, OK, pardz_numbers(lane, many, 12));
+    CHECK(memcmp(many, few, sizeof *few * 3) == 0 && many[3] == SHAPE.last_generation && many[4] == SHAPE.tag);
+    CHECK(many[8] == 0 && many[9] == 99 && many[11] == 99);
+}
+
+/* What lanes tell while a pool is open. */
+static void tells(void) {
+    pardz_lane lanes[2] = { PARDZ_EMPTY, PARDZ_EMPTY };
+    uint64_t key = 0, other = 0;
+    const uint8_t *at = nowhere;
+    size_t len = 0;
+    EXPECT(OPEN, OK, pardz_open(&SHAPE, lanes, 2));
+    has(&lanes[0], 0, 0, 0, 0);
+    has(&lanes[1], 1, 0, 0, 0);
+    numbers(&lanes[1]);
+    EXPECT(CREATE, OK, pardz_create(&lanes[0], &key));
+    EXPECT(CREATE, OK, pardz_create(&lanes[0], &other));
+    has(&lanes[0], 0, 0, 2, 0);
+    EXPECT(DOWNGRADE, OK, pardz_downgrade(&lanes[0], key));
+    EXPECT(PUBLISH, OK, pardz_publish(&lanes[0], other));
+    has(&lanes[0], 0, 1, 0, 0);
+    for (uint32_t i = 1; i <= 3; i++) {
+        EXPECT(GET, OK, pardz_get(&lanes[1], i == 2 ? other : key, &at, &len));
+        has(&lanes[1], 1, i, 0, 0);
+    }
+    EXPECT(CLEAR, OK, pardz_clear(&lanes[1], key));
+    has(&lanes[1], 1, 3, 0, 0);
+    EXPECT(RELEASE, OK, pardz_release(&lanes[1], key));
+    has(&lanes[1], 1, 2, 0, 0);
+    has(&lanes[0], 0, 1, 0, 0);
+    EXPECT(CREATE, OK, pardz_create(&lanes[0], &key));
+    EXPECT(JOIN, OK, pardz_join(&lanes[0], &lanes[1]));
+    has(&lanes[0], 0, 1, 1, 1);
+    EXPECT(LEAVE, OK, pardz_leave(&lanes[0], key));
+    has(&lanes[0], 0, 1, 0, 1);
+    pardz_census census;
+    EXPECT(CLOSE, OK, pardz_close(&lanes[0], &census));
+    CHECK(heap_blocks == 0);
 }
 
 /* What isn't a filling, a reference or a published key of the lane. */
@@ -517,6 +579,7 @@ static void texts(void) {
 int main(void) {
     texts();
     opens();
+    tells();
     pardz_lane lanes[2] = { PARDZ_EMPTY, PARDZ_EMPTY }, empty = PARDZ_EMPTY;
     EXPECT(OPEN, OK, pardz_open(&SHAPE, lanes, 2));
     empty_lanes(&empty, &lanes[0]);

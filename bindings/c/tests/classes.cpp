@@ -64,6 +64,7 @@ static void fillings() {
         CHECK(moved.publish() == key);
     }
     CHECK(text(pool[1].get(key)) == "abcdefghi");
+    CHECK(pool[1].stats().lane == 1 && pool[1].stats().references == 0 && pool[0].stats().shape.lanes == SHAPE.lanes);
     // One that isn't published gives its place back: the lane has four, and one is taken.
     for (int i = 0; i < 20; i++) {
         pardz::filling a = pool[0].create(), b = pool[0].create(), c = pool[0].create();
@@ -84,7 +85,7 @@ static void fillings() {
 }
 
 static void refusals() {
-    const pardz_shape none = {0, 4, 1, 1, 0}, many = {17, 4, 1, 1, 0};
+    const pardz_shape none = {0, 4, 1, 1, 0}, many = {65, 4, 1, 1, 0};
     CHECK(code_of([&] { pardz::pool pool(none); }) == PARDZ_SHAPE && code_of([&] { pardz::pool pool(many); }) == PARDZ_SHAPE);
     CHECK(code_of([] { pardz::must(PARDZ_MEMORY); }) == PARDZ_MEMORY && code_of([] { pardz::must(PARDZ_OK); }) == PARDZ_OK);
 }

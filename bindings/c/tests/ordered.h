@@ -15,11 +15,11 @@
 
 #include <sanitizer/tsan_interface.h>
 
-/* One for each place: 4 bits of shard, 4 of page, 12 of slot. */
-static char order[1 << 20];
+/* One for each place: 6 bits of shard, 4 of page, 12 of slot. */
+static char order[1 << 22];
 
 static inline void *place_of(uint64_t key) {
-    return &order[key & 0xfffff];
+    return &order[key & 0x3fffff];
 }
 
 static inline uint32_t ordered_create(pardz_lane *lane, uint64_t *key) {

@@ -334,6 +334,17 @@ static void call(void) {
     }
 }
 
+/* What a lane tells of itself is what the model has. */
+static void tells(int lane) {
+    uint32_t references = 0;
+    for (int shard = 0; shard < 2; shard++)
+        for (uint32_t index = 0; index < shard_places; index++)
+            references += places[shard][index].refs[lane];
+    pardz_stats stats;
+    CHECK(pardz_stats_of(&lanes[lane], &stats) == PARDZ_OK && memcmp(&stats.shape, &shape, sizeof shape) == 0);
+    CHECK(stats.lane == (uint32_t)lane && stats.references == references && stats.fillings == fillings[lane] && stats.joined == 0);
+}
+
 static void run(pardz_shape of, long rounds) {
     shape = of;
     shard_places = before(of.pages);
@@ -344,8 +355,11 @@ static void run(pardz_shape of, long rounds) {
         for (uint32_t index = 0; index < shard_places; index++)
             places[shard][index].generation = 1;
     CHECK(pardz_open(&shape, lanes, 2) == PARDZ_OK);
-    for (long round = 0; round < rounds; round++)
+    for (long round = 0; round < rounds; round++) {
         call();
+        if (round % 16 == 0)
+            tells((int)(round / 16 % 2));
+    }
     pardz_census census;
     CHECK(pardz_close_all(lanes, 2, &census) == PARDZ_OK);
     CHECK(census.free == count(0, FREE) + count(1, FREE));

@@ -89,6 +89,27 @@ static int run(long first, long last) {
     return heap_refused > refused;
 }
 
+/* An open of 64 lanes. Whether memory was refused. */
+static int opens_wide(long first) {
+    static const pardz_shape wide = { 64, 1, 2, UINT32_MAX, 0 };
+    pardz_lane lanes[64];
+    for (int i = 0; i < 64; i++)
+        lanes[i] = (pardz_lane)PARDZ_EMPTY;
+    heap_begin(first, first);
+    uint32_t code = pardz_open(&wide, lanes, 64);
+    heap_begin(0, 0);
+    if (code == PARDZ_MEMORY) {
+        codes++;
+        for (int i = 0; i < 64; i++)
+            CHECK(lanes[i].full == 0);
+    } else {
+        pardz_census census;
+        CHECK(code == PARDZ_OK && pardz_close_all(lanes, 64, &census) == PARDZ_OK && census.unopened == 64 * 3);
+    }
+    CHECK(heap_blocks == 0);
+    return code == PARDZ_MEMORY;
+}
+
 int main(void) {
     long runs = 0;
     for (long first = 1; run(first, first); first++)
@@ -96,6 +117,8 @@ int main(void) {
     for (long first = 1; run(first, 1000000); first++)
         CHECK(++runs < 2000);
     CHECK(runs > 20);
+    for (long first = 1; opens_wide(first); first++)
+        CHECK(++runs < 5000);
     printf("refused: %ld runs, %ld requests refused, %ld answers of no memory\n", runs, heap_refused, codes);
     return 0;
 }

@@ -1,6 +1,6 @@
-/* Four threads, each with a lane: they publish, get each other's keys, read, release and clear.
+/* Threads, each with a lane: they publish, get each other's keys, read, release and clear.
  *
- * threads ROUNDS: so many rounds on each. */
+ * threads ROUNDS THREADS: so many rounds on each, and so many threads, from 1 to 64; 4 if it isn't said. */
 #include "ordered.h"
 #include "check.h"
 
@@ -8,11 +8,14 @@
 #include <stdatomic.h>
 #include <string.h>
 
-#define THREADS 4
+#define MOST_THREADS 64
 #define WAYS 16
 #define MOST 96
 
-static const pardz_shape SHAPE = { THREADS, 4, 2, UINT32_MAX, 0 };
+/* Few places, so that they are used again and again, and run out. */
+#define PLACES 12
+
+static pardz_shape shape = { 4, 4, 2, UINT32_MAX, 0 };
 static long rounds = 20000;
 
 /* The lane of a thread, on a line of the cache of its own. */
@@ -26,8 +29,8 @@ struct offers {
     _Alignas(64) _Atomic uint64_t key[WAYS];
 };
 
-static struct seat seats[THREADS];
-static struct offers offers[THREADS];
+static struct seat seats[MOST_THREADS];
+static struct offers offers[MOST_THREADS];
 
 /* What a key's bytes are, told by the key alone. */
 static size_t expected(uint64_t key, uint8_t *bytes) {
@@ -107,7 +110,7 @@ static void *work(void *number) {
     for (long round = 0; round < rounds; round++) {
         uint64_t key = put(seat, round);
         offer(seat, &offers[me], round, key);
-        struct offers *from = &offers[(me + (size_t)round) % THREADS];
+        struct offers *from = &offers[(me + (size_t)round) % shape.lanes];
         key = atomic_load(&from->key[round * 7 % WAYS]);
         if (key != 0)
             look(seat, key, round);
@@ -120,15 +123,21 @@ static void *work(void *number) {
 int main(int argc, char **argv) {
     if (argc > 1)
         rounds = atol(argv[1]);
-    pardz_lane lanes[THREADS] = { PARDZ_EMPTY, PARDZ_EMPTY, PARDZ_EMPTY, PARDZ_EMPTY };
-    CHECK(pardz_open(&SHAPE, lanes, THREADS) == PARDZ_OK);
-    pthread_t threads[THREADS];
-    for (size_t i = 0; i < THREADS; i++) {
+    if (argc > 2)
+        shape.lanes = (uint32_t)atol(argv[2]);
+    const size_t count = shape.lanes;
+    CHECK(count >= 1 && count <= MOST_THREADS);
+    pardz_lane lanes[MOST_THREADS];
+    for (size_t i = 0; i < MOST_THREADS; i++)
+        lanes[i] = (pardz_lane)PARDZ_EMPTY;
+    CHECK(pardz_open(&shape, lanes, count) == PARDZ_OK);
+    pthread_t threads[MOST_THREADS];
+    for (size_t i = 0; i < count; i++) {
         seats[i].lane = lanes[i];
         CHECK(pthread_create(&threads[i], NULL, work, (void *)i) == 0);
     }
     long got = 0, missed = 0, cleared = 0, full = 0;
-    for (size_t i = 0; i < THREADS; i++) {
+    for (size_t i = 0; i < count; i++) {
         CHECK(pthread_join(threads[i], NULL) == 0);
         lanes[i] = seats[i].lane;
         got += seats[i].got;
@@ -137,10 +146,10 @@ int main(int argc, char **argv) {
         full += seats[i].full;
     }
     pardz_census census;
-    CHECK(pardz_close_all(lanes, THREADS, &census) == PARDZ_OK);
+    CHECK(pardz_close_all(lanes, count, &census) == PARDZ_OK);
     CHECK(census.present + census.marked + census.filling + census.retired == 0);
-    CHECK(census.free + census.unopened == THREADS * 4 * 3);
-    CHECK(cleared + full == THREADS * rounds);
-    printf("threads: %ld rounds on each of %d, %ld read, %ld gone, %ld full\n", rounds, THREADS, got, missed, full);
+    CHECK(census.free + census.unopened == count * PLACES);
+    CHECK(cleared + full == (long)count * rounds);
+    printf("threads: %ld rounds on each of %zu, %ld read, %ld gone, %ld full\n", rounds, count, got, missed, full);
     return 0;
 }

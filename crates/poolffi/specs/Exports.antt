@@ -1,5 +1,5 @@
 -- What an export did with a slot.
-use Rattle.std.specs.Prelude.{◌≡◌, ◌≢◌, ◌⊎◌, ℕ, List, [], ◌∷◌, length, All, Contains, slice_get, Option, Some, None, Result, Ok, Err, IfOk, Box}
+use Rattle.std.specs.Prelude.{◌≡◌, ◌≢◌, ◌⊎◌, ℕ, List, [], ◌∷◌, ◌++◌, length, take, drop, min, All, Contains, slice_get, Option, Some, None, Result, Ok, Err, IfOk, Box}
 use Rattle.std.specs.declared.alloc.Global.{Global}
 use Rattle.poolhandle.specs.declared.shared.Shared.{Shared}
 use Rattle.poolhandle.specs.declared.slot.Slot.{Slot}
@@ -8,14 +8,14 @@ use Rattle.poolhandle.specs.declared.refusal.Refusal.{Refusal}
 use Rattle.poolhandle.specs.declared.handle.Handle.{Handle}
 use Rattle.poolhandle.specs.declared.refusal.Refusal.TheVariants.{NoReference}
 use Rattle.shardpool.specs.Lanes.{holds}
-use Rattle.poolhandle.specs.Calls.{lane_of, pool_of, Creates, Puts, Got, NotGot, AreLent, Joins, JoinsNot, ClosesNot}
+use Rattle.poolhandle.specs.Calls.{lane_of, pool_of, numbers_of, Creates, Puts, Got, NotGot, AreLent, Joins, JoinsNot, ClosesNot}
 use Rattle.shardpool.specs.Tokens.{LaneOf}
 use Rattle.shardpool.specs.declared.census.Census.{Census}
 use Rattle.shardpool.specs.Closings.{AreLanes, Closes}
 use Rattle.keybits.specs.declared.shape.Shape.{Shape}
 use Rattle.keybits.specs.declared.shape.ShapeFault.{ShapeFault}
-use Rattle.keybits.specs.Shapes.{IsNarrow}
-use Rattle.keybits.specs.ShapeFaults.{IsFirstFault}
+use Rattle.keybits.specs.Shapes.{IsShape}
+use Rattle.keybits.specs.ShapeFaults.{IsFirstWideFault}
 use Rattle.poolffi.specs.declared.PoolShape.{PoolShape}
 use Rattle.poolffi.specs.declared.PoolCensus.{PoolCensus}
 use Rattle.poolffi.specs.Codes.{code_of, answer_code}
@@ -64,6 +64,15 @@ Lends key len before after (Err refusal) = NotGot key before after refusal
 abbrev pub Reads : ℕ → ℕ → Handle → Handle → Result (List ℕ) Refusal → Type 0
 Reads key len before after (Ok bytes) = (after ≡ before) × AreLent key before bytes × (len ≡ length bytes)
 Reads key len before after (Err refusal) = (refusal ≡ NoReference) × (after ≡ before) × (holds (lane_of before) key ≡ 0)
+
+-- what is told stands over the first of these numbers, as far as there are so many, and the others are as before
+abbrev pub written_over : List ℕ → List ℕ → List ℕ
+written_over told old = let count : ℕ = min (length told) (length old) in take count told ++ drop count old
+
+-- a lane told the numbers of its handle, and is as before
+abbrev pub TellsNumbers : List ℕ → List ℕ → Handle → Handle → Result (Unit {0}) Refusal → Type 0
+TellsNumbers old new before after (Ok done) = (after ≡ before) × (new ≡ written_over (numbers_of before) old)
+TellsNumbers old new before after (Err refusal) = ⊥
 
 -- a join of two slots: where one has no lane, 2, and both stay; else the other lane was given for the close, and its slot is empty; or all is as before, and the code tells why
 abbrev pub JoinsSlots : List Handle → List Handle → List Handle → List Handle → ℕ → Type 0
@@ -120,6 +129,7 @@ Opens shape number old new code = ((code ≡ 11) × (length old ≢ shape.lanes)
     ⊎ ((length old ≡ shape.lanes)
     × (((code ≡ 3) × AnyHasLane old × (new ≡ old))
     ⊎ (NoneHasLane old
-    × (((code ≡ 12) × ((fault : ShapeFault) × IsFirstFault shape fault) × (new ≡ old))
-    ⊎ (((code ≡ 1) × IsNarrow shape × (new ≡ old))
-    ⊎ ((code ≡ 0) × ((fault : ShapeFault) → IsFirstFault shape fault → ⊥) × (length new ≡ length old) × HaveOpened shape number new))))))
+    × (((code ≡ 12) × ((fault : ShapeFault) × IsFirstWideFault shape fault) × (new ≡ old))
+    ⊎ (((code ≡ 1) × IsShape shape × (new ≡ old))
+    ⊎ ((code ≡ 0) × ((fault : ShapeFault) → IsFirstWideFault shape fault → ⊥) × (length new ≡ length old)
+    × HaveOpened shape number new))))))

@@ -5,13 +5,13 @@
 
 ghost use Rattle.std.specs.Prelude.{◌≡◌};
 ghost use Rattle.poolhandle.specs.Calls.{Appends, Rooms, Wrote, Publishes, Downgrades, Leaves, Releases, Clears};
-ghost use Rattle.poolffi.specs.Exports.{Calls, WritesAtOk, CreatesKey, PutsKey, Lends, Reads, JoinsSlots, ClosesSlot, AreCounts, Opens, shape_of};
+ghost use Rattle.poolffi.specs.Exports.{Calls, WritesAtOk, CreatesKey, PutsKey, Lends, Reads, TellsNumbers, JoinsSlots, ClosesSlot, AreCounts, Opens, shape_of};
 
 mod lanes;
 mod slots;
 
 use crate::lanes::open_slots;
-use crate::slots::{EMPTY_LANE, OK, code, code_of, lift, lower, put};
+use crate::slots::{EMPTY_LANE, OK, code, code_of, lift, lower, put, write_over};
 use keybits::Shape;
 use poolhandle::slot::Slot;
 use poolhandle::{close, join};
@@ -240,6 +240,20 @@ pub extern "C" fn pardz_leave(slot: &mut Slot, key: u64) -> u32
         return EMPTY_LANE;
     };
     code(handle.leave(key))
+}
+
+/// Tells of the lane and its pool, as far as there is room: the shape, the lane's number, how many references and fillings
+/// it has, and how many lanes were joined to it. It makes no step.
+#[unsafe(no_mangle)]
+pub extern "C" fn pardz_numbers(slot: &mut Slot, numbers: &mut [u32]) -> u32
+    ensures calls { Calls (TellsNumbers numbers.old numbers.new) slot.old.items slot.new.items result }
+    ensures writes { WritesAtOk result numbers.old numbers.new }
+{
+    let Some(handle) = slot.lend() else {
+        return EMPTY_LANE;
+    };
+    write_over(numbers, &handle.numbers());
+    OK
 }
 
 /// Gives the lane of a slot to that of lane 0, which is to close the pool: the last lane first, and then the one before

@@ -1,7 +1,7 @@
 //! A handle out of its slot, and into one; and the codes.
 ghost use Rattle.std.specs.Prelude.{◌≡◌, [], ◌∷◌, IfSome, IsNone};
 ghost use Rattle.poolffi.specs.Codes.{code_of, answer_code};
-ghost use Rattle.poolffi.specs.Exports.{HasNoLane};
+ghost use Rattle.poolffi.specs.Exports.{HasNoLane, written_over};
 
 use poolhandle::Refusal;
 use poolhandle::handle::Handle;
@@ -63,6 +63,14 @@ pub(crate) fn put(at: &mut *const u8, address: *const u8)
     ensures { at.new ≡ address }
 {
     *at = address;
+}
+
+/// Writes what is told over the first numbers, as far as there are so many.
+pub(crate) fn write_over(numbers: &mut [u32], told: &[u32])
+    ensures { numbers.new ≡ written_over told.now numbers.old }
+{
+    let count = told.len().min(numbers.len());
+    numbers[..count].copy_from_slice(&told[..count]);
 }
 
 /// The code of a refusal. Away from the calls' own paths: what leads only here needs no registers there.

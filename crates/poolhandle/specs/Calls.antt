@@ -1,6 +1,7 @@
 -- What the calls of a handle answer, what each does, and what each leaves alone.
-use Rattle.std.specs.Prelude.{◌≡◌, ◌≢◌, ◌==◌, ◌⊎◌, ℕ, ◌+◌, ◌-◌, ◌<◌, ◌≤◌, Bool, true, false, List, [], ◌++◌, length, take, replicate, Contains, Result, Option, Ok, Err, Some, None, if◌then◌else◌}
+use Rattle.std.specs.Prelude.{◌≡◌, ◌≢◌, ◌==◌, ◌⊎◌, ℕ, ◌+◌, ◌-◌, ◌<◌, ◌≤◌, Bool, true, false, List, [], ◌∷◌, ◌++◌, length, take, replicate, Contains, Result, Option, Ok, Err, Some, None, if◌then◌else◌}
 use Rattle.std.specs.Arc.{arc_value}
+use Rattle.keybits.specs.declared.shape.Shape.{Shape}
 use Rattle.keybits.specs.declared.shape.TheConstants.{MOST_LANES}
 use Rattle.seqpool.specs.Histories.{PublishedAt}
 use Rattle.steplaws.specs.Facts.{most_references}
@@ -27,6 +28,12 @@ pool_of handle = (arc_value handle.shared).pool
 -- the places that it fills
 abbrev pub filled : Handle → List Kept
 filled handle = handle.fillings.list.items
+
+-- what a handle tells: the shape of its pool, the number of its lane, how many references and fillings that has, and how many lanes were joined to it
+abbrev pub numbers_of : Handle → List ℕ
+numbers_of handle = let shape : Shape = (pool_of handle).shape in
+    shape.lanes ∷ shape.first_page ∷ shape.pages ∷ shape.last_generation ∷ shape.tag ∷ (lane_of handle).number
+    ∷ refs (lane_of handle) ∷ length (filled handle) ∷ handle.joined ∷ []
 
 -- ---- what stays
 

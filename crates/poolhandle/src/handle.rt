@@ -28,13 +28,16 @@ pub struct Handle {
     ghost empty: { row.items ≡ [] },
 }
 
+/// How many numbers a handle tells of its pool and itself.
+pub const NUMBERS: usize = 9;
+
 impl Handle {
     ghost use Rattle.std.specs.Prelude.{◌≡◌, ◌<◌, ◌≤◌, ℕ, Ok, Err, IfOk, IfErr, MatchResult};
     ghost use Rattle.keybits.specs.Keys.{place_of};
     ghost use Rattle.poolsteps.specs.Layout.{slot_start};
     ghost use Rattle.shardpool.specs.Lanes.{holds};
     ghost use Rattle.poolhandle.specs.declared.refusal.Refusal.TheVariants.{NoReference};
-    ghost use Rattle.poolhandle.specs.Calls.{lane_of, filled, Stays, Creates, Appends, Rooms, Wrote, Publishes, Downgrades, Leaves, Puts, GivesUp, Got, NotGot, AreLent, Releases, Clears};
+    ghost use Rattle.poolhandle.specs.Calls.{lane_of, filled, numbers_of, Stays, Creates, Appends, Rooms, Wrote, Publishes, Downgrades, Leaves, Puts, GivesUp, Got, NotGot, AreLent, Releases, Clears};
     ghost use Rattle.shardpool.specs.Lanes.{Made};
     ghost use Rattle.poolhandle.specs.Filled.{HaveNot};
 
@@ -224,6 +227,25 @@ impl Handle {
         } else {
             Err(Refusal::Gone)
         }
+    }
+
+    /// The shape of the pool, the lane's number, how many references and fillings it has, and how many lanes were joined
+    /// to it.
+    pub fn numbers(&self) -> [u32; NUMBERS]
+        ensures { result ≡ numbers_of self.now }
+    {
+        let shape = self.shared.pool.shape();
+        [
+            shape.lanes,
+            shape.first_page,
+            shape.pages,
+            shape.last_generation,
+            shape.tag,
+            self.lane.lane().number(),
+            self.lane.lane().refs(),
+            self.fillings.list.len() as u32,
+            self.joined,
+        ]
     }
 
     /// The share of the pool, the lane and its row. A filling is left.

@@ -2,8 +2,8 @@
 ghost use Rattle.std.specs.Prelude.{◌≡◌, ◌≤◌, ◌↔◌, [], All, length, IfSome, IfOk, IfErr, IsErrOf};
 ghost use Rattle.std.specs.Vec.{vec_capacity};
 ghost use Rattle.std.specs.Vec.Iter.{into_iter_items};
-ghost use Rattle.keybits.specs.Shapes.{IsNarrow};
-ghost use Rattle.keybits.specs.ShapeFaults.{IsFirstFault};
+ghost use Rattle.keybits.specs.Shapes.{IsShape};
+ghost use Rattle.keybits.specs.ShapeFaults.{IsFirstWideFault};
 ghost use Rattle.keybits.specs.declared.shape.ShapeFault.{ShapeFault as Fault};
 ghost use Rattle.shardpool.specs.declared.fault.OpenFault.TheVariants as faults;
 ghost use Rattle.std.specs.Arc.{arc_value};
@@ -18,7 +18,7 @@ use crate::handle::Handle;
 use crate::shared::{Given, Shared};
 use counted_slot::Counted;
 use keybits::Shape;
-use shardpool::{Lane, OpenFault, Pool, open};
+use shardpool::{Lane, OpenFault, Pool, open_wide};
 use slotcell::ByteBuf;
 use std::alloc::Global;
 use std::sync::Arc;
@@ -29,14 +29,13 @@ use std::vec::IntoIter;
 ///
 /// # Errors
 ///
-/// The first fault of the shape; and the want of memory, for a shape within its limits alone.
+/// The first fault of the shape, by the wide limits; and the want of memory, for a shape within them alone.
 pub fn open_handles(alloc: Global, shape: Shape, number: u64) -> Result<Vec<Box<Handle>>, OpenFault>
     ensures opened { IfOk result (λ handles. AreOpened shape number handles.items) }
-    ensures faults { (fault : Fault) → IsErrOf result (faults.Shape fault) ↔ IsFirstFault shape fault }
-    ensures memory { IsErrOf result faults.Memory → IsNarrow shape }
+    ensures faults { (fault : Fault) → IsErrOf result (faults.Shape fault) ↔ IsFirstWideFault shape fault }
+    ensures memory { IsErrOf result faults.Memory → IsShape shape }
 {
-    shape.check()?;
-    match open(alloc, shape) {
+    match open_wide(alloc, shape) {
         Ok((pool, lanes)) => handles_of(alloc, pool, lanes, number).ok_or(OpenFault::Memory),
         Err(fault) => Err(fault),
     }
@@ -233,6 +232,7 @@ fn in_box(alloc: Global, handle: Handle) -> Result<Box<Handle>, Lane<ByteBuf>>
 /// What else the handle of the lane of this number has. None where memory was refused.
 fn parts_for(alloc: Global, number: u32, lanes: u32) -> Option<(Vec<Lane<ByteBuf>>, Fillings)>
     ensures row { IfSome result (λ made. made.0.items ≡ []) }
+    ensures room { IfSome result (λ made. number ≡ 0 → lanes ≤ vec_capacity made.0) }
     ensures fillings { IfSome result (λ made. made.1.list.items ≡ []) }
 {
     let row = row_for(alloc, number, lanes)?;
@@ -257,7 +257,8 @@ fn places_for(
 
 /// An empty row, which for lane 0 has room for so many lanes. None where memory was refused.
 fn row_for(alloc: Global, number: u32, lanes: u32) -> Option<Vec<Lane<ByteBuf>>>
-    ensures { IfSome result (λ row. row.items ≡ []) }
+    ensures empty { IfSome result (λ row. row.items ≡ []) }
+    ensures room { IfSome result (λ row. number ≡ 0 → lanes ≤ vec_capacity row) }
 {
     let count = if number == 0 { lanes as usize } else { 0 };
     Vec::with_capacity(alloc, count).ok()

@@ -1,6 +1,7 @@
 //! Tests: types and codes are laid out and numbered here as the lines of `tests/abi.def` say, which the header is compared with too; and
 //! each call has the parameters that the header declares.
 use crate::code::{Refusal, OK};
+use crate::handle::NUMBERS;
 use crate::heap::Block;
 use crate::slot::Slot;
 use crate::{PoolCensus, PoolShape};
@@ -11,6 +12,18 @@ use std::mem::{align_of, offset_of, size_of};
 fn size_of_field<S, F>(_: impl FnOnce(&S) -> &F) -> usize {
     size_of::<F>()
 }
+
+/// What a lane tells by `pardz_numbers`, number after number.
+#[repr(C)]
+struct PoolStats {
+    shape: PoolShape,
+    lane: u32,
+    references: u32,
+    fillings: u32,
+    joined: u32,
+}
+
+const _: () = assert!(size_of::<PoolStats>() == size_of::<[u32; NUMBERS]>());
 
 /// The lines of a type and of its fields.
 macro_rules! lines {
@@ -51,6 +64,7 @@ fn is_as_the_header_says() {
     let mut here = Vec::new();
     here.extend(lines!("pardz_lane" is Slot: at full));
     here.extend(lines!("pardz_shape" is PoolShape: lanes first_page pages last_generation tag));
+    here.extend(lines!("pardz_stats" is PoolStats: shape lane references fillings joined));
     here.extend(lines!("pardz_census" is PoolCensus: free unopened filling present marked retired));
     here.extend(lines!("pardz_block" is Block: ok at));
     here.extend(CODES.map(|(name, number)| format!("CODE({name}, {number})")));
@@ -78,6 +92,7 @@ in_c! {
     usize: "size_t",
     *mut usize: "size_t *",
     *mut u64: "uint64_t *",
+    *mut u32: "uint32_t *",
     *const u8: "const uint8_t *",
     *mut *mut u8: "uint8_t **",
     *mut *const u8: "const uint8_t **",
@@ -148,6 +163,7 @@ fn has_the_parameters_that_the_header_declares() {
         prototype!(pardz_read(_ _ _ _)),
         prototype!(pardz_release(_ _)),
         prototype!(pardz_clear(_ _)),
+        prototype!(pardz_numbers(_ _ _)),
         prototype!(pardz_join(_ _)),
         prototype!(pardz_close(_ _)),
     ];

@@ -9,6 +9,9 @@ use crate::shim;
 /// The most places that a lane fills at once.
 pub(crate) const MOST_FILLINGS: usize = 16;
 
+/// How many numbers a lane tells of its pool and itself.
+pub(crate) const NUMBERS: usize = 9;
+
 /// A lane, with its share of the pool and the places that it fills.
 pub(crate) struct Handle {
     pub(crate) share: Share,
@@ -171,6 +174,22 @@ impl Handle {
     /// Clears a key.
     pub(crate) fn clear(&mut self, key: u64) -> Result<(), Refusal> {
         done(self.share.pool.clear(&mut self.lane, key), Refusal::Gone)
+    }
+
+    /// The shape of the pool, the lane's number, how many references and fillings it has, and how many lanes were joined to it.
+    pub(crate) fn numbers(&self) -> [u32; NUMBERS] {
+        let shape = self.share.pool.shape();
+        [
+            shape.lanes,
+            shape.first_page,
+            shape.pages,
+            shape.last_generation,
+            shape.tag,
+            self.lane.number(),
+            self.lane.refs(),
+            self.fillings.len() as u32,
+            self.joined,
+        ]
     }
 
     /// Gives the fillings up, whose places stay filling.

@@ -236,6 +236,25 @@ unsafe extern "C" fn pardz_clear(lane: *mut Slot, key: u64) -> u32 {
 }
 
 #[no_mangle]
+unsafe extern "C" fn pardz_numbers(lane: *mut Slot, numbers: *mut u32, count: usize) -> u32 {
+    // SAFETY: asked of the program.
+    match unsafe { Slot::lend(lane) } {
+        Ok(handle) => {
+            let numbers = match count {
+                0 => &mut [],
+                // SAFETY: asked of the program: so many numbers stand there.
+                _ => unsafe { slice::from_raw_parts_mut(numbers, count) },
+            };
+            for (to, number) in numbers.iter_mut().zip(handle.numbers()) {
+                *to = number;
+            }
+            OK
+        }
+        Err(refusal) => refusal as u32,
+    }
+}
+
+#[no_mangle]
 unsafe extern "C" fn pardz_join(into: *mut Slot, lane: *mut Slot) -> u32 {
     // SAFETY: asked of the program.
     code(unsafe { ends::join(into, lane) })

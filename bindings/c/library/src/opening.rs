@@ -42,7 +42,7 @@ pub(crate) fn open(shape: Shape, number: u64, slots: &mut [Slot]) -> Result<(), 
         return Err(Refusal::FullLane);
     }
     let (pool, mut lanes) =
-        shardpool::open::<Bytes>(Global, shape).map_err(|fault| match fault {
+        shardpool::open_wide::<Bytes>(Global, shape).map_err(|fault| match fault {
             OpenFault::Shape(_) => Refusal::Shape,
             OpenFault::Memory => Refusal::Memory,
         })?;
