@@ -125,6 +125,9 @@ def plant(faults, sources, always):
 class Build:
     """A copy of the crate with some faults, and its programs, which are built when they are wanted."""
 
+    # All copies have one, in which no fault is planted.
+    explorer = None
+
     def __init__(self, folder, faults):
         self.folder = folder
         self.rust = os.path.join(folder, "rust")
@@ -169,10 +172,12 @@ class Build:
         return library, wrong
 
     def make_scenarios(self, _):
-        explorer = os.path.join(self.folder, "libexplorer.rlib")
-        extern = f"--extern=explorer={explorer}"
+        wrong = None
         folder = os.path.join(self.folder, "explore")
-        wrong = self.rustc("--crate-type=rlib", "--crate-name=explorer", os.path.join(folder, "explorer", "lib.rs"), "-o", explorer)
+        if not Build.explorer:
+            Build.explorer = os.path.join(self.folder, "libexplorer.rlib")
+            wrong = self.rustc("--crate-type=rlib", "--crate-name=explorer", os.path.join(folder, "explorer", "lib.rs"), "-o", Build.explorer)
+        extern = f"--extern=explorer={Build.explorer}"
         library, more = self.crate("explored", ["--cfg=pardz_explore", extern])
         out = os.path.join(self.folder, "scenarios")
         main = os.path.join(folder, "scenarios", "main.rs")
