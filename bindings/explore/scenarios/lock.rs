@@ -27,6 +27,18 @@ pub fn all() -> Vec<Scenario> {
             |locked| locked.settle(3),
         ),
         Scenario::new(
+            "lock-try",
+            shared,
+            [Locked::try_count, Locked::count],
+            |locked| assert!((1..=2).contains(&locked.number.into_inner())),
+        ),
+        Scenario::new(
+            "lock-own-try",
+            own,
+            [Locked::share, Locked::try_count, Locked::count_any],
+            |locked| assert!((1..=2).contains(&locked.number.into_inner())),
+        ),
+        Scenario::new(
             "lock-own",
             own,
             [Locked::count_any, Locked::count_any],
@@ -86,6 +98,13 @@ impl Locked {
 
     fn count(&self) {
         if let Some(_had) = self.lock.shared() {
+            self.add();
+        }
+    }
+
+    /// Where another one has it, this thread doesn't wait.
+    fn try_count(&self) {
+        if let Some(_had) = self.lock.try_shared() {
             self.add();
         }
     }

@@ -1,4 +1,5 @@
 //! Keys.
+use crate::erased::keybits::{place_of, shard_of};
 use crate::errors::KeyError;
 use std::fmt;
 use std::num::NonZeroU64;
@@ -33,6 +34,12 @@ impl Key {
             Some(number) => Key(number),
             None => unreachable!("a key has a generation"),
         }
+    }
+
+    /// The number of the lane whose place it has.
+    #[inline(always)]
+    pub(crate) fn shard(self) -> u32 {
+        shard_of(place_of(self.0.get()))
     }
 }
 

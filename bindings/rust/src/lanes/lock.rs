@@ -41,6 +41,18 @@ impl Lock {
         })
     }
 
+    /// Has the lock of a lane that is shared, where nobody has it now. It doesn't wait.
+    #[inline]
+    pub(super) fn try_shared(&self) -> Option<Had<'_>> {
+        if !self.goes(SHARED, HAD) {
+            return None;
+        }
+        Some(Had {
+            word: &self.word,
+            then: SHARED,
+        })
+    }
+
     /// Has the lock, whether the lane is shared or not.
     #[inline(always)]
     pub(super) fn any(&self) -> Had<'_> {

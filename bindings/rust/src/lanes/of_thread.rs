@@ -64,9 +64,16 @@ impl<T: Clear> Room<T> {
     where
         T: Default,
     {
-        match own.create_apart_or_pass(block) {
-            Err(CreateError::Full) => self.create_further(Some(own)),
-            created => created,
+        if !self.passes(own.post().number()) {
+            return match own.create_apart(block) {
+                Err(CreateError::Full) => self.create_further(Some(own)),
+                created => created,
+            };
+        }
+        own.put_away(block);
+        match self.create_by_last(|_| ()) {
+            Some(begun) => Ok(begun),
+            None => self.create_further(Some(own)),
         }
     }
 
@@ -128,9 +135,42 @@ impl<T: Clear> Room<T> {
     #[inline(always)]
     pub(crate) fn clear(&self, key: Key) -> bool {
         match self.caller() {
-            Caller::Own(own) => own.clear(key),
+            Caller::Own(own) if key.shard() == own.post().number() && !own.lacks(key) => {
+                own.clear_here(key)
+            }
+            Caller::Own(own) => self.clear_elsewhere(own, key),
             Caller::Sharing => self.clear_by_shared(key),
         }
+    }
+
+    /// A clear of a key of another lane, or of another segment than the thread's lane had its last place in. Where nobody has the lock of
+    /// a shared lane, that clears its own key, so that its next create finds the place at hand.
+    #[inline(never)]
+    fn clear_elsewhere(&self, own: Own<'_, T>, key: Key) -> bool {
+        let segment = self.segment_of(key).filter(|segment| !segment.lacks(key));
+        let Some(segment) = segment else {
+            return false;
+        };
+        let (number, shard) = (own.post().number(), key.shard());
+        let post = segment.post(number);
+        // SAFETY: who has a lane has it in each segment.
+        let own = unsafe { Own::of(post) };
+        if self.lanes.is_shared(shard) {
+            if let Some((cleared, taken)) = segment.post(shard).try_shared_clear(key) {
+                self.frees_place(key);
+                threads::set_last_shared(self.id(), shard);
+                if let Some(block) = taken {
+                    own.let_go(block);
+                }
+                return cleared;
+            }
+        }
+        let cleared = own.clear_here(key);
+        if shard == number {
+            // SAFETY: the thread keeps the lane of this seat.
+            unsafe { self.had_place(post) };
+        }
+        cleared
     }
 
     /// A clear by a shared lane.

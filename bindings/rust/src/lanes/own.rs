@@ -62,11 +62,17 @@ impl<'s, T: Clear, P: Stands<'s, T>> Own<'s, T, P> {
     #[inline(always)]
     fn finish(self) {
         if let Some(block) = self.turn().taken() {
-            if thread::panicking() {
-                self.empty_unwinding(block);
-            } else {
-                self.empty(block);
-            }
+            self.let_go(block);
+        }
+    }
+
+    /// Empties an object that was taken out of a place of this segment.
+    #[inline(always)]
+    pub(super) fn let_go(self, block: Block<T>) {
+        if thread::panicking() {
+            self.empty_unwinding(block);
+        } else {
+            self.empty(block);
         }
     }
 
@@ -175,20 +181,6 @@ impl<'s, T: Clear, P: Stands<'s, T>> Own<'s, T, P> {
         with_page(block, |block, ready| self.turn().create_apart(block, ready))
     }
 
-    /// The same, which says that the shard is full where it was found full in all segments a while ago.
-    #[cold]
-    #[inline(never)]
-    pub(super) fn create_apart_or_pass<W: By<T>>(
-        self,
-        block: Block<T>,
-    ) -> Result<Begun<'s, T, W>, CreateError> {
-        if self.room().is_passed(self.post().number()) {
-            self.turn().put_away(block);
-            return Err(CreateError::Full);
-        }
-        self.create_apart(block)
-    }
-
     /// The lane in the segment of which a key tells, where that is another one.
     fn elsewhere(self, key: Key) -> Option<Own<'s, T>> {
         let segment = self.room().segment_of(key)?;
@@ -203,7 +195,7 @@ impl<'s, T: Clear, P: Stands<'s, T>> Own<'s, T, P> {
     /// A get of this segment.
     #[inline(always)]
     pub(super) fn get_here<W: By<T>>(self, key: Key) -> Option<Held<'s, T, W>> {
-        if self.at.segment().lacks(key) {
+        if self.lacks(key) {
             return None;
         }
         match self.turn().get(key) {
@@ -222,12 +214,24 @@ impl<'s, T: Clear, P: Stands<'s, T>> Own<'s, T, P> {
         self.elsewhere(key)?.get_here(key)
     }
 
+    /// Whether this segment lacks a key, as [`Segment::lacks`](super::segment::Segment::lacks).
+    #[inline(always)]
+    pub(super) fn lacks(&self, key: Key) -> bool {
+        self.at.segment().lacks(key)
+    }
+
     /// A clear.
     #[inline(always)]
     pub(super) fn clear(self, key: Key) -> bool {
-        if self.at.segment().lacks(key) {
+        if self.lacks(key) {
             return self.clear_elsewhere(key);
         }
+        self.clear_here(key)
+    }
+
+    /// A clear of this segment.
+    #[inline(always)]
+    pub(super) fn clear_here(self, key: Key) -> bool {
         let cleared = self.turn().clear(key);
         self.finish();
         cleared
@@ -237,7 +241,13 @@ impl<'s, T: Clear, P: Stands<'s, T>> Own<'s, T, P> {
     #[cold]
     #[inline(never)]
     fn clear_elsewhere(self, key: Key) -> bool {
-        self.elsewhere(key).is_some_and(|own| own.clear(key))
+        let Some(there) = self.elsewhere(key).filter(|own| !own.lacks(key)) else {
+            return false;
+        };
+        if key.shard() == self.post().number() {
+            self.room().frees_place(key);
+        }
+        there.clear_here(key)
     }
 
     /// A create of the lane's shards in all segments.

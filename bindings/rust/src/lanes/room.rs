@@ -274,17 +274,20 @@ impl<T: Clear> Room<T> {
         segment.unwrap_or_else(|| self.first()).post(number)
     }
 
+    /// A place of a lane may be free from now on, which had this key: creates of the lane look there first.
+    pub(super) fn frees_place(&self, key: Key) {
+        let creates = &self.creates[key.shard() as usize];
+        let index = usize::from(tag_of(key.into())).saturating_sub(self.tag);
+        creates.last.store(index, Ordering::Relaxed);
+        creates.passed.store(0, Ordering::Relaxed);
+    }
+
     /// Whether a lane had its last place in another segment than the first.
     pub(super) fn is_elsewhere(&self, number: u32) -> bool {
         self.creates[number as usize].last.load(Ordering::Relaxed) != 0
     }
 
-    /// Whether creates pass a lane by, since it was found full a while ago.
-    pub(super) fn is_passed(&self, number: u32) -> bool {
-        self.creates[number as usize].passed.load(Ordering::Relaxed) > 0
-    }
-
-    /// Whether this create passes a lane by.
+    /// Whether this create passes a lane by, since that was found full a while ago.
     pub(super) fn passes(&self, number: u32) -> bool {
         let passed = &self.creates[number as usize].passed;
         let left = passed.load(Ordering::Relaxed);

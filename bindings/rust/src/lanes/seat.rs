@@ -257,6 +257,17 @@ impl<'s, T: Clear> Post<'s, T> {
         Some(unsafe { self.under(had, with) })
     }
 
+    /// The same, where nobody has its lock now: it doesn't wait.
+    #[inline]
+    pub(super) fn try_shared<R>(
+        self,
+        with: impl FnOnce(&mut Turn<'s, T>, &mut Joint) -> R,
+    ) -> Option<R> {
+        let had = self.seat().lock.try_shared()?;
+        // SAFETY: who has the lock of a shared lane uses it alone.
+        Some(unsafe { self.under(had, with) })
+    }
+
     /// Has the lane for calls, where threads share it, or the thread that had it has left it.
     ///
     /// # Safety

@@ -12,7 +12,7 @@ use crate::object::{Block, Chain};
 use crate::sync::thread_local;
 use std::any::Any;
 use std::cell::{Cell, RefCell};
-use std::mem;
+use std::mem::{self, ManuallyDrop};
 use std::panic::{self, AssertUnwindSafe};
 use std::{ptr, thread};
 
@@ -136,12 +136,16 @@ impl<'s, T: Clear> Post<'s, T> {
         Ok(cleared)
     }
 
+    /// The same, where nobody has the lock now: it doesn't wait. What it took out of the place is to be emptied by the caller.
+    pub(super) fn try_shared_clear(self, key: Key) -> Option<(bool, Option<Block<T>>)> {
+        self.try_shared(|turn, _| (turn.clear(key), turn.taken()))
+    }
+
     /// Empties what a call took out, without the lock.
     #[inline]
     fn finish(self, taken: Option<Taken<T>>) {
         if let Some(Taken { block }) = taken {
-            let _user = User(self);
-            self.empty(block);
+            User(self).empty(block);
         }
     }
 }
@@ -153,6 +157,24 @@ impl<T: Clear> Drop for User<'_, T> {
     fn drop(&mut self) {
         let post = self.0;
         if post.joint(Joint::leave) {
+            // SAFETY: the lane had a share of the pool's memory until now.
+            unsafe { super::share::let_go(post) };
+        }
+    }
+}
+
+impl<T: Clear> User<'_, T> {
+    /// Its last call: it puts a block away.
+    fn put_away_last(self, block: Block<T>) {
+        let User(post) = *ManuallyDrop::new(self);
+        // SAFETY: the lane has a user, so it is shared, or its thread has left it.
+        let is_last = unsafe {
+            post.locked(|turn, joint| {
+                turn.put_away(block);
+                joint.leave()
+            })
+        };
+        if is_last {
             // SAFETY: the lane had a share of the pool's memory until now.
             unsafe { super::share::let_go(post) };
         }
@@ -232,8 +254,7 @@ impl<T: Clear> Post<'_, T> {
     #[cold]
     #[inline(never)]
     fn far_empty(self, block: Block<T>) {
-        let _user = User(self);
-        self.empty(block);
+        User(self).empty(block);
     }
 
     /// Publishes what the handle filled, which ends.
@@ -313,48 +334,53 @@ fn outer_waiting<T: Clear>(segment: &Segment<T>) -> Option<&RefCell<Chain<T>>> {
     None
 }
 
-impl<T: Clear> Post<'_, T> {
-    /// Empties an object that this lane took out, and those that wait then. Where one of its segment is being emptied further out, it is
-    /// left to that one. The caller is a user of the lane.
+impl<T: Clear> User<'_, T> {
+    /// Empties an object that the lane took out, and those that wait then. Where one of its segment is being emptied further out, it is
+    /// left to that one.
     fn empty(self, block: Block<T>) {
-        if let Some(waiting) = outer_waiting(self.segment()) {
+        if let Some(waiting) = outer_waiting(self.0.segment()) {
             return waiting.borrow_mut().push(block);
         }
         let waiting = RefCell::new(Chain::new());
         let frame = Frame {
             outer: FRAMES.get(),
-            segment: ptr::from_ref(self.segment()).cast(),
+            segment: ptr::from_ref(self.0.segment()).cast(),
             waiting: ptr::from_ref(&waiting).cast(),
         };
         let unwinding = thread::panicking();
-        let mut panicked = None;
+        let (mut panicked, mut emptied) = (None, None);
         let mut next = Some(block);
         // SAFETY: it is dropped in front of the frame.
         let framed = unsafe { Framed::new(&frame) };
         while let Some(block) = next {
-            if let Err(payload) = self.empty_one(block) {
-                first(&mut panicked, payload);
+            if let Some(block) = emptied.take() {
+                // SAFETY: the lane has a user, so it is shared, or its thread has left it.
+                unsafe { self.0.locked(|turn, _| turn.put_away(block)) };
+            }
+            match emptied_block(block) {
+                Ok(block) => emptied = Some(block),
+                Err(payload) => first(&mut panicked, payload),
             }
             next = waiting.borrow_mut().pop();
         }
         drop(framed);
+        if let Some(block) = emptied {
+            self.put_away_last(block);
+        }
         match panicked {
             Some(payload) if !unwinding => panic::resume_unwind(payload),
             // A panic while the thread unwinds would end the process; so might the drop of its payload.
             panicked => mem::forget(panicked),
         }
     }
+}
 
-    /// Empties an object, and puts it away; or answers the panic, which dropped it.
-    fn empty_one(self, mut block: Block<T>) -> thread::Result<()> {
-        let block = panic::catch_unwind(AssertUnwindSafe(move || {
-            block.clear();
-            block
-        }))?;
-        // SAFETY: the lane has a user, so it is shared, or its thread has left it.
-        unsafe { self.locked(|turn, _| turn.put_away(block)) };
-        Ok(())
-    }
+/// Empties an object; or answers the panic, which dropped it.
+fn emptied_block<T: Clear>(mut block: Block<T>) -> thread::Result<Block<T>> {
+    panic::catch_unwind(AssertUnwindSafe(move || {
+        block.clear();
+        block
+    }))
 }
 
 /// The first panic is handed on; the drop of another one's payload might panic in turn.

@@ -40,7 +40,9 @@ impl<T: Clear> Room<T> {
     where
         T: Default,
     {
-        for number in self.shared_numbers().ok_or(CreateError::NoLane)? {
+        let numbers = self.shared_numbers().ok_or(CreateError::NoLane)?;
+        let last = threads::last_shared(self.id()).filter(|last| self.lanes.is_shared(*last));
+        for number in last.into_iter().chain(numbers) {
             if self.passes(number) {
                 continue;
             }

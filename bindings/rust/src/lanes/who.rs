@@ -97,6 +97,11 @@ impl Lanes {
         self.shared.load(Ordering::SeqCst).count_ones() > self.few
     }
 
+    /// Whether a lane is shared, as of this look.
+    pub(super) fn is_shared(&self, number: u32) -> bool {
+        self.shared.load(Ordering::Relaxed) & Number(number).bit() != 0
+    }
+
     /// Takes a lane that is at home.
     fn take_home(&self) -> Option<Number> {
         let take = |home: u64| (home != 0).then(|| home & (home - 1));
