@@ -31,7 +31,7 @@ begins_with (json.boolean truth) byte = (byte == 116) || (byte == 102)
 begins_with (json.number text) byte = begins_number (Some byte)
 begins_with (json.string text) byte = byte == 34
 begins_with (json.array items) byte = byte == 91
-begins_with (json.object members) byte = byte == 123
+begins_with (json.object _) byte = byte == 123
 
 -- it does with this, if it is one
 abbrev pub begins : Json → Option ℕ → Bool
