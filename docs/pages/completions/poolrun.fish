@@ -1,4 +1,4 @@
-# Made from crates/commandline/src/run_lines.rt by docs/pages/make.py: change that file, not this one.
+# Made from crates/commandline/src/run_lines.rt by tools/manual/make.py: change that file, not this one.
 complete -c poolrun -n __fish_use_subcommand -l help -d 'Says what there is'
 complete -c poolrun -n __fish_use_subcommand -l version -d 'Says the version'
 complete -c poolrun -f -n __fish_use_subcommand -a replay -d 'Replays the scripts of a file over a schedule, step by step, and prints what each step did'

@@ -1,4 +1,4 @@
-# Made from crates/commandline/src/view_lines.rt by docs/pages/make.py: change that file, not this one.
+# Made from crates/commandline/src/view_lines.rt by tools/manual/make.py: change that file, not this one.
 _poolview() {
     local word=${COMP_WORDS[COMP_CWORD]} before=${COMP_WORDS[COMP_CWORD-1]}
     COMPREPLY=()

@@ -1,4 +1,4 @@
-// Made by bindings/erase/erase.py.
+// Made by tools/erase/erase.py.
 
 //! The pool, made from its proved sources: what is left of them without their contracts and proofs. What the contracts
 //! require of a caller nothing here tests, so it is private, and the modules above take it over.

@@ -1,4 +1,4 @@
-// Made from crates/freelists/src/local.rt by bindings/erase/erase.py: change that file, not this one.
+// Made from crates/freelists/src/local.rt by tools/erase/erase.py: change that file, not this one.
 
 //! The free places of a lane.
 

@@ -1,4 +1,4 @@
-// Made from crates/freelists/src/lib.rt by bindings/erase/erase.py: change that file, not this one.
+// Made from crates/freelists/src/lib.rt by tools/erase/erase.py: change that file, not this one.
 
 //! The free places of a shard of an object pool: its pages, the local list of its owner, and the stacks by which other
 //! lanes return places to it.

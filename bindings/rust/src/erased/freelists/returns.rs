@@ -1,4 +1,4 @@
-// Made from crates/freelists/src/returns.rt by bindings/erase/erase.py: change that file, not this one.
+// Made from crates/freelists/src/returns.rt by tools/erase/erase.py: change that file, not this one.
 
 //! The words by which other lanes return places to a shard.
 

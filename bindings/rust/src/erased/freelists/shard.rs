@@ -1,4 +1,4 @@
-// Made from crates/freelists/src/shard.rt by bindings/erase/erase.py: change that file, not this one.
+// Made from crates/freelists/src/shard.rt by tools/erase/erase.py: change that file, not this one.
 
 //! A shard, and its places by their indexes.
 

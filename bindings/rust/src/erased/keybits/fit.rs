@@ -1,4 +1,4 @@
-// Made from crates/keybits/src/fit.rt by bindings/erase/erase.py: change that file, not this one.
+// Made from crates/keybits/src/fit.rt by tools/erase/erase.py: change that file, not this one.
 
 //! Which numbers are keys of a shape.
 

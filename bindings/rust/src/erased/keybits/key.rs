@@ -1,4 +1,4 @@
-// Made from crates/keybits/src/key.rt by bindings/erase/erase.py: change that file, not this one.
+// Made from crates/keybits/src/key.rt by tools/erase/erase.py: change that file, not this one.
 
 //! Keys of published objects.
 

@@ -1,4 +1,4 @@
-// Made from crates/keybits/src/lib.rt by bindings/erase/erase.py: change that file, not this one.
+// Made from crates/keybits/src/lib.rt by tools/erase/erase.py: change that file, not this one.
 
 //! Keys, places, shapes and lifecycle words of a sharded object pool, and the steps that change its atomic words.
 

@@ -1,4 +1,4 @@
-// Made from crates/keybits/src/place.rt by bindings/erase/erase.py: change that file, not this one.
+// Made from crates/keybits/src/place.rt by tools/erase/erase.py: change that file, not this one.
 
 //! Places: their numbers, in keys too, and the words by which they are returned.
 

@@ -1,4 +1,4 @@
-// Made from crates/keybits/src/shape.rt by bindings/erase/erase.py: change that file, not this one.
+// Made from crates/keybits/src/shape.rt by tools/erase/erase.py: change that file, not this one.
 
 //! Shapes of pools: their limits, and the places that they have.
 

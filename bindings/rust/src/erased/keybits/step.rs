@@ -1,4 +1,4 @@
-// Made from crates/keybits/src/step.rt by bindings/erase/erase.py: change that file, not this one.
+// Made from crates/keybits/src/step.rt by tools/erase/erase.py: change that file, not this one.
 
 //! The pool's atomic words, and the steps on them.
 

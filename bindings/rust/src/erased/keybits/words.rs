@@ -1,4 +1,4 @@
-// Made from crates/keybits/src/words.rt by bindings/erase/erase.py: change that file, not this one.
+// Made from crates/keybits/src/words.rt by tools/erase/erase.py: change that file, not this one.
 
 //! Lifecycle words, and what each step makes of one.
 

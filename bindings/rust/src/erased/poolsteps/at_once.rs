@@ -1,4 +1,4 @@
-// Made from crates/poolsteps/src/at_once.rt by bindings/erase/erase.py: change that file, not this one.
+// Made from crates/poolsteps/src/at_once.rt by tools/erase/erase.py: change that file, not this one.
 
 //! Several steps of a clear, one after another with nothing between them, as one operation on the key's word.
 

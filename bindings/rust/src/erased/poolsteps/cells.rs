@@ -1,4 +1,4 @@
-// Made from crates/poolsteps/src/cells.rt by bindings/erase/erase.py: change that file, not this one.
+// Made from crates/poolsteps/src/cells.rt by tools/erase/erase.py: change that file, not this one.
 
 //! The cells of places: where a row of them begins, a share, a slot for one, the shares in one hand, the whole, a place
 //! without an object.

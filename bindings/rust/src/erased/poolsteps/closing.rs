@@ -1,4 +1,4 @@
-// Made from crates/poolsteps/src/closing.rt by bindings/erase/erase.py: change that file, not this one.
+// Made from crates/poolsteps/src/closing.rt by tools/erase/erase.py: change that file, not this one.
 
 //! How the cell of a place is dropped at a close.
 

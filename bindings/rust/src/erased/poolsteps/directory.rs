@@ -1,4 +1,4 @@
-// Made from crates/poolsteps/src/directory.rt by bindings/erase/erase.py: change that file, not this one.
+// Made from crates/poolsteps/src/directory.rt by tools/erase/erase.py: change that file, not this one.
 
 //! The words of places.
 

@@ -1,4 +1,4 @@
-// Made from crates/poolsteps/src/directory_end.rt by bindings/erase/erase.py: change that file, not this one.
+// Made from crates/poolsteps/src/directory_end.rt by tools/erase/erase.py: change that file, not this one.
 
 //! How a directory is freed.
 

@@ -1,4 +1,4 @@
-// Made from crates/poolsteps/src/find.rt by bindings/erase/erase.py: change that file, not this one.
+// Made from crates/poolsteps/src/find.rt by tools/erase/erase.py: change that file, not this one.
 
 //! Where a key's place stands, and its words and slots; and the word at which a lane looks.
 

@@ -1,4 +1,4 @@
-// Made from crates/poolsteps/src/grid.rt by bindings/erase/erase.py: change that file, not this one.
+// Made from crates/poolsteps/src/grid.rt by tools/erase/erase.py: change that file, not this one.
 
 //! The table of a pool, the hands of its lanes, and where the words of a place stand.
 

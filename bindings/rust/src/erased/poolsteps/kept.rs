@@ -1,4 +1,4 @@
-// Made from crates/poolsteps/src/kept.rt by bindings/erase/erase.py: change that file, not this one.
+// Made from crates/poolsteps/src/kept.rt by tools/erase/erase.py: change that file, not this one.
 
 //! The rights that a lane keeps to places of other lanes, until the close. They take no memory but the places' words, which
 //! nobody else reaches: each holds the number of the word that was kept before it.

@@ -1,4 +1,4 @@
-// Made from crates/poolsteps/src/layout.rt by bindings/erase/erase.py: change that file, not this one.
+// Made from crates/poolsteps/src/layout.rt by tools/erase/erase.py: change that file, not this one.
 
 //! Where each word of a pool stands among the words of its table, and each slot among its slots: words that different
 //! lanes change by themselves stand 128 bytes apart, as a processor may fetch two lines of 64 together, and the words of

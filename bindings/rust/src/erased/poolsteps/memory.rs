@@ -1,4 +1,4 @@
-// Made from crates/poolsteps/src/memory.rt by bindings/erase/erase.py: change that file, not this one.
+// Made from crates/poolsteps/src/memory.rt by tools/erase/erase.py: change that file, not this one.
 
 //! Memory by the right to it, over raw pointers, in functions of a few lines that are proved by hand: a value that
 //! nobody else reaches, a part of one that is lent, a word without an object, values side by side, the right to free them.

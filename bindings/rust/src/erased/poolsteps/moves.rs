@@ -1,4 +1,4 @@
-// Made from crates/poolsteps/src/moves.rt by bindings/erase/erase.py: change that file, not this one.
+// Made from crates/poolsteps/src/moves.rt by tools/erase/erase.py: change that file, not this one.
 
 //! The moves of shares: each is two looks at a word of the lane's own, one that takes slots and one that
 //! gives them back. One moves a share, or all shares of a place.

@@ -1,4 +1,4 @@
-// Made from crates/poolsteps/src/notes.rt by bindings/erase/erase.py: change that file, not this one.
+// Made from crates/poolsteps/src/notes.rt by tools/erase/erase.py: change that file, not this one.
 
 //! What lanes tell each other, and the end of a pool's table.
 

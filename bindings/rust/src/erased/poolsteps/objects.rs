@@ -1,4 +1,4 @@
-// Made from crates/poolsteps/src/objects.rt by bindings/erase/erase.py: change that file, not this one.
+// Made from crates/poolsteps/src/objects.rt by tools/erase/erase.py: change that file, not this one.
 
 //! What a lane has of places.
 

@@ -1,4 +1,4 @@
-// Made from crates/poolsteps/src/opening.rt by bindings/erase/erase.py: change that file, not this one.
+// Made from crates/poolsteps/src/opening.rt by tools/erase/erase.py: change that file, not this one.
 
 //! How a pool's table is made, and its places are found.
 

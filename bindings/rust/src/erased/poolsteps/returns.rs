@@ -1,4 +1,4 @@
-// Made from crates/poolsteps/src/returns.rt by bindings/erase/erase.py: change that file, not this one.
+// Made from crates/poolsteps/src/returns.rt by tools/erase/erase.py: change that file, not this one.
 
 //! The steps by which a place of another shard is returned and returned places are taken, and the look. Each is one
 //! call of the table.

@@ -1,4 +1,4 @@
-// Made from crates/poolsteps/src/rows.rt by bindings/erase/erase.py: change that file, not this one.
+// Made from crates/poolsteps/src/rows.rt by tools/erase/erase.py: change that file, not this one.
 
 //! The row of a lane: of each word of its own places in a directory, what the lane has of the place.
 

@@ -1,4 +1,4 @@
-// Made from crates/poolsteps/src/steps.rt by bindings/erase/erase.py: change that file, not this one.
+// Made from crates/poolsteps/src/steps.rt by tools/erase/erase.py: change that file, not this one.
 
 //! The steps of lifecycle words. Each is one call of the table, and answers the word that it found.
 

@@ -1,4 +1,4 @@
-// Made from crates/shardpool/src/cell_moves.rt by bindings/erase/erase.py: change that file, not this one.
+// Made from crates/shardpool/src/cell_moves.rt by tools/erase/erase.py: change that file, not this one.
 
 //! The moves of whole cells. Each is made by a lane that has all shares of the place, and makes moves of that place
 //! alone.

@@ -1,4 +1,4 @@
-// Made from crates/shardpool/src/census.rt by bindings/erase/erase.py: change that file, not this one.
+// Made from crates/shardpool/src/census.rt by tools/erase/erase.py: change that file, not this one.
 
 //! What the places of a pool are when it is closed.
 

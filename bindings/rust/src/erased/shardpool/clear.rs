@@ -1,4 +1,4 @@
-// Made from crates/shardpool/src/clear.rt by bindings/erase/erase.py: change that file, not this one.
+// Made from crates/shardpool/src/clear.rt by tools/erase/erase.py: change that file, not this one.
 
 //! The clear of a key.
 

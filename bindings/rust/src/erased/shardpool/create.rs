@@ -1,4 +1,4 @@
-// Made from crates/shardpool/src/create.rt by bindings/erase/erase.py: change that file, not this one.
+// Made from crates/shardpool/src/create.rt by tools/erase/erase.py: change that file, not this one.
 
 //! How a lane gets a place to fill: from its own list, from its taken chain, from the places that were returned to it,
 //! or from its next page.

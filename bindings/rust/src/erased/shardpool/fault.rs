@@ -1,4 +1,4 @@
-// Made from crates/shardpool/src/fault.rt by bindings/erase/erase.py: change that file, not this one.
+// Made from crates/shardpool/src/fault.rt by tools/erase/erase.py: change that file, not this one.
 
 //! Why no pool is opened.
 

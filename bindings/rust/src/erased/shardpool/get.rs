@@ -1,4 +1,4 @@
-// Made from crates/shardpool/src/get.rt by bindings/erase/erase.py: change that file, not this one.
+// Made from crates/shardpool/src/get.rt by tools/erase/erase.py: change that file, not this one.
 
 //! The get of a key.
 

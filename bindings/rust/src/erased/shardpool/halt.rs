@@ -1,4 +1,4 @@
-// Made from crates/shardpool/src/halt.rt by bindings/erase/erase.py: change that file, not this one.
+// Made from crates/shardpool/src/halt.rt by tools/erase/erase.py: change that file, not this one.
 
 //! How a lane's last call is ended for good, as that of a thread which stops inside a call.
 

@@ -1,4 +1,4 @@
-// Made from crates/shardpool/src/lane.rt by bindings/erase/erase.py: change that file, not this one.
+// Made from crates/shardpool/src/lane.rt by tools/erase/erase.py: change that file, not this one.
 
 //! Lanes: each owns a shard of a pool.
 

@@ -1,4 +1,4 @@
-// Made from crates/shardpool/src/lib.rt by bindings/erase/erase.py: change that file, not this one.
+// Made from crates/shardpool/src/lib.rt by tools/erase/erase.py: change that file, not this one.
 
 //! A sharded pool of objects that are cleared and used again in place: threads share the pool, each with a lane of its
 //! own, without a lock and in a stated number of steps. Each call has a file: `create`, `publish`, `get`, `release`,

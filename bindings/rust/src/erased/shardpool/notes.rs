@@ -1,4 +1,4 @@
-// Made from crates/shardpool/src/notes.rt by bindings/erase/erase.py: change that file, not this one.
+// Made from crates/shardpool/src/notes.rt by tools/erase/erase.py: change that file, not this one.
 
 //! What lanes tell each other.
 

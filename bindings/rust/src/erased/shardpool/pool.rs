@@ -1,4 +1,4 @@
-// Made from crates/shardpool/src/pool.rt by bindings/erase/erase.py: change that file, not this one.
+// Made from crates/shardpool/src/pool.rt by tools/erase/erase.py: change that file, not this one.
 
 //! A pool and its lanes: what each has.
 

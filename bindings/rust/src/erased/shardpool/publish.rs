@@ -1,4 +1,4 @@
-// Made from crates/shardpool/src/publish.rt by bindings/erase/erase.py: change that file, not this one.
+// Made from crates/shardpool/src/publish.rt by tools/erase/erase.py: change that file, not this one.
 
 //! The publish of a filling, without a reference or with one.
 

@@ -1,4 +1,4 @@
-// Made from crates/shardpool/src/reclaim.rt by bindings/erase/erase.py: change that file, not this one.
+// Made from crates/shardpool/src/reclaim.rt by tools/erase/erase.py: change that file, not this one.
 
 //! What follows the LEAVE of a place: its claim, and what becomes of it.
 

@@ -1,4 +1,4 @@
-// Made from crates/shardpool/src/release.rt by bindings/erase/erase.py: change that file, not this one.
+// Made from crates/shardpool/src/release.rt by tools/erase/erase.py: change that file, not this one.
 
 //! The release of a reference.
 

@@ -1,4 +1,4 @@
-// Made from crates/shardpool/src/returned_shares.rt by bindings/erase/erase.py: change that file, not this one.
+// Made from crates/shardpool/src/returned_shares.rt by tools/erase/erase.py: change that file, not this one.
 
 //! How the shares under references go back into their slots when a pool is closed.
 

@@ -1,4 +1,4 @@
-// Made from crates/shardpool/src/stores.rt by bindings/erase/erase.py: change that file, not this one.
+// Made from crates/shardpool/src/stores.rt by tools/erase/erase.py: change that file, not this one.
 
 //! The stores of a lane: the free places of its shard, and their objects.
 

@@ -1,4 +1,4 @@
-// Made from crates/slotcell/src/lib.rt by bindings/erase/erase.py: change that file, not this one.
+// Made from crates/slotcell/src/lib.rt by tools/erase/erase.py: change that file, not this one.
 
 //! Objects that are cleared in place and used again, and cells, each of which holds an object.
 //!

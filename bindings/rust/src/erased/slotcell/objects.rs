@@ -1,4 +1,4 @@
-// Made from crates/slotcell/src/objects.rt by bindings/erase/erase.py: change that file, not this one.
+// Made from crates/slotcell/src/objects.rt by tools/erase/erase.py: change that file, not this one.
 
 //! Objects, which are cleared in place and used again: what all can do, buffers of bytes, and records of numbers.
 

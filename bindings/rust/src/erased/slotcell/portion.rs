@@ -1,4 +1,4 @@
-// Made from crates/slotcell/src/portion.rt by bindings/erase/erase.py: change that file, not this one.
+// Made from crates/slotcell/src/portion.rt by tools/erase/erase.py: change that file, not this one.
 
 //! A cell that is lent to readers, in equal parts.
 

@@ -1,4 +1,4 @@
-// Made from crates/slotcell/src/share.rt by bindings/erase/erase.py: change that file, not this one.
+// Made from crates/slotcell/src/share.rt by tools/erase/erase.py: change that file, not this one.
 
 //! The right to read a cell.
 

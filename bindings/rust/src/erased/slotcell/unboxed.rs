@@ -1,4 +1,4 @@
-// Made from crates/slotcell/src/unboxed.rt by bindings/erase/erase.py: change that file, not this one.
+// Made from crates/slotcell/src/unboxed.rt by tools/erase/erase.py: change that file, not this one.
 
 //! A box, as its pointer and its allocator.
 

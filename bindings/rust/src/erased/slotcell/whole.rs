@@ -1,4 +1,4 @@
-// Made from crates/slotcell/src/whole.rt by bindings/erase/erase.py: change that file, not this one.
+// Made from crates/slotcell/src/whole.rt by tools/erase/erase.py: change that file, not this one.
 
 //! The owner of a cell, which splits it into shares and joins them again.
 

@@ -9,33 +9,33 @@
 //! is told that it found another word, as it would in that case; where it has them in a row, it is made.
 #![allow(dead_code)]
 
-#[path = "../rust/src/buffer.rs"]
+#[path = "../../bindings/rust/src/buffer.rs"]
 mod buffer;
-#[path = "../rust/src/calls.rs"]
+#[path = "../../bindings/rust/src/calls.rs"]
 mod calls;
-#[path = "../rust/src/clear.rs"]
+#[path = "../../bindings/rust/src/clear.rs"]
 mod clear;
-#[path = "../rust/src/erased/mod.rs"]
+#[path = "../../bindings/rust/src/erased/mod.rs"]
 mod erased;
-#[path = "../rust/src/errors.rs"]
+#[path = "../../bindings/rust/src/errors.rs"]
 mod errors;
-#[path = "../rust/src/filling.rs"]
+#[path = "../../bindings/rust/src/filling.rs"]
 mod filling;
-#[path = "../rust/src/key.rs"]
+#[path = "../../bindings/rust/src/key.rs"]
 mod key;
-#[path = "../rust/src/lane.rs"]
+#[path = "../../bindings/rust/src/lane.rs"]
 mod lane;
-#[path = "../rust/src/lanes/mod.rs"]
+#[path = "../../bindings/rust/src/lanes/mod.rs"]
 mod lanes;
-#[path = "../rust/src/object/mod.rs"]
+#[path = "../../bindings/rust/src/object/mod.rs"]
 mod object;
-#[path = "../rust/src/pool.rs"]
+#[path = "../../bindings/rust/src/pool.rs"]
 mod pool;
-#[path = "../rust/src/reference.rs"]
+#[path = "../../bindings/rust/src/reference.rs"]
 mod reference;
-#[path = "../rust/src/shim/mod.rs"]
+#[path = "../../bindings/rust/src/shim/mod.rs"]
 mod shim;
-#[path = "../rust/src/sync.rs"]
+#[path = "../../bindings/rust/src/sync.rs"]
 mod sync;
 
 use buffer::Buffer;

@@ -60,7 +60,7 @@ def man_page(roff):
     types = ["\n".join(below) for _, below in blocks(source) if below[0].startswith("typedef struct")]
     names = [name for (name, _), _ in calls]
     out = [
-        '.\\" Made from bindings/c/pardz.h by docs/pages/make.py: change that file, not this one.',
+        '.\\" Made from bindings/c/pardz.h by tools/manual/make.py: change that file, not this one.',
         f'.TH PARDZ 3 "" "pardz {version}"',
         ".SH NAME",
         f"{', '.join(['pardz', *names])} \\- {roff(' '.join(title).rstrip('.').replace('A ', 'a ', 1))}",

@@ -1,8 +1,8 @@
 #!/usr/bin/env python3
 """Makes the man pages and the shell completions of `poolrun` and `poolview` from the tables of their command lines, and that of the C calls.
 
-    docs/pages/make.py            writes them into docs/pages
-    docs/pages/make.py --check    compares them with the tables; the status is 1 where one differs
+    tools/manual/make.py            writes them into docs/pages
+    tools/manual/make.py --check    compares them with the tables; the status is 1 where one differs
 
 A page or a completion is never edited: change crates/commandline/src/run_lines.rt or view_lines.rt, or bindings/c/pardz.h, and run this
 again.
@@ -14,8 +14,9 @@ import sys
 sys.dont_write_bytecode = True
 import calls
 
-HERE = pathlib.Path(__file__).resolve().parent
-SOURCES = HERE.parent.parent / "crates" / "commandline" / "src"
+ROOT = pathlib.Path(__file__).resolve().parent.parent.parent
+PAGES = ROOT / "docs" / "pages"
+SOURCES = ROOT / "crates" / "commandline" / "src"
 PROGRAMS = {"poolrun": "run_lines.rt", "poolview": "view_lines.rt"}
 TOKEN = re.compile(r'\s+|//[^\n]*|"(?:\\.|[^"\\])*"|[A-Za-z_][A-Za-z0-9_]*|\'[a-z]+|.', re.DOTALL)
 ESCAPES = {"n": "\n", '"': '"', "\\": "\\", "t": "\t"}
@@ -183,7 +184,7 @@ def man_page(table):
     notes, statuses = statuses_of(table["help"]["more"])
     out = [
         "'\\\" t",
-        f'.\\" Made from crates/commandline/src/{table["source"]} by docs/pages/make.py: change that file, not this one.',
+        f'.\\" Made from crates/commandline/src/{table["source"]} by tools/manual/make.py: change that file, not this one.',
         f'.TH {name.upper()} 1 "" "{" ".join(part for part in (name, table["version"]) if part)}"',
         ".SH NAME",
         f"{name} \\- {roff(about[0].lower() + about[1:].split(':')[0])}",
@@ -227,7 +228,7 @@ def bash_completion(table):
     commands = " ".join(line["name"] for line in table["lines"])
     top = "--help --version" if table["version"] else "--help"
     out = [
-        f'# Made from crates/commandline/src/{table["source"]} by docs/pages/make.py: change that file, not this one.',
+        f'# Made from crates/commandline/src/{table["source"]} by tools/manual/make.py: change that file, not this one.',
         f"_{name}() {{",
         "    local word=${COMP_WORDS[COMP_CWORD]} before=${COMP_WORDS[COMP_CWORD-1]}",
         "    COMPREPLY=()",
@@ -259,7 +260,7 @@ def quoted(text):
 
 def fish_completion(table):
     name = table["name"]
-    out = [f'# Made from crates/commandline/src/{table["source"]} by docs/pages/make.py: change that file, not this one.']
+    out = [f'# Made from crates/commandline/src/{table["source"]} by tools/manual/make.py: change that file, not this one.']
     out += [f"complete -c {name} -n __fish_use_subcommand -l help -d 'Says what there is'"]
     if table["version"]:
         out += [f"complete -c {name} -n __fish_use_subcommand -l version -d 'Says the version'"]
@@ -290,7 +291,7 @@ def zsh_completion(table):
     top = "'(- *)'{--help,--version}'[Says what there is]'" if table["version"] else "'(- *)--help[Says what there is]'"
     out = [
         f"#compdef {name}",
-        f'# Made from crates/commandline/src/{table["source"]} by docs/pages/make.py: change that file, not this one.',
+        f'# Made from crates/commandline/src/{table["source"]} by tools/manual/make.py: change that file, not this one.',
         "local context state line",
         f"_arguments -C {top} '1:command:->command' '*::argument:->argument'",
         "case $state in",
@@ -312,13 +313,13 @@ def zsh_completion(table):
 
 def pages():
     """Each page and completion, by its path."""
-    made = {HERE / "man" / "pardz.3": calls.man_page(roff)}
+    made = {PAGES / "man" / "pardz.3": calls.man_page(roff)}
     for program in PROGRAMS:
         table = table_of(program)
-        made[HERE / "man" / f"{program}.1"] = man_page(table)
-        made[HERE / "completions" / f"{program}.bash"] = bash_completion(table)
-        made[HERE / "completions" / f"{program}.fish"] = fish_completion(table)
-        made[HERE / "completions" / f"_{program}"] = zsh_completion(table)
+        made[PAGES / "man" / f"{program}.1"] = man_page(table)
+        made[PAGES / "completions" / f"{program}.bash"] = bash_completion(table)
+        made[PAGES / "completions" / f"{program}.fish"] = fish_completion(table)
+        made[PAGES / "completions" / f"_{program}"] = zsh_completion(table)
     return made
 
 
@@ -332,7 +333,7 @@ def main():
             path.parent.mkdir(exist_ok=True)
             path.write_text(text)
         elif not path.exists() or path.read_text() != text:
-            print(f"{path.relative_to(HERE)} is not what its source says: run docs/pages/make.py", file=sys.stderr)
+            print(f"{path.relative_to(PAGES)} is not what its source says: run tools/manual/make.py", file=sys.stderr)
             wrong = 1
     return wrong
 

@@ -1,6 +1,6 @@
 //! The rounds of `crates/poolbench` over what one would take in the pool's place, in plain Rust.
 //!
-//!     docs/bench/build peers                # wants rustc alone; with Debian's librust-sharded-slab-dev the slab too
+//!     tools/bench/build peers                # wants rustc alone; with Debian's librust-sharded-slab-dev the slab too
 //!     ./peers map-cycle 4 1000000           # a case, threads, rounds of each: prints one number, so that the work is done
 //!
 //! `bare` is two fetch_adds on a word of the thread's own, and `alu` a round in registers alone. The other cases are

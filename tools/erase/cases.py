@@ -296,7 +296,7 @@ fn first() -> Count {
     Count { number: 0 }
 }
 """
-LEFT = """// Made from crates/keybits/src/lib.rt by bindings/erase/erase.py: change that file, not this one.
+LEFT = """// Made from crates/keybits/src/lib.rt by tools/erase/erase.py: change that file, not this one.
 
 //! A crate.
 

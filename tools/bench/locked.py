@@ -1,6 +1,6 @@
 """Tells what a locked step costs by the number of instructions between it and the next.
 
-Usage: python3 docs/bench/locked.py [MOVES..]
+Usage: python3 tools/bench/locked.py [MOVES..]
 
 For each number it has cc assemble a loop of two locked additions to one word, with so many moves between registers behind each, and
 prints the least processor time of five runs, in nanoseconds a round. For x86-64.

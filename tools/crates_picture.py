@@ -1,8 +1,8 @@
 #!/usr/bin/env python3
 """Makes docs/crates.svg from crates.txt: each crate above those that it stands on. A line that others already tell is left out.
 
-usage: python3 docs/crates_picture.py            writes the picture
-       python3 docs/crates_picture.py --check    compares it; status 1 where it isn't what would be written
+usage: python3 tools/crates_picture.py            writes the picture
+       python3 tools/crates_picture.py --check    compares it; status 1 where it isn't what would be written
 """
 import pathlib
 import sys
@@ -155,7 +155,7 @@ def picture():
 def main():
     if sys.argv[1:] == ["--check"]:
         if PICTURE.read_text(encoding="utf-8") != picture():
-            sys.exit("docs/crates.svg isn't what docs/crates_picture.py writes: run it")
+            sys.exit("docs/crates.svg isn't what tools/crates_picture.py writes: run it")
     elif sys.argv[1:]:
         sys.exit(__doc__.strip())
     else:

@@ -19,7 +19,7 @@ import sys
 import tempfile
 
 HERE = os.path.dirname(os.path.abspath(__file__))
-SOURCES = os.path.join(os.path.dirname(HERE), "rust", "src")
+SOURCES = os.path.join(os.path.dirname(os.path.dirname(HERE)), "bindings", "rust", "src")
 KINDS = dict(ENTER="E", LEAVE="L", PUBLISH="P", MARK="M", CLAIM="C", LINK="K", PUSH="U", TAKE="T", FOLLOW="F")
 # What a register has behind a command that goes well.
 HAS = dict(create="filling", get="reference", publish=None, downgrade="reference", release=None)
@@ -148,7 +148,7 @@ def build(sources, out, level, words=CHECKED):
     program = os.path.join(HERE, "replay.rs")
     if sources != SOURCES:
         with open(program, encoding="utf-8") as file:
-            text = file.read().replace("../rust/src", sources)
+            text = file.read().replace("../../bindings/rust/src", sources)
         program = out + ".rs"
         with open(program, "w", encoding="utf-8") as file:
             file.write(text)

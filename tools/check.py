@@ -1,7 +1,7 @@
 #!/usr/bin/env python3
 """Tests the pages: one line for each test, status 1 where one fails. Nothing but the Python standard library.
 
-usage: python3 docs/check.py
+usage: python3 tools/check.py
 
 - links: each relative link leads to a file, and each anchor to a heading; docs/README.md links to each page of docs
 - snippets: each fenced block of README, USING and C stands in a source, but for lines of `...` (or `// ...`) between its parts
@@ -12,7 +12,7 @@ usage: python3 docs/check.py
   crate has a README, which names all files of its src, and so have the notes of bindings/rust
 - lines: no row of a table is longer than 400 characters, and no line of a contract or a definition wider than 140 columns
 - DEFINITIONS is what definitions.py writes, and the picture of the crates what crates_picture.py does
-- what docs/begin makes is the sample under another name
+- what tools/begin makes is the sample under another name
 """
 import pathlib
 import re
@@ -28,7 +28,7 @@ import definitions
 ROOT = pathlib.Path(__file__).resolve().parent.parent
 PAGES = sorted((ROOT / "docs").glob("*.md"))
 TOP = [ROOT / name for name in ("README.md", "CHANGELOG.md", "CONTRIBUTING.md", "SECURITY.md") if (ROOT / name).is_file()]
-OTHERS = sorted((ROOT / "bindings").glob("**/README.md")) + [ROOT / "bindings/rust/CHANGELOG.md", ROOT / "bindings/rust/CONTRIBUTING.md"]
+OTHERS = sorted((ROOT / "bindings").glob("**/README.md")) + sorted((ROOT / "tools").glob("**/README.md")) + [ROOT / "bindings/rust/CHANGELOG.md", ROOT / "bindings/rust/CONTRIBUTING.md"]
 NOTES = [ROOT / "crates" / crate / "README.md" for crate in definitions.crates()]
 WITH_SNIPPETS = ("README.md", "docs/USING.md", "docs/C.md")
 LONGEST_ROW = 400
@@ -69,9 +69,9 @@ VERSIONS = [
     ("bindings/c/library/Cargo.lock", r'^name = "pardz-c"\nversion = "([\d.]+)"'),
     ("bindings/c/pardz.h", r'^#define PARDZ_VERSION "([\d.]+)"'),
     ("crates/commandline/src/run_lines.rt", r'^pub\(crate\) const VERSION: &str = "([\d.]+)"'),
-    ("bindings/programs/rows/words", r"^=~ (?:poolrun|poolview) ([\d.]+)$"),
+    ("tools/programs/rows/words", r"^=~ (?:poolrun|poolview) ([\d.]+)$"),
     ("docs/pages/man/poolrun.1", r'"poolrun ([\d.]+)"'),
-    ("docs/release", r'^VERSION = "([\d.]+)"'),
+    ("tools/release", r'^VERSION = "([\d.]+)"'),
     ("CHANGELOG.md", r"\A# Changes\n(?:(?!## \d).*\n)*## ([\d.]+)"),
     ("README.md", r"\*\*Version\*\* ([\d.]*\d)"),
 ]
@@ -219,7 +219,7 @@ def paths():
         if page.name == "CHANGELOG.md":
             continue
         text = text_of(page)
-        for path in re.findall(r"`((?:crates|bindings|docs)/[\w./-]+)`", text):
+        for path in re.findall(r"`((?:crates|bindings|docs|tools)/[\w./-]+)`", text):
             if "/out" not in path and not re.search(r"\b(CRATE|NAME)\b", path) and not (ROOT / path).exists():
                 yield f"{named(page)}: {path}"
         for crate, path in re.findall(r"`(\w+)/((?:src|specs|proofs|must-fail|data)/\w[\w./-]*)`", text):
@@ -291,9 +291,9 @@ def wide_clauses():
 def made():
     """Pages that aren't what their script writes."""
     if text_of(definitions.PAGE) != definitions.page():
-        yield "docs/DEFINITIONS.md isn't what docs/definitions.py writes: run it"
+        yield "docs/DEFINITIONS.md isn't what tools/definitions.py writes: run it"
     if text_of(crates_picture.PICTURE) != crates_picture.picture():
-        yield "docs/crates.svg isn't what docs/crates_picture.py writes: run it"
+        yield "docs/crates.svg isn't what tools/crates_picture.py writes: run it"
 
 
 def files_of(folder):
@@ -303,28 +303,28 @@ def files_of(folder):
 
 
 def begun():
-    """Where a crate that docs/begin makes isn't the sample under another name."""
+    """Where a crate that tools/begin makes isn't the sample under another name."""
     sample, name = ROOT / "crates" / "logsample", "a_begun_crate"
     with tempfile.TemporaryDirectory() as made:
         there = pathlib.Path(made)
         shutil.copytree(sample, there / "crates" / "logsample", ignore=shutil.ignore_patterns("out"))
-        (there / "docs").mkdir()
-        shutil.copy2(ROOT / "docs" / "begin", there / "docs")
+        (there / "tools").mkdir()
+        shutil.copy2(ROOT / "tools" / "begin", there / "tools")
         shutil.copy2(ROOT / "crates.txt", there)
-        run = subprocess.run([there / "docs" / "begin", name], capture_output=True, text=True, check=False)
+        run = subprocess.run([there / "tools" / "begin", name], capture_output=True, text=True, check=False)
         if run.returncode:
-            yield f"docs/begin: {run.stderr.strip()}"
+            yield f"tools/begin: {run.stderr.strip()}"
             return
         found = {path: text.replace(name, "logsample") for path, text in files_of(there / "crates" / name).items()}
         due = files_of(sample)
-        yield from (f"docs/begin: {path} differs" for path in sorted(found.keys() | due.keys()) if found.get(path) != due.get(path))
+        yield from (f"tools/begin: {path} differs" for path in sorted(found.keys() | due.keys()) if found.get(path) != due.get(path))
         if f"\n{name}: " not in text_of(there / "crates.txt"):
-            yield "docs/begin: no line in crates.txt"
+            yield "tools/begin: no line in crates.txt"
 
 
 def main():
     bad = 0
-    tests = (("links", links), ("snippets", snippets), ("figures", figures), ("figures at home", strays), ("versions", versions), ("the edits' rows", wrong_bodies), ("names of files", paths), ("the crates' READMEs", notes), ("names of definitions", names), ("rows of tables", long_rows), ("lines of contracts", wide_clauses), ("pages that scripts write", made), ("the crate that docs/begin makes", begun))
+    tests = (("links", links), ("snippets", snippets), ("figures", figures), ("figures at home", strays), ("versions", versions), ("the edits' rows", wrong_bodies), ("names of files", paths), ("the crates' READMEs", notes), ("names of definitions", names), ("rows of tables", long_rows), ("lines of contracts", wide_clauses), ("pages that scripts write", made), ("the crate that tools/begin makes", begun))
     for name, test in tests:
         faults = list(test())
         bad += bool(faults)

@@ -744,7 +744,7 @@ def finish(source):
     rest = text[about.end() :]
     words = {m.group() for m in LEXER.finditer(rest) if m.lastgroup == "word"}
     names = sorted(source.shim | {"Box", "Vec", "impossible", "no_bytes", "Gapless"} & words)
-    head = f"// Made from {source.name} by bindings/erase/erase.py: change that file, not this one.\n\n"
+    head = f"// Made from {source.name} by tools/erase/erase.py: change that file, not this one.\n\n"
     if about.group(1):
         head += about.group(1) + "\n"
     if names:
@@ -754,7 +754,7 @@ def finish(source):
 
 def root_module(crates):
     lines = [
-        "// Made by bindings/erase/erase.py.",
+        "// Made by tools/erase/erase.py.",
         "",
         "//! The pool, made from its proved sources: what is left of them without their contracts and proofs. What the contracts",
         "//! require of a caller nothing here tests, so it is private, and the modules above take it over.",

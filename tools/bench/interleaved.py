@@ -1,6 +1,6 @@
 """Runs cases in turns, and tells what a round costs.
 
-Usage: python3 docs/bench/interleaved.py REPEATS THREADS PROGRAM:CASE:ROUNDS..
+Usage: python3 tools/bench/interleaved.py REPEATS THREADS PROGRAM:CASE:ROUNDS..
 
 Of each case it prints the processor time of a round on one thread, and the wall time of a round over all threads, in
 nanoseconds: the lower quartile and the median of the runs, less those of runs of one round; and the memory of a run of all

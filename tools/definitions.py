@@ -1,9 +1,9 @@
 #!/usr/bin/env python3
 """Makes docs/DEFINITIONS.md from the comments of the crates' specs/, and finds a definition with its sentence.
 
-usage: python3 docs/definitions.py            writes the page
-       python3 docs/definitions.py --check    compares it; status 1 where it isn't what would be written
-       python3 docs/definitions.py WORD..     prints each definition whose name, file or sentence has all the words
+usage: python3 tools/definitions.py            writes the page
+       python3 tools/definitions.py --check    compares it; status 1 where it isn't what would be written
+       python3 tools/definitions.py WORD..     prints each definition whose name, file or sentence has all the words
 
 A file of specs/ begins with a comment that says what it defines; a definition has its sentence as the comment above it.
 """
@@ -15,13 +15,13 @@ ROOT = pathlib.Path(__file__).resolve().parent.parent
 PAGE = ROOT / "docs" / "DEFINITIONS.md"
 HEAD = """# Definitions
 
-What the contracts of the pool cite, file by file, in the crates' `specs/`. Made by `docs/definitions.py` from the comments there: of each file, the first sentence. Each definition has its sentence above it: `python3 docs/definitions.py WORD..` prints those that have the words, such as a crate's name, also of the programs, whose files their crates' READMEs name. The words themselves: [GLOSSARY](GLOSSARY.md).
+What the contracts of the pool cite, file by file, in the crates' `specs/`. Made by `tools/definitions.py` from the comments there: of each file, the first sentence. Each definition has its sentence above it: `python3 tools/definitions.py WORD..` prints those that have the words, such as a crate's name, also of the programs, whose files their crates' READMEs name. The words themselves: [GLOSSARY](GLOSSARY.md).
 """
 # The band of crates.txt that the page leaves to the script.
 PROGRAMS = "# programs and tests"
 # (what a file says whose definitions the crate's own proofs alone use)
 INNER = "No public clause cites this module"
-# The line of crates.txt behind which docs/begin puts crates of one's own: no page tells of them.
+# The line of crates.txt behind which tools/begin puts crates of one's own: no page tells of them.
 OWN = "# your own"
 DEFINES = re.compile(r"(?:abbrev |unfoldable )?pub (?:record |data |type )?([^\s(:]+)")
 
@@ -100,7 +100,7 @@ def main():
     words = sys.argv[1:]
     if words == ["--check"]:
         if PAGE.read_text(encoding="utf-8") != page():
-            sys.exit("docs/DEFINITIONS.md isn't what docs/definitions.py writes: run it")
+            sys.exit("docs/DEFINITIONS.md isn't what tools/definitions.py writes: run it")
         print("docs/DEFINITIONS.md is what the sources say")
     elif words:
         sys.exit(0 if find(words) else 1)

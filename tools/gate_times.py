@@ -1,6 +1,6 @@
 """Runs a command, as rt ci, and tells the processor seconds of each crate's proof, tests and edits.
 
-Usage, at the top of the repository: python3 docs/gate_times.py rt ci
+Usage, at the top of the repository: python3 tools/gate_times.py rt ci
 
 Twice a second it reads how much time each process of the checker has had: so a process counts to within half a second. An edit's
 part has the proof that its crate's edits begin with.
