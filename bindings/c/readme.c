@@ -14,7 +14,7 @@ int main(void) {
     const uint8_t *at;
     size_t len;
     if (pardz_put(&lanes[0], hello, 5, &key) == PARDZ_OK && pardz_get(&lanes[1], key, &at, &len) == PARDZ_OK) {
-        pardz_clear(&lanes[0], key);                         /* no get finds the key now; the bytes stay until the release */
+        pardz_clear(&lanes[0], key);                         /* later gets don't find the key; the bytes stay until the release */
         printf("%.*s\n", (int)len, (const char *)at);
         pardz_release(&lanes[1], key);                       /* the last reader to leave empties the buffer */
     }
