@@ -1,0 +1,3 @@
+mod Calling
+mod Counting
+mod Making

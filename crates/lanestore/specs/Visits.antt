@@ -1,17 +1,27 @@
 -- What calls do by a lane that is had for a while.
-use Rattle.std.specs.Prelude.{◌≡◌, ℕ, ◌+◌, List, [], Option, Some, None, Result, Ok, Err, IfSome, option_map}
+use Rattle.std.specs.Prelude.{◌≡◌, ℕ, ◌+◌, List, [], Bool, true, false, Option, Some, None, Result, Ok, Err, IfSome, option_map}
 use mathlib.Core.List.{IsPrefix}
 use Rattle.poolsteps.specs.Seats.{looked_once}
 use Rattle.shardpool.specs.declared.create.CreateFault.{CreateFault}
 use Rattle.shardpool.specs.Tokens.{PoolOf, LaneOf, FillingOf, RefOf, NoteOf}
-use Rattle.shardpool.specs.Lanes.{Owns, Issued, Did, holds, refs}
-use Rattle.shardpool.specs.AfterCalls.{Continues, KeepsFillings, HoldsAsMany, AfterGet, AfterCreate, AfterPublish}
+use Rattle.shardpool.specs.Lanes.{Owns, Issued, Made, Did, holds, refs}
+use Rattle.shardpool.specs.AfterCalls.{HoldsAsMany, AfterGet, AfterCreate, AfterPublish, AfterDowngrade}
+use Rattle.lanestore.specs.declared.kept.Kept.{Kept}
 use Rattle.lanestore.specs.declared.lent.Lent.{Lent}
 use Rattle.lanestore.specs.declared.visit.Visit.{Visit}
+use Rattle.lanestore.specs.Fillings.{HaveNot, Gain, Lose}
 
 -- the lane
 abbrev pub lane_of : {T : Type 0} → Visit T → LaneOf
-lane_of visit = visit.lane.value
+lane_of visit = visit.keeper.value.lane
+
+-- the fillings that it keeps
+abbrev pub kept_of : {T : Type 0} → Visit T → List (Kept T)
+kept_of visit = visit.keeper.value.fillings.list.items
+
+-- the lane and its fillings are as before
+abbrev pub Stays : {T : Type 0} → Visit T → Visit T → Type 0
+Stays old new = (lane_of new ≡ lane_of old) × (kept_of new ≡ kept_of old)
 
 -- a lane of the pool that has no reference
 abbrev pub IsNew : PoolOf → LaneOf → Type 0
@@ -40,9 +50,29 @@ pub record Lends (T : Type 0) (pool : PoolOf) (key : ℕ) (old new : LaneOf) (re
   pub gets : AfterGet T pool key old new (option_map (λ lent. record { key = lent.key }) result)
   pub lent : IfSome result (λ lent. (lent.key ≡ key) × (lent.lane ≡ old.number))
 
--- a create and a publish of the object, for which that of the place came back; or no place was had, and it stays
-abbrev pub Puts : {T : Type 0} → (T → List ℕ) → (T → ℕ) → PoolOf → T → T → LaneOf → LaneOf → Result ℕ CreateFault → Type 0
-Puts {T} content room pool object back old new (Ok key) = (middle : LaneOf) × (filling : FillingOf T)
-    × AfterCreate content room pool old middle (Ok filling)
-    × AfterPublish content room pool (record filling { object = object }) middle new key × (back ≡ filling.object)
-Puts content room pool object back old new (Err fault) = AfterCreate content room pool old new (Err fault) × (back ≡ object)
+module _ {T : Type 0} (content : T → List ℕ) (room : T → ℕ) (pool : PoolOf) where
+  -- a create: the lane keeps the filling, under this key; or no place was had, and it keeps what it kept
+  abbrev pub Creates : Visit T → Visit T → Result ℕ CreateFault → Type 0
+  Creates old new (Ok key) = (filling : FillingOf T) × (filling.key ≡ key)
+      × AfterCreate content room pool (lane_of old) (lane_of new) (Ok filling) × Gain filling (kept_of old) (kept_of new)
+  Creates old new (Err fault) = AfterCreate content room pool (lane_of old) (lane_of new) (Err fault) × (kept_of new ≡ kept_of old)
+
+  -- a publish of the filling that the lane kept under the key; or it kept none, and all is as before
+  abbrev pub Publishes : ℕ → Visit T → Visit T → Bool → Type 0
+  Publishes key old new true = (filling : FillingOf T) × Made (lane_of old) filling × Lose filling (kept_of old) (kept_of new)
+      × AfterPublish content room pool filling (lane_of old) (lane_of new) key
+  Publishes key old new false = HaveNot key (kept_of old) × Stays old new
+
+  -- the same with a reference, which the lane keeps for its caller
+  abbrev pub Downgrades : ℕ → Visit T → Visit T → Option Lent → Type 0
+  Downgrades key old new (Some lent) = (filling : FillingOf T) × Made (lane_of old) filling × Lose filling (kept_of old) (kept_of new)
+      × AfterDowngrade content room pool filling (lane_of old) (lane_of new) (record { key = key })
+      × (lent.key ≡ key) × (lent.lane ≡ (lane_of old).number)
+  Downgrades key old new None = HaveNot key (kept_of old) × Stays old new
+
+  -- a create and a publish of the object, for which that of the place came back; or no place was had, and it stays
+  abbrev pub Puts : T → T → LaneOf → LaneOf → Result ℕ CreateFault → Type 0
+  Puts object back old new (Ok key) = (middle : LaneOf) × (filling : FillingOf T)
+      × AfterCreate content room pool old middle (Ok filling)
+      × AfterPublish content room pool (record filling { object = object }) middle new key × (back ≡ filling.object)
+  Puts object back old new (Err fault) = AfterCreate content room pool old new (Err fault) × (back ≡ object)

@@ -1,0 +1,9 @@
+use Rattle.std.proofs.Common.{sym, subst}
+use Rattle.lanestore.specs.Fillings.{AreDistinct}
+use Rattle.lanestore.proofs.Counting.{distinct-push}
+use Rattle.lanestore.proofs.kept.Fillings.keep.Goals as goal
+
+pub invariant_of-self-clause-distinct : goal.invariant_of-self-clause-distinct
+invariant_of-self-clause-distinct g c =
+    subst AreDistinct (sym c.push_reserved.ensures.items)
+    (distinct-push c.args.self.now.list.items (record { filling = c.args.filling }) c.args.self.now.distinct c.requires.apart)
