@@ -5,7 +5,10 @@ use Rattle.std.proofs.lemmas.List.Sums.{sum_by-cons, sum_by_push, sum_by-swap_re
 use mathlib.Core.Logic.{dite}
 use native.Mathlib.Decide.{ℕ_discrete}
 use Rattle.lanestore.specs.declared.kept.Kept.{Kept}
-use Rattle.lanestore.specs.Fillings.{times, AreDistinct, HaveNot}
+use Rattle.std.specs.List.Sorted.{IsPermutation}
+use Rattle.std.proofs.lemmas.List.Sorted.{IsPermutation-swap_remove}
+use Rattle.shardpool.specs.Tokens.{FillingOf}
+use Rattle.lanestore.specs.Fillings.{times, AreDistinct, HaveNot, Lose}
 
 module _ {T : Type 0} where
   abbrev counts : ℕ → Kept T → ℕ
@@ -48,3 +51,14 @@ module _ {T : Type 0} where
       let key = one.filling.key in let sum = sum_by-swap_remove (counts key) kept index one low in let few = distinct key in
       let here = counts-one key (slice_index_or kept index one) (ap (λ (k : Kept T). k.filling.key) (sym is)) in
       have-not key (swap_remove kept index one) (omega (arith, sum, few, here))
+
+  -- the one that stood there is gone
+  pub lost : (kept rest : List (Kept T)) (index : ℕ) (taken : Kept T) (filling : FillingOf T) → index < length kept → AreDistinct kept → taken ≡ slice_index_or kept index taken
+      → rest ≡ swap_remove kept index taken → filling ≡ taken.filling → Lose filling kept rest
+  lost kept rest index taken filling low distinct value items is = (
+    taken,
+    sym is,
+    subst (λ (others : List (Kept T)). IsPermutation kept (taken ∷ others)) (sym items) (IsPermutation-swap_remove kept index taken low value),
+    subst (λ (others : List (Kept T)). HaveNot filling.key others) (sym items)
+        (subst (λ (f : FillingOf T). HaveNot f.key (swap_remove kept index taken)) (sym is) (none-taken kept index taken low distinct value)),
+  )

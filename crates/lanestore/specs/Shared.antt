@@ -9,9 +9,8 @@ use Rattle.shardpool.specs.Lanes.{Owns, Issued, refs}
 use Rattle.lanestore.specs.declared.kept.TheConstants.{MOST_FILLINGS}
 use Rattle.lanestore.specs.declared.refusal.Refusal.{Refusal}
 use Rattle.lanestore.specs.declared.refusal.Refusal.TheVariants.{Busy, References, Fillings, NoFilling}
-use Rattle.lanestore.specs.declared.visit.Visit.{Visit}
 use Rattle.lanestore.specs.Fillings.{HaveNot}
-use Rattle.lanestore.specs.Visits.{lane_of, kept_of, Stays}
+use Rattle.lanestore.specs.Visits.{KeeperOf}
 
 -- a lane of the pool, which had seen all that the caller was told, made this call; the caller's new note has all that the lane has then seen. The call
 -- speaks of what a place has, of which this is the lane
@@ -32,34 +31,34 @@ ByLane pool told note call = By (λ lane. lane) pool told note call
 abbrev pub ByLaneAt : ℕ → PoolOf → NoteOf → NoteOf → (LaneOf → LaneOf → Type 0) → Type 0
 ByLaneAt number pool told note call = ByLane pool told note (λ before after. (before.number ≡ number) × call before after)
 
--- a call of the lane with the fillings that it keeps
-abbrev pub ByVisit : (T : Type 0) → PoolOf → NoteOf → NoteOf → (Visit T → Visit T → Type 0) → Type 0
-ByVisit T pool told note call = By {S = Visit T} lane_of pool told note call
+-- a call of a lane with the fillings that it keeps
+abbrev pub ByAny : (T : Type 0) → PoolOf → NoteOf → NoteOf → (KeeperOf T → KeeperOf T → Type 0) → Type 0
+ByAny T pool told note call = By {S = KeeperOf T} (λ keeper. keeper.lane) pool told note call
 
 -- the same, by the lane that has the places of the key's shard
-abbrev pub ByKeeper : (T : Type 0) → ℕ → PoolOf → NoteOf → NoteOf → (Visit T → Visit T → Type 0) → Type 0
-ByKeeper T key pool told note call = ByVisit T pool told note (λ before after. ((lane_of before).number ≡ shard_of (place_of key))
+abbrev pub ByKeeper : (T : Type 0) → ℕ → PoolOf → NoteOf → NoteOf → (KeeperOf T → KeeperOf T → Type 0) → Type 0
+ByKeeper T key pool told note call = ByAny T pool told note (λ before after. (before.lane.number ≡ shard_of (place_of key))
     × call before after)
 
 -- no call was made, for this reason: all lanes that could serve it were had, and the note is as before; or this holds of the lane that would have served
 -- it, and the note has what the caller was told, and what that lane has seen
-abbrev pub Refuses : (T : Type 0) → PoolOf → NoteOf → (Refusal → Visit T → Type 0) → Refusal → NoteOf → Type 0
+abbrev pub Refuses : (T : Type 0) → PoolOf → NoteOf → (Refusal → KeeperOf T → Type 0) → Refusal → NoteOf → Type 0
 Refuses T pool told why Busy note = note ≡ told
-Refuses T pool told why References note = ByVisit T pool told note (λ before after. (after ≡ before) × why References before)
-Refuses T pool told why Fillings note = ByVisit T pool told note (λ before after. (after ≡ before) × why Fillings before)
-Refuses T pool told why NoFilling note = ByVisit T pool told note (λ before after. (after ≡ before) × why NoFilling before)
+Refuses T pool told why References note = ByAny T pool told note (λ before after. (after ≡ before) × why References before)
+Refuses T pool told why Fillings note = ByAny T pool told note (λ before after. (after ≡ before) × why Fillings before)
+Refuses T pool told why NoFilling note = ByAny T pool told note (λ before after. (after ≡ before) × why NoFilling before)
 
 -- the lane has as many references as it can
-abbrev pub HasMost : (T : Type 0) → Refusal → Visit T → Type 0
-HasMost T refusal visit = (refusal ≡ References) × (most_references ≤ refs (lane_of visit))
+abbrev pub HasMost : (T : Type 0) → Refusal → KeeperOf T → Type 0
+HasMost T refusal keeper = (refusal ≡ References) × (most_references ≤ refs keeper.lane)
 
 -- it keeps as many fillings as it can
-abbrev pub KeepsMost : (T : Type 0) → Refusal → Visit T → Type 0
-KeepsMost T refusal visit = (refusal ≡ Fillings) × (MOST_FILLINGS ≤ length (kept_of visit))
+abbrev pub KeepsMost : (T : Type 0) → Refusal → KeeperOf T → Type 0
+KeepsMost T refusal keeper = (refusal ≡ Fillings) × (MOST_FILLINGS ≤ length keeper.kept)
 
 -- it keeps no filling under this key, which is of its shard
-abbrev pub KeepsNone : (T : Type 0) → ℕ → Refusal → Visit T → Type 0
-KeepsNone T key refusal visit = (refusal ≡ NoFilling) × ((lane_of visit).number ≡ shard_of (place_of key)) × HaveNot key (kept_of visit)
+abbrev pub KeepsNone : (T : Type 0) → ℕ → Refusal → KeeperOf T → Type 0
+KeepsNone T key refusal keeper = (refusal ≡ NoFilling) × (keeper.lane.number ≡ shard_of (place_of key)) × HaveNot key keeper.kept
 
 -- the key's shard is none of the pool's, so that no lane keeps its filling; the note is as before
 abbrev pub IsOfNone : PoolOf → ℕ → NoteOf → Refusal → NoteOf → Type 0

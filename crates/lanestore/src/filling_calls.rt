@@ -14,8 +14,8 @@ impl<T: Clear + Drop> Store<T> {
     ghost use Rattle.shardpool.specs.Tokens.{FillingOf};
     ghost use Rattle.shardpool.specs.Lanes.{Issued};
     ghost use Rattle.lanestore.specs.Fillings.{Turn};
-    ghost use Rattle.lanestore.specs.Visits.{lane_of, kept_of, Creates, Publishes, Downgrades};
-    ghost use Rattle.lanestore.specs.Shared.{ByVisit, ByKeeper, Refuses, HasMost, KeepsMost, KeepsNone, IsOfNone};
+    ghost use Rattle.lanestore.specs.Visits.{Creates, Publishes, Downgrades};
+    ghost use Rattle.lanestore.specs.Shared.{ByAny, ByKeeper, Refuses, HasMost, KeepsMost, KeepsNone, IsOfNone};
 
     /// As `Pool::create`, by a lane that nobody has, from this number on. That lane, whose shard is the key's, keeps the
     /// filling until a call publishes it.
@@ -25,7 +25,7 @@ impl<T: Clear + Drop> Store<T> {
         told: Note<T>,
     ) -> Result<(Result<u64, CreateFault>, Note<T>), (Refusal, Note<T>)>
         requires { Issued self.now.pool told }
-        ensures ok { IfOk result (λ r. ByVisit T self.now.pool told r.1
+        ensures ok { IfOk result (λ r. ByAny T self.now.pool told r.1
             (λ before after. Creates T.content T.room self.now.pool before after r.0)) }
         ensures err { IfErr result (λ back. Refuses T self.now.pool told (KeepsMost T) back.0 back.1) }
     {
@@ -49,9 +49,9 @@ impl<T: Clear + Drop> Store<T> {
     ) -> Result<(A, Note<T>), (Refusal, Note<T>)>
         requires told { Issued self.now.pool told }
         requires may { F.IsAlwaysCallable change }
-        ensures ok { IfOk result (λ r. ByKeeper T key self.now.pool told r.1 (λ before after. (lane_of after ≡ lane_of before)
+        ensures ok { IfOk result (λ r. ByKeeper T key self.now.pool told r.1 (λ before after. (after.lane ≡ before.lane)
             × (filling : FillingOf T) × (object : T) × (filling.key ≡ key) × FnOnceReturnsAtMut F.FnOnce change filling.object r.0 object
-            × Turn filling (record filling { object = object }) (kept_of before) (kept_of after))) }
+            × Turn filling (record filling { object = object }) before.kept after.kept)) }
         ensures err { IfErr result (λ back. IsOfNone self.now.pool key told back.0 back.1
             ⊎ Refuses T self.now.pool told (KeepsNone T key) back.0 back.1) }
     {

@@ -3,7 +3,9 @@ ghost use Rattle.std.specs.Prelude.{◌≡◌, ◌<◌, ◌≤◌, [], length, s
 ghost use Rattle.std.specs.Vec.{vec_capacity};
 ghost use Rattle.lanestore.specs.declared.kept.Kept.{Kept as One};
 ghost use Rattle.lanestore.specs.declared.kept.TheConstants.{MOST_FILLINGS};
-ghost use Rattle.lanestore.specs.Fillings.{AreDistinct, HaveNot, Gain, Lose};
+ghost use Rattle.shardpool.specs.Tokens.{LaneOf};
+ghost use Rattle.shardpool.specs.Lanes.{Made};
+ghost use Rattle.lanestore.specs.Fillings.{AreMade, AreDistinct, HaveNot, Gain, Lose};
 
 use shardpool::Filling;
 use std::alloc::Global;
@@ -74,8 +76,10 @@ impl<T: Drop> Fillings<T> {
 
     /// Takes out the filling of a key. None where there is none.
     pub(crate) fn take(&mut self, key: u64) -> Option<Filling<T>>
-        ensures { MatchOption result (HaveNot key self.old.list.items × (self.new ≡ self.old)) (λ filling. (filling.key ≡ key)
+        ensures taken { MatchOption result (HaveNot key self.old.list.items × (self.new ≡ self.old)) (λ filling. (filling.key ≡ key)
             × Lose filling self.old.list.items self.new.list.items × (length self.new.list.items < MOST_FILLINGS)) }
+        ensures made { (lane : LaneOf) → AreMade lane self.old.list.items → AreMade lane self.new.list.items }
+        ensures own { IfSome result (λ filling. (lane : LaneOf) → AreMade lane self.old.list.items → Made lane filling) }
     {
         let index = self.find(key)?;
         Some(self.list.swap_remove(index).into_filling())
@@ -85,7 +89,8 @@ impl<T: Drop> Fillings<T> {
     pub(crate) fn keep(&mut self, filling: Filling<T>)
         requires room { length self.old.list.items < MOST_FILLINGS }
         requires apart { HaveNot filling.key self.old.list.items }
-        ensures { Gain filling self.old.list.items self.new.list.items }
+        ensures gains { Gain filling self.old.list.items self.new.list.items }
+        ensures made { (lane : LaneOf) → Made lane filling → AreMade lane self.old.list.items → AreMade lane self.new.list.items }
     {
         self.list.push_reserved(Kept { filling });
     }

@@ -22,7 +22,7 @@ impl<T: Clear + Drop> Visit<T> {
     ghost use Rattle.shardpool.specs.AfterCalls.{AfterReleaseKey, AfterClear};
     ghost use Rattle.lanestore.specs.declared.kept.TheConstants.{MOST_FILLINGS};
     ghost use Rattle.lanestore.specs.Fillings.{HaveNot, Turn};
-    ghost use Rattle.lanestore.specs.Visits.{lane_of, kept_of, Hears, Tells, Lends, Creates, Publishes, Downgrades, Puts};
+    ghost use Rattle.lanestore.specs.Visits.{lane_of, kept_of, keeper_of, Hears, Tells, Lends, Creates, Publishes, Downgrades, Puts};
 
     /// The number of the lane.
     pub fn number(&self) -> u32
@@ -121,7 +121,7 @@ impl<T: Clear + Drop> Visit<T> {
     pub fn create(&mut self, pool: &Pool<T>) -> Result<u64, CreateFault>
         requires owns { Owns pool.now (lane_of self.old) }
         requires room { length (kept_of self.old) < MOST_FILLINGS }
-        ensures { Creates T.content T.room pool.now self.old self.new result }
+        ensures { Creates T.content T.room pool.now (keeper_of self.old) (keeper_of self.new) result }
     {
         let filling = self.keeper.lane.create(pool)?;
         let key = filling.key();
@@ -148,7 +148,7 @@ impl<T: Clear + Drop> Visit<T> {
     /// As `Pool::publish`, of the filling that the lane keeps under a key: whether it keeps one.
     pub fn publish(&mut self, pool: &Pool<T>, key: u64) -> bool
         requires owns { Owns pool.now (lane_of self.old) }
-        ensures { Publishes T.content T.room pool.now key self.old self.new result }
+        ensures { Publishes T.content T.room pool.now key (keeper_of self.old) (keeper_of self.new) result }
     {
         let Some(filling) = self.keeper.fillings.take(key) else {
             return false;
@@ -162,7 +162,7 @@ impl<T: Clear + Drop> Visit<T> {
     pub fn downgrade(&mut self, pool: &Pool<T>, key: u64) -> Option<Lent>
         requires owns { Owns pool.now (lane_of self.old) }
         requires room { refs (lane_of self.old) < most_references }
-        ensures { Downgrades T.content T.room pool.now key self.old self.new result }
+        ensures { Downgrades T.content T.room pool.now key (keeper_of self.old) (keeper_of self.new) result }
     {
         let lane = self.number();
         let filling = self.keeper.fillings.take(key)?;

@@ -2,8 +2,8 @@
 use Rattle.std.proofs.Common.{◌∙◌}
 use Rattle.lanestore.proofs.visit.Visit.put.Goals as goal
 
-pub returns : goal.returns
-returns g c = (
+pub returns-clause-puts : goal.returns-clause-puts
+returns-clause-puts g c = (
   c.create.new.self,
   c.in_ok-filling.filling,
   rw (← c.deref_mut.ensures.value) c.in_ok-filling.ensures,
