@@ -31,11 +31,11 @@ returns-clause-made g c = λ lane made.
     let before = c.args.self.now in let kept = before.list.items in let removed = c.swap_remove.ensures in
     made-rest lane c.into_filling.result kept c.swap_remove.new.self.items
     (lost kept c.swap_remove.new.self.items c.in_ok-index.index c.swap_remove.result c.into_filling.result c.in_ok-index.ensures.some.0 before.distinct
-        removed.value removed.items c.into_filling.ensures) made
+    removed.value removed.items c.into_filling.ensures) made
 
 pub returns-clause-own : goal.returns-clause-own
 returns-clause-own g c = λ lane made.
     let before = c.args.self.now in let kept = before.list.items in let removed = c.swap_remove.ensures in
     made-one lane c.into_filling.result kept c.swap_remove.new.self.items
     (lost kept c.swap_remove.new.self.items c.in_ok-index.index c.swap_remove.result c.into_filling.result c.in_ok-index.ensures.some.0 before.distinct
-        removed.value removed.items c.into_filling.ensures) made
+    removed.value removed.items c.into_filling.ensures) made

@@ -4,7 +4,7 @@ use Rattle.lanestore.proofs.Making.{made-others}
 use Rattle.lanestore.proofs.visit.Visit.publish.Goals as goal
 
 pub invariant_of-deref_mut : goal.invariant_of-deref_mut
-invariant_of-deref_mut g c = record { made = c.take.ensures.made c.deref_mut.result.now.lane c.deref_mut.result.now.made; }
+invariant_of-deref_mut g c = record { made = c.take.ensures.made c.deref_mut.result.now.lane c.deref_mut.result.now.made }
 
 pub publish-requires-clause-made : goal.publish-requires-clause-made
 publish-requires-clause-made g c =

@@ -3,7 +3,7 @@ use Rattle.lanestore.proofs.Making.{made-with}
 use Rattle.lanestore.proofs.visit.Visit.write.Goals as goal
 
 pub invariant_of-deref_mut : goal.invariant_of-deref_mut
-invariant_of-deref_mut g c = record { made = c.take.ensures.made c.deref_mut.result.now.lane c.deref_mut.result.now.made; }
+invariant_of-deref_mut g c = record { made = c.take.ensures.made c.deref_mut.result.now.lane c.deref_mut.result.now.made }
 
 pub invariant_of-deref_mut-2 : goal.invariant_of-deref_mut-2
 invariant_of-deref_mut-2 g c = let was = c.deref_mut.result.now in record {
@@ -11,6 +11,3 @@ invariant_of-deref_mut-2 g c = let was = c.deref_mut.result.now in record {
       (rw c.deref_mut-2.ensures.value (made-with was.lane c.in_ok-filling.filling _ (c.in_ok-filling.ensures.own was.lane was.made)))
       c.deref_mut-2.result.now.made;
 }
-
-pub returns-clause-writes : goal.returns-clause-writes
-returns-clause-writes g c = ?
