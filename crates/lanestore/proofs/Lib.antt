@@ -1,3 +1,2 @@
-mod Calling
 mod Counting
 mod Making

@@ -1,8 +1,8 @@
 -- The lane of the key's shard made the call, or looked and did nothing.
-use Rattle.std.proofs.Common.{◌≤◌, refl, arith, inl, inr}
+use Rattle.std.proofs.Common.{◌≤◌, refl, arith, inl, inr, ap, ◌∙◌}
 use Rattle.steplaws.specs.Facts.{most_references}
 use Rattle.shardpool.specs.Lanes.{refs}
-use Rattle.lanestore.specs.Visits.{lane_of, keeper_of}
+use Rattle.lanestore.specs.Visits.{KeeperOf, lane_of, keeper_of}
 use Rattle.lanestore.proofs.store.Store.downgrade.Goals as goal
 
 pub returns-then-not-has_room-clause-err : goal.returns-then-not-has_room-clause-err
@@ -33,7 +33,7 @@ returns-in-None-clause-err g c = inr record {
   after = keeper_of c.in_ok-visit.visit;
   owns = c.in_ok-visit.ensures.lane.0;
   heard = c.in_ok-visit.ensures.heard;
-  calls = (refl, inr (refl, (c.in_ok-visit.ensures.lane.1, c.in-None.ensures.0)));
+  calls = (refl, inr (refl, c.in_ok-visit.ensures.lane.1, c.in-None.ensures.0));
   issued = c.leave-in-None.ensures.note;
-  tells = rw c.in-None.ensures.1 c.leave-in-None.ensures.seen;
+  tells = c.leave-in-None.ensures.seen ∙ ap (λ (keeper : KeeperOf g.row.T.Denot). keeper.lane.book.seen) c.in-None.ensures.1;
 }
