@@ -1,2 +1,3 @@
+pub mod Fillings
 pub mod Shared
 pub mod Visits

@@ -14,7 +14,7 @@ impl<T: Clear + Drop> Store<T> {
     ghost use Rattle.shardpool.specs.Lanes.{Issued, holds};
     ghost use Rattle.shardpool.specs.AfterCalls.{AfterReleaseKey, AfterClear};
     ghost use Rattle.lanestore.specs.Visits.{Lends, Puts};
-    ghost use Rattle.lanestore.specs.Shared.{ByLane, ByLaneAt, Refuses};
+    ghost use Rattle.lanestore.specs.Shared.{ByLane, ByLaneAt, Refuses, HasMost};
 
     /// As `Pool::get`, by a lane that nobody has, from this number on. That lane keeps the reference.
     pub fn get(
@@ -25,7 +25,7 @@ impl<T: Clear + Drop> Store<T> {
     ) -> Result<(Option<Lent>, Note<T>), (Refusal, Note<T>)>
         requires { Issued self.now.pool told }
         ensures ok { IfOk result (λ r. ByLane self.now.pool told r.1 (λ before after. Lends T self.now.pool key before after r.0)) }
-        ensures err { IfErr result (λ back. Refuses self.now.pool told back.0 back.1) }
+        ensures err { IfErr result (λ back. Refuses T self.now.pool told (HasMost T) back.0 back.1) }
     {
         let mut visit = match self.visit_any(from, told) {
             Ok(visit) => visit,

@@ -56,8 +56,8 @@ fn close_with<T: Clear + Drop>(
         × Contains lanes (lane_of visit)) }
 {
     let Store { pool, places } = store;
-    let Visit { lane } = visit;
-    let lanes = gathered(&pool, row, Box::into_inner(lane).into_lane(), places)?;
+    let Visit { keeper } = visit;
+    let lanes = gathered(&pool, row, Box::into_inner(keeper).into_lane(), places)?;
     close_lanes(pool, lanes)
 }
 
@@ -79,7 +79,7 @@ fn gathered<T: Clear + Drop>(
     for place in places {
         if let Some(spare) = place.into_inner() {
             lanes
-                .push(Box::into_inner(spare.into_lane()).into_lane())
+                .push(Box::into_inner(spare.into_keeper()).into_lane())
                 .ok()?;
         }
     }

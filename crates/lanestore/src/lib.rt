@@ -3,6 +3,9 @@
 
 mod calls;
 mod closing;
+mod filling_calls;
+mod keeper;
+mod kept;
 mod lent;
 mod place;
 mod refusal;
@@ -11,6 +14,7 @@ mod store;
 mod test_store;
 mod visit;
 
+pub use kept::MOST_FILLINGS;
 pub use lent::Lent;
 pub use refusal::Refusal;
 pub use store::Store;

@@ -5,47 +5,46 @@ ghost use Rattle.std.specs.Prelude.{◌≡◌, IfSome};
 ghost use Rattle.shardpool.specs.Lanes.{Owns};
 ghost use Rattle.lanestore.specs.Visits.{lane_of};
 
+use crate::keeper::Keeper;
 use crate::visit::Visit;
 use counted_slot::{Counted, FREE, Fits, MARKED, TAKEN};
-use poolhandle::CountingLane;
 use poolhandle::unboxed::Unboxed;
 use shardpool::Pool;
 use slotcell::Clear;
 use std::alloc::Global;
 
-/// A lane that no call has, as it lies in its place.
+/// A lane that no call has, with the fillings that it keeps, as it lies in its place.
 pub(crate) struct Spare<T: Clear> {
-    pub(crate) lane: Unboxed<CountingLane<T>, Global>,
+    pub(crate) keeper: Unboxed<Keeper<T>, Global>,
 }
 
 impl<T: Clear + Drop> Spare<T> {
-    pub(crate) fn new(lane: Box<CountingLane<T>>) -> Spare<T>
-        ensures { result.lane.object ≡ lane.value }
+    pub(crate) fn new(keeper: Box<Keeper<T>>) -> Spare<T>
+        ensures { result.keeper.object ≡ keeper.value }
     {
         Spare {
-            lane: Unboxed::from_box(lane),
+            keeper: Unboxed::from_box(keeper),
         }
     }
 
-    pub(crate) fn into_lane(self) -> Box<CountingLane<T>>
-        ensures { result.value ≡ self.lane.object }
+    pub(crate) fn into_keeper(self) -> Box<Keeper<T>>
+        ensures { result.value ≡ self.keeper.object }
     {
-        let Spare { lane } = self;
-        lane.into_box()
+        let Spare { keeper } = self;
+        keeper.into_box()
     }
 }
 
 impl<T: Clear + Drop> Drop for Spare<T> {
     fn drop(self) {
-        let Spare { lane } = self;
-        drop(lane.into_box());
+        drop(self.into_keeper());
     }
 }
 
 impl<T: Clear> Fits for Spare<T> {
     type Tag = Pool<T>;
 
-    ghost fits = { λ pool spare. Owns pool spare.lane.object };
+    ghost fits = { λ pool spare. Owns pool spare.keeper.object.lane };
 }
 
 /// Takes the lane out of its place. None where a call has it.
@@ -64,7 +63,7 @@ pub(crate) fn take<T: Clear + Drop>(
     }
     match claim.put(None, MARKED) {
         Some(spare) => Some(Visit {
-            lane: spare.into_lane(),
+            keeper: spare.into_keeper(),
         }),
         None => None,
     }
@@ -80,13 +79,13 @@ pub(crate) fn give<T: Clear + Drop>(
     requires lane { Owns pool.now (lane_of visit) }
 {
     let _ = pool;
-    let Visit { lane } = visit;
+    let Visit { keeper } = visit;
     let (found, claim) = place.turn(MARKED, TAKEN);
     if found != MARKED {
         // (Never: the place waits for this lane. The kit's cell doesn't tell it.)
         claim.done();
-        drop(lane);
+        drop(keeper);
         return;
     }
-    drop(claim.put(Some(Spare::new(lane)), FREE));
+    drop(claim.put(Some(Spare::new(keeper)), FREE));
 }

@@ -7,4 +7,8 @@ pub enum Refusal {
     Busy,
     /// The lane that would have served it has as many references as a lane can.
     References,
+    /// The lane that would have served it keeps as many fillings as a lane can.
+    Fillings,
+    /// No filling is kept under the key.
+    NoFilling,
 }

@@ -4,11 +4,12 @@ ghost use Rattle.shardpool.specs.Lanes.{Owns};
 ghost use Rattle.shardpool.specs.Opened.{AreFirstLanes};
 ghost use Rattle.lanestore.specs.Visits.{IsNew};
 
+use crate::keeper::Keeper;
 use crate::place::{Spare, give, take};
+use crate::refusal::Refusal;
 use crate::visit::Visit;
 use counted_slot::Counted;
-use keybits::Shape;
-use poolhandle::CountingLane;
+use keybits::{Shape, place_of, shard_of};
 use shardpool::{Lane, Note, OpenFault, Pool, open, open_wide};
 use slotcell::Clear;
 use std::alloc::Global;
@@ -23,13 +24,17 @@ pub struct Store<T: Clear> {
 }
 
 impl<T: Clear + Drop> Store<T> {
-    ghost use Rattle.std.specs.Prelude.{◌≡◌, ◌≤◌, ◌↔◌, ℕ, IfOk, IfErr, IfSome, IsErrOf};
+    ghost use Rattle.std.specs.Prelude.{◌≡◌, ◌≤◌, ◌↔◌, ◌⊎◌, ℕ, IfOk, IfErr, IfSome, IsErrOf};
     ghost use mathlib.Core.List.{IsPrefix};
     ghost use Rattle.keybits.specs.Shapes.{IsShape, IsNarrow};
     ghost use Rattle.keybits.specs.ShapeFaults.{IsFirstFault, IsFirstWideFault};
     ghost use Rattle.keybits.specs.declared.shape.ShapeFault.{ShapeFault as Fault};
     ghost use Rattle.shardpool.specs.declared.fault.OpenFault.TheVariants as faults;
     ghost use Rattle.shardpool.specs.Lanes.{Owns, Issued};
+    ghost use Rattle.keybits.specs.Keys.{place_of};
+    ghost use Rattle.keybits.specs.Places.{shard_of};
+    ghost use Rattle.lanestore.specs.declared.refusal.Refusal.TheVariants.{Busy};
+    ghost use Rattle.lanestore.specs.Shared.{IsOfNone};
     ghost use Rattle.lanestore.specs.Visits.{lane_of};
 
     /// Opens a pool of this shape, which is within the narrow limits, with all its lanes here.
@@ -131,10 +136,28 @@ impl<T: Clear + Drop> Store<T> {
         note
     }
 
+    /// Takes the lane of a key's shard, which keeps the fillings of its places, and tells it what the caller was told.
+    pub(crate) fn visit_of(&self, told: Note<T>, key: u64) -> Result<Visit<T>, (Refusal, Note<T>)>
+        requires { Issued self.now.pool told }
+        ensures lane { IfOk result (λ visit. Owns self.now.pool (lane_of visit)
+            × ((lane_of visit).number ≡ shard_of (place_of key))) }
+        ensures heard { IfOk result (λ visit. IsPrefix told.book.seen (lane_of visit).book.seen) }
+        ensures err { IfErr result (λ back. IsOfNone self.now.pool key told back.0 back.1 ⊎ ((back.0 ≡ Busy) × (back.1 ≡ told))) }
+    {
+        let number = shard_of(place_of(key));
+        if number >= self.pool.shape().lanes {
+            return Err((Refusal::NoFilling, told));
+        }
+        match self.visit(number, told) {
+            Ok(visit) => Ok(visit),
+            Err(told) => Err((Refusal::Busy, told)),
+        }
+    }
+
     fn give_back(&self, visit: Visit<T>)
         requires { Owns self.now.pool (lane_of visit) }
     {
-        visit.lane.lane().seen_law();
+        visit.keeper.lane.lane().seen_law();
         let at = visit.number() as usize;
         give(&self.places[at], &self.pool, visit);
     }
@@ -195,10 +218,8 @@ fn places_of<T: Clear + Drop>(
 {
     let mut places = Vec::with_capacity(alloc, lanes.len()).ok()?;
     for lane in lanes {
-        let counting = CountingLane::new(alloc, lane).ok()?;
-        let boxed = Box::new(alloc, counting).ok()?;
-        let spare = Spare::new(boxed);
-        let place = Counted::new(Some(spare), pool);
+        let keeper = Box::new(alloc, Keeper::new(alloc, lane)?).ok()?;
+        let place = Counted::new(Some(Spare::new(keeper)), pool);
         places.push(place).ok()?;
     }
     Some(places)

@@ -1,23 +1,49 @@
-// What no clause says: a lane that was given back is there again, a call is busy only where all lanes are had, and what
-// one thread puts another finds.
+// What no clause says: a lane that was given back is there again, a call is busy only where all lanes are had, no other
+// lane acts, what one thread puts another finds, and a filling waits with its lane.
 ghost use Rattle.std.specs.Prelude.{◌≡◌};
 ghost use Rattle.shardpool.specs.Lanes.{Issued};
 
-use crate::Store;
+use crate::{MOST_FILLINGS, Refusal, Store};
 use keybits::Shape;
-use shardpool::Note;
+use shardpool::{Census, Note};
 use slotcell::{ByteBuf, Clear};
 use std::alloc::Global;
+use std::process::Abort;
 use std::test::Fail;
 use std::thread;
 
+// Two lanes, each with places for more fillings than a lane keeps.
 const SHAPE: Shape = Shape {
     lanes: 2,
-    first_page: 2,
+    first_page: 32,
     pages: 2,
     last_generation: u32::MAX,
     tag: 0,
 };
+
+fn opened<R: Abort>(rt: &R, alloc: Global) -> Store<ByteBuf> {
+    let Ok(store) = Store::open_wide(alloc, SHAPE) else {
+        panic!(rt; "no store")
+    };
+    store
+}
+
+fn entered<R: Abort>(rt: &R, store: &Store<ByteBuf>) -> Note<ByteBuf>
+    ensures { Issued store.now.pool result }
+{
+    let Some(told) = store.enter(0) else {
+        panic!(rt; "all lanes are had")
+    };
+    told
+}
+
+fn closed<R: Abort>(rt: &R, alloc: Global, store: Store<ByteBuf>) -> Census {
+    let told = entered(rt, &store);
+    let Ok(census) = store.close(alloc, told) else {
+        panic!(rt; "a lane is missing")
+    };
+    census
+}
 
 // Whether all lanes are had.
 fn is_busy(store: &Store<ByteBuf>, told: Note<ByteBuf>) -> bool
@@ -64,7 +90,18 @@ fn put(store: &Store<ByteBuf>, alloc: Global, from: u32) -> Option<u64> {
     }
 }
 
-// Gets a key, looks at it, clears it, gives the reference back, and gets it once more.
+// Whether the lane of this number has a reference to the key, which it then gives back.
+fn gives_back(store: &Store<ByteBuf>, number: u32, key: u64) -> Option<bool> {
+    let told = store.enter(0)?;
+    let Ok(mut visit) = store.visit(number, told) else {
+        return None;
+    };
+    let had = visit.release(store.pool(), key);
+    store.leave(visit);
+    Some(had)
+}
+
+// Gets a key by lane 1, looks at it, clears it, gives the reference back, and gets it once more.
 fn take_word(store: &Store<ByteBuf>, key: u64, told: Note<ByteBuf>) -> Option<(bool, bool, bool)>
     requires { Issued store.now.pool told }
 {
@@ -100,11 +137,67 @@ fn take_word(store: &Store<ByteBuf>, key: u64, told: Note<ByteBuf>) -> Option<(b
     }
 }
 
+// Creates a filling by a lane that nobody has, from this number on. Answers its key, or why there is none.
+fn create(store: &Store<ByteBuf>, from: u32) -> Option<Result<u64, Refusal>> {
+    let told = store.enter(from)?;
+    match store.create(from, told) {
+        Ok((Ok(key), _told)) => Some(Ok(key)),
+        Ok((Err(_fault), _told)) => None,
+        Err((refusal, _told)) => Some(Err(refusal)),
+    }
+}
+
+// Appends to the filling of a key.
+fn write(store: &Store<ByteBuf>, key: u64) -> Option<Result<bool, Refusal>> {
+    let told = store.enter(0)?;
+    match store.write(told, key, |word: &mut ByteBuf| word.append(b"wo").is_ok()) {
+        Ok((written, _told)) => Some(Ok(written)),
+        Err((refusal, _told)) => Some(Err(refusal)),
+    }
+}
+
+// Publishes the filling of a key.
+fn publish(store: &Store<ByteBuf>, key: u64) -> Option<Result<(), Refusal>> {
+    let told = store.enter(0)?;
+    match store.publish(told, key) {
+        Ok(_told) => Some(Ok(())),
+        Err((refusal, _told)) => Some(Err(refusal)),
+    }
+}
+
+// Publishes the filling of a key with a reference, and reads it.
+fn downgrade(store: &Store<ByteBuf>, key: u64) -> Option<Result<bool, Refusal>> {
+    let told = store.enter(0)?;
+    let (lent, told) = match store.downgrade(told, key) {
+        Ok(lent) => lent,
+        Err((refusal, _told)) => return Some(Err(refusal)),
+    };
+    let shows = match store.read(
+        told,
+        &lent,
+        |word: &ByteBuf| word.as_slice() == b"wowo".as_slice(),
+    ) {
+        Ok((shows, _told)) => shows == Some(true),
+        Err(_told) => false,
+    };
+    lent.forget();
+    Some(Ok(shows))
+}
+
+// Publishes the filling of a key while another call has the first lane.
+fn publish_meanwhile(store: &Store<ByteBuf>, key: u64) -> Option<Result<(), Refusal>> {
+    let one = store.enter(0)?;
+    let Ok(first) = store.visit(0, one) else {
+        return None;
+    };
+    let published = publish(store, key);
+    store.leave(first);
+    published
+}
+
 #[test]
 fn each_lane_is_had_once_and_is_there_again(rt: HostRuntime) -> Result<(), Fail> {
-    let Ok(store) = Store::<ByteBuf>::open(rt.alloc(), SHAPE) else {
-        return Ok(());
-    };
+    let store = opened(&rt, rt.alloc());
     for _ in 0..3u32 {
         assert!(rt; have_both(&store) == Some((1, 0, true)));
     }
@@ -114,25 +207,78 @@ fn each_lane_is_had_once_and_is_there_again(rt: HostRuntime) -> Result<(), Fail>
 #[test]
 fn what_one_thread_puts_another_finds(rt: HostRuntime) -> Result<(), Fail> {
     let alloc = rt.alloc();
-    let Ok(store) = Store::<ByteBuf>::open_wide(alloc, SHAPE) else {
-        return Ok(());
-    };
+    let store = opened(&rt, alloc);
     let (one, two) = thread::join(&rt, || put(&store, alloc, 0), || put(&store, alloc, 1));
     let (Some(first), Some(second)) = (one, two) else {
-        return Ok(());
+        panic!(rt; "a put was refused")
     };
     for key in [first, second] {
-        let Some(told) = store.enter(0) else {
-            return Ok(());
-        };
+        let told = entered(&rt, &store);
         assert!(rt; take_word(&store, key, told) == Some((true, true, true)));
     }
-    let Some(told) = store.enter(0) else {
-        return Ok(());
+    let census = closed(&rt, alloc, store);
+    assert!(rt; census.present == 0 && census.filling == 0 && census.free == 64);
+    Ok(())
+}
+
+#[test]
+fn no_other_lane_acts(rt: HostRuntime) -> Result<(), Fail> {
+    let alloc = rt.alloc();
+    let store = opened(&rt, alloc);
+    let Some(key) = put(&store, alloc, 1) else {
+        panic!(rt; "a put was refused")
     };
-    let Ok(census) = store.close(alloc, told) else {
-        return Ok(());
+    let told = entered(&rt, &store);
+    let Ok((Some(lent), _told)) = store.get(1, told, key) else {
+        panic!(rt; "a get was refused")
     };
-    assert!(rt; census.present == 0 && census.filling == 0 && census.free == 4);
+    assert!(rt; lent.lane() == 1 && lent.key() == key);
+    lent.forget();
+    assert!(rt; gives_back(&store, 0, key) == Some(false));
+    assert!(rt; gives_back(&store, 1, key) == Some(true));
+    assert!(rt; gives_back(&store, 1, key) == Some(false));
+    let census = closed(&rt, alloc, store);
+    assert!(rt; census.present == 1 && census.filling == 0 && census.free == 31);
+    Ok(())
+}
+
+#[test]
+fn a_filling_waits_with_its_lane(rt: HostRuntime) -> Result<(), Fail> {
+    let alloc = rt.alloc();
+    let store = opened(&rt, alloc);
+    let (one, two) = thread::join(&rt, || create(&store, 0), || create(&store, 0));
+    let (Some(Ok(first)), Some(Ok(second))) = (one, two) else {
+        panic!(rt; "a create was refused")
+    };
+    assert!(rt; first != second);
+    assert!(rt; write(&store, first) == Some(Ok(true)));
+    assert!(rt; write(&store, second) == Some(Ok(true)));
+    assert!(rt; write(&store, first) == Some(Ok(true)));
+    assert!(rt; downgrade(&store, first) == Some(Ok(true)));
+    assert!(rt; publish(&store, second) == Some(Ok(())));
+    assert!(rt; publish(&store, second) == Some(Err(Refusal::NoFilling)));
+    assert!(rt; downgrade(&store, first) == Some(Err(Refusal::NoFilling)));
+    assert!(rt; write(&store, u64::MAX) == Some(Err(Refusal::NoFilling)));
+    let census = closed(&rt, alloc, store);
+    assert!(rt; census.present == 2 && census.filling == 0);
+    Ok(())
+}
+
+#[test]
+fn a_lane_keeps_so_many_fillings(rt: HostRuntime) -> Result<(), Fail> {
+    let alloc = rt.alloc();
+    let store = opened(&rt, alloc);
+    let Some(Ok(key)) = create(&store, 0) else {
+        panic!(rt; "a create was refused")
+    };
+    assert!(rt; publish_meanwhile(&store, key) == Some(Err(Refusal::Busy)));
+    for _ in 1..MOST_FILLINGS {
+        assert!(rt; matches!(create(&store, 0), Some(Ok(_))));
+    }
+    assert!(rt; create(&store, 0) == Some(Err(Refusal::Fillings)));
+    assert!(rt; publish(&store, key) == Some(Ok(())));
+    assert!(rt; matches!(create(&store, 0), Some(Ok(_))));
+    let census = closed(&rt, alloc, store);
+    assert!(rt; census.present == 1 && census.filling == 64);
     Ok(())
 }

@@ -1,37 +1,48 @@
 //! A lane of a store that a caller has for a while.
+use crate::keeper::Keeper;
 use crate::lent::Lent;
-use poolhandle::CountingLane;
-use shardpool::{CreateFault, Filling, MOST_REFERENCES, Note, Pool};
+use shardpool::{CreateFault, MOST_REFERENCES, Note, Pool};
 use slotcell::Clear;
 use std::mem;
 
-/// A lane that nobody else has meanwhile. It must be given back, by `Store::leave`.
+/// A lane that nobody else has meanwhile, with the fillings that it keeps for its callers. It must be given back, by
+/// `Store::leave`.
 pub struct Visit<T: Clear> {
-    pub(crate) lane: Box<CountingLane<T>>,
+    pub(crate) keeper: Box<Keeper<T>>,
 }
 
 impl<T: Clear + Drop> Visit<T> {
-    ghost use Rattle.std.specs.Prelude.{◌≡◌, ◌≤◌, ◌<◌, ◌↔◌, ℕ, None, IsTrue, IsNone, IfSome, MatchOption, option_map};
-    ghost use Rattle.std.specs.Fn.{FnOnceReturnsAt};
+    ghost use Rattle.std.specs.Prelude.{◌≡◌, ◌≤◌, ◌<◌, ◌↔◌, ℕ, None, length, IsTrue, IsNone, IfSome, MatchOption, option_map};
+    ghost use Rattle.std.specs.Fn.{FnOnceReturnsAt, FnOnceReturnsAtMut};
     ghost use mathlib.Core.List.{IsPrefix};
     ghost use Rattle.seqpool.specs.Histories.{PublishedAt};
     ghost use Rattle.steplaws.specs.Facts.{most_references};
-    ghost use Rattle.shardpool.specs.Lanes.{Owns, Issued, Made, holds, refs};
-    ghost use Rattle.shardpool.specs.AfterCalls.{KeepsFillings, AfterCreate, AfterPublish, AfterDowngrade, AfterReleaseKey, AfterClear};
-    ghost use Rattle.lanestore.specs.Visits.{lane_of, Hears, Tells, Lends, Puts};
+    ghost use Rattle.shardpool.specs.Tokens.{FillingOf};
+    ghost use Rattle.shardpool.specs.Lanes.{Owns, Issued, holds, refs};
+    ghost use Rattle.shardpool.specs.AfterCalls.{AfterReleaseKey, AfterClear};
+    ghost use Rattle.lanestore.specs.declared.kept.TheConstants.{MOST_FILLINGS};
+    ghost use Rattle.lanestore.specs.Fillings.{HaveNot, Turn};
+    ghost use Rattle.lanestore.specs.Visits.{lane_of, kept_of, keeper_of, Hears, Tells, Lends, Creates, Publishes, Downgrades, Puts};
 
     /// The number of the lane.
     pub fn number(&self) -> u32
         ensures { result ≡ (lane_of self.now).number }
     {
-        self.lane.lane().number()
+        self.keeper.lane.lane().number()
     }
 
     /// Whether the lane can have a reference more.
     pub fn has_room(&self) -> bool
         ensures { IsTrue result ↔ (refs (lane_of self.now) < most_references) }
     {
-        self.lane.lane().refs() < MOST_REFERENCES
+        self.keeper.lane.lane().refs() < MOST_REFERENCES
+    }
+
+    /// Whether the lane can keep a filling more.
+    pub fn can_create(&self) -> bool
+        ensures { IsTrue result ↔ (length (kept_of self.now) < MOST_FILLINGS) }
+    {
+        self.keeper.fillings.has_room()
     }
 
     /// Takes in a note, as `Pool::hear`: of another thread, beside the one with which the lane was taken.
@@ -39,28 +50,29 @@ impl<T: Clear + Drop> Visit<T> {
         requires owns { Owns pool.now (lane_of self.old) }
         requires note { Issued pool.now note }
         ensures hears { Hears pool.now note (lane_of self.old) (lane_of self.new) }
-        ensures fillings { KeepsFillings T (lane_of self.old) (lane_of self.new) }
+        ensures kept { kept_of self.new ≡ kept_of self.old }
     {
-        self.lane.hear(pool, note);
+        self.keeper.lane.hear(pool, note);
     }
 
     /// A note of all that the lane has seen, as `Pool::tell`: for another thread, while the lane is had.
     pub fn tell(&mut self, pool: &Pool<T>) -> Note<T>
         requires { Owns pool.now (lane_of self.old) }
         ensures tells { Tells pool.now (lane_of self.old) (lane_of self.new) result }
-        ensures fillings { KeepsFillings T (lane_of self.old) (lane_of self.new) }
+        ensures kept { kept_of self.new ≡ kept_of self.old }
     {
-        self.lane.tell(pool)
+        self.keeper.lane.tell(pool)
     }
 
     /// A reference to the object of a key, where it is published and not cleared: the lane keeps it for the caller.
     pub fn get(&mut self, pool: &Pool<T>, key: u64) -> Option<Lent>
         requires owns { Owns pool.now (lane_of self.old) }
         requires room { refs (lane_of self.old) < most_references }
-        ensures { Lends T pool.now key (lane_of self.old) (lane_of self.new) result }
+        ensures lends { Lends T pool.now key (lane_of self.old) (lane_of self.new) result }
+        ensures kept { kept_of self.new ≡ kept_of self.old }
     {
         let lane = self.number();
-        self.lane.get_at(pool, key)?;
+        self.keeper.lane.get_at(pool, key)?;
         Some(Lent { lane, key })
     }
 
@@ -69,8 +81,8 @@ impl<T: Clear + Drop> Visit<T> {
         ensures some { IfSome result (λ object. (j : ℕ) × PublishedAt (lane_of self.now).book.seen j key (T.content object.now)) }
         ensures none { IsNone result → holds (lane_of self.now) key ≡ 0 }
     {
-        let reference = self.lane.reference(key)?;
-        let object = self.lane.lane().read(&reference);
+        let reference = self.keeper.lane.reference(key)?;
+        let object = self.keeper.lane.lane().read(&reference);
         reference.forget();
         Some(object)
     }
@@ -89,51 +101,74 @@ impl<T: Clear + Drop> Visit<T> {
     /// Gives back a reference to a key: whether the lane had one.
     pub fn release(&mut self, pool: &Pool<T>, key: u64) -> bool
         requires owns { Owns pool.now (lane_of self.old) }
-        ensures { AfterReleaseKey T pool.now key (lane_of self.old) (lane_of self.new) result }
+        ensures releases { AfterReleaseKey T pool.now key (lane_of self.old) (lane_of self.new) result }
+        ensures kept { kept_of self.new ≡ kept_of self.old }
     {
-        self.lane.release_key(pool, key)
+        self.keeper.lane.release_key(pool, key)
     }
 
     /// As `Pool::clear`.
     pub fn clear(&mut self, pool: &Pool<T>, key: u64) -> bool
         requires owns { Owns pool.now (lane_of self.old) }
-        ensures { AfterClear T pool.now key (lane_of self.old) (lane_of self.new) result }
+        ensures clears { AfterClear T pool.now key (lane_of self.old) (lane_of self.new) result }
+        ensures kept { kept_of self.new ≡ kept_of self.old }
     {
-        self.lane.clear(pool, key)
+        self.keeper.lane.clear(pool, key)
     }
 
-    /// As `Pool::create`: a place to be filled, and published by `publish` or `downgrade` while the lane is had. A filling
-    /// that is kept beyond can't be published any more.
-    pub fn create(&mut self, pool: &Pool<T>) -> Result<Filling<T>, CreateFault>
+    /// As `Pool::create`: a place to be filled, which the lane keeps for its callers under the key that is answered. A
+    /// later visit of this lane, by any thread, may write and publish it.
+    pub fn create(&mut self, pool: &Pool<T>) -> Result<u64, CreateFault>
         requires owns { Owns pool.now (lane_of self.old) }
-        ensures { AfterCreate T.content T.room pool.now (lane_of self.old) (lane_of self.new) result }
+        requires room { length (kept_of self.old) < MOST_FILLINGS }
+        ensures { Creates T.content T.room pool.now (keeper_of self.old) (keeper_of self.new) result }
     {
-        self.lane.create(pool)
+        let filling = self.keeper.lane.create(pool)?;
+        let key = filling.key();
+        self.keeper.fillings.keep(filling);
+        Ok(key)
     }
 
-    /// As `Pool::publish`.
-    pub fn publish(&mut self, pool: &Pool<T>, filling: Filling<T>) -> u64
-        requires owns { Owns pool.now (lane_of self.old) }
-        requires made { Made (lane_of self.old) filling }
-        ensures { AfterPublish T.content T.room pool.now filling (lane_of self.old) (lane_of self.new) result }
+    /// Calls `change` on the object of the filling that the lane keeps under a key. None, and `change` isn't called, where
+    /// it keeps none.
+    pub fn write<A, F: FnOnce(&mut T) -> A>(&mut self, key: u64, change: F) -> Option<A>
+        requires { F.IsAlwaysCallable change }
+        ensures lane { lane_of self.new ≡ lane_of self.old }
+        ensures writes { MatchOption result (HaveNot key (kept_of self.old) × (kept_of self.new ≡ kept_of self.old))
+            (λ answer. (filling : FillingOf T) × (object : T) × (filling.key ≡ key)
+            × FnOnceReturnsAtMut F.FnOnce change filling.object answer object
+            × Turn filling (record filling { object = object }) (kept_of self.old) (kept_of self.new)) }
     {
-        self.lane.publish(pool, filling)
+        let mut filling = self.keeper.fillings.take(key)?;
+        let answer = change(filling.value_mut());
+        self.keeper.fillings.keep(filling);
+        Some(answer)
     }
 
-    /// As `Pool::downgrade`: the lane keeps the reference for the caller.
-    pub fn downgrade(&mut self, pool: &Pool<T>, filling: Filling<T>) -> Lent
+    /// As `Pool::publish`, of the filling that the lane keeps under a key: whether it keeps one.
+    pub fn publish(&mut self, pool: &Pool<T>, key: u64) -> bool
         requires owns { Owns pool.now (lane_of self.old) }
-        requires made { Made (lane_of self.old) filling }
+        ensures { Publishes T.content T.room pool.now key (keeper_of self.old) (keeper_of self.new) result }
+    {
+        let Some(filling) = self.keeper.fillings.take(key) else {
+            return false;
+        };
+        self.keeper.lane.publish(pool, filling);
+        true
+    }
+
+    /// As `Pool::downgrade`, of the filling that the lane keeps under a key: the lane keeps the reference for the caller.
+    /// None where it keeps no such filling.
+    pub fn downgrade(&mut self, pool: &Pool<T>, key: u64) -> Option<Lent>
+        requires owns { Owns pool.now (lane_of self.old) }
         requires room { refs (lane_of self.old) < most_references }
-        ensures downgrades { AfterDowngrade T.content T.room pool.now filling (lane_of self.old) (lane_of self.new)
-            (record { key = result.key }) }
-        ensures lane { result.lane ≡ (lane_of self.old).number }
+        ensures { Downgrades T.content T.room pool.now key (keeper_of self.old) (keeper_of self.new) result }
     {
         let lane = self.number();
-        let reference = self.lane.downgrade(pool, filling);
-        let key = reference.key();
+        let filling = self.keeper.fillings.take(key)?;
+        let reference = self.keeper.lane.downgrade(pool, filling);
         reference.forget();
-        Lent { lane, key }
+        Some(Lent { lane, key })
     }
 
     /// Publishes this object in a place of its own: a create and a publish. Answers the key. The object of the place,
@@ -144,10 +179,11 @@ impl<T: Clear + Drop> Visit<T> {
     /// As `Pool::create`. Nothing is published then, and the object stays.
     pub fn put(&mut self, pool: &Pool<T>, object: &mut T) -> Result<u64, CreateFault>
         requires owns { Owns pool.now (lane_of self.old) }
-        ensures { Puts T.content T.room pool.now object.old object.new (lane_of self.old) (lane_of self.new) result }
+        ensures puts { Puts T.content T.room pool.now object.old object.new (lane_of self.old) (lane_of self.new) result }
+        ensures kept { kept_of self.new ≡ kept_of self.old }
     {
-        let mut filling = self.lane.create(pool)?;
+        let mut filling = self.keeper.lane.create(pool)?;
         mem::swap(filling.value_mut(), object);
-        Ok(self.lane.publish(pool, filling))
+        Ok(self.keeper.lane.publish(pool, filling))
     }
 }

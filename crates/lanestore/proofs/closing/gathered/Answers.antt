@@ -25,10 +25,10 @@ loop-place-preserved-in-Continue-branch-2 g c =
     let tags = subst (All IsTag) c.in-Some.ensures.steps.0 c.loop-place.invariant.0 in
     let tag = All-head IsTag c.in-Some.place rest tags in
     let lanes = c.loop-place.lanes.items in
-    let added = c.into_inner-in-Some-into_inner.result in
+    let added = c.into_inner-in-Some-into_inner.result.lane in
     let items : c.push-in-Some-into_inner.new.self.items ≡ lanes ++ added ∷ [] = search rules in
-    let given : Owns c.in-Some.place c.in-Some-into_inner.spare.lane.object = search rules in
-    let is : added ≡ c.in-Some-into_inner.spare.lane.object = search rules in
+    let given : Owns c.in-Some.place c.in-Some-into_inner.spare.keeper.object.lane = search rules in
+    let is : added ≡ c.in-Some-into_inner.spare.keeper.object.lane = search rules in
     let own = subst (λ (pool : PoolOf). Owns pool added) tag (subst (Owns c.in-Some.place) (sym is) given) in (
       All-tail IsTag c.in-Some.place rest tags,
       subst (λ (all : List LaneOf). Contains all c.args.lane) (sym items) (Contains-append_left lanes (added ∷ []) c.args.lane c.loop-place.invariant.1),

@@ -12,7 +12,7 @@ new-place-requires g c =
     let New = λ (lane : LaneOf). IsNew c.args.pool.now lane in
     let rest = into_iter_items c.next.new.self in
     let left = subst (All New) c.in-Some.ensures.steps.0 c.loop-lane.invariant.0 in
-    let is : c.new-spare.result.lane.object ≡ c.in-Some.lane = search rules in
+    let is : c.new-in-loop-lane-2.result.keeper.object.lane ≡ c.in-Some.lane = search rules in
     subst (λ (lane : LaneOf). Owns c.args.pool.now lane) (sym is) (All-head New c.in-Some.lane rest left).0
 
 pub loop-lane-preserved : goal.loop-lane-preserved

@@ -1,5 +1,5 @@
 -- The lanes of a pool that was opened are its own, and have no reference.
-use Rattle.std.proofs.Common.{◌≡◌, All, ap, slice_index_or}
+use Rattle.std.proofs.Common.{ap, slice_index_or}
 use Rattle.std.proofs.lemmas.Option.{slice_get-get_or}
 use Rattle.poolsteps.specs.declared.view.View.{View}
 use Rattle.poolsteps.specs.Views.{the_lane}

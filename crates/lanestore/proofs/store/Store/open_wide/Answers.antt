@@ -1,5 +1,5 @@
 -- The first fault of the shape is the one that the check answers.
-use Rattle.std.proofs.Common.{◌≡◌, ◌∙◌}
+use Rattle.std.proofs.Common.{◌∙◌}
 use Rattle.std.proofs.lemmas.Result.{err_from_is_err_and}
 use Rattle.lanestore.proofs.store.Store.open_wide.Goals as goal
 
