@@ -2,28 +2,12 @@
 //! place what became of it.
 mod common;
 
-use common::limit;
+use common::{limit, Draws};
 use pardz::{Census, CreateError, Filling, Key, Lane, Pool, Ref, Shape};
 use std::collections::HashMap;
 
 /// Without optimization the widest pool takes long to open.
 const LANES: u32 = if cfg!(debug_assertions) { 4 } else { 64 };
-
-/// Marsaglia's xorshift.
-struct Draws(u64);
-
-impl Draws {
-    fn below(&mut self, limit: usize) -> usize {
-        self.0 ^= self.0 << 13;
-        self.0 ^= self.0 >> 7;
-        self.0 ^= self.0 << 17;
-        (self.0 >> 11) as usize % limit
-    }
-
-    fn of<T: Copy>(&mut self, some: &[T]) -> T {
-        some[self.below(some.len())]
-    }
-}
 
 /// Where an object lives, as its key says.
 #[derive(Clone, Copy, Debug, PartialEq, Eq, Hash)]

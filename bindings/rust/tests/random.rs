@@ -1,19 +1,10 @@
 //! Drawn calls, beside a model.
+mod common;
+
+use common::Draws;
 use pardz::{Buffer, CreateError, Filling, Key, Lane, Pool, Ref, Shape};
 use std::collections::HashMap;
 use std::io::Write;
-
-/// Marsaglia's xorshift.
-struct Draws(u64);
-
-impl Draws {
-    fn below(&mut self, limit: usize) -> usize {
-        self.0 ^= self.0 << 13;
-        self.0 ^= self.0 >> 7;
-        self.0 ^= self.0 << 17;
-        (self.0 >> 11) as usize % limit
-    }
-}
 
 /// A filling is what a vector is that is filled in the same ways.
 #[test]

@@ -11,6 +11,22 @@ use std::sync::{Condvar, Mutex, MutexGuard, PoisonError, TryLockError};
 use std::time::Duration;
 use std::{env, thread};
 
+/// Marsaglia's xorshift.
+pub struct Draws(pub u64);
+
+impl Draws {
+    pub fn below(&mut self, limit: usize) -> usize {
+        self.0 ^= self.0 << 13;
+        self.0 ^= self.0 >> 7;
+        self.0 ^= self.0 << 17;
+        (self.0 >> 11) as usize % limit
+    }
+
+    pub fn of<T: Copy>(&mut self, some: &[T]) -> T {
+        some[self.below(some.len())]
+    }
+}
+
 /// No test takes as long, also where others load the machine: 60 seconds, or as many as `PARDZ_TEST_SECONDS` says, which an emulator
 /// may want.
 fn longest() -> Duration {
