@@ -78,6 +78,24 @@ fn f(alloc: Global, words: Vec<u32>, mut other: Slots<u32>) -> Option<Slots<u32>
     Some(row)
 }}
 """
+SHAPE = """struct Shape {{
+    n: u32,
+}}
+
+impl Shape {{
+    fn at(&self, n: u32) -> u32 {{
+        n
+    }}
+
+    fn grow(&mut self, n: u32) -> u32 {{
+        n
+    }}
+}}
+
+fn f(shape: &{2}Shape, n: u32) {{
+    let _ = shape.{0}({1});
+}}
+"""
 ALIKE = """struct Cell {{
     n: u32,
 }}
@@ -218,6 +236,9 @@ KEPT = [
     ),
     ("a count by a path", ALIKE.format("crate::count()", "0"), "for _ in 0..crate::erased::keybits::count() {"),
     ("a value by a call", ALIKE.format("count", "next(hand)"), "row.push_reserved(Cell { n: next(hand) });"),
+    ("a number of numbers", SHAPE.format("at", "n as u32 + 1", ""), "n: u32) {}"),
+    ("a number of a call", SHAPE.format("at", "next(n)", ""), "let _ = shape.at(next(n));"),
+    ("a number of what may write", SHAPE.format("grow", "n", "mut "), "let _ = shape.grow(n);"),
     ("a look by its definition", LOOK.format("own_word", "APART * (1 + lane as usize)"), "fn look(&self, hand: &mut Hand, lane: u32) {}"),
     ("a type behind // in a string", 'fn f(alloc: Global) -> u32 {\n    g("//", Vec::new(alloc))\n}\n', "use crate::shim::Vec;"),
 ]
@@ -254,6 +275,12 @@ WRONG = [
     ),
     ("a row that is filled otherwise", ROW.format("row", "spare"), BECOMES.format("spare")),
     ("a load at a word named as a look's", LOOK.format("look_word", "lane as usize"), LOOK_WRITTEN),
+    ("a number of a call", SHAPE.format("at", "next(n)", ""), SHAPE.format("at", "next(n)", "").replace("let _ = shape.at(next(n));", "")),
+    (
+        "a number of what may write",
+        SHAPE.format("grow", "n", "mut "),
+        SHAPE.format("grow", "n", "mut ").replace("let _ = shape.grow(n);", ""),
+    ),
     ("a value by a call", ALIKE.format("count", "next(hand)"), ALIKE_WRITTEN.format("count", "next(hand)")),
 ]
 

@@ -3,6 +3,7 @@
 - Rows of values that are alike may come zeroed from the allocator (`alike`); the compiler looks whether the value has gaps.
 - A vector whose values are copied into a row or into a table, and which nobody uses any more, becomes it (`reserved_row`, `new_table`).
 - A look whose answer nobody takes goes (`look`): a load of a word that no step changes.
+- A number that nobody takes goes (`number`): what a shape answers.
 - Words on inlining are added (`inline`).
 
 Each is bound to one form of the source, by what its names are defined as. Nearly such a form is refused, or stays as it is.
@@ -39,6 +40,9 @@ ROW = (
 # steps change, in the same file: behind those of all lanes.
 LOOK_WORD = r"(?P<lane>\w+) : u32 -- (?P<apart>\w+) \* \( 1 \+ (?P=lane) as usize \)"
 LIVES_START = "const LIVES_START : usize = {} * ( 1 + MOST_LANES as usize ) ;"
+# A statement that asks a shape for a number, which nobody takes; and the parameters of a function that can't but answer.
+NUMBER = r"let _ = (?P<shape>\w+) \. (?P<name>\w+) \( (?:[\w+*] ?)+\) ;"
+NUMBERS_ALONE = r"& self(?: , \w+ : (?:u8|u16|u32|u64|usize))*"
 
 
 class Shorter:
@@ -53,6 +57,8 @@ class Shorter:
             return self.reserved_row(source, i)
         if self.is_of_kit(source, i, "atomic_table", "Table") and behind == "::":
             return self.new_table(source, i)
+        if text == "let" and behind == "_":
+            return self.number(source, i)
         return text == "self" and source.at(i - 1) in (";", "{", "}") and self.look(source, i)
 
     def is_of_kit(self, source, i, home, name):
@@ -143,6 +149,35 @@ class Shorter:
         found = re.fullmatch(LOOK_WORD, source.head_and_body(item))
         start = found and LIVES_START.format(found.group("apart"))
         return bool(found) and any(start in source.words_at(i.start, i.end - i.start) for i in source.items if i.kind == "const")
+
+    def number(self, source, i):
+        """`let _ = SHAPE.METHOD(NUMBERS);`: proofs alone ask for the number. Whether it is one, and goes."""
+        s = source
+        end = Parser(source).until(i, (";",)) + 1
+        asked = re.fullmatch(NUMBER, s.words_at(i, end - i))
+        if not asked or not self.is_shape(source, i, asked.group("shape")) or not self.answers_alone(asked.group("name")):
+            return False
+        self.counts["number that nobody takes"] += 1
+        s.drop_lines(i, end)
+        return True
+
+    def is_shape(self, source, i, name):
+        """Whether a name at i is a parameter of the function around, a shape that is read."""
+        around = [item for item in self.all_items(source.items) if item.kind == "fn" and item.start <= i < item.end]
+        parts = [source.words_at(a, b - a) for item in around for a, b in source.split(*item.parameters)]
+        return f"{name} : & Shape" in parts and source.scope.get("Shape") == ("keybits", "Shape")
+
+    def answers_alone(self, name):
+        """Whether a shape's function of this name takes numbers, and answers one; as the shape has numbers alone, it does nothing else."""
+        source, shape = self.definition(("keybits", "Shape"))
+        if source is None or any(source.at(b - 2) not in NUMBERS for _, _, b, ghost in shape.fields if not ghost):
+            return False
+        impls = [item for item in source.items if item.kind == "impl" and item.name == "Shape" and not item.trait]
+        for item in (part for impl in impls for part in impl.items):
+            if item.kind == "fn" and item.name == name:
+                head, answer = ((a, b - a) for a, b in (item.parameters, item.answer or (0, 0)))
+                return bool(re.fullmatch(NUMBERS_ALONE, source.words_at(*head))) and source.words_at(*answer) in NUMBERS
+        return False
 
     def reserved_row(self, source, i):
         """`reserve(&alloc, VALUES.as_slice())` asks for a row in which the next statement puts the values one by one, and then their vector

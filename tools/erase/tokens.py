@@ -30,6 +30,9 @@ FILLS = (
     "fn write_all < T : Drop > ( row : & mut Slots < T > , mut words : Vec < T > )",
     "{ while let Some ( word ) = words . pop ( ) { row . put ( words . len ( ) , word ) ; } }",
 )
+# What a shape answers to numbers, and a statement that asks for such.
+ANSWERS = re.compile(r"fn (\w+) \( & self(?: , \w+ : (?:u32|usize))+ \) -> (?:u32|usize) ")
+ASKED = re.compile(r"let _ = shape \. (\w+) \( [\w +*]+ \) ;")
 LOOKS = ("WORDS_APART * ( 1 + lane as usize ) }", "const LIVES_START : usize = WORDS_APART * ( 1 + MOST_LANES as usize ) ;")
 
 
@@ -98,7 +101,7 @@ def source_path(path, crate):
 class Walk:
     """One file beside its source."""
 
-    def __init__(self, name, crate, source, output, gone, looks):
+    def __init__(self, name, crate, source, output, gone, looks, answers):
         self.name, self.crate = name, crate
         looked_at(name, source)
         self.told, self.s = imports_of(tokens_of(source), crate)
@@ -117,7 +120,7 @@ class Walk:
         bounds = zip(self.s, self.s[1:], self.s[2:])
         self.parameters = {name for name, colon, bound in bounds if colon == ":" and self.gone.get(bound) == "trait"}
         self.text = " ".join(self.s)
-        self.looks = looks
+        self.looks, self.answers = looks, answers
         self.left, self.rewritten = collections.Counter(), collections.Counter()
         self.swaps = {}
 
@@ -205,6 +208,11 @@ class Walk:
             end = self.angles(i + 8)
             if self.starts(end, "( hand , look_word ( lane ) ) ;") and (self.crate, self.told.get("look_word")) in self.looks:
                 return end + 9, "look whose answer nobody takes"
+        if self.starts(i, "let _ = shape .") and self.told.get("Shape", "crate").startswith(("keybits", "crate")):
+            end = s.index(";", i) + 1
+            asked = ASKED.fullmatch(" ".join(s[i:end]))
+            if asked and asked.group(1) in self.answers:
+                return end, "number that nobody takes"
         if self.starts(i, "write_all ( & mut row , words ) ;") and self.fills(i):
             return i + 9, "vector that becomes a row"
         if self.starts(i + 1, "( ) ;") and self.gone.get(word) == "law" and s[i - 1] in (";", "{", "}"):
@@ -437,8 +445,10 @@ def compare(sources, outputs):
     gone = gone_names(sources, outputs)
     texts = {key: " ".join(tokens_of(text)) for key, text in sources.items()}
     looks = [(crate, "crate::" + module) for (crate, module), text in texts.items() if all(part in text for part in LOOKS)]
+    shapes = [text for (crate, _), text in texts.items() if crate == "keybits" and "struct Shape {" in text]
+    answers = {m.group(1) for text in shapes for m in ANSWERS.finditer(text)}
     for (crate, module), text in sorted(outputs.items()):
-        walk = Walk(f"{crate}/{module}", crate, sources[crate, module], text, gone, looks)
+        walk = Walk(f"{crate}/{module}", crate, sources[crate, module], text, gone, looks, answers)
         walk.run()
         left += walk.left
         rewritten += walk.rewritten

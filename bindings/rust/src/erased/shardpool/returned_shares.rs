@@ -47,8 +47,6 @@ fn give_shard<T>(
     let start = shard_start(shape, shard);
     let wide = slot_row(shape);
     for index in 0..places {
-        // (Which place it is, is asked for the proof alone: a division for each would take longer than all else.)
-        let _ = shape.place_at(shard as usize * places + index);
         let row = take_row(rows, start + index);
         give_row(number as usize * wide + (start + index), row, slots);
     }
