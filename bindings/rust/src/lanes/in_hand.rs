@@ -1,7 +1,9 @@
 //! Lanes in hand, and what they give: all of it borrows them, so that they have the lane alone.
 use super::give_back::give_back;
 use super::own::{too_many, Own};
-use super::seat::{Near, Post};
+use super::room::Room;
+use super::seat::{Near, Post, Seat};
+use super::segment::Segment;
 use super::token::{Begun, By, Held, InHand, Spend, Spent};
 use super::who::Number;
 use crate::clear::Clear;
@@ -9,6 +11,7 @@ use crate::errors::CreateError;
 use crate::key::Key;
 use crate::object::Block;
 use crate::pool::Pool;
+use std::cell::Cell;
 use std::marker::PhantomData;
 use std::mem::ManuallyDrop;
 use std::ptr::NonNull;
@@ -16,7 +19,9 @@ use std::sync::Arc;
 
 /// A lane in hand. It comes home when it is dropped.
 pub(crate) struct Hand<'p, T: Clear> {
-    at: Near<'p, T>,
+    room: NonNull<Room<T>>,
+    /// The seat where it had a place last.
+    last: Cell<NonNull<Seat<T>>>,
     /// (Taken out by the drop alone.)
     number: ManuallyDrop<Number>,
     /// Keeps the pool open, where the lane doesn't borrow it.
@@ -44,12 +49,10 @@ impl<'p, T: Clear> Hand<'p, T> {
     /// The pool is there as long as the hand.
     unsafe fn of<'l>(pool: &Pool<T>, share: Option<Arc<Pool<T>>>) -> Option<Hand<'l, T>> {
         let number = pool.room.take()?;
-        // SAFETY: the caller's.
-        let post = unsafe { pool.room.first().post(number.get()).keep() };
-        let segment = NonNull::from(post.segment());
+        let post = pool.room.last_post(number.get());
         Some(Hand {
-            // SAFETY: it is its segment.
-            at: unsafe { Near::new(post, segment) },
+            room: NonNull::from(&*pool.room),
+            last: Cell::new(post.pointer()),
             number: ManuallyDrop::new(number),
             _share: share,
             of: PhantomData,
@@ -57,9 +60,25 @@ impl<'p, T: Clear> Hand<'p, T> {
     }
 
     #[inline(always)]
-    fn own(&self) -> Own<'_, T, Near<'_, T>> {
+    fn room(&self) -> &Room<T> {
+        // SAFETY: the pool is there as long as the hand.
+        unsafe { self.room.as_ref() }
+    }
+
+    /// The lane, where it had a place last.
+    #[inline(always)]
+    fn own(&self) -> Own<'_, T> {
+        // SAFETY: a segment is there as long as its pool.
+        let post = unsafe { Post::at(self.last.get()) };
         // SAFETY: who has the number has the lane alone; the hand is borrowed, and on one thread.
-        unsafe { Own::of(self.at) }
+        unsafe { Own::of(post) }
+    }
+
+    /// The lane in a segment of the pool.
+    #[inline(always)]
+    fn own_within<'s>(&'s self, segment: &'s Segment<T>) -> Own<'s, T, Near<'s, T>> {
+        // SAFETY: as above, in each segment.
+        unsafe { Own::of(segment.near(self.number())) }
     }
 
     pub(crate) fn number(&self) -> u32 {
@@ -68,8 +87,7 @@ impl<'p, T: Clear> Hand<'p, T> {
 
     /// How many references it has in all segments.
     pub(crate) fn references(&self) -> u32 {
-        let room = self.own();
-        let posts = room.room().posts_of(self.number());
+        let posts = self.room().posts_of(self.number());
         // SAFETY: as of `own`, in each segment.
         posts.map(|post| unsafe { post.turn() }.references()).sum()
     }
@@ -79,26 +97,58 @@ impl<'p, T: Clear> Hand<'p, T> {
     where
         T: Default,
     {
-        Ok(Spent::new(self.own().create(create_apart_in_any)?))
+        let create_apart = |own, block| self.create_apart(own, block);
+        Ok(Spent::new(self.own().create(create_apart)?))
     }
 
-    #[inline(always)]
-    pub(crate) fn get(&self, key: Key) -> Option<Spent<Held<'_, T, InHand<T>>>> {
-        let own = self.own();
-        match own.get_here(key) {
-            Some(held) => Some(Spent::new(held)),
-            None => {
-                let mut held = own.get_elsewhere::<InHand<T>>(key)?;
-                // (Here, where the compiler sees that it is so of no other.)
-                held.way.is_elsewhere = true;
-                Some(Spent::new(held))
+    /// A create where the lane's own list has no place.
+    #[cold]
+    #[inline(never)]
+    fn create_apart<'s>(
+        &'s self,
+        own: Own<'s, T>,
+        block: Block<T>,
+    ) -> Result<Begun<'s, T, InHand<T>>, CreateError>
+    where
+        T: Default,
+    {
+        match own.create_apart(block) {
+            Err(CreateError::Full) if self.room().grows() => self.create_further(own),
+            created => created,
+        }
+    }
+
+    /// A create in any segment. Where the lane is full in all, a further one is opened.
+    fn create_further<'s>(&'s self, own: Own<'s, T>) -> Result<Begun<'s, T, InHand<T>>, CreateError>
+    where
+        T: Default,
+    {
+        loop {
+            let count = self.room().count();
+            match own.create_in_any() {
+                Err(CreateError::Full) => self.room().grow(count)?,
+                created => return created.inspect(|begun| self.last.set(begun.post().pointer())),
             }
         }
     }
 
     #[inline(always)]
+    pub(crate) fn get(&self, key: Key) -> Option<Spent<Held<'_, T, InHand<T>>>> {
+        let segment = self.room().segment_with(key)?;
+        let held = self.own_within(segment).get(key)?;
+        Some(Spent::new(held))
+    }
+
+    #[inline(always)]
     pub(crate) fn clear(&self, key: Key) -> bool {
-        self.own().clear(key)
+        let Some(segment) = self.room().segment_with(key) else {
+            return false;
+        };
+        let own = self.own_within(segment);
+        if key.shard() == self.number() {
+            self.last.set(own.post().pointer());
+        }
+        own.clear(key)
     }
 }
 
@@ -106,43 +156,7 @@ impl<T: Clear> Drop for Hand<'_, T> {
     fn drop(&mut self) {
         // SAFETY: taken out once.
         let number = unsafe { ManuallyDrop::take(&mut self.number) };
-        self.own().room().come_home(number);
-    }
-}
-
-/// A create where the lane's own list has no place: in any segment.
-#[cold]
-#[inline(never)]
-fn create_apart_in_any<'s, T: Clear + Default>(
-    own: Own<'s, T, Near<'s, T>>,
-    block: Block<T>,
-) -> Result<Begun<'s, T, InHand<T>>, CreateError> {
-    if own.room().is_elsewhere(own.post().number()) {
-        own.put_away(block);
-        return create_further(own);
-    }
-    match own.create_apart(block) {
-        Err(CreateError::Full) => create_further(own),
-        created => created,
-    }
-}
-
-/// A create of the lane's shards in all segments, which opens a further one where all are full.
-#[cold]
-#[inline(never)]
-fn create_further<'s, T: Clear + Default>(
-    own: Own<'s, T, Near<'s, T>>,
-) -> Result<Begun<'s, T, InHand<T>>, CreateError> {
-    if !own.room().grows() {
-        return Err(CreateError::Full);
-    }
-    loop {
-        let count = own.room().count();
-        let created = own.create_in_any();
-        match created {
-            Err(CreateError::Full) => own.room().grow(count)?,
-            created => return created,
-        }
+        self.room().come_home(number);
     }
 }
 
@@ -212,18 +226,13 @@ impl<'l, T: Clear> Held<'l, T, InHand<T>> {
     pub(crate) fn try_clone(&self) -> Option<Spent<Held<'l, T, InHand<T>>>> {
         // SAFETY: a hand gave it, and is borrowed.
         let own = unsafe { Own::of(self.post()) };
-        let mut held = own.get_here::<InHand<T>>(self.key())?;
-        held.way = self.way;
-        Some(Spent::new(held))
+        own.get(self.key()).map(Spent::new)
     }
 }
 
 impl<T: Clear> Spend for Held<'_, T, InHand<T>> {
     #[inline(always)]
     fn spend(self) {
-        if self.way.is_elsewhere {
-            return release_elsewhere(self.post(), self.into_words());
-        }
         // SAFETY: it is its segment.
         let near = unsafe { Near::new(self.post(), self.way.segment) };
         // SAFETY: a hand gave it, and is borrowed.
@@ -231,13 +240,4 @@ impl<T: Clear> Spend for Held<'_, T, InHand<T>> {
         // SAFETY: it is of its own lane.
         unsafe { own.release(self) };
     }
-}
-
-/// Gives back a reference of another segment than the one that was asked.
-#[inline(never)]
-fn release_elsewhere<T: Clear>(post: Post<'_, T>, words: (NonNull<T>, Key, u64)) {
-    // SAFETY: they are those of a reference, which is spent here.
-    let held = unsafe { Held::from_words(post, words, InHand::of(post.segment())) };
-    // SAFETY: a hand gave it, and is borrowed; it is of its own lane.
-    unsafe { Own::of(post).release(held) };
 }

@@ -4,6 +4,7 @@ use super::give_back::give_back;
 use super::own::{too_many, Own};
 use super::room::Room;
 use super::seat::Post;
+use super::segment::Segment;
 use super::threads;
 use super::token::{Begun, Held, OfThread, Spend, Spent};
 use super::who::Caller;
@@ -11,7 +12,7 @@ use crate::clear::Clear;
 use crate::errors::CreateError;
 use crate::key::Key;
 use crate::object::Block;
-use std::ptr::NonNull;
+use std::ptr::{self, NonNull};
 
 /// Which way a thread calls for what a call of the pool gave it.
 enum Way<'s, T: Clear> {
@@ -46,11 +47,22 @@ impl<T: Clear> Room<T> {
     where
         T: Default,
     {
-        let begun = match self.caller() {
-            Caller::Own(own) => own.create(|own, block| self.create_apart(own, block))?,
-            Caller::Sharing => self.create_by_sharing()?,
+        let begun = match self.known() {
+            Some(own) => own.create(|own, block| self.create_apart(own, block)),
+            None => self.create_by_caller(),
         };
-        Ok(Spent::new(begun))
+        begun.map(Spent::new)
+    }
+
+    #[inline(never)]
+    fn create_by_caller(&self) -> Result<Begun<'_, T, OfThread>, CreateError>
+    where
+        T: Default,
+    {
+        match self.caller() {
+            Caller::Own(own) => own.create(|own, block| self.create_apart(own, block)),
+            Caller::Sharing => self.create_by_sharing(),
+        }
     }
 
     /// A create where the thread's lane has no place on its own list.
@@ -115,46 +127,83 @@ impl<T: Clear> Room<T> {
 
     #[inline(always)]
     pub(crate) fn get(&self, key: Key) -> Option<Spent<Held<'_, T, OfThread>>> {
-        let held = match self.caller() {
-            Caller::Own(own) => match own.get_here(key) {
-                Some(held) => Some(held),
-                None => own.get_elsewhere(key),
-            },
-            Caller::Sharing => self.get_by_shared(key),
+        let held = match self.known() {
+            Some(own) => self.get_by_own(own, key),
+            None => self.get_by_caller(key),
         };
         held.map(Spent::new)
     }
 
-    /// A get by a shared lane.
+    #[inline(always)]
+    fn get_by_own<'s>(&'s self, own: Own<'s, T>, key: Key) -> Option<Held<'s, T, OfThread>> {
+        let segment = self.segment_with(key)?;
+        // SAFETY: it is of this pool.
+        unsafe { own.within(segment) }.get(key)
+    }
+
     #[inline(never)]
-    fn get_by_shared(&self, key: Key) -> Option<Held<'_, T, OfThread>> {
-        let segment = self.segment_of(key).filter(|segment| !segment.lacks(key))?;
-        self.by_shared(|number| segment.post(number).shared_get(key, |_| ()))
+    fn get_by_caller(&self, key: Key) -> Option<Held<'_, T, OfThread>> {
+        let segment = self.segment_with(key)?;
+        match self.caller() {
+            Caller::Own(own) => self.get_by_own(own, key),
+            Caller::Sharing => {
+                self.by_shared(|number| segment.post(number).shared_get(key, |_| ()))
+            }
+        }
     }
 
     #[inline(always)]
     pub(crate) fn clear(&self, key: Key) -> bool {
-        match self.caller() {
-            Caller::Own(own) if key.shard() == own.post().number() && !own.lacks(key) => {
-                own.clear_here(key)
-            }
-            Caller::Own(own) => self.clear_elsewhere(own, key),
-            Caller::Sharing => self.clear_by_shared(key),
+        match self.known() {
+            Some(own) => self.clear_by_own(own, key),
+            None => self.clear_by_caller(key),
         }
     }
 
-    /// A clear of a key of another lane, or of another segment than the thread's lane had its last place in. Where nobody has the lock of
-    /// a shared lane, that clears its own key, so that its next create finds the place at hand.
-    #[inline(never)]
-    fn clear_elsewhere(&self, own: Own<'_, T>, key: Key) -> bool {
-        let segment = self.segment_of(key).filter(|segment| !segment.lacks(key));
-        let Some(segment) = segment else {
+    #[inline(always)]
+    fn clear_by_own(&self, own: Own<'_, T>, key: Key) -> bool {
+        let Some(segment) = self.segment_with(key) else {
             return false;
         };
-        let (number, shard) = (own.post().number(), key.shard());
-        let post = segment.post(number);
-        // SAFETY: who has a lane has it in each segment.
-        let own = unsafe { Own::of(post) };
+        if key.shard() != own.post().number() {
+            return self.clear_of_other(segment, own, key);
+        }
+        if !ptr::eq(own.post().segment(), segment) {
+            return self.clear_elsewhere(segment, own, key);
+        }
+        // SAFETY: it is its segment.
+        unsafe { own.beside(segment) }.clear(key)
+    }
+
+    /// A clear of the thread's own lane in another segment than it had a place last. (Apart, so that nothing leads back to the call's own
+    /// path.)
+    #[inline(never)]
+    fn clear_elsewhere<'s>(&'s self, segment: &'s Segment<T>, own: Own<'s, T>, key: Key) -> bool {
+        // SAFETY: it is of this pool.
+        let own = unsafe { own.within(segment) };
+        // SAFETY: the thread keeps the lane of this seat.
+        unsafe { self.had_place(own.post()) };
+        own.clear(key)
+    }
+
+    #[inline(never)]
+    fn clear_by_caller(&self, key: Key) -> bool {
+        let Some(segment) = self.segment_with(key) else {
+            return false;
+        };
+        match self.caller() {
+            Caller::Own(own) => self.clear_by_own(own, key),
+            Caller::Sharing => self.by_shared(|number| segment.post(number).shared_clear(key)),
+        }
+    }
+
+    /// A clear of a key of another lane. Where nobody has the lock of a shared lane, that clears its own key, so that its next create finds
+    /// the place at hand.
+    #[inline(never)]
+    fn clear_of_other<'s>(&'s self, segment: &'s Segment<T>, own: Own<'s, T>, key: Key) -> bool {
+        let shard = key.shard();
+        // SAFETY: it is of this pool.
+        let own = unsafe { own.within(segment) };
         if self.lanes.is_shared(shard) {
             if let Some((cleared, taken)) = segment.post(shard).try_shared_clear(key) {
                 self.frees_place(key);
@@ -165,22 +214,7 @@ impl<T: Clear> Room<T> {
                 return cleared;
             }
         }
-        let cleared = own.clear_here(key);
-        if shard == number {
-            // SAFETY: the thread keeps the lane of this seat.
-            unsafe { self.had_place(post) };
-        }
-        cleared
-    }
-
-    /// A clear by a shared lane.
-    #[inline(never)]
-    fn clear_by_shared(&self, key: Key) -> bool {
-        let segment = self.segment_of(key).filter(|segment| !segment.lacks(key));
-        let Some(segment) = segment else {
-            return false;
-        };
-        self.by_shared(|number| segment.post(number).shared_clear(key))
+        own.clear(key)
     }
 }
 
@@ -268,7 +302,7 @@ impl<'p, T: Clear> Held<'p, T, OfThread> {
     /// One reference more, by a get of the key.
     pub(crate) fn try_clone(&self) -> Option<Spent<Held<'p, T, OfThread>>> {
         let held = match self.way() {
-            Way::Own(own) => own.get_here(self.key()),
+            Way::Own(own) => own.get(self.key()),
             // SAFETY: no thread has such a lane alone.
             Way::Shared(post) | Way::Left(post) => unsafe { post.locked_get(self.key()) },
         };

@@ -1,6 +1,7 @@
 //! Calls of a lane that the thread has alone: without a lock.
 use super::room::Room;
-use super::seat::{Post, Stands};
+use super::seat::{Near, Post, Stands};
+use super::segment::Segment;
 use super::token::{Begun, By, Held};
 use super::turn::{with_page, Short, TooMany, Turn};
 use crate::clear::Clear;
@@ -10,7 +11,7 @@ use crate::object::{self, Block};
 use std::marker::PhantomData;
 use std::mem;
 use std::panic::{self, AssertUnwindSafe};
-use std::ptr;
+use std::ptr::NonNull;
 use std::thread;
 
 /// The thread has the lane of this number alone, in each segment of the pool.
@@ -181,23 +182,31 @@ impl<'s, T: Clear, P: Stands<'s, T>> Own<'s, T, P> {
         with_page(block, |block, ready| self.turn().create_apart(block, ready))
     }
 
-    /// The lane in the segment of which a key tells, where that is another one.
-    fn elsewhere(self, key: Key) -> Option<Own<'s, T>> {
-        let segment = self.room().segment_of(key)?;
-        if ptr::eq(segment, self.at.segment()) {
-            return None;
-        }
-        let post = segment.post(self.post().number());
-        // SAFETY: a segment is there as long as the others; who has a lane has it in each.
-        Some(unsafe { Own::of(post.keep()) })
+    /// The same, with its segment beside it.
+    ///
+    /// # Safety
+    ///
+    /// It is that.
+    #[inline(always)]
+    pub(super) unsafe fn beside(self, segment: &'s Segment<T>) -> Own<'s, T, Near<'s, T>> {
+        // SAFETY: the thread has the lane alone. The rest is the caller's.
+        unsafe { Own::of(Near::new(self.post(), NonNull::from(segment))) }
+    }
+
+    /// The lane in another segment.
+    ///
+    /// # Safety
+    ///
+    /// It is one of the same pool.
+    #[inline(always)]
+    pub(super) unsafe fn within(self, segment: &'s Segment<T>) -> Own<'s, T, Near<'s, T>> {
+        // SAFETY: who has a lane has it in each segment.
+        unsafe { Own::of(segment.near(self.post().number())) }
     }
 
     /// A get of this segment.
     #[inline(always)]
-    pub(super) fn get_here<W: By<T>>(self, key: Key) -> Option<Held<'s, T, W>> {
-        if self.lacks(key) {
-            return None;
-        }
+    pub(super) fn get<W: By<T>>(self, key: Key) -> Option<Held<'s, T, W>> {
         match self.turn().get(key) {
             Ok(Some(held)) => Some(held),
             Ok(None) => {
@@ -208,46 +217,12 @@ impl<'s, T: Clear, P: Stands<'s, T>> Own<'s, T, P> {
         }
     }
 
-    /// A get that missed in this segment.
-    #[inline(never)]
-    pub(super) fn get_elsewhere<W: By<T>>(self, key: Key) -> Option<Held<'s, T, W>> {
-        self.elsewhere(key)?.get_here(key)
-    }
-
-    /// Whether this segment lacks a key, as [`Segment::lacks`](super::segment::Segment::lacks).
-    #[inline(always)]
-    pub(super) fn lacks(&self, key: Key) -> bool {
-        self.at.segment().lacks(key)
-    }
-
-    /// A clear.
-    #[inline(always)]
-    pub(super) fn clear(self, key: Key) -> bool {
-        if self.lacks(key) {
-            return self.clear_elsewhere(key);
-        }
-        self.clear_here(key)
-    }
-
     /// A clear of this segment.
     #[inline(always)]
-    pub(super) fn clear_here(self, key: Key) -> bool {
+    pub(super) fn clear(self, key: Key) -> bool {
         let cleared = self.turn().clear(key);
         self.finish();
         cleared
-    }
-
-    /// A clear of a key that this segment lacks.
-    #[cold]
-    #[inline(never)]
-    fn clear_elsewhere(self, key: Key) -> bool {
-        let Some(there) = self.elsewhere(key).filter(|own| !own.lacks(key)) else {
-            return false;
-        };
-        if key.shard() == self.post().number() {
-            self.room().frees_place(key);
-        }
-        there.clear_here(key)
     }
 
     /// A create of the lane's shards in all segments.

@@ -181,6 +181,12 @@ impl<T: Clear> Room<T> {
         self.segments[usize::from(tag_of(u64::from(key)))].get()
     }
 
+    /// The same, unless a load tells that the key is gone.
+    #[inline(always)]
+    pub(super) fn segment_with(&self, key: Key) -> Option<&Segment<T>> {
+        self.segment_of(key).filter(|segment| !segment.lacks(key))
+    }
+
     /// Opens a further segment, unless there are other than so many by now. Where another thread opens one, it waits a while for that:
     /// no longer, as that may run code of the program's allocator.
     pub(super) fn grow(&self, count: usize) -> Result<(), CreateError> {
@@ -280,11 +286,6 @@ impl<T: Clear> Room<T> {
         let index = usize::from(tag_of(key.into())).saturating_sub(self.tag);
         creates.last.store(index, Ordering::Relaxed);
         creates.passed.store(0, Ordering::Relaxed);
-    }
-
-    /// Whether a lane had its last place in another segment than the first.
-    pub(super) fn is_elsewhere(&self, number: u32) -> bool {
-        self.creates[number as usize].last.load(Ordering::Relaxed) != 0
     }
 
     /// Whether this create passes a lane by, since that was found full a while ago.

@@ -1,6 +1,6 @@
 //! A segment: a proved pool with its lanes.
 use super::room::Room;
-use super::seat::{Post, Seat};
+use super::seat::{Near, Post, Seat};
 use super::turn::Call;
 use super::who::first_bits;
 use super::{ProvedLane, ProvedPool};
@@ -109,6 +109,13 @@ impl<T: Clear> Segment<T> {
         debug_assert!(!self.room.load(Ordering::Relaxed).is_null());
         // SAFETY: a segment is settled in front of all that has it, and is borrowed.
         unsafe { Post::at(NonNull::from(self.seat(number))) }
+    }
+
+    /// The same, with the segment beside it.
+    #[inline(always)]
+    pub(super) fn near(&self, number: u32) -> Near<'_, T> {
+        // SAFETY: it is its segment.
+        unsafe { Near::new(self.post(number), NonNull::from(self)) }
     }
 
     pub(super) fn lanes(&self) -> u32 {

@@ -16,11 +16,8 @@ pub(crate) trait By<T: Clear>: Copy {
 
 /// By a lane in hand, which is borrowed: without a lock.
 pub(crate) struct InHand<T: Clear> {
-    /// (Here, so that a loop which borrows the hand reads it once.)
+    /// (Here, so that it is read once.)
     pub(super) segment: NonNull<Segment<T>>,
-    /// Whether it is of another segment than the one that was asked. (Known where a reference is dropped, if that is in sight of the
-    /// get.)
-    pub(super) is_elsewhere: bool,
 }
 
 /// By a call of the pool: without a lock as long as the thread has the lane, else with it.
@@ -45,7 +42,6 @@ impl<T: Clear> By<T> for InHand<T> {
     fn of(segment: &Segment<T>) -> InHand<T> {
         InHand {
             segment: NonNull::from(segment),
-            is_elsewhere: false,
         }
     }
 }

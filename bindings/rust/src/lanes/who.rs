@@ -125,21 +125,19 @@ pub(super) enum Caller<'s, T: Clear> {
 }
 
 impl<T: Clear> Room<T> {
-    /// Which way the thread calls the pool. Its first call finds it a lane.
+    /// The thread's lane, where it had a place last; if that is known.
     #[inline(always)]
-    pub(super) fn caller(&self) -> Caller<'_, T> {
-        let Some(seat) = threads::last(self.id()) else {
-            return self.find_caller();
-        };
+    pub(super) fn known(&self) -> Option<Own<'_, T>> {
+        let seat = threads::last(self.id())?;
         // SAFETY: `set_last` was told that the thread keeps the lane of this seat, of the pool of this number, which is borrowed. Where
         // the thread has left it, it isn't found here any more.
         let post = unsafe { Post::at(seat.cast()) };
         // SAFETY: as above.
-        Caller::Own(unsafe { Own::of(post) })
+        Some(unsafe { Own::of(post) })
     }
 
-    #[inline(never)]
-    fn find_caller(&self) -> Caller<'_, T> {
+    /// Which way the thread calls the pool, whose lane isn't known. Its first call finds it one.
+    pub(super) fn caller(&self) -> Caller<'_, T> {
         if threads::shares(self.id()) && self.lanes.none_is_home() {
             return Caller::Sharing;
         }
