@@ -1,9 +1,8 @@
 //! Lanes in hand, and what they give: all of it borrows them, so that they have the lane alone.
 use super::give_back::give_back;
 use super::own::{too_many, Own};
-use super::room::Room;
-use super::seat::{Near, Post, Seat};
-use super::segment::Segment;
+use super::seat::{Near, Post, Stands};
+use super::segment::Sight;
 use super::token::{Begun, By, Held, InHand, Spend, Spent};
 use super::who::Number;
 use crate::clear::Clear;
@@ -11,7 +10,6 @@ use crate::errors::CreateError;
 use crate::key::Key;
 use crate::object::Block;
 use crate::pool::Pool;
-use std::cell::Cell;
 use std::marker::PhantomData;
 use std::mem::ManuallyDrop;
 use std::ptr::NonNull;
@@ -19,9 +17,7 @@ use std::sync::Arc;
 
 /// A lane in hand. It comes home when it is dropped.
 pub(crate) struct Hand<'p, T: Clear> {
-    room: NonNull<Room<T>>,
-    /// The seat where it had a place last.
-    last: Cell<NonNull<Seat<T>>>,
+    at: Near<'p, T>,
     /// (Taken out by the drop alone.)
     number: ManuallyDrop<Number>,
     /// Keeps the pool open, where the lane doesn't borrow it.
@@ -49,10 +45,12 @@ impl<'p, T: Clear> Hand<'p, T> {
     /// The pool is there as long as the hand.
     unsafe fn of<'l>(pool: &Pool<T>, share: Option<Arc<Pool<T>>>) -> Option<Hand<'l, T>> {
         let number = pool.room.take()?;
-        let post = pool.room.last_post(number.get());
+        // SAFETY: the caller's.
+        let post = unsafe { pool.room.first().post(number.get()).keep() };
+        let segment = NonNull::from(post.segment());
         Some(Hand {
-            room: NonNull::from(&*pool.room),
-            last: Cell::new(post.pointer()),
+            // SAFETY: it is its segment.
+            at: unsafe { Near::new(post, segment) },
             number: ManuallyDrop::new(number),
             _share: share,
             of: PhantomData,
@@ -60,25 +58,9 @@ impl<'p, T: Clear> Hand<'p, T> {
     }
 
     #[inline(always)]
-    fn room(&self) -> &Room<T> {
-        // SAFETY: the pool is there as long as the hand.
-        unsafe { self.room.as_ref() }
-    }
-
-    /// The lane, where it had a place last.
-    #[inline(always)]
-    fn own(&self) -> Own<'_, T> {
-        // SAFETY: a segment is there as long as its pool.
-        let post = unsafe { Post::at(self.last.get()) };
+    fn own(&self) -> Own<'_, T, Near<'_, T>> {
         // SAFETY: who has the number has the lane alone; the hand is borrowed, and on one thread.
-        unsafe { Own::of(post) }
-    }
-
-    /// The lane in a segment of the pool.
-    #[inline(always)]
-    fn own_within<'s>(&'s self, segment: &'s Segment<T>) -> Own<'s, T, Near<'s, T>> {
-        // SAFETY: as above, in each segment.
-        unsafe { Own::of(segment.near(self.number())) }
+        unsafe { Own::of(self.at) }
     }
 
     pub(crate) fn number(&self) -> u32 {
@@ -87,7 +69,8 @@ impl<'p, T: Clear> Hand<'p, T> {
 
     /// How many references it has in all segments.
     pub(crate) fn references(&self) -> u32 {
-        let posts = self.room().posts_of(self.number());
+        let room = self.own();
+        let posts = room.room().posts_of(self.number());
         // SAFETY: as of `own`, in each segment.
         posts.map(|post| unsafe { post.turn() }.references()).sum()
     }
@@ -97,58 +80,57 @@ impl<'p, T: Clear> Hand<'p, T> {
     where
         T: Default,
     {
-        let create_apart = |own, block| self.create_apart(own, block);
-        Ok(Spent::new(self.own().create(create_apart)?))
-    }
-
-    /// A create where the lane's own list has no place.
-    #[cold]
-    #[inline(never)]
-    fn create_apart<'s>(
-        &'s self,
-        own: Own<'s, T>,
-        block: Block<T>,
-    ) -> Result<Begun<'s, T, InHand<T>>, CreateError>
-    where
-        T: Default,
-    {
-        match own.create_apart(block) {
-            Err(CreateError::Full) if self.room().grows() => self.create_further(own),
-            created => created,
-        }
-    }
-
-    /// A create in any segment. Where the lane is full in all, a further one is opened.
-    fn create_further<'s>(&'s self, own: Own<'s, T>) -> Result<Begun<'s, T, InHand<T>>, CreateError>
-    where
-        T: Default,
-    {
-        loop {
-            let count = self.room().count();
-            match own.create_in_any() {
-                Err(CreateError::Full) => self.room().grow(count)?,
-                created => return created.inspect(|begun| self.last.set(begun.post().pointer())),
-            }
-        }
+        Ok(Spent::new(self.own().create(create_apart_in_any)?))
     }
 
     #[inline(always)]
     pub(crate) fn get(&self, key: Key) -> Option<Spent<Held<'_, T, InHand<T>>>> {
-        let segment = self.room().segment_with(key)?;
-        let held = self.own_within(segment).get(key)?;
-        Some(Spent::new(held))
+        let own = self.own();
+        match self.at.segment().sight(key) {
+            Sight::There => own.get(key).map(Spent::new),
+            Sight::Gone => None,
+            Sight::Foreign => {
+                let mut held = self.get_elsewhere(key)?;
+                // (Here, where the compiler sees that it is so of no other.)
+                held.way.is_elsewhere = true;
+                Some(Spent::new(held))
+            }
+        }
+    }
+
+    /// A get of another segment than that of the hand.
+    #[inline(never)]
+    fn get_elsewhere(&self, key: Key) -> Option<Held<'_, T, InHand<T>>> {
+        self.own_elsewhere(key)?.get(key)
     }
 
     #[inline(always)]
     pub(crate) fn clear(&self, key: Key) -> bool {
-        let Some(segment) = self.room().segment_with(key) else {
+        match self.at.segment().sight(key) {
+            Sight::There => self.own().clear(key),
+            Sight::Gone => false,
+            Sight::Foreign => self.clear_elsewhere(key),
+        }
+    }
+
+    /// A clear of another segment than that of the hand.
+    #[inline(never)]
+    fn clear_elsewhere(&self, key: Key) -> bool {
+        let Some(own) = self.own_elsewhere(key) else {
             return false;
         };
-        let own = self.own_within(segment);
         if key.shard() == self.number() {
-            self.last.set(own.post().pointer());
+            self.at.segment().room().frees_place(key);
         }
         own.clear(key)
+    }
+
+    /// The lane in the segment of a key.
+    #[inline]
+    fn own_elsewhere(&self, key: Key) -> Option<Own<'_, T, Near<'_, T>>> {
+        let segment = self.at.segment().room().segment_with(key)?;
+        // SAFETY: who has the number has the lane alone, in each segment; the hand is borrowed, and on one thread.
+        Some(unsafe { Own::of(segment.near(self.number())) })
     }
 }
 
@@ -156,7 +138,43 @@ impl<T: Clear> Drop for Hand<'_, T> {
     fn drop(&mut self) {
         // SAFETY: taken out once.
         let number = unsafe { ManuallyDrop::take(&mut self.number) };
-        self.room().come_home(number);
+        self.own().room().come_home(number);
+    }
+}
+
+/// A create where the lane's own list has no place: in any segment.
+#[cold]
+#[inline(never)]
+fn create_apart_in_any<'s, T: Clear + Default>(
+    own: Own<'s, T, Near<'s, T>>,
+    block: Block<T>,
+) -> Result<Begun<'s, T, InHand<T>>, CreateError> {
+    if own.room().is_elsewhere(own.post().number()) {
+        own.put_away(block);
+        return create_further(own);
+    }
+    match own.create_apart(block) {
+        Err(CreateError::Full) => create_further(own),
+        created => created,
+    }
+}
+
+/// A create of the lane's shards in all segments, which opens a further one where all are full.
+#[cold]
+#[inline(never)]
+fn create_further<'s, T: Clear + Default>(
+    own: Own<'s, T, Near<'s, T>>,
+) -> Result<Begun<'s, T, InHand<T>>, CreateError> {
+    if !own.room().grows() {
+        return Err(CreateError::Full);
+    }
+    loop {
+        let count = own.room().count();
+        let created = own.create_in_any();
+        match created {
+            Err(CreateError::Full) => own.room().grow(count)?,
+            created => return created,
+        }
     }
 }
 
@@ -226,13 +244,18 @@ impl<'l, T: Clear> Held<'l, T, InHand<T>> {
     pub(crate) fn try_clone(&self) -> Option<Spent<Held<'l, T, InHand<T>>>> {
         // SAFETY: a hand gave it, and is borrowed.
         let own = unsafe { Own::of(self.post()) };
-        own.get(self.key()).map(Spent::new)
+        let mut held = own.get::<InHand<T>>(self.key())?;
+        held.way = self.way;
+        Some(Spent::new(held))
     }
 }
 
 impl<T: Clear> Spend for Held<'_, T, InHand<T>> {
     #[inline(always)]
     fn spend(self) {
+        if self.way.is_elsewhere {
+            return release_elsewhere(self.post(), self.into_words());
+        }
         // SAFETY: it is its segment.
         let near = unsafe { Near::new(self.post(), self.way.segment) };
         // SAFETY: a hand gave it, and is borrowed.
@@ -240,4 +263,13 @@ impl<T: Clear> Spend for Held<'_, T, InHand<T>> {
         // SAFETY: it is of its own lane.
         unsafe { own.release(self) };
     }
+}
+
+/// Gives back a reference of another segment than the one that was asked.
+#[inline(never)]
+fn release_elsewhere<T: Clear>(post: Post<'_, T>, words: (NonNull<T>, Key, u64)) {
+    // SAFETY: they are those of a reference, which is spent here.
+    let held = unsafe { Held::from_words(post, words, InHand::of(post.segment())) };
+    // SAFETY: a hand gave it, and is borrowed; it is of its own lane.
+    unsafe { Own::of(post).release(held) };
 }

@@ -113,16 +113,31 @@ impl<T: Clear> Room<T> {
     {
         self.create_growing(|| {
             if let Some(own) = own.filter(|own| !self.passes(own.post().number())) {
-                match own.create_in_any() {
+                match self.create_by_own(own) {
                     Err(CreateError::Full) => (),
-                    created => {
-                        // SAFETY: it is of the thread's own lane.
-                        return created.inspect(|begun| unsafe { self.had_place(begun.post()) });
-                    }
+                    created => return created,
                 }
             }
             self.create_in_shared(|_| ())
         })
+    }
+
+    /// A create by the thread's own lane in any segment. Where many threads have one, a further segment is opened rather than that they all
+    /// turn to the shared lanes.
+    fn create_by_own<'s>(&'s self, own: Own<'s, T>) -> Result<Begun<'s, T, OfThread>, CreateError>
+    where
+        T: Default,
+    {
+        loop {
+            let count = self.count();
+            match own.create_in_any() {
+                Err(CreateError::Full) if self.grows_first(count) && self.grow(count).is_ok() => (),
+                created => {
+                    // SAFETY: it is of the thread's own lane.
+                    return created.inspect(|begun| unsafe { self.had_place(begun.post()) });
+                }
+            }
+        }
     }
 
     #[inline(always)]
@@ -143,10 +158,10 @@ impl<T: Clear> Room<T> {
 
     #[inline(never)]
     fn get_by_caller(&self, key: Key) -> Option<Held<'_, T, OfThread>> {
-        let segment = self.segment_with(key)?;
         match self.caller() {
             Caller::Own(own) => self.get_by_own(own, key),
             Caller::Sharing => {
+                let segment = self.segment_with(key)?;
                 self.by_shared(|number| segment.post(number).shared_get(key, |_| ()))
             }
         }
@@ -188,12 +203,12 @@ impl<T: Clear> Room<T> {
 
     #[inline(never)]
     fn clear_by_caller(&self, key: Key) -> bool {
-        let Some(segment) = self.segment_with(key) else {
-            return false;
-        };
-        match self.caller() {
-            Caller::Own(own) => self.clear_by_own(own, key),
-            Caller::Sharing => self.by_shared(|number| segment.post(number).shared_clear(key)),
+        match (self.caller(), self.segment_with(key)) {
+            (_, None) => false,
+            (Caller::Own(own), _) => self.clear_by_own(own, key),
+            (Caller::Sharing, Some(segment)) => {
+                self.by_shared(|number| segment.post(number).shared_clear(key))
+            }
         }
     }
 

@@ -18,6 +18,9 @@ const TAGS: usize = GREATEST_TAG as usize + 1;
 const LANES: u32 = 16;
 const SHARED: u32 = 4;
 
+/// How many segments there are with the first of the widest.
+const WIDEST: usize = 6;
+
 /// How many creates pass by a lane that was found full in all segments: twice as many each time, since each look costs as many steps as
 /// there are segments.
 const PASSED: u32 = 32;
@@ -45,7 +48,8 @@ pub(crate) struct Room<T: Clear> {
     creates: Vec<Creates>,
 }
 
-/// Where creates of a lane go.
+/// Where creates of a lane go. (On lines of the cache of its own.)
+#[repr(align(128))]
 struct Creates {
     /// The segment that had a place last.
     last: AtomicUsize,
@@ -61,6 +65,30 @@ impl Creates {
             passed: AtomicU32::new(0),
             next_passed: AtomicU32::new(PASSED),
         }
+    }
+
+    /// The segment of this number had a place.
+    #[inline]
+    fn had_place(&self, index: usize) {
+        if self.last.load(Ordering::Relaxed) != index {
+            self.last.store(index, Ordering::Relaxed);
+        }
+    }
+
+    /// The lane isn't passed by any more.
+    #[inline]
+    fn look_again(&self) {
+        if self.passed.load(Ordering::Relaxed) != 0 {
+            self.passed.store(0, Ordering::Relaxed);
+        }
+    }
+
+    /// The lane was found full in all segments.
+    fn was_full(&self) {
+        let passed = self.next_passed.load(Ordering::Relaxed);
+        self.passed.store(passed, Ordering::Relaxed);
+        let next = (2 * passed).min(MOST_PASSED);
+        self.next_passed.store(next, Ordering::Relaxed);
     }
 }
 
@@ -187,6 +215,12 @@ impl<T: Clear> Room<T> {
         self.segment_of(key).filter(|segment| !segment.lacks(key))
     }
 
+    /// Whether a thread whose own lane is full has a further segment opened, rather than turn to the lanes that all share: where many
+    /// threads have lanes, and up to the first of the widest.
+    pub(super) fn grows_first(&self, count: usize) -> bool {
+        self.grows() && count < WIDEST && self.lanes.are_many_taken()
+    }
+
     /// Opens a further segment, unless there are other than so many by now. Where another thread opens one, it waits a while for that:
     /// no longer, as that may run code of the program's allocator.
     pub(super) fn grow(&self, count: usize) -> Result<(), CreateError> {
@@ -260,16 +294,13 @@ impl<T: Clear> Room<T> {
             match create(segment.post(number)) {
                 Err(CreateError::Full) => (),
                 created => {
-                    creates.last.store(index, Ordering::Relaxed);
+                    creates.had_place(index);
                     creates.next_passed.store(PASSED, Ordering::Relaxed);
                     return created;
                 }
             }
         }
-        let passed = creates.next_passed.load(Ordering::Relaxed);
-        creates.passed.store(passed, Ordering::Relaxed);
-        let next = (2 * passed).min(MOST_PASSED);
-        creates.next_passed.store(next, Ordering::Relaxed);
+        creates.was_full();
         Err(CreateError::Full)
     }
 
@@ -284,8 +315,13 @@ impl<T: Clear> Room<T> {
     pub(super) fn frees_place(&self, key: Key) {
         let creates = &self.creates[key.shard() as usize];
         let index = usize::from(tag_of(key.into())).saturating_sub(self.tag);
-        creates.last.store(index, Ordering::Relaxed);
-        creates.passed.store(0, Ordering::Relaxed);
+        creates.had_place(index);
+        creates.look_again();
+    }
+
+    /// Whether a lane had its last place in another segment than the first.
+    pub(super) fn is_elsewhere(&self, number: u32) -> bool {
+        self.creates[number as usize].last.load(Ordering::Relaxed) != 0
     }
 
     /// Whether this create passes a lane by, since that was found full a while ago.
@@ -300,9 +336,7 @@ impl<T: Clear> Room<T> {
 
     /// No lane is passed by any more.
     pub(super) fn look_again(&self) {
-        for creates in &self.creates {
-            creates.passed.store(0, Ordering::Relaxed);
-        }
+        self.creates.iter().for_each(Creates::look_again);
     }
 
     pub(crate) fn census(&self) -> Census {

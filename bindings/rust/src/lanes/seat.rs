@@ -5,8 +5,8 @@ use super::turn::Turn;
 use super::ProvedLane;
 use crate::clear::Clear;
 use crate::erased::keybits;
-use crate::object::{Chain, Returned};
-use crate::sync::{self, AtomicU32, Ordering};
+use crate::object::{Block, Chain, Returned};
+use crate::sync::{self, AtomicBool, AtomicU32, Ordering};
 use std::cell::UnsafeCell;
 use std::marker::PhantomData;
 use std::mem::ManuallyDrop;
@@ -19,7 +19,9 @@ pub(super) struct Seat<T: Clear> {
     pub(super) store: UnsafeCell<Store<T>>,
     pub(super) number: u32,
     /// The blocks that other lanes returned, by the number of those.
-    pub(super) returned: Vec<Returned<T>>,
+    returned: Vec<Returned<T>>,
+    /// Whether any ever came.
+    have_come: AtomicBool,
     /// How many fillings its lane has, and how many pages it opened: for a census, and written by the lane alone.
     pub(super) fillings: AtomicU32,
     pub(super) opened: AtomicU32,
@@ -90,12 +92,30 @@ impl<T: Clear> Seat<T> {
                 empties: false,
             }),
             returned,
+            have_come: AtomicBool::new(false),
             fillings: AtomicU32::new(0),
             opened: AtomicU32::new(0),
             lock: Lock::new(),
             joint: UnsafeCell::new(Joint::default()),
             segment: UnsafeCell::new(ptr::null()),
         }
+    }
+
+    /// A block that the lane of this number returns.
+    pub(super) fn come_home(&self, from: u32, block: Block<T>) {
+        self.returned[from as usize].push(block);
+        if !self.have_come.load(Ordering::Relaxed) {
+            self.have_come.store(true, Ordering::Release);
+        }
+    }
+
+    /// Blocks that another lane returned, if there are some.
+    pub(super) fn take_returned(&self) -> Option<Chain<T>> {
+        if !self.have_come.load(Ordering::Acquire) {
+            return None;
+        }
+        let mut taken = self.returned.iter().map(Returned::take);
+        taken.find(|chain| !chain.is_empty())
     }
 
     /// How many places the pages have that its lane opened.

@@ -29,6 +29,16 @@ pub(crate) struct Segment<T: Clear> {
     room: AtomicPtr<Room<T>>,
 }
 
+/// What loads tell of a key.
+pub(super) enum Sight {
+    /// It isn't known to be gone.
+    There,
+    /// Its place has a later generation.
+    Gone,
+    /// It is no key of the segment.
+    Foreign,
+}
+
 /// A row with room for so many.
 pub(super) fn row_for<V>(count: usize) -> Result<Vec<V>, OpenError> {
     let mut row = Vec::new();
@@ -148,20 +158,27 @@ impl<T: Clear> Segment<T> {
             .sum()
     }
 
-    /// Whether the segment has no object of this key, as loads tell: it is no key of it, or its place has a later generation.
+    /// Whether the segment has no object of this key, as loads tell.
     #[inline(always)]
     pub(super) fn lacks(&self, key: Key) -> bool {
+        !matches!(self.sight(key), Sight::There)
+    }
+
+    /// What loads tell of a key.
+    #[inline(always)]
+    pub(super) fn sight(&self, key: Key) -> Sight {
         let number = u64::from(key);
         let Some(spot) = self.proved.find(number) else {
-            return true;
+            return Sight::Foreign;
         };
         // (Where tests watch the steps, those of a miss are made.)
         let word = self.proved.grid.table.shared.peek(self.life_of(spot));
         let is_gone = !cfg!(pardz_trace) && (word >> 32) as u32 > generation_of(number);
         if is_gone {
             self.look_at(spot.place);
+            return Sight::Gone;
         }
-        is_gone
+        Sight::There
     }
 
     /// Where the life word of a place stands. (Those of all stand side by side, so it is that of a position of the first shard.)

@@ -76,6 +76,7 @@ pub(super) fn last_shared(pool: u64) -> Option<u32> {
     (last == pool).then_some(number)
 }
 
+#[inline]
 pub(super) fn set_last_shared(pool: u64, number: u32) {
     LAST_SHARED.with(|all| all[pool as usize % POOLS].set((pool, number)));
 }

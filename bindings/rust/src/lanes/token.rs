@@ -18,6 +18,8 @@ pub(crate) trait By<T: Clear>: Copy {
 pub(crate) struct InHand<T: Clear> {
     /// (Here, so that it is read once.)
     pub(super) segment: NonNull<Segment<T>>,
+    /// Whether it is of another segment than the one of the hand. (Known where a reference is dropped, if that is in sight of the get.)
+    pub(super) is_elsewhere: bool,
 }
 
 /// By a call of the pool: without a lock as long as the thread has the lane, else with it.
@@ -42,6 +44,7 @@ impl<T: Clear> By<T> for InHand<T> {
     fn of(segment: &Segment<T>) -> InHand<T> {
         InHand {
             segment: NonNull::from(segment),
+            is_elsewhere: false,
         }
     }
 }

@@ -7,7 +7,7 @@ use crate::erased::poolsteps::stack_word;
 use crate::erased::shardpool::{self, CreateFault, MOST_REFERENCES};
 use crate::errors::CreateError;
 use crate::key::Key;
-use crate::object::{self, Block, Chain, Object, Returned};
+use crate::object::{self, Block, Chain, Object};
 use crate::shim::Ready;
 use crate::sync::{self, AtomicU32, Ordering};
 use std::marker::PhantomData;
@@ -35,12 +35,12 @@ pub(super) struct TooMany;
 
 /// What a create without memory of its own needs.
 pub(super) enum Short<T> {
-    /// No place of the lane's own list is free: the block comes back.
+    /// The lane has no place at hand: the block comes back.
     NoPlace(Block<T>),
     Failed(CreateError),
 }
 
-/// Why a create without a place on the lane's own list gives none.
+/// Why a create without a place at hand gives none.
 pub(super) enum Apart<T> {
     /// Its next page has so many places, for which no memory is ready: the block comes back.
     Page(usize, Block<T>),
@@ -89,14 +89,13 @@ fn add(number: &AtomicU32, more: u32) {
 #[inline(never)]
 fn bring_home<T: Clear>(post: Post<'_, T>, block: Block<T>) {
     let home = post.segment().seat(block.home());
-    home.returned[post.number() as usize].push(block);
+    home.come_home(post.number(), block);
 }
 
 /// A block that another lane returned, where the lane has no other. The others that it returned are spare then. (Apart, likewise.)
 #[inline(never)]
 fn returned<T: Clear>(post: Post<'_, T>, spare: &mut Chain<T>) -> Option<Block<T>> {
-    let mut taken = post.seat().returned.iter().map(Returned::take);
-    let mut chain = taken.find(|chain| !chain.is_empty())?;
+    let mut chain = post.seat().take_returned()?;
     let block = chain.pop();
     mem::swap(spare, &mut chain);
     block
@@ -184,14 +183,14 @@ impl<'s, T: Clear, P: Stands<'s, T>> Turn<'s, T, P> {
         unsafe { object::taken::<T>() }
     }
 
-    /// A create of a lane with a place on its own list.
+    /// A create of a lane with a place at hand: on its own list, or among those that it took back.
     #[inline(always)]
     pub(super) fn create_short<W: By<T>>(
         &mut self,
         block: Block<T>,
     ) -> Result<Begun<'s, T, W>, Short<T>> {
         let (pool, lane, call) = self.proved();
-        if lane.state.free.len() == 0 {
+        if !lane.has_free() {
             call.end();
             return Err(Short::NoPlace(block));
         }
@@ -200,7 +199,7 @@ impl<'s, T: Clear, P: Stands<'s, T>> Turn<'s, T, P> {
         self.begin(created, block).map_err(Short::Failed)
     }
 
-    /// A create of a lane without a place on its own list, which may open a page, with the memory that is ready. How many it has opened
+    /// A create of a lane without a place at hand, which may open a page, with the memory that is ready. How many it has opened
     /// is told then.
     pub(super) fn create_apart<W: By<T>>(
         &mut self,

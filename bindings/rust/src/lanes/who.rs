@@ -59,6 +59,8 @@ impl Drop for Told {
 
 /// Who has the lanes of a pool.
 pub(super) struct Lanes {
+    /// A bit for each lane.
+    all: u64,
     /// A bit for each lane that nobody has.
     home: AtomicU64,
     /// A bit for each lane that is shared.
@@ -78,6 +80,7 @@ impl Lanes {
         let homes = Counted::new(Homes::default());
         let homes = homes.map_err(|MemoryRefused| OpenError::Memory)?;
         Ok(Lanes {
+            all: first_bits(count),
             home: AtomicU64::new(first_bits(count) & !shared),
             shared: AtomicU64::new(shared),
             always: shared,
@@ -97,7 +100,14 @@ impl Lanes {
         self.shared.load(Ordering::SeqCst).count_ones() > self.few
     }
 
+    /// Whether many lanes are some thread's own, or in hand, as of this look: as many as are shared where calls need it.
+    pub(super) fn are_many_taken(&self) -> bool {
+        let others = self.home.load(Ordering::Relaxed) | self.shared.load(Ordering::Relaxed);
+        (self.all & !others).count_ones() >= self.few
+    }
+
     /// Whether a lane is shared, as of this look.
+    #[inline]
     pub(super) fn is_shared(&self, number: u32) -> bool {
         self.shared.load(Ordering::Relaxed) & Number(number).bit() != 0
     }
