@@ -97,13 +97,11 @@ pub(crate) fn part_with<T>(
 {
     let (directory, start) = at;
     match own {
-        Own::Away => (Own::Away, None),
-        Own::Vacant(vacancy) => (Own::Vacant(vacancy), None),
-        Own::Retired(kept) => (Own::Retired(kept), None),
         Own::Whole(whole) => {
             let (vacancy, object) = whole.take(directory, start);
             (Own::Vacant(vacancy), Some(object))
         }
+        other => (other, None),
     }
 }
 
