@@ -1,16 +1,22 @@
 -- What moves of one place's shares leave of a lane's view.
-use Rattle.std.specs.Prelude.{◌≡◌, ◌≢◌, ℕ, ◌+◌, ◌<◌, List, []}
+use Rattle.std.specs.Prelude.{◌≡◌, ◌≢◌, ℕ, ◌+◌, ◌<◌, List, [], Option}
 use Rattle.atomic_table.specs.Table.{Me}
+use Rattle.atomic_table.specs.declared.shared.Seat.{Seat}
+use Rattle.poolsteps.specs.Share.{Share}
 use Rattle.poolsteps.specs.Spot.{Spot as CellSpot}
 use Rattle.poolsteps.specs.Whole.{Whole}
 use Rattle.keybits.specs.declared.shape.Shape.{Shape}
+use Rattle.poolsteps.specs.declared.grid.Grid.{Grid}
+use Rattle.poolsteps.specs.declared.grid.Spot.{Spot}
 use Rattle.poolsteps.specs.declared.view.Stored.{Stored}
 use Rattle.poolsteps.specs.declared.view.Status.TheVariants.{Emptied}
 use Rattle.poolsteps.specs.Shares.{at_rest}
 use Rattle.poolsteps.specs.declared.view.LaneRecord.{LaneRecord}
 use Rattle.poolsteps.specs.declared.view.View.{View}
-use Rattle.poolsteps.specs.Views.{the_lane, status_of, known_of}
-use Rattle.poolsteps.specs.Told.{GoesOn}
+use Rattle.poolsteps.specs.Views.{the_lane, status_of, known_of, IsOne}
+use Rattle.poolsteps.specs.Grids.{IsSpot, IsOf, SameSeat}
+use Rattle.poolsteps.specs.Layout.{spots_at}
+use Rattle.poolsteps.specs.Told.{GoesOn, HasPlace}
 
 -- of the lane's record no more is changed than what it did with the slots of one place, and what it knows of its cell
 pub record IsElsewhere (place : ℕ) (r s : LaneRecord) : Type 0 where
@@ -41,3 +47,21 @@ AreAtRest z r place = (number : ℕ) → number < z.lanes → status_of r place 
 -- the cell has the content and the room of the whole's object, which stands where the place does
 abbrev pub ShowsCell : {T : Type 0} → (T → List ℕ) → (T → ℕ) → (ℕ → CellSpot) → ℕ → Stored → Whole T → Type 0
 ShowsCell content room spots place c whole = (content whole.object ≡ c.content) × (room whole.object ≡ c.room) × (whole.spot ≡ spots place)
+
+module _ {T : Type 0} (grid : Grid T) where
+  -- the hand is one lane's of the grid, which has all shares of the place that stands here; the number is that of a lane
+  pub record MayMoveCell (seat : Seat (Option (Share T)) View) (at : Spot) (number : ℕ) : Type 0 where
+    pub hand : IsOf grid seat × IsOne seat.me.0
+    pub spot : IsSpot grid.shape at at.place
+    pub below : number < grid.shape.lanes
+    pub place : HasPlace grid.shape seat.me.0 at.place
+
+  -- by so many looks the lane moved shares of the place, all of which it still has
+  pub record MovesCell (at looks : ℕ) (before after : Seat (Option (Share T)) View) : Type 0 where
+    pub hand : SameSeat before after × IsOne after.me.0
+    pub place : HasPlace grid.shape after.me.0 at
+    pub carries : Carries grid.shape at looks before.me after.me
+
+  -- the whole is the place's cell, as the lane knows it
+  abbrev pub IsKnown : (T → List ℕ) → (T → ℕ) → ℕ → LaneRecord → Whole T → Type 0
+  IsKnown content room place r whole = ShowsCell content room (spots_at grid.objects.ptr grid.shape) place (known_of r place) whole

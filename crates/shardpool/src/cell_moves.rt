@@ -1,13 +1,12 @@
 //! The moves of whole cells. Each is made by a lane that has all shares of the place, and makes moves of that place
 //! alone.
-ghost use Rattle.std.specs.Prelude.{◌≡◌, ◌≢◌, ◌<◌, ◌≤◌, ◌*◌, ◌-◌, ℕ, []};
+ghost use Rattle.std.specs.Prelude.{◌≡◌, ◌≢◌, ◌<◌, ℕ, []};
 ghost use Rattle.poolsteps.specs.declared.view.Status.TheVariants.{Untouched, Emptied};
 ghost use Rattle.poolsteps.specs.Layout.{spots_at};
-ghost use Rattle.poolsteps.specs.Views.{the_lane, known_of, status_of, IsOne};
-ghost use Rattle.poolsteps.specs.Grids.{IsSpot, IsOf, SameSeat};
-ghost use Rattle.poolsteps.specs.Told.{HasPlace, LeftAlone, MayRenew};
+ghost use Rattle.poolsteps.specs.Views.{the_lane, status_of};
+ghost use Rattle.poolsteps.specs.Told.{LeftAlone, MayRenew};
 ghost use Rattle.poolsteps.specs.Moved.{stored_of};
-ghost use Rattle.shardpool.specs.Carried.{Carries, AreEmptied, AreAtRest, ShowsCell};
+ghost use Rattle.shardpool.specs.Carried.{AreEmptied, AreAtRest, MayMoveCell, MovesCell, IsKnown};
 
 use poolsteps::{Grid, Hand, Rest, Share, Spot, Whole, shares_law};
 use slotcell::Clear;
@@ -20,18 +19,12 @@ pub(crate) fn take_cell<T: Clear + Drop>(
     spot: Spot,
     lane: u32,
 ) -> Whole<T>
-    requires hand { IsOf grid.now hand.old × IsOne hand.old.me.0 }
+    requires may { MayMoveCell grid.now hand.old spot lane }
     requires bare { hand.old.me.1 ≡ [] }
-    requires spot { IsSpot grid.now.shape spot spot.place }
-    requires lane { lane < grid.now.shape.lanes }
-    requires place { HasPlace grid.now.shape hand.old.me.0 spot.place }
     requires slots { LeftAlone grid.now.shape (the_lane hand.old.me.0) spot.place }
-    ensures hand { SameSeat hand.old hand.new × IsOne hand.new.me.0 }
-    ensures place { HasPlace grid.now.shape hand.new.me.0 spot.place }
-    ensures carries { Carries grid.now.shape spot.place 2 hand.old.me hand.new.me }
+    ensures moves { MovesCell grid.now spot.place 2 hand.old hand.new }
     ensures slots { AreEmptied grid.now.shape (the_lane hand.new.me.0) spot.place }
-    ensures cell { ShowsCell T.content T.room (spots_at grid.now.objects.ptr grid.now.shape) spot.place
-        (known_of (the_lane hand.old.me.0) spot.place) result }
+    ensures cell { IsKnown grid.now T.content T.room spot.place (the_lane hand.old.me.0) result }
 {
     shares_law();
     grid.out_all(hand, spot, lane).into_whole()
@@ -45,17 +38,11 @@ pub(crate) fn take_resting<T: Clear + Drop>(
     spot: Spot,
     lane: u32,
 ) -> Whole<T>
-    requires hand { IsOf grid.now hand.old × IsOne hand.old.me.0 }
-    requires spot { IsSpot grid.now.shape spot spot.place }
-    requires lane { lane < grid.now.shape.lanes }
-    requires place { HasPlace grid.now.shape hand.old.me.0 spot.place }
+    requires may { MayMoveCell grid.now hand.old spot lane }
     requires slots { AreAtRest grid.now.shape (the_lane hand.old.me.0) spot.place }
-    ensures hand { SameSeat hand.old hand.new × IsOne hand.new.me.0 }
-    ensures place { HasPlace grid.now.shape hand.new.me.0 spot.place }
-    ensures carries { Carries grid.now.shape spot.place 2 hand.old.me hand.new.me }
+    ensures moves { MovesCell grid.now spot.place 2 hand.old hand.new }
     ensures slots { AreEmptied grid.now.shape (the_lane hand.new.me.0) spot.place }
-    ensures cell { ShowsCell T.content T.room (spots_at grid.now.objects.ptr grid.now.shape) spot.place
-        (known_of (the_lane hand.old.me.0) spot.place) result }
+    ensures cell { IsKnown grid.now T.content T.room spot.place (the_lane hand.old.me.0) result }
 {
     shares_law();
     Rest::of_last(grid.out_whole(hand, spot, lane)).into_whole()
@@ -70,19 +57,13 @@ pub(crate) fn spread_cell<T: Clear + Drop>(
     lane: u32,
     whole: Whole<T>,
 )
-    requires hand { IsOf grid.now hand.old × IsOne hand.old.me.0 }
+    requires may { MayMoveCell grid.now hand.old spot lane }
     requires bare { hand.old.me.1 ≡ [] }
-    requires spot { IsSpot grid.now.shape spot spot.place }
-    requires lane { lane < grid.now.shape.lanes }
-    requires place { HasPlace grid.now.shape hand.old.me.0 spot.place }
     requires slots { AreEmptied grid.now.shape (the_lane hand.old.me.0) spot.place }
     requires at { whole.spot ≡ spots_at grid.now.objects.ptr grid.now.shape spot.place }
-    ensures hand { SameSeat hand.old hand.new × IsOne hand.new.me.0 }
-    ensures place { HasPlace grid.now.shape hand.new.me.0 spot.place }
-    ensures carries { Carries grid.now.shape spot.place 2 hand.old.me hand.new.me }
+    ensures moves { MovesCell grid.now spot.place 2 hand.old hand.new }
     ensures slots { LeftAlone grid.now.shape (the_lane hand.new.me.0) spot.place }
-    ensures cell { ShowsCell T.content T.room (spots_at grid.now.objects.ptr grid.now.shape) spot.place
-        (known_of (the_lane hand.new.me.0) spot.place) whole }
+    ensures cell { IsKnown grid.now T.content T.room spot.place (the_lane hand.new.me.0) whole }
 {
     shares_law();
     grid.back_all(hand, spot, lane, whole.lend(grid.shape.lanes as usize));
@@ -97,16 +78,11 @@ pub(crate) fn spread_others<T: Clear + Drop>(
     lane: u32,
     whole: Whole<T>,
 ) -> Share<T>
-    requires hand { IsOf grid.now hand.old × IsOne hand.old.me.0 }
+    requires may { MayMoveCell grid.now hand.old spot lane }
     requires bare { hand.old.me.1 ≡ [] }
-    requires spot { IsSpot grid.now.shape spot spot.place }
-    requires lane { lane < grid.now.shape.lanes }
-    requires place { HasPlace grid.now.shape hand.old.me.0 spot.place }
     requires slots { AreEmptied grid.now.shape (the_lane hand.old.me.0) spot.place }
     requires at { whole.spot ≡ spots_at grid.now.objects.ptr grid.now.shape spot.place }
-    ensures hand { SameSeat hand.old hand.new × IsOne hand.new.me.0 }
-    ensures place { HasPlace grid.now.shape hand.new.me.0 spot.place }
-    ensures carries { Carries grid.now.shape spot.place 4 hand.old.me hand.new.me }
+    ensures moves { MovesCell grid.now spot.place 4 hand.old hand.new }
     ensures others { (number : ℕ) → number < grid.now.shape.lanes → number ≢ lane
         → status_of (the_lane hand.new.me.0) spot.place number ≡ Untouched }
     ensures own { status_of (the_lane hand.new.me.0) spot.place lane ≡ Emptied }
@@ -128,18 +104,12 @@ pub(crate) fn rest_cell<T: Clear + Drop>(
     lane: u32,
     whole: Whole<T>,
 )
-    requires hand { IsOf grid.now hand.old × IsOne hand.old.me.0 }
-    requires spot { IsSpot grid.now.shape spot spot.place }
-    requires lane { lane < grid.now.shape.lanes }
-    requires place { HasPlace grid.now.shape hand.old.me.0 spot.place }
+    requires may { MayMoveCell grid.now hand.old spot lane }
     requires slots { AreEmptied grid.now.shape (the_lane hand.old.me.0) spot.place }
     requires at { whole.spot ≡ spots_at grid.now.objects.ptr grid.now.shape spot.place }
-    ensures hand { SameSeat hand.old hand.new × IsOne hand.new.me.0 }
-    ensures place { HasPlace grid.now.shape hand.new.me.0 spot.place }
-    ensures carries { Carries grid.now.shape spot.place 2 hand.old.me hand.new.me }
+    ensures moves { MovesCell grid.now spot.place 2 hand.old hand.new }
     ensures slots { AreAtRest grid.now.shape (the_lane hand.new.me.0) spot.place }
-    ensures cell { ShowsCell T.content T.room (spots_at grid.now.objects.ptr grid.now.shape) spot.place
-        (known_of (the_lane hand.new.me.0) spot.place) whole }
+    ensures cell { IsKnown grid.now T.content T.room spot.place (the_lane hand.new.me.0) whole }
 {
     shares_law();
     grid.back_whole(hand, spot, lane, whole.lend(1).into_share());

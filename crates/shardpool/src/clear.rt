@@ -56,12 +56,7 @@ pub(crate) fn clear_and_keep<T: Clear + Drop>(
         place: place_of(key),
         start,
     };
-    let at = At {
-        spot,
-        lane: state.number,
-        tops: &state.last_pushed,
-    };
-    let Some((marked, reclaimed)) = try_clear(grid, hand, at, key) else {
+    let Some((marked, reclaimed)) = try_clear(grid, hand, state.at_spot(spot), key) else {
         return clear_by_steps_and_keep(grid, hand, state, start, key);
     };
     keep_reclaimed(state, spot, reclaimed);
@@ -88,12 +83,7 @@ fn clear_by_steps_and_keep<T: Clear + Drop>(
         place: place_of(key),
         start,
     };
-    let at = At {
-        spot,
-        lane: state.number,
-        tops: &state.last_pushed,
-    };
-    let (marked, reclaimed) = clear_by_steps(grid, hand, at, key);
+    let (marked, reclaimed) = clear_by_steps(grid, hand, state.at_spot(spot), key);
     keep_reclaimed(state, spot, reclaimed);
     marked
 }

@@ -105,12 +105,7 @@ impl<T: Clear + Drop> Pool<T> {
         let Some(spot) = self.find(key) else {
             return;
         };
-        let at = At {
-            spot,
-            lane: state.number,
-            tops: &state.last_pushed,
-        };
-        get_within(&self.grid, hand, at, key, limit);
+        get_within(&self.grid, hand, state.at_spot(spot), key, limit);
     }
 
     /// A clear that ends after so many steps.
@@ -123,12 +118,7 @@ impl<T: Clear + Drop> Pool<T> {
         let Some(spot) = self.find(key) else {
             return;
         };
-        let at = At {
-            spot,
-            lane: state.number,
-            tops: &state.last_pushed,
-        };
-        clear_within(&self.grid, hand, at, key, limit);
+        clear_within(&self.grid, hand, state.at_spot(spot), key, limit);
     }
 
     /// A release that ends after so many steps.
@@ -143,14 +133,8 @@ impl<T: Clear + Drop> Pool<T> {
             return;
         }
         let spot = self.grid.spot(place_of(key));
-        let number = state.number;
         return_last_share(&self.grid, hand, state, spot, key);
-        let at = At {
-            spot,
-            lane: number,
-            tops: &state.last_pushed,
-        };
-        release_within(&self.grid, hand, at, key, limit);
+        release_within(&self.grid, hand, state.at_spot(spot), key, limit);
     }
 
     /// A create that ends after so many steps. It makes none where the lane's own list has a place, and none where

@@ -70,12 +70,7 @@ fn finish<T: Clear + Drop>(
         place: place_of(key),
         start,
     };
-    let at = At {
-        spot,
-        lane: state.number,
-        tops: &state.last_pushed,
-    };
-    let reclaimed = finish_leave(grid, hand, at, found);
+    let reclaimed = finish_leave(grid, hand, state.at_spot(spot), found);
     keep_reclaimed(state, spot, reclaimed);
 }
 
@@ -112,6 +107,22 @@ impl At<'_> {
         ensures { result ≡ slice_index self.now.tops.now.items (shard_number self.now.spot.place) }
     {
         self.tops[shard_of(self.spot.place) as usize]
+    }
+}
+
+impl<T> LaneState<T> {
+    /// Where a call of this lane acts.
+    #[inline(always)]
+    pub(crate) fn at_spot(&self, spot: Spot) -> At<'_>
+        ensures spot { result.spot ≡ spot }
+        ensures lane { result.lane ≡ self.now.number }
+        ensures tops { result.tops.now.items ≡ self.now.last_pushed.items }
+    {
+        At {
+            spot,
+            lane: self.number,
+            tops: &self.last_pushed,
+        }
     }
 }
 

@@ -1,9 +1,10 @@
 -- What a call that left a place, and perhaps reclaimed it, leaves of what the lane keeps.
 use Rattle.std.proofs.Common.{◌≡◌, ◌≢◌, ℕ, ◌<◌, Bool, true, false, not, ◌&&◌, cond, eqb, List, [], ◌∷◌, ◌++◌, Option, Some, None, IfSome, refl, sym, ap, ◌∙◌, subst, arith, append_assoc, append-nil, eq-eqb, ne_eqb}
-use Rattle.std.specs.Prelude.{slice_set}
+use Rattle.std.specs.Prelude.{slice_set, slice_index}
 use Rattle.std.proofs.lemmas.List.{append_cancel_left}
 use Rattle.std.specs.List.{All}
 use Rattle.atomic_table.specs.Table.{Me}
+use Rattle.atomic_table.specs.declared.shared.Seat.{Seat}
 use Rattle.keybits.specs.declared.shape.Shape.{Shape}
 use Rattle.keybits.specs.declared.place.Place.{Place}
 use Rattle.keybits.specs.Places.{shard_of}
@@ -21,6 +22,7 @@ use Rattle.seqpool.proofs.Ranks.{current-key}
 use Rattle.seqpool.specs.Histories.{acts_of}
 use Rattle.steplaws.specs.StepLaws.{reclaim}
 use Rattle.poolsteps.specs.PlaceLaws.{gives_away, brings}
+use Rattle.poolsteps.specs.declared.grid.Grid.{Grid}
 use Rattle.poolsteps.specs.declared.grid.Spot.{Spot}
 use Rattle.poolsteps.specs.Grids.{IsSpot}
 use Rattle.poolsteps.specs.declared.view.LaneRecord.{LaneRecord}
@@ -31,9 +33,11 @@ use Rattle.poolsteps.specs.declared.view.Status.TheVariants.{Untouched, Emptied}
 use Rattle.poolsteps.specs.Share.{Share}
 use Rattle.poolsteps.specs.Whole.{Whole}
 use Rattle.poolsteps.specs.Told.{IsIdle}
+use Rattle.shardpool.specs.declared.reclaim.At.{At}
 use Rattle.shardpool.specs.declared.reclaim.Reclaimed.{Reclaimed}
 use Rattle.shardpool.specs.declared.reclaim.Reclaimed.TheVariants.{Own, Returned, Retired}
 use Rattle.shardpool.specs.Acted.{Acted}
+use Rattle.shardpool.specs.AtPlace.{MayAct}
 use Rattle.poolsteps.specs.Layout.{slot_row, shard_start, spots_at}
 use denote.RawPtr.{Ptr}
 use Rattle.poolsteps.specs.Spot.{Spot as CellSpot}
@@ -42,7 +46,7 @@ use Rattle.shardpool.specs.declared.pool.LaneState.{LaneState}
 use Rattle.shardpool.specs.Places.{held_after, left_with}
 use Rattle.shardpool.specs.LaneStates.{FitsSeat, FitsTops, FitsStores, FitsRights, IsHeld, FitsRows, Fits}
 use Rattle.shardpool.specs.Stores.{Keeps}
-use Rattle.shardpool.specs.Finishes.{IsKeeper}
+use Rattle.shardpool.specs.Finishes.{IsKeeper, MayKeep}
 use Rattle.shardpool.specs.Lanes.{freed}
 use Rattle.shardpool.proofs.frame.OtherShards.{NoneAbroad, abroad-append, abroad-own, abroad-returned, abroad-retired}
 use Rattle.shardpool.proofs.frame.Frames.{Passes, OnlyAt}
@@ -107,6 +111,27 @@ keeper-still {place = place} still before = record {
   below = before.below;
   top = before.top ∙ ap (λ (r : LaneRecord). pushed_in r.pushed (shard_of place)) (sym still);
 }
+
+-- and it acts at the key's place
+pub keeps-act : {T : Type 0} {content : T → List ℕ} {room : T → ℕ} {grid : Grid T} {seat : Seat (Option (Share T)) View} {s : LaneState T} {here key : ℕ}
+    {spot : Spot} → MayKeep content room grid seat s here key → (acting : At) → acting.spot ≡ spot → spot.place ≡ place_of key → spot.start ≡ here
+    → acting.lane ≡ s.number → acting.tops.now.items ≡ s.last_pushed.items → MayAct grid seat (place_of key) acting
+keeps-act {grid = grid} {key = key} keeps acting there place start number tops =
+    let keeper = keeps.keeper in record {
+      hand = keeps.hand;
+      bare = keeps.bare;
+      at = record {
+        spot = record {
+          place_is = ap (λ (x : Spot). x.place) there ∙ place;
+          inside = keeps.inside;
+          start = ap (λ (x : Spot). x.start) there ∙ (start ∙ keeps.start);
+        };
+        lane = number ∙ keeper.lane;
+        below = subst (λ (n : ℕ). n < grid.shape.lanes) (sym number) keeper.below;
+        shard = rw (tops, keeper.wide) (is_place-parts grid.shape (place_of key) keeps.inside).0;
+        top = ap (λ (words : List ℕ). slice_index words (shard_of (place_of key))) tops ∙ keeper.top;
+      };
+    }
 
 -- and what became of a place stands in a word of the lane's directory
 pub own-stands : {T : Type 0} {content : T → List ℕ} {room : T → ℕ} {z : Shape} {v : View} {s : LaneState T} {directory : Ptr} {place at : ℕ} (reclaimed : Option (Reclaimed T))

@@ -1,5 +1,5 @@
 -- A FOLLOW, and the OUT of the object of the place that was followed.
-use Rattle.std.proofs.Common.{◌≡◌, ℕ, ◌+◌, List, [], ◌++◌, refl, sym, ap, ◌∙◌, subst, append-nil}
+use Rattle.std.proofs.Common.{◌≡◌, ℕ, ◌+◌, List, [], ◌∷◌, ◌++◌, refl, sym, ap, ◌∙◌, subst, append-nil}
 use Rattle.atomic_table.specs.Table.{Me}
 use Rattle.keybits.specs.declared.shape.Shape.{Shape}
 use Rattle.seqpool.specs.declared.act.Act.{Act}
@@ -8,7 +8,7 @@ use Rattle.seqpool.specs.Histories.{acts_of}
 use Rattle.poolsteps.specs.Shares.{reclaimer, HasAll}
 use Rattle.poolsteps.specs.declared.view.LaneRecord.{LaneRecord}
 use Rattle.poolsteps.specs.declared.view.View.{View}
-use Rattle.poolsteps.specs.Views.{head_record, the_lane, status_of, known_of}
+use Rattle.poolsteps.specs.Views.{head_record, the_lane, status_of, known_of, IsOne}
 use Rattle.poolsteps.specs.Told.{GoesOn, HasPlace}
 use Rattle.poolsteps.specs.Returned.{followed_record, Follows}
 use Rattle.poolsteps.proofs.Staying.{place-stays}
@@ -35,6 +35,10 @@ module _ {S : Type 0} {z : Shape} {found : ℕ} {a b : Me S View} (follows : Fol
   -- the lane's record after the FOLLOW
   now : the_lane b.0 ≡ followed_record (the_lane a.0)
   now = ap head_record follows.1.goes.lanes
+
+  -- the seat is still that of one lane
+  pub followed-one : IsOne b.0
+  followed-one = follows.1.goes.lanes ∙ ap (λ (r : LaneRecord). r ∷ []) (sym now)
 
   module _ (place : ℕ) (is : (pool_after z a.0.seen place).phase ≡ with (the_lane a.0).lane) where
     there : (pool_after z b.0.seen place).phase ≡ with (the_lane b.0).lane

@@ -43,12 +43,7 @@ fn finish<T: Clear>(
         place: place_of(key),
         start,
     };
-    let at = At {
-        spot,
-        lane: state.number,
-        tops: &state.last_pushed,
-    };
-    let reclaimed = finish_leave(grid, hand, at, found);
+    let reclaimed = finish_leave(grid, hand, state.at_spot(spot), found);
     keep_reclaimed(state, spot, reclaimed);
 }
 
@@ -78,6 +73,18 @@ impl At<'_> {
     #[inline]
     pub(crate) fn top(&self) -> u64 {
         self.tops[shard_of(self.spot.place) as usize]
+    }
+}
+
+impl<T> LaneState<T> {
+    /// Where a call of this lane acts.
+    #[inline(always)]
+    pub(crate) fn at_spot(&self, spot: Spot) -> At<'_> {
+        At {
+            spot,
+            lane: self.number,
+            tops: &self.last_pushed,
+        }
     }
 }
 

@@ -15,23 +15,22 @@ into_share-requires g c = let lent = c.lend.ensures in omega (arith, lent.1, len
 pub back_whole-requires : goal.back_whole-requires
 back_whole-requires g c =
     let place = c.args.spot.place in record {
-      hand = c.requires.hand;
-      spot = c.requires.spot;
-      lane = c.requires.lane;
-      may = may-touch c.args.grid.now.shape c.args.hand.now.me.0 place (shard_of place) c.requires.place;
-      left = c.requires.slots (shard_of place) (is_place-parts c.args.grid.now.shape place c.requires.spot.inside).0;
+      hand = c.requires.may.hand;
+      spot = c.requires.may.spot;
+      lane = c.requires.may.below;
+      may = may-touch c.args.grid.now.shape c.args.hand.now.me.0 place (shard_of place) c.requires.may.place;
+      left = c.requires.slots (shard_of place) (is_place-parts c.args.grid.now.shape place c.requires.may.spot.inside).0;
       share = rw c.into_share.ensures (c.lend.ensures.1, c.lend.ensures.2, c.lend.ensures.0 ∙ c.requires.at);
-      cell = inr (c.requires.place, λ k below other. inl (c.requires.slots k below));
+      cell = inr (c.requires.may.place, λ k below other. inl (c.requires.slots k below));
     }
 
-pub returns-clause-hand : goal.returns-clause-hand
-returns-clause-hand g c = (c.back_whole.ensures.hand, one-after (carries-back c.back_whole.ensures.backs))
-
-pub returns-clause-place : goal.returns-clause-place
-returns-clause-place g c = carried-place (carries-back c.back_whole.ensures.backs) c.shares_law.ensures.stays c.args.spot.place c.requires.place
-
-pub returns-clause-carries : goal.returns-clause-carries
-returns-clause-carries g c = carries-back c.back_whole.ensures.backs
+pub returns-clause-moves : goal.returns-clause-moves
+returns-clause-moves g c =
+    let carries = carries-back c.back_whole.ensures.backs in record {
+      hand = (c.back_whole.ensures.hand, one-after carries);
+      place = carried-place carries c.shares_law.ensures.stays c.args.spot.place c.requires.may.place;
+      carries = carries;
+    }
 
 pub returns-clause-slots : goal.returns-clause-slots
 returns-clause-slots g c = now-rests (back-moves c.back_whole.ensures.backs) c.requires.slots

@@ -9,21 +9,20 @@ use Rattle.shardpool.proofs.cell_moves.take_resting.Goals as goal
 pub out_whole-requires : goal.out_whole-requires
 out_whole-requires g c =
     let place = c.args.spot.place in record {
-      hand = c.requires.hand;
-      spot = c.requires.spot;
-      lane = c.requires.lane;
-      may = may-touch c.args.grid.now.shape c.args.hand.now.me.0 place (shard_of place) c.requires.place;
-      left = c.requires.slots (shard_of place) (is_place-parts c.args.grid.now.shape place c.requires.spot.inside).0 ∙ rests-own place;
+      hand = c.requires.may.hand;
+      spot = c.requires.may.spot;
+      lane = c.requires.may.below;
+      may = may-touch c.args.grid.now.shape c.args.hand.now.me.0 place (shard_of place) c.requires.may.place;
+      left = c.requires.slots (shard_of place) (is_place-parts c.args.grid.now.shape place c.requires.may.spot.inside).0 ∙ rests-own place;
     }
 
-pub returns-clause-hand : goal.returns-clause-hand
-returns-clause-hand g c = (c.out_whole.ensures.hand, one-after (carries-out c.out_whole.ensures.outs))
-
-pub returns-clause-place : goal.returns-clause-place
-returns-clause-place g c = carried-place (carries-out c.out_whole.ensures.outs) c.shares_law.ensures.stays c.args.spot.place c.requires.place
-
-pub returns-clause-carries : goal.returns-clause-carries
-returns-clause-carries g c = carries-out c.out_whole.ensures.outs
+pub returns-clause-moves : goal.returns-clause-moves
+returns-clause-moves g c =
+    let carries = carries-out c.out_whole.ensures.outs in record {
+      hand = (c.out_whole.ensures.hand, one-after carries);
+      place = carried-place carries c.shares_law.ensures.stays c.args.spot.place c.requires.may.place;
+      carries = carries;
+    }
 
 pub returns-clause-slots : goal.returns-clause-slots
 returns-clause-slots g c = rests-no-more (out-moves c.out_whole.ensures.outs) c.requires.slots

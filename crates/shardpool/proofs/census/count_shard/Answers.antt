@@ -4,11 +4,11 @@ use Rattle.core.specs.Mem.Slots.{slots_items}
 use Rattle.keybits.specs.declared.step.Word.TheVariants.{Life}
 use Rattle.keybits.specs.Places.{page_of}
 use Rattle.std.specs.Prelude.{min}
-use Rattle.keybits.specs.Shapes.{all_places, page_start, shard_places}
+use Rattle.keybits.specs.Shapes.{all_places, page_start}
 use Rattle.shardpool.specs.Marks.{part_in}
 use Rattle.keybits.proofs.ShapeLemmas.{shape_bounds}
 use Rattle.shardpool.proofs.count.Marks.{read-word}
-use Rattle.shardpool.proofs.count.Counts.{CountsTo, counts-more, counts-all, counts-room, position-below, at-position, unopened-from, opened-few}
+use Rattle.shardpool.proofs.count.Counts.{counts-more, counts-all, counts-room, position-below, at-position, unopened-from, opened-few}
 use Rattle.shardpool.proofs.census.count_shard.Goals as goal
 
 pub overflow_add-position : goal.overflow_add-position

@@ -1,6 +1,6 @@
 -- A page's places come before those of the next.
-use Rattle.std.proofs.Common.{◌≡◌, ◌+◌, ◌≤◌, ℕ, min, ap, ◌∙◌, arith}
-use Rattle.keybits.specs.Shapes.{page_start, shard_places}
+use Rattle.std.proofs.Common.{◌≡◌, ◌+◌, min, ap, ◌∙◌, arith}
+use Rattle.keybits.specs.Shapes.{page_start}
 use Rattle.keybits.proofs.ShapeLemmas.{start_more, start-le, shape_bounds}
 use Rattle.shardpool.proofs.census.places_of_pages.Goals as goal
 

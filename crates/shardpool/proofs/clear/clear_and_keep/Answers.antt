@@ -1,8 +1,19 @@
 use Rattle.std.proofs.Common.{◌+◌, refl, ap, ◌∙◌, arith}
 use Rattle.poolsteps.specs.declared.view.LaneRecord.{LaneRecord}
 use Rattle.shardpool.proofs.parts.AtOnce.{clears-most, clears-behind, looks-still}
-use Rattle.shardpool.proofs.calls.Ends.{keeper-still}
+use Rattle.shardpool.proofs.calls.Ends.{keeper-still, keeps-act}
 use Rattle.shardpool.proofs.clear.clear_and_keep.Goals as goal
+
+pub try_clear-requires : goal.try_clear-requires
+try_clear-requires g c =
+    let call = c.requires.call in
+    let is = c.at_spot.ensures in record {
+      call = record {
+        act = keeps-act call.keeps c.at_spot.result is.spot c.place_of.ensures.place refl is.lane is.tops;
+        idle = call.idle;
+      };
+      key = call.valid;
+    }
 
 -- ---- another lane stepped meanwhile: the lane looked, and is as it was
 
@@ -34,11 +45,11 @@ returns-in_default-clause-clears g c =
 
 pub keep_reclaimed-requires-clause-away : goal.keep_reclaimed-requires-clause-away
 keep_reclaimed-requires-clause-away g c whole is =
-    rw c.place_of.ensures.place (c.requires.call.may 35 c.try_clear.new.hand.me c.in-Some.marked c.in-Some.reclaimed c.in-Some.ensures.clears whole is)
+    rw c.place_of.ensures.place (c.requires.call.may 35 c.try_clear.new.hand.me c.in-Some.marked c.in-Some.reclaimed (rw c.at_spot.ensures.lane at c.in-Some.ensures.clears) whole is)
 
 pub returns-clause-clears : goal.returns-clause-clears
 returns-clause-clears g c = record {
   reclaimed = c.in-Some.reclaimed;
-  clears = clears-most c.in-Some.ensures.clears (omega arith);
+  clears = clears-most (rw c.at_spot.ensures.lane at c.in-Some.ensures.clears) (omega arith);
   kept = rw c.place_of.ensures.place at c.keep_reclaimed.ensures;
 }

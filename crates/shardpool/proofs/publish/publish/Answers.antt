@@ -11,28 +11,31 @@ use Rattle.shardpool.proofs.publish.publish.Goals as goal
 pub spread_cell-requires : goal.spread_cell-requires
 spread_cell-requires g c =
     let at = c.requires.spot.place_is in record {
-      hand = c.requires.hand;
+      may = record {
+        hand = c.requires.hand;
+        spot = spot-own c.requires.spot;
+        below = c.requires.lane.1;
+        place = publish-place c.args.grid.now.shape c.args.hand.now.me.0 c.args.key c.args.spot.place at c.requires.may;
+      };
       bare = c.requires.bare;
-      spot = spot-own c.requires.spot;
-      lane = c.requires.lane.1;
-      place = publish-place c.args.grid.now.shape c.args.hand.now.me.0 c.args.key c.args.spot.place at c.requires.may;
       slots = λ number below. subst (λ (p : ℕ). status_of (the_lane c.args.hand.now.me.0) p number ≡ Emptied) (sym at) (c.requires.slots number below);
       at = c.requires.at ∙ ap (spots_at c.args.grid.now.objects.ptr c.args.grid.now.shape) (sym at);
     }
 
 pub publish-requires : goal.publish-requires
 publish-requires g c =
-    let filled = c.spread_cell.ensures in record {
-      hand = (filled.hand.0.0 ∙ c.requires.hand.0, filled.hand.1);
+    let filled = c.spread_cell.ensures in
+    let moves = filled.moves in record {
+      hand = (moves.hand.0.0 ∙ c.requires.hand.0, moves.hand.1);
       spot = c.requires.spot;
-      may = still-may filled.carries c.shares_law.ensures.fills c.args.key c.requires.may;
+      may = still-may moves.carries c.shares_law.ensures.fills c.args.key c.requires.may;
       shares = λ number below touched. absurd (touched (subst (λ (p : ℕ). status_of (the_lane c.spread_cell.new.hand.me.0) p number ≡ Untouched) c.requires.spot.place_is
           (filled.slots number below)));
     }
 
 pub returns-clause-hand : goal.returns-clause-hand
 returns-clause-hand g c =
-    let first = c.spread_cell.ensures.hand.0 in let last = c.publish.ensures.hand in (last.0 ∙ first.0, last.1 ∙ first.1)
+    let first = c.spread_cell.ensures.moves.hand.0 in let last = c.publish.ensures.hand in (last.0 ∙ first.0, last.1 ∙ first.1)
 
 pub returns-clause-slots : goal.returns-clause-slots
 returns-clause-slots g c number below = publish-left c.publish.ensures.publishes _ number
@@ -50,7 +53,7 @@ returns-clause-called g c =
     let at = c.requires.spot.place_is in
     let filled = c.spread_cell.ensures in
     let few : 2 ≤ 34 = omega arith in
-    publish-called (subst (λ (place : ℕ). Carries z place 2 c.args.hand.now.me c.spread_cell.new.hand.me) at filled.carries) few
+    publish-called (subst (λ (place : ℕ). Carries z place 2 c.args.hand.now.me c.spread_cell.new.hand.me) at filled.moves.carries) few
     (sym (filled.cell.0 ∙ ap (λ (place : ℕ). (known_of (the_lane c.spread_cell.new.hand.me.0) place).content) at)) c.publish.ensures.publishes
 
 pub returns-clause-room : goal.returns-clause-room

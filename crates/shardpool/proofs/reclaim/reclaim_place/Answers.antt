@@ -1,7 +1,7 @@
 use Rattle.std.proofs.Common.{◌≤◌, ◌+◌, ◌∷◌, [], ℕ, sym, ap, ◌∙◌, arith}
 use Rattle.keybits.specs.declared.shape.Shape.{Shape}
 use Rattle.steplaws.specs.Calls.{is_claimed}
-use Rattle.shardpool.proofs.parts.Moves.{carried-place, carries-more}
+use Rattle.shardpool.proofs.parts.Moves.{carries-more}
 use Rattle.shardpool.proofs.parts.Standing.{at-same, returns-away, stands-in}
 use Rattle.shardpool.specs.Called.{caller_of}
 use Rattle.shardpool.proofs.parts.Doing.{did-carries, goes-none, goes-moves, goes-most}
@@ -12,7 +12,7 @@ pub returns-then-generation-grid-clause-tails : goal.returns-then-generation-gri
 returns-then-generation-grid-clause-tails g c leave claim is claimed =
     let z : Shape = c.args.grid.now.shape in
     let place : ℕ = c.args.at.spot.place in
-    let carries = c.take_cell-whole.ensures.carries in
+    let carries = c.take_cell-whole.ensures.moves.carries in
     let last = c.if-generation-grid.true in
     let few : 2 ≤ 33 = omega arith in
     goes-most
@@ -23,7 +23,7 @@ pub returns-then-shard_of-at-clause-tails : goal.returns-then-shard_of-at-clause
 returns-then-shard_of-at-clause-tails g c leave claim is claimed =
     let z : Shape = c.args.grid.now.shape in
     let place : ℕ = c.args.at.spot.place in
-    let carries = c.take_cell-whole.ensures.carries in
+    let carries = c.take_cell-whole.ensures.moves.carries in
     let own = sym c.shard_of.ensures ∙ c.if-shard_of-at.true in
     let few : 2 ≤ 33 = omega arith in
     goes-most
@@ -32,12 +32,11 @@ returns-then-shard_of-at-clause-tails g c leave claim is claimed =
 
 pub returns-then-shard_of-at-clause-reclaimed : goal.returns-then-shard_of-at-clause-reclaimed
 returns-then-shard_of-at-clause-reclaimed g c =
-    let law = c.shares_law.ensures.stays in
     let took = c.take_cell-whole.ensures in
-    let same = room-still took.carries law c.args.at.spot.place c.requires.place.0 in
+    let same = room-still took.moves.carries c.shares_law.ensures.stays c.args.at.spot.place c.requires.place.0 in
     let old = ap g.T.Clear.room c.get_mut.ensures.object in (
       sym c.shard_of.ensures ∙ c.if-shard_of-at.true,
-      carried-place took.carries law c.args.at.spot.place c.requires.place.0,
+      took.moves.place,
       took.slots,
       c.clear.ensures.empty,
       omega (arith, same, c.requires.room, took.cell.1, old, c.clear.ensures.room_kept),
@@ -45,30 +44,30 @@ returns-then-shard_of-at-clause-reclaimed g c =
 
 pub take_cell-whole-requires : goal.take_cell-whole-requires
 take_cell-whole-requires g c =
-    record { hand = c.requires.act.hand; bare = c.requires.act.bare; spot = c.requires.act.at.spot; lane = c.requires.act.at.below; place = c.requires.place.0; slots = c.requires.place.1 }
+    let act = c.requires.act in record {
+      may = record { hand = act.hand; spot = act.at.spot; below = act.at.below; place = c.requires.place.0 };
+      bare = act.bare;
+      slots = c.requires.place.1;
+    }
 
 pub returns-then-generation-grid-clause-hand : goal.returns-then-generation-grid-clause-hand
-returns-then-generation-grid-clause-hand g c = c.take_cell-whole.ensures.hand.0
+returns-then-generation-grid-clause-hand g c = c.take_cell-whole.ensures.moves.hand.0
 
 pub returns-then-shard_of-at-clause-hand : goal.returns-then-shard_of-at-clause-hand
-returns-then-shard_of-at-clause-hand g c = c.take_cell-whole.ensures.hand.0
+returns-then-shard_of-at-clause-hand g c = c.take_cell-whole.ensures.moves.hand.0
 
 pub rest_cell-requires : goal.rest_cell-requires
 rest_cell-requires g c =
-    let took = c.take_cell-whole.ensures in record {
-      hand = (took.hand.0.0 ∙ c.requires.act.hand.0, took.hand.1);
-      spot = c.requires.act.at.spot;
-      lane = c.requires.act.at.below;
-      place = carried-place took.carries c.shares_law.ensures.stays c.args.at.spot.place c.requires.place.0;
+    let act = c.requires.act in
+    let took = c.take_cell-whole.ensures in
+    let moves = took.moves in record {
+      may = record { hand = (moves.hand.0.0 ∙ act.hand.0, moves.hand.1); spot = act.at.spot; below = act.at.below; place = moves.place };
       slots = took.slots;
       at = took.cell.2;
     }
 
 pub give_home-requires-clause-place : goal.give_home-requires-clause-place
-give_home-requires-clause-place g c =
-    let law = c.shares_law.ensures.stays in
-    let place : ℕ = c.args.at.spot.place in
-    carried-place c.rest_cell.ensures.carries law place (carried-place c.take_cell-whole.ensures.carries law place c.requires.place.0)
+give_home-requires-clause-place g c = c.rest_cell.ensures.moves.place
 
 pub give_home-requires-clause-rests : goal.give_home-requires-clause-rests
 give_home-requires-clause-rests g c =
@@ -76,8 +75,8 @@ give_home-requires-clause-rests g c =
     let place : ℕ = c.args.at.spot.place in
     let took = c.take_cell-whole.ensures in
     let rests = c.rest_cell.ensures in
-    let first = room-still took.carries law place c.requires.place.0 in
-    let last = room-still rests.carries law place (carried-place took.carries law place c.requires.place.0) in
+    let first = room-still took.moves.carries law place c.requires.place.0 in
+    let last = room-still rests.moves.carries law place took.moves.place in
     let old = ap g.T.Clear.room c.get_mut.ensures.object in
     record {
       slots = rests.slots;
@@ -88,8 +87,8 @@ give_home-requires-clause-rests g c =
 pub returns-clause-tails : goal.returns-clause-tails
 returns-clause-tails g c leave claim is claimed =
     let z : Shape = c.args.grid.now.shape in
-    let took = c.take_cell-whole.ensures.carries in
-    let rests = c.rest_cell.ensures.carries in
+    let took = c.take_cell-whole.ensures.moves.carries in
+    let rests = c.rest_cell.ensures.moves.carries in
     let few : 2 + 2 ≤ 33 = omega arith in
     let lane_is = rests.elsewhere.lane ∙ took.elsewhere.lane in
     goes-moves (leave ∷ claim ∷ []) (caller-still rests ∙ caller-still took) (did-carries (carries-more took rests) few)
@@ -98,24 +97,24 @@ returns-clause-tails g c leave claim is claimed =
 
 pub give_home-requires-clause-hand : goal.give_home-requires-clause-hand
 give_home-requires-clause-hand g c =
-    let took = c.take_cell-whole.ensures.hand in let rests = c.rest_cell.ensures.hand in (rests.0.0 ∙ (took.0.0 ∙ c.requires.act.hand.0), rests.1)
+    let took = c.take_cell-whole.ensures.moves.hand in let rests = c.rest_cell.ensures.moves.hand in (rests.0.0 ∙ (took.0.0 ∙ c.requires.act.hand.0), rests.1)
 
 pub give_home-requires-clause-at : goal.give_home-requires-clause-at
 give_home-requires-clause-at g c =
-    let took = c.take_cell-whole.ensures.carries.elsewhere in
-    let rests = c.rest_cell.ensures.carries.elsewhere in at-same (rests.lane ∙ took.lane) (rests.pushed ∙ took.pushed) c.requires.act.at
+    let took = c.take_cell-whole.ensures.moves.carries.elsewhere in
+    let rests = c.rest_cell.ensures.moves.carries.elsewhere in at-same (rests.lane ∙ took.lane) (rests.pushed ∙ took.pushed) c.requires.act.at
 
 pub give_home-requires-clause-returns : goal.give_home-requires-clause-returns
 give_home-requires-clause-returns g c =
-    let took = c.take_cell-whole.ensures.carries.elsewhere in
-    let rests = c.rest_cell.ensures.carries.elsewhere in
+    let took = c.take_cell-whole.ensures.moves.carries.elsewhere in
+    let rests = c.rest_cell.ensures.moves.carries.elsewhere in
     rests.under ∙ (took.under ∙ (c.requires.under
     ∙ returns-away c.args.grid.now.shape c.args.at.lane c.args.at.spot.place c.args.generation c.if-generation-grid.false (λ own. c.if-shard_of-at.false (c.shard_of.ensures ∙ own))))
 
 pub returns-clause-hand : goal.returns-clause-hand
 returns-clause-hand g c =
-    let took = c.take_cell-whole.ensures.hand.0 in
-    let rests = c.rest_cell.ensures.hand.0 in
+    let took = c.take_cell-whole.ensures.moves.hand.0 in
+    let rests = c.rest_cell.ensures.moves.hand.0 in
     let last = c.give_home.ensures.hand in (last.0 ∙ (rests.0 ∙ took.0), last.1 ∙ (rests.1 ∙ took.1))
 
 pub get_mut-requires : goal.get_mut-requires

@@ -41,7 +41,7 @@ pub get_within-requires-clause-call : goal.get_within-requires-clause-call
 get_within-requires-clause-call g c =
     let seat = c.requires.parts.fits.seat in
     record {
-      act = record { hand = (c.requires.parts.table ∙ sym (ap (λ p. p.table) c.self.view_is), seat.one); bare = c.requires.parts.bare; at = ready-at (ready-parts c.self.view_is c.requires.parts c.in-Some.ensures.spot) _ refl refl refl };
+      act = record { hand = (c.requires.parts.table ∙ sym (ap (λ p. p.table) c.self.view_is), seat.one); bare = c.requires.parts.bare; at = ready-at (ready-parts c.self.view_is c.requires.parts c.in-Some.ensures.spot) _ c.at_spot.ensures.spot c.at_spot.ensures.lane c.at_spot.ensures.tops };
       idle = seat.idle;
     }
 

@@ -1,8 +1,12 @@
 -- The share goes back in front of the call.
-use Rattle.std.proofs.Common.{ap, refl, sym, ◌∙◌, subst, arith}
+use Rattle.std.proofs.Common.{◌≢◌, ℕ, ap, sym, ◌∙◌, subst, arith}
+use Rattle.keybits.specs.Keys.{place_of}
 use Rattle.keybits.specs.declared.shape.Shape.{Shape}
 use Rattle.steplaws.specs.Calls.Call.{Releasing}
+use Rattle.poolsteps.specs.declared.grid.Spot.{Spot}
 use Rattle.poolsteps.specs.Grids.{IsSpot}
+use Rattle.poolsteps.specs.Views.{the_lane, status_of}
+use Rattle.poolsteps.specs.declared.view.Status.TheVariants.{Untouched}
 use Rattle.shardpool.specs.Halted.{CalledWithin}
 use Rattle.shardpool.proofs.parts.Within.{called-not}
 use Rattle.shardpool.proofs.calls.Releases.{lent-some, lent-share, lent-at}
@@ -26,19 +30,24 @@ release_within-requires-clause-held g c =
     let same = lent-some refers c.return_last_share.ensures.lends in omega (arith, same, some)
 
 pub release_within-requires-clause-share : goal.release_within-requires-clause-share
-release_within-requires-clause-share g c below =
-    lent-share (refers-parts c.self.view_is c.requires.parts c.requires.held) c.return_last_share.ensures.lends
+release_within-requires-clause-share g c below moved =
+    let lends = c.return_last_share.ensures.lends in
+    let lane = c.at_spot.ensures.lane ∙ ap (λ s. s.number) lends.rest in
+    lent-share (refers-parts c.self.view_is c.requires.parts c.requires.held) lends
+    (subst (λ (n : ℕ). status_of (the_lane c.return_last_share.new.hand.me.0) (place_of c.args.key) n ≢ Untouched) lane moved)
 
 pub release_within-requires-clause-call : goal.release_within-requires-clause-call
 release_within-requires-clause-call g c =
     let refers = refers-parts c.self.view_is c.requires.parts c.requires.held in
     let lends = c.return_last_share.ensures.lends in
-    let spot = subst (IsSpot c.self.inside.grid.shape c.spot-spot.result) c.place_of.ensures.place c.spot-spot.ensures in
+    let is = c.at_spot.ensures in
+    let spot = subst (λ (x : Spot). IsSpot c.self.inside.grid.shape x (place_of c.args.key)) (sym is.spot)
+    (subst (IsSpot c.self.inside.grid.shape c.spot-spot.result) c.place_of.ensures.place c.spot-spot.ensures) in
     record {
       act = record {
         hand = (c.return_last_share.ensures.hand.0 ∙ (c.requires.parts.table ∙ sym (ap (λ p. p.table) c.self.view_is)), lends.did.acted.one);
         bare = lends.did.held ∙ c.requires.parts.bare;
-        at = lent-at refers lends _ spot refl refl;
+        at = lent-at refers lends _ spot (is.lane ∙ ap (λ s. s.number) lends.rest) is.tops;
       };
       idle = lends.idle;
     }
