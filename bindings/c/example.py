@@ -9,8 +9,9 @@ import ctypes
 import queue
 import sys
 import threading
+import time
 
-OK, GONE = 0, 8
+OK, GONE, BUSY = 0, 8, 15
 
 
 class Lane(ctypes.Structure):
@@ -31,6 +32,18 @@ class Census(ctypes.Structure):
     _fields_ = [(name, ctypes.c_uint32) for name in ("free", "unopened", "filling", "present", "marked", "retired")]
 
 
+class Slot(ctypes.Structure):
+    """pardz_pool: a pool that any thread calls, or PARDZ_EMPTY."""
+
+    _fields_ = [("at", ctypes.c_void_p), ("full", ctypes.c_uint64)]
+
+
+class Lent(ctypes.Structure):
+    """pardz_lent: a reference of such a pool, with its bytes."""
+
+    _fields_ = [("at", ctypes.c_void_p), ("len", ctypes.c_size_t), ("key", ctypes.c_uint64), ("lane", ctypes.c_uint32)]
+
+
 class Refused(Exception):
     """A call answered a code that isn't PARDZ_OK."""
 
@@ -40,6 +53,7 @@ def load(library, heap):
     names = ctypes.CDLL(heap, mode=ctypes.RTLD_GLOBAL)
     names.pardz_next_number.restype = ctypes.c_uint64
     pardz = ctypes.CDLL(library)
+    slot, lent, number = ctypes.POINTER(Slot), ctypes.POINTER(Lent), ctypes.c_uint32
     lane, key, size, bytes_at = ctypes.POINTER(Lane), ctypes.c_uint64, ctypes.c_size_t, ctypes.POINTER(ctypes.c_void_p)
     for name, arguments in {
         "open_numbered": [ctypes.POINTER(Shape), lane, size, ctypes.c_uint64],
@@ -49,9 +63,16 @@ def load(library, heap):
         "clear": [lane, key],
         "join": [lane, lane],
         "close": [lane, ctypes.POINTER(Census)],
+        "attach": [ctypes.POINTER(Shape), slot],
+        "pool_put": [slot, number, ctypes.c_char_p, size, ctypes.POINTER(key)],
+        "pool_get": [slot, number, key, lent],
+        "pool_release": [slot, lent],
+        "pool_clear": [slot, number, key],
+        "detach": [slot, ctypes.POINTER(Census)],
     }.items():
-        call = getattr(pardz, "pardz_" + name)
-        call.argtypes, call.restype = arguments, ctypes.c_uint32
+        call = getattr(pardz, "pardz_" + name, None)
+        if call is not None:
+            call.argtypes, call.restype = arguments, ctypes.c_uint32
     return pardz, names.pardz_next_number
 
 
@@ -104,6 +125,67 @@ class Pool:
         return {name: getattr(census, name) for name, _ in Census._fields_}
 
 
+class SharedPool:
+    """A pool that any number of threads call at once."""
+
+    def __init__(self, library, heap, shape):
+        self.pardz, _ = load(library, heap)
+        self.slot = Slot()
+        must(self.pardz.pardz_attach(ctypes.byref(shape), ctypes.byref(self.slot)))
+
+    def call(self, name, *arguments):
+        """Calls until a lane serves it, and answers the code."""
+        while True:
+            code = getattr(self.pardz, "pardz_pool_" + name)(self.slot, *arguments)
+            if code != BUSY:
+                return code
+            time.sleep(0)
+
+    def put(self, data):
+        """Publishes bytes, and answers their key."""
+        key = ctypes.c_uint64()
+        must(self.call("put", threading.get_native_id(), data, len(data), ctypes.byref(key)))
+        return key.value
+
+    def take(self, key):
+        """The bytes under a key, which is then cleared; None where nothing is published under it."""
+        lent = Lent()
+        code = self.call("get", threading.get_native_id(), key, ctypes.byref(lent))
+        if code == GONE:
+            return None
+        must(code)
+        must(self.call("clear", 0, key))
+        data = ctypes.string_at(lent.at, lent.len) if lent.len else b""
+        must(self.call("release", ctypes.byref(lent)))
+        return data
+
+    def close(self):
+        """Closes the pool, and answers how many keys were still published."""
+        census = Census()
+        must(self.pardz.pardz_detach(ctypes.byref(self.slot), ctypes.byref(census)))
+        return census.present
+
+
+def many_threads(library, heap):
+    """Twenty threads put and take by the two lanes of one pool."""
+    pool = SharedPool(library, heap, Shape(lanes=2, first_page=64, pages=3, last_generation=2**32 - 1, tag=2))
+    keys = queue.SimpleQueue()
+
+    def put_and_take(thread):
+        for line in range(50):
+            keys.put(pool.put(f"line {line} of {thread}".encode()))
+            key = keys.get()
+            assert pool.take(key).startswith(b"line ") and pool.take(key) is None
+
+    threads = [threading.Thread(target=put_and_take, args=(number,)) for number in range(20)]
+    for thread in threads:
+        thread.start()
+    for thread in threads:
+        thread.join()
+    pool.put(b"")
+    assert pool.close() == 1
+
+
 def main():
     library, heap = sys.argv[1:] or ("libpardz.so.0.2", "libpardz-heap.so.0.2")
     pool = Pool(library, heap, Shape(lanes=2, first_page=8, pages=2, last_generation=2**32 - 1, tag=1))
@@ -124,6 +206,8 @@ def main():
     writer.join()
     assert pool.read(0, pool.put(0, b""), bytes) == b"" and pool.read(0, 1, bytes) is None
     print(pool.close())
+    if hasattr(ctypes.CDLL(library), "pardz_attach"):
+        many_threads(library, heap)
 
 
 if __name__ == "__main__":

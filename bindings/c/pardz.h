@@ -2,9 +2,14 @@
  *
  * A thread fills a buffer and publishes it under a key; any thread with a lane reads it by a reference. A clear hides the key at
  * once, and whoever lets go last empties the buffer, which keeps its memory and is filled again under a new key.
- * No call locks anything or waits for another thread, unless the heap does: pardz_open, pardz_create where it opens a page,
- * pardz_append, pardz_room and pardz_put take memory, and pardz_close, a pardz_open that is refused and whoever lets go last of a
- * place that is used up give it back.
+ *
+ * There are two ways. pardz_open gives each thread a lane of its own. pardz_attach opens a pool that any number of threads call, each
+ * call by a lane that it has for that call alone: pardz_pool_put and its like, which answer PARDZ_BUSY while others have all lanes.
+ * libpardz.a and libpardz.so have these calls, and libpoolffi.a hasn't.
+ *
+ * No call locks anything or waits for another thread, unless the heap does, and but for pardz_await_put and its like: pardz_open,
+ * pardz_attach, pardz_create where it opens a page, pardz_append, pardz_room, pardz_put and pardz_pool_put take memory, and
+ * pardz_close, pardz_detach, an open that is refused and whoever lets go last of a place that is used up give it back.
  *
  * Link with heap.c and one of two libraries, whose calls do the same: libpoolffi.a, which is proved up to these calls, for x86-64 of
  * level 2 (x86-64-v2) and ELF; or libpardz.a or libpardz.so, which cargo builds, and which are made from the proved sources and not
@@ -16,7 +21,9 @@
  *   sequentially consistent atomic stands between the calls of one thread and those of the next. Two threads that call at once
  *   need two lanes.
  * - A slot (pardz_lane) is PARDZ_EMPTY before pardz_open. It may be moved by a plain copy, if the old copy isn't used again;
- *   nothing else writes to it or makes one up. Slots of threads that run at once best stand 64 bytes apart.
+ *   nothing else writes to it or makes one up. Slots of threads that run at once best stand 64 bytes apart. So it is with a pool's
+ *   slot (pardz_pool) and pardz_attach; many threads may be in calls with it at once, but in none while it is attached or detached:
+ *   a lock, the start or join of a thread, or such an atomic stands between.
  * - A pointer that a call is given points to so much memory as the call reads or writes, for the time of the call, and to no slot
  *   and nothing else that the call writes: the slots of a join are two. It is never NULL, but for `bytes` where `len` is 0, and
  *   for `lanes` and `numbers` where `count` is 0.
@@ -27,8 +34,9 @@
  * Each call answers a code. At any code but PARDZ_OK nothing was written through a pointer, and all is as before the call, except:
  *
  * - PARDZ_MEMORY of an append or a room: an earlier room of the filling has ended. Its bytes are as before.
- * - PARDZ_MEMORY of a put: a page may be open, and a place have used up its next key (if that was its last, it is retired).
- * - PARDZ_SHARED of a close: the slot may be empty, and the pool then keeps its memory.
+ * - PARDZ_MEMORY of pardz_put and pardz_pool_put: a page may be open, and a place have used up its next key (if that was its last, it
+ *   is retired).
+ * - PARDZ_SHARED of pardz_close and pardz_detach: the slot may be empty, and the pool then keeps its memory.
  * - pardz_close_all: what it joined before it was refused is joined.
  * - pardz_put_several and its like: what was done before is done, and told.
  *
@@ -44,6 +52,16 @@
 
 #include <stddef.h>
 #include <stdint.h>
+
+/* What pardz_await_put and its like do between two tries. A program may define another way. */
+#ifndef PARDZ_YIELD
+#if defined(__unix__) || defined(__APPLE__)
+#include <sched.h>
+#define PARDZ_YIELD() ((void)sched_yield())
+#else
+#define PARDZ_YIELD() ((void)0)
+#endif
+#endif
 
 /* The version of this header. */
 #define PARDZ_VERSION "0.2.0"
@@ -72,6 +90,20 @@ typedef struct pardz_shape {
     uint32_t tag;             /* 0 to 255: stands in each key, and tells it from those of pools with another tag */
 } pardz_shape;
 
+/* The place of a pool that any thread calls: 16 bytes of the caller's. pardz_pool pool = PARDZ_EMPTY; */
+typedef struct pardz_pool {
+    void *at;
+    uint64_t full;
+} pardz_pool;
+
+/* A reference of such a pool, with its bytes: one of the pool's lanes keeps it. */
+typedef struct pardz_lent {
+    const uint8_t *at; /* not written where len is 0 */
+    size_t len;
+    uint64_t key;
+    uint32_t lane; /* which lane keeps it */
+} pardz_lent;
+
 /* What a lane tells of its pool and of itself while the pool is open. A later version may have more fields, behind these. */
 typedef struct pardz_stats {
     pardz_shape shape;   /* what the pool was opened with */
@@ -94,8 +126,8 @@ typedef struct pardz_census {
 enum {
     PARDZ_OK = 0,
     PARDZ_MEMORY = 1,       /* memory was refused */
-    PARDZ_EMPTY_LANE = 2,   /* the slot has no lane: it was never opened, or was joined or closed */
-    PARDZ_FULL_LANE = 3,    /* open: a slot already has a lane */
+    PARDZ_EMPTY_LANE = 2,   /* the slot has no lane (or no pool): it was never opened, or was joined or closed */
+    PARDZ_FULL_LANE = 3,    /* open, attach: a slot already has a lane (or a pool) */
     PARDZ_FULL = 4,         /* create, put: no place of the lane is free */
     PARDZ_FILLINGS = 5,     /* create: the lane already has 16 fillings */
     PARDZ_NO_FILLING = 6,   /* the lane has no filling under this key */
@@ -104,9 +136,10 @@ enum {
     PARDZ_REFERENCES = 9,   /* get, downgrade: the lane has 1,048,575 references, the most that it can have */
     PARDZ_OTHER_POOL = 10,  /* join: the lanes are of different pools */
     PARDZ_LANES = 11,       /* open: count isn't the shape's number of lanes; join, close: not the lane whose turn it is */
-    PARDZ_SHAPE = 12,       /* open: the shape is outside its limits */
+    PARDZ_SHAPE = 12,       /* open, attach: the shape is outside its limits */
     PARDZ_ROOM = 13,        /* wrote: more bytes than the last pardz_room gave */
-    PARDZ_SHARED = 14       /* close: all lanes were joined, but some into another pool that was opened under the same number */
+    PARDZ_SHARED = 14,      /* close: all lanes were joined, but some into another pool that was opened under the same number */
+    PARDZ_BUSY = 15         /* pardz_pool_put and its like: other calls have all lanes that could serve this one */
 };
 
 /* What a code says, for a message. It is never NULL: a number that is no code has a text too. */
@@ -127,6 +160,7 @@ static inline const char *pardz_strerror(uint32_t code) {
         "the shape is outside its limits",
         "more bytes than the room has",
         "another pool was opened under the same number",
+        "other calls have all lanes",
     };
     return code < sizeof texts / sizeof *texts ? texts[code] : "no code of pardz";
 }
@@ -149,6 +183,7 @@ static inline const char *pardz_code_name(uint32_t code) {
         "PARDZ_SHAPE",
         "PARDZ_ROOM",
         "PARDZ_SHARED",
+        "PARDZ_BUSY",
     };
     return code < sizeof names / sizeof *names ? names[code] : "PARDZ_?";
 }
@@ -311,6 +346,82 @@ static inline uint32_t pardz_close_all(pardz_lane *lanes, size_t count, pardz_ce
             return code;
     }
     return pardz_close(&lanes[0], census);
+}
+
+/* A pool for any number of threads, which come and go. Each call has one of its lanes for its own time. Where others have all lanes
+ * that could serve it, it answers PARDZ_BUSY at once and has done nothing: who may wait calls pardz_await_put and its like. `from` says
+ * at which lane a call begins to look; any number will do, modulo the number of lanes, and threads that give different ones meet less.
+ *
+ * The calls of a thread are in its order, also where different lanes serve them: a thread finds what it put before, and misses what
+ * it cleared.
+ *
+ * Opens a pool into an empty slot. Its shape's lanes say how many calls may be under way at once.
+ * PARDZ_MEMORY, PARDZ_FULL_LANE, PARDZ_SHAPE. */
+uint32_t pardz_attach(const pardz_shape *shape, pardz_pool *pool);
+
+/* Publishes bytes in a place of their own, and answers the key, as pardz_put. PARDZ_FULL tells of the places of the lane that served it
+ * alone: another `from` may find one.
+ * PARDZ_MEMORY, PARDZ_EMPTY_LANE, PARDZ_FULL, PARDZ_BUSY. */
+uint32_t pardz_pool_put(const pardz_pool *pool, uint32_t from, const uint8_t *bytes, size_t len, uint64_t *key);
+
+/* Takes a reference, and tells the bytes and which lane keeps it. They stand where they are, and don't change, until it is released, or
+ * the pool is detached; any thread may read them meanwhile, and any may release it. lent->at isn't written where lent->len is 0.
+ * PARDZ_EMPTY_LANE, PARDZ_GONE, PARDZ_REFERENCES, PARDZ_BUSY. */
+uint32_t pardz_pool_get(const pardz_pool *pool, uint32_t from, uint64_t key, pardz_lent *lent);
+
+/* Gives a reference back to the lane that keeps it, of which lent->key and lent->lane tell: once for each get.
+ * PARDZ_EMPTY_LANE, PARDZ_NO_REFERENCE, PARDZ_BUSY. */
+uint32_t pardz_pool_release(const pardz_pool *pool, const pardz_lent *lent);
+
+/* Clears a published key, as pardz_clear.
+ * PARDZ_EMPTY_LANE, PARDZ_GONE, PARDZ_BUSY. */
+uint32_t pardz_pool_clear(const pardz_pool *pool, uint32_t from, uint64_t key);
+
+/* Closes the pool, and empties the slot: as a pardz_close of all its lanes. References that are left end with it, and count as present
+ * or marked. No call with the pool is under way: else PARDZ_BUSY, or PARDZ_SHARED.
+ * PARDZ_EMPTY_LANE, PARDZ_SHARED, PARDZ_BUSY. */
+uint32_t pardz_detach(pardz_pool *pool, pardz_census *census);
+
+/* The same calls for who may wait: they try again, from the next lane on, until a lane serves them. They answer each other code.
+ *
+ * A pardz_pool_put. PARDZ_FULL says that 64 tries, each from the next lane on, found no free place.
+ * PARDZ_MEMORY, PARDZ_EMPTY_LANE, PARDZ_FULL. */
+static inline uint32_t pardz_await_put(const pardz_pool *pool, uint32_t from, const uint8_t *bytes, size_t len, uint64_t *key) {
+    uint32_t code, full = 0;
+    do {
+        code = pardz_pool_put(pool, from++, bytes, len, key);
+        if (code == PARDZ_BUSY)
+            PARDZ_YIELD();
+        full += code == PARDZ_FULL;
+    } while (code == PARDZ_BUSY || (code == PARDZ_FULL && full < 64));
+    return code;
+}
+
+/* A pardz_pool_get.
+ * PARDZ_EMPTY_LANE, PARDZ_GONE, PARDZ_REFERENCES. */
+static inline uint32_t pardz_await_get(const pardz_pool *pool, uint32_t from, uint64_t key, pardz_lent *lent) {
+    uint32_t code;
+    while ((code = pardz_pool_get(pool, from++, key, lent)) == PARDZ_BUSY)
+        PARDZ_YIELD();
+    return code;
+}
+
+/* A pardz_pool_release: it waits for the one lane that keeps the reference.
+ * PARDZ_EMPTY_LANE, PARDZ_NO_REFERENCE. */
+static inline uint32_t pardz_await_release(const pardz_pool *pool, const pardz_lent *lent) {
+    uint32_t code;
+    while ((code = pardz_pool_release(pool, lent)) == PARDZ_BUSY)
+        PARDZ_YIELD();
+    return code;
+}
+
+/* A pardz_pool_clear.
+ * PARDZ_EMPTY_LANE, PARDZ_GONE. */
+static inline uint32_t pardz_await_clear(const pardz_pool *pool, uint32_t from, uint64_t key) {
+    uint32_t code;
+    while ((code = pardz_pool_clear(pool, from++, key)) == PARDZ_BUSY)
+        PARDZ_YIELD();
+    return code;
 }
 
 /* What the library calls. heap.c has it over malloc, realloc and free; a program with a heap of its own has its own in the place of

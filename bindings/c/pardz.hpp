@@ -1,6 +1,7 @@
 // Classes over pardz.h, whose duties hold here too: C++11 or later. What is taken is given back where it ends: a reference is released, a
 // filling that wasn't published is cleared, and a pool is closed. Memory that is refused is a std::bad_alloc, and any other code that a
-// call here doesn't answer itself a pardz::error. References and fillings stay with their lane and end before its pool.
+// call here doesn't answer itself a pardz::error. References and fillings stay with their lane and end before its pool; so do those of
+// a shared_pool, which any thread may use and end.
 #ifndef PARDZ_HPP
 #define PARDZ_HPP
 
@@ -9,8 +10,10 @@
 #include <cstddef>
 #include <cstdint>
 #include <exception>
+#include <functional>
 #include <memory>
 #include <new>
+#include <thread>
 #include <utility>
 #include <vector>
 
@@ -191,6 +194,71 @@ private:
     }
     std::size_t count_;
     std::unique_ptr<lane[]> lanes_;
+};
+
+/// Bytes to which a lane of a shared_pool has a reference; or none, where a key isn't published.
+class shared_reference {
+public:
+    shared_reference(shared_reference &&other) noexcept : pool_(other.pool_), lent_(other.lent_) { other.pool_ = nullptr; }
+    shared_reference &operator=(shared_reference other) noexcept {
+        std::swap(pool_, other.pool_);
+        std::swap(lent_, other.lent_);
+        return *this;
+    }
+    ~shared_reference() {
+        if (pool_ != nullptr)
+            pardz_await_release(pool_, &lent_);
+    }
+    explicit operator bool() const noexcept { return pool_ != nullptr; }
+    const std::uint8_t *data() const noexcept { return lent_.at; }
+    std::size_t size() const noexcept { return lent_.len; }
+    const std::uint8_t *begin() const noexcept { return lent_.at; }
+    const std::uint8_t *end() const noexcept { return lent_.at + lent_.len; }
+    std::uint64_t key() const noexcept { return lent_.key; }
+
+private:
+    friend class shared_pool;
+    shared_reference(const pardz_pool *pool, const pardz_lent &lent) noexcept : pool_(pool), lent_(lent) {}
+    const pardz_pool *pool_;
+    pardz_lent lent_;
+};
+
+/// A pool that any number of threads call at once. A call waits where others have all its lanes.
+class shared_pool {
+public:
+    explicit shared_pool(const pardz_shape &shape) { must(pardz_attach(&shape, &slot_)); }
+    shared_pool(const shared_pool &) = delete;
+    ~shared_pool() {
+        pardz_census census;
+        pardz_detach(&slot_, &census);
+    }
+    /// Publishes bytes, and answers their key.
+    std::uint64_t put(const void *bytes, std::size_t len) const {
+        std::uint64_t key = 0;
+        must(pardz_await_put(&slot_, from(), static_cast<const std::uint8_t *>(bytes), len, &key));
+        return key;
+    }
+    /// A reference to what is published under the key; it is false where nothing is.
+    shared_reference get(std::uint64_t key) const {
+        pardz_lent lent = {nullptr, 0, key, 0};
+        const bool found = is_there(pardz_await_get(&slot_, from(), key, &lent));
+        return shared_reference(found ? &slot_ : nullptr, lent);
+    }
+    /// Whether this call cleared the key.
+    bool clear(std::uint64_t key) const { return is_there(pardz_await_clear(&slot_, from(), key)); }
+    /// Closes the pool, and answers what its places were. No reference is left, and no thread uses it any more.
+    pardz_census close() {
+        pardz_census census;
+        must(pardz_detach(&slot_, &census));
+        return census;
+    }
+    /// For the calls of pardz.h.
+    const pardz_pool *slot() const noexcept { return &slot_; }
+
+private:
+    // Threads begin at lanes of their own.
+    static std::uint32_t from() { return static_cast<std::uint32_t>(std::hash<std::thread::id>()(std::this_thread::get_id()) >> 12); }
+    pardz_pool slot_ = PARDZ_EMPTY;
 };
 
 } // namespace pardz

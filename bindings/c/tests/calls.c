@@ -7,7 +7,7 @@
 
 enum call { OPEN, CREATE, APPEND, ROOM, WROTE, PUBLISH, DOWNGRADE, LEAVE, PUT, GET, READ, RELEASE, CLEAR, NUMBERS, JOIN, CLOSE, CALLS };
 
-#define CODES 15
+#define CODES 16
 #define BIT(code) (1u << PARDZ_##code)
 
 static const char *const NAMES[CALLS] = { "open", "create", "append", "room", "wrote", "publish", "downgrade", "leave", "put", "get", "read",

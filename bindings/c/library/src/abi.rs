@@ -4,7 +4,8 @@ use crate::code::{Refusal, OK};
 use crate::handle::NUMBERS;
 use crate::heap::Block;
 use crate::slot::Slot;
-use crate::{PoolCensus, PoolShape};
+use crate::store::PoolSlot;
+use crate::{PoolCensus, PoolLent, PoolShape};
 use std::ffi::c_char;
 use std::mem::{align_of, offset_of, size_of};
 
@@ -41,7 +42,7 @@ macro_rules! lines {
     };
 }
 
-const CODES: [(&str, u32); 15] = [
+const CODES: [(&str, u32); 16] = [
     ("OK", OK),
     ("MEMORY", Refusal::Memory as u32),
     ("EMPTY_LANE", Refusal::EmptyLane as u32),
@@ -57,12 +58,15 @@ const CODES: [(&str, u32); 15] = [
     ("SHAPE", Refusal::Shape as u32),
     ("ROOM", Refusal::Room as u32),
     ("SHARED", Refusal::Shared as u32),
+    ("BUSY", Refusal::Busy as u32),
 ];
 
 #[test]
 fn is_as_the_header_says() {
     let mut here = Vec::new();
     here.extend(lines!("pardz_lane" is Slot: at full));
+    here.extend(lines!("pardz_pool" is PoolSlot: at full));
+    here.extend(lines!("pardz_lent" is PoolLent: at len key lane));
     here.extend(lines!("pardz_shape" is PoolShape: lanes first_page pages last_generation tag));
     here.extend(lines!("pardz_stats" is PoolStats: shape lane references fillings joined));
     here.extend(lines!("pardz_census" is PoolCensus: free unopened filling present marked retired));
@@ -98,6 +102,10 @@ in_c! {
     *mut *const u8: "const uint8_t **",
     *const c_char: "const char *",
     *mut Slot: "pardz_lane *",
+    *mut PoolSlot: "pardz_pool *",
+    *const PoolSlot: "const pardz_pool *",
+    *mut PoolLent: "pardz_lent *",
+    *const PoolLent: "const pardz_lent *",
     *const PoolShape: "const pardz_shape *",
     *mut PoolCensus: "pardz_census *",
 }
@@ -117,7 +125,7 @@ macro_rules! prototypes {
     };
 }
 
-prototypes! { () (A) (A B) (A B C) (A B C D) }
+prototypes! { () (A) (A B) (A B C) (A B C D) (A B C D E) }
 
 /// The prototype of a call, without the names of its parameters.
 macro_rules! prototype {
@@ -166,6 +174,12 @@ fn has_the_parameters_that_the_header_declares() {
         prototype!(pardz_numbers(_ _ _)),
         prototype!(pardz_join(_ _)),
         prototype!(pardz_close(_ _)),
+        prototype!(pardz_attach(_ _)),
+        prototype!(pardz_pool_put(_ _ _ _ _)),
+        prototype!(pardz_pool_get(_ _ _ _)),
+        prototype!(pardz_pool_release(_ _)),
+        prototype!(pardz_pool_clear(_ _ _)),
+        prototype!(pardz_detach(_ _)),
     ];
     let header = include_str!("../../pardz.h").lines();
     let of_heap = ["alloc", "realloc", "dealloc", "next_number", "set_heap"]

@@ -9,9 +9,9 @@ pub(crate) const OK: u32 = 0;
 pub(crate) enum Refusal {
     /// Memory was refused.
     Memory = 1,
-    /// The slot has no lane.
+    /// The slot has no lane, or no pool.
     EmptyLane = 2,
-    /// The slot has a lane.
+    /// The slot has a lane, or a pool.
     FullLane = 3,
     /// No place is free.
     Full = 4,
@@ -35,6 +35,8 @@ pub(crate) enum Refusal {
     Room = 13,
     /// All lanes were joined, and yet the pool isn't let go.
     Shared = 14,
+    /// Other calls have all lanes that could serve it.
+    Busy = 15,
 }
 
 /// The code of an answer.

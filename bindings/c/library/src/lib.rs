@@ -21,6 +21,7 @@ mod shared;
 #[allow(dead_code, unused_imports)]
 mod shim;
 mod slot;
+mod store;
 #[path = "../../../rust/src/sync.rs"]
 #[allow(dead_code, unused_imports)]
 mod sync;
@@ -29,6 +30,7 @@ use crate::code::{code, Refusal, OK};
 use crate::erased::keybits::Shape;
 use crate::erased::shardpool::Census;
 use crate::slot::Slot;
+use crate::store::PoolSlot;
 use std::ffi::c_char;
 use std::slice;
 
@@ -40,6 +42,34 @@ struct PoolShape {
     pages: u32,
     last_generation: u32,
     tag: u32,
+}
+
+impl From<&PoolShape> for Shape {
+    fn from(shape: &PoolShape) -> Shape {
+        let &PoolShape {
+            lanes,
+            first_page,
+            pages,
+            last_generation,
+            tag,
+        } = shape;
+        Shape {
+            lanes,
+            first_page,
+            pages,
+            last_generation,
+            tag,
+        }
+    }
+}
+
+/// A reference that a lane of a pool keeps for its caller, and where the bytes are.
+#[repr(C)]
+struct PoolLent {
+    at: *const u8,
+    len: usize,
+    key: u64,
+    lane: u32,
 }
 
 /// How many places were what when the pool was closed.
@@ -111,20 +141,7 @@ unsafe extern "C" fn pardz_open_numbered(
     number: u64,
 ) -> u32 {
     // SAFETY: asked of the program.
-    let PoolShape {
-        lanes: lane_count,
-        first_page,
-        pages,
-        last_generation,
-        tag,
-    } = *unsafe { &*shape };
-    let shape = Shape {
-        lanes: lane_count,
-        first_page,
-        pages,
-        last_generation,
-        tag,
-    };
+    let shape = unsafe { &*shape }.into();
     let slots = match count {
         0 => &mut [],
         // SAFETY: asked of the program: so many slots stand there.
@@ -264,6 +281,77 @@ unsafe extern "C" fn pardz_join(into: *mut Slot, lane: *mut Slot) -> u32 {
 unsafe extern "C" fn pardz_close(lane: *mut Slot, census: *mut PoolCensus) -> u32 {
     // SAFETY: asked of the program.
     unsafe { told(ends::close(lane).map(PoolCensus::from), census) }
+}
+
+#[no_mangle]
+unsafe extern "C" fn pardz_attach(shape: *const PoolShape, pool: *mut PoolSlot) -> u32 {
+    // SAFETY: asked of the program.
+    code(unsafe { (*pool).attach((&*shape).into()) })
+}
+
+#[no_mangle]
+unsafe extern "C" fn pardz_pool_put(
+    pool: *const PoolSlot,
+    from: u32,
+    bytes: *const u8,
+    len: usize,
+    key: *mut u64,
+) -> u32 {
+    // SAFETY: asked of the program.
+    unsafe {
+        let bytes = bytes_of(bytes, len);
+        told(
+            PoolSlot::lend(pool).and_then(|store| store.put(from, bytes)),
+            key,
+        )
+    }
+}
+
+#[no_mangle]
+unsafe extern "C" fn pardz_pool_get(
+    pool: *const PoolSlot,
+    from: u32,
+    key: u64,
+    lent: *mut PoolLent,
+) -> u32 {
+    // SAFETY: asked of the program.
+    match unsafe { PoolSlot::lend(pool) }.and_then(|store| store.get(from, key)) {
+        Ok((lane, bytes)) => {
+            // SAFETY: asked of the program.
+            let lent = unsafe { &mut *lent };
+            *lent = PoolLent {
+                at: if bytes.len() == 0 {
+                    lent.at
+                } else {
+                    bytes.cast()
+                },
+                len: bytes.len(),
+                key,
+                lane,
+            };
+            OK
+        }
+        Err(refusal) => refusal as u32,
+    }
+}
+
+#[no_mangle]
+unsafe extern "C" fn pardz_pool_release(pool: *const PoolSlot, lent: *const PoolLent) -> u32 {
+    // SAFETY: asked of the program.
+    let (store, lent) = unsafe { (PoolSlot::lend(pool), &*lent) };
+    code(store.and_then(|store| store.release(lent.lane, lent.key)))
+}
+
+#[no_mangle]
+unsafe extern "C" fn pardz_pool_clear(pool: *const PoolSlot, from: u32, key: u64) -> u32 {
+    // SAFETY: asked of the program.
+    code(unsafe { PoolSlot::lend(pool) }.and_then(|store| store.clear(from, key)))
+}
+
+#[no_mangle]
+unsafe extern "C" fn pardz_detach(pool: *mut PoolSlot, census: *mut PoolCensus) -> u32 {
+    // SAFETY: asked of the program.
+    unsafe { told((*pool).detach().map(PoolCensus::from), census) }
 }
 
 /// The library's version, as a text of C.

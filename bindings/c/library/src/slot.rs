@@ -12,6 +12,14 @@ pub(crate) struct Slot {
 }
 
 impl Slot {
+    /// A slot without a lane.
+    pub(crate) fn empty() -> Slot {
+        Slot {
+            at: ptr::null_mut(),
+            full: 0,
+        }
+    }
+
     /// Puts a lane into the slot.
     pub(crate) fn fill(&mut self, at: NonNull<Handle>) {
         *self = Slot {
@@ -49,8 +57,7 @@ impl Slot {
         // SAFETY: asked of whoever calls.
         let slot = unsafe { &mut *slot };
         let at = slot.at;
-        slot.at = ptr::null_mut();
-        slot.full = 0;
+        *slot = Slot::empty();
         // SAFETY: a full slot has the address of a lane, which was put into a place; and it has it no more.
         unsafe { place::take(NonNull::new_unchecked(at)) }
     }

@@ -1,0 +1,153 @@
+/* Threads that come and go over one pool, far more than it has lanes: each life puts, hands keys and references on, and reads, clears
+ * and releases what others handed it. Nothing is wrong, missed or refused; where all lanes are had a thread waits.
+ *
+ * come_and_go ROUNDS LANES THREADS: so many rounds in all; lanes, 16 if it isn't said; threads at once, 200 if it isn't said. */
+#include "../pardz.h"
+#include "check.h"
+
+#include <pthread.h>
+#include <stdatomic.h>
+#include <string.h>
+
+#define MOST_THREADS 1000
+#define WAYS 64
+#define LIFE 25
+
+/* More places in a lane than there are keys and references at once, so that no put is refused. */
+static pardz_shape shape = { 16, 64, 5, UINT32_MAX, 9 };
+static pardz_pool pool = PARDZ_EMPTY;
+
+/* What threads hand on: keys, each cleared by who takes it out; and references, each released by who takes it out. */
+static _Atomic uint64_t keys[WAYS];
+static _Atomic(pardz_lent *) lents[WAYS];
+
+static atomic_long rounds_left, lives, cleared, busy;
+
+/* What the bytes of one put say: who put them and what they are, so that whoever reads them can tell. */
+struct words {
+    uint64_t seed, length, rest[14];
+};
+
+static uint64_t mixed(uint64_t number) {
+    number = (number ^ (number >> 31)) * UINT64_C(0x9e3779b97f4a7c15);
+    return number ^ (number >> 29);
+}
+
+static size_t fill(struct words *words, uint64_t seed) {
+    const size_t length = 16 + seed % 112;
+    words->seed = seed;
+    words->length = length;
+    for (size_t i = 0; i < 14; i++)
+        words->rest[i] = mixed(seed + i);
+    return length;
+}
+
+static void check_bytes(const pardz_lent *lent) {
+    struct words words;
+    uint64_t seed;
+    CHECK(lent->len >= 16);
+    memcpy(&seed, lent->at, sizeof seed);
+    CHECK(fill(&words, seed) == lent->len && memcmp(lent->at, &words, lent->len) == 0);
+}
+
+/* A reference to a key that must be there: at first without waiting. */
+static pardz_lent get(uint32_t from, uint64_t key) {
+    pardz_lent lent = { NULL, 0, 0, 0 };
+    uint32_t code = pardz_pool_get(&pool, from, key, &lent);
+    if (code == PARDZ_BUSY) {
+        atomic_fetch_add(&busy, 1);
+        CHECK(lent.at == NULL && lent.key == 0);
+        code = pardz_await_get(&pool, from + 1, key, &lent);
+    }
+    CHECK(code == PARDZ_OK && lent.key == key && lent.lane < shape.lanes);
+    check_bytes(&lent);
+    return lent;
+}
+
+/* Reads the bytes of a reference once more, and gives it back. */
+static void let_go(pardz_lent *lent) {
+    check_bytes(lent);
+    CHECK(pardz_await_release(&pool, lent) == PARDZ_OK);
+}
+
+/* Takes over a key: it is there until it is cleared, and then for nobody new. */
+static void take(uint32_t from, uint64_t key) {
+    pardz_lent lent = get(from, key), none = lent;
+    CHECK(pardz_await_clear(&pool, from + 3, key) == PARDZ_OK);
+    atomic_fetch_add(&cleared, 1);
+    CHECK(pardz_await_get(&pool, from + 5, key, &none) == PARDZ_GONE);
+    CHECK(pardz_await_clear(&pool, from + 7, key) == PARDZ_GONE);
+    let_go(&lent);
+}
+
+static void one_round(uint64_t seed) {
+    struct words words;
+    uint64_t key = 0;
+    const uint32_t from = (uint32_t)seed;
+    const size_t length = fill(&words, seed);
+    CHECK(pardz_await_put(&pool, from, (const uint8_t *)&words, length, &key) == PARDZ_OK);
+    pardz_lent *own = malloc(sizeof *own);
+    CHECK(own != NULL);
+    *own = get(from + 1, key);
+    CHECK(own->len == length && memcmp(own->at, &words, length) == 0);
+    const uint64_t other = atomic_exchange(&keys[mixed(seed) % WAYS], key);
+    if (other != 0)
+        take(from + 2, other);
+    pardz_lent *theirs = atomic_exchange(&lents[mixed(seed + 1) % WAYS], own);
+    if (theirs != NULL) {
+        let_go(theirs);
+        free(theirs);
+    }
+}
+
+static void *live(void *seed) {
+    uint64_t number = mixed((uint64_t)(uintptr_t)seed * 2654435761u + 1);
+    for (int round = 0; round < LIFE && atomic_fetch_sub(&rounds_left, 1) > 0; round++)
+        one_round(number = mixed(number + (uint64_t)round + 1));
+    atomic_fetch_add(&lives, 1);
+    return NULL;
+}
+
+/* So many threads at once, each followed by another when it ends, until all rounds are made. */
+static void run(size_t threads) {
+    static pthread_t at[MOST_THREADS];
+    uintptr_t born = 0;
+    for (size_t i = 0; i < threads; i++)
+        CHECK(pthread_create(&at[i], NULL, live, (void *)born++) == 0);
+    while (atomic_load(&rounds_left) > 0)
+        for (size_t i = 0; i < threads; i++) {
+            CHECK(pthread_join(at[i], NULL) == 0);
+            CHECK(pthread_create(&at[i], NULL, live, (void *)born++) == 0);
+        }
+    for (size_t i = 0; i < threads; i++)
+        CHECK(pthread_join(at[i], NULL) == 0);
+}
+
+int main(int argc, char **argv) {
+    const long rounds = argc > 1 ? atol(argv[1]) : 20000;
+    shape.lanes = argc > 2 ? (uint32_t)atol(argv[2]) : 16;
+    const size_t threads = argc > 3 ? (size_t)atol(argv[3]) : 200;
+    CHECK(rounds > 0 && threads > 0 && threads <= MOST_THREADS);
+    CHECK(pardz_attach(&shape, &pool) == PARDZ_OK && pardz_attach(&shape, &pool) == PARDZ_FULL_LANE);
+    atomic_store(&rounds_left, rounds);
+    run(threads);
+    for (size_t way = 0; way < WAYS; way++) {
+        uint64_t key = atomic_exchange(&keys[way], 0);
+        if (key != 0)
+            take((uint32_t)way, key);
+        pardz_lent *lent = atomic_exchange(&lents[way], NULL);
+        if (lent != NULL) {
+            let_go(lent);
+            CHECK(pardz_pool_release(&pool, lent) == PARDZ_NO_REFERENCE);
+            free(lent);
+        }
+    }
+    pardz_census census;
+    CHECK(pardz_detach(&pool, &census) == PARDZ_OK && pool.full == 0);
+    CHECK(census.present + census.marked + census.filling + census.retired == 0);
+    CHECK(census.free + census.unopened == shape.lanes * 64 * 31);
+    CHECK(atomic_load(&cleared) == rounds);
+    printf("come_and_go: %ld rounds by %ld threads, %zu at once, over %u lanes, %ld times busy\n", rounds, atomic_load(&lives), threads,
+           (unsigned)shape.lanes, atomic_load(&busy));
+    return 0;
+}

@@ -1,0 +1,318 @@
+/* Each code of each call by a pool, provoked once; then that these were all. Each request for memory of an attach and of a put refused
+ * in turn: a code, nothing else changed, no leak. */
+#include "../pardz.h"
+#include "check.h"
+#include "counting_heap.h"
+
+#include <pthread.h>
+#include <semaphore.h>
+#include <string.h>
+
+enum call { ATTACH, PUT, GET, RELEASE, CLEAR, DETACH, CALLS };
+
+#define CODES 16
+#define BIT(code) (1u << PARDZ_##code)
+
+static const char *const NAMES[CALLS] = { "attach", "put", "get", "release", "clear", "detach" };
+
+/* The codes that each call can answer, as pardz.h has them; but for what a detach answers while calls are under way. */
+static const uint32_t ALL[CALLS] = {
+    [ATTACH] = BIT(OK) | BIT(MEMORY) | BIT(FULL_LANE) | BIT(SHAPE),
+    [PUT] = BIT(OK) | BIT(MEMORY) | BIT(EMPTY_LANE) | BIT(FULL) | BIT(BUSY),
+    [GET] = BIT(OK) | BIT(EMPTY_LANE) | BIT(GONE) | BIT(REFERENCES) | BIT(BUSY),
+    [RELEASE] = BIT(OK) | BIT(EMPTY_LANE) | BIT(NO_REFERENCE) | BIT(BUSY),
+    [CLEAR] = BIT(OK) | BIT(EMPTY_LANE) | BIT(GONE) | BIT(BUSY),
+    [DETACH] = BIT(OK) | BIT(EMPTY_LANE) | BIT(BUSY),
+};
+
+static uint32_t seen[CALLS];
+
+static void expect(enum call call, uint32_t want, uint32_t got, int line) {
+    if (got != want) {
+        fprintf(stderr, "line %d: %s answered %u, not %u\n", line, NAMES[call], got, want);
+        exit(1);
+    }
+    seen[call] |= 1u << got;
+}
+
+#define EXPECT(call, want, got) expect(call, PARDZ_##want, got, __LINE__)
+
+static const pardz_shape SHAPE = { 2, 2, 2, UINT32_MAX, 7 };
+static const pardz_shape ONE = { 1, 2, 1, UINT32_MAX, 7 };
+
+/* What no call wrote. */
+static uint8_t nowhere[8];
+static const pardz_lent UNLENT = { nowhere, 99, 99, 99 };
+static const pardz_census NONE = { 99, 99, 99, 99, 99, 99 };
+
+static int is_unlent(const pardz_lent *lent) {
+    return lent->at == nowhere && lent->len == 99 && lent->key == 99 && lent->lane == 99;
+}
+
+static int is_none(const pardz_census *census) {
+    return memcmp(census, &NONE, sizeof NONE) == 0;
+}
+
+static uint64_t put(const pardz_pool *pool, uint32_t from, const char *text) {
+    uint64_t key = 0;
+    EXPECT(PUT, OK, pardz_pool_put(pool, from, (const uint8_t *)text, strlen(text), &key));
+    return key;
+}
+
+/* A wrong attach leaves the slot and the heap as they were. */
+static void attaches(void) {
+    const pardz_shape wrong[] = { { 0, 2, 2, 1, 0 }, { 65, 2, 2, 1, 0 }, { UINT32_MAX, 2, 2, 1, 0 }, { 2, 0, 2, 1, 0 }, { 2, 3, 2, 1, 0 },
+                                  { 2, 128, 2, 1, 0 }, { 2, 2, 0, 1, 0 }, { 2, 2, 17, 1, 0 }, { 2, 2, 2, 0, 0 }, { 2, 2, 2, 1, 256 } };
+    pardz_pool pool = PARDZ_EMPTY;
+    for (size_t i = 0; i < sizeof wrong / sizeof *wrong; i++) {
+        EXPECT(ATTACH, SHAPE, pardz_attach(&wrong[i], &pool));
+        CHECK(pool.full == 0 && heap_blocks == 0);
+    }
+    EXPECT(ATTACH, OK, pardz_attach(&SHAPE, &pool));
+    void *at = pool.at;
+    EXPECT(ATTACH, FULL_LANE, pardz_attach(&SHAPE, &pool));
+    CHECK(pool.at == at && pool.full == 1);
+    pardz_census census = NONE;
+    EXPECT(DETACH, OK, pardz_detach(&pool, &census));
+    CHECK(census.unopened == 12 && pool.full == 0 && heap_blocks == 0);
+}
+
+/* A slot without a pool: each call says so. */
+static void empties(void) {
+    pardz_pool empty = PARDZ_EMPTY;
+    uint64_t key = 99;
+    pardz_lent lent = UNLENT;
+    pardz_census census = NONE;
+    EXPECT(PUT, EMPTY_LANE, pardz_pool_put(&empty, 0, NULL, 0, &key));
+    EXPECT(GET, EMPTY_LANE, pardz_pool_get(&empty, 0, 1, &lent));
+    EXPECT(RELEASE, EMPTY_LANE, pardz_pool_release(&empty, &lent));
+    EXPECT(CLEAR, EMPTY_LANE, pardz_pool_clear(&empty, 0, 1));
+    EXPECT(DETACH, EMPTY_LANE, pardz_detach(&empty, &census));
+    CHECK(pardz_await_put(&empty, 0, NULL, 0, &key) == PARDZ_EMPTY_LANE && pardz_await_get(&empty, 0, 1, &lent) == PARDZ_EMPTY_LANE);
+    CHECK(pardz_await_release(&empty, &lent) == PARDZ_EMPTY_LANE && pardz_await_clear(&empty, 0, 1) == PARDZ_EMPTY_LANE);
+    CHECK(key == 99 && is_unlent(&lent) && is_none(&census) && empty.full == 0);
+}
+
+/* References stay with the lane that a get tells, and bytes until the last is released. */
+static void lends(void) {
+    pardz_pool pool = PARDZ_EMPTY;
+    pardz_census census;
+    EXPECT(ATTACH, OK, pardz_attach(&SHAPE, &pool));
+    uint64_t key = put(&pool, 0, "hello"), other = put(&pool, 3, "");
+    CHECK(key != other && key >> 56 == 7);
+    pardz_lent first = UNLENT, second = UNLENT, none = UNLENT;
+    EXPECT(GET, OK, pardz_pool_get(&pool, 1, key, &first));
+    EXPECT(GET, OK, pardz_pool_get(&pool, UINT32_MAX - 1, key, &second));
+    CHECK(first.lane == 1 && second.lane == 0 && first.key == key && first.len == 5 && second.at == first.at);
+    EXPECT(GET, OK, pardz_pool_get(&pool, 0, other, &none));
+    CHECK(none.len == 0 && none.at == nowhere && none.key == other && none.lane == 0);
+    EXPECT(CLEAR, OK, pardz_pool_clear(&pool, 0, key));
+    EXPECT(CLEAR, GONE, pardz_pool_clear(&pool, 1, key));
+    pardz_lent gone = UNLENT;
+    EXPECT(GET, GONE, pardz_pool_get(&pool, 0, key, &gone));
+    EXPECT(GET, GONE, pardz_pool_get(&pool, 0, 0, &gone));
+    EXPECT(GET, GONE, pardz_pool_get(&pool, 0, UINT64_MAX, &gone));
+    EXPECT(CLEAR, GONE, pardz_pool_clear(&pool, 0, UINT64_MAX));
+    CHECK(is_unlent(&gone) && memcmp(first.at, "hello", 5) == 0);
+    EXPECT(RELEASE, OK, pardz_pool_release(&pool, &second));
+    EXPECT(RELEASE, NO_REFERENCE, pardz_pool_release(&pool, &second));
+    CHECK(memcmp(first.at, "hello", 5) == 0);
+    gone = first;
+    gone.lane = 2;
+    EXPECT(RELEASE, NO_REFERENCE, pardz_pool_release(&pool, &gone));
+    gone.lane = UINT32_MAX;
+    EXPECT(RELEASE, NO_REFERENCE, pardz_pool_release(&pool, &gone));
+    gone = first;
+    gone.key = UINT64_MAX;
+    EXPECT(RELEASE, NO_REFERENCE, pardz_pool_release(&pool, &gone));
+    EXPECT(RELEASE, OK, pardz_pool_release(&pool, &first));
+    EXPECT(RELEASE, NO_REFERENCE, pardz_pool_release(&pool, &first));
+    uint64_t next = put(&pool, 0, "next");
+    EXPECT(GET, OK, pardz_pool_get(&pool, 0, next, &first));
+    EXPECT(CLEAR, OK, pardz_pool_clear(&pool, 0, next));
+    EXPECT(DETACH, OK, pardz_detach(&pool, &census));
+    CHECK(census.present == 1 && census.marked == 1 && census.free == 2 && census.unopened == 8 && heap_blocks == 0);
+    EXPECT(DETACH, EMPTY_LANE, pardz_detach(&pool, &census));
+}
+
+/* A lane's places, and its references. */
+static void limits(void) {
+    pardz_pool pool = PARDZ_EMPTY;
+    pardz_census census;
+    EXPECT(ATTACH, OK, pardz_attach(&ONE, &pool));
+    uint64_t key = put(&pool, 0, "a"), other = put(&pool, 0, "b"), none = 99;
+    EXPECT(PUT, FULL, pardz_pool_put(&pool, 0, nowhere, 1, &none));
+    CHECK(none == 99);
+    EXPECT(CLEAR, OK, pardz_pool_clear(&pool, 0, other));
+    EXPECT(PUT, OK, pardz_pool_put(&pool, 0, nowhere, 1, &other));
+    pardz_lent lent = UNLENT, more = UNLENT;
+    for (uint32_t i = 0; i < 1048575; i++)
+        EXPECT(GET, OK, pardz_pool_get(&pool, i, key, &lent));
+    EXPECT(GET, REFERENCES, pardz_pool_get(&pool, 0, key, &more));
+    CHECK(is_unlent(&more));
+    for (uint32_t i = 0; i < 1048575; i++)
+        EXPECT(RELEASE, OK, pardz_pool_release(&pool, &lent));
+    EXPECT(RELEASE, NO_REFERENCE, pardz_pool_release(&pool, &lent));
+    EXPECT(DETACH, OK, pardz_detach(&pool, &census));
+    CHECK(census.present == 2 && heap_blocks == 0);
+}
+
+/* A put that may wait goes on to a lane that has a place. */
+static void goes_on(void) {
+    pardz_pool pool = PARDZ_EMPTY;
+    pardz_census census;
+    uint64_t key = 99;
+    EXPECT(ATTACH, OK, pardz_attach(&SHAPE, &pool));
+    for (int i = 0; i < 6; i++)
+        put(&pool, 0, "full");
+    EXPECT(PUT, FULL, pardz_pool_put(&pool, 0, nowhere, 1, &key));
+    for (int i = 0; i < 6; i++)
+        CHECK(pardz_await_put(&pool, 0, nowhere, 1, &key) == PARDZ_OK);
+    key = 99;
+    CHECK(pardz_await_put(&pool, 0, nowhere, 1, &key) == PARDZ_FULL && key == 99);
+    EXPECT(DETACH, OK, pardz_detach(&pool, &census));
+    CHECK(census.present == 12 && heap_blocks == 0);
+}
+
+/* A pool from attach to detach while requests from `first` to `last` are refused. Whether one was. */
+static int refused(long first, long last) {
+    pardz_pool pool = PARDZ_EMPTY;
+    uint8_t bytes[300] = { 1 };
+    uint64_t keys[6] = { 99, 99, 99, 99, 99, 99 };
+    const long before = heap_refused;
+    heap_begin(first, last);
+    if (pardz_attach(&SHAPE, &pool) != PARDZ_OK) {
+        CHECK(pool.full == 0 && heap_blocks == 0 && heap_refused > before);
+        heap_begin(0, 0);
+        EXPECT(ATTACH, OK, pardz_attach(&SHAPE, &pool));
+        seen[ATTACH] |= BIT(MEMORY);
+    }
+    for (size_t i = 0; i < 6; i++) {
+        const uint32_t code = pardz_pool_put(&pool, (uint32_t)i, bytes, 50 * i, &keys[i]);
+        if (code == PARDZ_MEMORY) {
+            CHECK(keys[i] == 99);
+            heap_begin(0, 0);
+            EXPECT(PUT, OK, pardz_pool_put(&pool, (uint32_t)i, bytes, 50 * i, &keys[i]));
+            seen[PUT] |= BIT(MEMORY);
+        } else
+            CHECK(code == PARDZ_OK);
+    }
+    const long requests = heap_requests;
+    pardz_lent lent = UNLENT;
+    for (size_t i = 0; i < 6; i++) {
+        EXPECT(GET, OK, pardz_pool_get(&pool, (uint32_t)i + 1, keys[i], &lent));
+        CHECK(lent.len == 50 * i && (i == 0 || memcmp(lent.at, bytes, lent.len) == 0));
+        EXPECT(CLEAR, OK, pardz_pool_clear(&pool, (uint32_t)i, keys[i]));
+        EXPECT(RELEASE, OK, pardz_pool_release(&pool, &lent));
+    }
+    pardz_census census;
+    EXPECT(DETACH, OK, pardz_detach(&pool, &census));
+    CHECK(heap_requests == requests && census.free + census.unopened == 12 && heap_blocks == 0);
+    return heap_refused > before;
+}
+
+static void memory(void) {
+    long runs = 0;
+    for (long first = 1; refused(first, first); first++)
+        CHECK(++runs < 1000);
+    for (long first = 1; refused(first, 1000000); first++)
+        CHECK(++runs < 2000);
+    CHECK(runs > 20);
+    heap_begin(0, 0);
+}
+
+/* A heap that holds a put up, so that its lane is had for so long. */
+static sem_t held, go_on;
+static int holds_up;
+
+static void *slow(void *context, size_t size) {
+    (void)context;
+    if (holds_up) {
+        holds_up = 0;
+        sem_post(&held);
+        sem_wait(&go_on);
+    }
+    return malloc(size);
+}
+
+static void *slow_realloc(void *context, void *at, size_t size) {
+    (void)context;
+    return realloc(at, size);
+}
+
+static void slow_free(void *context, void *at) {
+    (void)context;
+    free(at);
+}
+
+static void *puts_slowly(void *pool) {
+    uint64_t key = 99;
+    CHECK(pardz_pool_put(pool, 0, nowhere, 8, &key) == PARDZ_OK && key != 99);
+    return NULL;
+}
+
+/* Where the only lane is had, each call is busy and has done nothing. */
+static void busies(void) {
+    const pardz_heap heap = { slow, slow_realloc, slow_free, NULL };
+    pardz_pool pool = PARDZ_EMPTY;
+    pthread_t thread;
+    pardz_lent lent = UNLENT, kept = UNLENT;
+    pardz_census census = NONE;
+    uint64_t none = 99;
+    CHECK(sem_init(&held, 0, 0) == 0 && sem_init(&go_on, 0, 0) == 0);
+    pardz_set_heap(&heap);
+    EXPECT(ATTACH, OK, pardz_attach(&ONE, &pool));
+    const uint64_t key = put(&pool, 0, "kept");
+    EXPECT(GET, OK, pardz_pool_get(&pool, 0, key, &kept));
+    holds_up = 1;
+    CHECK(pthread_create(&thread, NULL, puts_slowly, &pool) == 0);
+    sem_wait(&held);
+    EXPECT(PUT, BUSY, pardz_pool_put(&pool, 0, nowhere, 8, &none));
+    EXPECT(GET, BUSY, pardz_pool_get(&pool, 0, key, &lent));
+    EXPECT(RELEASE, BUSY, pardz_pool_release(&pool, &kept));
+    EXPECT(CLEAR, BUSY, pardz_pool_clear(&pool, 0, key));
+    EXPECT(DETACH, BUSY, pardz_detach(&pool, &census));
+    CHECK(none == 99 && is_unlent(&lent) && is_none(&census) && pool.full == 1);
+    sem_post(&go_on);
+    CHECK(pthread_join(thread, NULL) == 0);
+    EXPECT(GET, OK, pardz_pool_get(&pool, 0, key, &lent));
+    EXPECT(RELEASE, OK, pardz_pool_release(&pool, &kept));
+    EXPECT(RELEASE, OK, pardz_pool_release(&pool, &lent));
+    EXPECT(CLEAR, OK, pardz_pool_clear(&pool, 0, key));
+    EXPECT(DETACH, OK, pardz_detach(&pool, &census));
+    CHECK(census.present == 1 && census.free == 1);
+    pardz_set_heap(NULL);
+}
+
+/* A slot that was moved by a plain copy goes on. */
+static void moved(void) {
+    pardz_pool pool = PARDZ_EMPTY, copy;
+    pardz_census census;
+    EXPECT(ATTACH, OK, pardz_attach(&SHAPE, &pool));
+    const uint64_t key = put(&pool, 0, "moved");
+    copy = pool;
+    memset(&pool, 0xff, sizeof pool);
+    EXPECT(CLEAR, OK, pardz_pool_clear(&copy, 0, key));
+    EXPECT(DETACH, OK, pardz_detach(&copy, &census));
+    CHECK(census.free == 2 && census.unopened == 10 && heap_blocks == 0);
+}
+
+int main(void) {
+    attaches();
+    empties();
+    lends();
+    limits();
+    goes_on();
+    memory();
+    moved();
+    busies();
+    int pairs = 0;
+    for (int call = 0; call < CALLS; call++)
+        for (int code = 0; code < CODES; code++) {
+            CHECK((seen[call] >> code & 1) == (ALL[call] >> code & 1));
+            pairs += seen[call] >> code & 1;
+        }
+    CHECK(heap_blocks == 0);
+    printf("pool_calls: %d pairs of a call and a code\n", pairs);
+    return 0;
+}

@@ -1,0 +1,49 @@
+// pardz.hpp: a pool that any thread calls, and its references, which any thread ends.
+#include "../pardz.hpp"
+#include "check.h"
+
+#include <string>
+#include <thread>
+#include <type_traits>
+#include <vector>
+
+static_assert(!std::is_copy_constructible<pardz::shared_reference>::value && !std::is_copy_constructible<pardz::shared_pool>::value, "");
+static_assert(std::is_nothrow_move_constructible<pardz::shared_reference>::value, "moved, not copied");
+
+static std::string text(const pardz::shared_reference &found) { return std::string(found.begin(), found.end()); }
+
+// What a call throws: a code, or PARDZ_OK where it throws nothing.
+template <typename Call> static std::uint32_t code_of(Call call) {
+    try {
+        call();
+    } catch (const pardz::error &error) {
+        return error.code();
+    }
+    return PARDZ_OK;
+}
+
+// What one thread puts, another reads, clears and gives back, over fewer lanes than threads.
+int main() {
+    const pardz_shape shape = {2, 8, 1, UINT32_MAX, 3};
+    pardz::shared_pool pool(shape);
+    pardz::shared_reference kept = pool.get(1);
+    CHECK(!kept);
+    std::vector<std::thread> threads;
+    std::vector<std::uint64_t> keys(4);
+    for (std::uint64_t &key : keys)
+        threads.emplace_back([&pool, &key] { key = pool.put("shared", 6); });
+    for (std::thread &thread : threads)
+        thread.join();
+    std::thread([&] { kept = pool.get(keys[0]); }).join();
+    CHECK(kept && kept.key() == keys[0] && pool.clear(keys[0]) && !pool.clear(keys[0]) && !pool.get(keys[0]));
+    pardz::shared_reference moved(std::move(kept));
+    CHECK(moved && !kept && moved.size() == 6 && text(moved) == "shared");
+    moved = pool.get(keys[1]);
+    CHECK(text(moved) == "shared" && pool.get(pool.put(nullptr, 0)).size() == 0);
+    moved = std::move(kept);
+    CHECK(!moved && code_of([&] { pardz::shared_pool none({0, 4, 1, 1, 0}); }) == PARDZ_SHAPE);
+    const pardz_census census = pool.close();
+    CHECK(census.present == 4 && census.marked == 0 && code_of([&] { pool.close(); }) == PARDZ_EMPTY_LANE);
+    std::printf("shared: C++ of %ld\n", static_cast<long>(__cplusplus));
+    return 0;
+}
