@@ -10,3 +10,4 @@ pub mod AfterCalls
 pub mod Publishes
 pub mod Releases
 pub mod Halts
+pub mod Loans

@@ -21,6 +21,7 @@ pub mod Lendings
 pub mod Opened
 pub mod Creates
 pub mod AfterCalls
+pub mod Loans
 pub mod Openings
 pub mod Halts
 pub mod Closings
