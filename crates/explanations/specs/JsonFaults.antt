@@ -198,10 +198,14 @@ bears_out NoText at file = true
 bears_out (Open begin) at file = true
 bears_out (Flawed flaw) at file = may_flaw flaw (take at file)
 
--- the text explains why bytes are no JSON text: it names the place where they stop being one, and why they do there
+-- what is told of bytes that stop being a JSON text at this place: that place, and why, where it is borne out; or else that they are none
+abbrev pub told_if : Bool → Halt → ℕ → List ℕ → List ℕ
+told_if true halt at file = json_told halt at file
+told_if false halt at file = codes "the file: it is no JSON text"
+
+-- the text explains why bytes are no JSON text: if it names a place where they stop being one, and why they do there, that is borne out
 pub record ExplainsJson (file text : List ℕ) : Type 0 where
   pub at : ℕ
   pub halt : Halt
   pub halts : HaltsAt halt at file
-  pub shown : bears_out halt at file ≡ true
-  pub is : text ≡ line_text (json_told halt at file)
+  pub is : text ≡ line_text (told_if (bears_out halt at file) halt at file)

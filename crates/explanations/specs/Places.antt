@@ -1,5 +1,5 @@
 -- Places of a text, and of a script file, in words.
-use Rattle.std.specs.Prelude.{ℕ, ◌+◌, ◌==◌, List, [], ◌++◌, count_by, fold, take, if◌then◌else◌, decimal, codes}
+use Rattle.std.specs.Prelude.{ℕ, ◌+◌, ◌==◌, List, [], ◌++◌, Option, Some, None, count_by, fold, take, if◌then◌else◌, decimal, codes}
 use Rattle.scripts.specs.ScriptPlaces.{field_text}
 use Rattle.scripts.specs.declared.script_place.ScriptPlace.{ScriptPlace}
 use Rattle.scripts.specs.declared.script_place.ScriptPlace.TheVariants.{File, Field, Scripts, Script, Line, Item}
@@ -24,14 +24,17 @@ column_number at text = fold column_with 1 (take at text)
 abbrev pub operand_text : ℕ → List ℕ
 operand_text item = if item == 0 then [] else codes ", operand " ++ decimal item
 
--- a line of a lane's script, which is counted from 1 in words, and stands in this line of the file; and an item of it
-abbrev pub line_place : ℕ → ℕ → ℕ → ℕ → List ℕ
-line_place number lane line item =
-    codes "lane " ++ decimal lane ++ codes ", line " ++ decimal (line + 1) ++ codes " (line " ++ decimal number ++ codes " of the file)"
-    ++ operand_text item
+-- that a line of a script stands in this line of the file, where that is known
+abbrev pub in_file : Option ℕ → List ℕ
+in_file (Some number) = codes " (line " ++ decimal number ++ codes " of the file)"
+in_file None = []
 
--- a place of a script file; if in a line of a script, then that stands in this line of the file
-abbrev pub place_text : ℕ → ScriptPlace → List ℕ
+-- a line of a lane's script, which is counted from 1 in words, and stands in this line of the file; and an item of it
+abbrev pub line_place : Option ℕ → ℕ → ℕ → ℕ → List ℕ
+line_place number lane line item = codes "lane " ++ decimal lane ++ codes ", line " ++ decimal (line + 1) ++ in_file number ++ operand_text item
+
+-- a place of a script file; if in a line of a script, then that stands in this line of the file, where that is known
+abbrev pub place_text : Option ℕ → ScriptPlace → List ℕ
 place_text number File = codes "the file"
 place_text number (Field name) = codes "field " ++ field_text name
 place_text number Scripts = codes "field scripts"

@@ -14,8 +14,8 @@ use Rattle.explanations.specs.JsonFaults.{first_of, begins_number, ExplainsJson}
 use Rattle.explanations.specs.Places.{line_number, place_text}
 use Rattle.explanations.specs.Wanted.{script_wanted}
 
--- what is told of a refusal, of a file with this value, in which what it names begins in this line: the place, what stands there, and what is wanted
-abbrev pub script_told : ScriptRefusal → Json → ℕ → List ℕ
+-- what is told of a refusal, of a file with this value, in which what it names begins in this line, where that is known: the place, what stands there, and what is wanted
+abbrev pub script_told : ScriptRefusal → Json → Option ℕ → List ℕ
 script_told refusal whole number =
     place_text number refusal.place ++ codes ": " ++ shown_value (value_of refusal.place whole) ++ codes " "
     ++ script_wanted refusal.fault refusal.place whole
@@ -49,13 +49,17 @@ abbrev pub may_begin : Option Json → List ℕ → Bool
 may_begin None rest = true
 may_begin (Some line) rest = begins line (first_of rest)
 
--- the text explains a refusal by the value of the file; a line of a script begins where it says
+-- the line of the file in which what begins here does, where it may
+abbrev pub number_if : Bool → ℕ → List ℕ → Option ℕ
+number_if true begin file = Some (line_number begin file)
+number_if false begin file = None
+
+-- the text explains a refusal by the value of the file; if it names a line of the file, a line of a script begins there
 pub record ExplainsValue (file : List ℕ) (refusal : ScriptRefusal) (text : List ℕ) : Type 0 where
   pub whole : Json
   pub has : HasValue file whole
   pub begin : ℕ
-  pub begins_there : may_begin (line_at refusal.place whole) (drop begin file) ≡ true
-  pub is : text ≡ line_text (script_told refusal whole (line_number begin file))
+  pub is : text ≡ line_text (script_told refusal whole (number_if (may_begin (line_at refusal.place whole) (drop begin file)) begin file))
 
 -- the text explains why a script file is refused with this fault: as no JSON text, by its place; else by the file's value
 abbrev pub ExplainsFault : ScriptFault → List ℕ → ScriptRefusal → List ℕ → Type 0

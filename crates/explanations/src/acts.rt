@@ -142,7 +142,7 @@ fn explain_illegal(
     ensures safe { IfOk result (λ text. IsSafeLine (string_bytes text)) }
 {
     let Some(act) = acts.get(index) else {
-        return Err(AllocError);
+        unreachable!()
     };
     let history = &acts[..index];
     let reason = reason_told(alloc, shape, history, act, fault)?;

@@ -4,7 +4,7 @@ ghost use Rattle.std.specs.List.{list_all};
 ghost use Rattle.std.specs.Str.{IsUtf8};
 ghost use Rattle.streams.specs.Shown.{IsSafeLine};
 ghost use Rattle.explanations.specs.JsonFlaws.{first_is, escape_length};
-ghost use Rattle.explanations.specs.JsonFaults.{is_space, last_with, last_of, is_comma, wanted_behind, wanted_next, wanted_by, has_mark, has_comment, has_end, found_told, named_told, token_told, halt_told, json_told, IsOfText, control_told, flaw_told, open_told, HaltsAt, first_of, is_opening, opens, begins_number, wants_digit, wants_value, openings_in, quotes_in, may_flaw, bears_out, ExplainsJson};
+ghost use Rattle.explanations.specs.JsonFaults.{is_space, last_with, last_of, is_comma, wanted_behind, wanted_next, wanted_by, has_mark, has_comment, has_end, found_told, named_told, token_told, halt_told, json_told, IsOfText, control_told, flaw_told, open_told, HaltsAt, first_of, is_opening, opens, begins_number, wants_digit, wants_value, openings_in, quotes_in, may_flaw, bears_out, told_if, ExplainsJson};
 
 use crate::found::cut_of;
 use crate::json_flaw::{Flaw, char_flaw, escape_length, is_digit, number_stop, string_stop};
@@ -587,6 +587,19 @@ fn bears_out(halt: Halt, at: usize, file: &[u8]) -> bool
     }
 }
 
+/// What is told of bytes that stop being a JSON text at this place: where that is, and why; or, where what stands around
+/// the place doesn't bear that out, that they are none.
+fn told_of(alloc: Global, halt: Halt, at: usize, file: &[u8]) -> Result<String, AllocError>
+    requires { at ≤ length file.now }
+    ensures { IfOk result (λ text. string_bytes text ≡ told_if (bears_out halt at file.now) halt at file.now) }
+{
+    if bears_out(halt, at, file) {
+        return json_told(alloc, halt, at, file);
+    }
+    // (Never: the kit's reader tells where a token stands, which no clause of its says.)
+    String::from_str(alloc, "the file: it is no JSON text")
+}
+
 /// The line that explains why bytes are no JSON text: where they stop being one, what stands there and what is wanted;
 /// a byte order mark, a comment and a comma that is too much by their names. The error is want of memory.
 pub(crate) fn explain_json(alloc: Global, file: &[u8]) -> Result<String, AllocError>
@@ -594,10 +607,6 @@ pub(crate) fn explain_json(alloc: Global, file: &[u8]) -> Result<String, AllocEr
     ensures safe { IfOk result (λ text. IsSafeLine (string_bytes text)) }
 {
     let (at, halt) = halt_in(alloc, file)?;
-    if !bears_out(halt, at, file) {
-        // (Never: the kit's reader tells where a token stands, which no clause of its says.)
-        return Err(AllocError);
-    }
-    let told = json_told(alloc, halt, at, file)?;
+    let told = told_of(alloc, halt, at, file)?;
     line_of(alloc, told.as_bytes())
 }

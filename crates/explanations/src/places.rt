@@ -1,6 +1,6 @@
 //! Places of a text, and of a script file, in words.
 ghost use Rattle.std.specs.Prelude.{◌≡◌, ◌^◌, ◌<◌, ◌≤◌, length, take, drop, fold, IfOk, string_bytes};
-ghost use Rattle.explanations.specs.Places.{ends_in, line_number, column_with, column_number, operand_text, line_place, place_text};
+ghost use Rattle.explanations.specs.Places.{ends_in, line_number, column_with, column_number, operand_text, in_file, line_place, place_text};
 
 use json::{Reader, Scratch, Token};
 use scripts::ScriptPlace;
@@ -72,10 +72,20 @@ fn operand_text(alloc: Global, item: usize) -> Result<String, AllocError>
     format!(in alloc; ", operand {item}")
 }
 
+/// That a line of a script stands in this line of the file, where that is known.
+fn in_file(alloc: Global, number: Option<u128>) -> Result<String, AllocError>
+    ensures { IfOk result (λ text. string_bytes text ≡ in_file number) }
+{
+    match number {
+        Some(number) => format!(in alloc; " (line {number} of the file)"),
+        None => Ok(String::new(alloc)),
+    }
+}
+
 /// An item of a line of a lane's script.
 fn line_place(
     alloc: Global,
-    number: u128,
+    number: Option<u128>,
     lane: usize,
     line: usize,
     item: usize,
@@ -83,14 +93,15 @@ fn line_place(
     ensures { IfOk result (λ text. string_bytes text ≡ line_place number lane line item) }
 {
     let shown = line as u128 + 1;
+    let place = in_file(alloc, number)?;
     let operand = operand_text(alloc, item)?;
-    format!(in alloc; "lane {lane}, line {shown} (line {number} of the file){operand}")
+    format!(in alloc; "lane {lane}, line {shown}{place}{operand}")
 }
 
-/// A place of a script file; if in a line of a script, then that stands in this line of the file.
+/// A place of a script file; if in a line of a script, then that stands in this line of the file, where that is known.
 pub(crate) fn place_told(
     alloc: Global,
-    number: u128,
+    number: Option<u128>,
     place: ScriptPlace,
 ) -> Result<String, AllocError>
     ensures { IfOk result (λ text. string_bytes text ≡ place_text number place) }

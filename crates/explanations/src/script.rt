@@ -1,9 +1,9 @@
 //! Why a script file is refused, in words.
-ghost use Rattle.std.specs.Prelude.{◌≡◌, IfOk, option_map, string_bytes};
+ghost use Rattle.std.specs.Prelude.{◌≡◌, IfOk, drop, option_map, string_bytes};
 ghost use Rattle.json.specs.Tree.{HasNumbers};
 ghost use Rattle.json.specs.Value.{value_view};
 ghost use Rattle.streams.specs.Shown.{IsSafeLine};
-ghost use Rattle.explanations.specs.ScriptTexts.{script_told, begins_with, begins, line_at, may_begin, HasValue, ExplainsValue, ExplainsScript};
+ghost use Rattle.explanations.specs.ScriptTexts.{script_told, begins_with, begins, line_at, may_begin, number_if, HasValue, ExplainsValue, ExplainsScript};
 
 use crate::found::{command_at, value_told};
 use crate::json_fault::{begins_number, explain_json, first_of};
@@ -15,12 +15,12 @@ use std::alloc::{AllocError, Global};
 use streams::line_of;
 
 /// The text that says of a refusal where it is, what stands there, and what is wanted: of a file with this value, in
-/// which what the place names begins in this line.
+/// which what the place names begins in this line, where that is known.
 fn script_told(
     alloc: Global,
     refusal: &ScriptRefusal,
     whole: &Value<'_>,
-    number: u128,
+    number: Option<u128>,
 ) -> Result<String, AllocError>
     requires { HasNumbers (value_view whole.now) }
     ensures { IfOk result (λ text. string_bytes text ≡ script_told refusal.now (value_view whole.now) number) }
@@ -77,6 +77,18 @@ fn may_begin(line: Option<&Value<'_>>, rest: &[u8]) -> bool
     }
 }
 
+/// The line of the file in which the line of a script, if it is one, begins that is said to begin here; none where it may
+/// not.
+fn number_of(file: &[u8], line: Option<&Value<'_>>, begin: usize) -> Option<u128>
+    ensures { result ≡ number_if (may_begin (option_map (λ v. value_view v.now) line.entry) (drop begin file.now)) begin file.now }
+{
+    if may_begin(line, behind(file, begin)) {
+        return Some(line_number(file, begin));
+    }
+    // (Never: the kit's reader tells where a token stands, which no clause of its says.)
+    None
+}
+
 /// The line that explains a refusal of a file with this value.
 fn explain_by(
     alloc: Global,
@@ -90,11 +102,8 @@ fn explain_by(
     ensures safe { IfOk result (λ text. IsSafeLine (string_bytes text)) }
 {
     let begin = begin_of(alloc, file, refusal.place)?;
-    if !may_begin(line_at(whole, refusal.place), behind(file, begin)) {
-        // (Never: the kit's reader tells where a token stands, which no clause of its says.)
-        return Err(AllocError);
-    }
-    let told = script_told(alloc, refusal, whole, line_number(file, begin))?;
+    let number = number_of(file, line_at(whole, refusal.place), begin);
+    let told = script_told(alloc, refusal, whole, number)?;
     line_of(alloc, told.as_bytes())
 }
 
@@ -107,7 +116,9 @@ fn explain_value(alloc: Global, file: &[u8], refusal: &ScriptRefusal) -> Result<
     match Value::from_slice(alloc, file, &mut scratch) {
         Ok(whole) => explain_by(alloc, file, refusal, &whole),
         Err(Error::Invalid) => explain_by(alloc, file, refusal, &Value::Null),
-        Err(_) => Err(AllocError),
+        Err(Error::OutOfMemory) => Err(AllocError),
+        Err(Error::TooLong) => unreachable!(),
+        Err(Error::DuplicateKey) => unreachable!(),
     }
 }
 
