@@ -175,7 +175,7 @@ def status_lines(rows):
 
 
 def environment_lines(name):
-    return [".SH ENVIRONMENT", ".TP", "\\fBPOOL_EXPLAIN\\fR", roff(f"If it is never, {name} says no more at a terminal than elsewhere, unless --explain or --explain=always is given.")]
+    return [".SH ENVIRONMENT", ".TP", "\\fBPOOL_EXPLAIN\\fR", roff(f"If it is never, {name} says no more at a terminal than elsewhere, unless its words ask for it, as --explain does.")]
 
 
 def man_page(table):
@@ -209,14 +209,14 @@ def man_page(table):
 # ---- completions
 
 
-# When mistakes are explained: what may stand behind --explain=.
+# When mistakes are explained, and when progress is told: what may stand behind --explain= and --progress=.
 WISHES = ("never", "always", "auto")
 
 
 def wishes_of(line):
-    """The words that say when mistakes are explained."""
-    named = any(argument["name"] == "explain" for argument in line["arguments"])
-    return [f"--explain={wish}" for wish in WISHES] if named else []
+    """The words that say so."""
+    named = [argument["name"] for argument in line["arguments"] if argument["name"] in ("progress", "explain")]
+    return [f"--{name}={wish}" for name in named for wish in WISHES]
 
 
 def long_options(line):

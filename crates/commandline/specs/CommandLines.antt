@@ -33,13 +33,14 @@ line_of name arguments = fold with_rule (new_app name) arguments
 abbrev pub replay_line : App
 replay_line = line_of (codes "replay")
     (positional (codes "file") ∷ option_named (codes "schedule") ∷ option_named (codes "seed") ∷ option_named (codes "turns")
-    ∷ option_named (codes "stop") ∷ flag_named (codes "acts") ∷ flag_named (codes "print-schedule") ∷ flag_named (codes "explain") ∷ [])
+    ∷ option_named (codes "stop") ∷ flag_named (codes "acts") ∷ flag_named (codes "print-schedule") ∷ flag_named (codes "progress")
+    ∷ flag_named (codes "explain") ∷ [])
 
 -- the subcommand `shorten`
 abbrev pub shorten_line : App
 shorten_line = line_of (codes "shorten")
     (positional (codes "file") ∷ needed_option (codes "until") ∷ option_named (codes "schedule") ∷ option_named (codes "seed")
-    ∷ option_named (codes "turns") ∷ option_named (codes "stop") ∷ flag_named (codes "explain") ∷ [])
+    ∷ option_named (codes "turns") ∷ option_named (codes "stop") ∷ flag_named (codes "progress") ∷ flag_named (codes "explain") ∷ [])
 
 -- the subcommand `check`
 abbrev pub check_line : App

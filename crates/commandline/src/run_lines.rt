@@ -45,6 +45,10 @@ Exit status:
 const EXPLAIN: &str =
     "Says on standard error where a mistake is, and what is wanted there. At a terminal it does so by itself: --explain=never, =always or =auto says when";
 
+/// What help says of the option by which progress is told.
+const PROGRESS: &str =
+    "Says on standard error how far it is. At a terminal it does so by itself: --progress=never, =always or =auto says when";
+
 /// The lanes that take turns.
 const SCHEDULE: Argument<'static> = Argument {
     kind: Kind::Valued("LANES"),
@@ -80,7 +84,7 @@ static REPLAY: Line<'static> = Line {
         example: "Example: poolrun replay first.json --schedule 0,0",
         about: "Replays the scripts of a file over a schedule, step by step, and prints what each step did",
         usage: Some(
-            "poolrun replay <FILE> --schedule <LANES> [--stop <L:K>] [--acts | --print-schedule] [--explain]\n       poolrun replay <FILE> --seed <N> --turns <M> [--stop <L:K>] [--acts | --print-schedule] [--explain]",
+            "poolrun replay <FILE> --schedule <LANES> [--stop <L:K>] [--acts | --print-schedule] [--progress] [--explain]\n       poolrun replay <FILE> --seed <N> --turns <M> [--stop <L:K>] [--acts | --print-schedule] [--progress] [--explain]",
         ),
         more: "\
 Give either --schedule, or both --seed and --turns. The same words print the same text each time.
@@ -89,6 +93,9 @@ Prints a line for each reply of a command and for each atomic step, in the order
 --acts the text of acts that `poolrun check` reads; with --print-schedule the schedule, as --schedule
 reads it from a file: numbers with single commas or line feeds between them. A fault prints `fault NUMBER NAME` on standard
 error, and nothing on standard output.
+
+With --progress a line on standard error says how many turns are done, after each 50000 of them. At a terminal it is
+written over, and gone at the end.
 
 Exit status: 0 where it is done, 1 after a fault, 2 after a mistake in these words.",
     },
@@ -114,6 +121,11 @@ Exit status: 0 where it is done, 1 after a fault, 2 after a mistake in these wor
         },
         Argument {
             kind: Kind::Flag,
+            name: "progress",
+            help: PROGRESS,
+        },
+        Argument {
+            kind: Kind::Flag,
             name: "explain",
             help: EXPLAIN,
         },
@@ -127,13 +139,16 @@ static SHORTEN: Line<'static> = Line {
         example: "Example: poolrun shorten first.json --seed 1 --turns 100 --until PUBLISH",
         about: "Leaves entries out of a schedule for as long as a word stands in its replay, and prints what is left",
         usage: Some(
-            "poolrun shorten <FILE> --schedule <LANES> [--stop <L:K>] --until <WORD> [--explain]\n       poolrun shorten <FILE> --seed <N> --turns <M> [--stop <L:K>] --until <WORD> [--explain]",
+            "poolrun shorten <FILE> --schedule <LANES> [--stop <L:K>] --until <WORD> [--progress] [--explain]\n       poolrun shorten <FILE> --seed <N> --turns <M> [--stop <L:K>] --until <WORD> [--progress] [--explain]",
         ),
         more: "\
 WORD is one or more fields of a line of the trace or of the acts, as full, CLAIM or 'clear 16777216 true':
 it stands between spaces, or at an end of the line. No single entry of what is printed can be left out.
 
 Each trial is a replay. After those of 100000000 entries in all it gives up.
+
+With --progress a line on standard error says at the end how many entries are left of how many, and how
+many trials that took; and meanwhile how far it is, after each 50000 entries that were replayed.
 
 Exit status: 0 where it is done; 1 after a fault, as where WORD stands nowhere; 2 after a mistake in
 these words.",
@@ -153,6 +168,11 @@ these words.",
         SEED,
         TURNS,
         STOP,
+        Argument {
+            kind: Kind::Flag,
+            name: "progress",
+            help: PROGRESS,
+        },
         Argument {
             kind: Kind::Flag,
             name: "explain",

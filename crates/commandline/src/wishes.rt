@@ -1,12 +1,12 @@
-//! When mistakes are explained, by a word of the command line and by where the program runs.
+//! When mistakes are explained and progress is told, by words of the command line and by where the program runs.
 ghost use Rattle.std.specs.Prelude.{◌≡◌, false, IfOk, map, string_bytes};
-ghost use Rattle.commandline.specs.Wishes.{wish_of, wish_in, plain_word, is_wanted, is_quiet, IsCallOf};
+ghost use Rattle.commandline.specs.Wishes.{wish_of, wish_in, progress_of, progress_in, plain_word, is_wanted, is_quiet, IsCallOf};
 
 use std::alloc::{AllocError, Global};
 use std::env;
 use std::env::{Env, VarError};
 
-/// When mistakes are explained.
+/// When mistakes are explained, or progress is told.
 #[derive(Clone, Copy, Debug)]
 pub enum Wish {
     /// Never.
@@ -22,8 +22,10 @@ pub enum Wish {
 pub struct Call {
     /// The words, the program's name first, as `clap` reads them: `--explain` in place of `--explain=never`, and so on.
     pub words: Vec<String>,
-    /// What such a word says.
+    /// What such a word says of explanations.
     pub wish: Option<Wish>,
+    /// What a word says of progress.
+    pub progress: Option<Wish>,
 }
 
 impl Call {
@@ -58,13 +60,33 @@ fn wish_of(word: &str) -> Option<Wish>
     None
 }
 
+/// When progress is told, by a word.
+fn progress_of(word: &str) -> Option<Wish>
+    ensures { result ≡ progress_of word.now }
+{
+    if word == "--progress" {
+        return Some(Wish::Always);
+    }
+    if word == "--progress=never" {
+        return Some(Wish::Never);
+    }
+    if word == "--progress=always" {
+        return Some(Wish::Always);
+    }
+    if word == "--progress=auto" {
+        return Some(Wish::Auto);
+    }
+    None
+}
+
 /// A word as `clap` reads it.
 fn plain_word(word: &str) -> &str
     ensures { result.now ≡ plain_word word.now }
 {
-    match wish_of(word) {
-        Some(_) => "--explain",
-        None => word,
+    match (wish_of(word), progress_of(word)) {
+        (Some(_), _) => "--explain",
+        (None, Some(_)) => "--progress",
+        (None, None) => word,
     }
 }
 
@@ -74,6 +96,19 @@ fn wish_in(words: &[String]) -> Option<Wish>
 {
     for word in words {
         let wish = wish_of(word.as_str());
+        if wish.is_some() {
+            return wish;
+        }
+    }
+    None
+}
+
+/// When progress is told, by the first of some words that says it.
+fn progress_in(words: &[String]) -> Option<Wish>
+    ensures { result ≡ progress_in (map string_bytes words.now) }
+{
+    for word in words {
+        let wish = progress_of(word.as_str());
         if wish.is_some() {
             return wish;
         }
@@ -97,11 +132,16 @@ pub(crate) fn call_of(alloc: Global, words: &[String]) -> Result<Call, AllocErro
     ensures { IfOk result (IsCallOf (map string_bytes words.now)) }
 {
     let wish = wish_in(words);
+    let progress = progress_in(words);
     let words = plain_words(alloc, words)?;
-    Ok(Call { words, wish })
+    Ok(Call {
+        words,
+        wish,
+        progress,
+    })
 }
 
-/// Whether mistakes are explained: by a word, or else where the flag `--explain` was used or hints are wanted.
+/// Whether mistakes are explained, or progress is told: by a word, or else where the flag was used or hints are wanted.
 pub fn is_wanted(wish: Option<Wish>, flag: bool, hints: bool) -> bool
     ensures { result ≡ is_wanted wish flag hints }
 {

@@ -9,6 +9,7 @@ ghost use Rattle.poolprogram.specs.Program.{SaysWhy, SaysEnd, EndsTask, EndsFor,
 
 use crate::explanation::{Subject, explain, subject_of};
 use crate::listing::{end_unlisted, turns_at};
+use crate::meter::Meter;
 use crate::run_fault::RunFault;
 use crate::tasks::{do_task, status_of, write_report};
 use commandline::{
@@ -132,6 +133,7 @@ fn run_and_explain<R: Files + AllocGlobal + Threads + Wait + Sync, I: Read, O: W
     input: &mut I,
     out: &mut Watched<O>,
     errors: &mut Watched<E>,
+    meter: &mut Meter<E>,
 ) -> Ending
     requires { out.old.failed ≡ false }
     ensures { EndsTask O.contents E.contents (I.remaining input.old) task true out.old out.new errors.old errors.new result }
@@ -140,7 +142,7 @@ fn run_and_explain<R: Files + AllocGlobal + Threads + Wait + Sync, I: Read, O: W
     match read_file(rt, &task, input) {
         Ok(file) => {
             let file = file.as_slice();
-            let done = do_task(rt, rt.alloc(), task, file, out);
+            let done = do_task(rt, rt.alloc(), task, file, out, meter);
             end_and_explain(rt.alloc(), &subject, file, &done, errors)
         }
         Err(fault) => end_and_explain(rt.alloc(), &subject, &[], &Err(fault), errors),
@@ -154,13 +156,14 @@ fn run_task<R: Files + AllocGlobal + Threads + Wait + Sync, I: Read, O: Write, E
     input: &mut I,
     out: &mut Watched<O>,
     errors: &mut Watched<E>,
+    meter: &mut Meter<E>,
 ) -> Ending
     requires { out.old.failed ≡ false }
     ensures { EndsTask O.contents E.contents (I.remaining input.old) task false out.old out.new errors.old errors.new result }
 {
     match read_file(rt, &task, input) {
         Ok(file) => {
-            let done = do_task(rt, rt.alloc(), task, file.as_slice(), out);
+            let done = do_task(rt, rt.alloc(), task, file.as_slice(), out, meter);
             end_plainly(&done, errors)
         }
         Err(fault) => end_plainly(&Err(fault), errors),
@@ -175,14 +178,15 @@ fn run_to_end<R: Files + AllocGlobal + Threads + Wait + Sync, I: Read, O: Write,
     input: &mut I,
     out: &mut Watched<O>,
     errors: &mut Watched<E>,
+    meter: &mut Meter<E>,
 ) -> Ending
     requires { out.old.failed ≡ false }
     ensures { EndsTask O.contents E.contents (I.remaining input.old) task explain out.old out.new errors.old errors.new result }
 {
     if explain {
-        run_and_explain(rt, task, input, out, errors)
+        run_and_explain(rt, task, input, out, errors, meter)
     } else {
-        run_task(rt, task, input, out, errors)
+        run_task(rt, task, input, out, errors, meter)
     }
 }
 
@@ -194,16 +198,17 @@ fn run_listed<R: Files + AllocGlobal + Threads + Wait + Sync, I: Read, O: Write,
     input: &mut I,
     out: &mut Watched<O>,
     errors: &mut Watched<E>,
+    meter: &mut Meter<E>,
 ) -> Ending
     requires { out.old.failed ≡ false }
     ensures { EndsFor O.contents E.contents (I.remaining input.old) (schedule_path_of task) task explain out.old out.new errors.old
         errors.new result }
 {
     let Some(path) = task.schedule_path() else {
-        return run_to_end(rt, task, explain, input, out, errors);
+        return run_to_end(rt, task, explain, input, out, errors, meter);
     };
     match turns_at(rt, path, input) {
-        Ok(turns) => run_to_end(rt, task.over(turns), explain, input, out, errors),
+        Ok(turns) => run_to_end(rt, task.over(turns), explain, input, out, errors, meter),
         Err(why) => end_unlisted(rt.alloc(), path, why, explain, out, errors),
     }
 }
@@ -216,12 +221,13 @@ fn run_request<R: Files + AllocGlobal + Threads + Wait + Sync, I: Read, O: Write
     input: &mut I,
     out: &mut Watched<O>,
     errors: &mut Watched<E>,
+    meter: &mut Meter<E>,
 ) -> Ending
     requires { out.old.failed ≡ false }
     ensures { EndsRequest O.contents E.contents (I.remaining input.old) task explain out.old out.new errors.old errors.new result }
 {
     match task {
-        Ok(task) => run_listed(rt, task, explain, input, out, errors),
+        Ok(task) => run_listed(rt, task, explain, input, out, errors, meter),
         Err(fault) => Ending {
             status: end_by_words(rt.alloc(), &fault, explain, out, errors),
             explained: true,
@@ -247,15 +253,17 @@ fn run_call<R: Files + AllocGlobal + Threads + Wait + Sync, I: Read, O: Write, E
     input: &mut I,
     out: &mut Watched<O>,
     errors: &mut Watched<E>,
+    meter: &mut Meter<E>,
 ) -> Ending
     requires { out.old.failed ≡ false }
     ensures { EndsCall O.contents E.contents (I.remaining input.old) call.now hints out.old out.new errors.old errors.new result }
 {
     let Request { task, explain } = read_request(rt.alloc(), call.words.as_slice());
     let explain = is_wanted(call.wish, explain, hints);
+    meter.want(is_wanted(call.progress, false, hints));
     let file = word_of(call.words.as_slice(), task_path(&task));
     let due = is_due(&task);
-    let ending = run_request(rt, task, explain, input, out, errors);
+    let ending = run_request(rt, task, explain, input, out, errors, meter);
     let hinted = is_hinted(hints, due, explain, ending.status);
     hint(hinted, "poolrun", call.command(), file, errors);
     ending
@@ -265,7 +273,8 @@ fn run_call<R: Files + AllocGlobal + Threads + Wait + Sync, I: Read, O: Write, E
 /// named `-`, and before it that of its turns, where they are in one; what it says is written on `out`. The line of its
 /// fault is written on `errors`, and behind it, where that is wanted, why; or else why the words ask for nothing. With
 /// `hints`, that is where someone reads `errors` at a terminal, mistakes are explained unless the words say otherwise,
-/// and behind them stands where to read on. The exit status is 0 where it is done and after help, 1 after a fault, an
+/// and behind them stands where to read on. `meter` tells how far a long task is, with `hints` unless the words say
+/// otherwise, and without them where they do. The exit status is 0 where it is done and after help, 1 after a fault, an
 /// illegal act and where there is no key, and 2 after a mistake in the words. Workers run on the threads of `rt`.
 pub fn run_program<R: Files + AllocGlobal + Threads + Wait + Sync, I: Read, O: Write, E: Write>(
     rt: &R,
@@ -274,12 +283,13 @@ pub fn run_program<R: Files + AllocGlobal + Threads + Wait + Sync, I: Read, O: W
     input: &mut I,
     out: &mut Watched<O>,
     errors: &mut Watched<E>,
+    meter: &mut Meter<E>,
 ) -> Ending
     requires { out.old.failed ≡ false }
     ensures { EndsProgram O.contents E.contents (I.remaining input.old) args hints out.old out.new errors.old errors.new result }
 {
     match read_args(rt.alloc(), args) {
-        Ok(call) => run_call(rt, &call, hints, input, out, errors),
+        Ok(call) => run_call(rt, &call, hints, input, out, errors, meter),
         Err(fault) => Ending {
             status: end_by_words(rt.alloc(), &fault, hints, out, errors),
             explained: true,

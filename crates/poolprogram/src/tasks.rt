@@ -5,6 +5,7 @@ ghost use Rattle.poolprogram.specs.Tasks.{WritesTask, RefusesTask, task_status, 
 
 use crate::check::check_text;
 use crate::key::key_text;
+use crate::meter::Meter;
 use crate::run::run_text;
 use crate::run_fault::RunFault;
 use crate::shortest::shortest_text;
@@ -20,13 +21,15 @@ use streams::{Watched, write_text};
 
 /// Does a task on the bytes of its file: a replay, what is said of its schedule, a check, a run or what is said of a
 /// key or a word. The answer is false where acts are illegal or a number is no key's, and then this was said. The
-/// errors are those of the call for the task's kind, and all but `Output` come before the first byte.
-pub fn do_task<R: Threads + Wait + Sync, W: Write>(
+/// errors are those of the call for the task's kind, and all but `Output` come before the first byte. Meanwhile `meter`
+/// tells how far a long one is.
+pub fn do_task<R: Threads + Wait + Sync, W: Write, M: Write>(
     rt: &R,
     alloc: Global,
     task: Task,
     file: &[u8],
     out: &mut Watched<W>,
+    meter: &mut Meter<M>,
 ) -> Result<bool, RunFault>
     requires { out.old.failed ≡ false }
     ensures ok { IfOk result (λ good. WritesTask task file.now good
@@ -42,7 +45,7 @@ pub fn do_task<R: Threads + Wait + Sync, W: Write>(
             stop,
             acts,
         } => {
-            replay_turns(alloc, file, turns, stop, acts, out)?;
+            replay_turns(alloc, file, turns, stop, acts, out, meter)?;
             Ok(true)
         }
         Task::Schedule {
@@ -59,7 +62,7 @@ pub fn do_task<R: Threads + Wait + Sync, W: Write>(
             stop,
             until,
         } => {
-            shortest_text(alloc, file, turns, stop, until, out)?;
+            shortest_text(alloc, file, turns, stop, until, out, meter)?;
             Ok(true)
         }
         Task::Check { file: _ } => check_text(alloc, file, out),

@@ -6,6 +6,7 @@ ghost use Rattle.schedules.specs.Schedules.{schedule_line};
 ghost use Rattle.scripts.specs.ScriptPlaces.{out_of_memory};
 ghost use Rattle.poolprogram.specs.Turns.{AreKnown, entries_for, IsUpTo, IsPlanned, WritesTurns, WritesSchedule, RefusesEntries, RefusesSchedule, RefusesTurns, RefusesListing};
 
+use crate::meter::Meter;
 use crate::replay::replay_plan;
 use crate::run_fault::RunFault;
 use commandline::{Stop, Turns};
@@ -139,13 +140,14 @@ pub fn schedule_text<W: Write>(
 
 /// Replays a script file over turns, up to a stop, as `replay_plan` does the plan and the schedule of
 /// `plan_turns`. The errors are those of `plan_turns`, and after these those of `replay_plan`.
-pub fn replay_turns<W: Write>(
+pub fn replay_turns<W: Write, M: Write>(
     alloc: Global,
     file: &[u8],
     turns: Turns,
     stop: Option<Stop>,
     acts: bool,
     out: &mut Watched<W>,
+    meter: &mut Meter<M>,
 ) -> Result<(), RunFault>
     requires { out.old.failed ≡ false }
     ensures ok { OnOk result (WritesTurns file.now turns stop acts
@@ -155,5 +157,5 @@ pub fn replay_turns<W: Write>(
         → (out.new ≡ out.old) × RefusesTurns file.now turns stop fault) }
 {
     let (plan, schedule) = plan_turns(alloc, file, turns, stop)?;
-    replay_plan(alloc, plan, schedule.as_slice(), acts, out)
+    replay_plan(alloc, plan, schedule.as_slice(), acts, out, meter)
 }

@@ -4,16 +4,18 @@
 #![tactic(auto)]
 
 use commandline::are_hints_wanted;
-use poolprogram::run_program;
+use poolprogram::{Meter, run_program};
 use std::env;
 use std::io::IsTerminal;
 use std::process::ExitCode;
 use streams::Watched;
 
 fn main(rt: HostRuntime) -> ExitCode {
-    let hints = are_hints_wanted(&rt, rt.stderr().is_terminal());
+    let terminal = rt.stderr().is_terminal();
+    let hints = are_hints_wanted(&rt, terminal);
     let mut out = Watched::new(rt.stdout());
     let mut errors = Watched::new(rt.stderr());
+    let mut meter = Meter::new(rt.stderr(), terminal);
     ExitCode::from(
         run_program(
             &rt,
@@ -22,6 +24,7 @@ fn main(rt: HostRuntime) -> ExitCode {
             &mut rt.stdin(),
             &mut out,
             &mut errors,
+            &mut meter,
         )
         .status,
     )

@@ -7,6 +7,7 @@ mod fault;
 mod printing;
 mod shorter;
 mod trial;
+mod watch;
 mod word_trial;
 mod words;
 
@@ -14,5 +15,6 @@ pub use acts::acts_of;
 pub use fault::Unshortened;
 pub use shorter::shorten;
 pub use trial::Trial;
+pub use watch::Watch;
 pub use word_trial::WordTrial;
 pub use words::stands_in;

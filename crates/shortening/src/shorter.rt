@@ -6,6 +6,7 @@ ghost use Rattle.shortening.specs.Shortest.{IsShortest, IsSameTrial, GivesUp};
 
 use crate::fault::Unshortened;
 use crate::trial::Trial;
+use crate::watch::Watch;
 use std::alloc::{AllocError, Global};
 
 /// A schedule without so many entries from this index on.
@@ -22,9 +23,10 @@ fn without(alloc: Global, schedule: &[u32], at: usize, count: usize) -> Result<V
 
 /// Leaves so many entries at a time out of a schedule that passes, where the rest still passes, from the first entry on
 /// to the last.
-fn sweep<T: Trial>(
+fn sweep<T: Trial, W: Watch>(
     alloc: Global,
     trial: &mut T,
+    watch: &mut W,
     schedule: Vec<u32>,
     count: usize,
 ) -> Result<Vec<u32>, Unshortened>
@@ -38,6 +40,7 @@ fn sweep<T: Trial>(
     let mut at = 0;
     while at < kept.len() {
         let left = without(alloc, kept.as_slice(), at, count)?;
+        watch.tries(left.len(), kept.len());
         if trial.is_passed(alloc, left.as_slice())? {
             kept = left;
         } else {
@@ -49,9 +52,10 @@ fn sweep<T: Trial>(
 
 /// Leaves halves, then quarters, and so on out of a schedule that passes, where the rest still passes; last single
 /// entries.
-fn narrow<T: Trial>(
+fn narrow<T: Trial, W: Watch>(
     alloc: Global,
     trial: &mut T,
+    watch: &mut W,
     schedule: Vec<u32>,
 ) -> Result<Vec<u32>, Unshortened>
     requires passed { T.passes trial.old schedule.items }
@@ -62,16 +66,17 @@ fn narrow<T: Trial>(
     let mut kept = schedule;
     let mut count = kept.len() / 2;
     while count > 0 {
-        kept = sweep(alloc, trial, kept, count)?;
+        kept = sweep(alloc, trial, watch, kept, count)?;
         count = count.min(kept.len()) / 2;
     }
     Ok(kept)
 }
 
 /// A schedule without the first entry that can go; none where each has to stay.
-fn without_one<T: Trial>(
+fn without_one<T: Trial, W: Watch>(
     alloc: Global,
     trial: &mut T,
+    watch: &mut W,
     schedule: &[u32],
 ) -> Result<Option<Vec<u32>>, Unshortened>
     ensures some { IfOk result (λ found. IfSome found (λ left. IsPart left.items schedule.now × T.passes trial.old left.items
@@ -83,6 +88,7 @@ fn without_one<T: Trial>(
 {
     for at in 0..schedule.len() {
         let left = without(alloc, schedule, at, 1)?;
+        watch.tries(left.len(), schedule.len());
         if trial.is_passed(alloc, left.as_slice())? {
             return Ok(Some(left));
         }
@@ -91,9 +97,10 @@ fn without_one<T: Trial>(
 }
 
 /// Leaves single entries out of a schedule that passes, until none can go.
-fn settle<T: Trial>(
+fn settle<T: Trial, W: Watch>(
     alloc: Global,
     trial: &mut T,
+    watch: &mut W,
     schedule: Vec<u32>,
 ) -> Result<Vec<u32>, Unshortened>
     requires passed { T.passes trial.old schedule.items }
@@ -102,7 +109,7 @@ fn settle<T: Trial>(
     ensures same { IsSameTrial (T.passes trial.old) (T.fails trial.old) (T.passes trial.new) (T.fails trial.new) }
 {
     let mut kept = schedule;
-    while let Some(left) = without_one(alloc, trial, kept.as_slice())? {
+    while let Some(left) = without_one(alloc, trial, watch, kept.as_slice())? {
         kept = left;
     }
     Ok(kept)
@@ -110,10 +117,11 @@ fn settle<T: Trial>(
 
 /// What is left of a schedule when entries are left out for as long as it passes the trial, so that it fails as soon as
 /// any one entry more is left out. Halves are tried first, then quarters, and so on, so that a long schedule takes few
-/// trials. The errors: `Fails` where the whole schedule fails; `Limit` where the trial may try no more; `Memory`.
-pub fn shorten<T: Trial>(
+/// trials; `watch` is told of each behind that of the whole schedule. The errors: `Fails` where the whole schedule fails; `Limit` where the trial may try no more; `Memory`.
+pub fn shorten<T: Trial, W: Watch>(
     alloc: Global,
     trial: &mut T,
+    watch: &mut W,
     schedule: Vec<u32>,
 ) -> Result<Vec<u32>, Unshortened>
     ensures ok { IfOk result (λ short. IsShortest (T.passes trial.old) (T.fails trial.old) schedule.items short.items) }
@@ -123,6 +131,6 @@ pub fn shorten<T: Trial>(
     if !trial.is_passed(alloc, schedule.as_slice())? {
         return Err(Unshortened::Fails);
     }
-    let kept = narrow(alloc, trial, schedule)?;
-    settle(alloc, trial, kept)
+    let kept = narrow(alloc, trial, watch, schedule)?;
+    settle(alloc, trial, watch, kept)
 }

@@ -10,7 +10,7 @@ _poolrun() {
     replay)
         case $before in --schedule | --seed | --turns | --stop) return ;; esac
         if [[ $word == -* ]]; then
-            mapfile -t COMPREPLY < <(compgen -W '--schedule --seed --turns --stop --acts --print-schedule --explain --explain=never --explain=always --explain=auto --help' -- "$word")
+            mapfile -t COMPREPLY < <(compgen -W '--schedule --seed --turns --stop --acts --print-schedule --progress --explain --progress=never --progress=always --progress=auto --explain=never --explain=always --explain=auto --help' -- "$word")
         else
             mapfile -t COMPREPLY < <(compgen -f -- "$word")
         fi
@@ -18,7 +18,7 @@ _poolrun() {
     shorten)
         case $before in --until | --schedule | --seed | --turns | --stop) return ;; esac
         if [[ $word == -* ]]; then
-            mapfile -t COMPREPLY < <(compgen -W '--until --schedule --seed --turns --stop --explain --explain=never --explain=always --explain=auto --help' -- "$word")
+            mapfile -t COMPREPLY < <(compgen -W '--until --schedule --seed --turns --stop --progress --explain --progress=never --progress=always --progress=auto --explain=never --explain=always --explain=auto --help' -- "$word")
         else
             mapfile -t COMPREPLY < <(compgen -f -- "$word")
         fi
