@@ -16,5 +16,5 @@ mod wanted;
 
 pub use acts::{explain_acts, explain_check};
 pub use half_run::explain_half;
-pub use plain::{explain_file, explain_no_key};
+pub use plain::{explain_file, explain_no_key, explain_output};
 pub use script::explain_script;

@@ -1,11 +1,11 @@
-//! Why a file wasn't read, and why a number is no key's, in words.
+//! Why a file wasn't read, why the output can't be written, and why a number is no key's, in words.
 ghost use Rattle.std.specs.Prelude.{◌≡◌, IfOk, string_bytes};
 ghost use Rattle.streams.specs.Shown.{IsSafeLine};
-ghost use Rattle.explanations.specs.Plain.{file_told, file_line, no_key_line};
+ghost use Rattle.explanations.specs.Plain.{file_told, file_line, output_told, output_line, no_key_line};
 
 use crate::found::cut_of;
 use std::alloc::{AllocError, Global};
-use streams::{Unreadable, line_of};
+use streams::{Unreadable, Unwritable, line_of};
 
 /// Why the file at this path wasn't read.
 fn file_told(alloc: Global, path: &str, why: Unreadable) -> Result<String, AllocError>
@@ -22,6 +22,23 @@ pub fn explain_file(alloc: Global, path: &str, why: Unreadable) -> Result<String
     ensures safe { IfOk result (λ text. IsSafeLine (string_bytes text)) }
 {
     let told = file_told(alloc, path, why)?;
+    line_of(alloc, told.as_bytes())
+}
+
+/// Why standard output can't be written.
+fn output_told(alloc: Global, why: Unwritable) -> Result<String, AllocError>
+    ensures { IfOk result (λ text. string_bytes text ≡ output_told why) }
+{
+    let reason = why.text();
+    format!(in alloc; "standard output can't be written: {reason}")
+}
+
+/// The line that explains why standard output can't be written, by the system's reason. The error is want of memory.
+pub fn explain_output(alloc: Global, why: Unwritable) -> Result<String, AllocError>
+    ensures is { IfOk result (λ text. string_bytes text ≡ output_line why) }
+    ensures safe { IfOk result (λ text. IsSafeLine (string_bytes text)) }
+{
+    let told = output_told(alloc, why)?;
     line_of(alloc, told.as_bytes())
 }
 

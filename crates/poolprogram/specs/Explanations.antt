@@ -7,10 +7,11 @@ use Rattle.commandline.specs.declared.tasks.Task.TheVariants as tasks
 use Rattle.commandline.specs.declared.tasks.Turns.{Turns}
 use Rattle.streams.specs.Shown.{line_text}
 use Rattle.streams.specs.declared.reading.Unreadable.{Unreadable}
+use Rattle.streams.specs.declared.write_failed.Unwritable.{Unwritable}
 use Rattle.shortening.specs.declared.fault.Unshortened.{Unshortened}
 use Rattle.shortening.specs.declared.fault.Unshortened.TheVariants as shortenings
 use Rattle.explanations.specs.ActsTexts.{acts_explanation, ExplainsCheck}
-use Rattle.explanations.specs.Plain.{file_line, no_key_line}
+use Rattle.explanations.specs.Plain.{file_line, output_line, no_key_line}
 use Rattle.explanations.specs.ScriptTexts.{ExplainsScript}
 use Rattle.poolprogram.specs.HalfRuns.{ExplainsHalf}
 use Rattle.poolprogram.specs.Turns.{entries_for}
@@ -72,26 +73,27 @@ shortening_told shortenings.Fails = codes "the word of --until stands in no line
 shortening_told shortenings.Limit = codes "100000000 entries were replayed, and more can perhaps be left out: cut the schedule before"
 shortening_told shortenings.Memory = codes "memory was refused"
 
--- the text explains a fault
-abbrev pub ExplainsFault : Subject → List ℕ → RunFault → List ℕ → Type 0
-ExplainsFault subject file (runs.Read refusal) text = ExplainsScript file refusal text
-ExplainsFault subject file (runs.Acts refusal) text = text ≡ acts_explanation file refusal
-ExplainsFault subject file (runs.File why) text = ExplainsUnread subject why text
-ExplainsFault subject file runs.Output text = text ≡ line_text (codes "standard output can't be written")
-ExplainsFault subject file (runs.Core fault) text = text ≡ line_text (codes "memory was refused")
-ExplainsFault subject file (runs.Shortening fault) text = text ≡ line_text (shortening_told fault)
-ExplainsFault subject file runs.Open text = text ≡ line_text (codes "memory was refused")
-ExplainsFault subject file runs.Memory text = text ≡ line_text (codes "memory was refused")
+-- the text explains a fault; that of the output by this reason
+abbrev pub ExplainsFault : Subject → List ℕ → Unwritable → RunFault → List ℕ → Type 0
+ExplainsFault subject file why (runs.Read refusal) text = ExplainsScript file refusal text
+ExplainsFault subject file why (runs.Acts refusal) text = text ≡ acts_explanation file refusal
+ExplainsFault subject file why (runs.File unread) text = ExplainsUnread subject unread text
+ExplainsFault subject file why runs.Output text = text ≡ output_line why
+ExplainsFault subject file why (runs.Core fault) text = text ≡ line_text (codes "memory was refused")
+ExplainsFault subject file why (runs.Shortening fault) text = text ≡ line_text (shortening_told fault)
+ExplainsFault subject file why runs.Open text = text ≡ line_text (codes "memory was refused")
+ExplainsFault subject file why runs.Memory text = text ≡ line_text (codes "memory was refused")
 
--- the text explains how a task ended that is about this; of a replay that was done it tells what that left undone
-abbrev pub Explains : Subject → List ℕ → Result Bool RunFault → List ℕ → Type 0
-Explains subject file (Err fault) text = ExplainsFault subject file fault text
-Explains (Replay path turns stop) file (Ok true) text = ExplainsHalf file turns stop text
-Explains (Path path) file (Ok true) text = text ≡ []
-Explains (Number number) file (Ok true) text = text ≡ []
-Explains (Replay path turns stop) file (Ok false) text = ExplainsCheck file text
-Explains (Path path) file (Ok false) text = ExplainsCheck file text
-Explains (Number number) file (Ok false) text = text ≡ no_key_line number
+-- the text explains how a task ended that is about this, where the output can't be written for this reason; of a replay that was done it
+-- tells what that left undone
+abbrev pub Explains : Subject → List ℕ → Unwritable → Result Bool RunFault → List ℕ → Type 0
+Explains subject file why (Err fault) text = ExplainsFault subject file why fault text
+Explains (Replay path turns stop) file why (Ok true) text = ExplainsHalf file turns stop text
+Explains (Path path) file why (Ok true) text = text ≡ []
+Explains (Number number) file why (Ok true) text = text ≡ []
+Explains (Replay path turns stop) file why (Ok false) text = ExplainsCheck file text
+Explains (Path path) file why (Ok false) text = ExplainsCheck file text
+Explains (Number number) file why (Ok false) text = text ≡ no_key_line number
 
 -- there is nothing to explain: the task is no replay, and went well
 abbrev pub IsPlain : Subject → Result Bool RunFault → Type 0

@@ -5,6 +5,8 @@ use Rattle.std.specs.declared.alloc.Global.{Global}
 use Rattle.std.specs.declared.io.Error.{Error}
 use Rattle.std.specs.declared.vec.IntoIter.{IntoIter}
 use Rattle.streams.specs.Saying.{Says}
+use Rattle.streams.specs.declared.write_failed.Unwritable.{Unwritable}
+use Rattle.streams.specs.declared.write_failed.Unwritable.TheVariants as unwritable
 use Rattle.streams.specs.declared.writer.Watched.{Watched}
 use Rattle.commandline.specs.Arguments.{ReadsArgs}
 use Rattle.commandline.specs.CommandLines.{AreWordsOf}
@@ -57,45 +59,48 @@ abbrev pub DoesTask : {O : Type 0} → (O → Option (List ℕ)) → Option (Lis
     → Type 0
 DoesTask contents left task file done old new = DoesFile contents left task file done old new ⊎ LacksFile task file done old new
 
--- the text, which is one line that can be printed, or empty, explains how a task ended that is about this
-pub record ExplainsEnd (subject : Subject) (file : List ℕ) (done : Result Bool RunFault) (explained : Bool) (text : List ℕ) : Type 0 where
+-- the text, which is one line that can be printed, or empty, explains how a task ended that is about this, where the output can't be written
+-- for this reason
+pub record ExplainsEnd (subject : Subject) (file : List ℕ) (reason : Unwritable) (done : Result Bool RunFault) (explained : Bool)
+    (text : List ℕ) : Type 0 where
   pub all : explained ≡ true
-  pub explains : Explains subject file done text
+  pub explains : Explains subject file reason done text
   pub safe : IsLineOrNone text
 
 -- it does; or it is empty, as memory was refused for what there is to explain, and that is told
-abbrev pub IsWhy : Result Subject AllocError → List ℕ → Result Bool RunFault → Bool → List ℕ → Type 0
-IsWhy (Ok subject) file done explained text = ExplainsEnd subject file done explained text
+abbrev pub IsWhy : Result Subject AllocError → List ℕ → Unwritable → Result Bool RunFault → Bool → List ℕ → Type 0
+IsWhy (Ok subject) file reason done explained text = ExplainsEnd subject file reason done explained text
     ⊎ ((explained ≡ false) × (text ≡ []) × (IsPlain subject done → ⊥))
-IsWhy (Err refused) file done explained text = (explained ≡ false) × (text ≡ [])
+IsWhy (Err refused) file reason done explained text = (explained ≡ false) × (text ≡ [])
 
 -- such a text is said
 pub record SaysWhy {E : Type 0} (errors : E
-    → Option (List ℕ)) (subject : Result Subject AllocError) (file : List ℕ) (done : Result Bool RunFault) (explained : Bool)
-    (before after : Watched E) : Type 0 where
+    → Option (List ℕ)) (subject : Result Subject AllocError) (file : List ℕ) (reason : Unwritable) (done : Result Bool RunFault)
+    (explained : Bool) (before after : Watched E) : Type 0 where
   pub why : List ℕ
-  pub is : IsWhy subject file done explained why
+  pub is : IsWhy subject file reason done explained why
   pub says : Says errors before after why
 
 -- the line of a task's fault is said, where it has one, and such a text behind it
 pub record SaysEnd {E : Type 0} (errors : E
-    → Option (List ℕ)) (subject : Result Subject AllocError) (file : List ℕ) (done : Result Bool RunFault) (ending : Ending)
-    (before after : Watched E) : Type 0 where
+    → Option (List ℕ)) (subject : Result Subject AllocError) (file : List ℕ) (reason : Unwritable) (done : Result Bool RunFault)
+    (ending : Ending) (before after : Watched E) : Type 0 where
   pub status_is : ending.status ≡ task_status done
   pub why : List ℕ
-  pub is : IsWhy subject file done ending.explained why
+  pub is : IsWhy subject file reason done ending.explained why
   pub says : Says errors before after (report_text done ++ why)
 
 -- the text explains how the task ended, by what it is about
-pub record IsExplainedTask (task : Task) (file : List ℕ) (done : Result Bool RunFault) (explained : Bool) (text : List ℕ) : Type 0 where
+pub record IsExplainedTask (task : Task) (file : List ℕ) (reason : Unwritable) (done : Result Bool RunFault) (explained : Bool)
+    (text : List ℕ) : Type 0 where
   pub subject : Result Subject AllocError
   pub about : IfOk subject (IsSubjectOf task)
-  pub is : IsWhy subject file done explained text
+  pub is : IsWhy subject file reason done explained text
 
 -- the text explains how the task ended, where that is wanted, and is empty where it isn't
-abbrev pub ExplainsIf : Bool → Task → List ℕ → Result Bool RunFault → Bool → List ℕ → Type 0
-ExplainsIf true task file done explained text = IsExplainedTask task file done explained text
-ExplainsIf false task file done explained text = (explained ≡ true) × (text ≡ [])
+abbrev pub ExplainsIf : Bool → Task → List ℕ → Unwritable → Result Bool RunFault → Bool → List ℕ → Type 0
+ExplainsIf true task file reason done explained text = IsExplainedTask task file reason done explained text
+ExplainsIf false task file reason done explained text = (explained ≡ true) × (text ≡ [])
 
 -- how the program ends after a task: with its status; what it says is on the output, and the line of its fault, and behind it why, are said as errors
 pub record EndsTask {O E : Type 0} (contents : O → Option (List ℕ)) (errors : E
@@ -106,7 +111,7 @@ pub record EndsTask {O E : Type 0} (contents : O → Option (List ℕ)) (errors 
   pub does : DoesTask contents left task file done old new
   pub status_is : ending.status ≡ task_status done
   pub why : List ℕ
-  pub explains : ExplainsIf explain task file done ending.explained why
+  pub explains : ExplainsIf explain task file new.why done ending.explained why
   pub says : Says errors before after (report_text done ++ why)
 
 -- what is explained is the file at this path
@@ -115,11 +120,11 @@ IsSubjectAt path (Path at) = string_bytes at ≡ path
 IsSubjectAt path (Replay at turns stop) = ⊥
 IsSubjectAt path (Number number) = ⊥
 
--- the text explains why the file at this path wasn't read
+-- the text explains why the file at this path wasn't read; of the output no reason is known
 pub record IsWhyUnread (path : List ℕ) (fault : RunFault) (explained : Bool) (text : List ℕ) : Type 0 where
   pub subject : Result Subject AllocError
   pub about : IfOk subject (IsSubjectAt path)
-  pub is : IsWhy subject [] (Err fault) explained text
+  pub is : IsWhy subject [] unwritable.Other (Err fault) explained text
 
 -- it does, where that is wanted, and is empty where it isn't
 abbrev pub WhyUnread : Bool → List ℕ → RunFault → Bool → List ℕ → Type 0

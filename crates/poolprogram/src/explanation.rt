@@ -8,10 +8,12 @@ ghost use Rattle.poolprogram.specs.Explanations.{IsSubjectOf, shortening_told, E
 use crate::half_run::explain_half_run;
 use crate::run_fault::RunFault;
 use commandline::{Stop, Task, Turns};
-use explanations::{explain_acts, explain_check, explain_file, explain_no_key, explain_script};
+use explanations::{
+    explain_acts, explain_check, explain_file, explain_no_key, explain_output, explain_script,
+};
 use shortening::Unshortened;
 use std::alloc::{AllocError, Global};
-use streams::{Unreadable, line_of};
+use streams::{Unreadable, Unwritable, line_of};
 
 /// What a task is about.
 #[derive(Drop)]
@@ -98,21 +100,22 @@ fn why_not_shorter(fault: Unshortened) -> &'static [u8]
     }
 }
 
-/// The line that explains a fault.
+/// The line that explains a fault; that of the output by this reason.
 fn explain_fault(
     alloc: Global,
     subject: &Subject,
     file: &[u8],
+    why: Unwritable,
     fault: &RunFault,
 ) -> Result<String, AllocError>
-    ensures is { IfOk result (λ text. ExplainsFault subject.now file.now fault.now (string_bytes text)) }
+    ensures is { IfOk result (λ text. ExplainsFault subject.now file.now why fault.now (string_bytes text)) }
     ensures safe { IfOk result (λ text. IsLineOrNone (string_bytes text)) }
 {
     match fault {
         RunFault::Read(refusal) => explain_script(alloc, file, refusal),
         RunFault::Acts(refusal) => explain_acts(alloc, file, refusal),
-        RunFault::File(why) => explain_unread(alloc, subject, *why),
-        RunFault::Output => line_of(alloc, b"standard output can't be written"),
+        RunFault::File(unread) => explain_unread(alloc, subject, *unread),
+        RunFault::Output => explain_output(alloc, why),
         RunFault::Shortening(fault) => line_of(alloc, why_not_shorter(*fault)),
         RunFault::Core(_) | RunFault::Open | RunFault::Memory => {
             line_of(alloc, b"memory was refused")
@@ -121,20 +124,21 @@ fn explain_fault(
 }
 
 /// The line that explains how a task ended that is about this, on the bytes of its file: the place of the fault or of
-/// the first act that is refused, what stands there, and what is wanted; or what a replay left undone. Empty where all
-/// is well. The error is want of memory.
+/// the first act that is refused, what stands there, and what is wanted; why the output can't be written, which is `why`;
+/// or what a replay left undone. Empty where all is well. The error is want of memory.
 pub fn explain(
     alloc: Global,
     subject: &Subject,
     file: &[u8],
+    why: Unwritable,
     done: &Result<bool, RunFault>,
 ) -> Result<String, AllocError>
-    ensures is { IfOk result (λ text. Explains subject.now file.now done.now (string_bytes text)) }
+    ensures is { IfOk result (λ text. Explains subject.now file.now why done.now (string_bytes text)) }
     ensures safe { IfOk result (λ text. IsLineOrNone (string_bytes text)) }
     ensures plain { IsPlain subject.now done.now → IsOk result }
 {
     match (done, subject) {
-        (Err(fault), _) => explain_fault(alloc, subject, file, fault),
+        (Err(fault), _) => explain_fault(alloc, subject, file, why, fault),
         (Ok(true), Subject::Replay { turns, stop, .. }) => {
             explain_half_run(alloc, file, turns, *stop)
         }

@@ -10,7 +10,7 @@ use commandline::{TaskFault, Turns, end_by_words, turns_in};
 use std::alloc::{AllocError, Global};
 use std::fs::Files;
 use std::io::{Read, Write};
-use streams::{Watched, read_path};
+use streams::{Unwritable, Watched, read_path};
 
 /// Why there are no turns.
 #[derive(Drop)]
@@ -61,7 +61,7 @@ fn end_unread<E: Write>(
     let done = Err(fault);
     if explain {
         let subject = subject_at(alloc, path);
-        return end_and_explain(alloc, &subject, &[], &done, errors);
+        return end_and_explain(alloc, &subject, &[], Unwritable::Other, &done, errors);
     }
     end_plainly(&done, errors)
 }

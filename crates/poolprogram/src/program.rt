@@ -23,7 +23,7 @@ use std::io;
 use std::io::{Read, Write};
 use std::sync::Wait;
 use std::thread::Threads;
-use streams::{Watched, read_path, write_text};
+use streams::{Unwritable, Watched, read_path, write_text};
 
 /// How the program ends.
 #[derive(Clone, Copy, Debug)]
@@ -81,14 +81,15 @@ fn write_explanation<E: Write>(
     alloc: Global,
     subject: &Subject,
     file: &[u8],
+    why: Unwritable,
     done: &Result<bool, RunFault>,
     errors: &mut Watched<E>,
 ) -> bool
-    ensures { SaysWhy E.contents (Ok subject.now) file.now done.now result errors.old errors.new }
+    ensures { SaysWhy E.contents (Ok subject.now) file.now why done.now result errors.old errors.new }
 {
-    match explain(alloc, subject, file, done) {
-        Ok(why) => {
-            write_text(why.as_bytes(), errors);
+    match explain(alloc, subject, file, why, done) {
+        Ok(told) => {
+            write_text(told.as_bytes(), errors);
             true
         }
         Err(_) => false,
@@ -100,29 +101,32 @@ fn write_why<E: Write>(
     alloc: Global,
     subject: &Result<Subject, AllocError>,
     file: &[u8],
+    why: Unwritable,
     done: &Result<bool, RunFault>,
     errors: &mut Watched<E>,
 ) -> bool
-    ensures { SaysWhy E.contents subject.now file.now done.now result errors.old errors.new }
+    ensures { SaysWhy E.contents subject.now file.now why done.now result errors.old errors.new }
 {
     match subject {
-        Ok(subject) => write_explanation(alloc, subject, file, done, errors),
+        Ok(subject) => write_explanation(alloc, subject, file, why, done, errors),
         Err(_) => false,
     }
 }
 
-/// Writes the line of a task's fault, where it has one, and behind it why the task ended as it did.
+/// Writes the line of a task's fault, where it has one, and behind it why the task ended as it did; where the output
+/// can't be written, for this reason.
 pub(crate) fn end_and_explain<E: Write>(
     alloc: Global,
     subject: &Result<Subject, AllocError>,
     file: &[u8],
+    why: Unwritable,
     done: &Result<bool, RunFault>,
     errors: &mut Watched<E>,
 ) -> Ending
-    ensures { SaysEnd E.contents subject.now file.now done.now result errors.old errors.new }
+    ensures { SaysEnd E.contents subject.now file.now why done.now result errors.old errors.new }
 {
     let status = end_task(done, errors);
-    let explained = write_why(alloc, subject, file, done, errors);
+    let explained = write_why(alloc, subject, file, why, done, errors);
     Ending { status, explained }
 }
 
@@ -142,10 +146,10 @@ fn run_and_explain<R: Files + AllocGlobal + Threads + Wait + Sync, I: Read, O: W
     match read_file(rt, &task, input) {
         Ok(file) => {
             let file = file.as_slice();
-            let done = do_task(rt, rt.alloc(), task, file, out, meter);
-            end_and_explain(rt.alloc(), &subject, file, &done, errors)
+            let done = do_task(rt, rt.alloc(), task, file, out);
+            end_and_explain(rt.alloc(), &subject, file, out.why(), &done, errors)
         }
-        Err(fault) => end_and_explain(rt.alloc(), &subject, &[], &Err(fault), errors),
+        Err(fault) => end_and_explain(rt.alloc(), &subject, &[], out.why(), &Err(fault), errors),
     }
 }
 

@@ -8,7 +8,9 @@ use Rattle.streams.specs.Reasons.{reason_text}
 use Rattle.streams.specs.Shown.{cut, IsSafeLine}
 use Rattle.streams.specs.declared.reading.Unreadable.{Unreadable}
 use Rattle.streams.specs.declared.reading.Unreadable.TheVariants.{Missing, Denied, Folder, NoFolder, Other}
-use Rattle.poolview.specs.Faults.{wrong_line_told, wrong_file_told, wrong_line_text, wrong_file_text}
+use Rattle.streams.specs.declared.write_failed.Unwritable.{Unwritable}
+use Rattle.streams.specs.declared.write_failed.Unwritable.TheVariants as unwritable
+use Rattle.poolview.specs.Faults.{wrong_line_told, wrong_file_told, wrong_line_text, wrong_file_text, output_told, output_text}
 
 four : (a b c d : List ℕ) → length (a ++ b ++ c ++ d) ≡ length a + length b + length c + length d
 four a b c d = omega (arith, length-append (a ++ b ++ c) d, length-append (a ++ b) c, length-append a b)
@@ -55,3 +57,14 @@ safe-file path why = record {
   is = refl;
   printable = printable-bytes (wrong_file_told path why);
 }
+
+output-short : (why : Unwritable) → length (output_told why) ≤ 2000
+output-short unwritable.Closed = leb-true (length (output_told unwritable.Closed)) 2000 refl
+output-short unwritable.Full = leb-true (length (output_told unwritable.Full)) 2000 refl
+output-short unwritable.Long = leb-true (length (output_told unwritable.Long)) 2000 refl
+output-short unwritable.Denied = leb-true (length (output_told unwritable.Denied)) 2000 refl
+output-short unwritable.Other = leb-true (length (output_told unwritable.Other)) 2000 refl
+
+-- the line that tells why the output can't be written
+pub safe-output : (why : Unwritable) → IsSafeLine (output_text why)
+safe-output why = record { told = output_told why; short = output-short why; is = refl; printable = printable-bytes (output_told why) }

@@ -6,6 +6,8 @@ use Rattle.std.specs.declared.vec.IntoIter.{IntoIter}
 use Rattle.std.specs.Io.KnownBytes.{Appends}
 use Rattle.streams.specs.Saying.{Says}
 use Rattle.streams.specs.declared.reading.Unread.{Unread}
+use Rattle.streams.specs.declared.write_failed.Unwritable.{Unwritable}
+use Rattle.streams.specs.declared.write_failed.Unwritable.TheVariants as unwritable
 use Rattle.streams.specs.declared.writer.Watched.{Watched}
 use Rattle.commandline.specs.Arguments.{ReadsArgs}
 use Rattle.commandline.specs.Hints.{Hints, hint_text, is_due, is_hinted}
@@ -33,17 +35,18 @@ pub record EndsShown {O E : Type 0} (contents : O
   pub silent : after ≡ before
   pub status_is : status ≡ 0
 
--- whether a fault is that nobody reads the output any more
-abbrev pub is_silent : Fault → Bool → Bool
-is_silent faults.Output closed = closed
-is_silent fault closed = false
+-- whether a fault is that nobody reads the output any more, where that failed for this reason
+abbrev pub is_silent : Fault → Unwritable → Bool
+is_silent faults.Output unwritable.Closed = true
+is_silent fault why = false
 
 -- how the program ends by a fault: silently, with the status that a shell tells of a closed pipe; or with status 1, and the fault's line
 -- is said, with its explanation where that is wanted
-abbrev pub EndsFault : {E : Type 0} → (E → Option (List ℕ)) → Bool → List ℕ → List ℕ → Fault → Bool → Watched E → Watched E → ℕ → Type 0
-EndsFault errors explain path bytes fault true before after status = (status ≡ 141) × (after ≡ before)
-EndsFault errors explain path bytes fault false before after status = (status ≡ 1)
-    × Says errors before after (refusal_text explain path bytes fault)
+abbrev pub EndsFault : {E : Type 0} → (E → Option (List ℕ)) → Bool → List ℕ → List ℕ → Fault → Unwritable → Bool → Watched E → Watched E
+    → ℕ → Type 0
+EndsFault errors explain path bytes fault why true before after status = (status ≡ 141) × (after ≡ before)
+EndsFault errors explain path bytes fault why false before after status = (status ≡ 1)
+    × Says errors before after (refusal_text explain path bytes why fault)
 
 -- it wasn't, by this fault; nothing is on the output, unless it failed, or memory was refused while words were written
 pub record EndsRefused {O E : Type 0} (contents : O → Option (List ℕ)) (errors : E
@@ -52,7 +55,7 @@ pub record EndsRefused {O E : Type 0} (contents : O → Option (List ℕ)) (erro
   pub fault : Fault
   pub output : fault ≡ faults.Output → new.failed ≡ true
   pub refuses : fault ≢ faults.Output → Leaves contents view bytes fault old new × RefusesText view bytes fault
-  pub ends : EndsFault errors explain path bytes fault (is_silent fault new.closed) before after status
+  pub ends : EndsFault errors explain path bytes fault new.why (is_silent fault new.why) before after status
 
 -- how the program ends that has read these bytes
 abbrev pub EndsBytes : {O E : Type 0} → (O → Option (List ℕ)) → (E → Option (List ℕ)) → Bool → Viewing → List ℕ
@@ -66,7 +69,7 @@ pub record EndsUnread {O E : Type 0} (errors : E → Option (List ℕ)) (explain
     (before after : Watched E) (status : ℕ) : Type 0 where
   pub unread : Unread
   pub still : new ≡ old
-  pub says : Says errors before after (refusal_text explain path [] (unread_fault unread))
+  pub says : Says errors before after (refusal_text explain path [] new.why (unread_fault unread))
   pub status_is : status ≡ 1
 
 -- the file was read

@@ -3,12 +3,13 @@ use Rattle.std.specs.Prelude.{ℕ, ◌-◌, Bool, true, false, List, [], ◌++�
 use Rattle.streams.specs.declared.reading.Unread.{Unread}
 use Rattle.streams.specs.declared.reading.Unread.TheVariants as unread
 use Rattle.streams.specs.declared.reading.Unreadable.{Unreadable}
+use Rattle.streams.specs.declared.write_failed.Unwritable.{Unwritable}
 use Rattle.traceviews.specs.Wants.{wanted_text}
 use Rattle.traceviews.specs.declared.following.Stray.{Stray}
 use Rattle.traceviews.specs.declared.following.Wrong.{Wrong}
 use Rattle.traceviews.specs.declared.following.Wrong.TheVariants as wrongs
 use Rattle.streams.specs.Lines.{line_at}
-use Rattle.streams.specs.Reasons.{reason_text}
+use Rattle.streams.specs.Reasons.{reason_text, unwritable_text}
 use Rattle.streams.specs.Shown.{bytes_text, cut}
 use Rattle.poolview.specs.declared.fault.Fault.{Fault}
 use Rattle.poolview.specs.declared.fault.Fault.TheVariants as faults
@@ -51,6 +52,10 @@ wrong_line_told what number bytes = codes "line " ++ decimal number ++ codes ": 
 abbrev pub wrong_file_told : List ℕ → Unreadable → List ℕ
 wrong_file_told path why = codes "\"" ++ cut path ++ codes "\" can't be opened, or not read to its end: " ++ reason_text why
 
+-- why the output can't be written, by the system's reason
+abbrev pub output_told : Unwritable → List ℕ
+output_told why = codes "standard output can't be written: " ++ unwritable_text why
+
 -- the lines that show these
 abbrev pub wrong_line_text : List ℕ → ℕ → List ℕ → List ℕ
 wrong_line_text what number bytes = bytes_text (wrong_line_told what number bytes) ++ codes "\n"
@@ -58,16 +63,20 @@ wrong_line_text what number bytes = bytes_text (wrong_line_told what number byte
 abbrev pub wrong_file_text : List ℕ → Unreadable → List ℕ
 wrong_file_text path why = bytes_text (wrong_file_told path why) ++ codes "\n"
 
--- the explanation of a fault, by the path of the file and its bytes: where it is, and what stands there
-abbrev pub explanation_text : List ℕ → List ℕ → Fault → List ℕ
-explanation_text path bytes (faults.File why) = wrong_file_text path why
-explanation_text path bytes faults.Output = []
-explanation_text path bytes faults.Memory = []
-explanation_text path bytes faults.Large = []
-explanation_text path bytes (faults.Line number wanted) = wrong_line_text no_line number bytes
-explanation_text path bytes (faults.Stray stray) = wrong_line_text no_step stray.number bytes
+abbrev pub output_text : Unwritable → List ℕ
+output_text why = bytes_text (output_told why) ++ codes "\n"
+
+-- the explanation of a fault, by the path of the file and its bytes: where it is, and what stands there; and of the output, which can't be
+-- written for this reason
+abbrev pub explanation_text : List ℕ → List ℕ → Unwritable → Fault → List ℕ
+explanation_text path bytes why (faults.File unread) = wrong_file_text path unread
+explanation_text path bytes why faults.Output = output_text why
+explanation_text path bytes why faults.Memory = []
+explanation_text path bytes why faults.Large = []
+explanation_text path bytes why (faults.Line number wanted) = wrong_line_text no_line number bytes
+explanation_text path bytes why (faults.Stray stray) = wrong_line_text no_step stray.number bytes
 
 -- what is said of a fault, with its explanation where that is wanted
-abbrev pub refusal_text : Bool → List ℕ → List ℕ → Fault → List ℕ
-refusal_text true path bytes fault = fault_text fault ++ explanation_text path bytes fault
-refusal_text false path bytes fault = fault_text fault
+abbrev pub refusal_text : Bool → List ℕ → List ℕ → Unwritable → Fault → List ℕ
+refusal_text true path bytes why fault = fault_text fault ++ explanation_text path bytes why fault
+refusal_text false path bytes why fault = fault_text fault

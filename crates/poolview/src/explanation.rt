@@ -2,12 +2,12 @@
 ghost use Rattle.std.specs.Prelude.{◌≡◌, ◌≤◌, length};
 ghost use Rattle.streams.specs.Saying.{Says};
 ghost use Rattle.streams.specs.Shown.{IsSafeLine};
-ghost use Rattle.poolview.specs.Faults.{wrong_line_text, wrong_file_text, explanation_text, refusal_text};
+ghost use Rattle.poolview.specs.Faults.{wrong_line_text, wrong_file_text, output_text, explanation_text, refusal_text};
 
 use crate::fault::{Fault, write_fault};
 use itoa::Buffer;
 use std::io::Write;
-use streams::{Unreadable, Watched, line_at, write_bytes, write_cut, write_text};
+use streams::{Unreadable, Unwritable, Watched, line_at, write_bytes, write_cut, write_text};
 
 /// What is said of a line that is none.
 const NO_LINE: &[u8] =
@@ -43,30 +43,49 @@ fn explain_file<E: Write>(path: &str, why: Unreadable, errors: &mut Watched<E>)
     write_text(b"\n", errors);
 }
 
-/// Writes the explanation of a fault, by the path of the file and its bytes.
-fn explain<E: Write>(fault: Fault, path: &str, bytes: &[u8], errors: &mut Watched<E>)
-    ensures { Says E.contents errors.old errors.new (explanation_text path.now bytes.now fault) }
+/// Writes why the output can't be written, by the system's reason.
+fn explain_output<E: Write>(why: Unwritable, errors: &mut Watched<E>)
+    ensures says { Says E.contents errors.old errors.new (output_text why) }
+    ensures safe { IsSafeLine (output_text why) }
+{
+    write_bytes(b"standard output can't be written: ", errors);
+    write_bytes(why.text().as_bytes(), errors);
+    write_text(b"\n", errors);
+}
+
+/// Writes the explanation of a fault, by the path of the file and its bytes, and by why the output can't be written.
+fn explain<E: Write>(
+    fault: Fault,
+    why: Unwritable,
+    path: &str,
+    bytes: &[u8],
+    errors: &mut Watched<E>,
+)
+    ensures { Says E.contents errors.old errors.new (explanation_text path.now bytes.now why fault) }
 {
     match fault {
-        Fault::File(why) => explain_file(path, why, errors),
-        Fault::Output | Fault::Memory | Fault::Large => {}
+        Fault::File(unread) => explain_file(path, unread, errors),
+        Fault::Output => explain_output(why, errors),
+        Fault::Memory | Fault::Large => {}
         Fault::Line { number, wanted: _ } => explain_line(number, NO_LINE, bytes, errors),
         Fault::Stray(stray) => explain_line(stray.number, NO_STEP, bytes, errors),
     }
 }
 
-/// Writes the line of a fault, and with `explained` its explanation, by the path of the file and its bytes.
+/// Writes the line of a fault, and with `explained` its explanation, by the path of the file and its bytes, and by why the
+/// output can't be written.
 pub(crate) fn write_refusal<E: Write>(
     fault: Fault,
+    why: Unwritable,
     explained: bool,
     path: &str,
     bytes: &[u8],
     errors: &mut Watched<E>,
 )
-    ensures { Says E.contents errors.old errors.new (refusal_text explained path.now bytes.now fault) }
+    ensures { Says E.contents errors.old errors.new (refusal_text explained path.now bytes.now why fault) }
 {
     write_fault(fault, errors);
     if explained {
-        explain(fault, path, bytes, errors);
+        explain(fault, why, path, bytes, errors);
     }
 }

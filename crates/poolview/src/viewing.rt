@@ -18,7 +18,7 @@ use std::env::{Args, Env};
 use std::fs::Files;
 use std::io;
 use std::io::{Read, Write};
-use streams::{Watched, read_path, write_and_flush};
+use streams::{Unwritable, Watched, read_path, write_and_flush};
 
 /// Shows what is asked for of a trace, by its bytes, as one text. All errors but `Output` come before the first byte;
 /// that comes exactly where `out` failed.
@@ -67,12 +67,12 @@ fn show<O: Write>(
 /// The status that a shell tells of a program that a closed pipe ended.
 const CLOSED: u8 = 141;
 
-/// Whether a fault is that nobody reads the output any more.
-fn is_silent(fault: Fault, closed: bool) -> bool
-    ensures { result ≡ is_silent fault closed }
+/// Whether a fault is that nobody reads the output any more, where that failed for this reason.
+fn is_silent(fault: Fault, why: Unwritable) -> bool
+    ensures { result ≡ is_silent fault why }
 {
-    match fault {
-        Fault::Output => closed,
+    match (fault, why) {
+        (Fault::Output, Unwritable::Closed) => true,
         _ => false,
     }
 }
@@ -86,12 +86,13 @@ fn end_by_fault<O, E: Write>(
     out: &Watched<O>,
     errors: &mut Watched<E>,
 ) -> u8
-    ensures { EndsFault E.contents explain path.now bytes.now fault (is_silent fault out.now.closed) errors.old errors.new result }
+    ensures { EndsFault E.contents explain path.now bytes.now fault out.now.why (is_silent fault out.now.why) errors.old errors.new result }
 {
-    if is_silent(fault, out.is_closed()) {
+    let why = out.why();
+    if is_silent(fault, why) {
         return CLOSED;
     }
-    write_refusal(fault, explain, path, bytes, errors);
+    write_refusal(fault, why, explain, path, bytes, errors);
     1
 }
 
@@ -129,7 +130,14 @@ fn end_by_view<R: Files + AllocGlobal, I: Read, O: Write, E: Write>(
     match read_path(rt, input, viewing.file) {
         Ok(bytes) => end_by_bytes(rt.alloc(), viewing, explain, bytes.as_slice(), out, errors),
         Err(unread) => {
-            write_refusal(Fault::from(unread), explain, viewing.file, &[], errors);
+            write_refusal(
+                Fault::from(unread),
+                out.why(),
+                explain,
+                viewing.file,
+                &[],
+                errors,
+            );
             1
         }
     }

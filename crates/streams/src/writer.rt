@@ -1,35 +1,44 @@
-//! Writers that remember whether a write failed.
-ghost use Rattle.std.specs.Prelude.{◌≡◌};
-ghost use Rattle.streams.specs.Watching.{is_closed_pipe};
-
+//! Writers that remember whether a write failed, and why.
+use crate::write_failed::{Unwritable, reason_of};
 use std::io;
-use std::io::{ErrorKind, Write};
+use std::io::Write;
 
-/// A writer that remembers whether one of its writes failed, whether that was as nobody reads any more, and whether it
-/// was flushed since the last.
+/// A writer that remembers whether one of its writes failed, why the first did, and whether it was flushed since the
+/// last.
 #[derive(Drop)]
 pub struct Watched<W> {
     inner: W,
     failed: bool,
-    closed: bool,
+    why: Unwritable,
     flushed: bool,
 }
 
 impl<W> Watched<W> {
     ghost use Rattle.std.specs.Prelude.{◌≡◌, true, false};
+    ghost use Rattle.streams.specs.Watching.{first_why};
 
     /// Watches a writer from now on.
     pub fn new(inner: W) -> Self
         ensures inner { result.inner ≡ inner }
         ensures failed { result.failed ≡ false }
-        ensures closed { result.closed ≡ false }
+        ensures why { result.why ≡ Unwritable.Other }
         ensures flushed { result.flushed ≡ true }
     {
         Watched {
             inner,
             failed: false,
-            closed: false,
+            why: Unwritable::Other,
             flushed: true,
+        }
+    }
+
+    /// Notes that a write failed, and why, where it is the first.
+    fn note(&mut self, why: Unwritable)
+        ensures { self.new ≡ record self.old { failed = true; why = first_why self.old.failed self.old.why why } }
+    {
+        if !self.failed {
+            self.failed = true;
+            self.why = why;
         }
     }
 
@@ -41,11 +50,11 @@ impl<W> Watched<W> {
         self.failed
     }
 
-    /// Whether a write failed since `new` as nobody reads any more: the reader of a pipe is gone.
-    pub fn is_closed(&self) -> bool
-        ensures { result ≡ self.now.closed }
+    /// Why the first write failed that did since `new`; `Other` where none did.
+    pub fn why(&self) -> Unwritable
+        ensures { result ≡ self.now.why }
     {
-        self.closed
+        self.why
     }
 
     /// Whether a flush succeeded since the last write; true before the first.
@@ -62,20 +71,10 @@ impl<W> Watched<W> {
         let Watched {
             inner,
             failed: _,
-            closed: _,
+            why: _,
             flushed: _,
         } = self;
         inner
-    }
-}
-
-/// Whether an error says that nobody reads any more.
-fn is_closed_pipe(kind: ErrorKind) -> bool
-    ensures { result ≡ is_closed_pipe kind }
-{
-    match kind {
-        ErrorKind::BrokenPipe => true,
-        _ => false,
     }
 }
 
@@ -83,7 +82,7 @@ impl<W: Write> Write for Watched<W> {
     ghost use Rattle.std.specs.Prelude.{◌≡◌, ◌||◌, false, is_err, is_ok};
     ghost use Rattle.std.specs.Io.{WritesAtMost};
     ghost use Rattle.std.specs.Io.KnownBytes.{Keeps, WriteAppends};
-    ghost use Rattle.streams.specs.Watching.{write_failed, write_closed};
+    ghost use Rattle.streams.specs.Watching.{write_failed, why_failed, why_after};
 
     ghost contents = { λ w. W.contents w.inner };
 
@@ -91,7 +90,7 @@ impl<W: Write> Write for Watched<W> {
         ensures bound { WritesAtMost result buf.now }
         ensures bytes { WriteAppends (W.contents self.old.inner) (W.contents self.new.inner) result buf.now }
         ensures failed { self.new.failed ≡ (self.old.failed || write_failed buf.now result) }
-        ensures closed { self.new.closed ≡ (self.old.closed || write_closed result) }
+        ensures why { self.new.why ≡ why_after self.old.failed self.old.why (write_failed buf.now result) (why_failed result) }
         ensures flushed { self.new.flushed ≡ false }
     {
         self.flushed = false;
@@ -99,15 +98,10 @@ impl<W: Write> Write for Watched<W> {
         match &taken {
             Ok(taken) => {
                 if *taken == 0 && !buf.is_empty() {
-                    self.failed = true;
+                    self.note(Unwritable::Other);
                 }
             }
-            Err(error) => {
-                self.failed = true;
-                if is_closed_pipe(error.kind()) {
-                    self.closed = true;
-                }
-            }
+            Err(error) => self.note(reason_of(error.kind())),
         }
         taken
     }
@@ -115,13 +109,13 @@ impl<W: Write> Write for Watched<W> {
     fn flush(&mut self) -> io::Result<()>
         ensures bytes { Keeps (W.contents self.old.inner) (W.contents self.new.inner) }
         ensures failed { self.new.failed ≡ (self.old.failed || is_err result) }
-        ensures closed { self.new.closed ≡ self.old.closed }
+        ensures why { self.new.why ≡ why_after self.old.failed self.old.why (is_err result) (why_failed result) }
         ensures flushed { self.new.flushed ≡ is_ok result }
     {
         let flushed = self.inner.flush();
         self.flushed = flushed.is_ok();
-        if !self.flushed {
-            self.failed = true;
+        if let Err(error) = &flushed {
+            self.note(reason_of(error.kind()));
         }
         flushed
     }

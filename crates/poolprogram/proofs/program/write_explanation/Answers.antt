@@ -8,7 +8,7 @@ returns-in-Ok g c =
     let contents = g.E.Write.contents in
     let old = c.args.errors.now in
     let new = c.write_text.new.out in record {
-      why = string_bytes c.in-Ok.why;
+      why = string_bytes c.in-Ok.told;
       is = inl (record { all = refl; explains = c.in-Ok.ensures.is; safe = c.in-Ok.ensures.safe });
       says = subst (λ (text : List ℕ). Says contents old new text) c.as_bytes.ensures.value c.write_text.ensures;
     }
