@@ -146,7 +146,7 @@ fn run_and_explain<R: Files + AllocGlobal + Threads + Wait + Sync, I: Read, O: W
     match read_file(rt, &task, input) {
         Ok(file) => {
             let file = file.as_slice();
-            let done = do_task(rt, rt.alloc(), task, file, out);
+            let done = do_task(rt, rt.alloc(), task, file, out, meter);
             end_and_explain(rt.alloc(), &subject, file, out.why(), &done, errors)
         }
         Err(fault) => end_and_explain(rt.alloc(), &subject, &[], out.why(), &Err(fault), errors),
