@@ -160,6 +160,20 @@ impl<'s, T: Clear, P: Stands<'s, T>> Own<'s, T, P> {
         match self.turn().create_short(block) {
             Ok(begun) => Ok(begun),
             Err(Short::Failed(error)) => Err(error),
+            Err(Short::NoPlace(block)) => self.create_behind(block, apart),
+        }
+    }
+
+    /// A create where the lane's own list is empty: of a place that it took back, or apart.
+    #[inline(never)]
+    fn create_behind<W: By<T>>(
+        self,
+        block: Block<T>,
+        apart: impl FnOnce(Self, Block<T>) -> Result<Begun<'s, T, W>, CreateError>,
+    ) -> Result<Begun<'s, T, W>, CreateError> {
+        match self.turn().create_at_hand(block) {
+            Ok(begun) => Ok(begun),
+            Err(Short::Failed(error)) => Err(error),
             Err(Short::NoPlace(block)) => apart(self, block),
         }
     }

@@ -41,7 +41,7 @@ fn create_short<'s, T: Clear, W: By<T>>(
     block: Block<T>,
     come: impl Fn(&mut Joint),
 ) -> Result<Begun<'s, T, W>, Short<T>> {
-    let begun = turn.create_short(block)?;
+    let begun = turn.create_at_hand(block)?;
     come(joint);
     Ok(begun)
 }

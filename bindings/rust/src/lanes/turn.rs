@@ -183,14 +183,31 @@ impl<'s, T: Clear, P: Stands<'s, T>> Turn<'s, T, P> {
         unsafe { object::taken::<T>() }
     }
 
-    /// A create of a lane with a place at hand: on its own list, or among those that it took back.
+    /// A create of a lane with a place on its own list.
     #[inline(always)]
     pub(super) fn create_short<W: By<T>>(
         &mut self,
         block: Block<T>,
     ) -> Result<Begun<'s, T, W>, Short<T>> {
+        self.create_where(block, |lane| lane.state.free.len() > 0)
+    }
+
+    /// A create of a lane with a place at hand: on its own list, or among those that it took back.
+    pub(super) fn create_at_hand<W: By<T>>(
+        &mut self,
+        block: Block<T>,
+    ) -> Result<Begun<'s, T, W>, Short<T>> {
+        self.create_where(block, |lane| lane.has_free())
+    }
+
+    #[inline(always)]
+    fn create_where<W: By<T>>(
+        &mut self,
+        block: Block<T>,
+        has_place: impl FnOnce(&ProvedLane<T>) -> bool,
+    ) -> Result<Begun<'s, T, W>, Short<T>> {
         let (pool, lane, call) = self.proved();
-        if !lane.has_free() {
+        if !has_place(lane) {
             call.end();
             return Err(Short::NoPlace(block));
         }
