@@ -1,8 +1,6 @@
 //! Buffers of bytes.
 use crate::clear::Clear;
-use crate::errors::{CreateError, MemoryRefused};
-use crate::key::Key;
-use crate::lane::Lane;
+use crate::errors::MemoryRefused;
 use std::borrow::{Borrow, BorrowMut};
 use std::fmt;
 use std::io::{self, Read, Write};
@@ -315,84 +313,5 @@ impl std::hash::Hash for Buffer {
 impl fmt::Debug for Buffer {
     fn fmt(&self, f: &mut fmt::Formatter<'_>) -> fmt::Result {
         write!(f, "\"{}\"", self.escape_ascii())
-    }
-}
-
-impl Lane<'_, Buffer> {
-    /// Publishes bytes, which are copied into a buffer of the pool.
-    ///
-    /// # Errors
-    ///
-    /// [`CreateError::Full`] where no place of the lane is free, [`CreateError::Memory`] where memory was refused. Nothing is then
-    /// published, and no place is lost.
-    ///
-    /// ```
-    /// # use pardz::{Buffer, CreateError, OpenError, Pool, Shape};
-    /// let pool = Pool::<Buffer>::open(Shape { lanes: 1, first_page: 1, pages: 1, ..Shape::default() })?;
-    /// let lane = pool.lane().expect("a lane");
-    /// let key = lane.put(b"short").expect("one place");
-    /// assert_eq!(lane.get(key).expect("published")[..], *b"short");
-    /// assert_eq!(lane.put(b"more").err(), Some(CreateError::Full));
-    /// # Ok::<(), OpenError>(())
-    /// ```
-    #[inline]
-    pub fn put(&self, bytes: &[u8]) -> Result<Key, CreateError> {
-        let mut filling = self.create()?;
-        filling.append(bytes)?;
-        Ok(filling.publish())
-    }
-}
-
-impl Lane<'_, String> {
-    /// Publishes a text, which is copied into a string of the pool.
-    ///
-    /// # Errors
-    ///
-    /// As [`create`](Lane::create); [`CreateError::Memory`] also where the text found no memory. Nothing is then published, and no
-    /// place is lost.
-    ///
-    /// ```
-    /// # use pardz::{Pool, Shape};
-    /// let pool = Pool::<String>::open(Shape::default())?;
-    /// let lane = pool.lane().expect("a lane");
-    /// let key = lane.put("short")?;
-    /// assert_eq!(*lane.get(key).expect("published"), "short");
-    /// # Ok::<(), Box<dyn std::error::Error>>(())
-    /// ```
-    #[inline]
-    pub fn put(&self, text: &str) -> Result<Key, CreateError> {
-        let mut filling = self.create()?;
-        if filling.try_reserve(text.len()).is_err() {
-            return Err(CreateError::Memory);
-        }
-        filling.push_str(text);
-        Ok(filling.publish())
-    }
-}
-
-impl<U: Clone> Lane<'_, Vec<U>> {
-    /// Publishes values, which are cloned into a vector of the pool.
-    ///
-    /// # Errors
-    ///
-    /// As [`create`](Lane::create); [`CreateError::Memory`] also where the values found no memory. Nothing is then published, and no
-    /// place is lost.
-    ///
-    /// ```
-    /// # use pardz::{Pool, Shape};
-    /// let pool = Pool::<Vec<u32>>::open(Shape::default())?;
-    /// let lane = pool.lane().expect("a lane");
-    /// let key = lane.put(&[1, 2])?;
-    /// assert_eq!(*lane.get(key).expect("published"), [1, 2]);
-    /// # Ok::<(), Box<dyn std::error::Error>>(())
-    /// ```
-    #[inline]
-    pub fn put(&self, values: &[U]) -> Result<Key, CreateError> {
-        let mut filling = self.create()?;
-        if filling.try_reserve(values.len()).is_err() {
-            return Err(CreateError::Memory);
-        }
-        filling.extend_from_slice(values);
-        Ok(filling.publish())
     }
 }

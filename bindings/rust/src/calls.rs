@@ -2,7 +2,6 @@
 //!
 //! A thread's first call of a pool finds it a lane, which it keeps until it ends. Where all are taken, and for owned handles, a lane
 //! is shared: each call has it under a lock, within which no code of others runs, and what is held by it may be let go by any thread.
-use crate::buffer::Buffer;
 use crate::clear::Clear;
 use crate::errors::CreateError;
 use crate::filling::{OwnedFilling, PoolFilling};
@@ -160,60 +159,5 @@ impl<T: Clear> Pool<T> {
     #[inline]
     pub fn get_owned(&self, key: Key) -> Option<OwnedRef<T>> {
         Some(OwnedRef::new(self.room.get_owned(key)?))
-    }
-}
-
-impl Pool<Buffer> {
-    /// Publishes bytes, which are copied into a buffer of the pool.
-    ///
-    /// # Errors
-    ///
-    /// As [`create`](Pool::create); [`CreateError::Memory`] also where the bytes found no memory.
-    ///
-    /// ```
-    /// let pool = pardz::Pool::<pardz::Buffer>::growing()?;
-    /// let key = pool.put(b"abc")?;
-    /// assert_eq!(*pool.get(key).expect("published"), *b"abc");
-    /// # Ok::<(), Box<dyn std::error::Error>>(())
-    /// ```
-    #[inline]
-    pub fn put(&self, bytes: &[u8]) -> Result<Key, CreateError> {
-        let mut filling = self.create()?;
-        filling.append(bytes)?;
-        Ok(filling.publish())
-    }
-}
-
-impl Pool<String> {
-    /// Publishes a text, which is copied into a string of the pool.
-    ///
-    /// # Errors
-    ///
-    /// As [`create`](Pool::create); [`CreateError::Memory`] also where the text found no memory.
-    #[inline]
-    pub fn put(&self, text: &str) -> Result<Key, CreateError> {
-        let mut filling = self.create()?;
-        if filling.try_reserve(text.len()).is_err() {
-            return Err(CreateError::Memory);
-        }
-        filling.push_str(text);
-        Ok(filling.publish())
-    }
-}
-
-impl<U: Clone> Pool<Vec<U>> {
-    /// Publishes values, which are cloned into a vector of the pool.
-    ///
-    /// # Errors
-    ///
-    /// As [`create`](Pool::create); [`CreateError::Memory`] also where the values found no memory.
-    #[inline]
-    pub fn put(&self, values: &[U]) -> Result<Key, CreateError> {
-        let mut filling = self.create()?;
-        if filling.try_reserve(values.len()).is_err() {
-            return Err(CreateError::Memory);
-        }
-        filling.extend_from_slice(values);
-        Ok(filling.publish())
     }
 }

@@ -181,6 +181,7 @@ mod object;
 #[cfg(test)]
 mod parts;
 mod pool;
+mod put;
 #[cfg(doctest)]
 #[doc = include_str!("../README.md")]
 mod readme {}
@@ -198,4 +199,5 @@ pub use filling::{Filling, OwnedFilling, PoolFilling};
 pub use key::Key;
 pub use lane::Lane;
 pub use pool::{Census, Growth, Pool, Shape};
+pub use put::Put;
 pub use reference::{OwnedRef, PoolRef, Ref};

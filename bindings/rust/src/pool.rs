@@ -235,11 +235,11 @@ impl<T: Clear> Pool<T> {
         })
     }
 
-    /// Opens a pool that grows: a small segment at first, and a further one where all are full, up to 256. A create is refused only for
-    /// want of memory, or at their end.
+    /// Opens a pool that grows: a small segment at its first create, and a further one where all are full, up to 256. A create is refused
+    /// only for want of memory, or at their end.
     ///
     /// It has 16 lanes, of which 12 may be kept by threads or taken in hand, and 4 are shared by all other threads. Its segments have
-    /// the tags from 0 on; it has 16 * 32 places at first, and 16 * 64, 192, 960, 12,224 and 44,992 more with those that follow.
+    /// the tags from 0 on; it has 16 * 32 places with the first, and 16 * 64, 192, 960, 12,224 and 44,992 more with those that follow.
     ///
     /// # Errors
     ///
@@ -258,7 +258,8 @@ impl<T: Clear> Pool<T> {
         Growth::new().open()
     }
 
-    /// A lane that nobody has, for as long as the pool is borrowed. `None` where all are taken.
+    /// A lane that nobody has, for as long as the pool is borrowed. `None` where all are taken; and where a growing pool has no segment yet,
+    /// and memory for the first was refused.
     ///
     /// ```
     /// use pardz::{Pool, Shape};
@@ -282,7 +283,7 @@ impl<T: Clear> Pool<T> {
         Lane::lent(self)
     }
 
-    /// A lane that nobody has, with a share of the pool. `None` where all are taken.
+    /// A lane that nobody has, with a share of the pool. `None` as of [`lane`](Pool::lane).
     ///
     /// ```
     /// use pardz::{Pool, Shape};
@@ -305,7 +306,7 @@ impl<T: Clear> Pool<T> {
         self.shape
     }
 
-    /// Counts the places as they are now, by a look at each.
+    /// Counts the places as they are now, by a look at each; of a growing pool those of the segments that are open.
     ///
     /// Where nobody calls meanwhile, this is what a close would count. Else each place is counted as it was at some moment of the
     /// call; all the same the numbers add up to all places.

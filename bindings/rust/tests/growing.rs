@@ -12,12 +12,16 @@ fn written() -> u64 {
 }
 
 #[test]
-fn a_growing_pool_opens_on_a_quarter_of_a_mebibyte() {
+fn a_growing_pool_opens_its_first_segment_when_it_is_used() {
     let before = written();
     let pools: Vec<_> = (0..8)
         .map(|_| Pool::<Buffer>::growing().expect("memory"))
         .collect();
     let opened = written().saturating_sub(before) / 8;
-    assert!(opened <= 256, "{opened} KiB were written to");
-    assert!(pools.iter().all(|pool| pool.census().unopened == 16 * 32));
+    assert!(opened <= 64, "{opened} KiB were written to");
+    assert!(pools.iter().all(|pool| pool.census().total() == 0));
+    assert!(pools.iter().all(|pool| pool.put(b"one").is_ok()));
+    let used = written().saturating_sub(before) / 8;
+    assert!(used <= 256, "{used} KiB were written to");
+    assert!(pools.iter().all(|pool| pool.census().total() == 16 * 32));
 }

@@ -260,6 +260,8 @@ fn without_lanes() {
         });
         let unknown = Key::try_from(1).expect("a key");
         if grows {
+            // Where the first segment is refused its memory there is no lane; where the list of the thread's lanes is, it shares.
+            while tried(|| pool.lane()).is_none() {}
             assert!(tried(|| pool.get(unknown)).is_none());
         }
         let keys = [1, 2, 3, 4].map(|number| {

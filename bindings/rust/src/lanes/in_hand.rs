@@ -44,9 +44,10 @@ impl<'p, T: Clear> Hand<'p, T> {
     ///
     /// The pool is there as long as the hand.
     unsafe fn of<'l>(pool: &Pool<T>, share: Option<Arc<Pool<T>>>) -> Option<Hand<'l, T>> {
+        let first = pool.room.first().ok()?;
         let number = pool.room.take()?;
         // SAFETY: the caller's.
-        let post = unsafe { pool.room.first().post(number.get()).keep() };
+        let post = unsafe { first.post(number.get()).keep() };
         let segment = NonNull::from(post.segment());
         Some(Hand {
             // SAFETY: it is its segment.

@@ -59,6 +59,7 @@ impl<T: Clear> Room<T> {
     where
         T: Default,
     {
+        self.first()?;
         match self.caller() {
             Caller::Own(own) => own.create(|own, block| self.create_apart(own, block)),
             Caller::Sharing => self.create_by_sharing(),
@@ -158,6 +159,9 @@ impl<T: Clear> Room<T> {
 
     #[inline(never)]
     fn get_by_caller(&self, key: Key) -> Option<Held<'_, T, OfThread>> {
+        if self.count() == 0 {
+            return None;
+        }
         match self.caller() {
             Caller::Own(own) => self.get_by_own(own, key),
             Caller::Sharing => {
@@ -203,6 +207,9 @@ impl<T: Clear> Room<T> {
 
     #[inline(never)]
     fn clear_by_caller(&self, key: Key) -> bool {
+        if self.count() == 0 {
+            return false;
+        }
         match (self.caller(), self.segment_with(key)) {
             (_, None) => false,
             (Caller::Own(own), _) => self.clear_by_own(own, key),

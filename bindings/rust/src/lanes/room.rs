@@ -9,7 +9,8 @@ use crate::errors::{CreateError, OpenError};
 use crate::key::Key;
 use crate::object::{Fixed, Later};
 use crate::pool::{Census, Growth, Shape};
-use crate::sync::{AtomicU32, AtomicU64, AtomicUsize, Ordering};
+use crate::sync::{AtomicPtr, AtomicU32, AtomicU64, AtomicUsize, Ordering};
+use std::ptr::{self, NonNull};
 
 /// The tags for which a key has room, and so the most segments.
 const TAGS: usize = GREATEST_TAG as usize + 1;
@@ -32,6 +33,8 @@ const MOST_LOOKS: u32 = 1000;
 pub(crate) struct Room<T: Clear> {
     /// Another for each pool of the process.
     id: u64,
+    /// The pool itself, by the pointer to its memory.
+    at: AtomicPtr<Room<T>>,
     /// The segments, by the tag in each key of theirs.
     segments: [Later<Segment<T>>; TAGS],
     /// How it grows, where it does.
@@ -117,47 +120,49 @@ fn open_segment<T: Clear>(shape: Shape) -> Result<Fixed<Segment<T>>, CreateError
 impl<T: Clear> Room<T> {
     /// A pool that doesn't grow. With `one_more` it has a lane more than its shape, which is shared.
     pub(super) fn open(shape: Shape, one_more: bool) -> Result<Fixed<Room<T>>, OpenError> {
-        Room::of(shape, one_more, None, 0)
+        let first = Fixed::new(Segment::open(shape, one_more)?)?;
+        let room = Room::of(shape.tag, first.lanes(), first.untold_bits(), None)?;
+        let set = room.add(0, first);
+        debug_assert!(set.is_none(), "it is the first");
+        Ok(room)
     }
 
-    /// A pool that grows, and its first shape.
+    /// A pool that grows, and its first shape. Its first segment is opened when it is wanted.
     pub(super) fn open_growing(growth: Growth) -> Result<(Fixed<Room<T>>, Shape), OpenError> {
         let tags = growth.first_tag as usize..TAGS;
         if growth.most_segments == 0 || tags.len() < growth.most_segments as usize {
             return Err(OpenError::Shape);
         }
         let shape = shape_of(0, growth);
+        shape.checked()?;
         let shared = first_bits(LANES) & !first_bits(LANES - SHARED);
-        let room = Room::of(shape, false, Some(growth), shared)?;
+        let room = Room::of(shape.tag, LANES, shared, Some(growth))?;
         Ok((room, shape))
     }
 
+    /// A pool without a segment.
     fn of(
-        shape: Shape,
-        one_more: bool,
-        growth: Option<Growth>,
+        tag: u32,
+        lanes: u32,
         shared: u64,
+        growth: Option<Growth>,
     ) -> Result<Fixed<Room<T>>, OpenError> {
         static NEXT: AtomicU64 = AtomicU64::new(1);
-        let first = Fixed::new(Segment::open(shape, one_more)?)?;
-        let mut creates = row_for(first.lanes() as usize)?;
-        creates.resize_with(first.lanes() as usize, Creates::new);
+        let mut creates = row_for(lanes as usize)?;
+        creates.resize_with(lanes as usize, Creates::new);
         let room = Fixed::new(Room {
             id: NEXT.fetch_add(1, Ordering::Relaxed),
-            lanes: Lanes::new(first.lanes(), shared | first.untold_bits())?,
+            at: AtomicPtr::new(ptr::null_mut()),
+            lanes: Lanes::new(lanes, shared)?,
             segments: [const { Later::new() }; TAGS],
             growth,
-            tag: shape.tag as usize,
-            count: AtomicUsize::new(1),
-            begun: AtomicUsize::new(1),
+            tag: tag as usize,
+            count: AtomicUsize::new(0),
+            begun: AtomicUsize::new(0),
             shares: AtomicUsize::new(1),
             creates,
         })?;
-        // SAFETY: the segment doesn't move any more, and ends with the pool, which doesn't move.
-        unsafe { first.settle(room.pointer()) };
-        room.share_in(&first);
-        let set = room.segments[room.tag].set(first);
-        debug_assert!(set.is_ok(), "it is the first");
+        room.at.store(room.pointer().as_ptr(), Ordering::Relaxed);
         Ok(room)
     }
 
@@ -180,8 +185,20 @@ impl<T: Clear> Room<T> {
         self.segments.get(self.tag + index)?.get()
     }
 
-    pub(super) fn first(&self) -> &Segment<T> {
-        self.segment(0).expect("a pool has a segment")
+    /// The first segment, which is opened where there is none yet.
+    pub(super) fn first(&self) -> Result<&Segment<T>, CreateError> {
+        loop {
+            match self.segment(0) {
+                Some(segment) => return Ok(segment),
+                None => self.grow(0)?,
+            }
+        }
+    }
+
+    /// The pool, by the pointer to its memory as it was made.
+    pub(super) fn pointer(&self) -> NonNull<Room<T>> {
+        let at = NonNull::new(self.at.load(Ordering::Relaxed));
+        at.expect("it was written when the pool was made")
     }
 
     pub(super) fn shares(&self) -> &AtomicUsize {
@@ -226,7 +243,6 @@ impl<T: Clear> Room<T> {
     pub(super) fn grow(&self, count: usize) -> Result<(), CreateError> {
         let may_grow = |growth: &Growth| count < growth.most_segments as usize;
         let growth = self.growth.filter(may_grow).ok_or(CreateError::Full)?;
-        let place = &self.segments[self.tag + count];
         if !self.begins(count) && self.waits_for_other(count) {
             return Ok(());
         }
@@ -236,20 +252,23 @@ impl<T: Clear> Room<T> {
             self.begun.store(count, Ordering::Relaxed);
         }
         let segment = opened?;
-        let not_used = self.locked(|| {
-            if self.count() != count {
-                return Some(segment);
-            }
-            // SAFETY: the segment doesn't move any more, and ends with the pool, whose pointer is the first one's.
-            unsafe { segment.settle_as(self.first()) };
-            self.share_in(&segment);
-            let not_used = place.set(segment).err();
-            self.count.store(count + 1, Ordering::Release);
-            not_used
-        });
+        let not_used = self.locked(|| self.add(count, segment));
         drop(not_used);
         self.look_again();
         Ok(())
+    }
+
+    /// Adds a segment, unless there are other than so many by now: then it comes back. (Under the lock, or before others have the pool.)
+    fn add(&self, count: usize, segment: Fixed<Segment<T>>) -> Option<Fixed<Segment<T>>> {
+        if self.count() != count {
+            return Some(segment);
+        }
+        // SAFETY: the segment doesn't move any more, and ends with the pool, which doesn't move.
+        unsafe { segment.settle(self.pointer()) };
+        self.share_in(&segment);
+        let not_used = self.segments[self.tag + count].set(segment).err();
+        self.count.store(count + 1, Ordering::Release);
+        not_used
     }
 
     /// Whether no other thread opens a segment behind so many: then the caller does. (That is for speed alone.)
@@ -304,11 +323,11 @@ impl<T: Clear> Room<T> {
         Err(CreateError::Full)
     }
 
-    /// The seat of a lane in the segment where it had its last place.
-    pub(super) fn last_post(&self, number: u32) -> Post<'_, T> {
+    /// The seat of a lane in the segment where it had its last place. None where no segment is open.
+    pub(super) fn last_post(&self, number: u32) -> Option<Post<'_, T>> {
         let last = self.creates[number as usize].last.load(Ordering::Relaxed);
-        let segment = self.segment(last);
-        segment.unwrap_or_else(|| self.first()).post(number)
+        let segment = self.segment(last).or_else(|| self.segment(0))?;
+        Some(segment.post(number))
     }
 
     /// A place of a lane may be free from now on, which had this key: creates of the lane look there first.

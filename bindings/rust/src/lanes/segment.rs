@@ -93,16 +93,6 @@ impl<T: Clear> Segment<T> {
         }
     }
 
-    /// The same, as a segment of another one's pool.
-    ///
-    /// # Safety
-    ///
-    /// As of `settle`.
-    pub(super) unsafe fn settle_as(&self, other: &Segment<T>) {
-        // SAFETY: the other is settled. The rest is the caller's.
-        unsafe { self.settle(NonNull::new_unchecked(other.room_pointer())) };
-    }
-
     #[inline(always)]
     pub(super) fn proved(&self) -> &ProvedPool<T> {
         &self.proved
@@ -142,11 +132,6 @@ impl<T: Clear> Segment<T> {
     pub(super) fn room(&self) -> &Room<T> {
         // SAFETY: it is settled, and doesn't outlive its pool.
         unsafe { &*self.room.load(Ordering::Relaxed) }
-    }
-
-    /// The pool, by the pointer to its memory.
-    pub(super) fn room_pointer(&self) -> *mut Room<T> {
-        self.room.load(Ordering::Relaxed)
     }
 
     /// The places of unopened pages of the lane that isn't told: they aren't counted.

@@ -75,8 +75,8 @@ impl<T: Clear> Drop for Share<T> {
 #[cold]
 #[inline(never)]
 pub(super) unsafe fn let_go<T: Clear>(post: Post<'_, T>) {
-    // SAFETY: the lane's share is there until now. A pool's pointer isn't null.
-    unsafe { give_up(NonNull::new_unchecked(post.segment().room_pointer())) };
+    // SAFETY: the lane's share is there until now.
+    unsafe { give_up(post.segment().room().pointer()) };
 }
 
 /// A share of the pool's memory less, which goes with the last.

@@ -29,7 +29,7 @@ impl<T: Clear> Room<T> {
         T: Default,
     {
         let number = threads::last_shared(self.id())?;
-        self.last_post(number).shared_create(come).ok()?.ok()
+        self.last_post(number)?.shared_create(come).ok()?.ok()
     }
 
     /// A create by any of the shared lanes, in any segment.

@@ -146,7 +146,7 @@ impl<T: Clear> Room<T> {
         Some(unsafe { Own::of(post) })
     }
 
-    /// Which way the thread calls the pool, whose lane isn't known. Its first call finds it one.
+    /// Which way the thread calls the pool, whose lane isn't known. Its first call finds it one. (A segment is open.)
     pub(super) fn caller(&self) -> Caller<'_, T> {
         if threads::shares(self.id()) && self.lanes.none_is_home() {
             return Caller::Sharing;
@@ -161,7 +161,7 @@ impl<T: Clear> Room<T> {
             threads::set_shares(self.id());
             return Caller::Sharing;
         };
-        let post = self.last_post(number);
+        let post = self.last_post(number).expect("a segment is open");
         // SAFETY: the thread keeps the lane of this number.
         unsafe { self.had_place(post) };
         // SAFETY: as above.
