@@ -768,7 +768,7 @@ def root_module(crates):
 
 
 # What clippy would write otherwise.
-CLIPPY = ["drop_non_drop", "explicit_auto_deref", "unnecessary_cast"]
+CLIPPY = ["drop_non_drop", "explicit_auto_deref", "result_large_err", "unnecessary_cast"]
 
 
 def formatted(text):

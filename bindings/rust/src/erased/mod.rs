@@ -8,6 +8,7 @@
 #![allow(
     clippy::drop_non_drop,
     clippy::explicit_auto_deref,
+    clippy::result_large_err,
     clippy::unnecessary_cast
 )]
 
