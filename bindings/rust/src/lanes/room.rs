@@ -187,12 +187,10 @@ impl<T: Clear> Room<T> {
 
     /// The first segment, which is opened where there is none yet.
     pub(super) fn first(&self) -> Result<&Segment<T>, CreateError> {
-        loop {
-            match self.segment(0) {
-                Some(segment) => return Ok(segment),
-                None => self.grow(0)?,
-            }
+        if self.segment(0).is_none() {
+            self.grow(0)?;
         }
+        Ok(self.segment(0).expect("a pool has a segment"))
     }
 
     /// The pool, by the pointer to its memory as it was made.
