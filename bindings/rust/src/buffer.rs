@@ -1,5 +1,5 @@
 //! Buffers of bytes.
-use crate::clear::Clear;
+use crate::clear::{Clear, Plain};
 use crate::errors::MemoryRefused;
 use std::borrow::{Borrow, BorrowMut};
 use std::fmt;
@@ -185,6 +185,11 @@ impl Clear for Buffer {
     fn clear(&mut self) {
         self.len = 0;
         self.bytes.clear();
+    }
+
+    #[inline(always)]
+    fn plain() -> Plain {
+        Plain(true)
     }
 }
 

@@ -1,6 +1,7 @@
 //! What a type needs for its objects to be pooled.
 use std::collections::{BTreeMap, BTreeSet, BinaryHeap, HashMap, HashSet, VecDeque};
 use std::ffi::OsString;
+use std::mem;
 use std::path::PathBuf;
 use std::sync::{Mutex, PoisonError, RwLock};
 
@@ -31,7 +32,23 @@ pub trait Clear {
     /// it runs since the thread unwinds already, and panics, that second panic goes no further. Neither does one where another one of the
     /// same call is handed on. The payload of such a panic is leaked, as its drop might panic in turn.
     fn clear(&mut self);
+
+    /// Whether nothing needs to be looked for as it runs.
+    #[doc(hidden)]
+    #[inline(always)]
+    fn plain() -> Plain
+    where
+        Self: Sized,
+    {
+        Plain(false)
+    }
 }
+
+/// Whether a type's `clear` runs no code but this crate's and the standard library's: it neither panics nor calls a pool, so nobody
+/// looks for that. (A type of this crate alone can say so.)
+#[doc(hidden)]
+#[derive(Clone, Copy)]
+pub struct Plain(pub(crate) bool);
 
 /// Keeps its capacity.
 impl<T> Clear for Vec<T> {
@@ -39,12 +56,22 @@ impl<T> Clear for Vec<T> {
     fn clear(&mut self) {
         Vec::clear(self);
     }
+
+    #[inline(always)]
+    fn plain() -> Plain {
+        Plain(!mem::needs_drop::<T>())
+    }
 }
 
 /// Keeps its capacity.
 impl<T> Clear for VecDeque<T> {
     fn clear(&mut self) {
         VecDeque::clear(self);
+    }
+
+    #[inline(always)]
+    fn plain() -> Plain {
+        Plain(!mem::needs_drop::<T>())
     }
 }
 
@@ -60,6 +87,11 @@ impl Clear for String {
     #[inline]
     fn clear(&mut self) {
         String::clear(self);
+    }
+
+    #[inline(always)]
+    fn plain() -> Plain {
+        Plain(true)
     }
 }
 
@@ -187,6 +219,8 @@ mod tests {
         Clear::clear(&mut heap);
         Clear::clear(&mut map);
         assert!(heap.is_empty() && map.is_empty());
+        let mut any: [Box<dyn Clear>; 1] = [Box::new(String::from("x"))];
+        Clear::clear(&mut any[0]);
         let mut parts = (PathBuf::from("a/b"), OsString::from("c"), vec![1]);
         let capacity = parts.0.capacity();
         Clear::clear(&mut parts);

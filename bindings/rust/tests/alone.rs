@@ -4,6 +4,7 @@ mod common;
 use common::{alone, at_once, limit};
 use pardz::{Clear, CreateError, Growth, Key, OpenError, OwnedRef, Pool, PoolRef, Shape};
 use std::cell::{Cell, RefCell};
+use std::collections::VecDeque;
 use std::panic::{self, catch_unwind, panic_any, AssertUnwindSafe};
 use std::sync::atomic::{AtomicUsize, Ordering::SeqCst};
 use std::sync::{Arc, Mutex, OnceLock};
@@ -221,6 +222,37 @@ fn payloads_while_unwinding() {
             }]);
             drop(lanes);
         }
+    });
+}
+
+/// Parts of a list that panic when they are dropped, while the thread unwinds: as what a `clear` of one's own does.
+#[test]
+fn parts_of_lists_while_unwinding() {
+    struct Part;
+    impl Drop for Part {
+        fn drop(&mut self) {
+            panic!("a part is dropped");
+        }
+    }
+    fn of<T: Clear + Default + Extend<Part>>() {
+        let pool = Pool::<T>::open(shape(1, 1, 1)).unwrap();
+        let lane = pool.lane().unwrap();
+        assert!(panics(|| lane.create_with(|list| {
+            list.extend([Part]);
+            panic!("on purpose")
+        })));
+        let key = lane.create_with(|list| list.extend([Part])).unwrap();
+        assert!(panics(|| {
+            let _held = lane.get(key).unwrap();
+            assert!(lane.clear(key));
+            panic!("on purpose")
+        }));
+        drop(lane);
+        assert_eq!(pool.close().free, 1);
+    }
+    alone("parts_of_lists_while_unwinding", || {
+        of::<Vec<Part>>();
+        of::<VecDeque<Part>>();
     });
 }
 

@@ -69,8 +69,11 @@ impl<'s, T: Clear, P: Stands<'s, T>> Own<'s, T, P> {
 
     /// Empties an object that was taken out of a place of this segment.
     #[inline(always)]
-    pub(super) fn let_go(self, block: Block<T>) {
-        if thread::panicking() {
+    pub(super) fn let_go(self, mut block: Block<T>) {
+        if T::plain().0 {
+            block.clear();
+            self.turn().put_away(block);
+        } else if thread::panicking() {
             self.empty_unwinding(block);
         } else {
             self.empty(block);
