@@ -1,7 +1,8 @@
-//! Tests of parts of the pool that the crate doesn't show: the pages and the free places of a lane, and pools with tags.
+//! Tests of parts of the pool that the crate doesn't show: the pages and the free places of a lane, pools with tags, and the numbers of
+//! refusals.
 use crate::erased::freelists::{LocalFree, Pages};
 use crate::erased::keybits::{Place, Shape};
-use crate::erased::shardpool::{close, open, CreateFault};
+use crate::erased::shardpool::{close, open, CreateFault, OpenFault};
 use crate::erased::slotcell::ByteBuf;
 use crate::shim::Global;
 
@@ -98,4 +99,11 @@ fn a_pool_finds_no_key_of_another_tag() {
     for (pool, lanes) in pools {
         assert_eq!(close(pool, lanes).present, 1);
     }
+}
+
+#[test]
+fn refusals_have_numbers() {
+    assert_eq!(OpenFault::Memory.number(), 5);
+    assert_eq!(CreateFault::Full.number(), 21);
+    assert_eq!(CreateFault::Memory.number(), 22);
 }

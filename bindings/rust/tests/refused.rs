@@ -1,6 +1,8 @@
 //! Each request for memory is refused in turn: the call answers it, what was there before is there still, and in the end no memory
 //! is lost.
-use pardz::{Buffer, Census, CreateError, Key, Lane, MemoryRefused, OpenError, Pool, Ref, Shape};
+use pardz::{
+    Buffer, Census, Clear, CreateError, Key, Lane, MemoryRefused, OpenError, Pool, Ref, Shape,
+};
 use std::alloc::{GlobalAlloc, Layout, System};
 use std::cell::Cell;
 
@@ -282,7 +284,18 @@ fn without_lanes() {
     }
 }
 
-/// The thread keeps two blocks until it ends: the list of its lanes, and a word of the pool that it called last.
+/// A buffer that is cleared keeps its memory.
+#[test]
+fn a_cleared_buffer_takes_no_memory() {
+    let mut buffer = Buffer::new();
+    buffer.append(&[1; 4096]).expect("memory for the bytes");
+    takes_none(|| buffer.clear());
+    assert_eq!(buffer.len(), 0);
+    assert!(buffer.capacity() >= 4096);
+    takes_none(|| buffer.append(&[2; 4096])).expect("the room of the first");
+    assert_eq!(buffer[..], [2; 4096]);
+}
+
 /// A place keeps the memory of its object.
 #[test]
 fn the_next_filling_of_a_place_takes_no_memory() {
@@ -320,6 +333,7 @@ fn a_page_is_opened_when_there_is_memory() {
     drop((first, filling));
 }
 
+/// The thread keeps two blocks until it ends: the list of its lanes, and a word of the pool that it called last.
 #[test]
 fn each_request_of_calls_without_a_lane_is_refused() {
     let tried = (0..).take_while(|granted| {
