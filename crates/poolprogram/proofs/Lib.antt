@@ -1,3 +1,4 @@
+pub mod Endings
 pub mod Verdicts
 mod Running
 mod Replaying

@@ -11,4 +11,5 @@ pub mod Explanations
 pub mod Tasks
 pub mod Reading
 pub mod Listings
+pub mod Progress
 pub mod Program

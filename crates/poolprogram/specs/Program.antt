@@ -1,5 +1,5 @@
 -- How the program ends: its status, and what is written on the output and as errors.
-use Rattle.std.specs.Prelude.{◌≡◌, ◌≢◌, ◌⊎◌, ◌↔◌, ℕ, Bool, true, false, List, [], ◌++◌, Option, Some, None, Result, Ok, Err, IfOk, IfErr, IsErrOf, String, codes, map, string_bytes}
+use Rattle.std.specs.Prelude.{◌≡◌, ◌≢◌, ◌⊎◌, ◌↔◌, ⊤, ℕ, Bool, true, false, List, [], ◌++◌, Option, Some, None, Result, Ok, Err, IfOk, IfErr, IsErrOf, String, codes, map, string_bytes}
 use Rattle.std.specs.declared.alloc.AllocError.{AllocError}
 use Rattle.std.specs.declared.alloc.Global.{Global}
 use Rattle.std.specs.declared.io.Error.{Error}
@@ -73,22 +73,33 @@ IsWhy (Ok subject) file reason done explained text = ExplainsEnd subject file re
     ⊎ ((explained ≡ false) × (text ≡ []) × (IsPlain subject done → ⊥))
 IsWhy (Err refused) file reason done explained text = (explained ≡ false) × (text ≡ [])
 
+-- the same, where there is something to be explained; where there isn't, the text is empty
+abbrev pub IsWhyIf : Option (Result Subject AllocError) → List ℕ → Unwritable → Result Bool RunFault → Bool → List ℕ → Type 0
+IsWhyIf (Some subject) file reason done explained text = IsWhy subject file reason done explained text
+IsWhyIf None file reason done explained text = (explained ≡ true) × (text ≡ [])
+
 -- such a text is said
 pub record SaysWhy {E : Type 0} (errors : E
-    → Option (List ℕ)) (subject : Result Subject AllocError) (file : List ℕ) (reason : Unwritable) (done : Result Bool RunFault)
+    → Option (List ℕ)) (subject : Option (Result Subject AllocError)) (file : List ℕ) (reason : Unwritable) (done : Result Bool RunFault)
     (explained : Bool) (before after : Watched E) : Type 0 where
   pub why : List ℕ
-  pub is : IsWhy subject file reason done explained why
+  pub is : IsWhyIf subject file reason done explained why
   pub says : Says errors before after why
 
 -- the line of a task's fault is said, where it has one, and such a text behind it
 pub record SaysEnd {E : Type 0} (errors : E
-    → Option (List ℕ)) (subject : Result Subject AllocError) (file : List ℕ) (reason : Unwritable) (done : Result Bool RunFault)
+    → Option (List ℕ)) (subject : Option (Result Subject AllocError)) (file : List ℕ) (reason : Unwritable) (done : Result Bool RunFault)
     (ending : Ending) (before after : Watched E) : Type 0 where
   pub status_is : ending.status ≡ task_status done
   pub why : List ℕ
-  pub is : IsWhy subject file reason done ending.explained why
+  pub is : IsWhyIf subject file reason done ending.explained why
   pub says : Says errors before after (report_text done ++ why)
+
+-- what is explained is this task, where that is wanted, and nothing where it isn't
+abbrev pub IsSubjectIf : Bool → Task → Option (Result Subject AllocError) → Type 0
+IsSubjectIf true task (Some subject) = IfOk subject (IsSubjectOf task)
+IsSubjectIf false task None = ⊤
+IsSubjectIf wanted task subject = ⊥
 
 -- the text explains how the task ended, by what it is about
 pub record IsExplainedTask (task : Task) (file : List ℕ) (reason : Unwritable) (done : Result Bool RunFault) (explained : Bool)

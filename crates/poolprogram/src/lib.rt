@@ -11,6 +11,7 @@ mod listing;
 mod meter;
 mod opening;
 mod program;
+mod progress;
 mod replay;
 mod run;
 mod run_fault;

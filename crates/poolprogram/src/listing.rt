@@ -4,7 +4,7 @@ ghost use Rattle.poolprogram.specs.Listings.{ListsTurns, IsUnlisted};
 ghost use Rattle.poolprogram.specs.Program.{IsSubjectAt, EndsUnread, EndsUnlisted};
 
 use crate::explanation::Subject;
-use crate::program::{Ending, end_and_explain, end_plainly};
+use crate::program::{Ending, end_task};
 use crate::run_fault::RunFault;
 use commandline::{TaskFault, Turns, end_by_words, turns_in};
 use std::alloc::{AllocError, Global};
@@ -58,12 +58,12 @@ fn end_unread<E: Write>(
 ) -> Ending
     ensures { EndsUnread E.contents path.now fault explain errors.old errors.new result }
 {
-    let done = Err(fault);
-    if explain {
-        let subject = subject_at(alloc, path);
-        return end_and_explain(alloc, &subject, &[], Unwritable::Other, &done, errors);
-    }
-    end_plainly(&done, errors)
+    let subject = if explain {
+        Some(subject_at(alloc, path))
+    } else {
+        None
+    };
+    end_task(alloc, &subject, &[], Unwritable::Other, &Err(fault), errors)
 }
 
 /// Ends the program where there are no turns in the file at a path.

@@ -1,8 +1,12 @@
 //! How far a long task is, told to those who wait for it.
-use itoa::Buffer;
+ghost use Rattle.std.specs.Prelude.{◌≡◌, ◌++◌, false};
+ghost use Rattle.streams.specs.Saying.{Says};
+ghost use Rattle.poolprogram.specs.Progress.{sum_within, is_due, counted, shown_now, turn_text, last_turns_text, erasure_of, trial_text, last_entries_text};
+
+use crate::progress::{tell_entries, tell_turns, write_erasure};
 use shortening::Watch;
 use std::io::Write;
-use streams::{Watched, write_text};
+use streams::Watched;
 
 /// After so many entries that were replayed it is told how far a task is.
 const PART: usize = 50_000;
@@ -26,7 +30,13 @@ pub struct Meter<W> {
 
 impl<W> Meter<W> {
     /// Tells on this writer, where it is wanted: by a line that is written over, or by one line behind another.
-    pub fn new(out: W, in_place: bool) -> Self {
+    pub fn new(out: W, in_place: bool) -> Self
+        ensures writer { result.out.inner ≡ out }
+        ensures well { result.out.failed ≡ false }
+        ensures place { result.in_place ≡ in_place }
+        ensures quiet { result.wanted ≡ false }
+        ensures none { result.shown ≡ false }
+    {
         Meter {
             out: Watched::new(out),
             in_place,
@@ -39,19 +49,26 @@ impl<W> Meter<W> {
     }
 
     /// It is wanted from now on, or not.
-    pub(crate) fn want(&mut self, wanted: bool) {
+    pub(crate) fn want(&mut self, wanted: bool)
+        ensures { self.new ≡ record self.old { wanted = wanted } }
+    {
         self.wanted = wanted;
     }
 
     /// A task begins, over a schedule of so many entries.
-    pub(crate) fn begin(&mut self, all: usize) {
+    pub(crate) fn begin(&mut self, all: usize)
+        ensures { self.new ≡ record self.old { all = all; made = 0; untold = 0 } }
+    {
         self.all = all;
         self.made = 0;
         self.untold = 0;
     }
 
     /// One more turn or trial was made, in which so many entries were replayed. Answers whether something is to be told.
-    fn is_due(&mut self, entries: usize) -> bool {
+    fn is_due(&mut self, entries: usize) -> bool
+        ensures due { result ≡ is_due self.old entries }
+        ensures after { self.new ≡ counted self.old entries }
+    {
         self.made = self.made.saturating_add(1);
         self.untold = self.untold.saturating_add(entries);
         if !self.wanted || self.untold < PART {
@@ -63,88 +80,60 @@ impl<W> Meter<W> {
 }
 
 impl<W: Write> Meter<W> {
-    /// Writes what stands before a line.
-    fn begin_line(&mut self) {
-        if self.in_place {
-            write_text(b"\r", &mut self.out);
-        }
-    }
-
-    /// Writes what stands behind a line.
-    fn end_line(&mut self) {
-        if self.in_place {
-            write_text(b"\x1b[K", &mut self.out);
-            self.shown = true;
-        } else {
-            write_text(b"\n", &mut self.out);
-        }
-    }
-
-    /// Writes a number.
-    fn write_number(&mut self, number: usize) {
-        write_text(Buffer::new().format(number).as_bytes(), &mut self.out);
-    }
-
-    /// Writes how many turns of a replay are made.
-    fn tell_turns(&mut self) {
-        self.begin_line();
-        write_text(b"replay: ", &mut self.out);
-        self.write_number(self.made);
-        write_text(b" of ", &mut self.out);
-        self.write_number(self.all);
-        write_text(b" turns", &mut self.out);
-        self.end_line();
-    }
-
-    /// Writes how many entries a shortening has left, and how many trials that took.
-    fn write_entries(&mut self, left: usize) {
-        write_text(b"shorten: ", &mut self.out);
-        self.write_number(left);
-        write_text(b" of ", &mut self.out);
-        self.write_number(self.all);
-        write_text(b" entries left, trials: ", &mut self.out);
-        self.write_number(self.made);
-    }
-
     /// One more turn of a replay is made.
-    pub(crate) fn turn(&mut self) {
+    pub(crate) fn turn(&mut self)
+        ensures says { Says W.contents self.old.out self.new.out (turn_text self.old) }
+        ensures same { self.new ≡ record (shown_now (is_due self.old 1) (counted self.old 1)) { out = self.new.out } }
+    {
         if self.is_due(1) {
-            self.tell_turns();
+            tell_turns(self.in_place, self.made, self.all, &mut self.out);
+            self.shown = self.shown || self.in_place;
         }
     }
 
     /// Erases the line that stands there.
-    pub(crate) fn clear(&mut self) {
+    pub(crate) fn clear(&mut self)
+        ensures says { Says W.contents self.old.out self.new.out (erasure_of self.old) }
+        ensures same { self.new ≡ record self.old { out = self.new.out; shown = false } }
+    {
         if self.shown {
-            write_text(b"\r\x1b[K", &mut self.out);
+            write_erasure(&mut self.out);
             self.shown = false;
         }
     }
 
     /// All turns of a replay are made.
-    pub(crate) fn end_turns(&mut self) {
+    pub(crate) fn end_turns(&mut self)
+        ensures says { Says W.contents self.old.out self.new.out (erasure_of self.old ++ last_turns_text self.old) }
+        ensures same { self.new ≡ record self.old { out = self.new.out; shown = false } }
+    {
         self.clear();
         if self.wanted && !self.in_place && self.untold > 0 {
-            self.tell_turns();
+            tell_turns(false, self.made, self.all, &mut self.out);
         }
     }
 
     /// A shortening ends with so many entries. The line that says so stays.
-    pub(crate) fn end_entries(&mut self, left: usize) {
+    pub(crate) fn end_entries(&mut self, left: usize)
+        ensures says { Says W.contents self.old.out self.new.out (erasure_of self.old ++ last_entries_text self.old left) }
+        ensures same { self.new ≡ record self.old { out = self.new.out; shown = false } }
+    {
         self.clear();
         if self.wanted {
-            self.write_entries(left);
-            write_text(b"\n", &mut self.out);
+            tell_entries(false, left, self.all, self.made, &mut self.out);
         }
     }
 }
 
 impl<W: Write> Watch for Meter<W> {
-    fn tries(&mut self, entries: usize, left: usize) {
+    fn tries(&mut self, entries: usize, left: usize)
+        ensures says { Says W.contents self.old.out self.new.out (trial_text self.old entries left) }
+        ensures same { self.new ≡ record (shown_now (is_due self.old (sum_within entries 1)) (counted self.old (sum_within entries 1)))
+            { out = self.new.out } }
+    {
         if self.is_due(entries.saturating_add(1)) {
-            self.begin_line();
-            self.write_entries(left);
-            self.end_line();
+            tell_entries(self.in_place, left, self.all, self.made, &mut self.out);
+            self.shown = self.shown || self.in_place;
         }
     }
 }

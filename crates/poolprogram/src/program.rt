@@ -1,11 +1,9 @@
 //! The whole program over any input and writers: what the words ask for is done, and said on the output and as errors.
-ghost use Rattle.std.specs.Prelude.{◌≡◌, true, false, Ok, IfOk, IfErr};
-ghost use Rattle.streams.specs.Saying.{Says};
+ghost use Rattle.std.specs.Prelude.{◌≡◌, true, false, Ok, Some, IfOk, IfErr};
 ghost use Rattle.commandline.specs.Readings.{text_of};
 ghost use Rattle.commandline.specs.Tasks.{path_of, schedule_path_of};
-ghost use Rattle.poolprogram.specs.Tasks.{task_status, report_text};
 ghost use Rattle.poolprogram.specs.Reading.{IsFileOf, IsUnread};
-ghost use Rattle.poolprogram.specs.Program.{SaysWhy, SaysEnd, EndsTask, EndsFor, EndsRequest, EndsCall, EndsProgram, asked_path};
+ghost use Rattle.poolprogram.specs.Program.{SaysWhy, SaysEnd, IsSubjectIf, EndsTask, EndsFor, EndsRequest, EndsCall, EndsProgram, asked_path};
 
 use crate::explanation::{Subject, explain, subject_of};
 use crate::listing::{end_unlisted, turns_at};
@@ -51,31 +49,6 @@ fn read_file<R: Files + AllocGlobal, I: Read>(
     Ok(file)
 }
 
-/// Writes the line of a task's fault, where it has one. Answers the task's status.
-fn end_task<E: Write>(done: &Result<bool, RunFault>, errors: &mut Watched<E>) -> u8
-    ensures status { result ≡ task_status done.now }
-    ensures says { Says E.contents errors.old errors.new (report_text done.now) }
-{
-    write_report(done, errors);
-    status_of(done)
-}
-
-/// Ends a task of which nothing is explained.
-pub(crate) fn end_plainly<E: Write>(
-    done: &Result<bool, RunFault>,
-    errors: &mut Watched<E>,
-) -> Ending
-    ensures status { result.status ≡ task_status done.now }
-    ensures explained { result.explained ≡ true }
-    ensures says { Says E.contents errors.old errors.new (report_text done.now) }
-{
-    let status = end_task(done, errors);
-    Ending {
-        status,
-        explained: true,
-    }
-}
-
 /// Writes why a task ended as it did that is about this. Answers whether all was explained.
 fn write_explanation<E: Write>(
     alloc: Global,
@@ -85,7 +58,7 @@ fn write_explanation<E: Write>(
     done: &Result<bool, RunFault>,
     errors: &mut Watched<E>,
 ) -> bool
-    ensures { SaysWhy E.contents (Ok subject.now) file.now why done.now result errors.old errors.new }
+    ensures { SaysWhy E.contents (Some (Ok subject.now)) file.now why done.now result errors.old errors.new }
 {
     match explain(alloc, subject, file, why, done) {
         Ok(told) => {
@@ -105,7 +78,7 @@ fn write_why<E: Write>(
     done: &Result<bool, RunFault>,
     errors: &mut Watched<E>,
 ) -> bool
-    ensures { SaysWhy E.contents subject.now file.now why done.now result errors.old errors.new }
+    ensures { SaysWhy E.contents (Some subject.now) file.now why done.now result errors.old errors.new }
 {
     match subject {
         Ok(subject) => write_explanation(alloc, subject, file, why, done, errors),
@@ -113,11 +86,28 @@ fn write_why<E: Write>(
     }
 }
 
-/// Writes the line of a task's fault, where it has one, and behind it why the task ended as it did; where the output
-/// can't be written, for this reason.
-pub(crate) fn end_and_explain<E: Write>(
+/// Writes why a task ended as it did, where there is something to be explained. Answers whether all was.
+fn write_why_if<E: Write>(
     alloc: Global,
-    subject: &Result<Subject, AllocError>,
+    subject: &Option<Result<Subject, AllocError>>,
+    file: &[u8],
+    why: Unwritable,
+    done: &Result<bool, RunFault>,
+    errors: &mut Watched<E>,
+) -> bool
+    ensures { SaysWhy E.contents subject.now file.now why done.now result errors.old errors.new }
+{
+    match subject {
+        Some(subject) => write_why(alloc, subject, file, why, done, errors),
+        None => true,
+    }
+}
+
+/// Ends a task: writes the line of its fault, where it has one, and behind it, where there is something to be explained,
+/// why the task ended as it did; where the output can't be written, for this reason.
+pub(crate) fn end_task<E: Write>(
+    alloc: Global,
+    subject: &Option<Result<Subject, AllocError>>,
     file: &[u8],
     why: Unwritable,
     done: &Result<bool, RunFault>,
@@ -125,52 +115,20 @@ pub(crate) fn end_and_explain<E: Write>(
 ) -> Ending
     ensures { SaysEnd E.contents subject.now file.now why done.now result errors.old errors.new }
 {
-    let status = end_task(done, errors);
-    let explained = write_why(alloc, subject, file, why, done, errors);
+    write_report(done, errors);
+    let status = status_of(done);
+    let explained = write_why_if(alloc, subject, file, why, done, errors);
     Ending { status, explained }
 }
 
-/// Does a task, and writes the line of its fault, where it has one, and behind it why.
-fn run_and_explain<R: Files + AllocGlobal + Threads + Wait + Sync, I: Read, O: Write, E: Write>(
-    rt: &R,
-    task: Task,
-    input: &mut I,
-    out: &mut Watched<O>,
-    errors: &mut Watched<E>,
-    meter: &mut Meter<E>,
-) -> Ending
-    requires { out.old.failed ≡ false }
-    ensures { EndsTask O.contents E.contents (I.remaining input.old) task true out.old out.new errors.old errors.new result }
+/// What is to be explained of a task; nothing where that isn't wanted.
+fn subject_if(alloc: Global, task: &Task, explain: bool) -> Option<Result<Subject, AllocError>>
+    ensures { IsSubjectIf explain task.now result }
 {
-    let subject = subject_of(rt.alloc(), &task);
-    match read_file(rt, &task, input) {
-        Ok(file) => {
-            let file = file.as_slice();
-            let done = do_task(rt, rt.alloc(), task, file, out, meter);
-            end_and_explain(rt.alloc(), &subject, file, out.why(), &done, errors)
-        }
-        Err(fault) => end_and_explain(rt.alloc(), &subject, &[], out.why(), &Err(fault), errors),
-    }
-}
-
-/// Does a task, and writes the line of its fault, where it has one.
-fn run_task<R: Files + AllocGlobal + Threads + Wait + Sync, I: Read, O: Write, E: Write>(
-    rt: &R,
-    task: Task,
-    input: &mut I,
-    out: &mut Watched<O>,
-    errors: &mut Watched<E>,
-    meter: &mut Meter<E>,
-) -> Ending
-    requires { out.old.failed ≡ false }
-    ensures { EndsTask O.contents E.contents (I.remaining input.old) task false out.old out.new errors.old errors.new result }
-{
-    match read_file(rt, &task, input) {
-        Ok(file) => {
-            let done = do_task(rt, rt.alloc(), task, file.as_slice(), out, meter);
-            end_plainly(&done, errors)
-        }
-        Err(fault) => end_plainly(&Err(fault), errors),
+    if explain {
+        Some(subject_of(alloc, task))
+    } else {
+        None
     }
 }
 
@@ -187,10 +145,14 @@ fn run_to_end<R: Files + AllocGlobal + Threads + Wait + Sync, I: Read, O: Write,
     requires { out.old.failed ≡ false }
     ensures { EndsTask O.contents E.contents (I.remaining input.old) task explain out.old out.new errors.old errors.new result }
 {
-    if explain {
-        run_and_explain(rt, task, input, out, errors, meter)
-    } else {
-        run_task(rt, task, input, out, errors, meter)
+    let subject = subject_if(rt.alloc(), &task, explain);
+    match read_file(rt, &task, input) {
+        Ok(file) => {
+            let file = file.as_slice();
+            let done = do_task(rt, rt.alloc(), task, file, out, meter);
+            end_task(rt.alloc(), &subject, file, out.why(), &done, errors)
+        }
+        Err(fault) => end_task(rt.alloc(), &subject, &[], out.why(), &Err(fault), errors),
     }
 }
 
