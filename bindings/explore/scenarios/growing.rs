@@ -1,6 +1,8 @@
 //! Pools that grow: threads that open a segment at once, and what is held of a further one.
 use crate::late::{leave_reference, take_twice};
-use crate::world::{emptied, growing, look, look_by_call, number_of, Scenario, Tracked, World};
+use crate::world::{
+    emptied, growing, key_of, look, look_by_call, number_of, Scenario, Tracked, World,
+};
 use pardz::{Key, OwnedRef, Pool};
 use std::sync::Mutex;
 
@@ -13,6 +15,10 @@ const OF_A_LANE_IN_SECOND: usize = 64;
 
 pub fn all() -> Vec<Scenario> {
     vec![
+        Scenario::new("first-at-once", unused, [make, make], one_segment).bounded(2),
+        Scenario::new("first-and-look", unused, [make, look_first], one_segment).bounded(2),
+        Scenario::new("first-in-hand", unused, [take_and_make, make], one_segment).bounded(2),
+        Scenario::new("first-owned", unused, [make_owned, make_owned], one_segment).bounded(1),
         Scenario::new(
             "grow-at-once",
             || full_lanes(2),
@@ -66,6 +72,16 @@ pub fn all() -> Vec<Scenario> {
             drop,
         ),
     ]
+}
+
+/// A pool without a segment.
+fn unused() -> World {
+    growing(0)
+}
+
+/// The key of the first place of the first lane.
+fn first_key() -> Key {
+    key_of(1, 0)
 }
 
 /// The key of the first place of a lane in the second segment.
@@ -156,6 +172,24 @@ fn make(world: &World) {
     look_by_call(&world.pool, key, 7);
 }
 
+/// A key of the first segment, got and cleared by who was told nothing.
+fn look_first(world: &World) {
+    look_by_call(&world.pool, first_key(), 7);
+    world.count(world.pool.clear(first_key()));
+}
+
+fn take_and_make(world: &World) {
+    let lane = world.pool.lane().expect("twelve are at home");
+    let key = world.make(&lane, 7).expect("a place");
+    look(&lane, key, 7);
+}
+
+fn make_owned(world: &World) {
+    let mut filling = world.pool.create_owned().expect("a place");
+    filling.set(7);
+    world.note(filling.publish());
+}
+
 fn get_further(world: &World) {
     look_by_call(&world.pool, world.keys[0], number_of(0));
 }
@@ -172,6 +206,10 @@ fn leave_further(world: &World) {
 fn clear_and_take(world: &World) {
     clear_further(world);
     take_twice(world);
+}
+
+fn one_segment(world: World) {
+    segments(world, OF_ONE_SEGMENT);
 }
 
 fn two_segments(world: World) {

@@ -20,7 +20,7 @@ use crate::reference::{OwnedRef, PoolRef};
 /// one is at home, it is shared from then on.
 impl<T: Clear> Pool<T> {
     /// Begins an empty object, to be filled and published. Where the thread's own shard is full it goes to one of the shared lanes, and
-    /// then to a further segment, if the pool grows.
+    /// then to a further segment, if the pool grows; the other way round where many threads have lanes, or where thousands went there.
     ///
     /// # Errors
     ///

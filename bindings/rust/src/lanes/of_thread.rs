@@ -131,13 +131,13 @@ impl<T: Clear> Room<T> {
     {
         loop {
             let count = self.count();
-            match own.create_in_any() {
-                Err(CreateError::Full) if self.grows_first(count) && self.grow(count).is_ok() => (),
-                created => {
-                    // SAFETY: it is of the thread's own lane.
-                    return created.inspect(|begun| unsafe { self.had_place(begun.post()) });
-                }
+            let created = own.create_in_any();
+            let is_full = matches!(created, Err(CreateError::Full));
+            if is_full && self.grows_first(count, own.post().number()) && self.grow(count).is_ok() {
+                continue;
             }
+            // SAFETY: it is of the thread's own lane.
+            return created.inspect(|begun| unsafe { self.had_place(begun.post()) });
         }
     }
 

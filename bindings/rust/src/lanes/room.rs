@@ -59,6 +59,8 @@ struct Creates {
     /// How many creates still pass the lane by, and how many will when it is found full next.
     passed: AtomicU32,
     next_passed: AtomicU32,
+    /// How many have ever passed it by.
+    all_passed: AtomicU32,
 }
 
 impl Creates {
@@ -67,6 +69,7 @@ impl Creates {
             last: AtomicUsize::new(0),
             passed: AtomicU32::new(0),
             next_passed: AtomicU32::new(PASSED),
+            all_passed: AtomicU32::new(0),
         }
     }
 
@@ -84,6 +87,18 @@ impl Creates {
         if self.passed.load(Ordering::Relaxed) != 0 {
             self.passed.store(0, Ordering::Relaxed);
         }
+    }
+
+    /// Whether a create passes the lane by.
+    fn passes(&self) -> bool {
+        let left = self.passed.load(Ordering::Relaxed);
+        if left > 0 {
+            self.passed.store(left - 1, Ordering::Relaxed);
+            let all = self.all_passed.load(Ordering::Relaxed);
+            self.all_passed
+                .store(all.saturating_add(1), Ordering::Relaxed);
+        }
+        left > 0
     }
 
     /// The lane was found full in all segments.
@@ -110,6 +125,11 @@ fn shape_of(index: usize, growth: Growth) -> Shape {
         last_generation: growth.last_generation,
         tag: growth.first_tag + index,
     }
+}
+
+/// Whether a segment behind so many is one of the widest.
+fn is_widest(count: usize) -> bool {
+    count + 1 >= WIDEST
 }
 
 fn open_segment<T: Clear>(shape: Shape) -> Result<Fixed<Segment<T>>, CreateError> {
@@ -231,9 +251,23 @@ impl<T: Clear> Room<T> {
     }
 
     /// Whether a thread whose own lane is full has a further segment opened, rather than turn to the lanes that all share: where many
-    /// threads have lanes, and up to the first of the widest.
-    pub(super) fn grows_first(&self, count: usize) -> bool {
-        self.grows() && count < WIDEST && self.lanes.are_many_taken()
+    /// threads have lanes, up to the first of the widest; and before that, where as many creates have passed its lane by as the shared
+    /// ones have places in that segment. (Their locks took about as long as the segment takes to open.)
+    pub(super) fn grows_first(&self, count: usize, number: u32) -> bool {
+        let passed = &self.creates[number as usize].all_passed;
+        let pays = |growth: Growth| {
+            let next = shape_of(count, growth).checked();
+            let places = next.map_or(u32::MAX, |next| SHARED * next.shard_places());
+            !is_widest(count) && passed.load(Ordering::Relaxed) >= places
+        };
+        let are_many = || count < WIDEST && self.lanes.are_many_taken();
+        self.growth.is_some_and(|growth| are_many() || pays(growth))
+    }
+
+    /// Whether a lane that nobody has is lent to all, rather than that a segment is opened behind so many: where that is one of the widest,
+    /// as long as many are at home.
+    pub(super) fn lends(&self, count: usize) -> bool {
+        self.grows() && is_widest(count) && self.lanes.are_many_home()
     }
 
     /// Opens a further segment, unless there are other than so many by now. Where another thread opens one, it waits a while for that:
@@ -343,12 +377,7 @@ impl<T: Clear> Room<T> {
 
     /// Whether this create passes a lane by, since that was found full a while ago.
     pub(super) fn passes(&self, number: u32) -> bool {
-        let passed = &self.creates[number as usize].passed;
-        let left = passed.load(Ordering::Relaxed);
-        if left > 0 {
-            passed.store(left - 1, Ordering::Relaxed);
-        }
-        left > 0
+        self.creates[number as usize].passes()
     }
 
     /// No lane is passed by any more.

@@ -73,6 +73,9 @@ impl<T: Clear> Room<T> {
                     created => return created,
                 }
             }
+            if self.lends(count) && self.share_one() {
+                continue;
+            }
             match self.grow(count) {
                 Err(CreateError::Full) if self.share_one() => (),
                 grown => grown?,

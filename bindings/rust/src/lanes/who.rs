@@ -100,6 +100,11 @@ impl Lanes {
         self.shared.load(Ordering::SeqCst).count_ones() > self.few
     }
 
+    /// Whether more lanes are at home than are shared where calls need it, as of this look.
+    pub(super) fn are_many_home(&self) -> bool {
+        self.home.load(Ordering::Relaxed).count_ones() > self.few
+    }
+
     /// Whether many lanes are some thread's own, or in hand, as of this look: as many as are shared where calls need it.
     pub(super) fn are_many_taken(&self) -> bool {
         let others = self.home.load(Ordering::Relaxed) | self.shared.load(Ordering::Relaxed);
