@@ -219,11 +219,13 @@ impl<T> Returned<T> {
         let first = self.first.load(Ordering::Relaxed);
         // SAFETY: the body is ours until it is pushed.
         unsafe { (*body).next = first };
-        let pushed = self
-            .first
-            .compare_exchange(first, body, Ordering::Release, Ordering::Relaxed);
-        if pushed.is_err() {
-            // All were taken meanwhile, and nobody else pushes.
+        let pushed = !first.is_null()
+            && self
+                .first
+                .compare_exchange(first, body, Ordering::Release, Ordering::Relaxed)
+                .is_ok();
+        if !pushed {
+            // None is there, or all were taken meanwhile; and nobody else pushes.
             // SAFETY: as above.
             unsafe { (*body).next = ptr::null_mut() };
             self.first.store(body, Ordering::Release);
