@@ -411,6 +411,13 @@ impl State {
         });
     }
 
+    /// An exchange by the thread found the newest value, and failed: no later look of it finds an older one.
+    fn note_seen(&mut self, thread: usize, at: usize) {
+        if let Some(values) = self.values.get_mut(&at) {
+            values.seen[thread] = values.all.len() - 1;
+        }
+    }
+
     /// What a step on an atomic word tells by its ordering.
     fn take_effect(&mut self, thread: usize, at: usize, effect: Effect) {
         let acquired = effect.acquires.then(|| self.memory.acquired(at));
@@ -603,6 +610,8 @@ pub(crate) fn step<R>(
         state.take_effect(thread, at, effect);
         if effect.writes {
             state.note_value(thread, at, (before, after), effect);
+        } else {
+            state.note_seen(thread, at);
         }
     });
     answer
