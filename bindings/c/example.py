@@ -44,6 +44,12 @@ class Lent(ctypes.Structure):
     _fields_ = [("at", ctypes.c_void_p), ("len", ctypes.c_size_t), ("key", ctypes.c_uint64), ("lane", ctypes.c_uint32)]
 
 
+class OwnedSlot(ctypes.Structure):
+    """pardz_owned: a reference that goes to any thread, or PARDZ_EMPTY."""
+
+    _fields_ = [("at", ctypes.c_void_p), ("key", ctypes.c_uint64)]
+
+
 class Refused(Exception):
     """A call answered a code that isn't PARDZ_OK."""
 
@@ -53,7 +59,7 @@ def load(library, heap):
     names = ctypes.CDLL(heap, mode=ctypes.RTLD_GLOBAL)
     names.pardz_next_number.restype = ctypes.c_uint64
     pardz = ctypes.CDLL(library)
-    slot, lent, number = ctypes.POINTER(Slot), ctypes.POINTER(Lent), ctypes.c_uint32
+    slot, lent, owned, number = ctypes.POINTER(Slot), ctypes.POINTER(Lent), ctypes.POINTER(OwnedSlot), ctypes.c_uint32
     lane, key, size, bytes_at = ctypes.POINTER(Lane), ctypes.c_uint64, ctypes.c_size_t, ctypes.POINTER(ctypes.c_void_p)
     for name, arguments in {
         "open_numbered": [ctypes.POINTER(Shape), lane, size, ctypes.c_uint64],
@@ -69,6 +75,9 @@ def load(library, heap):
         "pool_release": [slot, lent],
         "pool_clear": [slot, number, key],
         "detach": [slot, ctypes.POINTER(Census)],
+        "own": [slot, number, key, owned],
+        "owned_bytes": [owned, bytes_at, ctypes.POINTER(size)],
+        "disown": [owned],
     }.items():
         call = getattr(pardz, "pardz_" + name, None)
         if call is not None:
@@ -136,7 +145,7 @@ class SharedPool:
     def call(self, name, *arguments):
         """Calls until a lane serves it, and answers the code."""
         while True:
-            code = getattr(self.pardz, "pardz_pool_" + name)(self.slot, *arguments)
+            code = getattr(self.pardz, "pardz_" + name)(self.slot, *arguments)
             if code != BUSY:
                 return code
             time.sleep(0)
@@ -144,26 +153,50 @@ class SharedPool:
     def put(self, data):
         """Publishes bytes, and answers their key."""
         key = ctypes.c_uint64()
-        must(self.call("put", threading.get_native_id(), data, len(data), ctypes.byref(key)))
+        must(self.call("pool_put", threading.get_native_id(), data, len(data), ctypes.byref(key)))
         return key.value
 
     def take(self, key):
         """The bytes under a key, which is then cleared; None where nothing is published under it."""
         lent = Lent()
-        code = self.call("get", threading.get_native_id(), key, ctypes.byref(lent))
+        code = self.call("pool_get", threading.get_native_id(), key, ctypes.byref(lent))
         if code == GONE:
             return None
         must(code)
-        must(self.call("clear", 0, key))
+        must(self.call("pool_clear", 0, key))
         data = ctypes.string_at(lent.at, lent.len) if lent.len else b""
-        must(self.call("release", ctypes.byref(lent)))
+        must(self.call("pool_release", ctypes.byref(lent)))
         return data
+
+    def own(self, key):
+        """The bytes under a key, where they stand, also when the key is cleared and the pool is closed."""
+        owned = OwnedSlot()
+        must(self.call("own", threading.get_native_id(), key, ctypes.byref(owned)))
+        return Owned(self.pardz, owned)
 
     def close(self):
         """Closes the pool, and answers how many keys were still published."""
         census = Census()
         must(self.pardz.pardz_detach(ctypes.byref(self.slot), ctypes.byref(census)))
         return census.present
+
+
+class Owned:
+    """An owned reference, until `close`; any thread may have it."""
+
+    def __init__(self, pardz, slot):
+        self.pardz, self.slot = pardz, slot
+
+    def view(self):
+        """A view of the bytes, to be used before `close`."""
+        at, length = ctypes.c_void_p(), ctypes.c_size_t()
+        must(self.pardz.pardz_owned_bytes(ctypes.byref(self.slot), ctypes.byref(at), ctypes.byref(length)))
+        bytes_there = (ctypes.c_ubyte * length.value).from_address(at.value) if length.value else b""
+        return memoryview(bytes_there).toreadonly()
+
+    def close(self):
+        """Gives the reference back."""
+        must(self.pardz.pardz_disown(ctypes.byref(self.slot)))
 
 
 def many_threads(library, heap):
@@ -182,8 +215,12 @@ def many_threads(library, heap):
         thread.start()
     for thread in threads:
         thread.join()
-    pool.put(b"")
+    owned = pool.own(pool.put(b"owned"))
     assert pool.close() == 1
+    reader = threading.Thread(target=lambda: keys.put((bytes(owned.view()), owned.close())))
+    reader.start()
+    assert keys.get() == (b"owned", None)
+    reader.join()
 
 
 def main():

@@ -5,11 +5,13 @@
  *
  * There are two ways. pardz_open gives each thread a lane of its own. pardz_attach opens a pool that any number of threads call, each
  * call by a lane that it has for that call alone: pardz_pool_put and its like, which answer PARDZ_BUSY while others have all lanes.
- * libpardz.a and libpardz.so have these calls, and libpoolffi.a hasn't.
+ * libpardz.a and libpardz.so have these calls, and libpoolffi.a hasn't; so it is with owned references (pardz_own and its like), which
+ * go to any thread and outlive the slot of their pool.
  *
  * No call locks anything or waits for another thread, unless the heap does, and but for pardz_await_put and its like: pardz_open,
- * pardz_attach, pardz_create where it opens a page, pardz_append, pardz_room, pardz_put and pardz_pool_put take memory, and
- * pardz_close, pardz_detach, an open that is refused and whoever lets go last of a place that is used up give it back.
+ * pardz_attach, pardz_create where it opens a page, pardz_append, pardz_room, pardz_put, pardz_pool_put and pardz_own take memory, and
+ * pardz_close, pardz_detach, an open that is refused, whoever lets go last of a place that is used up, pardz_disown and a call by a lane
+ * that pardz_disown has told of a reference give it back.
  *
  * Link with heap.c and one of two libraries, whose calls do the same: libpoolffi.a, which is proved up to these calls, for x86-64 of
  * level 2 (x86-64-v2) and ELF; or libpardz.a or libpardz.so, which cargo builds, and which are made from the proved sources and not
@@ -23,7 +25,8 @@
  * - A slot (pardz_lane) is PARDZ_EMPTY before pardz_open. It may be moved by a plain copy, if the old copy isn't used again;
  *   nothing else writes to it or makes one up. Slots of threads that run at once best stand 64 bytes apart. So it is with a pool's
  *   slot (pardz_pool) and pardz_attach; many threads may be in calls with it at once, but in none while it is attached or detached:
- *   a lock, the start or join of a thread, or such an atomic stands between.
+ *   a lock, the start or join of a thread, or such an atomic stands between. So it is also with the slot of an owned reference
+ *   (pardz_owned), pardz_own or pardz_own_again, and pardz_disown.
  * - A pointer that a call is given points to so much memory as the call reads or writes, for the time of the call, and to no slot
  *   and nothing else that the call writes: the slots of a join are two. It is never NULL, but for `bytes` where `len` is 0, and
  *   for `lanes` and `numbers` where `count` is 0.
@@ -36,6 +39,7 @@
  * - PARDZ_MEMORY of an append or a room: an earlier room of the filling has ended. Its bytes are as before.
  * - PARDZ_MEMORY of pardz_put and pardz_pool_put: a page may be open, and a place have used up its next key (if that was its last, it
  *   is retired).
+ * - PARDZ_MEMORY of pardz_own: where the key was cleared meanwhile, the call may have been the last to let go of it.
  * - PARDZ_SHARED of pardz_close and pardz_detach: the slot may be empty, and the pool then keeps its memory.
  * - pardz_close_all: what it joined before it was refused is joined.
  * - pardz_put_several and its like: what was done before is done, and told.
@@ -104,14 +108,11 @@ typedef struct pardz_lent {
     uint32_t lane; /* which lane keeps it */
 } pardz_lent;
 
-/* What a lane tells of its pool and of itself while the pool is open. A later version may have more fields, behind these. */
-typedef struct pardz_stats {
-    pardz_shape shape;   /* what the pool was opened with */
-    uint32_t lane;       /* the lane's number: the index of its slot at the open */
-    uint32_t references; /* how many it has, to all keys together */
-    uint32_t fillings;   /* how many it has */
-    uint32_t joined;     /* how many lanes were joined to it */
-} pardz_stats;
+/* The place of an owned reference: 16 bytes of the caller's. pardz_owned owned = PARDZ_EMPTY; */
+typedef struct pardz_owned {
+    void *at;
+    uint64_t key; /* what it refers to; 0 where the slot is empty */
+} pardz_owned;
 
 /* What the places of a pool were when it was closed. The six add up to lanes times places of a lane. */
 typedef struct pardz_census {
@@ -123,17 +124,29 @@ typedef struct pardz_census {
     uint32_t retired;  /* used up: its last generation was cleared */
 } pardz_census;
 
+/* What a lane tells of its pool and of itself while the pool is open. A later version may have more fields, behind these. libpoolffi.a
+ * doesn't tell the last two, which are then 0 throughout. */
+typedef struct pardz_stats {
+    pardz_shape shape;   /* what the pool was opened with */
+    uint32_t lane;       /* the lane's number: the index of its slot at the open */
+    uint32_t references; /* how many it has, to all keys together */
+    uint32_t fillings;   /* how many it has */
+    uint32_t joined;     /* how many lanes were joined to it */
+    uint32_t opened;     /* how many pages of the pool are open, of all lanes together */
+    pardz_census places; /* what the pool's places are now, as pardz_pool_census says */
+} pardz_stats;
+
 enum {
     PARDZ_OK = 0,
     PARDZ_MEMORY = 1,       /* memory was refused */
-    PARDZ_EMPTY_LANE = 2,   /* the slot has no lane (or no pool): it was never opened, or was joined or closed */
-    PARDZ_FULL_LANE = 3,    /* open, attach: a slot already has a lane (or a pool) */
+    PARDZ_EMPTY_LANE = 2,   /* the slot has no lane (or no pool, or no owned reference): it never had, or it ended */
+    PARDZ_FULL_LANE = 3,    /* open, attach, own: a slot already has a lane (or a pool, or an owned reference) */
     PARDZ_FULL = 4,         /* create, put: no place of the lane is free */
     PARDZ_FILLINGS = 5,     /* create: the lane already has 16 fillings */
     PARDZ_NO_FILLING = 6,   /* the lane has no filling under this key */
     PARDZ_NO_REFERENCE = 7, /* the lane has no reference to this key */
-    PARDZ_GONE = 8,         /* get, clear: nothing is published under the key in this pool, or it is cleared already */
-    PARDZ_REFERENCES = 9,   /* get, downgrade: the lane has 1,048,575 references, the most that it can have */
+    PARDZ_GONE = 8,         /* get, own, clear: nothing is published under the key in this pool, or it is cleared already */
+    PARDZ_REFERENCES = 9,   /* get, own, downgrade: the lane has 1,048,575 references, the most that it can have */
     PARDZ_OTHER_POOL = 10,  /* join: the lanes are of different pools */
     PARDZ_LANES = 11,       /* open: count isn't the shape's number of lanes; join, close: not the lane whose turn it is */
     PARDZ_SHAPE = 12,       /* open, attach: the shape is outside its limits */
@@ -263,17 +276,18 @@ uint32_t pardz_release(pardz_lane *lane, uint64_t key);
 uint32_t pardz_clear(pardz_lane *lane, uint64_t key);
 
 /* Tells the first `count` of the numbers of pardz_stats, in its order; numbers behind those that the library knows stay as they were.
- * It makes no step, and other lanes may be in calls.
+ * It makes no step, and other lanes may be in calls. It looks at each place of an open page where more than nine are asked for.
  * PARDZ_EMPTY_LANE. */
 uint32_t pardz_numbers(pardz_lane *lane, uint32_t *numbers, size_t count);
 
 /* The same, as a struct.
  * PARDZ_EMPTY_LANE. */
 static inline uint32_t pardz_stats_of(pardz_lane *lane, pardz_stats *stats) {
-    uint32_t n[9] = { 0 };
+    uint32_t n[16] = { 0 };
     uint32_t code = pardz_numbers(lane, n, sizeof n / sizeof *n);
     if (code == PARDZ_OK) {
-        const pardz_stats told = { { n[0], n[1], n[2], n[3], n[4] }, n[5], n[6], n[7], n[8] };
+        const pardz_stats told = { { n[0], n[1], n[2], n[3], n[4] }, n[5],  n[6],  n[7],  n[8], n[9],
+                                   { n[10], n[11], n[12], n[13], n[14], n[15] } };
         *stats = told;
     }
     return code;
@@ -377,8 +391,14 @@ uint32_t pardz_pool_release(const pardz_pool *pool, const pardz_lent *lent);
  * PARDZ_EMPTY_LANE, PARDZ_GONE, PARDZ_BUSY. */
 uint32_t pardz_pool_clear(const pardz_pool *pool, uint32_t from, uint64_t key);
 
+/* Counts the pool's places as they are now, by a look at each, while other threads may be in calls: each place is counted as it was at
+ * some moment of the call, and the six numbers add up to all places. Where no call is under way it is what a detach would count.
+ * PARDZ_EMPTY_LANE. */
+uint32_t pardz_pool_census(const pardz_pool *pool, pardz_census *census);
+
 /* Closes the pool, and empties the slot: as a pardz_close of all its lanes. References that are left end with it, and count as present
- * or marked. No call with the pool is under way: else PARDZ_BUSY, or PARDZ_SHARED.
+ * or marked. No call with the pool is under way: else PARDZ_BUSY, or PARDZ_SHARED. (Where owned references are left nothing looks for
+ * calls. These stay, and what they refer to; they are counted too, and the last of them gives the pool's memory back.)
  * PARDZ_EMPTY_LANE, PARDZ_SHARED, PARDZ_BUSY. */
 uint32_t pardz_detach(pardz_pool *pool, pardz_census *census);
 
@@ -420,6 +440,37 @@ static inline uint32_t pardz_await_release(const pardz_pool *pool, const pardz_l
 static inline uint32_t pardz_await_clear(const pardz_pool *pool, uint32_t from, uint64_t key) {
     uint32_t code;
     while ((code = pardz_pool_clear(pool, from++, key)) == PARDZ_BUSY)
+        PARDZ_YIELD();
+    return code;
+}
+
+/* Owned references, in libpardz alone: each stands in a slot of its own, goes to any thread, and may be given back by any. Its bytes stand
+ * where they are, and don't change, until all slots that have it are empty: whoever clears its key, and also when the pool was detached. A
+ * lane keeps the reference, which counts among the 1,048,575 that it can have; pardz_pool_release doesn't take it. Its slot is in
+ * one call at a time, but for reads (pardz_owned_bytes) and copies (pardz_own_again), of which many threads may make some at once.
+ *
+ * Takes a reference into an empty slot.
+ * PARDZ_MEMORY, PARDZ_EMPTY_LANE, PARDZ_FULL_LANE, PARDZ_GONE, PARDZ_REFERENCES, PARDZ_BUSY. */
+uint32_t pardz_own(const pardz_pool *pool, uint32_t from, uint64_t key, pardz_owned *owned);
+
+/* Another empty slot has the reference too. It needs no lane and no memory, and the key may be cleared, and the pool detached.
+ * PARDZ_EMPTY_LANE, PARDZ_FULL_LANE. */
+uint32_t pardz_own_again(const pardz_owned *owned, pardz_owned *other);
+
+/* Tells the bytes. *at isn't written where *len is 0.
+ * PARDZ_EMPTY_LANE. */
+uint32_t pardz_owned_bytes(const pardz_owned *owned, const uint8_t **at, size_t *len);
+
+/* Empties the slot. If no other has the reference, it is given back: by this call, or, where another has the lane that keeps it, by that
+ * one before it leaves the lane. So it waits for none. The last reference of a pool that was detached gives the pool's memory back.
+ * PARDZ_EMPTY_LANE. */
+uint32_t pardz_disown(pardz_owned *owned);
+
+/* A pardz_own for who may wait, as pardz_await_get.
+ * PARDZ_MEMORY, PARDZ_EMPTY_LANE, PARDZ_FULL_LANE, PARDZ_GONE, PARDZ_REFERENCES. */
+static inline uint32_t pardz_await_own(const pardz_pool *pool, uint32_t from, uint64_t key, pardz_owned *owned) {
+    uint32_t code;
+    while ((code = pardz_own(pool, from++, key, owned)) == PARDZ_BUSY)
         PARDZ_YIELD();
     return code;
 }

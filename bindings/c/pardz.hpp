@@ -1,7 +1,7 @@
 // Classes over pardz.h, whose duties hold here too: C++11 or later. What is taken is given back where it ends: a reference is released, a
 // filling that wasn't published is cleared, and a pool is closed. Memory that is refused is a std::bad_alloc, and any other code that a
 // call here doesn't answer itself a pardz::error. References and fillings stay with their lane and end before its pool; so do those of
-// a shared_pool, which any thread may use and end.
+// a shared_pool, which any thread may use and end. An owned_reference goes anywhere, and may outlive its pool.
 #ifndef PARDZ_HPP
 #define PARDZ_HPP
 
@@ -223,6 +223,34 @@ private:
     pardz_lent lent_;
 };
 
+/// Bytes to which a program owns a reference, which goes to any thread and may outlive its pool; or none. A copy has the reference too.
+class owned_reference {
+public:
+    owned_reference() noexcept = default;
+    owned_reference(const owned_reference &other) noexcept : bytes_(other.bytes_) {
+        if (other)
+            pardz_own_again(&other.slot_, &slot_);
+    }
+    owned_reference(owned_reference &&other) noexcept : slot_(other.slot_), bytes_(other.bytes_) { other.slot_ = PARDZ_EMPTY; }
+    owned_reference &operator=(owned_reference other) noexcept {
+        std::swap(slot_, other.slot_);
+        std::swap(bytes_, other.bytes_);
+        return *this;
+    }
+    ~owned_reference() { pardz_disown(&slot_); }
+    explicit operator bool() const noexcept { return slot_.key != 0; }
+    const std::uint8_t *data() const noexcept { return bytes_.at; }
+    std::size_t size() const noexcept { return bytes_.len; }
+    const std::uint8_t *begin() const noexcept { return bytes_.at; }
+    const std::uint8_t *end() const noexcept { return bytes_.at + bytes_.len; }
+    std::uint64_t key() const noexcept { return slot_.key; }
+
+private:
+    friend class shared_pool;
+    pardz_owned slot_ = PARDZ_EMPTY;
+    pardz_bytes bytes_ = {nullptr, 0};
+};
+
 /// A pool that any number of threads call at once. A call waits where others have all its lanes.
 class shared_pool {
 public:
@@ -244,9 +272,22 @@ public:
         const bool found = is_there(pardz_await_get(&slot_, from(), key, &lent));
         return shared_reference(found ? &slot_ : nullptr, lent);
     }
+    /// The same, owned.
+    owned_reference own(std::uint64_t key) const {
+        owned_reference owned;
+        if (is_there(pardz_await_own(&slot_, from(), key, &owned.slot_)))
+            must(pardz_owned_bytes(&owned.slot_, &owned.bytes_.at, &owned.bytes_.len));
+        return owned;
+    }
+    /// What its places are now.
+    pardz_census census() const {
+        pardz_census census;
+        must(pardz_pool_census(&slot_, &census));
+        return census;
+    }
     /// Whether this call cleared the key.
     bool clear(std::uint64_t key) const { return is_there(pardz_await_clear(&slot_, from(), key)); }
-    /// Closes the pool, and answers what its places were. No reference is left, and no thread uses it any more.
+    /// Closes the pool, and answers what its places were. No shared_reference is left, and no thread uses it any more.
     pardz_census close() {
         pardz_census census;
         must(pardz_detach(&slot_, &census));

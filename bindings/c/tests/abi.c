@@ -22,7 +22,7 @@
 
 /* The fields of a type: as many as there are lines of it, so that none was added in its last bytes. */
 ASSERT(sizeof(pardz_shape) == 5 * sizeof(uint32_t) && sizeof(pardz_census) == 6 * sizeof(uint32_t) &&
-           sizeof(pardz_stats) == sizeof(pardz_shape) + 4 * sizeof(uint32_t),
+           sizeof(pardz_stats) == sizeof(pardz_shape) + 5 * sizeof(uint32_t) + sizeof(pardz_census),
        "no field is left out");
 
 #define TYPE(type, size, alignment)

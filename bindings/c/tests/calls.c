@@ -95,6 +95,18 @@ static void opens(void) {
     CHECK(census.unopened == 12);
 }
 
+/* Whether the library tells of pages and places. */
+static int tells_places(const pardz_stats *stats) {
+    return stats->places.free + stats->places.unopened + stats->places.present != 0;
+}
+
+/* The pool of SHAPE has so many open pages, and so many places; where the library tells. */
+static void has_places(pardz_lane *lane, uint32_t opened, pardz_census places) {
+    pardz_stats stats;
+    EXPECT(NUMBERS, OK, pardz_stats_of(lane, &stats));
+    CHECK(!tells_places(&stats) || (stats.opened == opened && memcmp(&stats.places, &places, sizeof places) == 0));
+}
+
 /* A lane of this number of SHAPE has so much. */
 static void has(pardz_lane *lane, uint32_t number, uint32_t references, uint32_t fillings, uint32_t joined) {
     pardz_stats stats;
@@ -111,7 +123,7 @@ static void empty_lanes(pardz_lane *empty, pardz_lane *full) {
     size_t len = 99;
     pardz_census census = NONE;
     uint32_t number = 99;
-    pardz_stats stats = { { 99, 99, 99, 99, 99 }, 99, 99, 99, 99 };
+    pardz_stats stats = { { 99, 99, 99, 99, 99 }, 99, 99, 99, 99, 99, NONE };
     EXPECT(CREATE, EMPTY_LANE, pardz_create(empty, &key));
     EXPECT(APPEND, EMPTY_LANE, pardz_append(empty, 1, NULL, 0));
     EXPECT(ROOM, EMPTY_LANE, pardz_room(empty, 1, 1, &to));
@@ -126,7 +138,7 @@ static void empty_lanes(pardz_lane *empty, pardz_lane *full) {
     EXPECT(CLEAR, EMPTY_LANE, pardz_clear(empty, 1));
     EXPECT(NUMBERS, EMPTY_LANE, pardz_numbers(empty, &number, 1));
     EXPECT(NUMBERS, EMPTY_LANE, pardz_stats_of(empty, &stats));
-    CHECK(number == 99 && stats.shape.lanes == 99 && stats.joined == 99);
+    CHECK(number == 99 && stats.shape.lanes == 99 && stats.joined == 99 && is_none(&stats.places));
     EXPECT(JOIN, EMPTY_LANE, pardz_join(full, empty));
     EXPECT(JOIN, EMPTY_LANE, pardz_join(empty, full));
     EXPECT(CLOSE, EMPTY_LANE, pardz_close(empty, &census));
@@ -136,15 +148,17 @@ static void empty_lanes(pardz_lane *empty, pardz_lane *full) {
 
 /* A lane tells no more numbers than there is room for, and no more than it knows. */
 static void numbers(pardz_lane *lane) {
-    uint32_t few[4] = { 99, 99, 99, 99 }, many[12];
-    for (size_t i = 0; i < 12; i++)
+    uint32_t few[4] = { 99, 99, 99, 99 }, many[20];
+    for (size_t i = 0; i < 20; i++)
         many[i] = 99;
     EXPECT(NUMBERS, OK, pardz_numbers(lane, NULL, 0));
     EXPECT(NUMBERS, OK, pardz_numbers(lane, few, 3));
     CHECK(few[0] == SHAPE.lanes && few[1] == SHAPE.first_page && few[2] == SHAPE.pages && few[3] == 99);
-    EXPECT(NUMBERS, OK, pardz_numbers(lane, many, 12));
+    EXPECT(NUMBERS, OK, pardz_numbers(lane, many, 20));
     CHECK(memcmp(many, few, sizeof *few * 3) == 0 && many[3] == SHAPE.last_generation && many[4] == SHAPE.tag);
-    CHECK(many[8] == 0 && many[9] == 99 && many[11] == 99);
+    CHECK(many[8] == 0 && many[16] == 99 && many[19] == 99);
+    /* Opened pages and the six of a census; or none of them. */
+    CHECK(many[9] == 99 ? many[10] == 99 && many[15] == 99 : many[9] == 0 && many[10] == 0 && many[11] == 12 && many[15] == 0);
 }
 
 /* What lanes tell while a pool is open. */
@@ -160,6 +174,7 @@ static void tells(void) {
     EXPECT(CREATE, OK, pardz_create(&lanes[0], &key));
     EXPECT(CREATE, OK, pardz_create(&lanes[0], &other));
     has(&lanes[0], 0, 0, 2, 0);
+    has_places(&lanes[1], 1, (pardz_census){ 0, 10, 2, 0, 0, 0 });
     EXPECT(DOWNGRADE, OK, pardz_downgrade(&lanes[0], key));
     EXPECT(PUBLISH, OK, pardz_publish(&lanes[0], other));
     has(&lanes[0], 0, 1, 0, 0);
@@ -169,6 +184,7 @@ static void tells(void) {
     }
     EXPECT(CLEAR, OK, pardz_clear(&lanes[1], key));
     has(&lanes[1], 1, 3, 0, 0);
+    has_places(&lanes[1], 1, (pardz_census){ 0, 10, 0, 1, 1, 0 });
     EXPECT(RELEASE, OK, pardz_release(&lanes[1], key));
     has(&lanes[1], 1, 2, 0, 0);
     has(&lanes[0], 0, 1, 0, 0);
@@ -177,6 +193,7 @@ static void tells(void) {
     has(&lanes[0], 0, 1, 1, 1);
     EXPECT(LEAVE, OK, pardz_leave(&lanes[0], key));
     has(&lanes[0], 0, 1, 0, 1);
+    has_places(&lanes[0], 2, (pardz_census){ 3, 6, 1, 1, 1, 0 });
     pardz_census census;
     EXPECT(CLOSE, OK, pardz_close(&lanes[0], &census));
     CHECK(heap_blocks == 0);

@@ -1,5 +1,5 @@
-/* Each code of each call by a pool, provoked once; then that these were all. Each request for memory of an attach and of a put refused
- * in turn: a code, nothing else changed, no leak. */
+/* Each code of each call by a pool and of each with an owned reference, provoked once; then that these were all. Each request for memory of
+ * an attach, of a put and of an own refused in turn: a code, nothing else changed, no leak. */
 #include "../pardz.h"
 #include "check.h"
 #include "counting_heap.h"
@@ -8,12 +8,13 @@
 #include <semaphore.h>
 #include <string.h>
 
-enum call { ATTACH, PUT, GET, RELEASE, CLEAR, DETACH, CALLS };
+enum call { ATTACH, PUT, GET, RELEASE, CLEAR, CENSUS, DETACH, OWN, OWN_AGAIN, OWNED_BYTES, DISOWN, CALLS };
 
 #define CODES 16
 #define BIT(code) (1u << PARDZ_##code)
 
-static const char *const NAMES[CALLS] = { "attach", "put", "get", "release", "clear", "detach" };
+static const char *const NAMES[CALLS] = { "attach", "put",    "get", "release",   "clear",       "census",
+                                          "detach", "own", "own_again", "owned_bytes", "disown" };
 
 /* The codes that each call can answer, as pardz.h has them; but for what a detach answers while calls are under way. */
 static const uint32_t ALL[CALLS] = {
@@ -22,7 +23,12 @@ static const uint32_t ALL[CALLS] = {
     [GET] = BIT(OK) | BIT(EMPTY_LANE) | BIT(GONE) | BIT(REFERENCES) | BIT(BUSY),
     [RELEASE] = BIT(OK) | BIT(EMPTY_LANE) | BIT(NO_REFERENCE) | BIT(BUSY),
     [CLEAR] = BIT(OK) | BIT(EMPTY_LANE) | BIT(GONE) | BIT(BUSY),
+    [CENSUS] = BIT(OK) | BIT(EMPTY_LANE),
     [DETACH] = BIT(OK) | BIT(EMPTY_LANE) | BIT(BUSY),
+    [OWN] = BIT(OK) | BIT(MEMORY) | BIT(EMPTY_LANE) | BIT(FULL_LANE) | BIT(GONE) | BIT(REFERENCES) | BIT(BUSY),
+    [OWN_AGAIN] = BIT(OK) | BIT(EMPTY_LANE) | BIT(FULL_LANE),
+    [OWNED_BYTES] = BIT(OK) | BIT(EMPTY_LANE),
+    [DISOWN] = BIT(OK) | BIT(EMPTY_LANE),
 };
 
 static uint32_t seen[CALLS];
@@ -38,7 +44,7 @@ static void expect(enum call call, uint32_t want, uint32_t got, int line) {
 #define EXPECT(call, want, got) expect(call, PARDZ_##want, got, __LINE__)
 
 static const pardz_shape SHAPE = { 2, 2, 2, UINT32_MAX, 7 };
-static const pardz_shape ONE = { 1, 2, 1, UINT32_MAX, 7 };
+static const pardz_shape ONE = { 1, 2, 1, UINT32_MAX, 7 }, THREE = { 1, 1, 2, UINT32_MAX, 7 };
 
 /* What no call wrote. */
 static uint8_t nowhere[8];
@@ -87,7 +93,16 @@ static void empties(void) {
     EXPECT(GET, EMPTY_LANE, pardz_pool_get(&empty, 0, 1, &lent));
     EXPECT(RELEASE, EMPTY_LANE, pardz_pool_release(&empty, &lent));
     EXPECT(CLEAR, EMPTY_LANE, pardz_pool_clear(&empty, 0, 1));
+    EXPECT(CENSUS, EMPTY_LANE, pardz_pool_census(&empty, &census));
     EXPECT(DETACH, EMPTY_LANE, pardz_detach(&empty, &census));
+    pardz_owned none = PARDZ_EMPTY, other = PARDZ_EMPTY;
+    const uint8_t *at = nowhere;
+    size_t len = 99;
+    EXPECT(OWN, EMPTY_LANE, pardz_own(&empty, 0, 1, &none));
+    EXPECT(OWN_AGAIN, EMPTY_LANE, pardz_own_again(&none, &other));
+    EXPECT(OWNED_BYTES, EMPTY_LANE, pardz_owned_bytes(&none, &at, &len));
+    EXPECT(DISOWN, EMPTY_LANE, pardz_disown(&none));
+    CHECK(pardz_await_own(&empty, 0, 1, &none) == PARDZ_EMPTY_LANE && none.key == 0 && other.key == 0 && at == nowhere && len == 99);
     CHECK(pardz_await_put(&empty, 0, NULL, 0, &key) == PARDZ_EMPTY_LANE && pardz_await_get(&empty, 0, 1, &lent) == PARDZ_EMPTY_LANE);
     CHECK(pardz_await_release(&empty, &lent) == PARDZ_EMPTY_LANE && pardz_await_clear(&empty, 0, 1) == PARDZ_EMPTY_LANE);
     CHECK(key == 99 && is_unlent(&lent) && is_none(&census) && empty.full == 0);
@@ -135,6 +150,73 @@ static void lends(void) {
     EXPECT(DETACH, EMPTY_LANE, pardz_detach(&pool, &census));
 }
 
+/* The bytes of an owned reference are these. */
+static void owns(const pardz_owned *owned, const char *text) {
+    const uint8_t *at = nowhere;
+    size_t len = 99;
+    EXPECT(OWNED_BYTES, OK, pardz_owned_bytes(owned, &at, &len));
+    CHECK(len == strlen(text) && (len == 0 ? at == nowhere : memcmp(at, text, len) == 0));
+}
+
+/* Owned references: beside those that a lane counts by key, in several slots, moved by plain copies, of a key that is cleared. */
+static void owned(void) {
+    pardz_pool pool = PARDZ_EMPTY;
+    pardz_census census;
+    pardz_owned first = PARDZ_EMPTY, second = PARDZ_EMPTY, empty = PARDZ_EMPTY, none = PARDZ_EMPTY;
+    EXPECT(ATTACH, OK, pardz_attach(&SHAPE, &pool));
+    const uint64_t key = put(&pool, 0, "mine"), other = put(&pool, 1, "");
+    EXPECT(OWN, OK, pardz_own(&pool, 1, key, &first));
+    CHECK(first.key == key);
+    EXPECT(OWN, FULL_LANE, pardz_own(&pool, 1, other, &first));
+    EXPECT(OWN, OK, pardz_own(&pool, 3, other, &empty));
+    EXPECT(OWN, GONE, pardz_own(&pool, 0, UINT64_MAX, &none));
+    pardz_lent lent = UNLENT;
+    lent.key = key;
+    for (lent.lane = 0; lent.lane < 2; lent.lane++)
+        EXPECT(RELEASE, NO_REFERENCE, pardz_pool_release(&pool, &lent));
+    EXPECT(OWN_AGAIN, OK, pardz_own_again(&first, &second));
+    EXPECT(OWN_AGAIN, FULL_LANE, pardz_own_again(&first, &empty));
+    CHECK(second.key == key && empty.key == other);
+    EXPECT(CLEAR, OK, pardz_pool_clear(&pool, 0, key));
+    EXPECT(OWN, GONE, pardz_own(&pool, 0, key, &none));
+    EXPECT(CENSUS, OK, pardz_pool_census(&pool, &census));
+    CHECK(none.key == 0 && census.marked == 1 && census.present == 1 && census.free == 2 && census.unopened == 8);
+    pardz_owned moved = first;
+    memset(&first, 0xff, sizeof first);
+    owns(&moved, "mine");
+    owns(&empty, "");
+    EXPECT(DISOWN, OK, pardz_disown(&moved));
+    EXPECT(DISOWN, EMPTY_LANE, pardz_disown(&moved));
+    owns(&second, "mine");
+    EXPECT(DISOWN, OK, pardz_disown(&second));
+    EXPECT(DISOWN, OK, pardz_disown(&empty));
+    EXPECT(DETACH, OK, pardz_detach(&pool, &census));
+    CHECK(census.marked == 0 && census.present == 1 && census.free == 3 && heap_blocks == 0);
+}
+
+/* Owned references that outlive their pool, whose memory the last of them gives back. */
+static void outlives(void) {
+    pardz_pool pool = PARDZ_EMPTY;
+    pardz_census census;
+    pardz_owned present = PARDZ_EMPTY, marked = PARDZ_EMPTY, again = PARDZ_EMPTY;
+    EXPECT(ATTACH, OK, pardz_attach(&SHAPE, &pool));
+    const uint64_t keys[] = { put(&pool, 0, "present"), put(&pool, 1, "marked"), put(&pool, 0, "") };
+    EXPECT(OWN, OK, pardz_own(&pool, 1, keys[0], &present));
+    EXPECT(OWN, OK, pardz_own(&pool, 1, keys[1], &marked));
+    EXPECT(CLEAR, OK, pardz_pool_clear(&pool, 0, keys[1]));
+    EXPECT(DETACH, OK, pardz_detach(&pool, &census));
+    CHECK(census.present == 2 && census.marked == 1 && census.free == 1 && census.unopened == 8 && pool.full == 0);
+    EXPECT(OWN, EMPTY_LANE, pardz_own(&pool, 0, keys[0], &again));
+    owns(&present, "present");
+    EXPECT(DISOWN, OK, pardz_disown(&present));
+    EXPECT(OWN_AGAIN, OK, pardz_own_again(&marked, &again));
+    EXPECT(DISOWN, OK, pardz_disown(&marked));
+    owns(&again, "marked");
+    CHECK(heap_blocks != 0);
+    EXPECT(DISOWN, OK, pardz_disown(&again));
+    CHECK(heap_blocks == 0);
+}
+
 /* A lane's places, and its references. */
 static void limits(void) {
     pardz_pool pool = PARDZ_EMPTY;
@@ -149,7 +231,9 @@ static void limits(void) {
     for (uint32_t i = 0; i < 1048575; i++)
         EXPECT(GET, OK, pardz_pool_get(&pool, i, key, &lent));
     EXPECT(GET, REFERENCES, pardz_pool_get(&pool, 0, key, &more));
-    CHECK(is_unlent(&more));
+    pardz_owned owned = PARDZ_EMPTY;
+    EXPECT(OWN, REFERENCES, pardz_own(&pool, 0, key, &owned));
+    CHECK(is_unlent(&more) && owned.key == 0);
     for (uint32_t i = 0; i < 1048575; i++)
         EXPECT(RELEASE, OK, pardz_pool_release(&pool, &lent));
     EXPECT(RELEASE, NO_REFERENCE, pardz_pool_release(&pool, &lent));
@@ -197,8 +281,16 @@ static int refused(long first, long last) {
         } else
             CHECK(code == PARDZ_OK);
     }
+    pardz_owned owned = PARDZ_EMPTY;
+    if (pardz_own(&pool, 1, keys[1], &owned) != PARDZ_OK) {
+        CHECK(owned.key == 0 && heap_refused > before);
+        heap_begin(0, 0);
+        EXPECT(OWN, OK, pardz_own(&pool, 1, keys[1], &owned));
+        seen[OWN] |= BIT(MEMORY);
+    }
     const long requests = heap_requests;
     pardz_lent lent = UNLENT;
+    EXPECT(DISOWN, OK, pardz_disown(&owned));
     for (size_t i = 0; i < 6; i++) {
         EXPECT(GET, OK, pardz_pool_get(&pool, (uint32_t)i + 1, keys[i], &lent));
         CHECK(lent.len == 50 * i && (i == 0 || memcmp(lent.at, bytes, lent.len) == 0));
@@ -224,6 +316,7 @@ static void memory(void) {
 /* A heap that holds a put up, so that its lane is had for so long. */
 static sem_t held, go_on;
 static int holds_up;
+static uint64_t slow_key;
 
 static void *slow(void *context, size_t size) {
     (void)context;
@@ -251,6 +344,35 @@ static void *puts_slowly(void *pool) {
     return NULL;
 }
 
+/* An own that the heap holds up. */
+static void *gets_slowly(void *pool) {
+    pardz_owned owned = PARDZ_EMPTY;
+    CHECK(pardz_own(pool, 0, slow_key, &owned) == PARDZ_OK && pardz_disown(&owned) == PARDZ_OK);
+    return NULL;
+}
+
+/* A reference that is given back while the only lane is had: the call that has it is told of it, and gives it back before it ends. */
+static void tells(const pardz_pool *pool) {
+    pthread_t thread;
+    pardz_owned owned = PARDZ_EMPTY;
+    pardz_census census;
+    const uint64_t key = put(pool, 0, "told");
+    EXPECT(OWN, OK, pardz_own(pool, 0, key, &owned));
+    EXPECT(CLEAR, OK, pardz_pool_clear(pool, 0, key));
+    EXPECT(CENSUS, OK, pardz_pool_census(pool, &census));
+    CHECK(census.marked == 1);
+    holds_up = 1;
+    CHECK(pthread_create(&thread, NULL, gets_slowly, (void *)pool) == 0);
+    sem_wait(&held);
+    EXPECT(DISOWN, OK, pardz_disown(&owned));
+    EXPECT(CENSUS, OK, pardz_pool_census(pool, &census));
+    CHECK(census.marked == 1);
+    sem_post(&go_on);
+    CHECK(pthread_join(thread, NULL) == 0);
+    EXPECT(CENSUS, OK, pardz_pool_census(pool, &census));
+    CHECK(census.marked == 0);
+}
+
 /* Where the only lane is had, each call is busy and has done nothing. */
 static void busies(void) {
     const pardz_heap heap = { slow, slow_realloc, slow_free, NULL };
@@ -258,11 +380,12 @@ static void busies(void) {
     pthread_t thread;
     pardz_lent lent = UNLENT, kept = UNLENT;
     pardz_census census = NONE;
+    pardz_owned owned = PARDZ_EMPTY;
     uint64_t none = 99;
     CHECK(sem_init(&held, 0, 0) == 0 && sem_init(&go_on, 0, 0) == 0);
     pardz_set_heap(&heap);
-    EXPECT(ATTACH, OK, pardz_attach(&ONE, &pool));
-    const uint64_t key = put(&pool, 0, "kept");
+    EXPECT(ATTACH, OK, pardz_attach(&THREE, &pool));
+    const uint64_t key = slow_key = put(&pool, 0, "kept");
     EXPECT(GET, OK, pardz_pool_get(&pool, 0, key, &kept));
     holds_up = 1;
     CHECK(pthread_create(&thread, NULL, puts_slowly, &pool) == 0);
@@ -272,15 +395,17 @@ static void busies(void) {
     EXPECT(RELEASE, BUSY, pardz_pool_release(&pool, &kept));
     EXPECT(CLEAR, BUSY, pardz_pool_clear(&pool, 0, key));
     EXPECT(DETACH, BUSY, pardz_detach(&pool, &census));
-    CHECK(none == 99 && is_unlent(&lent) && is_none(&census) && pool.full == 1);
+    EXPECT(OWN, BUSY, pardz_own(&pool, 0, key, &owned));
+    CHECK(none == 99 && is_unlent(&lent) && is_none(&census) && pool.full == 1 && owned.key == 0);
     sem_post(&go_on);
     CHECK(pthread_join(thread, NULL) == 0);
+    tells(&pool);
     EXPECT(GET, OK, pardz_pool_get(&pool, 0, key, &lent));
     EXPECT(RELEASE, OK, pardz_pool_release(&pool, &kept));
     EXPECT(RELEASE, OK, pardz_pool_release(&pool, &lent));
     EXPECT(CLEAR, OK, pardz_pool_clear(&pool, 0, key));
     EXPECT(DETACH, OK, pardz_detach(&pool, &census));
-    CHECK(census.present == 1 && census.free == 1);
+    CHECK(census.present == 1 && census.free == 2);
     pardz_set_heap(NULL);
 }
 
@@ -301,6 +426,8 @@ int main(void) {
     attaches();
     empties();
     lends();
+    owned();
+    outlives();
     limits();
     goes_on();
     memory();

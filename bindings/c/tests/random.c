@@ -334,7 +334,26 @@ static void call(void) {
     }
 }
 
-/* What a lane tells of itself is what the model has. */
+/* What the places are is what the model has. */
+static void counts(const pardz_census *census) {
+    CHECK(census->free == count(0, FREE) + count(1, FREE));
+    CHECK(census->unopened == count(0, UNOPENED) + count(1, UNOPENED));
+    CHECK(census->filling == count(0, FILLING) + count(1, FILLING) + count(0, LEFT) + count(1, LEFT));
+    CHECK(census->present == count(0, PRESENT) + count(1, PRESENT));
+    CHECK(census->marked == count(0, MARKED) + count(1, MARKED));
+    CHECK(census->retired == count(0, RETIRED) + count(1, RETIRED));
+}
+
+/* How many pages are open of which a lane has so many places. */
+static uint32_t pages(int lane) {
+    const uint32_t places = shard_places - count(lane, UNOPENED);
+    uint32_t opened = 0;
+    while (before(opened) < places)
+        opened++;
+    return opened;
+}
+
+/* What a lane tells of itself is what the model has. libpoolffi.a doesn't tell of places and pages. */
 static void tells(int lane) {
     uint32_t references = 0;
     for (int shard = 0; shard < 2; shard++)
@@ -343,6 +362,10 @@ static void tells(int lane) {
     pardz_stats stats;
     CHECK(pardz_stats_of(&lanes[lane], &stats) == PARDZ_OK && memcmp(&stats.shape, &shape, sizeof shape) == 0);
     CHECK(stats.lane == (uint32_t)lane && stats.references == references && stats.fillings == fillings[lane] && stats.joined == 0);
+    if (stats.places.free + stats.places.unopened + stats.places.present != 0) {
+        CHECK(stats.opened == pages(0) + pages(1));
+        counts(&stats.places);
+    }
 }
 
 static void run(pardz_shape of, long rounds) {
@@ -362,12 +385,7 @@ static void run(pardz_shape of, long rounds) {
     }
     pardz_census census;
     CHECK(pardz_close_all(lanes, 2, &census) == PARDZ_OK);
-    CHECK(census.free == count(0, FREE) + count(1, FREE));
-    CHECK(census.unopened == count(0, UNOPENED) + count(1, UNOPENED));
-    CHECK(census.filling == count(0, FILLING) + count(1, FILLING) + count(0, LEFT) + count(1, LEFT));
-    CHECK(census.present == count(0, PRESENT) + count(1, PRESENT));
-    CHECK(census.marked == count(0, MARKED) + count(1, MARKED));
-    CHECK(census.retired == count(0, RETIRED) + count(1, RETIRED));
+    counts(&census);
 }
 
 int main(int argc, char **argv) {

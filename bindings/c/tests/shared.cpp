@@ -1,4 +1,4 @@
-// pardz.hpp: a pool that any thread calls, and its references, which any thread ends.
+// pardz.hpp: a pool that any thread calls, and its references, which any thread ends; those that are owned outlive it.
 #include "../pardz.hpp"
 #include "check.h"
 
@@ -10,7 +10,9 @@
 static_assert(!std::is_copy_constructible<pardz::shared_reference>::value && !std::is_copy_constructible<pardz::shared_pool>::value, "");
 static_assert(std::is_nothrow_move_constructible<pardz::shared_reference>::value, "moved, not copied");
 
-static std::string text(const pardz::shared_reference &found) { return std::string(found.begin(), found.end()); }
+static_assert(std::is_nothrow_copy_constructible<pardz::owned_reference>::value && std::is_nothrow_move_constructible<pardz::owned_reference>::value, "");
+
+template <typename Reference> static std::string text(const Reference &found) { return std::string(found.begin(), found.end()); }
 
 // What a call throws: a code, or PARDZ_OK where it throws nothing.
 template <typename Call> static std::uint32_t code_of(Call call) {
@@ -22,8 +24,32 @@ template <typename Call> static std::uint32_t code_of(Call call) {
     return PARDZ_OK;
 }
 
+// Owned references, copied and moved from thread to thread, that outlive their pool.
+static void owned() {
+    pardz::owned_reference first, second;
+    {
+        const pardz_shape shape = {2, 8, 1, UINT32_MAX, 3};
+        pardz::shared_pool pool(shape);
+        const std::uint64_t key = pool.put("owned", 5);
+        CHECK(!first && !pool.own(1) && first.size() == 0 && first.key() == 0);
+        first = pool.own(key);
+        CHECK(first && first.key() == key && pool.clear(key) && !pool.own(key) && pool.census().marked == 1);
+        std::thread([&second, first] { second = first; }).join();
+        pardz::owned_reference moved(std::move(second));
+        CHECK(!second && moved && moved.data() == first.data());
+        second = std::move(moved);
+        pardz::owned_reference none(moved), empty = pool.own(pool.put(nullptr, 0));
+        CHECK(!none && empty && empty.size() == 0);
+        const pardz_census census = pool.close();
+        CHECK(census.marked == 1 && census.present == 1);
+    }
+    std::thread([&first] { first = pardz::owned_reference(); }).join();
+    CHECK(!first && text(second) == "owned");
+}
+
 // What one thread puts, another reads, clears and gives back, over fewer lanes than threads.
 int main() {
+    owned();
     const pardz_shape shape = {2, 8, 1, UINT32_MAX, 3};
     pardz::shared_pool pool(shape);
     pardz::shared_reference kept = pool.get(1);

@@ -1,8 +1,9 @@
 //! Tests: types and codes are laid out and numbered here as the lines of `tests/abi.def` say, which the header is compared with too; and
 //! each call has the parameters that the header declares.
 use crate::code::{Refusal, OK};
-use crate::handle::NUMBERS;
+use crate::handle::{LOOKED, NUMBERS};
 use crate::heap::Block;
+use crate::owned::OwnedSlot;
 use crate::slot::Slot;
 use crate::store::PoolSlot;
 use crate::{PoolCensus, PoolLent, PoolShape};
@@ -22,9 +23,11 @@ struct PoolStats {
     references: u32,
     fillings: u32,
     joined: u32,
+    opened: u32,
+    places: PoolCensus,
 }
 
-const _: () = assert!(size_of::<PoolStats>() == size_of::<[u32; NUMBERS]>());
+const _: () = assert!(size_of::<PoolStats>() == size_of::<[u32; NUMBERS + LOOKED]>());
 
 /// The lines of a type and of its fields.
 macro_rules! lines {
@@ -67,8 +70,11 @@ fn is_as_the_header_says() {
     here.extend(lines!("pardz_lane" is Slot: at full));
     here.extend(lines!("pardz_pool" is PoolSlot: at full));
     here.extend(lines!("pardz_lent" is PoolLent: at len key lane));
+    here.extend(lines!("pardz_owned" is OwnedSlot: at key));
     here.extend(lines!("pardz_shape" is PoolShape: lanes first_page pages last_generation tag));
-    here.extend(lines!("pardz_stats" is PoolStats: shape lane references fillings joined));
+    here.extend(
+        lines!("pardz_stats" is PoolStats: shape lane references fillings joined opened places),
+    );
     here.extend(lines!("pardz_census" is PoolCensus: free unopened filling present marked retired));
     here.extend(lines!("pardz_block" is Block: ok at));
     here.extend(CODES.map(|(name, number)| format!("CODE({name}, {number})")));
@@ -107,6 +113,8 @@ in_c! {
     *mut PoolLent: "pardz_lent *",
     *const PoolLent: "const pardz_lent *",
     *const PoolShape: "const pardz_shape *",
+    *mut OwnedSlot: "pardz_owned *",
+    *const OwnedSlot: "const pardz_owned *",
     *mut PoolCensus: "pardz_census *",
 }
 
@@ -179,7 +187,12 @@ fn has_the_parameters_that_the_header_declares() {
         prototype!(pardz_pool_get(_ _ _ _)),
         prototype!(pardz_pool_release(_ _)),
         prototype!(pardz_pool_clear(_ _ _)),
+        prototype!(pardz_pool_census(_ _)),
         prototype!(pardz_detach(_ _)),
+        prototype!(pardz_own(_ _ _ _)),
+        prototype!(pardz_own_again(_ _)),
+        prototype!(pardz_owned_bytes(_ _ _)),
+        prototype!(pardz_disown(_)),
     ];
     let header = include_str!("../../pardz.h").lines();
     let of_heap = ["alloc", "realloc", "dealloc", "next_number", "set_heap"]

@@ -2,6 +2,7 @@
 use crate::code::Refusal;
 use crate::erased::slotcell::Clear;
 use crate::shim::Global;
+use crate::sync;
 
 /// A buffer of bytes, with room behind them that was lent.
 pub(crate) struct Bytes {
@@ -20,6 +21,7 @@ impl Clear for Bytes {
     }
 
     fn clear(&mut self) {
+        self.told();
         self.len = 0;
         self.all.clear();
     }
@@ -33,6 +35,14 @@ impl Bytes {
     #[inline]
     pub(crate) fn as_slice(&self) -> &[u8] {
         &self.all[..self.len]
+    }
+
+    /// Tells the explorer that the bytes are written.
+    #[inline]
+    fn told(&self) {
+        if self.all.capacity() != 0 {
+            sync::writes(self.all.as_ptr(), "bytes");
+        }
     }
 
     /// Ends the room, and makes room for so many bytes more.
@@ -49,6 +59,7 @@ impl Bytes {
     #[inline]
     pub(crate) fn append(&mut self, bytes: &[u8]) -> Result<(), Refusal> {
         self.reserve(bytes.len())?;
+        self.told();
         self.all.extend_from_slice(bytes);
         self.len += bytes.len();
         Ok(())

@@ -3,14 +3,17 @@ use crate::bytes::Bytes;
 use crate::code::Refusal;
 use crate::counts::Counts;
 use crate::erased::shardpool::{CreateFault, Filling, Lane, MOST_REFERENCES};
+use crate::looks::Told;
 use crate::shared::Share;
 use crate::shim;
+use std::ptr::NonNull;
 
 /// The most places that a lane fills at once.
 pub(crate) const MOST_FILLINGS: usize = 16;
 
-/// How many numbers a lane tells of its pool and itself.
+/// How many numbers a lane tells of its pool and itself at once, and how many by a look at each place.
 pub(crate) const NUMBERS: usize = 9;
+pub(crate) const LOOKED: usize = 7;
 
 /// A lane, with its share of the pool and the places that it fills.
 pub(crate) struct Handle {
@@ -24,6 +27,9 @@ pub(crate) struct Handle {
     pub(crate) joined: u32,
     /// Of lane 0, an empty row with room for all lanes, so that a close takes no memory.
     pub(crate) row: shim::Vec<Lane<Bytes>>,
+    /// What it tells of itself, and how many pages it has told of.
+    told: NonNull<Told>,
+    opened: u32,
 }
 
 impl From<CreateFault> for Refusal {
@@ -46,6 +52,48 @@ fn done(is_done: bool, refusal: Refusal) -> Result<(), Refusal> {
 }
 
 impl Handle {
+    /// Of a lane that has done nothing.
+    pub(crate) fn new(
+        share: Share,
+        lane: Lane<Bytes>,
+        fillings: Vec<Filling<Bytes>>,
+        counts: Counts,
+        row: shim::Vec<Lane<Bytes>>,
+    ) -> Handle {
+        Handle {
+            told: NonNull::from(&share.told[lane.number() as usize]),
+            share,
+            lane,
+            counts,
+            fillings,
+            joined: 0,
+            row,
+            opened: 0,
+        }
+    }
+
+    /// Tells of the page that was opened for a place, if one was.
+    #[inline(always)]
+    fn tell_opened(&mut self) {
+        if self.lane.state.pages.opened() != self.opened {
+            self.tell_opened_apart();
+        }
+    }
+
+    #[cold]
+    #[inline(never)]
+    fn tell_opened_apart(&mut self) {
+        self.opened = self.lane.state.pages.opened();
+        self.told().opens(self.opened);
+    }
+
+    /// What the lane tells of itself.
+    #[inline(always)]
+    fn told(&self) -> &Told {
+        // SAFETY: it is among what the lane shares, of which it has a share.
+        unsafe { self.told.as_ref() }
+    }
+
     /// Takes a place to be filled. Answers the key under which it will be published.
     pub(crate) fn create(&mut self) -> Result<u64, Refusal> {
         if self.fillings.len() == MOST_FILLINGS {
@@ -54,6 +102,8 @@ impl Handle {
         let filling = self.share.pool.create(&mut self.lane)?;
         let key = filling.key();
         self.fillings.push(filling);
+        self.told().fills();
+        self.tell_opened();
         Ok(key)
     }
 
@@ -100,6 +150,7 @@ impl Handle {
     pub(crate) fn publish(&mut self, key: u64) -> Result<(), Refusal> {
         let filling = self.take(key)?;
         self.share.pool.publish(&mut self.lane, filling);
+        self.told().filled();
         Ok(())
     }
 
@@ -113,6 +164,7 @@ impl Handle {
             self.counts.gain(start, key);
         }
         reference.forget();
+        self.told().filled();
         Ok(())
     }
 
@@ -135,6 +187,7 @@ impl Handle {
         if appended.is_err() {
             self.share.pool.clear(&mut self.lane, key);
         }
+        self.tell_opened();
         appended.map(|()| key)
     }
 
@@ -147,11 +200,30 @@ impl Handle {
         Ok(self.lane.read_at(start, key).as_slice())
     }
 
+    /// Takes a reference to a key that isn't counted by key: who has it gives it back by `disown`. Answers where the key's place stands.
+    #[inline(always)]
+    pub(crate) fn own(&mut self, key: u64) -> Result<u32, Refusal> {
+        self.has_reference_left()?;
+        let start = self.share.pool.get_at(&mut self.lane, key);
+        start.ok_or(Refusal::Gone)
+    }
+
+    /// The bytes of a key to which the lane has a reference, and whose place stands here.
+    #[inline(always)]
+    pub(crate) fn bytes_at(&self, start: u32, key: u64) -> &[u8] {
+        self.lane.read_at(start, key).as_slice()
+    }
+
+    /// Gives a reference of `own` back.
+    pub(crate) fn disown(&mut self, start: u32, key: u64) {
+        self.share.pool.release_at(&mut self.lane, start, key);
+    }
+
     /// The bytes of a key to which the lane has a reference.
     pub(crate) fn read(&mut self, key: u64) -> Result<&[u8], Refusal> {
         let start = self.start_of(key)?;
         done(self.counts.has(start, key), Refusal::NoReference)?;
-        Ok(self.lane.read_at(start, key).as_slice())
+        Ok(self.bytes_at(start, key))
     }
 
     /// Where the place of a key stands. A number that is no key of the pool has no reference.
@@ -189,6 +261,20 @@ impl Handle {
             self.lane.refs(),
             self.fillings.len() as u32,
             self.joined,
+        ]
+    }
+
+    /// How many pages of the pool are open, and what its places are now.
+    pub(crate) fn looked(&self) -> [u32; LOOKED] {
+        let census = self.share.census();
+        [
+            self.share.opened(),
+            census.free,
+            census.unopened,
+            census.filling,
+            census.present,
+            census.marked,
+            census.retired,
         ]
     }
 

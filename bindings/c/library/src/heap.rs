@@ -16,11 +16,11 @@ extern "C" {
     fn pardz_dealloc(at: *mut c_void);
 }
 
-/// The program's heap. (A test has no program.)
+/// The program's heap. (A test has no program, and what the explorer runs has another heap.)
 struct Heap;
 
-#[cfg_attr(not(test), global_allocator)]
-#[cfg_attr(test, allow(dead_code))]
+#[cfg_attr(not(any(test, pardz_explore)), global_allocator)]
+#[cfg_attr(any(test, pardz_explore), allow(dead_code))]
 static HEAP: Heap = Heap;
 
 /// The most that a block is aligned to.

@@ -14,7 +14,9 @@ mod ends;
 mod erased;
 mod handle;
 mod heap;
+mod looks;
 mod opening;
+mod owned;
 mod place;
 mod shared;
 #[path = "../../../rust/src/shim/mod.rs"]
@@ -29,6 +31,8 @@ mod sync;
 use crate::code::{code, Refusal, OK};
 use crate::erased::keybits::Shape;
 use crate::erased::shardpool::Census;
+use crate::handle::{LOOKED, NUMBERS};
+use crate::owned::OwnedSlot;
 use crate::slot::Slot;
 use crate::store::PoolSlot;
 use std::ffi::c_char;
@@ -262,8 +266,11 @@ unsafe extern "C" fn pardz_numbers(lane: *mut Slot, numbers: *mut u32, count: us
                 // SAFETY: asked of the program: so many numbers stand there.
                 _ => unsafe { slice::from_raw_parts_mut(numbers, count) },
             };
-            for (to, number) in numbers.iter_mut().zip(handle.numbers()) {
-                *to = number;
+            let (at_once, looked) = numbers.split_at_mut(count.min(NUMBERS));
+            at_once.copy_from_slice(&handle.numbers()[..at_once.len()]);
+            if !looked.is_empty() {
+                let known = looked.len().min(LOOKED);
+                looked[..known].copy_from_slice(&handle.looked()[..known]);
             }
             OK
         }
@@ -346,6 +353,48 @@ unsafe extern "C" fn pardz_pool_release(pool: *const PoolSlot, lent: *const Pool
 unsafe extern "C" fn pardz_pool_clear(pool: *const PoolSlot, from: u32, key: u64) -> u32 {
     // SAFETY: asked of the program.
     code(unsafe { PoolSlot::lend(pool) }.and_then(|store| store.clear(from, key)))
+}
+
+#[no_mangle]
+unsafe extern "C" fn pardz_own(
+    pool: *const PoolSlot,
+    from: u32,
+    key: u64,
+    owned: *mut OwnedSlot,
+) -> u32 {
+    // SAFETY: asked of the program.
+    code(unsafe { (*owned).own(pool, from, key) })
+}
+
+#[no_mangle]
+unsafe extern "C" fn pardz_own_again(owned: *const OwnedSlot, other: *mut OwnedSlot) -> u32 {
+    // SAFETY: asked of the program.
+    code(unsafe { (*owned).again(&mut *other) })
+}
+
+#[no_mangle]
+unsafe extern "C" fn pardz_owned_bytes(
+    owned: *const OwnedSlot,
+    at: *mut *const u8,
+    len: *mut usize,
+) -> u32 {
+    // SAFETY: asked of the program.
+    unsafe { lent((*owned).bytes(), at, len) }
+}
+
+#[no_mangle]
+unsafe extern "C" fn pardz_disown(owned: *mut OwnedSlot) -> u32 {
+    // SAFETY: asked of the program.
+    code(unsafe { (*owned).disown() })
+}
+
+#[no_mangle]
+unsafe extern "C" fn pardz_pool_census(pool: *const PoolSlot, census: *mut PoolCensus) -> u32 {
+    // SAFETY: asked of the program.
+    unsafe {
+        let counted = PoolSlot::lend(pool).map(|store| store.census());
+        told(counted.map(PoolCensus::from), census)
+    }
 }
 
 #[no_mangle]

@@ -6,15 +6,14 @@ use crate::erased::keybits::Shape;
 use crate::erased::shardpool::{self, Filling, Lane, OpenFault};
 use crate::handle::{Handle, MOST_FILLINGS};
 use crate::place::{row, Place};
-use crate::shared::{Share, Shared};
+use crate::shared::{Rows, Share, Shared};
 use crate::shim::{self, Global};
 use crate::slot::Slot;
-use std::cell::UnsafeCell;
 
 /// The memory that a pool of so many lanes wants beside its own.
 struct Memory {
     shared: Place<Shared>,
-    given: Vec<UnsafeCell<Option<Lane<Bytes>>>>,
+    rows: Rows,
     lanes: Vec<(Place<Handle>, Vec<Filling<Bytes>>, Counts)>,
 }
 
@@ -27,7 +26,7 @@ impl Memory {
         }
         Ok(Memory {
             shared: Place::new()?,
-            given: row(count)?,
+            rows: (row(count)?, row(count)?),
             lanes,
         })
     }
@@ -56,20 +55,13 @@ pub(crate) fn open(shape: Shape, number: u64, slots: &mut [Slot]) -> Result<(), 
     };
     let Memory {
         shared,
-        given,
+        rows,
         lanes: mut places,
     } = memory;
-    let mut share = Share::all(shared, pool, number, given);
+    let mut share = Share::all(shared, pool, number, rows);
     let mut put = |slot: &mut Slot, lane: Option<Lane<Bytes>>, row| {
         if let (Some(lane), Some((place, fillings, counts))) = (lane, places.pop()) {
-            slot.fill(place.fill(Handle {
-                share: share(),
-                lane,
-                counts,
-                fillings,
-                joined: 0,
-                row,
-            }));
+            slot.fill(place.fill(Handle::new(share(), lane, fillings, counts, row)));
         }
     };
     // The last lane first. Lane 0 has the row in which they came, with room for all, so that a close takes no memory.
