@@ -1,9 +1,9 @@
 #!/usr/bin/env python3
-"""Plants faults in a copy of the crate, and has each found: by a scenario of the explorer, a test, or the compiler.
+"""Plants faults in a copy of the crate and of the C library, and has each found: by a scenario of the explorer, a test, or the compiler.
 
 usage: plant.py LIST.. [--search] [--jobs N] [--only NUMBER..]
 
-A list has for each fault the file, what is wrong then, a text that stands there once (`-`), of which what stands in « » is replaced, or
+A list has for each fault the file (`c/` in front of one of the C library's), what is wrong then, a text that stands there once (`-`), of which what stands in « » is replaced, or
 all, by what stands there then (`+`), and what finds it (`=`): `explore SCENARIO`, `old SCENARIO` (the same, where a look may find an old value), `test FILE NAME`, `address FILE NAME` (a test under AddressSanitizer), `misuse NUMBER HEADING` (lines of misuse.rs
 that the compiler must refuse, counted from 1 behind the heading that begins so). White space doesn't count. All are planted in one copy, each by a branch on the number in
 PLANTED; one whose text can't be branched on is marked `alone`, and is built by itself.
@@ -95,13 +95,23 @@ def branch(fault, old):
     return f"(if crate::planted({fault.number}) {{ {fault.new} }} else {{ {old} }})"
 
 
-def plant(faults, sources, always):
+# Where the sources stand, in bindings and in each copy: of the C library those of files with this in front.
+SOURCES = {"": os.path.join("rust", "src"), "c/": os.path.join("c", "library", "src")}
+
+
+def source_of(file, folder):
+    """The path of a file that a list names."""
+    front = "c/" if file.startswith("c/") else ""
+    return os.path.join(folder, SOURCES[front], file.removeprefix(front))
+
+
+def plant(faults, folder, always):
     """Plants those that can be planted together, each with a branch, or `always`. Answers the others."""
     left, by_file = [], collections.defaultdict(list)
     for fault in faults:
         by_file[fault.file].append(fault)
     for name, some in by_file.items():
-        path = os.path.join(sources, name)
+        path = source_of(name, folder)
         with open(path, encoding="utf-8") as file:
             text = file.read()
         spans = {}
@@ -134,6 +144,7 @@ class Build:
         ignore = shutil.ignore_patterns("target")
         shutil.copytree(os.path.join(BINDINGS, "rust"), self.rust, ignore=ignore)
         shutil.copytree(HERE, os.path.join(folder, "explore"), ignore=ignore)
+        shutil.copytree(os.path.join(BINDINGS, SOURCES["c/"]), os.path.join(folder, SOURCES["c/"]))
         self.sources = os.path.join(self.rust, "src")
         self.faults = faults
         self.built = {}
@@ -142,9 +153,10 @@ class Build:
         """Plants; answers the faults that need a copy of their own."""
         one = len(self.faults) == 1 and self.faults[0].alone
         faults = [fault._replace(alone=False) for fault in self.faults] if one else self.faults
-        left = plant(faults, self.sources, one or faults[0].is_of_types())
-        with open(os.path.join(self.sources, "lib.rs"), "a", encoding="utf-8") as file:
-            file.write(PLANTED)
+        left = plant(faults, self.folder, one or faults[0].is_of_types())
+        for sources in SOURCES.values():
+            with open(os.path.join(self.folder, sources, "lib.rs"), "a", encoding="utf-8") as file:
+                file.write(PLANTED)
         with open(os.path.join(self.folder, "explore", "scenarios", "main.rs"), "a", encoding="utf-8") as file:
             file.write("use pardz::planted;\n")
         return left
@@ -158,7 +170,8 @@ class Build:
 
     def rustc(self, *words):
         words = ["rustc", "--edition", "2021", "-Awarnings", "-Copt-level=1", "-Cdebug-assertions=on", "-L", self.folder, *words]
-        made = subprocess.run(words, capture_output=True, text=True, env=dict(os.environ, RUSTC_BOOTSTRAP="1"))
+        env = dict(os.environ, RUSTC_BOOTSTRAP="1", CARGO_PKG_VERSION="0")
+        made = subprocess.run(words, capture_output=True, text=True, env=env)
         return made.stderr if made.returncode else None
 
     def crate(self, name, flags, *words):
@@ -171,6 +184,12 @@ class Build:
             wrong = self.rustc("--crate-type=rlib", "--crate-name=pardz", *flags, os.path.join(self.sources, "lib.rs"), "-o", library)
         return library, wrong
 
+    def c_library(self, flags):
+        """Builds the C library, for the scenarios."""
+        out = os.path.join(self.folder, "libpardz_c.rlib")
+        root = os.path.join(self.folder, SOURCES["c/"], "lib.rs")
+        return out, self.rustc("--crate-type=rlib", "--crate-name=pardz_c", *flags, root, "-o", out)
+
     def make_scenarios(self, _):
         wrong = None
         folder = os.path.join(self.folder, "explore")
@@ -179,9 +198,11 @@ class Build:
             wrong = self.rustc("--crate-type=rlib", "--crate-name=explorer", os.path.join(folder, "explorer", "lib.rs"), "-o", Build.explorer)
         extern = f"--extern=explorer={Build.explorer}"
         library, more = self.crate("explored", ["--cfg=pardz_explore", extern])
+        of_c, more_of_c = self.c_library(["--cfg=pardz_explore", extern])
         out = os.path.join(self.folder, "scenarios")
         main = os.path.join(folder, "scenarios", "main.rs")
-        wrong = wrong or more or self.rustc(*QUICK, extern, f"--extern=pardz={library}", main, "-o", out)
+        externs = ["-L", os.path.dirname(Build.explorer), extern, f"--extern=pardz={library}", f"--extern=pardz_c={of_c}"]
+        wrong = wrong or more or more_of_c or self.rustc(*QUICK, *externs, main, "-o", out)
         return out, wrong
 
     def make_test(self, name):

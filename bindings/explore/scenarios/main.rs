@@ -1,4 +1,4 @@
-//! Scenarios of the crate `pardz`, which the explorer runs through their schedules.
+//! Scenarios of the crate `pardz` and of the C library, which the explorer runs through their schedules.
 //!
 //! usage: scenarios [NAME..]               a line for each of them, or of those that are named, and one for all
 //!        scenarios --old [NAME..]         one look of each schedule may find an old value
@@ -9,6 +9,7 @@ use std::env;
 use std::process::ExitCode;
 use std::time::Duration;
 
+mod c_library;
 mod calls;
 mod checks;
 mod clears;
@@ -19,6 +20,7 @@ mod lock;
 mod misses;
 mod owned;
 mod pools;
+mod seats;
 mod world;
 
 /// What the crate's own lock is made of.
@@ -47,6 +49,7 @@ fn all() -> Vec<Scenario> {
         clears::all(),
         lock::all(),
         misses::all(),
+        seats::all(),
     ];
     all.into_iter().flatten().collect()
 }
