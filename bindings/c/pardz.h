@@ -280,7 +280,7 @@ uint32_t pardz_clear(pardz_lane *lane, uint64_t key);
  * PARDZ_EMPTY_LANE. */
 uint32_t pardz_numbers(pardz_lane *lane, uint32_t *numbers, size_t count);
 
-/* The same, as a struct.
+/* The same, as a struct: all of them, so that it looks at each place of an open page.
  * PARDZ_EMPTY_LANE. */
 static inline uint32_t pardz_stats_of(pardz_lane *lane, pardz_stats *stats) {
     uint32_t n[16] = { 0 };
