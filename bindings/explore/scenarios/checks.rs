@@ -112,7 +112,20 @@ fn sound() -> Vec<Scenario> {
             [|c| c.let_go(AcqRel), |c| c.let_go(AcqRel)],
             drop,
         ),
+        Scenario::new(
+            "failed-exchange",
+            number,
+            [|number| number.store(1, Relaxed), exchange_and_look],
+            drop,
+        ),
     ]
+}
+
+/// What a failed exchange has found, a later look finds too.
+fn exchange_and_look(number: &AtomicU32) {
+    if number.compare_exchange(0, 2, Relaxed, Relaxed) == Err(1) {
+        assert_eq!(number.load(Relaxed), 1, "an older value is found");
+    }
 }
 
 /// A number behind a flag.
@@ -195,12 +208,14 @@ pub fn check() {
         );
     }
     for scenario in sound() {
-        assert_eq!(
-            scenario.explore(Within::default()).failure,
-            None,
-            "{}",
-            scenario.name
-        );
+        for old_looks in [0, 1] {
+            let within = Within {
+                old_looks,
+                ..Within::default()
+            };
+            let failure = scenario.explore(within).failure;
+            assert_eq!(failure, None, "{}", scenario.name);
+        }
     }
     let programs = (0..PROGRAMS).map(compare).sum::<usize>();
     println!("ok   the explorer finds {} faults, and all {programs} outcomes of {PROGRAMS} drawn programs", faults.len());
