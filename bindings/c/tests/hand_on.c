@@ -28,6 +28,9 @@ static struct attached {
 /* What threads hand on: owned references. */
 static _Atomic(pardz_owned *) ways[WAYS];
 
+/* Of so many rounds one detaches its pool. */
+static uint64_t between_detaches;
+
 static atomic_long rounds_left, lives, cleared, given_back, again, detached;
 
 /* What the bytes of one put say, so that whoever reads them can tell. */
@@ -100,7 +103,7 @@ static void one_round(uint64_t seed) {
     pthread_rwlock_rdlock(&at->lock);
     pardz_owned *own = put_and_own(&at->pool, seed);
     pthread_rwlock_unlock(&at->lock);
-    if (seed % 1024 == 0)
+    if (seed % between_detaches == 0)
         attach_anew(at);
     pardz_owned *theirs = hand_on(seed, own);
     if (theirs == NULL)
@@ -148,6 +151,7 @@ int main(int argc, char **argv) {
     for (size_t i = 0; i < POOLS; i++)
         CHECK(pthread_rwlock_init(&pools[i].lock, NULL) == 0 && pardz_attach(&shape, &pools[i].pool) == PARDZ_OK);
     atomic_store(&rounds_left, rounds);
+    between_detaches = (uint64_t)rounds / 40 + 1;
     run(threads);
     pardz_census census;
     for (size_t i = 0; i < POOLS; i += 2)
