@@ -17,7 +17,7 @@
 #define POOLS 4
 
 /* More places in a lane than there are references at once, so that no put is refused. */
-static pardz_shape shape = { 16, 64, 4, UINT32_MAX, 9 };
+static pardz_shape shape = { 16, 64, 3, UINT32_MAX, 9 };
 
 /* Pools that threads call, each under a lock for reading, and for writing where it is detached and attached anew. */
 static struct attached {
@@ -164,7 +164,7 @@ int main(int argc, char **argv) {
     for (size_t i = 1; i < POOLS; i += 2) {
         CHECK(pardz_detach(&pools[i].pool, &census) == PARDZ_OK);
         CHECK(census.present + census.marked + census.filling + census.retired == 0);
-        CHECK(census.free + census.unopened == shape.lanes * 64 * 15);
+        CHECK(census.free + census.unopened == shape.lanes * 64 * 7);
     }
     CHECK(atomic_load(&cleared) == rounds && atomic_load(&given_back) == rounds + atomic_load(&again));
     printf("hand_on: %ld rounds by %ld threads, %zu at once, over %u lanes, %ld times in two slots, %ld pools detached\n", rounds, atomic_load(&lives),
