@@ -1,0 +1,5 @@
+mod Counting
+mod Having
+mod Keeping
+mod Rows
+mod Sweeping
