@@ -1,4 +1,5 @@
 pub mod Calls
+pub mod Closed
 pub mod Counts
 pub mod Filled
 pub mod LaneCalls

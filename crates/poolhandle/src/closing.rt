@@ -1,10 +1,11 @@
 //! How lanes are joined, and the pool is closed.
-ghost use Rattle.std.specs.Prelude.{◌≡◌, ◌+◌, ◌⊎◌, List, [], ◌∷◌, All, IfSome, IfErr, IfOk, OnOk, IsOk, Contains, MatchResult, option_map};
+ghost use Rattle.std.specs.Prelude.{◌≡◌, ◌+◌, ◌⊎◌, ◌↔◌, List, [], ◌∷◌, All, IfSome, IsSome, IfErr, IfOk, OnOk, IsOk, Contains, MatchResult, option_map};
 ghost use Rattle.std.specs.Arc.{arc_value};
 ghost use Rattle.shardpool.specs.Tokens.{LaneOf};
 ghost use Rattle.shardpool.specs.Lanes.{Owns};
 ghost use Rattle.shardpool.specs.Closings.{AreLanes, Closes};
 ghost use Rattle.poolhandle.specs.Calls.{lane_of, pool_of, Joins, JoinsNot, ClosesNot};
+ghost use Rattle.poolhandle.specs.Closed.{AreInOrder};
 
 use crate::handle::Handle;
 use crate::refusal::Refusal;
@@ -126,9 +127,11 @@ fn gathered(
     Some(lanes)
 }
 
-/// Closes a pool with its lanes, by rising number. None where they aren't all of them.
+/// Closes a pool with its lanes, by rising number. None exactly where they aren't all of them, each at its number: pool
+/// and lanes are then dropped.
 pub fn close_lanes<T: Clear + Drop>(pool: Pool<T>, lanes: Vec<Lane<T>>) -> Option<Census>
     requires owned { All (λ lane. Owns pool lane) lanes.items }
+    ensures some { IsSome result ↔ AreInOrder pool lanes.items }
     ensures closes { IfSome result (λ census. AreLanes pool lanes.items × Closes pool lanes.items census) }
 {
     let count = lanes.len();

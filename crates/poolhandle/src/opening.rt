@@ -1,5 +1,5 @@
 //! How a pool is opened.
-ghost use Rattle.std.specs.Prelude.{◌≡◌, ◌≤◌, ◌↔◌, [], All, length, IfSome, IfOk, IfErr, IsErrOf};
+ghost use Rattle.std.specs.Prelude.{◌≡◌, ◌+◌, ◌≤◌, ◌↔◌, [], All, length, IfSome, IfOk, IfErr, IsErrOf};
 ghost use Rattle.std.specs.Vec.{vec_capacity};
 ghost use Rattle.std.specs.Vec.Iter.{into_iter_items};
 ghost use Rattle.keybits.specs.Shapes.{IsShape};
@@ -83,8 +83,9 @@ fn rows_for(
     count: usize,
 ) -> Option<(Vec<Counted<Option<Given>>>, Rows)>
     ensures places { IfSome result (λ made. All (λ tag. tag ≡ pool.now) made.0.items) }
+    ensures all { IfSome result (λ made. length made.0.items ≡ count) }
     ensures empty { IfSome result (λ made. (made.1.handles.items ≡ []) × (made.1.lanes.items ≡ [])) }
-    ensures room { IfSome result (λ made. count ≤ vec_capacity made.1.handles) }
+    ensures room { IfSome result (λ made. (count ≤ vec_capacity made.1.handles) × (count ≤ vec_capacity made.1.lanes)) }
 {
     let given = places_for(alloc, pool, count)?;
     let handles = Vec::with_capacity(alloc, count).ok()?;
@@ -101,7 +102,7 @@ fn each_handle(
 ) -> Option<Vec<Box<Handle>>>
     requires lanes { AreFirstLanes (arc_value shared).pool lanes.items }
     requires empty { (rows.handles.items ≡ []) × (rows.lanes.items ≡ []) }
-    requires room { length lanes.items ≤ vec_capacity rows.handles }
+    requires room { (length lanes.items ≤ vec_capacity rows.handles) × (length lanes.items ≤ vec_capacity rows.lanes) }
     ensures { IfSome result (λ handles. AreOpened (arc_value shared).pool.shape (arc_value shared).number handles.items) }
 {
     let Rows {
@@ -121,7 +122,8 @@ fn each_handle(
     Some(handles)
 }
 
-/// Closes a pool again, with the lanes of these handles, the next one, and the rest, which are put into an empty row.
+/// Closes a pool again, with the lanes of these handles, the next one, and the rest, which are put into an empty row that
+/// has room for them.
 fn give_up(
     shared: Arc<Shared>,
     handles: Vec<Box<Handle>>,
@@ -133,54 +135,58 @@ fn give_up(
     requires next { Owns (arc_value shared).pool next }
     requires rest { All (λ lane. Owns (arc_value shared).pool lane) (into_iter_items rest) }
     requires row { row.items ≡ [] }
+    requires room { length handles.items + 1 + length (into_iter_items rest) ≤ vec_capacity row }
 {
-    let Some(lanes) = all_lanes(&shared, handles, next, rest, row) else {
-        return;
-    };
+    let lanes = all_lanes(&shared, handles, next, rest, row);
     if let Some(shared) = Arc::into_inner(shared) {
         drop(close_lanes(shared.pool, lanes));
     }
 }
 
-/// The lanes of these handles, the next one and the rest, in an empty row. None where that has no room for them.
+/// The lanes of these handles, the next one and the rest, in an empty row that has room for them.
 fn all_lanes(
     shared: &Arc<Shared>,
     handles: Vec<Box<Handle>>,
     next: Lane<ByteBuf>,
     rest: IntoIter<Lane<ByteBuf>>,
     row: Vec<Lane<ByteBuf>>,
-) -> Option<Vec<Lane<ByteBuf>>>
+) -> Vec<Lane<ByteBuf>>
     requires handles { All (λ handle. arc_value handle.value.shared ≡ arc_value shared.now) handles.items }
     requires next { Owns (arc_value shared.now).pool next }
     requires rest { All (λ lane. Owns (arc_value shared.now).pool lane) (into_iter_items rest) }
     requires row { row.items ≡ [] }
-    ensures { IfSome result (λ lanes. All (λ lane. Owns (arc_value shared.now).pool lane) lanes.items) }
+    requires room { length handles.items + 1 + length (into_iter_items rest) ≤ vec_capacity row }
+    ensures owned { All (λ lane. Owns (arc_value shared.now).pool lane) result.items }
+    ensures all { length result.items ≡ length handles.items + 1 + length (into_iter_items rest) }
 {
-    let mut lanes = lanes_of(shared, handles, row)?;
-    lanes.push(next).ok()?;
+    let mut lanes = lanes_of(shared, handles, row);
+    lanes.push_reserved(next);
     for lane in rest {
-        lanes.push(lane).ok()?;
+        lanes.push_reserved(lane);
     }
-    Some(lanes)
+    lanes
 }
 
-/// The lanes of these handles, in an empty row. None where that has no room for them.
+/// The lanes of these handles, in an empty row that has room for them.
 fn lanes_of(
     shared: &Arc<Shared>,
     handles: Vec<Box<Handle>>,
     row: Vec<Lane<ByteBuf>>,
-) -> Option<Vec<Lane<ByteBuf>>>
+) -> Vec<Lane<ByteBuf>>
     requires handles { All (λ handle. arc_value handle.value.shared ≡ arc_value shared.now) handles.items }
     requires row { row.items ≡ [] }
-    ensures { IfSome result (λ lanes. All (λ lane. Owns (arc_value shared.now).pool lane) lanes.items) }
+    requires room { length handles.items ≤ vec_capacity row }
+    ensures owned { All (λ lane. Owns (arc_value shared.now).pool lane) result.items }
+    ensures all { length result.items ≡ length handles.items }
+    ensures room { vec_capacity result ≡ vec_capacity row }
 {
     let _ = shared;
     let mut lanes = row;
     for handle in handles {
         let (_, lane, _) = Box::into_inner(handle).into_parts();
-        lanes.push(Box::into_inner(lane).into_lane()).ok()?;
+        lanes.push_reserved(Box::into_inner(lane).into_lane());
     }
-    Some(lanes)
+    lanes
 }
 
 /// The handle of a lane. Where memory was refused the lane comes back.
@@ -246,7 +252,8 @@ fn places_for(
     pool: &Pool<ByteBuf>,
     count: usize,
 ) -> Option<Vec<Counted<Option<Given>>>>
-    ensures { IfSome result (λ places. All (λ tag. tag ≡ pool.now) places.items) }
+    ensures places { IfSome result (λ places. All (λ tag. tag ≡ pool.now) places.items) }
+    ensures all { IfSome result (λ places. length places.items ≡ count) }
 {
     let mut places = Vec::with_capacity(alloc, count).ok()?;
     for _ in 0..count {

@@ -1,5 +1,5 @@
 //! What the lanes of a pool share.
-ghost use Rattle.std.specs.Prelude.{◌≡◌, All};
+ghost use Rattle.std.specs.Prelude.{◌≡◌, All, length};
 ghost use Rattle.shardpool.specs.Lanes.{Owns};
 
 use crate::counting_lane::CountingLane;
@@ -54,4 +54,5 @@ pub struct Shared {
     /// The number under which the pool was opened: lanes of other numbers are of other pools.
     pub number: u64,
     ghost of_pool: { All (λ tag. tag ≡ pool) given.items },
+    ghost all: { length given.items ≡ pool.shape.lanes },
 }

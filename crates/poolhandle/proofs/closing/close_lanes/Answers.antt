@@ -1,13 +1,14 @@
 -- Lanes that stand by falling number are all lanes.
-use Rattle.std.proofs.Common.{rules, ◌≡◌, ℕ, ◌+◌, ◌<◌, List, Some, length, slice_get, slice_index_or, sym, ap, ◌∙◌, subst, arith, ⊎_elim}
+use Rattle.std.proofs.Common.{rules, ◌≡◌, ◌≢◌, ◌↔◌, ℕ, ◌+◌, ◌<◌, List, Some, length, slice_get, slice_index_or, refl, sym, ap, ◌∙◌, subst, arith, ⊎_elim}
 use Rattle.std.proofs.lemmas.List.Elements.{All-get_or}
-use Rattle.std.proofs.lemmas.Option.{slice_get_cases, slice_get_within, get_or_from_slice_get}
+use Rattle.std.proofs.lemmas.Option.{slice_get_cases, slice_get_within, slice_get_read, get_or_from_slice_get}
 use Rattle.std.specs.List.{All}
 use mathlib.Core.Logic.{dite}
 use native.Mathlib.Decide.{ℕ_discrete}
 use Rattle.shardpool.specs.Tokens.{PoolOf, LaneOf}
 use Rattle.shardpool.specs.Lanes.{Owns}
 use Rattle.shardpool.specs.Closings.{AreLanes}
+use Rattle.poolhandle.specs.Closed.{AreInOrder}
 use Rattle.poolhandle.proofs.closing.close_lanes.Goals as goal
 
 module _ (lanes : List LaneOf) (count : ℕ) where
@@ -34,6 +35,16 @@ module _ (lanes : List LaneOf) (count : ℕ) where
         (slice_get_cases lanes index).1;
   }
 
+  in-order : (pool : PoolOf) → length lanes ≡ count → count ≡ pool.shape.lanes → AreNumbered count → AreInOrder pool lanes
+  in-order pool long is numbered = record {
+    count = long ∙ is;
+    each = λ index lane at. let within = slice_get_within lanes index lane at in numbered index lane (omega (arith, within, long)) at;
+  }
+
+  another-number : (pool : PoolOf) (index : ℕ) (at : LaneOf) → index < length lanes → at ≡ slice_index_or lanes index at → at.number ≢ index
+      → AreInOrder pool lanes → ⊥
+  another-number pool index at low is other order = other (order.each index at (slice_get_read lanes (length lanes) index at refl low is))
+
 pub loop-index-init : goal.loop-index-init
 loop-index-init g c = λ i lane low there. absurd (omega (arith, low))
 
@@ -49,12 +60,18 @@ close-requires g c =
           (subst (AreNumbered c.args.lanes.items c.len-count.result) end c.loop-index.invariant);
     }
 
-pub returns : goal.returns
-returns g c =
-    let end : c.loop-index.index ≡ c.len-count.result = omega arith in
-    record {
-      closes = (
-        all-lanes c.args.lanes.items c.len-count.result c.args.pool (search rules) (search rules) c.requires.owned (subst (AreNumbered c.args.lanes.items c.len-count.result) end c.loop-index.invariant),
-        c.close.ensures.closes,
-      );
-    }
+pub returns-clause-some : goal.returns-clause-some
+returns-clause-some g c =
+    let end : c.loop-index.index ≡ c.len-count.result = omega arith in (
+      λ is. in-order c.args.lanes.items c.len-count.result c.args.pool (search rules) (search rules)
+          (subst (AreNumbered c.args.lanes.items c.len-count.result) end c.loop-index.invariant),
+      λ order. refl,
+    )
+
+pub returns-clause-closes : goal.returns-clause-closes
+returns-clause-closes g c =
+    let end : c.loop-index.index ≡ c.len-count.result = omega arith in (
+      all-lanes c.args.lanes.items c.len-count.result c.args.pool (search rules) (search rules) c.requires.owned
+          (subst (AreNumbered c.args.lanes.items c.len-count.result) end c.loop-index.invariant),
+      c.close.ensures.closes,
+    )

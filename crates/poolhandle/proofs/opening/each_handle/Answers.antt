@@ -24,9 +24,10 @@ loop-lane-init c =
       next = subst (λ (handles : List (Box Handle Global)). AreNext shared.pool (length handles) lanes) (sym none) (first-lanes first);
       first = subst (λ (handles : List (Box Handle Global)). AreFirst shared handles) (sym none) (λ index handle is. absurd (cc is));
       all = let empty = ap length none in let count = first.count in omega (arith, empty, count);
-      room = let empty = ap length none in let all = ap length gives in let room = c.requires.room in omega (arith, empty, all, room);
+      room = let empty = ap length none in let all = ap length gives in let room = c.requires.room.0 in omega (arith, empty, all, room);
       rest = search rules;
       back = c.requires.empty.1;
+      left = let empty = ap length none in let all = ap length gives in let left = c.requires.room.1 in omega (arith, empty, all, left);
     }
 
 pub handle_of-requires : goal.handle_of-requires
@@ -56,6 +57,12 @@ give_up-requires-clause-rest c =
     let next = subst (λ (lanes : List LaneOf). AreNext pool (length handles) lanes) c.in-Some.ensures.items c.loop-lane.invariant.next in
     owned-next (length handles + 1) rest (next-tail (length handles) (length handles + 1) c.in-Some.lane rest refl next)
 
+pub give_up-requires-clause-room : goal.give_up-requires-clause-room
+give_up-requires-clause-room c =
+    let shorter = ap length c.in-Some.ensures.items in
+    let left = c.loop-lane.invariant.left in
+    omega (arith, shorter, left)
+
 pub loop-lane-preserved : goal.loop-lane-preserved
 loop-lane-preserved c =
     let shared = arc_value c.args.shared in
@@ -75,6 +82,7 @@ loop-lane-preserved c =
       room = let room = c.loop-lane.invariant.room in let same = c.push_reserved.ensures.capacity in omega (arith, more, shorter, room, same);
       rest = let was = c.loop-lane.invariant.rest in let gone = c.in-Some.ensures.len in omega (arith, was, gone, shorter);
       back = c.loop-lane.invariant.back;
+      left = let left = c.loop-lane.invariant.left in omega (arith, more, shorter, left);
     }
 
 pub returns : goal.returns

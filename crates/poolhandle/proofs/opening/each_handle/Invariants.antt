@@ -14,6 +14,7 @@ invariant-loop-lane l = record {
   room : length l.handles.items + length (into_iter_items l.rest) ≤ vec_capacity l.handles;
   rest : into_iter_len l.rest ≡ length (into_iter_items l.rest);
   back : l.back.items ≡ [];
+  left : length l.handles.items + length (into_iter_items l.rest) ≤ vec_capacity l.back;
 }
 
 abbrev pub decreases-loop-lane : goal.decreases-loop-lane

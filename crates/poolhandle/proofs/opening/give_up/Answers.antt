@@ -7,5 +7,5 @@ use Rattle.poolhandle.proofs.opening.give_up.Goals as goal
 
 pub close_lanes-requires : goal.close_lanes-requires
 close_lanes-requires c = record {
-  owned = subst (λ (shared : Shared). All (λ (lane : LaneOf). Owns shared.pool lane) c.in-Some.lanes.items) (sym c.in-Some-into_inner.ensures) c.in-Some.ensures;
+  owned = subst (λ (shared : Shared). All (λ (lane : LaneOf). Owns shared.pool lane) c.all_lanes-lanes.result.items) (sym c.in-Some.ensures) c.all_lanes-lanes.ensures.owned;
 }
