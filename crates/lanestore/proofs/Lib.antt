@@ -1,3 +1,3 @@
 mod Counting
-mod Crossing
+pub mod Crossing
 mod Making

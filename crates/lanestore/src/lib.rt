@@ -10,8 +10,6 @@ mod lent;
 mod place;
 mod refusal;
 mod store;
-#[cfg(test)]
-mod test_store;
 mod visit;
 
 pub use kept::MOST_FILLINGS;

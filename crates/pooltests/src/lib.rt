@@ -1,4 +1,4 @@
-//! Tests of the running pool, and of the guards and workers over it: they stand in a crate of their own, which proves
+//! Tests of the running pool, and of the guards, workers and stores over it: they stand in a crate of their own, which proves
 //! no function of these libraries again.
 #![tactic(auto)]
 
@@ -13,6 +13,8 @@ mod test_guards;
 mod test_halts;
 #[cfg(test)]
 mod test_rows;
+#[cfg(test)]
+mod test_store;
 #[cfg(test)]
 mod test_threads;
 #[cfg(test)]

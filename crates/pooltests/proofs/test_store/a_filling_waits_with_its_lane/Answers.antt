@@ -2,7 +2,7 @@
 use denote.Param.Send.{sendable}
 use Rattle.std.proofs.Crossing.{crosses}
 use Rattle.lanestore.proofs.Crossing.{store_sync}
-use Rattle.lanestore.proofs.test_store.a_filling_waits_with_its_lane.Goals as goal
+use Rattle.pooltests.proofs.test_store.a_filling_waits_with_its_lane.Goals as goal
 
 pub join-one-requires-send-F : goal.join-one-requires-send-F
 join-one-requires-send-F g c = search (store_sync, sendable, crosses) depth 20

@@ -1,10 +1,10 @@
-// What no clause says: a lane that was given back is there again, a call is busy only where all lanes are had, no other
-// lane acts, what one thread puts another finds, and a filling waits with its lane.
+//! Calls of a store: a lane that was given back is there again, a call is busy only where all lanes are had, no other lane
+//! acts, what one thread puts another finds, and a filling waits with its lane.
 ghost use Rattle.std.specs.Prelude.{◌≡◌};
 ghost use Rattle.shardpool.specs.Lanes.{Issued};
 
-use crate::{MOST_FILLINGS, Refusal, Store};
 use keybits::Shape;
+use lanestore::{MOST_FILLINGS, Refusal, Store};
 use shardpool::{Census, Note};
 use slotcell::{ByteBuf, Clear};
 use std::alloc::Global;
@@ -12,7 +12,7 @@ use std::process::Abort;
 use std::test::Fail;
 use std::thread;
 
-// Two lanes, each with places for more fillings than a lane keeps.
+/// Two lanes, each with places for more fillings than a lane keeps.
 const SHAPE: Shape = Shape {
     lanes: 2,
     first_page: 32,
@@ -45,7 +45,7 @@ fn closed<R: Abort>(rt: &R, alloc: Global, store: Store<ByteBuf>) -> Census {
     census
 }
 
-// Whether all lanes are had.
+/// Whether all lanes are had.
 fn is_busy(store: &Store<ByteBuf>, told: Note<ByteBuf>) -> bool
     requires { Issued store.now.pool told }
 {
@@ -58,7 +58,7 @@ fn is_busy(store: &Store<ByteBuf>, told: Note<ByteBuf>) -> bool
     }
 }
 
-// Has both lanes for a while: their numbers, and whether a third visit is busy meanwhile.
+/// Has both lanes for a while: their numbers, and whether a third visit is busy meanwhile.
 fn have_both(store: &Store<ByteBuf>) -> Option<(u32, u32, bool)> {
     let one = store.enter(0)?;
     let two = store.enter(1)?;
@@ -79,7 +79,7 @@ fn have_both(store: &Store<ByteBuf>) -> Option<(u32, u32, bool)> {
     had
 }
 
-// Puts a word. Answers its key.
+/// Puts a word. Answers its key.
 fn put(store: &Store<ByteBuf>, alloc: Global, from: u32) -> Option<u64> {
     let told = store.enter(from)?;
     let mut word = ByteBuf::fresh(alloc);
@@ -90,7 +90,7 @@ fn put(store: &Store<ByteBuf>, alloc: Global, from: u32) -> Option<u64> {
     }
 }
 
-// Whether the lane of this number has a reference to the key, which it then gives back.
+/// Whether the lane of this number has a reference to the key, which it then gives back.
 fn gives_back(store: &Store<ByteBuf>, number: u32, key: u64) -> Option<bool> {
     let told = store.enter(0)?;
     let Ok(mut visit) = store.visit(number, told) else {
@@ -101,7 +101,7 @@ fn gives_back(store: &Store<ByteBuf>, number: u32, key: u64) -> Option<bool> {
     Some(had)
 }
 
-// Gets a key by lane 1, looks at it, clears it, gives the reference back, and gets it once more.
+/// Gets a key by lane 1, looks at it, clears it, gives the reference back, and gets it once more.
 fn take_word(store: &Store<ByteBuf>, key: u64, told: Note<ByteBuf>) -> Option<(bool, bool, bool)>
     requires { Issued store.now.pool told }
 {
@@ -137,7 +137,7 @@ fn take_word(store: &Store<ByteBuf>, key: u64, told: Note<ByteBuf>) -> Option<(b
     }
 }
 
-// Creates a filling by a lane that nobody has, from this number on. Answers its key, or why there is none.
+/// Creates a filling by a lane that nobody has, from this number on. Answers its key, or why there is none.
 fn create(store: &Store<ByteBuf>, from: u32) -> Option<Result<u64, Refusal>> {
     let told = store.enter(from)?;
     match store.create(from, told) {
@@ -147,7 +147,7 @@ fn create(store: &Store<ByteBuf>, from: u32) -> Option<Result<u64, Refusal>> {
     }
 }
 
-// Appends to the filling of a key.
+/// Appends to the filling of a key.
 fn write(store: &Store<ByteBuf>, key: u64) -> Option<Result<bool, Refusal>> {
     let told = store.enter(0)?;
     match store.write(told, key, |word: &mut ByteBuf| word.append(b"wo").is_ok()) {
@@ -156,7 +156,7 @@ fn write(store: &Store<ByteBuf>, key: u64) -> Option<Result<bool, Refusal>> {
     }
 }
 
-// Publishes the filling of a key.
+/// Publishes the filling of a key.
 fn publish(store: &Store<ByteBuf>, key: u64) -> Option<Result<(), Refusal>> {
     let told = store.enter(0)?;
     match store.publish(told, key) {
@@ -165,7 +165,7 @@ fn publish(store: &Store<ByteBuf>, key: u64) -> Option<Result<(), Refusal>> {
     }
 }
 
-// Publishes the filling of a key with a reference, and reads it.
+/// Publishes the filling of a key with a reference, and reads it.
 fn downgrade(store: &Store<ByteBuf>, key: u64) -> Option<Result<bool, Refusal>> {
     let told = store.enter(0)?;
     let (lent, told) = match store.downgrade(told, key) {
@@ -184,7 +184,7 @@ fn downgrade(store: &Store<ByteBuf>, key: u64) -> Option<Result<bool, Refusal>> 
     Some(Ok(shows))
 }
 
-// Publishes the filling of a key while another call has the first lane.
+/// Publishes the filling of a key while another call has the first lane.
 fn publish_meanwhile(store: &Store<ByteBuf>, key: u64) -> Option<Result<(), Refusal>> {
     let one = store.enter(0)?;
     let Ok(first) = store.visit(0, one) else {
