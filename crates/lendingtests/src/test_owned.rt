@@ -4,6 +4,7 @@ ghost use Rattle.std.specs.Prelude.{◌≡◌};
 ghost use Rattle.shardpool.specs.Lanes.{Owns, refs};
 ghost use Rattle.guards.specs.Here.{HoldNothing};
 
+use crate::contents::shows;
 use guards::{Opened, open_lanes};
 use keybits::Shape;
 use lendings::{Lender, Owned};
@@ -79,10 +80,6 @@ fn own<R: Abort>(
         panic!(rt; "the key isn't found")
     };
     owned
-}
-
-fn shows(owned: &Owned<ByteBuf>, word: &[u8]) -> bool {
-    owned.read().as_slice() == word
 }
 
 // What a thread without a lane does: reads, and reads by a clone. Both owners are dropped.
