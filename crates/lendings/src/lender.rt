@@ -144,6 +144,8 @@ impl<T: Clear + Drop> Lender<T> {
         ensures heard { IsPrefix note.book.seen self.new.lane.book.seen × IsPrefix self.old.lane.book.seen self.new.lane.book.seen }
         ensures rooms { IsPrefix note.book.rooms self.new.lane.book.rooms × IsPrefix self.old.lane.book.rooms self.new.lane.book.rooms }
         ensures goes { Did [] self.old.lane self.new.lane }
+        ensures steps { self.new.lane.book.steps ≡ self.old.lane.book.steps }
+        ensures looks { self.new.lane.book.looks ≡ self.old.lane.book.looks + 1 }
         ensures loans { self.new.loans ≡ self.old.loans }
         ensures kept { KeepsLoans T.content T.room self.old.lane self.new.lane }
     {

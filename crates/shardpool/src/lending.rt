@@ -58,7 +58,7 @@ impl<T> Loan<T> {
     }
 }
 
-/// A lane that lends the share under each of its references. It makes no other calls than those by which it does.
+/// A lane that lends the share under each of its references. It has no other calls.
 #[derive(Drop)]
 pub struct LendingLane<T: Clear> {
     hand: Hand<T>,
@@ -265,6 +265,8 @@ impl<T: Clear + Drop> LendingLane<T> {
         ensures heard { IsPrefix note.book.seen self.new.book.seen × IsPrefix self.old.book.seen self.new.book.seen }
         ensures rooms { IsPrefix note.book.rooms self.new.book.rooms × IsPrefix self.old.book.rooms self.new.book.rooms }
         ensures goes { Did [] self.old self.new }
+        ensures steps { self.new.book.steps ≡ self.old.book.steps }
+        ensures looks { self.new.book.looks ≡ self.old.book.looks + 1 }
         ensures refs { refs self.new ≡ refs self.old }
         ensures held { (key : ℕ) → holds self.new key ≡ holds self.old key }
         ensures kept { KeepsLoans T.content T.room self.old self.new }

@@ -35,3 +35,6 @@ pub returns-clause-kept : goal.returns-clause-kept
 returns-clause-kept g c =
     let sees = subst (λ (z : Shape). Sees z c.self.inside.hand.me c.hear.new.hand.me) (same-shape c.self.view_is c.requires.owns.1 c.pool.view_is) c.hear.ensures.sees in
     rw (← c.self.view_is) (loans-seen sees c.self.invariant.1.fits c.self.inside.hand.table_id c.hear.new.hand.table_id c.hear.ensures.hand.0)
+
+pub returns-clause-looks : goal.returns-clause-looks
+returns-clause-looks g c = rw (← c.self.view_is) c.hear.ensures.sees.looks
