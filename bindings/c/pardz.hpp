@@ -1,7 +1,8 @@
 // Classes over pardz.h, whose duties hold here too: C++11 or later. What is taken is given back where it ends: a reference is released, a
 // filling that wasn't published is cleared, and a pool is closed. Memory that is refused is a std::bad_alloc, and any other code that a
 // call here doesn't answer itself a pardz::error. References and fillings stay with their lane and end before its pool; so do those of
-// a shared_pool, which any thread may use and end. An owned_reference goes anywhere, and may outlive its pool.
+// a shared_pool, which any thread may use and end. An owned_reference goes anywhere, and may outlive its pool. A reference that was moved
+// from has no bytes.
 #ifndef PARDZ_HPP
 #define PARDZ_HPP
 
@@ -56,11 +57,9 @@ struct in_hand {
 /// Bytes to which a lane has a reference; or none, where a key isn't published.
 class reference {
 public:
-    reference(reference &&) noexcept = default;
+    reference(reference &&other) noexcept : held_(nullptr, 0), bytes_{nullptr, 0} { swap(other); }
     reference &operator=(reference other) noexcept {
-        std::swap(held_.lane, other.held_.lane);
-        std::swap(held_.key, other.held_.key);
-        std::swap(bytes_, other.bytes_);
+        swap(other);
         return *this;
     }
     ~reference() {
@@ -78,6 +77,11 @@ private:
     friend class filling;
     friend class lane;
     reference(pardz_lane *lane, std::uint64_t key, pardz_bytes bytes) noexcept : held_(lane, key), bytes_(bytes) {}
+    void swap(reference &other) noexcept {
+        std::swap(held_.lane, other.held_.lane);
+        std::swap(held_.key, other.held_.key);
+        std::swap(bytes_, other.bytes_);
+    }
     in_hand held_;
     pardz_bytes bytes_;
 };
@@ -126,6 +130,7 @@ private:
 class lane {
 public:
     lane(const lane &) = delete;
+    lane &operator=(const lane &) = delete;
     /// Publishes bytes, and answers their key.
     std::uint64_t put(const void *bytes, std::size_t len) {
         std::uint64_t key = 0;
@@ -165,13 +170,14 @@ private:
 /// A pool with its lanes.
 class pool {
 public:
-    explicit pool(const pardz_shape &shape) : count_(shape.lanes), lanes_(new lane[shape.lanes]) {
+    explicit pool(const pardz_shape &shape) : count_(lanes_of(shape)), lanes_(new lane[count_]) {
         std::vector<pardz_lane> opened(count_, pardz_lane PARDZ_EMPTY);
         must(pardz_open(&shape, opened.data(), count_));
         for (std::size_t i = 0; i < count_; i++)
             *lanes_[i].slot() = opened[i];
     }
     pool(const pool &) = delete;
+    pool &operator=(const pool &) = delete;
     ~pool() {
         pardz_census census;
         close_all(&census);
@@ -186,6 +192,12 @@ public:
     }
 
 private:
+    // More than a pool can have are refused in front of their memory.
+    static std::size_t lanes_of(const pardz_shape &shape) {
+        if (shape.lanes > 64)
+            throw error(PARDZ_SHAPE);
+        return shape.lanes;
+    }
     std::uint32_t close_all(pardz_census *census) noexcept {
         std::uint32_t code = PARDZ_OK;
         for (std::size_t i = count_; i > 1 && code == PARDZ_OK; i--)
@@ -199,10 +211,9 @@ private:
 /// Bytes to which a lane of a shared_pool has a reference; or none, where a key isn't published.
 class shared_reference {
 public:
-    shared_reference(shared_reference &&other) noexcept : pool_(other.pool_), lent_(other.lent_) { other.pool_ = nullptr; }
+    shared_reference(shared_reference &&other) noexcept : pool_(nullptr), lent_{nullptr, 0, 0, 0} { swap(other); }
     shared_reference &operator=(shared_reference other) noexcept {
-        std::swap(pool_, other.pool_);
-        std::swap(lent_, other.lent_);
+        swap(other);
         return *this;
     }
     ~shared_reference() {
@@ -219,6 +230,10 @@ public:
 private:
     friend class shared_pool;
     shared_reference(const pardz_pool *pool, const pardz_lent &lent) noexcept : pool_(pool), lent_(lent) {}
+    void swap(shared_reference &other) noexcept {
+        std::swap(pool_, other.pool_);
+        std::swap(lent_, other.lent_);
+    }
     const pardz_pool *pool_;
     pardz_lent lent_;
 };
@@ -231,10 +246,9 @@ public:
         if (other)
             pardz_own_again(&other.slot_, &slot_);
     }
-    owned_reference(owned_reference &&other) noexcept : slot_(other.slot_), bytes_(other.bytes_) { other.slot_ = PARDZ_EMPTY; }
+    owned_reference(owned_reference &&other) noexcept { swap(other); }
     owned_reference &operator=(owned_reference other) noexcept {
-        std::swap(slot_, other.slot_);
-        std::swap(bytes_, other.bytes_);
+        swap(other);
         return *this;
     }
     ~owned_reference() { pardz_disown(&slot_); }
@@ -247,6 +261,10 @@ public:
 
 private:
     friend class shared_pool;
+    void swap(owned_reference &other) noexcept {
+        std::swap(slot_, other.slot_);
+        std::swap(bytes_, other.bytes_);
+    }
     pardz_owned slot_ = PARDZ_EMPTY;
     pardz_bytes bytes_ = {nullptr, 0};
 };
@@ -256,6 +274,7 @@ class shared_pool {
 public:
     explicit shared_pool(const pardz_shape &shape) { must(pardz_attach(&shape, &slot_)); }
     shared_pool(const shared_pool &) = delete;
+    shared_pool &operator=(const shared_pool &) = delete;
     ~shared_pool() {
         pardz_census census;
         pardz_detach(&slot_, &census);

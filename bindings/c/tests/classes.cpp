@@ -9,6 +9,8 @@
 
 static_assert(!std::is_copy_constructible<pardz::reference>::value && !std::is_copy_constructible<pardz::filling>::value, "moved, not copied");
 static_assert(!std::is_copy_constructible<pardz::pool>::value && !std::is_copy_constructible<pardz::lane>::value, "they stay");
+static_assert(!std::is_copy_assignable<pardz::pool>::value && !std::is_copy_assignable<pardz::lane>::value, "they stay");
+static_assert(!std::is_copy_assignable<pardz::filling>::value && !std::is_move_assignable<pardz::filling>::value, "moved to a new one alone");
 static_assert(std::is_nothrow_move_constructible<pardz::reference>::value && std::is_nothrow_move_constructible<pardz::filling>::value, "");
 static_assert(sizeof(pardz::lane) == 64, "64 bytes from the next");
 
@@ -37,7 +39,7 @@ static void references() {
         pardz::reference found = pool[1].get(key);
         CHECK(found && found.size() == 5 && found.key() == key && text(found) == "hello");
         pardz::reference moved(std::move(found));
-        CHECK(moved && !found && text(moved) == "hello");
+        CHECK(moved && !found && found.size() == 0 && found.data() == nullptr && text(moved) == "hello");
         CHECK(pool[0].clear(key) && !pool[0].clear(key) && !pool[1].get(key));
         CHECK(text(moved) == "hello");
         const std::uint64_t other = pool[0].put("other", 5);
@@ -85,8 +87,10 @@ static void fillings() {
 }
 
 static void refusals() {
-    const pardz_shape none = {0, 4, 1, 1, 0}, many = {65, 4, 1, 1, 0};
-    CHECK(code_of([&] { pardz::pool pool(none); }) == PARDZ_SHAPE && code_of([&] { pardz::pool pool(many); }) == PARDZ_SHAPE);
+    const pardz_shape none = {0, 4, 1, 1, 0};
+    CHECK(code_of([&] { pardz::pool pool(none); }) == PARDZ_SHAPE);
+    for (const std::uint32_t many : {std::uint32_t{65}, UINT32_MAX})
+        CHECK(code_of([&] { pardz::pool pool({many, 4, 1, 1, 0}); }) == PARDZ_SHAPE);
     CHECK(code_of([] { pardz::must(PARDZ_MEMORY); }) == PARDZ_MEMORY && code_of([] { pardz::must(PARDZ_OK); }) == PARDZ_OK);
 }
 

@@ -8,8 +8,8 @@
 #include <vector>
 
 static_assert(!std::is_copy_constructible<pardz::shared_reference>::value && !std::is_copy_constructible<pardz::shared_pool>::value, "");
+static_assert(!std::is_copy_assignable<pardz::shared_pool>::value && !std::is_move_assignable<pardz::shared_pool>::value, "it stays");
 static_assert(std::is_nothrow_move_constructible<pardz::shared_reference>::value, "moved, not copied");
-
 static_assert(std::is_nothrow_copy_constructible<pardz::owned_reference>::value && std::is_nothrow_move_constructible<pardz::owned_reference>::value, "");
 
 template <typename Reference> static std::string text(const Reference &found) { return std::string(found.begin(), found.end()); }
@@ -36,10 +36,10 @@ static void owned() {
         CHECK(first && first.key() == key && pool.clear(key) && !pool.own(key) && pool.census().marked == 1);
         std::thread([&second, first] { second = first; }).join();
         pardz::owned_reference moved(std::move(second));
-        CHECK(!second && moved && moved.data() == first.data());
+        CHECK(!second && second.size() == 0 && second.data() == nullptr && moved && moved.data() == first.data());
         second = std::move(moved);
         pardz::owned_reference none(moved), empty = pool.own(pool.put(nullptr, 0));
-        CHECK(!none && empty && empty.size() == 0);
+        CHECK(!none && none.size() == 0 && empty && empty.size() == 0);
         const pardz_census census = pool.close();
         CHECK(census.marked == 1 && census.present == 1);
     }
@@ -63,7 +63,7 @@ int main() {
     std::thread([&] { kept = pool.get(keys[0]); }).join();
     CHECK(kept && kept.key() == keys[0] && pool.clear(keys[0]) && !pool.clear(keys[0]) && !pool.get(keys[0]));
     pardz::shared_reference moved(std::move(kept));
-    CHECK(moved && !kept && moved.size() == 6 && text(moved) == "shared");
+    CHECK(moved && !kept && kept.size() == 0 && moved.size() == 6 && text(moved) == "shared");
     moved = pool.get(keys[1]);
     CHECK(text(moved) == "shared" && pool.get(pool.put(nullptr, 0)).size() == 0);
     moved = std::move(kept);
