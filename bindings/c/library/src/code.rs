@@ -9,9 +9,9 @@ pub(crate) const OK: u32 = 0;
 pub(crate) enum Refusal {
     /// Memory was refused.
     Memory = 1,
-    /// The slot has no lane, or no pool.
+    /// The slot has no lane, no pool or no owned reference.
     EmptyLane = 2,
-    /// The slot has a lane, or a pool.
+    /// The slot has a lane, a pool or an owned reference.
     FullLane = 3,
     /// No place is free.
     Full = 4,

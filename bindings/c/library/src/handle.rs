@@ -27,8 +27,9 @@ pub(crate) struct Handle {
     pub(crate) joined: u32,
     /// Of lane 0, an empty row with room for all lanes, so that a close takes no memory.
     pub(crate) row: shim::Vec<Lane<Bytes>>,
-    /// What it tells of itself, and how many pages it has told of.
+    /// What it tells of itself.
     told: NonNull<Told>,
+    /// How many pages it has told of.
     opened: u32,
 }
 
@@ -158,12 +159,10 @@ impl Handle {
     pub(crate) fn downgrade(&mut self, key: u64) -> Result<(), Refusal> {
         self.find(key)?;
         self.has_reference_left()?;
+        let start = self.start_of(key)?;
         let filling = self.take(key)?;
-        let reference = self.share.pool.downgrade(&mut self.lane, filling);
-        if let Ok(start) = self.start_of(key) {
-            self.counts.gain(start, key);
-        }
-        reference.forget();
+        self.share.pool.downgrade(&mut self.lane, filling).forget();
+        self.counts.gain(start, key);
         self.told().filled();
         Ok(())
     }
@@ -191,13 +190,13 @@ impl Handle {
         appended.map(|()| key)
     }
 
-    /// Takes a reference to a key, and answers its bytes.
+    /// Takes a reference to a key, and answers its bytes. (It doesn't call `own`, by which it takes six instructions more.)
     pub(crate) fn get(&mut self, key: u64) -> Result<&[u8], Refusal> {
         self.has_reference_left()?;
         let start = self.share.pool.get_at(&mut self.lane, key);
         let start = start.ok_or(Refusal::Gone)?;
         self.counts.gain(start, key);
-        Ok(self.lane.read_at(start, key).as_slice())
+        Ok(self.bytes_at(start, key))
     }
 
     /// Takes a reference to a key that isn't counted by key: who has it gives it back by `disown`. Answers where the key's place stands.
@@ -215,6 +214,7 @@ impl Handle {
     }
 
     /// Gives a reference of `own` back.
+    #[inline]
     pub(crate) fn disown(&mut self, start: u32, key: u64) {
         self.share.pool.release_at(&mut self.lane, start, key);
     }
@@ -239,7 +239,7 @@ impl Handle {
     pub(crate) fn release(&mut self, key: u64) -> Result<(), Refusal> {
         let start = self.start_of(key)?;
         done(self.counts.lose(start, key), Refusal::NoReference)?;
-        self.share.pool.release_at(&mut self.lane, start, key);
+        self.disown(start, key);
         Ok(())
     }
 

@@ -1,7 +1,7 @@
 //! The calls of `pardz.h`, with the codes and the behaviour of the proved archive, in plain Rust.
 //!
 //! The pool is that of the crate `pardz`: `erased`, which is made from the proved sources, and the `shim` below it. Nothing here is
-//! proved. What the header asks of a program nothing here tests, so each call is `unsafe`.
+//! proved. The header says what each call asks of a program. Nothing here tests it, so each call is `unsafe`.
 #![deny(unsafe_op_in_unsafe_fn)]
 
 #[cfg(test)]
@@ -31,11 +31,12 @@ mod sync;
 use crate::code::{code, Refusal, OK};
 use crate::erased::keybits::Shape;
 use crate::erased::shardpool::Census;
-use crate::handle::{LOOKED, NUMBERS};
+use crate::handle::NUMBERS;
 use crate::owned::OwnedSlot;
 use crate::slot::Slot;
 use crate::store::PoolSlot;
 use std::ffi::c_char;
+use std::ptr::addr_of_mut;
 use std::slice;
 
 /// What a pool is opened with.
@@ -100,7 +101,7 @@ unsafe fn bytes_of<'b>(bytes: *const u8, len: usize) -> &'b [u8] {
     unsafe { slice::from_raw_parts(bytes, len) }
 }
 
-/// Writes what a call answers where it went well. What is asked of each call below is in the header.
+/// Writes what a call answers where it went well.
 ///
 /// # Safety
 ///
@@ -134,6 +135,19 @@ unsafe fn lent(answer: Result<&[u8], Refusal>, at: *mut *const u8, len: *mut usi
             OK
         }
         Err(refusal) => refusal as u32,
+    }
+}
+
+/// Writes the first of these numbers, as many as there is room for.
+///
+/// # Safety
+///
+/// As with `told`, of so many numbers.
+unsafe fn told_first(numbers: &[u32], to: *mut u32, room: usize) {
+    let count = room.min(numbers.len());
+    if count != 0 {
+        // SAFETY: asked of the program.
+        unsafe { to.copy_from_nonoverlapping(numbers.as_ptr(), count) };
     }
 }
 
@@ -261,16 +275,12 @@ unsafe extern "C" fn pardz_numbers(lane: *mut Slot, numbers: *mut u32, count: us
     // SAFETY: asked of the program.
     match unsafe { Slot::lend(lane) } {
         Ok(handle) => {
-            let numbers = match count {
-                0 => &mut [],
-                // SAFETY: asked of the program: so many numbers stand there.
-                _ => unsafe { slice::from_raw_parts_mut(numbers, count) },
-            };
-            let (at_once, looked) = numbers.split_at_mut(count.min(NUMBERS));
-            at_once.copy_from_slice(&handle.numbers()[..at_once.len()]);
-            if !looked.is_empty() {
-                let known = looked.len().min(LOOKED);
-                looked[..known].copy_from_slice(&handle.looked()[..known]);
+            // SAFETY: asked of the program: so many numbers stand there.
+            unsafe {
+                told_first(&handle.numbers(), numbers, count);
+                if count > NUMBERS {
+                    told_first(&handle.looked(), numbers.add(NUMBERS), count - NUMBERS);
+                }
             }
             OK
         }
@@ -319,25 +329,16 @@ unsafe extern "C" fn pardz_pool_get(
     pool: *const PoolSlot,
     from: u32,
     key: u64,
-    lent: *mut PoolLent,
+    to: *mut PoolLent,
 ) -> u32 {
     // SAFETY: asked of the program.
     match unsafe { PoolSlot::lend(pool) }.and_then(|store| store.get(from, key)) {
-        Ok((lane, bytes)) => {
-            // SAFETY: asked of the program.
-            let lent = unsafe { &mut *lent };
-            *lent = PoolLent {
-                at: if bytes.len() == 0 {
-                    lent.at
-                } else {
-                    bytes.cast()
-                },
-                len: bytes.len(),
-                key,
-                lane,
-            };
-            OK
-        }
+        // SAFETY: asked of the program, which needn't have written there yet; and the bytes stay, since the lane keeps the reference.
+        Ok((lane, bytes)) => unsafe {
+            addr_of_mut!((*to).key).write(key);
+            addr_of_mut!((*to).lane).write(lane);
+            lent(Ok(&*bytes), addr_of_mut!((*to).at), addr_of_mut!((*to).len))
+        },
         Err(refusal) => refusal as u32,
     }
 }

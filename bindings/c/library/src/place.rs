@@ -1,6 +1,6 @@
 //! Memory for one value, which is asked for before the value is there, and may be refused.
 use crate::code::Refusal;
-use std::ptr::{self, NonNull};
+use std::ptr::NonNull;
 
 /// A vector with room for so many values.
 pub(crate) fn row<T>(count: usize) -> Result<Vec<T>, Refusal> {
@@ -32,11 +32,6 @@ impl<T> Place<T> {
 ///
 /// It is where a place was filled, and nobody uses it any more.
 pub(crate) unsafe fn take<T>(at: NonNull<T>) -> T {
-    let one = ptr::slice_from_raw_parts_mut(at.as_ptr(), 1);
-    // SAFETY: as a box of one value `fill` leaked it, and the rest is asked of whoever calls.
-    let boxed = unsafe { Box::from_raw(one) };
-    match Vec::from(boxed).pop() {
-        Some(value) => value,
-        None => unreachable!("a place has one value"),
-    }
+    // SAFETY: `fill` leaked a box of one value, and the rest is asked of whoever calls.
+    *unsafe { Box::from_raw(at.as_ptr()) }
 }
