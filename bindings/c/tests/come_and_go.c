@@ -3,15 +3,9 @@
  *
  * come_and_go ROUNDS LANES THREADS: so many rounds in all; lanes, 16 if it isn't said; threads at once, 200 if it isn't said. */
 #include "../pardz.h"
-#include "check.h"
+#include "lives.h"
 
-#include <pthread.h>
-#include <stdatomic.h>
-#include <string.h>
-
-#define MOST_THREADS 1000
 #define WAYS 64
-#define LIFE 25
 
 /* More places in a lane than there are keys and references at once, so that no put is refused. */
 static pardz_shape shape = { 16, 64, 5, UINT32_MAX, 9 };
@@ -21,34 +15,7 @@ static pardz_pool pool = PARDZ_EMPTY;
 static _Atomic uint64_t keys[WAYS];
 static _Atomic(pardz_lent *) lents[WAYS];
 
-static atomic_long rounds_left, lives, cleared, busy;
-
-/* What the bytes of one put say: who put them and what they are, so that whoever reads them can tell. */
-struct words {
-    uint64_t seed, length, rest[14];
-};
-
-static uint64_t mixed(uint64_t number) {
-    number = (number ^ (number >> 31)) * UINT64_C(0x9e3779b97f4a7c15);
-    return number ^ (number >> 29);
-}
-
-static size_t fill(struct words *words, uint64_t seed) {
-    const size_t length = 16 + seed % 112;
-    words->seed = seed;
-    words->length = length;
-    for (size_t i = 0; i < 14; i++)
-        words->rest[i] = mixed(seed + i);
-    return length;
-}
-
-static void check_bytes(const pardz_lent *lent) {
-    struct words words;
-    uint64_t seed;
-    CHECK(lent->len >= 16);
-    memcpy(&seed, lent->at, sizeof seed);
-    CHECK(fill(&words, seed) == lent->len && memcmp(lent->at, &words, lent->len) == 0);
-}
+static atomic_long cleared, busy;
 
 /* A reference to a key that must be there: at first without waiting. */
 static pardz_lent get(uint32_t from, uint64_t key) {
@@ -60,13 +27,13 @@ static pardz_lent get(uint32_t from, uint64_t key) {
         code = pardz_await_get(&pool, from + 1, key, &lent);
     }
     CHECK(code == PARDZ_OK && lent.key == key && lent.lane < shape.lanes);
-    check_bytes(&lent);
+    check_words(lent.at, lent.len);
     return lent;
 }
 
 /* Reads the bytes of a reference once more, and gives it back. */
 static void let_go(pardz_lent *lent) {
-    check_bytes(lent);
+    check_words(lent->at, lent->len);
     CHECK(pardz_await_release(&pool, lent) == PARDZ_OK);
 }
 
@@ -100,37 +67,12 @@ static void one_round(uint64_t seed) {
     }
 }
 
-static void *live(void *seed) {
-    uint64_t number = mixed((uint64_t)(uintptr_t)seed * 2654435761u + 1);
-    for (int round = 0; round < LIFE && atomic_fetch_sub(&rounds_left, 1) > 0; round++)
-        one_round(number = mixed(number + (uint64_t)round + 1));
-    atomic_fetch_add(&lives, 1);
-    return NULL;
-}
-
-/* So many threads at once, each followed by another when it ends, until all rounds are made. */
-static void run(size_t threads) {
-    static pthread_t at[MOST_THREADS];
-    uintptr_t born = 0;
-    for (size_t i = 0; i < threads; i++)
-        CHECK(pthread_create(&at[i], NULL, live, (void *)born++) == 0);
-    while (atomic_load(&rounds_left) > 0)
-        for (size_t i = 0; i < threads; i++) {
-            CHECK(pthread_join(at[i], NULL) == 0);
-            CHECK(pthread_create(&at[i], NULL, live, (void *)born++) == 0);
-        }
-    for (size_t i = 0; i < threads; i++)
-        CHECK(pthread_join(at[i], NULL) == 0);
-}
-
 int main(int argc, char **argv) {
     const long rounds = argc > 1 ? atol(argv[1]) : 20000;
     shape.lanes = argc > 2 ? (uint32_t)atol(argv[2]) : 16;
     const size_t threads = argc > 3 ? (size_t)atol(argv[3]) : 200;
-    CHECK(rounds > 0 && threads > 0 && threads <= MOST_THREADS);
     CHECK(pardz_attach(&shape, &pool) == PARDZ_OK && pardz_attach(&shape, &pool) == PARDZ_FULL_LANE);
-    atomic_store(&rounds_left, rounds);
-    run(threads);
+    run(rounds, threads);
     for (size_t way = 0; way < WAYS; way++) {
         uint64_t key = atomic_exchange(&keys[way], 0);
         if (key != 0)

@@ -5,15 +5,9 @@
  * hand_on ROUNDS LANES THREADS: so many rounds in all; lanes, 16 if it isn't said; threads at once, 200 if it isn't said. */
 #define _XOPEN_SOURCE 600
 #include "../pardz.h"
-#include "check.h"
+#include "lives.h"
 
-#include <pthread.h>
-#include <stdatomic.h>
-#include <string.h>
-
-#define MOST_THREADS 1000
 #define WAYS 256
-#define LIFE 25
 #define POOLS 4
 
 /* More places in a lane than there are references at once, so that no put is refused. */
@@ -31,35 +25,13 @@ static _Atomic(pardz_owned *) ways[WAYS];
 /* Of so many rounds one detaches its pool. */
 static uint64_t between_detaches;
 
-static atomic_long rounds_left, lives, cleared, given_back, again, detached;
-
-/* What the bytes of one put say, so that whoever reads them can tell. */
-struct words {
-    uint64_t seed, length, rest[14];
-};
-
-static uint64_t mixed(uint64_t number) {
-    number = (number ^ (number >> 31)) * UINT64_C(0x9e3779b97f4a7c15);
-    return number ^ (number >> 29);
-}
-
-static size_t fill(struct words *words, uint64_t seed) {
-    const size_t length = 16 + seed % 112;
-    words->seed = seed;
-    words->length = length;
-    for (size_t i = 0; i < 14; i++)
-        words->rest[i] = mixed(seed + i);
-    return length;
-}
+static atomic_long cleared, given_back, again, detached;
 
 static void check_bytes(const pardz_owned *owned) {
-    struct words words;
     const uint8_t *at = NULL;
-    uint64_t seed;
     size_t len = 0;
-    CHECK(pardz_owned_bytes(owned, &at, &len) == PARDZ_OK && len >= 16);
-    memcpy(&seed, at, sizeof seed);
-    CHECK(fill(&words, seed) == len && memcmp(at, &words, len) == 0);
+    CHECK(pardz_owned_bytes(owned, &at, &len) == PARDZ_OK);
+    check_words(at, len);
 }
 
 static void let_go(pardz_owned *owned) {
@@ -120,39 +92,14 @@ static void one_round(uint64_t seed) {
     let_go(theirs);
 }
 
-static void *live(void *seed) {
-    uint64_t number = mixed((uint64_t)(uintptr_t)seed * 2654435761u + 1);
-    for (int round = 0; round < LIFE && atomic_fetch_sub(&rounds_left, 1) > 0; round++)
-        one_round(number = mixed(number + (uint64_t)round + 1));
-    atomic_fetch_add(&lives, 1);
-    return NULL;
-}
-
-/* So many threads at once, each followed by another when it ends, until all rounds are made. */
-static void run(size_t threads) {
-    static pthread_t at[MOST_THREADS];
-    uintptr_t born = 0;
-    for (size_t i = 0; i < threads; i++)
-        CHECK(pthread_create(&at[i], NULL, live, (void *)born++) == 0);
-    while (atomic_load(&rounds_left) > 0)
-        for (size_t i = 0; i < threads; i++) {
-            CHECK(pthread_join(at[i], NULL) == 0);
-            CHECK(pthread_create(&at[i], NULL, live, (void *)born++) == 0);
-        }
-    for (size_t i = 0; i < threads; i++)
-        CHECK(pthread_join(at[i], NULL) == 0);
-}
-
 int main(int argc, char **argv) {
     const long rounds = argc > 1 ? atol(argv[1]) : 20000;
     shape.lanes = argc > 2 ? (uint32_t)atol(argv[2]) : 16;
     const size_t threads = argc > 3 ? (size_t)atol(argv[3]) : 200;
-    CHECK(rounds > 0 && threads > 0 && threads <= MOST_THREADS);
     for (size_t i = 0; i < POOLS; i++)
         CHECK(pthread_rwlock_init(&pools[i].lock, NULL) == 0 && pardz_attach(&shape, &pools[i].pool) == PARDZ_OK);
-    atomic_store(&rounds_left, rounds);
     between_detaches = (uint64_t)rounds / 40 + 1;
-    run(threads);
+    run(rounds, threads);
     pardz_census census;
     for (size_t i = 0; i < POOLS; i += 2)
         CHECK(pardz_detach(&pools[i].pool, &census) == PARDZ_OK);
