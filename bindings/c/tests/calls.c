@@ -1,17 +1,8 @@
 /* Each code of each call, provoked once; then that these were all. */
-#include "../pardz.h"
-#include "check.h"
+#include "answers.h"
 #include "counting_heap.h"
 
-#include <string.h>
-
 enum call { OPEN, CREATE, APPEND, ROOM, WROTE, PUBLISH, DOWNGRADE, LEAVE, PUT, GET, READ, RELEASE, CLEAR, NUMBERS, JOIN, CLOSE, CALLS };
-
-#define CODES 16
-#define BIT(code) (1u << PARDZ_##code)
-
-static const char *const NAMES[CALLS] = { "open", "create", "append", "room", "wrote", "publish", "downgrade", "leave", "put", "get", "read",
-                                          "release", "clear", "numbers", "join", "close" };
 
 /* The codes that each call can answer, as pardz.h has them. */
 static const uint32_t ALL[CALLS] = {
@@ -33,29 +24,7 @@ static const uint32_t ALL[CALLS] = {
     [CLOSE] = BIT(OK) | BIT(EMPTY_LANE) | BIT(LANES) | BIT(SHARED),
 };
 
-static uint32_t seen[CALLS];
-
-static void expect(enum call call, uint32_t want, uint32_t got, int line) {
-    if (got != want) {
-        fprintf(stderr, "line %d: %s answered %u, not %u\n", line, NAMES[call], got, want);
-        exit(1);
-    }
-    seen[call] |= 1u << got;
-}
-
-#define EXPECT(call, want, got) expect(call, PARDZ_##want, got, __LINE__)
-
 static const pardz_shape SHAPE = { 2, 2, 2, UINT32_MAX, 7 };
-
-/* Where an address points that no call wrote. */
-static uint8_t nowhere[512];
-
-/* A census that no close wrote. */
-static const pardz_census NONE = { 99, 99, 99, 99, 99, 99 };
-
-static int is_none(const pardz_census *census) {
-    return memcmp(census, &NONE, sizeof NONE) == 0;
-}
 
 static uint64_t put(pardz_lane *lane, const char *text) {
     uint64_t key = 0;
@@ -582,19 +551,7 @@ static void moved(void) {
     CHECK(census.free == 2 && census.unopened == 10);
 }
 
-/* Each code has a text of its own, and what is no code another. */
-static void texts(void) {
-    for (uint32_t code = 0; code < CODES; code++) {
-        CHECK(*pardz_strerror(code) != 0 && strcmp(pardz_strerror(code), pardz_strerror(CODES)) != 0);
-        for (uint32_t other = 0; other < code; other++)
-            CHECK(strcmp(pardz_strerror(code), pardz_strerror(other)) != 0);
-    }
-    CHECK(pardz_strerror(UINT32_MAX) == pardz_strerror(CODES));
-    CHECK(strcmp(pardz_strerror(PARDZ_SHARED), "another pool was opened under the same number") == 0);
-}
-
 int main(void) {
-    texts();
     opens();
     tells();
     pardz_lane lanes[2] = { PARDZ_EMPTY, PARDZ_EMPTY }, empty = PARDZ_EMPTY;
@@ -616,13 +573,7 @@ int main(void) {
     close_alls();
     one_number();
     moved();
-    int pairs = 0;
-    for (int call = 0; call < CALLS; call++)
-        for (int code = 0; code < CODES; code++) {
-            CHECK((seen[call] >> code & 1) == (ALL[call] >> code & 1));
-            pairs += seen[call] >> code & 1;
-        }
     CHECK(heap_blocks == 0);
-    printf("calls: %d pairs of a call and a code\n", pairs);
+    printf("calls: %d pairs of a call and a code\n", check_answers(ALL, CALLS));
     return 0;
 }

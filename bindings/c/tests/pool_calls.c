@@ -1,20 +1,12 @@
 /* Each code of each call by a pool and of each with an owned reference, provoked once; then that these were all. Each request for memory of
  * an attach, of a put and of an own refused in turn: a code, nothing else changed, no leak. */
-#include "../pardz.h"
-#include "check.h"
+#include "answers.h"
 #include "counting_heap.h"
 
 #include <pthread.h>
 #include <semaphore.h>
-#include <string.h>
 
 enum call { ATTACH, PUT, GET, RELEASE, CLEAR, CENSUS, DETACH, OWN, OWN_AGAIN, OWNED_BYTES, DISOWN, CALLS };
-
-#define CODES 16
-#define BIT(code) (1u << PARDZ_##code)
-
-static const char *const NAMES[CALLS] = { "attach", "put",    "get", "release",   "clear",       "census",
-                                          "detach", "own", "own_again", "owned_bytes", "disown" };
 
 /* The codes that each call can answer, as pardz.h has them; but for what a detach answers while calls are under way. */
 static const uint32_t ALL[CALLS] = {
@@ -31,32 +23,14 @@ static const uint32_t ALL[CALLS] = {
     [DISOWN] = BIT(OK) | BIT(EMPTY_LANE),
 };
 
-static uint32_t seen[CALLS];
-
-static void expect(enum call call, uint32_t want, uint32_t got, int line) {
-    if (got != want) {
-        fprintf(stderr, "line %d: %s answered %u, not %u\n", line, NAMES[call], got, want);
-        exit(1);
-    }
-    seen[call] |= 1u << got;
-}
-
-#define EXPECT(call, want, got) expect(call, PARDZ_##want, got, __LINE__)
-
 static const pardz_shape SHAPE = { 2, 2, 2, UINT32_MAX, 7 };
 static const pardz_shape ONE = { 1, 2, 1, UINT32_MAX, 7 }, THREE = { 1, 1, 2, UINT32_MAX, 7 };
 
-/* What no call wrote. */
-static uint8_t nowhere[8];
+/* A reference that no call wrote. */
 static const pardz_lent UNLENT = { nowhere, 99, 99, 99 };
-static const pardz_census NONE = { 99, 99, 99, 99, 99, 99 };
 
 static int is_unlent(const pardz_lent *lent) {
     return lent->at == nowhere && lent->len == 99 && lent->key == 99 && lent->lane == 99;
-}
-
-static int is_none(const pardz_census *census) {
-    return memcmp(census, &NONE, sizeof NONE) == 0;
 }
 
 static uint64_t put(const pardz_pool *pool, uint32_t from, const char *text) {
@@ -433,13 +407,7 @@ int main(void) {
     memory();
     moved();
     busies();
-    int pairs = 0;
-    for (int call = 0; call < CALLS; call++)
-        for (int code = 0; code < CODES; code++) {
-            CHECK((seen[call] >> code & 1) == (ALL[call] >> code & 1));
-            pairs += seen[call] >> code & 1;
-        }
     CHECK(heap_blocks == 0);
-    printf("pool_calls: %d pairs of a call and a code\n", pairs);
+    printf("pool_calls: %d pairs of a call and a code\n", check_answers(ALL, CALLS));
     return 0;
 }
