@@ -1,6 +1,7 @@
 /* Each code of each call, provoked once; then that these were all. */
 #include "answers.h"
 #include "counting_heap.h"
+#include "which.h"
 
 enum call { OPEN, CREATE, APPEND, ROOM, WROTE, PUBLISH, DOWNGRADE, LEAVE, PUT, GET, READ, RELEASE, CLEAR, NUMBERS, JOIN, CLOSE, CALLS };
 
@@ -64,16 +65,15 @@ static void opens(void) {
     CHECK(census.unopened == 12);
 }
 
-/* Whether the library tells of pages and places. */
-static int tells_places(const pardz_stats *stats) {
-    return stats->places.free + stats->places.unopened + stats->places.present != 0;
-}
-
-/* The pool of SHAPE has so many open pages, and so many places; where the library tells. */
+/* The pool of SHAPE has so many open pages, and so many places. The proved library tells none. */
 static void has_places(pardz_lane *lane, uint32_t opened, pardz_census places) {
     pardz_stats stats;
     EXPECT(NUMBERS, OK, pardz_stats_of(lane, &stats));
-    CHECK(!tells_places(&stats) || (stats.opened == opened && memcmp(&stats.places, &places, sizeof places) == 0));
+    if (!tells_places()) {
+        opened = 0;
+        memset(&places, 0, sizeof places);
+    }
+    CHECK(stats.opened == opened && memcmp(&stats.places, &places, sizeof places) == 0);
 }
 
 /* A lane of this number of SHAPE has so much. */
@@ -126,8 +126,15 @@ static void numbers(pardz_lane *lane) {
     EXPECT(NUMBERS, OK, pardz_numbers(lane, many, 20));
     CHECK(memcmp(many, few, sizeof *few * 3) == 0 && many[3] == SHAPE.last_generation && many[4] == SHAPE.tag);
     CHECK(many[8] == 0 && many[16] == 99 && many[19] == 99);
-    /* Opened pages and the six of a census; or none of them. */
-    CHECK(many[9] == 99 ? many[10] == 99 && many[15] == 99 : many[9] == 0 && many[10] == 0 && many[11] == 12 && many[15] == 0);
+    /* Opened pages and the six of a census, or of these two; or none of them. */
+    if (tells_places()) {
+        CHECK(many[9] == 0 && many[10] == 0 && many[11] == 12 && many[12] == 0 && many[13] == 0 && many[14] == 0 && many[15] == 0);
+    } else {
+        CHECK(many[9] == 99 && many[10] == 99 && many[11] == 99 && many[15] == 99);
+    }
+    many[10] = many[11] = many[12] = 98;
+    EXPECT(NUMBERS, OK, pardz_numbers(lane, many, 12));
+    CHECK(many[10] == (tells_places() ? 0 : 98) && many[11] == (tells_places() ? 12 : 98) && many[12] == 98);
 }
 
 /* What lanes tell while a pool is open. */

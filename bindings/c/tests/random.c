@@ -4,6 +4,7 @@
  * random CALLS: so many calls on each shape. */
 #include "../pardz.h"
 #include "check.h"
+#include "which.h"
 
 #include <string.h>
 
@@ -362,7 +363,7 @@ static void tells(int lane) {
     pardz_stats stats;
     CHECK(pardz_stats_of(&lanes[lane], &stats) == PARDZ_OK && memcmp(&stats.shape, &shape, sizeof shape) == 0);
     CHECK(stats.lane == (uint32_t)lane && stats.references == references && stats.fillings == fillings[lane] && stats.joined == 0);
-    if (stats.places.free + stats.places.unopened + stats.places.present != 0) {
+    if (tells_places()) {
         CHECK(stats.opened == pages(0) + pages(1));
         counts(&stats.places);
     }
