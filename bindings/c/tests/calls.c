@@ -191,15 +191,14 @@ static void wrong_keys(pardz_lane *lane, pardz_lane *other, uint64_t key) {
     CHECK(to == nowhere && at == nowhere && len == 99);
 }
 
-/* The life of one buffer, on two lanes. */
-static void life(pardz_lane *a, pardz_lane *b) {
+/* A buffer that is filled with abcdei, and published with a reference. Another lane can't fill it, and none finds it before. */
+static uint64_t fills(pardz_lane *a, pardz_lane *b) {
     uint64_t key = 0;
     uint8_t *to = nowhere;
-    const uint8_t *at = nowhere, *again = nowhere;
-    size_t len = 0;
+    const uint8_t *at = nowhere;
+    size_t len = 99;
     EXPECT(CREATE, OK, pardz_create(a, &key));
     wrong_keys(b, b, key);
-    len = 99;
     EXPECT(GET, GONE, pardz_get(a, key, &at, &len));
     CHECK(at == nowhere && len == 99);
     EXPECT(CLEAR, GONE, pardz_clear(a, key));
@@ -218,6 +217,29 @@ static void life(pardz_lane *a, pardz_lane *b) {
     EXPECT(ROOM, OK, pardz_room(a, key, 4, &to));
     memcpy(to, "zzzz", 4);
     EXPECT(DOWNGRADE, OK, pardz_downgrade(a, key));
+    return key;
+}
+
+/* A buffer without bytes has no address. */
+static void lends_none(pardz_lane *a, pardz_lane *b, uint64_t empty) {
+    const uint8_t *at = nowhere;
+    size_t len = 99;
+    EXPECT(GET, OK, pardz_get(b, empty, &at, &len));
+    CHECK(at == nowhere && len == 0);
+    len = 99;
+    EXPECT(READ, OK, pardz_read(b, empty, &at, &len));
+    CHECK(at == nowhere && len == 0);
+    EXPECT(RELEASE, OK, pardz_release(b, empty));
+    EXPECT(CLEAR, OK, pardz_clear(b, empty));
+    EXPECT(GET, GONE, pardz_get(b, UINT64_MAX, &at, &len));
+    EXPECT(CLEAR, GONE, pardz_clear(a, 0));
+}
+
+/* The life of one buffer, on two lanes. */
+static void life(pardz_lane *a, pardz_lane *b) {
+    const uint64_t key = fills(a, b);
+    const uint8_t *at = nowhere, *again = nowhere;
+    size_t len = 0;
     EXPECT(READ, OK, pardz_read(a, key, &at, &len));
     CHECK(len == 6 && memcmp(at, "abcdei", 6) == 0 && (uintptr_t)at % 16 == 0);
     wrong_keys(a, b, key);
@@ -236,17 +258,9 @@ static void life(pardz_lane *a, pardz_lane *b) {
     CHECK(len == 6 && again == at && memcmp(at, "abcdei", 6) == 0);
     EXPECT(RELEASE, OK, pardz_release(a, key));
     EXPECT(READ, NO_REFERENCE, pardz_read(a, key, &again, &len));
-    uint64_t empty = put(a, "");
+    const uint64_t empty = put(a, "");
     CHECK(empty != key);
-    at = nowhere;
-    EXPECT(GET, OK, pardz_get(b, empty, &at, &len));
-    CHECK(at == nowhere && len == 0);
-    EXPECT(READ, OK, pardz_read(b, empty, &at, &len));
-    CHECK(at == nowhere && len == 0);
-    EXPECT(RELEASE, OK, pardz_release(b, empty));
-    EXPECT(CLEAR, OK, pardz_clear(b, empty));
-    EXPECT(GET, GONE, pardz_get(b, UINT64_MAX, &at, &len));
-    EXPECT(CLEAR, GONE, pardz_clear(b, 0));
+    lends_none(a, b, empty);
 }
 
 /* Bytes of a reference are appended to another filling. */
@@ -353,11 +367,25 @@ static void limits(void) {
     CHECK(census.present == 16 && census.filling == 8 && census.marked == 1 && census.free == 7 && census.unopened == 16);
 }
 
+/* Memory is refused to a put: of a lane whose page has another place than this key's, which is had, and given back; and of one that wants a
+ * page. The former goes on afterwards. */
+static void memory_of_puts(pardz_lane *lanes, uint64_t key) {
+    uint64_t other = 99;
+    uint8_t bytes[100] = { 1 };
+    heap_begin(1, 1000);
+    EXPECT(PUT, MEMORY, pardz_put(&lanes[0], bytes, sizeof bytes, &other));
+    EXPECT(PUT, MEMORY, pardz_put(&lanes[1], bytes, 1, &other));
+    CHECK(other == 99);
+    heap_begin(0, 0);
+    EXPECT(PUT, OK, pardz_put(&lanes[0], bytes, sizeof bytes, &other));
+    CHECK(other >> 24 == (key >> 24) + 1);
+}
+
 /* Memory is refused to a create, an append, a room and a put; each goes on afterwards. A refused append or room leaves the bytes as
  * they were, and ends the earlier room. */
 static void memory(void) {
     pardz_lane lanes[2] = { PARDZ_EMPTY, PARDZ_EMPTY };
-    uint64_t key = 99, other = 99;
+    uint64_t key = 99;
     uint8_t bytes[100] = { 1 }, *to = nowhere, *no_room = nowhere;
     const uint8_t *at = nowhere;
     size_t len = 0;
@@ -385,14 +413,7 @@ static void memory(void) {
     EXPECT(READ, OK, pardz_read(&lanes[0], key, &at, &len));
     CHECK(len == 102 && memcmp(at, "ab", 2) == 0 && memcmp(at + 2, bytes, 100) == 0);
     EXPECT(RELEASE, OK, pardz_release(&lanes[0], key));
-    /* The page's other place is had, and given back; then a page is wanted. */
-    heap_begin(1, 1000);
-    EXPECT(PUT, MEMORY, pardz_put(&lanes[0], bytes, sizeof bytes, &other));
-    EXPECT(PUT, MEMORY, pardz_put(&lanes[1], bytes, 1, &other));
-    CHECK(other == 99);
-    heap_begin(0, 0);
-    EXPECT(PUT, OK, pardz_put(&lanes[0], bytes, sizeof bytes, &other));
-    CHECK(other >> 24 == (key >> 24) + 1);
+    memory_of_puts(lanes, key);
     pardz_census census;
     close_two(lanes, &census);
     CHECK(census.present == 2 && census.filling == 0 && census.unopened == 10);
@@ -488,9 +509,14 @@ static void ends(void) {
     EXPECT(CLOSE, OK, pardz_close(&lanes[0], &census));
     CHECK(census.filling == 1 && census.marked == 1 && census.free == 2 && census.unopened == 14);
     EXPECT(CLOSE, EMPTY_LANE, pardz_close(&lanes[0], &census));
-    CHECK(pardz_close_all(others, 3, &census) == PARDZ_OK && census.unopened == 18);
+    CHECK(pardz_close_all(others, 3, &census) == PARDZ_OK && census.unopened == 18 && heap_blocks == 0);
+}
+
+/* A pool of one lane. */
+static void ends_alone(void) {
     const pardz_shape one = { 1, 2, 2, UINT32_MAX, 7 };
     pardz_lane lane = PARDZ_EMPTY;
+    pardz_census census;
     EXPECT(OPEN, OK, pardz_open(&one, &lane, 1));
     EXPECT(JOIN, LANES, pardz_join(&lane, &lane));
     EXPECT(CLOSE, OK, pardz_close(&lane, &census));
@@ -577,6 +603,7 @@ int main(void) {
     used_again();
     tags();
     ends();
+    ends_alone();
     close_alls();
     one_number();
     moved();

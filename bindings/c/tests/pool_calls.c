@@ -82,6 +82,19 @@ static void empties(void) {
     CHECK(key == 99 && is_unlent(&lent) && is_none(&census) && empty.full == 0);
 }
 
+/* A reference isn't released by another lane than its own, or by one that the pool doesn't have, or under another key. */
+static void wrong_releases(const pardz_pool *pool, const pardz_lent *lent) {
+    const uint32_t lanes[] = { 1 - lent->lane, SHAPE.lanes, UINT32_MAX };
+    pardz_lent wrong = *lent;
+    for (size_t i = 0; i < sizeof lanes / sizeof *lanes; i++) {
+        wrong.lane = lanes[i];
+        EXPECT(RELEASE, NO_REFERENCE, pardz_pool_release(pool, &wrong));
+    }
+    wrong = *lent;
+    wrong.key = UINT64_MAX;
+    EXPECT(RELEASE, NO_REFERENCE, pardz_pool_release(pool, &wrong));
+}
+
 /* References stay with the lane that a get tells, and bytes until the last is released. */
 static void lends(void) {
     pardz_pool pool = PARDZ_EMPTY;
@@ -106,14 +119,7 @@ static void lends(void) {
     EXPECT(RELEASE, OK, pardz_pool_release(&pool, &second));
     EXPECT(RELEASE, NO_REFERENCE, pardz_pool_release(&pool, &second));
     CHECK(memcmp(first.at, "hello", 5) == 0);
-    gone = first;
-    gone.lane = 2;
-    EXPECT(RELEASE, NO_REFERENCE, pardz_pool_release(&pool, &gone));
-    gone.lane = UINT32_MAX;
-    EXPECT(RELEASE, NO_REFERENCE, pardz_pool_release(&pool, &gone));
-    gone = first;
-    gone.key = UINT64_MAX;
-    EXPECT(RELEASE, NO_REFERENCE, pardz_pool_release(&pool, &gone));
+    wrong_releases(&pool, &first);
     EXPECT(RELEASE, OK, pardz_pool_release(&pool, &first));
     EXPECT(RELEASE, NO_REFERENCE, pardz_pool_release(&pool, &first));
     uint64_t next = put(&pool, 0, "next");
@@ -232,6 +238,16 @@ static void goes_on(void) {
     CHECK(census.present == 12 && heap_blocks == 0);
 }
 
+/* Whether a call was refused memory; then it is to be made again with memory. */
+static int lacks_memory(enum call call, uint32_t code) {
+    seen[call] |= 1u << code;
+    if (code == PARDZ_MEMORY)
+        heap_begin(0, 0);
+    else
+        CHECK(code == PARDZ_OK);
+    return code == PARDZ_MEMORY;
+}
+
 /* A pool from attach to detach while requests from `first` to `last` are refused. Whether one was. */
 static int refused(long first, long last) {
     pardz_pool pool = PARDZ_EMPTY;
@@ -239,28 +255,19 @@ static int refused(long first, long last) {
     uint64_t keys[6] = { 99, 99, 99, 99, 99, 99 };
     const long before = heap_refused;
     heap_begin(first, last);
-    if (pardz_attach(&SHAPE, &pool) != PARDZ_OK) {
+    if (lacks_memory(ATTACH, pardz_attach(&SHAPE, &pool))) {
         CHECK(pool.full == 0 && heap_blocks == 0 && heap_refused > before);
-        heap_begin(0, 0);
         EXPECT(ATTACH, OK, pardz_attach(&SHAPE, &pool));
-        seen[ATTACH] |= BIT(MEMORY);
     }
-    for (size_t i = 0; i < 6; i++) {
-        const uint32_t code = pardz_pool_put(&pool, (uint32_t)i, bytes, 50 * i, &keys[i]);
-        if (code == PARDZ_MEMORY) {
-            CHECK(keys[i] == 99);
-            heap_begin(0, 0);
+    for (size_t i = 0; i < 6; i++)
+        if (lacks_memory(PUT, pardz_pool_put(&pool, (uint32_t)i, bytes, 50 * i, &keys[i]))) {
+            CHECK(keys[i] == 99 && heap_refused > before);
             EXPECT(PUT, OK, pardz_pool_put(&pool, (uint32_t)i, bytes, 50 * i, &keys[i]));
-            seen[PUT] |= BIT(MEMORY);
-        } else
-            CHECK(code == PARDZ_OK);
-    }
+        }
     pardz_owned owned = PARDZ_EMPTY;
-    if (pardz_own(&pool, 1, keys[1], &owned) != PARDZ_OK) {
+    if (lacks_memory(OWN, pardz_own(&pool, 1, keys[1], &owned))) {
         CHECK(owned.key == 0 && heap_refused > before);
-        heap_begin(0, 0);
         EXPECT(OWN, OK, pardz_own(&pool, 1, keys[1], &owned));
-        seen[OWN] |= BIT(MEMORY);
     }
     const long requests = heap_requests;
     pardz_lent lent = UNLENT;
@@ -312,16 +319,17 @@ static void slow_free(void *context, void *at) {
     free(at);
 }
 
+/* A put that the heap holds up. (If it asked for nothing, who waits until it is held up would wait forever.) */
 static void *puts_slowly(void *pool) {
     uint64_t key = 99;
-    CHECK(pardz_pool_put(pool, 0, nowhere, 8, &key) == PARDZ_OK && key != 99);
+    CHECK(pardz_pool_put(pool, 0, nowhere, 8, &key) == PARDZ_OK && key != 99 && !holds_up);
     return NULL;
 }
 
-/* An own that the heap holds up. */
-static void *gets_slowly(void *pool) {
+/* An own that it holds up. */
+static void *owns_slowly(void *pool) {
     pardz_owned owned = PARDZ_EMPTY;
-    CHECK(pardz_own(pool, 0, slow_key, &owned) == PARDZ_OK && pardz_disown(&owned) == PARDZ_OK);
+    CHECK(pardz_own(pool, 0, slow_key, &owned) == PARDZ_OK && !holds_up && pardz_disown(&owned) == PARDZ_OK);
     return NULL;
 }
 
@@ -336,7 +344,7 @@ static void tells(const pardz_pool *pool) {
     EXPECT(CENSUS, OK, pardz_pool_census(pool, &census));
     CHECK(census.marked == 1);
     holds_up = 1;
-    CHECK(pthread_create(&thread, NULL, gets_slowly, (void *)pool) == 0);
+    CHECK(pthread_create(&thread, NULL, owns_slowly, (void *)pool) == 0);
     sem_wait(&held);
     EXPECT(DISOWN, OK, pardz_disown(&owned));
     EXPECT(CENSUS, OK, pardz_pool_census(pool, &census));
