@@ -157,15 +157,18 @@ class SharedPool:
         return key.value
 
     def take(self, key):
-        """The bytes under a key, which is then cleared; None where nothing is published under it."""
+        """The bytes under a key, which this call cleared; None where nothing is published under it any more."""
         lent = Lent()
         code = self.call("pool_get", threading.get_native_id(), key, ctypes.byref(lent))
         if code == GONE:
             return None
         must(code)
-        must(self.call("pool_clear", 0, key))
         data = ctypes.string_at(lent.at, lent.len) if lent.len else b""
+        cleared = self.call("pool_clear", 0, key)
         must(self.call("pool_release", ctypes.byref(lent)))
+        if cleared == GONE:
+            return None
+        must(cleared)
         return data
 
     def own(self, key):
@@ -219,8 +222,8 @@ def many_threads(library, heap):
     assert pool.close() == 1
     reader = threading.Thread(target=lambda: keys.put((bytes(owned.view()), owned.close())))
     reader.start()
-    assert keys.get() == (b"owned", None)
     reader.join()
+    assert keys.get_nowait() == (b"owned", None)
 
 
 def main():
@@ -229,11 +232,13 @@ def main():
     keys = queue.Queue(maxsize=4)
 
     def put_lines():
-        for line in range(1000):
-            keys.put(pool.put(1, f"line {line}".encode()))
-        keys.put(None)
+        try:
+            for line in range(1000):
+                keys.put(pool.put(1, f"line {line}".encode()))
+        finally:
+            keys.put(None)
 
-    writer = threading.Thread(target=put_lines)
+    writer = threading.Thread(target=put_lines, daemon=True)
     writer.start()
     for line, key in enumerate(iter(keys.get, None)):
         text = pool.read(0, key, lambda view: str(view, "utf-8"))

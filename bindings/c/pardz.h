@@ -8,10 +8,10 @@
  * libpardz.a and libpardz.so have these calls, and libpoolffi.a hasn't; so it is with owned references (pardz_own and its like), which
  * go to any thread and outlive the slot of their pool.
  *
- * No call locks anything or waits for another thread, unless the heap does, and but for pardz_await_put and its like: pardz_open,
- * pardz_attach, pardz_create where it opens a page, pardz_append, pardz_room, pardz_put, pardz_pool_put and pardz_own take memory, and
- * pardz_close, pardz_detach, an open that is refused, whoever lets go last of a place that is used up, pardz_disown and a call by a lane
- * that pardz_disown has told of a reference give it back.
+ * No call but pardz_await_put and its like locks anything or waits for another thread, unless the heap does so when memory is taken or
+ * given back. Memory is taken by pardz_open, pardz_attach, pardz_create where it opens a page, pardz_append, pardz_room, pardz_put,
+ * pardz_pool_put and pardz_own. It is given back by pardz_close, pardz_detach, an open or attach that is refused, whoever lets go last of
+ * a place that is used up, pardz_disown, and a call by a lane that pardz_disown has told of a reference.
  *
  * Link with heap.c and one of two libraries, whose calls do the same: libpoolffi.a, which is proved up to these calls, for x86-64 of
  * level 2 (x86-64-v2) and ELF; or libpardz.a or libpardz.so, which cargo builds, and which are made from the proved sources and not
@@ -40,7 +40,7 @@
  * - PARDZ_MEMORY of pardz_put and pardz_pool_put: a page may be open, and a place have used up its next key (if that was its last, it
  *   is retired).
  * - PARDZ_MEMORY of pardz_own: where the key was cleared meanwhile, the call may have been the last to let go of it.
- * - PARDZ_SHARED of pardz_close and pardz_detach: the slot may be empty, and the pool then keeps its memory.
+ * - PARDZ_SHARED of pardz_close: the slot may be empty, and the pool then keeps its memory.
  * - pardz_close_all: what it joined before it was refused is joined.
  * - pardz_put_several and its like: what was done before is done, and told.
  *
@@ -397,9 +397,10 @@ uint32_t pardz_pool_clear(const pardz_pool *pool, uint32_t from, uint64_t key);
 uint32_t pardz_pool_census(const pardz_pool *pool, pardz_census *census);
 
 /* Closes the pool, and empties the slot: as a pardz_close of all its lanes. References that are left end with it, and count as present
- * or marked. No call with the pool is under way: else PARDZ_BUSY, or PARDZ_SHARED. (Where owned references are left nothing looks for
- * calls. These stay, and what they refer to; they are counted too, and the last of them gives the pool's memory back.)
- * PARDZ_EMPTY_LANE, PARDZ_SHARED, PARDZ_BUSY. */
+ * or marked. Owned ones count too, but stay, with what they refer to; the last of them gives the pool's memory back. No call with the
+ * pool is under way, which is the caller's duty: PARDZ_BUSY tells only of one that has a lane just now, and of none where owned
+ * references are left.
+ * PARDZ_EMPTY_LANE, PARDZ_BUSY. */
 uint32_t pardz_detach(pardz_pool *pool, pardz_census *census);
 
 /* The same calls for who may wait: they try again, from the next lane on, until a lane serves them. They answer each other code.

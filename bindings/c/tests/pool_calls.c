@@ -8,7 +8,7 @@
 
 enum call { ATTACH, PUT, GET, RELEASE, CLEAR, CENSUS, DETACH, OWN, OWN_AGAIN, OWNED_BYTES, DISOWN, CALLS };
 
-/* The codes that each call can answer, as pardz.h has them; but for what a detach answers while calls are under way. */
+/* The codes that each call can answer, as pardz.h has them. */
 static const uint32_t ALL[CALLS] = {
     [ATTACH] = BIT(OK) | BIT(MEMORY) | BIT(FULL_LANE) | BIT(SHAPE),
     [PUT] = BIT(OK) | BIT(MEMORY) | BIT(EMPTY_LANE) | BIT(FULL) | BIT(BUSY),
