@@ -276,7 +276,8 @@ uint32_t pardz_release(pardz_lane *lane, uint64_t key);
 uint32_t pardz_clear(pardz_lane *lane, uint64_t key);
 
 /* Tells the first `count` of the numbers of pardz_stats, in its order; numbers behind those that the library knows stay as they were.
- * It makes no step, and other lanes may be in calls. It looks at each place of an open page where more than nine are asked for.
+ * It makes no step, and other lanes may be in calls: of a lane that publishes a filling meanwhile this may count as free, or a free place
+ * as filling. It looks at each place of an open page where more than nine are asked for.
  * PARDZ_EMPTY_LANE. */
 uint32_t pardz_numbers(pardz_lane *lane, uint32_t *numbers, size_t count);
 

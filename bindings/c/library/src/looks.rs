@@ -57,7 +57,8 @@ impl Shared {
         self.told.iter().map(opened).sum()
     }
 
-    /// What the places are now, each at some moment of the call: what a close would count where nobody calls meanwhile.
+    /// What the places are now, each at some moment of the call: what a close would count where nobody calls meanwhile. (A place that is free
+    /// and one that is filled have equal words, and how many a lane fills is told apart: while it publishes, one may be taken for the other.)
     pub(crate) fn census(&self) -> Census {
         let mut census = Census {
             free: 0,
