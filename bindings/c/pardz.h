@@ -22,11 +22,12 @@
  * - A lane is in one call at a time. It may go from thread to thread, where a lock, the start or the join of a thread, or a
  *   sequentially consistent atomic stands between the calls of one thread and those of the next. Two threads that call at once
  *   need two lanes.
- * - A slot (pardz_lane) is PARDZ_EMPTY before pardz_open. It may be moved by a plain copy, if the old copy isn't used again;
- *   nothing else writes to it or makes one up. Slots of threads that run at once best stand 64 bytes apart. So it is with a pool's
- *   slot (pardz_pool) and pardz_attach; many threads may be in calls with it at once, but in none while it is attached or detached:
- *   a lock, the start or join of a thread, or such an atomic stands between. So it is also with the slot of an owned reference
- *   (pardz_owned), pardz_own or pardz_own_again, and pardz_disown.
+ * - A slot (pardz_lane, pardz_pool or pardz_owned) is PARDZ_EMPTY before pardz_open, pardz_attach, pardz_own or pardz_own_again fills
+ *   it. It may be moved by a plain copy, if the old copy isn't used again; nothing else writes to it or makes one up. Lanes' slots of
+ *   threads that run at once best stand 64 bytes apart.
+ * - Many threads may be in calls with a pool's slot at once, but in none while it is attached or detached: a lock, the start or join
+ *   of a thread, or such an atomic stands between. So it is with the slot of an owned reference and the calls that fill and empty it
+ *   (pardz_own, pardz_own_again and pardz_disown).
  * - A pointer that a call is given points to so much memory as the call reads or writes, for the time of the call, and to no slot
  *   and nothing else that the call writes: the slots of a join are two. It is never NULL, but for `bytes` where `len` is 0, and
  *   for `lanes` and `numbers` where `count` is 0.
