@@ -343,7 +343,7 @@ static inline uint32_t pardz_release_several(pardz_lane *lane, const uint64_t *k
 
 /* The end: each lane but lane 0 is joined into lane 0, the last one first, then the one before it. Its slot is then empty. What it
  * still fills is given up; what it still refers to stays until the close, and counts as present or marked. Lane 0 is joined into
- * none, and no lane into itself: PARDZ_LANES.
+ * none: PARDZ_LANES.
  * PARDZ_EMPTY_LANE, PARDZ_OTHER_POOL, PARDZ_LANES. */
 uint32_t pardz_join(pardz_lane *into, pardz_lane *lane);
 

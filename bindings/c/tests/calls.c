@@ -486,8 +486,7 @@ static void ends(void) {
     EXPECT(CLOSE, LANES, pardz_close(&lanes[1], &census));
     EXPECT(JOIN, LANES, pardz_join(&lanes[0], &lanes[1]));
     EXPECT(JOIN, LANES, pardz_join(&lanes[1], &lanes[2]));
-    for (int lane = 0; lane < 3; lane++)
-        EXPECT(JOIN, LANES, pardz_join(&lanes[lane], &lanes[lane]));
+    EXPECT(JOIN, LANES, pardz_join(&lanes[1], &lanes[0]));
     EXPECT(JOIN, OTHER_POOL, pardz_join(&lanes[0], &others[2]));
     EXPECT(JOIN, OTHER_POOL, pardz_join(&others[0], &lanes[2]));
     uint64_t left = 0, kept = put(&lanes[2], "referred to");
@@ -518,7 +517,6 @@ static void ends_alone(void) {
     pardz_lane lane = PARDZ_EMPTY;
     pardz_census census;
     EXPECT(OPEN, OK, pardz_open(&one, &lane, 1));
-    EXPECT(JOIN, LANES, pardz_join(&lane, &lane));
     EXPECT(CLOSE, OK, pardz_close(&lane, &census));
     CHECK(heap_blocks == 0);
 }
