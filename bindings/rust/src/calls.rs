@@ -14,7 +14,7 @@ use crate::reference::{OwnedRef, PoolRef};
 /// and closures, and while the thread ends.
 ///
 /// A pool of [`open`](Pool::open) has a lane more than its shape, which is shared: so no call is refused where all lanes are in hand. Its
-/// places are counted as its pages are opened. From 8 lanes on, more are shared as these calls need them: a quarter of all.
+/// places are counted as its pages are opened. If its shape has 7 lanes or more, more are shared as these calls need them: a quarter of all.
 ///
 /// A pool of 64 lanes has none more. Where all 64 are in hand, a create answers [`CreateError::NoLane`], and a get or a clear panics; where
 /// one is at home, it is shared from then on.
