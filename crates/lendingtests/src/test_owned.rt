@@ -190,3 +190,21 @@ fn an_owner_of_another_lane_comes_back(rt: HostRuntime) -> Result<(), Fail> {
     assert!(rt; one.outstanding() == 0 && two.outstanding() == 0);
     Ok(())
 }
+
+#[test]
+fn all_that_were_dropped_end_at_once(rt: HostRuntime) -> Result<(), Fail> {
+    let alloc = rt.alloc();
+    let mut opened = opened(&rt, alloc);
+    let lane = taken(&rt, &mut opened, 0);
+    let mut other = taken(&rt, &mut opened, 1);
+    let pool = &opened.pool;
+    let mut lender = lender_of(&rt, alloc, lane);
+    for word in [b"one", b"two"] {
+        let key = put(&rt, pool, &mut other, word);
+        drop(own(&rt, pool, &mut lender, key));
+    }
+    assert!(rt; lender.outstanding() == 2);
+    assert!(rt; lender.sweep(pool) == 2);
+    assert!(rt; lender.outstanding() == 0 && lender.close(pool).is_ok());
+    Ok(())
+}
