@@ -41,3 +41,6 @@ spare_sync = search (unboxed_crossing.the_sync, keeper_send, sendable, crosses) 
 
 pub store_sync : IsSync (store.the_row buffer.the_row clears.ghosts)
 store_sync = search (counted_crossing.the_sync, counted_crossing.the_send, pool_send, pool_sync, spare_send, spare_sync, sendable, crosses) depth 80
+
+pub store_send : IsSend (store.the_row buffer.the_row clears.ghosts)
+store_send = search (counted_crossing.the_send, pool_send, spare_send, spare_sync, sendable, crosses) depth 80

@@ -1,3 +1,4 @@
 mod Counting
 pub mod Crossing
 mod Making
+mod Opened

@@ -15,7 +15,7 @@ use slotcell::Clear;
 use std::alloc::Global;
 
 impl<T: Clear + Drop> Store<T> {
-    ghost use Rattle.std.specs.Prelude.{◌≡◌, List, Contains, IfOk, IfErr, IfSome};
+    ghost use Rattle.std.specs.Prelude.{◌≡◌, List, [], Contains, IfOk, IfErr, IfSome};
     ghost use mathlib.Core.List.{IsPrefix};
     ghost use Rattle.shardpool.specs.Tokens.{LaneOf};
     ghost use Rattle.shardpool.specs.Lanes.{Issued};
@@ -25,22 +25,30 @@ impl<T: Clear + Drop> Store<T> {
     ///
     /// # Errors
     ///
-    /// The store and the note, where memory was refused for a row of the lanes. None where a lane isn't there, though no
-    /// call has one, which doesn't happen: the others are then dropped.
+    /// The store and the note, where memory was refused for a row of the lanes. None where `close_in` answers none.
     pub fn close(self, alloc: Global, told: Note<T>) -> Result<Census, Option<(Store<T>, Note<T>)>>
         requires { Issued self.pool told }
         ensures closes { IfOk result (λ census. (lanes : List LaneOf) × AreLanes self.pool lanes × Closes self.pool lanes census
             × ((lane : LaneOf) × Contains lanes lane × IsPrefix told.book.seen lane.book.seen)) }
         ensures memory { IfErr result (λ back. IfSome back (λ kept. (kept.0 ≡ self) × (kept.1 ≡ told))) }
     {
-        let Ok(row) = Vec::with_capacity(alloc, self.places.len()) else {
-            return Err(Some((self, told)));
-        };
-        let visit = match self.visit(0, told) {
-            Ok(visit) => visit,
-            Err(told) => return Err(Some((self, told))),
-        };
-        close_with(self, visit, row).ok_or(None)
+        match Vec::with_capacity(alloc, self.places.len()) {
+            Ok(row) => self.close_in(row, told).ok_or(None),
+            Err(_refused) => Err(Some((self, told))),
+        }
+    }
+
+    /// Closes the pool as `close` does, with its lanes in this empty row: if it has room for them, no memory is taken. None
+    /// where it hadn't and memory was refused, and where a lane isn't there, though no call has one, which doesn't happen:
+    /// the lanes are then dropped.
+    pub fn close_in(self, row: Vec<Lane<T>>, told: Note<T>) -> Option<Census>
+        requires told { Issued self.pool told }
+        requires row { row.items ≡ [] }
+        ensures { IfSome result (λ census. (lanes : List LaneOf) × AreLanes self.pool lanes × Closes self.pool lanes census
+            × ((lane : LaneOf) × Contains lanes lane × IsPrefix told.book.seen lane.book.seen)) }
+    {
+        let visit = self.visit(0, told).ok()?;
+        close_with(self, visit, row)
     }
 }
 
@@ -73,9 +81,24 @@ fn gathered<T: Clear + Drop>(
     requires places { All (λ tag. tag ≡ pool.now) places.items }
     ensures { IfSome result (λ lanes. Contains lanes.items lane × All (λ other. Owns pool.now other) lanes.items) }
 {
-    let _ = pool;
     let mut lanes = row;
     lanes.push(lane).ok()?;
+    taken_out(pool, lanes, places)
+}
+
+/// These lanes, and behind them those that lie in these places. None where the row has no room for all.
+pub(crate) fn taken_out<T: Clear + Drop>(
+    pool: &Pool<T>,
+    row: Vec<Lane<T>>,
+    places: Vec<Counted<Option<Spare<T>>>>,
+) -> Option<Vec<Lane<T>>>
+    requires row { All (λ other. Owns pool.now other) row.items }
+    requires places { All (λ tag. tag ≡ pool.now) places.items }
+    ensures owned { IfSome result (λ lanes. All (λ other. Owns pool.now other) lanes.items) }
+    ensures kept { IfSome result (λ lanes. (lane : LaneOf) → Contains row.items lane → Contains lanes.items lane) }
+{
+    let _ = pool;
+    let mut lanes = row;
     for place in places {
         if let Some(spare) = place.into_inner() {
             lanes

@@ -16,17 +16,20 @@ pub struct Keeper<T: Clear> {
 }
 
 impl<T: Clear + Drop> Keeper<T> {
-    ghost use Rattle.std.specs.Prelude.{◌≡◌, IfSome};
+    ghost use Rattle.std.specs.Prelude.{◌≡◌, IfOk, IfErr};
     ghost use Rattle.shardpool.specs.Lanes.{refs};
 
-    /// A lane that has no reference, which keeps no filling. None where memory was refused.
-    pub(crate) fn new(alloc: Global, lane: Lane<T>) -> Option<Keeper<T>>
+    /// A lane that has no reference, which keeps no filling. Where memory was refused the lane comes back.
+    pub(crate) fn new(alloc: Global, lane: Lane<T>) -> Result<Keeper<T>, Lane<T>>
         requires { refs lane ≡ 0 }
-        ensures { IfSome result (λ keeper. keeper.lane ≡ lane) }
+        ensures ok { IfOk result (λ keeper. keeper.lane ≡ lane) }
+        ensures err { IfErr result (λ back. back ≡ lane) }
     {
-        let lane = CountingLane::new(alloc, lane).ok()?;
-        let fillings = Fillings::new(alloc)?;
-        Some(Keeper { lane, fillings })
+        let Some(fillings) = Fillings::new(alloc) else {
+            return Err(lane);
+        };
+        let lane = CountingLane::new(alloc, lane)?;
+        Ok(Keeper { lane, fillings })
     }
 
     /// The lane, without what it keeps: a filling is left.

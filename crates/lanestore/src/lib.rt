@@ -7,6 +7,7 @@ mod filling_calls;
 mod keeper;
 mod kept;
 mod lent;
+mod opening;
 mod place;
 mod refusal;
 mod store;

@@ -1,16 +1,14 @@
 //! A pool with its lanes in places.
 ghost use Rattle.std.specs.Prelude.{◌≡◌, ◌<◌, ◌≤◌, All, IfSome, length};
 ghost use Rattle.shardpool.specs.Lanes.{Owns};
-ghost use Rattle.shardpool.specs.Opened.{AreFirstLanes};
-ghost use Rattle.lanestore.specs.Visits.{IsNew};
 
-use crate::keeper::Keeper;
+use crate::opening::stored;
 use crate::place::{Spare, give, take};
 use crate::refusal::Refusal;
 use crate::visit::Visit;
 use counted_slot::Counted;
 use keybits::{Shape, place_of, shard_of};
-use shardpool::{Lane, Note, OpenFault, Pool, open, open_wide};
+use shardpool::{Note, OpenFault, Pool, open, open_wide};
 use slotcell::Clear;
 use std::alloc::Global;
 
@@ -41,8 +39,7 @@ impl<T: Clear + Drop> Store<T> {
     ///
     /// # Errors
     ///
-    /// The first fault of the shape; and the want of memory, for a shape within its limits alone. What of the pool was
-    /// made by then is left.
+    /// The first fault of the shape; and the want of memory, for a shape within its limits alone.
     pub fn open(alloc: Global, shape: Shape) -> Result<Store<T>, OpenFault>
         ensures opened { IfOk result (λ store. store.pool.shape ≡ shape) }
         ensures faults { (fault : Fault) → IsErrOf result (faults.Shape fault) ↔ IsFirstFault shape fault }
@@ -83,7 +80,7 @@ impl<T: Clear + Drop> Store<T> {
     pub fn enter(&self, from: u32) -> Option<Note<T>>
         ensures { IfSome result (λ note. Issued self.now.pool note) }
     {
-        let visit = self.take_any(from as usize)?;
+        let visit = self.take_any(from)?;
         Some(self.leave(visit))
     }
 
@@ -95,14 +92,9 @@ impl<T: Clear + Drop> Store<T> {
         ensures heard { IfOk result (λ visit. IsPrefix told.book.seen (lane_of visit).book.seen) }
         ensures busy { IfErr result (λ back. back ≡ told) }
     {
-        let Some(mut visit) = self.take_at(number as usize) else {
+        let Some(mut visit) = self.take_at(number) else {
             return Err(told);
         };
-        if visit.number() != number {
-            // (Never: each lane lies in the place of its number.)
-            self.give_back(visit);
-            return Err(told);
-        }
         visit.hear(&self.pool, told);
         Ok(visit)
     }
@@ -115,7 +107,7 @@ impl<T: Clear + Drop> Store<T> {
         ensures heard { IfOk result (λ visit. IsPrefix told.book.seen (lane_of visit).book.seen) }
         ensures busy { IfErr result (λ back. back ≡ told) }
     {
-        match self.take_any(from as usize) {
+        match self.take_any(from) {
             Some(mut visit) => {
                 visit.hear(&self.pool, told);
                 Ok(visit)
@@ -162,65 +154,44 @@ impl<T: Clear + Drop> Store<T> {
         give(&self.places[at], &self.pool, visit);
     }
 
-    /// The lane in this place, where there is one.
-    fn take_at(&self, at: usize) -> Option<Visit<T>>
-        ensures { IfSome result (λ visit. Owns self.now.pool (lane_of visit)) }
+    /// Takes the lane of this number, which hears nothing yet. None where another call has it.
+    pub fn take_at(&self, number: u32) -> Option<Visit<T>>
+        ensures { IfSome result (λ visit. Owns self.now.pool (lane_of visit) × ((lane_of visit).number ≡ number)) }
     {
+        let at = number as usize;
         if at >= self.places.len() {
             return None;
         }
-        take(&self.places[at], &self.pool)
+        let visit = take(&self.places[at], &self.pool)?;
+        if visit.number() != number {
+            // (Never: each lane lies in the place of its number.)
+            self.give_back(visit);
+            return None;
+        }
+        Some(visit)
     }
 
-    /// The first lane that nobody has, from this place on and then from the first.
-    fn take_any(&self, from: usize) -> Option<Visit<T>>
+    /// Takes a lane that nobody has, from this number on and then from the first. It hears nothing yet. None where all are
+    /// had.
+    pub fn take_any(&self, from: u32) -> Option<Visit<T>>
         ensures { IfSome result (λ visit. Owns self.now.pool (lane_of visit)) }
     {
-        match self.take_between(from, self.places.len()) {
+        let lanes = self.pool.shape().lanes;
+        match self.take_between(from, lanes) {
             Some(visit) => Some(visit),
-            None => self.take_between(0, from),
+            None => self.take_between(0, from.min(lanes)),
         }
     }
 
-    /// The first lane that nobody has, from one place up to another.
-    fn take_between(&self, low: usize, high: usize) -> Option<Visit<T>>
+    /// The first lane that nobody has, from one number up to another.
+    fn take_between(&self, low: u32, high: u32) -> Option<Visit<T>>
         ensures { IfSome result (λ visit. Owns self.now.pool (lane_of visit)) }
     {
-        for at in low..high {
-            if let Some(visit) = self.take_at(at) {
+        for number in low..high {
+            if let Some(visit) = self.take_at(number) {
                 return Some(visit);
             }
         }
         None
     }
-}
-
-/// The pool with its lanes in places. None where memory was refused.
-fn stored<T: Clear + Drop>(alloc: Global, pool: Pool<T>, lanes: Vec<Lane<T>>) -> Option<Store<T>>
-    requires { AreFirstLanes pool lanes.items }
-    ensures { IfSome result (λ store. store.pool ≡ pool) }
-{
-    let places = places_of(alloc, &pool, lanes)?;
-    if places.len() != pool.shape().lanes as usize {
-        return None;
-    }
-    Some(Store { pool, places })
-}
-
-/// A place for each of these lanes, in which it is. None where memory was refused.
-fn places_of<T: Clear + Drop>(
-    alloc: Global,
-    pool: &Pool<T>,
-    lanes: Vec<Lane<T>>,
-) -> Option<Vec<Counted<Option<Spare<T>>>>>
-    requires { All (λ lane. IsNew pool.now lane) lanes.items }
-    ensures { IfSome result (λ places. All (λ tag. tag ≡ pool.now) places.items) }
-{
-    let mut places = Vec::with_capacity(alloc, lanes.len()).ok()?;
-    for lane in lanes {
-        let keeper = Box::new(alloc, Keeper::new(alloc, lane)?).ok()?;
-        let place = Counted::new(Some(Spare::new(keeper)), pool);
-        places.push(place).ok()?;
-    }
-    Some(places)
 }

@@ -1,7 +1,7 @@
 //! A lane of a store that a caller has for a while.
 use crate::keeper::Keeper;
 use crate::lent::Lent;
-use shardpool::{CreateFault, MOST_REFERENCES, Note, Pool};
+use shardpool::{CreateFault, Filling, MOST_REFERENCES, Note, Pool};
 use slotcell::Clear;
 use std::mem;
 
@@ -12,14 +12,14 @@ pub struct Visit<T: Clear> {
 }
 
 impl<T: Clear + Drop> Visit<T> {
-    ghost use Rattle.std.specs.Prelude.{◌≡◌, ◌≤◌, ◌<◌, ◌↔◌, ℕ, None, length, IsTrue, IsNone, IfSome, MatchOption, option_map};
+    ghost use Rattle.std.specs.Prelude.{◌≡◌, ◌≤◌, ◌<◌, ◌↔◌, ℕ, None, length, IsTrue, IsNone, IfOk, IfSome, MatchOption, option_map};
     ghost use Rattle.std.specs.Fn.{FnOnceReturnsAt, FnOnceReturnsAtMut};
     ghost use mathlib.Core.List.{IsPrefix};
     ghost use Rattle.seqpool.specs.Histories.{PublishedAt};
     ghost use Rattle.steplaws.specs.Facts.{most_references};
     ghost use Rattle.shardpool.specs.Tokens.{FillingOf};
-    ghost use Rattle.shardpool.specs.Lanes.{Owns, Issued, holds, refs};
-    ghost use Rattle.shardpool.specs.AfterCalls.{AfterReleaseKey, AfterClear};
+    ghost use Rattle.shardpool.specs.Lanes.{Owns, Issued, Made, holds, refs};
+    ghost use Rattle.shardpool.specs.AfterCalls.{AfterCreate, AfterPublish, AfterReleaseKey, AfterClear};
     ghost use Rattle.lanestore.specs.declared.kept.TheConstants.{MOST_FILLINGS};
     ghost use Rattle.lanestore.specs.Fillings.{HaveNot, Turn};
     ghost use Rattle.lanestore.specs.Visits.{lane_of, kept_of, keeper_of, Hears, Tells, Lends, Creates, Publishes, Downgrades, Puts};
@@ -171,6 +171,27 @@ impl<T: Clear + Drop> Visit<T> {
         Some(Lent { lane, key })
     }
 
+    /// As `Pool::create`: a place that the caller fills while he has the lane, which doesn't keep it.
+    pub fn begin(&mut self, pool: &Pool<T>) -> Result<Filling<T>, CreateFault>
+        requires owns { Owns pool.now (lane_of self.old) }
+        ensures creates { AfterCreate T.content T.room pool.now (lane_of self.old) (lane_of self.new) result }
+        ensures apart { IfOk result (λ filling. HaveNot filling.key (kept_of self.old)) }
+        ensures kept { kept_of self.new ≡ kept_of self.old }
+    {
+        self.keeper.lane.create(pool)
+    }
+
+    /// As `Pool::publish`, of a filling that the lane doesn't keep.
+    pub fn finish(&mut self, pool: &Pool<T>, filling: Filling<T>) -> u64
+        requires owns { Owns pool.now (lane_of self.old) }
+        requires made { Made (lane_of self.old) filling }
+        requires apart { HaveNot filling.key (kept_of self.old) }
+        ensures publishes { AfterPublish T.content T.room pool.now filling (lane_of self.old) (lane_of self.new) result }
+        ensures kept { kept_of self.new ≡ kept_of self.old }
+    {
+        self.keeper.lane.publish(pool, filling)
+    }
+
     /// Publishes this object in a place of its own: a create and a publish. Answers the key. The object of the place,
     /// which is empty, comes back for it.
     ///
@@ -182,8 +203,8 @@ impl<T: Clear + Drop> Visit<T> {
         ensures puts { Puts T.content T.room pool.now object.old object.new (lane_of self.old) (lane_of self.new) result }
         ensures kept { kept_of self.new ≡ kept_of self.old }
     {
-        let mut filling = self.keeper.lane.create(pool)?;
+        let mut filling = self.begin(pool)?;
         mem::swap(filling.value_mut(), object);
-        Ok(self.keeper.lane.publish(pool, filling))
+        Ok(self.finish(pool, filling))
     }
 }

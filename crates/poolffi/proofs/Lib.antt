@@ -1,2 +1,3 @@
 mod Emptiness
 mod Lowering
+mod Pools

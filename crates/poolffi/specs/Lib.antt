@@ -1,2 +1,3 @@
+pub mod Attached
 pub mod Codes
 pub mod Exports

@@ -7,6 +7,7 @@ ghost use Rattle.std.specs.Prelude.{◌≡◌};
 ghost use Rattle.poolhandle.specs.Calls.{Appends, Rooms, Wrote, Publishes, Downgrades, Leaves, Releases, Clears};
 ghost use Rattle.poolffi.specs.Exports.{Calls, WritesAtOk, CreatesKey, PutsKey, Lends, Reads, TellsNumbers, JoinsSlots, ClosesSlot, AreCounts, Opens, shape_of};
 
+mod attach;
 mod lanes;
 mod slots;
 
@@ -52,14 +53,20 @@ pub extern "C" fn pardz_open_numbered(
 ) -> u32
     ensures { Opens (shape_of shape.now) number slots.old slots.new result }
 {
-    let shape = Shape {
+    open_slots(alloc, shape_of(shape), number, slots)
+}
+
+/// The shape that a foreign one is.
+fn shape_of(shape: &PoolShape) -> Shape
+    ensures { result ≡ shape_of shape.now }
+{
+    Shape {
         lanes: shape.lanes,
         first_page: shape.first_page,
         pages: shape.pages,
         last_generation: shape.last_generation,
         tag: shape.tag,
-    };
-    open_slots(alloc, shape, number, slots)
+    }
 }
 
 /// A place to be filled, by the key under which it will be published.

@@ -3,7 +3,7 @@ mod Counting
 mod Keeping
 mod Owned
 mod References
-mod SlotFields
-mod Steps
+pub mod SlotFields
+pub mod Steps
 mod Turning
-mod UnboxedFields
+pub mod UnboxedFields
