@@ -5,13 +5,14 @@
  *
  * There are two ways. pardz_open gives each thread a lane of its own. pardz_attach opens a pool that any number of threads call, each
  * call by a lane that it has for that call alone: pardz_pool_put and its like, which answer PARDZ_BUSY while others have all lanes.
- * libpardz.a and libpardz.so have these calls, and libpoolffi.a hasn't; so it is with owned references (pardz_own and its like), which
- * go to any thread and outlive the slot of their pool.
+ * With libpoolffi.a each thread calls by a slot of its own, which pardz_share fills; with libpardz.a and libpardz.so threads may also
+ * call by one slot. These two alone have pardz_pool_census, and owned references (pardz_own and its like), which go to any thread and
+ * outlive the slot of their pool.
  *
  * No call but pardz_await_put and its like locks anything or waits for another thread, unless the heap does so when memory is taken or
- * given back. Memory is taken by pardz_open, pardz_attach, pardz_create where it opens a page, pardz_append, pardz_room, pardz_put,
- * pardz_pool_put and pardz_own. It is given back by pardz_close, pardz_detach, an open or attach that is refused, whoever lets go last of
- * a place that is used up, pardz_disown, and a call by a lane that pardz_disown has told of a reference.
+ * given back. Memory is taken by pardz_open, pardz_attach, pardz_share, pardz_create where it opens a page, pardz_append, pardz_room,
+ * pardz_put, pardz_pool_put and pardz_own. It is given back by pardz_close, pardz_unshare, pardz_detach, an open or attach that is
+ * refused, whoever lets go last of a place that is used up, pardz_disown, and a call by a lane that pardz_disown has told of a reference.
  *
  * Link with heap.c and one of two libraries, whose calls do the same: libpoolffi.a, which is proved up to these calls, for x86-64 of
  * level 2 (x86-64-v2) and ELF; or libpardz.a or libpardz.so, which cargo builds, and which are made from the proved sources and not
@@ -22,15 +23,16 @@
  * - A lane is in one call at a time. It may go from thread to thread, where a lock, the start or the join of a thread, or a
  *   sequentially consistent atomic stands between the calls of one thread and those of the next. Two threads that call at once
  *   need two lanes.
- * - A slot (pardz_lane, pardz_pool or pardz_owned) is PARDZ_EMPTY before pardz_open, pardz_attach, pardz_own or pardz_own_again fills
- *   it. It may be moved by a plain copy, if the old copy isn't used again; nothing else writes to it or makes one up. Lanes' slots of
- *   threads that run at once best stand 64 bytes apart.
- * - Many threads may be in calls with a pool's slot at once, but in none while it is attached or detached: a lock, the start or join
- *   of a thread, or such an atomic stands between. So it is with the slot of an owned reference and the calls that fill and empty it
- *   (pardz_own, pardz_own_again and pardz_disown).
+ * - A slot (pardz_lane, pardz_pool or pardz_owned) is PARDZ_EMPTY before pardz_open, pardz_attach, pardz_share, pardz_own or
+ *   pardz_own_again fills it. It may be moved by a plain copy, if the old copy isn't used again; nothing else writes to it or makes one
+ *   up. Slots of threads that run at once best stand 64 bytes apart.
+ * - With libpoolffi.a a pool's slot is in one call at a time, as a lane is. With the other libraries many threads may be in calls with it
+ *   at once, but in none while it is attached, unshared or detached: a lock, the start or join of a thread, or such an atomic stands
+ *   between. So it is with the slot of an owned reference and the calls that fill and empty it (pardz_own, pardz_own_again and
+ *   pardz_disown).
  * - A pointer that a call is given points to so much memory as the call reads or writes, for the time of the call, and to no slot
- *   and nothing else that the call writes: the slots of a join are two. It is never NULL, but for `bytes` where `len` is 0, and
- *   for `lanes` and `numbers` where `count` is 0.
+ *   and nothing else that the call writes: the slots of a join are two, and so are those of a share. It is never NULL, but for
+ *   `bytes` where `len` is 0, and for `lanes` and `numbers` where `count` is 0.
  * - Bytes that were lent are read or written where, and as long as, the call that lent them says.
  * - No call is made from a signal handler, or in the forked child of a process with threads; none is left by a jump, an exception
  *   of the heap or an asynchronous cancellation.
@@ -141,7 +143,7 @@ enum {
     PARDZ_OK = 0,
     PARDZ_MEMORY = 1,       /* memory was refused */
     PARDZ_EMPTY_LANE = 2,   /* the slot has no lane (or no pool, or no owned reference): it never had, or it ended */
-    PARDZ_FULL_LANE = 3,    /* open, attach, own: a slot already has a lane (or a pool, or an owned reference) */
+    PARDZ_FULL_LANE = 3,    /* open, attach, share, own: a slot already has a lane (or a pool, or an owned reference) */
     PARDZ_FULL = 4,         /* create, put: no place of the lane is free */
     PARDZ_FILLINGS = 5,     /* create: the lane already has 16 fillings */
     PARDZ_NO_FILLING = 6,   /* the lane has no filling under this key */
@@ -152,8 +154,9 @@ enum {
     PARDZ_LANES = 11,       /* open: count isn't the shape's number of lanes; join, close: not the lane whose turn it is */
     PARDZ_SHAPE = 12,       /* open, attach: the shape is outside its limits */
     PARDZ_ROOM = 13,        /* wrote: more bytes than the last pardz_room gave */
-    PARDZ_SHARED = 14,      /* close: all lanes were joined, but some into another pool that was opened under the same number */
-    PARDZ_BUSY = 15         /* pardz_pool_put and its like: other calls have all lanes that could serve this one */
+    PARDZ_SHARED = 14,      /* close: all lanes were joined, but some into another pool that was opened under the same number;
+                               detach: another slot has the pool too */
+    PARDZ_BUSY = 15         /* pardz_pool_put and its like, share: other calls have all lanes that could serve this one */
 };
 
 /* What a code says, for a message. It is never NULL: a number that is no code has a text too. */
@@ -173,7 +176,7 @@ static inline const char *pardz_strerror(uint32_t code) {
         "not the number of lanes, or not the lane whose turn it is",
         "the shape is outside its limits",
         "more bytes than the room has",
-        "another pool was opened under the same number",
+        "another slot has the pool, or another pool was opened under the same number",
         "other calls have all lanes",
     };
     return code < sizeof texts / sizeof *texts ? texts[code] : "no code of pardz";
@@ -375,6 +378,16 @@ static inline uint32_t pardz_close_all(pardz_lane *lanes, size_t count, pardz_ce
  * PARDZ_MEMORY, PARDZ_FULL_LANE, PARDZ_SHAPE. */
 uint32_t pardz_attach(const pardz_shape *shape, pardz_pool *pool);
 
+/* Another empty slot, for another thread, has the pool of a slot too. What is told of the calls of one slot, as that it finds what it put,
+ * holds of the new one for what was done by the old one before. With libpoolffi.a it takes memory, and a lane for its own time.
+ * PARDZ_MEMORY, PARDZ_EMPTY_LANE, PARDZ_FULL_LANE, PARDZ_BUSY. */
+uint32_t pardz_share(const pardz_pool *pool, pardz_pool *other);
+
+/* Empties a slot whose pool another has too. What it got is released by any other. The last slot of a pool is detached in its place: a pool
+ * that is unshared by all may keep its memory.
+ * PARDZ_EMPTY_LANE. */
+uint32_t pardz_unshare(pardz_pool *pool);
+
 /* Publishes bytes in a place of their own, and answers the key, as pardz_put. PARDZ_FULL tells of the places of the lane that served it
  * alone: another `from` may find one.
  * PARDZ_MEMORY, PARDZ_EMPTY_LANE, PARDZ_FULL, PARDZ_BUSY. */
@@ -399,10 +412,10 @@ uint32_t pardz_pool_clear(const pardz_pool *pool, uint32_t from, uint64_t key);
 uint32_t pardz_pool_census(const pardz_pool *pool, pardz_census *census);
 
 /* Closes the pool, and empties the slot: as a pardz_close of all its lanes. References that are left end with it, and count as present
- * or marked. Owned ones count too, but stay, with what they refer to; the last of them gives the pool's memory back. No call with the
- * pool is under way, which is the caller's duty: PARDZ_BUSY tells only of one that has a lane just now, and of none where owned
- * references are left.
- * PARDZ_EMPTY_LANE, PARDZ_BUSY. */
+ * or marked. No other slot has the pool: else PARDZ_SHARED. Owned references count too, but stay, with what they refer to; the last of
+ * them gives the pool's memory back. No call with the pool is under way, which is the caller's duty: PARDZ_BUSY tells only of one that
+ * has a lane just now, and of none where owned references are left.
+ * PARDZ_EMPTY_LANE, PARDZ_SHARED, PARDZ_BUSY. */
 uint32_t pardz_detach(pardz_pool *pool, pardz_census *census);
 
 /* The same calls for who may wait: they try again, from the next lane on, until a lane serves them. They answer each other code.

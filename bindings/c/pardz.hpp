@@ -269,7 +269,7 @@ private:
     pardz_bytes bytes_ = {nullptr, 0};
 };
 
-/// A pool that any number of threads call at once. A call waits where others have all its lanes.
+/// A pool that any number of threads call at once, over libpardz.a or libpardz.so. A call waits where others have all its lanes.
 class shared_pool {
 public:
     explicit shared_pool(const pardz_shape &shape) { must(pardz_attach(&shape, &slot_)); }

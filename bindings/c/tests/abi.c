@@ -42,7 +42,7 @@ int main(void) {
         for (uint32_t other = 0; other <= count; other++)
             CHECK((strcmp(pardz_strerror(i), pardz_strerror(other)) == 0) == (i == other));
     }
-    CHECK(strcmp(pardz_strerror(PARDZ_SHARED), "another pool was opened under the same number") == 0);
+    CHECK(strcmp(pardz_strerror(PARDZ_SHARED), "another slot has the pool, or another pool was opened under the same number") == 0);
     CHECK(strcmp(pardz_code_name(count), "PARDZ_?") == 0 && strcmp(pardz_code_name(UINT32_MAX), "PARDZ_?") == 0);
     CHECK(strcmp(pardz_strerror(count), pardz_strerror(UINT32_MAX)) == 0);
     printf("abi: %u codes with their names\n", (unsigned)count);

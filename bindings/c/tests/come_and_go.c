@@ -1,5 +1,5 @@
-/* Threads that come and go over one pool, far more than it has lanes: each life puts, hands keys and references on, and reads, clears
- * and releases what others handed it. Nothing is wrong, missed or refused; where all lanes are had a thread waits.
+/* Threads that come and go over one pool, far more than it has lanes, each by a slot of its own: each life puts, hands keys and references
+ * on, and reads, clears and releases what others handed it. Nothing is wrong, missed or refused; where all lanes are had a thread waits.
  *
  * come_and_go ROUNDS LANES THREADS: so many rounds in all; lanes, 16 if it isn't said; threads at once, 200 if it isn't said. */
 #include "../pardz.h"
@@ -18,13 +18,13 @@ static _Atomic(pardz_lent *) lents[WAYS];
 static atomic_long cleared, busy;
 
 /* A reference to a key that must be there: at first without waiting. */
-static pardz_lent get(uint32_t from, uint64_t key) {
+static pardz_lent get(const pardz_pool *slot, uint32_t from, uint64_t key) {
     pardz_lent lent = { NULL, 0, 0, 0 };
-    uint32_t code = pardz_pool_get(&pool, from, key, &lent);
+    uint32_t code = pardz_pool_get(slot, from, key, &lent);
     if (code == PARDZ_BUSY) {
         atomic_fetch_add(&busy, 1);
         CHECK(lent.at == NULL && lent.key == 0);
-        code = pardz_await_get(&pool, from + 1, key, &lent);
+        code = pardz_await_get(slot, from + 1, key, &lent);
     }
     CHECK(code == PARDZ_OK && lent.key == key && lent.lane < shape.lanes);
     check_words(lent.at, lent.len);
@@ -32,39 +32,56 @@ static pardz_lent get(uint32_t from, uint64_t key) {
 }
 
 /* Reads the bytes of a reference once more, and gives it back. */
-static void let_go(pardz_lent *lent) {
+static void let_go(const pardz_pool *slot, pardz_lent *lent) {
     check_words(lent->at, lent->len);
-    CHECK(pardz_await_release(&pool, lent) == PARDZ_OK);
+    CHECK(pardz_await_release(slot, lent) == PARDZ_OK);
 }
 
 /* Takes over a key: it is there until it is cleared, and then for nobody new. */
-static void take(uint32_t from, uint64_t key) {
-    pardz_lent lent = get(from, key), none = lent;
-    CHECK(pardz_await_clear(&pool, from + 3, key) == PARDZ_OK);
+static void take(const pardz_pool *slot, uint32_t from, uint64_t key) {
+    pardz_lent lent = get(slot, from, key), none = lent;
+    CHECK(pardz_await_clear(slot, from + 3, key) == PARDZ_OK);
     atomic_fetch_add(&cleared, 1);
-    CHECK(pardz_await_get(&pool, from + 5, key, &none) == PARDZ_GONE);
-    CHECK(pardz_await_clear(&pool, from + 7, key) == PARDZ_GONE);
-    let_go(&lent);
+    CHECK(pardz_await_get(slot, from + 5, key, &none) == PARDZ_GONE);
+    CHECK(pardz_await_clear(slot, from + 7, key) == PARDZ_GONE);
+    let_go(slot, &lent);
 }
 
-static void one_round(uint64_t seed) {
+static void one_round(void *own_slot, uint64_t seed) {
+    const pardz_pool *slot = own_slot;
     struct words words;
     uint64_t key = 0;
     const uint32_t from = (uint32_t)seed;
     const size_t length = fill(&words, seed);
-    CHECK(pardz_await_put(&pool, from, (const uint8_t *)&words, length, &key) == PARDZ_OK);
+    CHECK(pardz_await_put(slot, from, (const uint8_t *)&words, length, &key) == PARDZ_OK);
     pardz_lent *own = malloc(sizeof *own);
     CHECK(own != NULL);
-    *own = get(from + 1, key);
+    *own = get(slot, from + 1, key);
     CHECK(own->len == length && memcmp(own->at, &words, length) == 0);
     const uint64_t other = atomic_exchange(&keys[mixed(seed) % WAYS], key);
     if (other != 0)
-        take(from + 2, other);
+        take(slot, from + 2, other);
     pardz_lent *theirs = atomic_exchange(&lents[mixed(seed + 1) % WAYS], own);
     if (theirs != NULL) {
-        let_go(theirs);
+        let_go(slot, theirs);
         free(theirs);
     }
+}
+
+/* A life's slot, which shares the pool. (Apart from those of others.) */
+static void *begin(void) {
+    pardz_pool *slot = calloc(1, 128);
+    uint32_t code;
+    CHECK(slot != NULL);
+    while ((code = pardz_share(&pool, slot)) == PARDZ_BUSY)
+        PARDZ_YIELD();
+    CHECK(code == PARDZ_OK && slot->full == 1);
+    return slot;
+}
+
+static void end(void *slot) {
+    CHECK(pardz_unshare(slot) == PARDZ_OK && ((pardz_pool *)slot)->full == 0);
+    free(slot);
 }
 
 int main(int argc, char **argv) {
@@ -76,10 +93,10 @@ int main(int argc, char **argv) {
     for (size_t way = 0; way < WAYS; way++) {
         uint64_t key = atomic_exchange(&keys[way], 0);
         if (key != 0)
-            take((uint32_t)way, key);
+            take(&pool, (uint32_t)way, key);
         pardz_lent *lent = atomic_exchange(&lents[way], NULL);
         if (lent != NULL) {
-            let_go(lent);
+            let_go(&pool, lent);
             CHECK(pardz_pool_release(&pool, lent) == PARDZ_NO_REFERENCE);
             free(lent);
         }

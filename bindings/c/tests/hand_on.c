@@ -70,7 +70,17 @@ static void attach_anew(struct attached *at) {
     atomic_fetch_add(&detached, 1);
 }
 
-static void one_round(uint64_t seed) {
+/* A life has nothing of its own. */
+static void *begin(void) {
+    return NULL;
+}
+
+static void end(void *own) {
+    (void)own;
+}
+
+static void one_round(void *own_life, uint64_t seed) {
+    (void)own_life;
     struct attached *at = &pools[seed % POOLS];
     pthread_rwlock_rdlock(&at->lock);
     pardz_owned *own = put_and_own(&at->pool, seed);

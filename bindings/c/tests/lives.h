@@ -44,32 +44,53 @@ static void check_words(const uint8_t *at, size_t len) {
     CHECK(fill(&words, seed) == len && memcmp(at, &words, len) == 0);
 }
 
-/* One round, with a number by which it draws; the test has it. */
-static void one_round(uint64_t seed);
+/* What a life has of its own, which begins and ends outside of its thread; and one round of it, with a number by which that draws. The
+ * test has these. */
+static void *begin(void);
+static void end(void *own);
+static void one_round(void *own, uint64_t seed);
 
-static void *live(void *born) {
-    uint64_t number = mixed((uint64_t)(uintptr_t)born * 2654435761u + 1);
+struct life {
+    pthread_t thread;
+    uint64_t number;
+    void *own;
+};
+
+static void *live(void *argument) {
+    const struct life *life = argument;
+    uint64_t number = mixed(life->number * 2654435761u + 1);
     for (int round = 0; round < LIFE && atomic_fetch_sub(&rounds_left, 1) > 0; round++)
-        one_round(number = mixed(number + (uint64_t)round + 1));
+        one_round(life->own, number = mixed(number + (uint64_t)round + 1));
     atomic_fetch_add(&lives, 1);
     return NULL;
 }
 
+static void be_born(struct life *life, uint64_t number) {
+    life->own = begin();
+    life->number = number;
+    CHECK(pthread_create(&life->thread, NULL, live, life) == 0);
+}
+
+static void die(struct life *life) {
+    CHECK(pthread_join(life->thread, NULL) == 0);
+    end(life->own);
+}
+
 /* So many threads at once, each followed by another when it ends, until so many rounds are made. */
 static void run(long rounds, size_t threads) {
-    static pthread_t at[MOST_THREADS];
-    uintptr_t born = 0;
+    static struct life at[MOST_THREADS];
+    uint64_t born = 0;
     CHECK(rounds > 0 && threads > 0 && threads <= MOST_THREADS);
     atomic_store(&rounds_left, rounds);
     for (size_t i = 0; i < threads; i++)
-        CHECK(pthread_create(&at[i], NULL, live, (void *)born++) == 0);
+        be_born(&at[i], born++);
     while (atomic_load(&rounds_left) > 0)
         for (size_t i = 0; i < threads; i++) {
-            CHECK(pthread_join(at[i], NULL) == 0);
-            CHECK(pthread_create(&at[i], NULL, live, (void *)born++) == 0);
+            die(&at[i]);
+            be_born(&at[i], born++);
         }
     for (size_t i = 0; i < threads; i++)
-        CHECK(pthread_join(at[i], NULL) == 0);
+        die(&at[i]);
 }
 
 #endif

@@ -40,10 +40,13 @@ const OK: u32 = 0;
 const EMPTY_LANE: u32 = 2;
 pub const NO_REFERENCE: u32 = 7;
 pub const GONE: u32 = 8;
+const SHARED: u32 = 14;
 pub const BUSY: u32 = 15;
 
 extern "C" {
     fn pardz_attach(shape: *const PoolShape, pool: *mut Slot) -> u32;
+    fn pardz_share(pool: *const Slot, other: *mut Slot) -> u32;
+    fn pardz_unshare(pool: *mut Slot) -> u32;
     fn pardz_pool_put(
         pool: *const Slot,
         from: u32,
@@ -107,6 +110,27 @@ impl CPool {
         let shape = PoolShape([lanes, places, 1, u32::MAX, 0]);
         // SAFETY: the slot is empty, and no other thread uses it.
         assert_eq!(unsafe { pardz_attach(&shape, self.0.get()) }, OK);
+    }
+
+    /// The other slot has the pool too.
+    pub fn share(&self, other: &CPool) {
+        // SAFETY: the other slot is empty, and no other thread uses it.
+        assert_eq!(unsafe { pardz_share(self.0.get(), other.0.get()) }, OK);
+    }
+
+    pub fn unshare(&self) {
+        // SAFETY: no other thread uses the slot.
+        assert_eq!(unsafe { pardz_unshare(self.0.get()) }, OK);
+    }
+
+    /// A detach as soon as no other slot has the pool.
+    pub fn detach_last(&self) -> Answer<Census> {
+        loop {
+            match self.detach() {
+                Err(SHARED) => explorer::yield_now(),
+                other => return other,
+            }
+        }
     }
 
     pub fn put(&self, from: u32, text: &str) -> Answer<u64> {

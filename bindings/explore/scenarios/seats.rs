@@ -8,6 +8,8 @@ use std::ptr;
 /// A pool, and what threads have of it.
 struct Seats {
     pool: CPool,
+    /// Another slot of it, of the first thread.
+    other: CPool,
     keys: Vec<u64>,
     lents: Vec<Lent>,
     owned: Vec<OwnedSlot>,
@@ -43,6 +45,7 @@ impl Seats {
     fn unattached() -> Seats {
         Seats {
             pool: CPool::empty(),
+            other: CPool::empty(),
             keys: Vec::new(),
             lents: Vec::new(),
             owned: Vec::new(),
@@ -50,6 +53,12 @@ impl Seats {
             cleared: AtomicU32::new(0),
             done: AtomicU32::new(0),
         }
+    }
+
+    /// The same, with another slot for the first thread.
+    fn shared(self) -> Seats {
+        self.pool.share(&self.other);
+        self
     }
 
     /// The same, with a reference to each key by this lane; `clear` says whether each is cleared then.
@@ -158,6 +167,13 @@ pub fn all() -> Vec<Scenario> {
         Scenario::new("seat-detach", one_lane, [get_once, detach_when_had], done),
         Scenario::new("seat-detach-last", one_lane, [leave_last; 2], done),
         Scenario::new("seat-attach", || Seats::of(1, 1, 0), [own_pool; 2], free),
+        // A pool in a slot of each thread.
+        Scenario::new(
+            "seat-share",
+            || Seats::of(1, 2, 1).shared(),
+            [clear_and_unshare, detach_last],
+            |_| (),
+        ),
         // Owned references.
         Scenario::new("own-both", one_lane, [own_and_disown; 2], |world| {
             world.settle(1)
@@ -362,6 +378,22 @@ fn detach_when_had(world: &Seats) {
         assert_eq!((census.present, census.free), (1, 1));
         world.done.store(1, Ordering::Relaxed);
     }
+}
+
+fn clear_and_unshare(world: &Seats) {
+    let cleared = wait(0, |from| world.other.clear(from, world.keys[0]));
+    assert_eq!(cleared, Ok(()));
+    world.other.unshare();
+}
+
+/// Looks, and detaches as soon as the other slot is empty.
+fn detach_last(world: &Seats) {
+    if let Ok(lent) = wait(0, |from| world.pool.get(from, world.keys[0])) {
+        look(lent.at, lent.len, TEXTS[0]);
+        assert_eq!(wait(0, |_| world.pool.release(&lent)), Ok(()));
+    }
+    let census = world.pool.detach_last().expect("nobody calls");
+    assert_eq!((census.present, census.marked, census.free), (0, 0, 2));
 }
 
 fn done(world: Seats) {

@@ -183,6 +183,8 @@ fn has_the_parameters_that_the_header_declares() {
         prototype!(pardz_join(_ _)),
         prototype!(pardz_close(_ _)),
         prototype!(pardz_attach(_ _)),
+        prototype!(pardz_share(_ _)),
+        prototype!(pardz_unshare(_)),
         prototype!(pardz_pool_put(_ _ _ _ _)),
         prototype!(pardz_pool_get(_ _ _ _)),
         prototype!(pardz_pool_release(_ _)),

@@ -307,6 +307,18 @@ unsafe extern "C" fn pardz_attach(shape: *const PoolShape, pool: *mut PoolSlot) 
 }
 
 #[no_mangle]
+unsafe extern "C" fn pardz_share(pool: *const PoolSlot, other: *mut PoolSlot) -> u32 {
+    // SAFETY: asked of the program.
+    code(unsafe { PoolSlot::share(pool, &mut *other) })
+}
+
+#[no_mangle]
+unsafe extern "C" fn pardz_unshare(pool: *mut PoolSlot) -> u32 {
+    // SAFETY: asked of the program.
+    code(unsafe { (*pool).unshare() })
+}
+
+#[no_mangle]
 unsafe extern "C" fn pardz_pool_put(
     pool: *const PoolSlot,
     from: u32,

@@ -41,7 +41,9 @@ pub(crate) struct Store {
     seats: Vec<Seat>,
     /// What the lanes share, which is there as long as they are.
     shared: NonNull<Shared>,
-    /// How many shares there are of the pool: one of the slot that it is attached to, and one of each owned reference.
+    /// How many slots have the pool.
+    slots: AtomicUsize,
+    /// How many shares there are of the pool: one of each slot that has it, and one of each owned reference.
     shares: AtomicUsize,
 }
 
@@ -206,6 +208,7 @@ impl Store {
         Ok(place.fill(Store {
             seats,
             shared,
+            slots: AtomicUsize::new(1),
             shares: AtomicUsize::new(1),
         }))
     }
@@ -372,6 +375,56 @@ impl PoolSlot {
         Ok(())
     }
 
+    /// An empty slot.
+    const fn empty() -> PoolSlot {
+        PoolSlot {
+            at: ptr::null_mut(),
+            full: 0,
+        }
+    }
+
+    /// Another empty slot has the pool of a slot too.
+    ///
+    /// # Safety
+    ///
+    /// As with `pointer`.
+    pub(crate) unsafe fn share(
+        slot: *const PoolSlot,
+        other: &mut PoolSlot,
+    ) -> Result<(), Refusal> {
+        // SAFETY: asked of whoever calls.
+        let at = unsafe { PoolSlot::pointer(slot)? };
+        if other.is_full() {
+            return Err(Refusal::FullLane);
+        }
+        // SAFETY: the slot has a share of its pool.
+        let store = unsafe { at.as_ref() };
+        store.shares.fetch_add(1, Ordering::Relaxed);
+        store.slots.fetch_add(1, Ordering::Relaxed);
+        *other = PoolSlot {
+            at: at.as_ptr(),
+            full: 1,
+        };
+        Ok(())
+    }
+
+    /// Empties a slot, whose share of the pool ends.
+    ///
+    /// # Safety
+    ///
+    /// As with `pointer`; and no call uses the slot.
+    pub(crate) unsafe fn unshare(&mut self) -> Result<(), Refusal> {
+        // SAFETY: asked of whoever calls.
+        let at = unsafe { PoolSlot::pointer(self)? };
+        *self = PoolSlot::empty();
+        // SAFETY: the slot had a share of its pool, which ends here.
+        unsafe {
+            at.as_ref().slots.fetch_sub(1, Ordering::Release);
+            Store::let_go(at);
+        }
+        Ok(())
+    }
+
     /// Where the pool of a slot stands.
     ///
     /// # Safety
@@ -399,7 +452,7 @@ impl PoolSlot {
         Ok(unsafe { PoolSlot::pointer(slot)?.as_ref() })
     }
 
-    /// Closes the pool, and the slot is empty. It stays where a call has a lane. Where owned references are left, the last of them closes the
+    /// Closes the pool, and the slot is empty. It stays where another slot has the pool, or a call a lane. Where owned references are left, the last of them closes the
     /// pool, whose places are counted now.
     ///
     /// # Safety
@@ -410,14 +463,14 @@ impl PoolSlot {
         let at = unsafe { PoolSlot::pointer(self)? };
         // SAFETY: the slot has a share of its pool.
         let store = unsafe { at.as_ref() };
+        if store.slots.load(Ordering::Acquire) != 1 {
+            return Err(Refusal::Shared);
+        }
         if store.is_called() {
             return Err(Refusal::Busy);
         }
         let census = store.census();
-        *self = PoolSlot {
-            at: ptr::null_mut(),
-            full: 0,
-        };
+        *self = PoolSlot::empty();
         // SAFETY: the share was the slot's.
         unsafe { Store::let_go(at) }.unwrap_or(Ok(census))
     }
