@@ -1,0 +1,7 @@
+mod Acts
+mod Clears
+mod Quiet
+mod Keys
+mod Lanes
+mod Settling
+mod Holding

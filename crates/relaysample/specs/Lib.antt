@@ -1,0 +1,5 @@
+pub mod Lines
+pub mod Logged
+pub mod Cleared
+pub mod Held
+pub mod Settled

@@ -1,0 +1,178 @@
+//! Threads that come and go: each has a desk for a while, logs its lines, and hands their keys on.
+ghost use Rattle.std.specs.Prelude.{◌≡◌, IfOk, vec_len};
+ghost use Rattle.relaysample.specs.Held.{Holds};
+
+use crate::batches::Batch;
+use crate::collector::{Collector, Unheld};
+use crate::desks::Desk;
+use crate::lines::Line;
+use crossbeam_channel::{Receiver, Sender, bounded, unbounded};
+use guards::PoolName;
+use std::alloc::{AllocError, Global};
+use std::sync::Wait;
+use std::thread;
+use std::thread::Threads;
+
+/// How many desks there are.
+pub const DESKS: u32 = 2;
+
+/// How many threads come and go.
+const THREADS: u32 = 10;
+
+/// How many lines each logs.
+const LINES: u32 = 5;
+
+/// What a thread has: where desks are free, where they are given back, and where to hand on what was logged.
+#[derive(Drop)]
+struct Turn<'p, N: PoolName> {
+    thread: u32,
+    free: Receiver<Desk<'p, N>, Global>,
+    back: Sender<Desk<'p, N>, Global>,
+    to: Sender<Batch<N>, Global>,
+}
+
+/// The free desks, the threads' turns at them, and what they hand on.
+#[derive(Drop)]
+pub struct Relay<'p, N: PoolName> {
+    free: Receiver<Desk<'p, N>, Global>,
+    back: Sender<Desk<'p, N>, Global>,
+    turns: Vec<Turn<'p, N>>,
+    from: Receiver<Batch<N>, Global>,
+}
+
+/// What came of it, once all threads have ended.
+#[derive(Drop)]
+pub struct Ran<'p, N: PoolName> {
+    pub collector: Collector<'p, N>,
+    /// Why a line wasn't held, if one wasn't.
+    pub unheld: Option<Unheld>,
+    /// The desks, which nobody has any more.
+    pub free: Receiver<Desk<'p, N>, Global>,
+}
+
+impl<'p, N: PoolName> Relay<'p, N> {
+    /// A relay without a desk.
+    ///
+    /// # Errors
+    ///
+    /// Where memory was refused.
+    pub fn new(alloc: Global) -> Result<Relay<'p, N>, AllocError>
+        ensures { IfOk result (λ relay. vec_len relay.turns ≡ THREADS) }
+    {
+        let (back, free) = bounded(alloc, DESKS as usize)?;
+        let (to, from) = unbounded(alloc)?;
+        let mut turns = Vec::new(alloc);
+        for thread in 0..THREADS {
+            turns.push(Turn {
+                thread,
+                free: free.clone()?,
+                back: back.clone()?,
+                to: to.clone()?,
+            })?;
+        }
+        Ok(Relay {
+            free,
+            back,
+            turns,
+            from,
+        })
+    }
+
+    /// A desk more is free.
+    pub fn add<R: Wait>(&self, rt: &R, desk: Desk<'p, N>) {
+        let _ = self.back.send(rt, desk);
+    }
+
+    /// Runs each turn in a thread of its own, and collects what they hand on.
+    pub fn run<R: Threads + Wait + Sync>(
+        self,
+        rt: &R,
+        alloc: Global,
+        collector: Collector<'p, N>,
+    ) -> Ran<'p, N>
+    where
+        N: Send,
+        requires holds { Holds N.pool collector.lender.lane collector.lane collector.held.items }
+        ensures holds { Holds N.pool result.collector.lender.lane result.collector.lane result.collector.held.items }
+    {
+        let Relay {
+            free,
+            back,
+            turns,
+            from,
+        } = self;
+        drop(back);
+        let (collector, unheld) = thread::scope(
+            thread::scope_env(),
+            rt,
+            move |scope| -> (Collector<'_, N>, Option<Unheld>)
+                requires holds { Holds N.pool collector.lender.lane collector.lane collector.held.items }
+                ensures holds { Holds N.pool result.0.lender.lane result.0.lane result.0.held.items }
+            {
+                for turn in turns {
+                    let run = move || take_turn(rt, alloc, turn);
+                    if let Err(refused) = scope.spawn(run) {
+                        (refused.value)();
+                    }
+                }
+                collect_all(rt, collector, from)
+            },
+        );
+        Ran {
+            collector,
+            unheld,
+            free,
+        }
+    }
+}
+
+/// The lines of a thread.
+fn lines_of(alloc: Global, thread: u32) -> Result<Vec<Line>, AllocError> {
+    let mut lines = Vec::new(alloc);
+    for number in 0..LINES {
+        lines.push(Line {
+            thread,
+            number,
+            millis: number * 10,
+        })?;
+    }
+    Ok(lines)
+}
+
+/// Takes a desk that is free, logs the thread's lines, gives the desk back, and hands the batch on. Where memory was
+/// refused nothing is logged.
+fn take_turn<N: PoolName, R: Wait>(rt: &R, alloc: Global, turn: Turn<'_, N>) {
+    let Ok(lines) = lines_of(alloc, turn.thread) else {
+        return;
+    };
+    let Ok(mut desk) = turn.free.recv(rt) else {
+        return;
+    };
+    let logged = desk.log(alloc, lines.as_slice());
+    let _ = turn.back.send(rt, desk);
+    if let Ok((batch, _)) = logged {
+        let _ = turn.to.send(rt, batch);
+    }
+}
+
+/// Collects what is handed on until all threads have ended. Why a line wasn't held, if one wasn't.
+fn collect_all<'p, N: PoolName, R: Wait>(
+    rt: &R,
+    collector: Collector<'p, N>,
+    from: Receiver<Batch<N>, Global>,
+) -> (Collector<'p, N>, Option<Unheld>)
+    requires holds { Holds N.pool collector.lender.lane collector.lane collector.held.items }
+    ensures holds { Holds N.pool result.0.lender.lane result.0.lane result.0.held.items }
+{
+    let mut collector = collector;
+    let mut unheld = None;
+    for _ in rt.forever() {
+        let Ok(batch) = from.recv(rt) else {
+            break;
+        };
+        if let Err(why) = collector.collect(batch) {
+            unheld = Some(why);
+        }
+    }
+    (collector, unheld)
+}
