@@ -2,7 +2,7 @@
 use Rattle.std.specs.Prelude.{◌≡◌, ◌⊎◌, ℕ, ◌≤◌, List, Contains, Option, Some, None, Result, Ok, Err}
 use Rattle.std.specs.Arc.{arc_value}
 use mathlib.Core.List.{IsPrefix}
-use Rattle.shardpool.specs.Tokens.{PoolOf, LaneOf, NoteOf}
+use Rattle.shardpool.specs.Tokens.{PoolOf, LaneOf}
 use Rattle.shardpool.specs.Closings.{AreLanes, Closes}
 use Rattle.shardpool.specs.declared.census.Census.{Census}
 use Rattle.lanestore.specs.Shared as shared

@@ -1,11 +1,11 @@
 -- What calls do by a lane that is had for the one call, and what each answers.
-use Rattle.std.specs.Prelude.{◌≡◌, ◌⊎◌, ℕ, ◌<◌, ◌≤◌, true, false, List, length, Option, Some, None, Result, Ok, Err, Bool}
+use Rattle.std.specs.Prelude.{◌≡◌, ◌⊎◌, ℕ, ◌<◌, ◌≤◌, true, false, List, length, Some, None, Result, Ok, Err, Bool}
 use Rattle.seqpool.specs.Histories.{PublishedAt}
 use Rattle.steplaws.specs.Facts.{most_references}
 use Rattle.slotcell.specs.ByteBuf.{ByteBuf}
 use Rattle.shardpool.specs.declared.create.CreateFault.{CreateFault}
 use Rattle.shardpool.specs.declared.create.CreateFault.TheVariants as faults
-use Rattle.shardpool.specs.Tokens.{PoolOf, LaneOf, FillingOf, RefOf}
+use Rattle.shardpool.specs.Tokens.{PoolOf, LaneOf, FillingOf}
 use Rattle.shardpool.specs.Lanes.{refs}
 use Rattle.shardpool.specs.AfterCalls.{AfterCreate, AfterPublish, AfterGet, AfterReleaseKey, AfterClear}
 use Rattle.bytestore.specs.declared.refusal.Refusal.{Refusal}

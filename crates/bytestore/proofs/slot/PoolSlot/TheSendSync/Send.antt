@@ -5,7 +5,7 @@ use mir.Raw.{raw}
 use base.Shift.{Keyless}
 use denote.RawPtr.{Ptr}
 use denote.Memory.{lone}
-use denote.Param.Send.{IsSend, IsSync, owning_send, struct_send, sendable}
+use denote.Param.Send.{IsSend, owning_send, struct_send, sendable}
 use denote.Builtin.{RawPtr, u64}
 use denote.Struct.Struct.{exits_of}
 use denote.Struct.Owning.{shape, fields, to}
