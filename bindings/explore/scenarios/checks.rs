@@ -79,7 +79,12 @@ fn faulty() -> Vec<(Scenario, &'static str)> {
             "Free that nothing orders",
         ),
         (
-            Scenario::new("leak", number, [|_| mem::forget(Box::new(7))], drop),
+            Scenario::new(
+                "leak",
+                number,
+                [|_| mem::forget(hint::black_box(Box::new(7)))],
+                drop,
+            ),
             "1 pieces of memory are left",
         ),
         (

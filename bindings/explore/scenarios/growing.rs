@@ -212,11 +212,11 @@ fn one_segment(world: World) {
     segments(world, OF_ONE_SEGMENT);
 }
 
-fn two_segments(world: World) {
+pub fn two_segments(world: World) {
     segments(world, OF_TWO_SEGMENTS);
 }
 
-fn three_segments(world: World) {
+pub fn three_segments(world: World) {
     segments(world, OF_THREE_SEGMENTS);
 }
 

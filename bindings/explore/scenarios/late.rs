@@ -120,7 +120,11 @@ fn leave_filling_early(world: &World) {
 }
 
 pub fn leave_reference(world: &World) {
-    REFERENCE.with_borrow_mut(|late| *late = world.lasting_pool().get(world.keys[0]));
+    leave_reference_to(world, world.keys[0]);
+}
+
+pub fn leave_reference_to(world: &World, key: Key) {
+    REFERENCE.with_borrow_mut(|late| *late = world.lasting_pool().get(key));
 }
 
 fn leave_reference_early(world: &World) {

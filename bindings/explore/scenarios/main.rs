@@ -21,6 +21,7 @@ mod misses;
 mod owned;
 mod pools;
 mod seats;
+mod wider;
 mod world;
 
 /// What the crate's own lock is made of.
@@ -45,6 +46,7 @@ fn all() -> Vec<Scenario> {
         late::all(),
         owned::all(),
         growing::all(),
+        wider::all(),
         pools::all(),
         clears::all(),
         lock::all(),

@@ -3,6 +3,7 @@ use crate::world::{
     emptied, lanes_at_home, lanes_in_hand, look_by_call, number_of, shape, Scenario, Tracked, World,
 };
 use pardz::{Key, OwnedFilling, OwnedRef, Pool};
+use std::sync::atomic::{AtomicUsize, Ordering::SeqCst};
 use std::sync::{Arc, Mutex};
 
 pub fn all() -> Vec<Scenario> {
@@ -54,6 +55,26 @@ pub fn all() -> Vec<Scenario> {
             || outlives(shared_handle),
             [clone_first, clone_first],
             drop,
+        ),
+        Scenario::new(
+            "owned-plain",
+            plain,
+            [drop_and_fill, clear_plain],
+            plain_left,
+        )
+        .bounded(3),
+        Scenario::new(
+            "owned-plain-clears",
+            plain,
+            [fill_plain, clear_and_fill],
+            plain_left,
+        )
+        .bounded(2),
+        Scenario::new(
+            "owned-plain-outlives",
+            plain,
+            [drop_plain, clear_and_drop],
+            |_| (),
         ),
     ]
 }
@@ -208,4 +229,84 @@ fn drop_pool(world: &Outlived) {
 fn drop_handle(world: &Outlived, number: usize) {
     let handle = world.handles[number].lock().expect("no panic").take();
     assert_eq!(handle.expect("it is there").get(), 3);
+}
+
+/// A pool of vectors, which are emptied under the lock of their lane. One is published, and a handle has it.
+struct Plain {
+    pool: Mutex<Option<Arc<Pool<Vec<u64>>>>>,
+    key: Key,
+    handle: Mutex<Option<OwnedRef<Vec<u64>>>>,
+    published: AtomicUsize,
+}
+
+fn plain() -> Plain {
+    let pool = Pool::<Vec<u64>>::open(shape(1, 4, 1)).expect("memory");
+    let mut filling = pool.create_owned().expect("a place");
+    filling.push(5);
+    let key = filling.publish();
+    Plain {
+        handle: Mutex::new(pool.get_owned(key)),
+        pool: Mutex::new(Some(Arc::new(pool))),
+        key,
+        published: AtomicUsize::new(0),
+    }
+}
+
+impl Plain {
+    fn pool(&self) -> Arc<Pool<Vec<u64>>> {
+        let pool = self.pool.lock().expect("no panic");
+        Arc::clone(pool.as_ref().expect("it is there"))
+    }
+
+    /// Publishes a vector, which was empty.
+    fn fill(&self) {
+        let mut filling = self.pool().create_owned().expect("a place");
+        assert!(filling.is_empty(), "an object isn't empty");
+        filling.push(6);
+        filling.publish();
+        self.published.fetch_add(1, SeqCst);
+    }
+}
+
+fn drop_plain(world: &Plain) {
+    let handle = world.handle.lock().expect("no panic").take();
+    assert_eq!(*handle.expect("it is there"), [5]);
+}
+
+fn drop_and_fill(world: &Plain) {
+    drop_plain(world);
+    world.fill();
+}
+
+fn clear_plain(world: &Plain) {
+    assert!(world.pool().clear(world.key));
+}
+
+fn fill_plain(world: &Plain) {
+    drop_plain(world);
+    world.fill();
+    world.fill();
+}
+
+fn clear_and_fill(world: &Plain) {
+    clear_plain(world);
+    world.fill();
+}
+
+/// Clears it, and drops the pool.
+fn clear_and_drop(world: &Plain) {
+    clear_plain(world);
+    let pool = world.pool.lock().expect("no panic").take();
+    drop(pool);
+}
+
+fn plain_left(world: Plain) {
+    let pool = world.pool.into_inner().expect("no panic");
+    let pool = pool.and_then(Arc::into_inner).expect("ours");
+    let census = pool.close();
+    let published = world.published.into_inner() as u32;
+    assert_eq!(
+        (census.present, census.marked, census.filling),
+        (published, 0, 0)
+    );
 }

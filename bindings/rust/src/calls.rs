@@ -1,7 +1,8 @@
 //! Calls without a lane in hand.
 //!
-//! A thread's first call of a pool finds it a lane, which it keeps until it ends. Where all are taken, and for owned handles, a lane
-//! is shared: each call has it under a lock, within which no code of others runs, and what is held by it may be let go by any thread.
+//! A thread's first call of a pool finds it a lane, which it keeps until it ends. Where all are taken, its first create has a growing
+//! pool open a segment with more. Where there are no more, where a segment hasn't the thread's lane, and for owned handles, a lane is
+//! shared: each call has it under a lock, within which no code of others runs, and what is held by it may be let go by any thread.
 use crate::clear::Clear;
 use crate::errors::CreateError;
 use crate::filling::{OwnedFilling, PoolFilling};
@@ -9,8 +10,9 @@ use crate::key::Key;
 use crate::pool::Pool;
 use crate::reference::{OwnedRef, PoolRef};
 
-/// Calls without a lane in hand. The thread's first call finds it a lane, which is kept until the thread ends; where all are taken,
-/// its calls share lanes, each under a lock for a bounded number of steps. They may be made anywhere: within `T::clear`, `Default`, `Drop`
+/// Calls without a lane in hand. The thread's first call finds it a lane, which is kept until the thread ends; where all are taken, its
+/// first create has a growing pool open a segment with more, up to 64. Where there are none, or the segment of a key hasn't the thread's
+/// lane, its calls share lanes, each under a lock for a bounded number of steps. They may be made anywhere: within `T::clear`, `Default`, `Drop`
 /// and closures, and while the thread ends.
 ///
 /// A pool of [`open`](Pool::open) has a lane more than its shape, which is shared: so no call is refused where all lanes are in hand. Its

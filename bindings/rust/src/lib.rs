@@ -100,13 +100,13 @@
 //!
 //! README compares them: what a get costs, which calls may wait for a lock, and where a create goes whose shard is full.
 //!
-//! No call is refused for want of a lane: a growing pool shares four of its 16 lanes, and a pool of [`Pool::open`] has a lane more than
+//! No call is refused for want of a lane: a growing pool shares four of its lanes, and a pool of [`Pool::open`] has a lane more than
 //! its shape for that. One of 64 lanes has none more: where all are in hand, a create answers [`CreateError::NoLane`], and a get or a
 //! clear of the pool panics.
 //!
 //! A growing pool has up to 256 segments, each a pool of the proved kind with a tag of its own, by which a key tells its segment. The
 //! first has 16 * 32 places and takes less than 256 KiB; from the sixth on each has 16 * 44,992. All ways of calling find keys of
-//! all segments.
+//! all segments. Twelve threads have a lane each; if there are more, segments with 32 and with 64 lanes are opened, for sixty.
 //!
 //! # A pool for the whole program
 //!

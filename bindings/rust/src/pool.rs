@@ -238,11 +238,14 @@ impl<T: Clear> Pool<T> {
     /// Opens a pool that grows: a small segment at its first create, and a further one where all are full, up to 256. A create is refused
     /// only for want of memory, or at their end.
     ///
-    /// It has 16 lanes, of which 12 may be kept by threads or taken in hand, and 4 are shared by all other threads. Where a
-    /// create finds no place in these either, and the next segment would be the sixth or a later one, lanes that nobody has are lent to
-    /// all first, but for four: who wants a lane takes one back, unless a filling, a reference or an owned handle is of it just then. Its
-    /// segments have
-    /// the tags from 0 on; it has 16 * 32 places with the first, and 16 * 64, 192, 960, 12,224 and 44,992 more with those that follow.
+    /// It begins with 16 lanes, of which 12 may be kept by threads or taken in hand, and 4 are shared by all other threads. A create of a
+    /// thread that finds none has a segment with 32 lanes opened, and later one with 64, which threads keep as well: calls of theirs for
+    /// keys of segments before turn to shared lanes.
+    ///
+    /// Where a create finds no place in shared lanes either, and the next segment would be the sixth or a later one, lanes that nobody has
+    /// are lent to all first, but for four: who wants a lane takes one back, unless a filling, a reference or an owned handle is of it just
+    /// then. Its segments have the tags from 0 on; it has 16 * 32 places with the first, and 16 * 64, 192, 960, 12,224 and 44,992 more with
+    /// those that follow, or a few more where they have more lanes. One that is opened for the sake of its lanes has 16 * 960 at most.
     ///
     /// # Errors
     ///

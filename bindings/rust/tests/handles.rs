@@ -1,5 +1,5 @@
 //! Objects that are used again, by all ways to call; a filling that is left; the limit of references where a filling is published.
-use pardz::{Clear, Lane, Pool, Shape};
+use pardz::{Buffer, Clear, Lane, Pool, Shape};
 use std::mem;
 use std::panic::{self, AssertUnwindSafe};
 use std::sync::atomic::{AtomicUsize, Ordering::SeqCst};
@@ -135,4 +135,22 @@ fn a_downgrade_of_a_shared_lane_has_a_limit() {
     assert_eq!((census.present, census.filling), (1, 0));
     // (It is there for the references that were forgotten.)
     mem::forget(pool);
+}
+
+/// A buffer that is emptied under its lane's lock: by a clear, or by the drop of the last reference.
+#[test]
+fn an_owned_buffer_is_empty_when_it_is_handed_out() {
+    let pool = Pool::<Buffer>::growing().unwrap();
+    for round in 0..200 {
+        let mut filling = pool.create_owned().unwrap();
+        assert!(filling.is_empty());
+        filling.append(&[7; 64]).unwrap();
+        let key = filling.publish();
+        let reader = (round % 2 == 0).then(|| pool.get_owned(key).unwrap());
+        assert!(pool.clear(key));
+        assert!(reader.map_or(true, |bytes| *bytes == [7; 64]));
+        assert!(pool.get(key).is_none());
+    }
+    let census = pool.close();
+    assert_eq!((census.present, census.marked, census.filling), (0, 0, 0));
 }

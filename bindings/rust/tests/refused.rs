@@ -375,3 +375,53 @@ fn each_request_of_texts_is_refused() {
 fn each_request_of_objects_is_refused() {
     refuse_each(objects, 25);
 }
+
+/// A create by a call, where all lanes are in hand and one request is refused: the lane that it had, and whether any was refused.
+fn create_beside_hands(granted: u32) -> (Result<u64, CreateError>, bool) {
+    let pool = Pool::<Buffer>::growing().expect("memory for a pool");
+    let hands: Vec<_> = (0..12).map_while(|_| pool.lane()).collect();
+    GRANTED.set(granted);
+    let created = tried(|| pool.create().map(|filling| filling.publish()));
+    let lane = created.map(|key| {
+        assert!(pool.clear(key));
+        u64::from(key) >> 16 & 0xff
+    });
+    assert_eq!(hands.len(), 12);
+    drop(hands);
+    let census = pool.close();
+    assert_eq!((census.present, census.filling), (0, 0));
+    (lane, REFUSED.get() > 0)
+}
+
+/// Where a segment with more lanes finds no memory, the thread shares one of the first.
+#[test]
+fn a_thread_shares_where_more_lanes_find_no_memory() {
+    let run = |granted| std::thread::spawn(move || create_beside_hands(granted)).join();
+    let ends = (0..).map(|granted| run(granted).expect("no panic"));
+    let refused: Vec<_> = ends.take_while(|(_, refused)| *refused).collect();
+    let shared = |(lane, _): &&(Result<u64, CreateError>, bool)| matches!(lane, Ok(lane) if (12..16).contains(lane));
+    assert!(refused.iter().filter(shared).count() >= 30);
+    let others = refused.iter().filter(|end| !shared(end));
+    assert!(others
+        .map(|(lane, _)| *lane)
+        .all(|lane| lane == Ok(16) || lane == Err(CreateError::Memory)));
+    assert_eq!(create_beside_hands(u32::MAX), (Ok(16), false));
+}
+
+/// A buffer that is emptied under its lane's lock is used again, with its memory.
+#[test]
+fn an_owned_cycle_takes_no_memory() {
+    let pool = Pool::<Buffer>::growing().expect("memory for a pool");
+    let cycle = |is_read: bool| {
+        let mut filling = pool.create_owned().expect("a place");
+        filling.append(&[7; 64]).expect("memory for the bytes");
+        let key = filling.publish();
+        let reader = is_read.then(|| pool.get_owned(key).expect("published"));
+        assert!(pool.clear(key));
+        drop(reader);
+    };
+    cycle(true);
+    takes_none(|| cycle(true));
+    takes_none(|| cycle(false));
+    takes_none(|| cycle(true));
+}

@@ -27,7 +27,7 @@ impl<T: Clear> Room<T> {
     #[inline]
     pub(crate) fn get_owned(&self, key: Key) -> Option<FarHeld<T>> {
         let segment = self.segment_with(key)?;
-        let held = self.by_shared(|number| segment.post(number).shared_get(key, Joint::come))?;
+        let held = self.by_shared(segment, |post| post.shared_get(key, Joint::come))?;
         // SAFETY: the handle is a user of the lane.
         Some(FarHeld::new(unsafe { held.far() }))
     }

@@ -131,7 +131,7 @@ impl<'p, T: Clear> Hand<'p, T> {
     fn own_elsewhere(&self, key: Key) -> Option<Own<'_, T, Near<'_, T>>> {
         let segment = self.at.segment().room().segment_with(key)?;
         // SAFETY: who has the number has the lane alone, in each segment; the hand is borrowed, and on one thread.
-        Some(unsafe { Own::of(segment.near(self.number())) })
+        Some(unsafe { Own::of(segment.near_of(self.number())?) })
     }
 }
 

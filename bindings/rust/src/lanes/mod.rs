@@ -29,6 +29,7 @@ mod segment;
 mod share;
 mod shared;
 mod sharing;
+mod sizes;
 mod threads;
 mod token;
 mod turn;

@@ -60,7 +60,7 @@ impl<T: Clear> Room<T> {
         T: Default,
     {
         self.first()?;
-        match self.caller() {
+        match self.caller_for_create() {
             Caller::Own(own) => own.create(|own, block| self.create_apart(own, block)),
             Caller::Sharing => self.create_by_sharing(),
         }
@@ -143,18 +143,16 @@ impl<T: Clear> Room<T> {
 
     #[inline(always)]
     pub(crate) fn get(&self, key: Key) -> Option<Spent<Held<'_, T, OfThread>>> {
-        let held = match self.known() {
-            Some(own) => self.get_by_own(own, key),
+        let own = match self.known() {
+            // SAFETY: it is of this pool.
+            Some(own) => unsafe { own.within(self.segment_with(key)?) },
+            None => None,
+        };
+        let held = match own {
+            Some(own) => own.get(key),
             None => self.get_by_caller(key),
         };
         held.map(Spent::new)
-    }
-
-    #[inline(always)]
-    fn get_by_own<'s>(&'s self, own: Own<'s, T>, key: Key) -> Option<Held<'s, T, OfThread>> {
-        let segment = self.segment_with(key)?;
-        // SAFETY: it is of this pool.
-        unsafe { own.within(segment) }.get(key)
     }
 
     #[inline(never)]
@@ -162,12 +160,16 @@ impl<T: Clear> Room<T> {
         if self.count() == 0 {
             return None;
         }
-        match self.caller() {
-            Caller::Own(own) => self.get_by_own(own, key),
-            Caller::Sharing => {
-                let segment = self.segment_with(key)?;
-                self.by_shared(|number| segment.post(number).shared_get(key, |_| ()))
-            }
+        let caller = self.caller();
+        let segment = self.segment_with(key)?;
+        let own = match caller {
+            // SAFETY: it is of this pool.
+            Caller::Own(own) => unsafe { own.within(segment) },
+            Caller::Sharing => None,
+        };
+        match own {
+            Some(own) => own.get(key),
+            None => self.by_shared(segment, |post| post.shared_get(key, |_| ())),
         }
     }
 
@@ -199,7 +201,9 @@ impl<T: Clear> Room<T> {
     #[inline(never)]
     fn clear_elsewhere<'s>(&'s self, segment: &'s Segment<T>, own: Own<'s, T>, key: Key) -> bool {
         // SAFETY: it is of this pool.
-        let own = unsafe { own.within(segment) };
+        let Some(own) = (unsafe { own.within(segment) }) else {
+            return self.clear_by_shared(segment, key);
+        };
         // SAFETY: the thread keeps the lane of this seat.
         unsafe { self.had_place(own.post()) };
         own.clear(key)
@@ -213,10 +217,14 @@ impl<T: Clear> Room<T> {
         match (self.caller(), self.segment_with(key)) {
             (_, None) => false,
             (Caller::Own(own), _) => self.clear_by_own(own, key),
-            (Caller::Sharing, Some(segment)) => {
-                self.by_shared(|number| segment.post(number).shared_clear(key))
-            }
+            (Caller::Sharing, Some(segment)) => self.clear_by_shared(segment, key),
         }
+    }
+
+    /// A clear by a shared lane.
+    #[inline(never)]
+    fn clear_by_shared(&self, segment: &Segment<T>, key: Key) -> bool {
+        self.by_shared(segment, |post| post.shared_clear(key))
     }
 
     /// A clear of a key of another lane. Where nobody has the lock of a shared lane, that clears its own key, so that its next create finds
@@ -225,7 +233,9 @@ impl<T: Clear> Room<T> {
     fn clear_of_other<'s>(&'s self, segment: &'s Segment<T>, own: Own<'s, T>, key: Key) -> bool {
         let shard = key.shard();
         // SAFETY: it is of this pool.
-        let own = unsafe { own.within(segment) };
+        let Some(own) = (unsafe { own.within(segment) }) else {
+            return self.clear_by_shared(segment, key);
+        };
         if self.lanes.is_shared(shard) {
             if let Some((cleared, taken)) = segment.post(shard).try_shared_clear(key) {
                 self.frees_place(key);

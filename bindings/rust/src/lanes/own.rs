@@ -210,15 +210,16 @@ impl<'s, T: Clear, P: Stands<'s, T>> Own<'s, T, P> {
         unsafe { Own::of(Near::new(self.post(), NonNull::from(segment))) }
     }
 
-    /// The lane in another segment.
+    /// The lane in another segment, if that has so many.
     ///
     /// # Safety
     ///
     /// It is one of the same pool.
     #[inline(always)]
-    pub(super) unsafe fn within(self, segment: &'s Segment<T>) -> Own<'s, T, Near<'s, T>> {
+    pub(super) unsafe fn within(self, segment: &'s Segment<T>) -> Option<Own<'s, T, Near<'s, T>>> {
+        let near = segment.near_of(self.post().number())?;
         // SAFETY: who has a lane has it in each segment.
-        unsafe { Own::of(segment.near(self.post().number())) }
+        Some(unsafe { Own::of(near) })
     }
 
     /// A get of this segment.

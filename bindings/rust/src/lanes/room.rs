@@ -1,26 +1,21 @@
-//! A pool's segments. A lane stands for the same number in each: who has it, has all of them.
+//! A pool's segments. A lane stands for the same number in each that has it: who has it, has all of them.
 use super::lock::rest;
 use super::seat::Post;
 use super::segment::{row_for, Segment};
+use super::sizes::{is_widest, shape_of, FOR_LANES, LANES, SHARED, WIDEST};
 use super::who::{first_bits, Lanes};
 use crate::clear::Clear;
-use crate::erased::keybits::{tag_of, GREATEST_TAG, LARGEST_FIRST_PAGE, MOST_PAGES};
+use crate::erased::keybits::{tag_of, GREATEST_TAG, MOST_LANES};
 use crate::errors::{CreateError, OpenError};
 use crate::key::Key;
 use crate::object::{Fixed, Later};
 use crate::pool::{Census, Growth, Shape};
 use crate::sync::{AtomicPtr, AtomicU32, AtomicU64, AtomicUsize, Ordering};
+use std::array;
 use std::ptr::{self, NonNull};
 
 /// The tags for which a key has room, and so the most segments.
 const TAGS: usize = GREATEST_TAG as usize + 1;
-
-/// The lanes of a growing pool, and those of them that are shared from the start.
-const LANES: u32 = 16;
-const SHARED: u32 = 4;
-
-/// How many segments there are with the first of the widest.
-const WIDEST: usize = 6;
 
 /// How many creates pass by a lane that was found full in all segments: twice as many each time, since each look costs as many steps as
 /// there are segments.
@@ -47,9 +42,12 @@ pub(crate) struct Room<T: Clear> {
     pub(super) lanes: Lanes,
     /// How many have the pool's memory: it, and lanes of owned handles that outlive it.
     shares: AtomicUsize,
-    /// By lane.
+    /// By lane; and those of the lanes that not all segments have.
     creates: Vec<Creates>,
+    further_creates: Later<FurtherCreates>,
 }
+
+type FurtherCreates = [Creates; (MOST_LANES - LANES) as usize];
 
 /// Where creates of a lane go. (On lines of the cache of its own.)
 #[repr(align(128))]
@@ -110,28 +108,6 @@ impl Creates {
     }
 }
 
-/// The shape of a segment, counted from the first: that is small, and each is larger than the one before, up to the widest, which is the
-/// sixth. (To open and close one takes time for each of its places.)
-fn shape_of(index: usize, growth: Growth) -> Shape {
-    let index = index as u32;
-    let (first_page, pages) = match index.checked_sub(1) {
-        None => (LARGEST_FIRST_PAGE / 2, 1),
-        Some(further) => (LARGEST_FIRST_PAGE, 1 << further.min(MOST_PAGES.ilog2())),
-    };
-    Shape {
-        lanes: LANES,
-        first_page,
-        pages,
-        last_generation: growth.last_generation,
-        tag: growth.first_tag + index,
-    }
-}
-
-/// Whether a segment behind so many is one of the widest.
-fn is_widest(count: usize) -> bool {
-    count + 1 >= WIDEST
-}
-
 fn open_segment<T: Clear>(shape: Shape) -> Result<Fixed<Segment<T>>, CreateError> {
     let segment = Segment::open(shape, false).map_err(|_| CreateError::Memory)?;
     Ok(Fixed::new(segment)?)
@@ -153,7 +129,7 @@ impl<T: Clear> Room<T> {
         if growth.most_segments == 0 || tags.len() < growth.most_segments as usize {
             return Err(OpenError::Shape);
         }
-        let shape = shape_of(0, growth);
+        let shape = shape_of(0, LANES, growth);
         shape.checked()?;
         let shared = first_bits(LANES) & !first_bits(LANES - SHARED);
         let room = Room::of(shape.tag, LANES, shared, Some(growth))?;
@@ -181,6 +157,7 @@ impl<T: Clear> Room<T> {
             begun: AtomicUsize::new(0),
             shares: AtomicUsize::new(1),
             creates,
+            further_creates: Later::new(),
         })?;
         room.at.store(room.pointer().as_ptr(), Ordering::Relaxed);
         Ok(room)
@@ -235,7 +212,22 @@ impl<T: Clear> Room<T> {
 
     /// The seats of this number.
     pub(super) fn posts_of(&self, number: u32) -> impl Iterator<Item = Post<'_, T>> {
-        self.segments().map(move |segment| segment.post(number))
+        let segments = self.segments();
+        segments.filter_map(move |segment| segment.post_of(number))
+    }
+
+    /// Where creates of a lane go.
+    #[inline]
+    fn creates_of(&self, number: u32) -> &Creates {
+        let further = || self.further_creates_of(number);
+        self.creates.get(number as usize).unwrap_or_else(further)
+    }
+
+    #[cold]
+    fn further_creates_of(&self, number: u32) -> &Creates {
+        let further = self.further_creates.get();
+        let further = further.expect("they are there before the lane is");
+        &further[number as usize - self.creates.len()]
     }
 
     /// The segment of which a key's tag tells.
@@ -254,9 +246,9 @@ impl<T: Clear> Room<T> {
     /// threads have lanes, up to the first of the widest; and before that, where as many creates have passed its lane by as the shared
     /// ones have places in that segment. (Their locks took about as long as the segment takes to open.)
     pub(super) fn grows_first(&self, count: usize, number: u32) -> bool {
-        let passed = &self.creates[number as usize].all_passed;
+        let passed = &self.creates_of(number).all_passed;
         let pays = |growth: Growth| {
-            let next = shape_of(count, growth).checked();
+            let next = shape_of(count, self.lanes.count(), growth).checked();
             let places = next.map_or(u32::MAX, |next| SHARED * next.shard_places());
             !is_widest(count) && passed.load(Ordering::Relaxed) >= places
         };
@@ -273,12 +265,52 @@ impl<T: Clear> Room<T> {
     /// Opens a further segment, unless there are other than so many by now. Where another thread opens one, it waits a while for that:
     /// no longer, as that may run code of the program's allocator.
     pub(super) fn grow(&self, count: usize) -> Result<(), CreateError> {
+        self.grow_by(count, count, self.lanes.count())
+    }
+
+    /// Whether a segment with more lanes than so many may be opened.
+    pub(super) fn may_widen(&self, lanes: u32) -> bool {
+        let may_grow = |growth: Growth| self.count() < growth.most_segments as usize;
+        lanes < MOST_LANES && self.growth.is_some_and(may_grow)
+    }
+
+    /// Opens a segment with more lanes than so many, unless there are more by now. Whether there are.
+    pub(super) fn widen(&self, lanes: u32) -> bool {
+        if self.count_creates().is_err() {
+            return false;
+        }
+        loop {
+            let count = self.count();
+            if self.lanes.count() != lanes {
+                return true;
+            }
+            let grown = self.grow_by(count, count.min(FOR_LANES), 2 * lanes);
+            if grown.is_err() {
+                return false;
+            }
+        }
+    }
+
+    /// Creates of all lanes are counted from now on.
+    fn count_creates(&self) -> Result<(), CreateError> {
+        if self.further_creates.get().is_none() {
+            let creates = Fixed::new(array::from_fn(|_| Creates::new()))?;
+            drop(self.further_creates.set(creates));
+        }
+        Ok(())
+    }
+
+    /// Opens a segment behind so many, as large as that of this index, with so many lanes.
+    fn grow_by(&self, count: usize, index: usize, lanes: u32) -> Result<(), CreateError> {
         let may_grow = |growth: &Growth| count < growth.most_segments as usize;
         let growth = self.growth.filter(may_grow).ok_or(CreateError::Full)?;
         if !self.begins(count) && self.waits_for_other(count) {
             return Ok(());
         }
-        let opened = open_segment(shape_of(count, growth));
+        let opened = open_segment(Shape {
+            tag: growth.first_tag + count as u32,
+            ..shape_of(index, lanes, growth)
+        });
         if opened.is_err() {
             // (Others may try.)
             self.begun.store(count, Ordering::Relaxed);
@@ -298,8 +330,11 @@ impl<T: Clear> Room<T> {
         // SAFETY: the segment doesn't move any more, and ends with the pool, which doesn't move.
         unsafe { segment.settle(self.pointer()) };
         self.share_in(&segment);
+        let lanes = self.lanes.count();
+        self.lanes.set_count(segment.lanes());
         let not_used = self.segments[self.tag + count].set(segment).err();
         self.count.store(count + 1, Ordering::Release);
+        self.lanes.come_new(lanes);
         not_used
     }
 
@@ -335,14 +370,17 @@ impl<T: Clear> Room<T> {
         number: u32,
         create: impl Fn(Post<'r, T>) -> Result<F, CreateError>,
     ) -> Result<F, CreateError> {
-        let creates = &self.creates[number as usize];
+        let creates = self.creates_of(number);
         let (from, count) = (creates.last.load(Ordering::Relaxed), self.count());
         for step in 0..count {
             let index = (from + step) % count;
             let Some(segment) = self.segment(index) else {
                 break;
             };
-            match create(segment.post(number)) {
+            let Some(post) = segment.post_of(number) else {
+                continue;
+            };
+            match create(post) {
                 Err(CreateError::Full) => (),
                 created => {
                     creates.had_place(index);
@@ -355,16 +393,17 @@ impl<T: Clear> Room<T> {
         Err(CreateError::Full)
     }
 
-    /// The seat of a lane in the segment where it had its last place. None where no segment is open.
+    /// The seat of a lane in the segment where it had its last place. None where no segment with the lane is open.
     pub(super) fn last_post(&self, number: u32) -> Option<Post<'_, T>> {
-        let last = self.creates[number as usize].last.load(Ordering::Relaxed);
-        let segment = self.segment(last).or_else(|| self.segment(0))?;
-        Some(segment.post(number))
+        let last = self.creates_of(number).last.load(Ordering::Relaxed);
+        let segment = self.segment(last);
+        let post = segment.and_then(|segment| segment.post_of(number));
+        post.or_else(|| self.posts_of(number).next())
     }
 
     /// A place of a lane may be free from now on, which had this key: creates of the lane look there first.
     pub(super) fn frees_place(&self, key: Key) {
-        let creates = &self.creates[key.shard() as usize];
+        let creates = self.creates_of(key.shard());
         let index = usize::from(tag_of(key.into())).saturating_sub(self.tag);
         creates.had_place(index);
         creates.look_again();
@@ -372,17 +411,21 @@ impl<T: Clear> Room<T> {
 
     /// Whether a lane had its last place in another segment than the first.
     pub(super) fn is_elsewhere(&self, number: u32) -> bool {
-        self.creates[number as usize].last.load(Ordering::Relaxed) != 0
+        self.creates_of(number).last.load(Ordering::Relaxed) != 0
     }
 
     /// Whether this create passes a lane by, since that was found full a while ago.
     pub(super) fn passes(&self, number: u32) -> bool {
-        self.creates[number as usize].passes()
+        self.creates_of(number).passes()
     }
 
     /// No lane is passed by any more.
     pub(super) fn look_again(&self) {
-        self.creates.iter().for_each(Creates::look_again);
+        let further = self.further_creates.get().into_iter().flatten();
+        self.creates
+            .iter()
+            .chain(further)
+            .for_each(Creates::look_again);
     }
 
     pub(crate) fn census(&self) -> Census {

@@ -111,11 +111,21 @@ impl<T: Clear> Segment<T> {
         unsafe { Post::at(NonNull::from(self.seat(number))) }
     }
 
+    /// The same, if the segment has so many lanes.
+    #[inline(always)]
+    pub(super) fn post_of(&self, number: u32) -> Option<Post<'_, T>> {
+        debug_assert!(!self.room.load(Ordering::Relaxed).is_null());
+        let seat = self.seats.get(number as usize)?;
+        // SAFETY: as of `post`.
+        Some(unsafe { Post::at(NonNull::from(seat)) })
+    }
+
     /// The same, with the segment beside it.
     #[inline(always)]
-    pub(super) fn near(&self, number: u32) -> Near<'_, T> {
+    pub(super) fn near_of(&self, number: u32) -> Option<Near<'_, T>> {
+        let post = self.post_of(number)?;
         // SAFETY: it is its segment.
-        unsafe { Near::new(self.post(number), NonNull::from(self)) }
+        Some(unsafe { Near::new(post, NonNull::from(self)) })
     }
 
     pub(super) fn lanes(&self) -> u32 {

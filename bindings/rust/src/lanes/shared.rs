@@ -1,5 +1,5 @@
-//! Calls of a lane that threads share, or that its thread has left: under its lock. None runs code of `T` meanwhile: what was taken out of
-//! a place comes back, and is emptied behind the lock.
+//! Calls of a lane that threads share, or that its thread has left: under its lock. None runs code of others meanwhile: what was taken out
+//! of a place comes back, and is emptied behind the lock; or within it, where this crate's code and std's alone does that.
 use super::own::{make, too_many};
 use super::seat::{Joint, Post};
 use super::segment::Segment;
@@ -25,12 +25,24 @@ pub(super) struct Taken<T: Clear> {
     block: Block<T>,
 }
 
-/// What the last call took out, which is a user of the lane from now on.
+/// What the last call took out, which is a user of the lane from now on; if it isn't put away here.
 #[inline(always)]
 fn taken<T: Clear>(turn: &mut Turn<'_, T>, joint: &mut Joint) -> Option<Taken<T>> {
-    let block = turn.taken()?;
+    let block = not_plain(turn)?;
     joint.come();
     Some(Taken { block })
+}
+
+/// What the last call took out, where code of others may run as it is emptied. Else that is done here, under the lock, and the block put away.
+#[inline(always)]
+fn not_plain<T: Clear>(turn: &mut Turn<'_, T>) -> Option<Block<T>> {
+    let mut block = turn.taken()?;
+    if !T::plain().0 {
+        return Some(block);
+    }
+    block.clear();
+    turn.put_away(block);
+    None
 }
 
 /// A create of a lane with a place on its own list.
@@ -136,9 +148,9 @@ impl<'s, T: Clear> Post<'s, T> {
         Ok(cleared)
     }
 
-    /// The same, where nobody has the lock now: it doesn't wait. What it took out of the place is to be emptied by the caller.
+    /// The same, where nobody has the lock now: it doesn't wait. What comes back is to be emptied by the caller.
     pub(super) fn try_shared_clear(self, key: Key) -> Option<(bool, Option<Block<T>>)> {
-        self.try_shared(|turn, _| (turn.clear(key), turn.taken()))
+        self.try_shared(|turn, _| (turn.clear(key), not_plain(turn)))
     }
 
     /// Empties what a call took out, without the lock.
@@ -237,7 +249,7 @@ impl<T: Clear> Post<'_, T> {
         let (taken, is_last) = unsafe {
             self.locked(|turn, joint| {
                 turn.release(held);
-                let taken = turn.taken();
+                let taken = not_plain(turn);
                 let is_last = taken.is_none() && joint.leave();
                 (taken, is_last)
             })

@@ -1,6 +1,7 @@
 //! Which of a pool's shared lanes a call turns to.
 use super::room::Room;
 use super::seat::{Joint, Post};
+use super::segment::Segment;
 use super::shared::NotShared;
 use super::threads;
 use super::token::{Begun, By};
@@ -8,13 +9,19 @@ use crate::clear::Clear;
 use crate::errors::CreateError;
 
 impl<T: Clear> Room<T> {
-    /// A call by the shared lane of the thread's choice; or by another one, where that isn't shared any more.
+    /// A call of a segment by the shared lane of the thread's choice; or by another one, where the segment hasn't that, or it isn't shared
+    /// any more.
     #[inline(always)]
-    pub(super) fn by_shared<R>(&self, call: impl Fn(u32) -> Result<R, NotShared>) -> R {
+    pub(super) fn by_shared<'s, R>(
+        &self,
+        segment: &'s Segment<T>,
+        call: impl Fn(Post<'s, T>) -> Result<R, NotShared>,
+    ) -> R {
         loop {
-            match call(self.shared_number()) {
-                Ok(answer) => return answer,
-                Err(NotShared) => threads::unset_last_shared(self.id()),
+            let post = segment.post_of(self.shared_number());
+            match post.map(&call) {
+                Some(Ok(answer)) => return answer,
+                _ => threads::unset_last_shared(self.id()),
             }
         }
     }

@@ -1,13 +1,15 @@
 //! Who has a pool's lanes.
 //!
 //! A lane is at home, where nobody has it; or in hand; or kept by a thread, until that ends; or left by such a thread, until the pool sees
-//! it; or shared by all threads, each call under a lock. Whose it is it is in all segments.
+//! it; or shared by all threads, each call under a lock. Whose it is it is in all segments that have it: those that are opened once threads
+//! find no lane have more than those before.
 use super::own::Own;
 use super::room::Room;
 use super::seat::Post;
 use super::segment::Segment;
 use super::threads;
 use crate::clear::Clear;
+use crate::erased::keybits::MOST_LANES;
 use crate::errors::{MemoryRefused, OpenError};
 use crate::object::Counted;
 use crate::sync::{AtomicBool, AtomicU64, Mutex, Ordering};
@@ -59,8 +61,9 @@ impl Drop for Told {
 
 /// Who has the lanes of a pool.
 pub(super) struct Lanes {
-    /// A bit for each lane.
-    all: u64,
+    /// A bit for each lane, and one for each that all segments have.
+    all: AtomicU64,
+    everywhere: u64,
     /// A bit for each lane that nobody has.
     home: AtomicU64,
     /// A bit for each lane that is shared.
@@ -80,7 +83,8 @@ impl Lanes {
         let homes = Counted::new(Homes::default());
         let homes = homes.map_err(|MemoryRefused| OpenError::Memory)?;
         Ok(Lanes {
-            all: first_bits(count),
+            all: AtomicU64::new(first_bits(count)),
+            everywhere: first_bits(count),
             home: AtomicU64::new(first_bits(count) & !shared),
             shared: AtomicU64::new(shared),
             always: shared,
@@ -108,7 +112,25 @@ impl Lanes {
     /// Whether many lanes are some thread's own, or in hand, as of this look: as many as are shared where calls need it.
     pub(super) fn are_many_taken(&self) -> bool {
         let others = self.home.load(Ordering::Relaxed) | self.shared.load(Ordering::Relaxed);
-        (self.all & !others).count_ones() >= self.few
+        (self.all.load(Ordering::Relaxed) & !others).count_ones() >= self.few
+    }
+
+    /// How many there are.
+    pub(super) fn count(&self) -> u32 {
+        self.all.load(Ordering::Relaxed).count_ones()
+    }
+
+    /// From the next segment on there are so many. (Under the lock, and told before the segment is counted.)
+    pub(super) fn set_count(&self, count: u32) {
+        self.all.store(first_bits(count), Ordering::Relaxed);
+    }
+
+    /// The lanes from this number on are at home from now on: their segment is open.
+    pub(super) fn come_new(&self, from: u32) {
+        let new = self.all.load(Ordering::Relaxed) & !first_bits(from);
+        if new != 0 {
+            self.home.fetch_or(new, Ordering::SeqCst);
+        }
     }
 
     /// Whether a lane is shared, as of this look.
@@ -119,11 +141,17 @@ impl Lanes {
 
     /// Takes a lane that is at home.
     fn take_home(&self) -> Option<Number> {
-        let take = |home: u64| (home != 0).then(|| home & (home - 1));
+        self.take_home_of(u64::MAX)
+    }
+
+    /// Takes one of these that is at home.
+    fn take_home_of(&self, these: u64) -> Option<Number> {
+        let first = |home: u64| home & these & (home & these).wrapping_neg();
+        let take = |home: u64| (first(home) != 0).then(|| home & !first(home));
         let home = self
             .home
             .fetch_update(Ordering::SeqCst, Ordering::SeqCst, take);
-        Some(Number(home.ok()?.trailing_zeros()))
+        Some(Number(first(home.ok()?).trailing_zeros()))
     }
 
     fn go_home(&self, number: Number) {
@@ -151,12 +179,27 @@ impl<T: Clear> Room<T> {
         Some(unsafe { Own::of(post) })
     }
 
-    /// Which way the thread calls the pool, whose lane isn't known. Its first call finds it one. (A segment is open.)
+    /// Which way the thread calls the pool. Its first call finds it a lane. (A segment is open.)
     pub(super) fn caller(&self) -> Caller<'_, T> {
+        if let Some(own) = self.known() {
+            return Caller::Own(own);
+        }
         if threads::shares(self.id()) && self.lanes.none_is_home() {
             return Caller::Sharing;
         }
         self.look_for_caller()
+    }
+
+    /// The same for a create: where all lanes are had, it has a segment with more lanes opened. (Each time that it finds none all the same,
+    /// another thread took one. A thread without memory to note its lane finds none ever.)
+    pub(super) fn caller_for_create(&self) -> Caller<'_, T> {
+        for _ in 0..MOST_LANES {
+            match self.caller() {
+                Caller::Sharing if self.widens() => (),
+                caller => return caller,
+            }
+        }
+        Caller::Sharing
     }
 
     #[cold]
@@ -195,7 +238,9 @@ impl<T: Clear> Room<T> {
         }
         self.welcome_back();
         self.share_some();
-        let number = lanes.take_home().or_else(|| self.take_shared_back())?;
+        let number = lanes
+            .take_home()
+            .or_else(|| self.take_shared_back(u64::MAX))?;
         let kept = number.get();
         match threads::keep(self.id(), number, &lanes.homes.0) {
             Ok(()) => Some(kept),
@@ -206,13 +251,26 @@ impl<T: Clear> Room<T> {
         }
     }
 
-    /// A lane that nobody has, for who takes it in hand.
+    /// A lane that nobody has, for who takes it in hand: one of those that all segments have, so that it never waits.
     pub(super) fn take(&self) -> Option<Number> {
-        let number = self.lanes.take_home().or_else(|| {
+        let these = self.lanes.everywhere;
+        let number = self.lanes.take_home_of(these).or_else(|| {
             self.welcome_back();
-            self.lanes.take_home()
+            self.lanes.take_home_of(these)
         });
-        number.or_else(|| self.take_shared_back())
+        number.or_else(|| self.take_shared_back(these))
+    }
+
+    /// Has a segment with more lanes opened for a thread that finds none for itself. Whether there may be one now.
+    #[cold]
+    #[inline(never)]
+    fn widens(&self) -> bool {
+        let count = self.lanes.count();
+        if threads::has_ended() || !self.may_widen(count) {
+            return false;
+        }
+        // (Under the lock: where another thread counts new lanes just now, they are at home then.)
+        self.locked(|| !self.lanes.none_is_home()) || self.widen(count)
     }
 
     /// A lane that was in hand comes home. What it has yet was leaked, for all that it gave borrowed it.
@@ -287,14 +345,14 @@ impl<T: Clear> Room<T> {
         number.map(|number| self.share(number)).is_some()
     }
 
-    /// Takes a lane back that is shared beside the few, and that nothing uses any more.
-    fn take_shared_back(&self) -> Option<Number> {
+    /// Takes one of these lanes back that is shared beside the few, and that nothing uses any more.
+    fn take_shared_back(&self, these: u64) -> Option<Number> {
         self.locked(|| {
             if !self.lanes.are_many_shared() {
                 return None;
             }
             let shared = self.lanes.shared.load(Ordering::SeqCst) & !self.lanes.always;
-            bits(shared).find_map(|number| self.own_if_idle(number))
+            bits(shared & these).find_map(|number| self.own_if_idle(number))
         })
     }
 
@@ -304,10 +362,8 @@ impl<T: Clear> Room<T> {
             .shared
             .fetch_and(!Number(number).bit(), Ordering::SeqCst);
         // SAFETY: it is shared.
-        let owned = self
-            .posts_of(number)
-            .take_while(|post| unsafe { post.own_if_idle() });
-        if owned.count() == self.count() {
+        let idle = |post: Post<'_, T>| unsafe { post.own_if_idle() };
+        if self.posts_of(number).all(idle) {
             return Some(Number(number));
         }
         self.share(Number(number));
@@ -325,7 +381,7 @@ impl<T: Clear> Room<T> {
         Some(bits(shared).skip(turn).chain(bits(shared).take(turn)))
     }
 
-    /// The shared lane of the thread's choice.
+    /// The shared lane of the thread's choice. The first is one that all segments have.
     ///
     /// # Panics
     ///
@@ -341,7 +397,9 @@ impl<T: Clear> Room<T> {
     #[cold]
     #[inline(never)]
     fn choose_shared(&self) -> u32 {
-        let first = self.shared_numbers().and_then(|mut numbers| numbers.next());
+        let everywhere = |number: &u32| self.lanes.everywhere & Number(*number).bit() != 0;
+        let numbers = self.shared_numbers();
+        let first = numbers.and_then(|mut numbers| numbers.find(everywhere));
         let number = first.expect("all lanes of the pool are in hand");
         threads::set_last_shared(self.id(), number);
         number
