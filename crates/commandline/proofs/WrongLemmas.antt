@@ -2,14 +2,14 @@
 use Rattle.std.proofs.Common.{◌≡◌, ◌∙◌, ◌&&◌, ℕ, Bool, true, false, List, Option, Some, None, IfOk, IfErr, codes, refl, sym, ap, subst, option_and_then}
 use Rattle.std.proofs.lemmas.Result.{IfOk-weaker, IfErr-weaker}
 use Rattle.clap.specs.Words.{Row, first_of}
-use Rattle.commandline.specs.Readings.{flag_of, key_number, long_number, turn_count, schedule_file, are_both_input, AreTurns, IsStop}
+use Rattle.commandline.specs.Readings.{flag_of, key_number, long_number, turn_count, try_count, schedule_file, are_both_input, AreTries, AreTurns, IsStop}
 use Rattle.commandline.specs.CommandLines.{AreMatchesOf, HasTurns, is_flagged, IsTaskOfNone}
-use Rattle.commandline.specs.Mistakes.{Wrong, IsWrong, first_wrong, unless_read, wrong_file, wrong_if, wrong_schedule, wrong_turns, wrong_stop, wrong_number, wrong_given, number_reason, said_by, RefusesMatches, Refuses, AsksFor, wants_explanation}
+use Rattle.commandline.specs.Mistakes.{Wrong, IsWrong, first_wrong, unless_read, wrong_file, wrong_if, wrong_schedule, wrong_turns, wrong_stop, wrong_tries, wrong_number, wrong_given, number_reason, said_by, Tells, RefusesMatches, Refuses, AsksFor, wants_explanation}
 use Rattle.commandline.specs.declared.fault.TaskFault.{TaskFault}
 use Rattle.commandline.specs.declared.fault.TaskFault.TheVariants as faults
 use Rattle.commandline.specs.declared.requests.Request.{Request}
 use Rattle.commandline.specs.declared.mistakes.Reason.{Reason}
-use Rattle.commandline.specs.declared.mistakes.Reason.TheVariants.{BadSchedule, BadSeed, BadTurns, BadStop, InputTwice, TwoTexts}
+use Rattle.commandline.specs.declared.mistakes.Reason.TheVariants.{BadSchedule, BadSeed, BadTurns, BadStop, BadTries, InputTwice, TwoTexts}
 use Rattle.schedules.specs.Schedules.{schedule_of, stop_of}
 use Rattle.commandline.specs.declared.tasks.Stop.{Stop}
 use Rattle.commandline.specs.declared.tasks.Task.{Task}
@@ -54,13 +54,25 @@ turns-right (Some schedule) (Some seed) (Some turns) (Listed lanes) are = absurd
 turns-right (Some schedule) (Some seed) (Some turns) (InFile path) are = absurd are
 turns-right (Some schedule) (Some seed) (Some turns) (Drawn from count) are = absurd are
 
+-- what a fault tells of the first of two mistakes it tells of both
+pub tells-first : (wrong later : Option Wrong) (fault : TaskFault) → Tells wrong fault → Tells (first_wrong wrong later) fault
+tells-first wrong later (faults.Words mistake) told = ap (λ (w : Option Wrong). first_wrong w later) told
+tells-first wrong later (faults.Clap error) told = tt
+tells-first wrong later (faults.Memory refused) told = tt
+
 stop-right : (text : Option (List ℕ)) (stop : Option Stop) → IsStop text stop → wrong_stop text ≡ None
 stop-right None None is = refl
 stop-right None (Some stop) is = absurd is
 stop-right (Some text) None is = absurd is
 stop-right (Some text) (Some stop) is = read-right (stop_of text) (stop.lane, stop.after) BadStop text is
 
-file-right : (text : Option (List ℕ)) (file : List ℕ) → text ≡ Some file → wrong_file text ≡ None
+tries-right : (text : Option (List ℕ)) (tries : Option ℕ) → AreTries text tries → wrong_tries text ≡ None
+tries-right None None are = refl
+tries-right None (Some tries) are = absurd are
+tries-right (Some text) None are = absurd are
+tries-right (Some text) (Some tries) are = read-right (try_count text) tries BadTries text are
+
+pub file-right : (text : Option (List ℕ)) (file : List ℕ) → text ≡ Some file → wrong_file text ≡ None
 file-right text file is = ap wrong_file is
 
 number-right : (hex : Bool) (text : Option (List ℕ)) (number : ℕ) → option_and_then (key_number hex) text ≡ Some number → wrong_number hex text ≡ None
@@ -99,8 +111,9 @@ matches-none name rows wrong (Replay file turns stop acts) is (named, right, pla
     none-wrong _ wrong (both _ _ (given-right rows _ turns stop right) (if-right _ TwoTexts (not-both _ _ plain))) (is.replay named)
 matches-none name rows wrong (Schedule file turns stop) is (named, right, printed, flag) =
     none-wrong _ wrong (both _ _ (given-right rows _ turns stop right) (if-right _ TwoTexts (not-other (is_flagged (codes "print-schedule") rows) _ flag))) (is.replay named)
-matches-none name rows wrong (Shorten file turns stop until) is (named, right, word) =
-    none-wrong _ wrong (both _ _ (given-right rows _ turns stop right) (file-right (first_of (codes "until") rows) _ word)) (is.shorten named)
+matches-none name rows wrong (Shorten file turns stop search) is (named, right, word, are, flag) =
+    none-wrong _ wrong (both _ _ (given-right rows _ turns stop right)
+    (both _ _ (file-right (first_of (codes "until") rows) _ word) (tries-right (first_of (codes "tries") rows) search.tries are))) (is.shorten named)
 matches-none name rows wrong (Check file) is (named, right) = none-wrong _ wrong (file-right (first_of (codes "acts") rows) _ right) (is.check named)
 matches-none name rows wrong (Run file) is (named, right) = none-wrong _ wrong (file-right (first_of (codes "file") rows) _ right) (is.run named)
 matches-none name rows wrong (Key number) is (named, flag, right) = none-wrong _ wrong (number-right (flag_of (first_of (codes "hex") rows)) (first_of (codes "number") rows) number right) (is.key named)

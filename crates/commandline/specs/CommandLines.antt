@@ -7,7 +7,7 @@ use Rattle.commandline.specs.declared.tasks.Stop.{Stop}
 use Rattle.commandline.specs.declared.tasks.Task.{Task}
 use Rattle.commandline.specs.declared.tasks.Task.TheVariants.{Replay, Schedule, Shorten, Check, Run, Key, Word}
 use Rattle.commandline.specs.declared.tasks.Turns.{Turns}
-use Rattle.commandline.specs.Readings.{flag_of, key_number, are_both_input, AreTurns, IsStop}
+use Rattle.commandline.specs.Readings.{flag_of, key_number, are_both_input, AreTries, AreTurns, IsStop}
 
 -- a positional argument with this id, which must be there
 abbrev pub positional : List ℕ → Rule
@@ -40,7 +40,8 @@ replay_line = line_of (codes "replay")
 abbrev pub shorten_line : App
 shorten_line = line_of (codes "shorten")
     (positional (codes "file") ∷ needed_option (codes "until") ∷ option_named (codes "schedule") ∷ option_named (codes "seed")
-    ∷ option_named (codes "turns") ∷ option_named (codes "stop") ∷ flag_named (codes "progress") ∷ flag_named (codes "explain") ∷ [])
+    ∷ option_named (codes "turns") ∷ option_named (codes "stop") ∷ option_named (codes "tries") ∷ flag_named (codes "words")
+    ∷ flag_named (codes "progress") ∷ flag_named (codes "explain") ∷ [])
 
 -- the subcommand `check`
 abbrev pub check_line : App
@@ -91,8 +92,9 @@ AreMatchesOf name rows (Replay file turns stop acts) = (name ≡ codes "replay")
     × (is_flagged (codes "print-schedule") rows ≡ false) × (acts ≡ is_flagged (codes "acts") rows)
 AreMatchesOf name rows (Schedule file turns stop) = (name ≡ codes "replay") × HasTurns rows (string_bytes file) turns stop
     × (is_flagged (codes "print-schedule") rows ≡ true) × (is_flagged (codes "acts") rows ≡ false)
-AreMatchesOf name rows (Shorten file turns stop until) = (name ≡ codes "shorten") × HasTurns rows (string_bytes file) turns stop
-    × (first_of (codes "until") rows ≡ Some (string_bytes until))
+AreMatchesOf name rows (Shorten file turns stop search) = (name ≡ codes "shorten") × HasTurns rows (string_bytes file) turns stop
+    × (first_of (codes "until") rows ≡ Some (string_bytes search.word)) × AreTries (first_of (codes "tries") rows) search.tries
+    × (search.decoded ≡ is_flagged (codes "words") rows)
 AreMatchesOf name rows (Check file) = (name ≡ codes "check") × (first_of (codes "acts") rows ≡ Some (string_bytes file))
 AreMatchesOf name rows (Run file) = (name ≡ codes "run") × (first_of (codes "file") rows ≡ Some (string_bytes file))
 AreMatchesOf name rows (Key number) = (name ≡ codes "key") × (flag_of (first_of (codes "word") rows) ≡ false)

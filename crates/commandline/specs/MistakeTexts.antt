@@ -4,7 +4,7 @@ use Rattle.schedules.specs.Schedules.{bad_entry}
 use Rattle.streams.specs.Shown.{bytes_text, cut}
 use Rattle.commandline.specs.declared.mistakes.Mistake.{Mistake}
 use Rattle.commandline.specs.declared.mistakes.Reason.{Reason}
-use Rattle.commandline.specs.declared.mistakes.Reason.TheVariants.{NoTurns, SeedAlone, TurnsAlone, ScheduleAndMore, BadSchedule, BadFile, InputTwice, TwoTexts, BadSeed, BadTurns, BadStop, BadNumber, BadHexadecimal, BadFrom, BadCount, NoText, Missing}
+use Rattle.commandline.specs.declared.mistakes.Reason.TheVariants.{NoTurns, SeedAlone, TurnsAlone, ScheduleAndMore, BadSchedule, BadFile, InputTwice, TwoTexts, BadSeed, BadTurns, BadStop, BadTries, BadNumber, BadHexadecimal, BadFrom, BadCount, NoText, Missing}
 
 -- before the text that the reason is about: the option
 abbrev pub before_of : Reason → List ℕ
@@ -19,6 +19,7 @@ before_of TwoTexts = codes "--acts stands beside --print-schedule"
 before_of BadSeed = codes "--seed \""
 before_of BadTurns = codes "--turns \""
 before_of BadStop = codes "--stop \""
+before_of BadTries = codes "--tries \""
 before_of BadNumber = codes "N \""
 before_of BadHexadecimal = codes "N \""
 before_of BadFrom = codes "--from \""
@@ -39,6 +40,7 @@ after_of TwoTexts = codes ": one text alone is printed"
 after_of BadSeed = codes "\" is no seed: one to twenty decimal digits, at most 18446744073709551615"
 after_of BadTurns = codes "\" is no number of turns: one to twenty decimal digits, at most 1000000"
 after_of BadStop = codes "\" is no stop: a lane, a colon and a number of turns, each of one to twenty decimal digits and at most 4294967295"
+after_of BadTries = codes "\" is no number of replays: one to twenty decimal digits, 1 to 18446744073709551615"
 after_of BadNumber = codes "\" is no number: one to twenty decimal digits, at most 18446744073709551615; with --hex hexadecimal digits"
 after_of BadHexadecimal = codes "\" is no hexadecimal number: one to sixteen hexadecimal digits, with or without 0x before them"
 after_of BadFrom = codes "\" is no turn: one to twenty decimal digits, at most 4294967295"

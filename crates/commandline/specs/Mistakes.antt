@@ -1,13 +1,13 @@
 -- Which mistake there is in words that clap takes, where they are no task: a reason, and the text that it is about.
 use Rattle.std.specs.Prelude.{◌≡◌, ◌&&◌, ℕ, Bool, true, false, List, [], Option, Some, None, Result, Ok, Err, IfOk, IfErr, codes}
 use Rattle.clap.specs.Words.{Row, first_of, subcommand_of}
-use Rattle.commandline.specs.Readings.{flag_of, long_number, turn_count, key_number, schedule_file, are_both_input}
+use Rattle.commandline.specs.Readings.{flag_of, long_number, turn_count, try_count, key_number, schedule_file, are_both_input}
 use Rattle.commandline.specs.CommandLines.{command_line, is_flagged, IsTaskOf, IsTaskOfNone}
 use Rattle.commandline.specs.declared.fault.TaskFault.{TaskFault}
 use Rattle.commandline.specs.declared.fault.TaskFault.TheVariants as faults
 use Rattle.commandline.specs.declared.mistakes.Mistake.{Mistake}
 use Rattle.commandline.specs.declared.mistakes.Reason.{Reason}
-use Rattle.commandline.specs.declared.mistakes.Reason.TheVariants.{NoTurns, SeedAlone, TurnsAlone, ScheduleAndMore, BadSchedule, BadFile, InputTwice, TwoTexts, BadSeed, BadTurns, BadStop, BadNumber, BadHexadecimal, Missing}
+use Rattle.commandline.specs.declared.mistakes.Reason.TheVariants.{NoTurns, SeedAlone, TurnsAlone, ScheduleAndMore, BadSchedule, BadFile, InputTwice, TwoTexts, BadSeed, BadTurns, BadStop, BadTries, BadNumber, BadHexadecimal, Missing}
 use Rattle.commandline.specs.declared.requests.Request.{Request}
 use Rattle.commandline.specs.declared.tasks.Task.{Task}
 use Rattle.schedules.specs.Schedules.{schedule_of, stop_of, joined, joined_schedule}
@@ -78,9 +78,15 @@ abbrev pub wrong_replay : List Row → Option Wrong
 wrong_replay rows = first_wrong (wrong_given rows) (wrong_if (is_flagged (codes "print-schedule") rows
     && is_flagged (codes "acts") rows) TwoTexts)
 
--- what is wrong with the matches of `shorten`: what is wrong with a replay, then with its word
+-- what is wrong with the text of a number of replays
+abbrev pub wrong_tries : Option (List ℕ) → Option Wrong
+wrong_tries None = None
+wrong_tries (Some text) = unless_read (try_count text) BadTries text
+
+-- what is wrong with the matches of `shorten`: what is wrong with a replay, then with its word, then with its number of replays
 abbrev pub wrong_shorten : List Row → Option Wrong
-wrong_shorten rows = first_wrong (wrong_given rows) (wrong_file (first_of (codes "until") rows))
+wrong_shorten rows = first_wrong (wrong_given rows)
+    (first_wrong (wrong_file (first_of (codes "until") rows)) (wrong_tries (first_of (codes "tries") rows)))
 
 -- what is wrong with the bytes of a schedule's file
 abbrev pub wrong_listed : List ℕ → Option Wrong

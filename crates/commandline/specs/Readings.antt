@@ -1,5 +1,5 @@
 -- What the texts of options stand for.
-use Rattle.std.specs.Prelude.{◌≡◌, ◌&&◌, ⊤, ℕ, Bool, true, false, List, Option, Some, None, codes, string_bytes, option_map, if◌then◌else◌}
+use Rattle.std.specs.Prelude.{◌≡◌, ◌==◌, ◌&&◌, ⊤, ℕ, Bool, true, false, List, Option, Some, None, codes, string_bytes, option_map, option_and_then, if◌then◌else◌}
 use Rattle.std.specs.Borrow.{Bor}
 use Rattle.std.specs.Str.{bytes_eq}
 use Rattle.clap.specs.Lexer.{strip_byte}
@@ -31,6 +31,16 @@ flag_of (Some text) = bytes_eq text (codes "true")
 -- a number of turns: of one to twenty digits, at most a million
 abbrev pub turn_count : List ℕ → Option ℕ
 turn_count text = number_of 20 1000000 text
+
+-- a number of replays: of one to twenty digits, at least 1, and of 64 bits
+abbrev pub try_count : List ℕ → Option ℕ
+try_count text = option_and_then (λ tries. if tries == 0 then None else Some tries) (long_number text)
+
+-- the number of replays of a text, and none where no text is given
+abbrev pub AreTries : Option (List ℕ) → Option ℕ → Type 0
+AreTries None None = ⊤
+AreTries (Some text) (Some tries) = try_count text ≡ Some tries
+AreTries text other = ⊥
 
 -- the path of the file that a schedule is in, where its text names one: a dash, which is standard input, or an at sign and the path
 abbrev pub schedule_file : List ℕ → Option (List ℕ)

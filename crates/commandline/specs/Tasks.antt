@@ -9,7 +9,7 @@ use Rattle.commandline.specs.declared.tasks.Task.TheVariants.{Replay, Schedule, 
 abbrev pub path_of : Task → Option (List ℕ)
 path_of (Replay file turns stop acts) = Some (string_bytes file)
 path_of (Schedule file turns stop) = Some (string_bytes file)
-path_of (Shorten file turns stop until) = Some (string_bytes file)
+path_of (Shorten file turns stop search) = Some (string_bytes file)
 path_of (Check file) = Some (string_bytes file)
 path_of (Run file) = Some (string_bytes file)
 path_of (Key number) = None
@@ -25,7 +25,7 @@ turns_path (InFile path) = Some (string_bytes path)
 abbrev pub schedule_path_of : Task → Option (List ℕ)
 schedule_path_of (Replay file turns stop acts) = turns_path turns
 schedule_path_of (Schedule file turns stop) = turns_path turns
-schedule_path_of (Shorten file turns stop until) = turns_path turns
+schedule_path_of (Shorten file turns stop search) = turns_path turns
 schedule_path_of (Check file) = None
 schedule_path_of (Run file) = None
 schedule_path_of (Key number) = None
@@ -35,7 +35,7 @@ schedule_path_of (Word word) = None
 abbrev pub over : Turns → Task → Task
 over turns (Replay file own stop acts) = Replay file turns stop acts
 over turns (Schedule file own stop) = Schedule file turns stop
-over turns (Shorten file own stop until) = Shorten file turns stop until
+over turns (Shorten file own stop search) = Shorten file turns stop search
 over turns (Check file) = Check file
 over turns (Run file) = Run file
 over turns (Key number) = Key number

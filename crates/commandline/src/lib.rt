@@ -22,7 +22,7 @@ pub use hints::{hint, is_due, is_hinted, word_of};
 pub use mistakes::{Mistake, Reason, write_mistake};
 pub use reports::{end_by_words, read_args};
 pub use requests::{Request, read_request, task};
-pub use tasks::{Stop, Task, Turns};
+pub use tasks::{Search, Stop, Task, Turns};
 pub use turns::turns_in;
 pub use views::{View, ViewRequest, Viewing, read_viewing};
 pub use wishes::{Call, Wish, are_hints_wanted, is_wanted};

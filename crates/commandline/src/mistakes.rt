@@ -35,6 +35,8 @@ pub enum Reason {
     BadTurns,
     /// The text of the stop is none.
     BadStop,
+    /// The number of replays is none, or 0, or too large.
+    BadTries,
     /// The number of a key or a word is none, or too large.
     BadNumber,
     /// The number is none of hexadecimal digits, or has too many.
@@ -102,6 +104,10 @@ fn wording(reason: Reason) -> (&'static str, &'static str)
         Reason::BadStop => (
             "--stop \"",
             "\" is no stop: a lane, a colon and a number of turns, each of one to twenty decimal digits and at most 4294967295",
+        ),
+        Reason::BadTries => (
+            "--tries \"",
+            "\" is no number of replays: one to twenty decimal digits, 1 to 18446744073709551615",
         ),
         Reason::BadNumber => (
             "N \"",

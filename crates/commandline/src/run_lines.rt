@@ -139,13 +139,16 @@ static SHORTEN: Line<'static> = Line {
         example: "Example: poolrun shorten first.json --seed 1 --turns 100 --until PUBLISH",
         about: "Leaves entries out of a schedule for as long as a word stands in its replay, and prints what is left",
         usage: Some(
-            "poolrun shorten <FILE> --schedule <LANES> [--stop <L:K>] --until <WORD> [--progress] [--explain]\n       poolrun shorten <FILE> --seed <N> --turns <M> [--stop <L:K>] --until <WORD> [--progress] [--explain]",
+            "poolrun shorten <FILE> --schedule <LANES> [--stop <L:K>] --until <WORD> [--words] [--tries <T>] [--progress] [--explain]\n       poolrun shorten <FILE> --seed <N> --turns <M> [--stop <L:K>] --until <WORD> [--words] [--tries <T>] [--progress] [--explain]",
         ),
         more: "\
 WORD is one or more fields of a line of the trace or of the acts, as full, CLAIM or 'clear 16777216 true':
-it stands between spaces, or at an end of the line. No single entry of what is printed can be left out.
+it stands between spaces, or at an end of the line. With --words it is one or more fields of a line as
+`poolview words` shows it, as failed or 'MARKED count 1'. No single entry of what is printed can be left out.
 
-Each trial is a replay. After those of 100000000 entries in all it gives up.
+Each trial is a replay. After those of 100000000 entries in all it gives up. With --tries it ends after
+T replays, and prints the shortest schedule that it has then; more can perhaps be left out of that one,
+which --explain says.
 
 With --progress a line on standard error says at the end how many entries are left of how many, and how
 many trials that took; and meanwhile how far it is, after each 50000 entries that were replayed.
@@ -168,6 +171,16 @@ these words.",
         SEED,
         TURNS,
         STOP,
+        Argument {
+            kind: Kind::Valued("T"),
+            name: "tries",
+            help: "How many replays are made at most, 1 to 18446744073709551615",
+        },
+        Argument {
+            kind: Kind::Flag,
+            name: "words",
+            help: "WORD is of the trace as `poolview words` shows it",
+        },
         Argument {
             kind: Kind::Flag,
             name: "progress",

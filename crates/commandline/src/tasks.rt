@@ -17,12 +17,12 @@ pub enum Task {
         turns: Turns,
         stop: Option<Stop>,
     },
-    /// Leave entries out of that schedule for as long as this word stands in the replay, and print what is left.
+    /// Leave entries out of that schedule for as long as a word stands in the replay, and print what is left.
     Shorten {
         file: String,
         turns: Turns,
         stop: Option<Stop>,
-        until: String,
+        search: Search,
     },
     /// Check the acts in the file at this path.
     Check {
@@ -98,16 +98,27 @@ impl Task {
                 file,
                 turns: _,
                 stop,
-                until,
+                search,
             } => Task::Shorten {
                 file,
                 turns,
                 stop,
-                until,
+                search,
             },
             other => other,
         }
     }
+}
+
+/// What a shortened schedule is to show still, and how it is looked for.
+#[derive(Drop)]
+pub struct Search {
+    /// The word that is to stand in the replay.
+    pub word: String,
+    /// Whether the word is one of the decoded lines of a trace.
+    pub decoded: bool,
+    /// How many replays are made at most, where that is given.
+    pub tries: Option<u64>,
 }
 
 /// The turns of a replay.

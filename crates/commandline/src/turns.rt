@@ -1,7 +1,7 @@
 //! The turns and the numbers that texts of the command line stand for.
 ghost use Rattle.std.specs.Prelude.{◌≡◌, Option, Some, None, IfOk, IfErr};
-ghost use Rattle.commandline.specs.Readings.{text_of, long_number, turn_count, key_number, schedule_file, are_both_input, AreTurns, AreListed, IsStop};
-ghost use Rattle.commandline.specs.Mistakes.{Tells, wrong_turns, wrong_stop, wrong_number, wrong_listed};
+ghost use Rattle.commandline.specs.Readings.{text_of, long_number, turn_count, try_count, key_number, schedule_file, are_both_input, AreTries, AreTurns, AreListed, IsStop};
+ghost use Rattle.commandline.specs.Mistakes.{Tells, wrong_turns, wrong_stop, wrong_tries, wrong_number, wrong_listed};
 
 use crate::fault::{TaskFault, mistaken, mistaken_without};
 use crate::hexadecimal::read_hexadecimal;
@@ -134,6 +134,31 @@ pub(crate) fn read_turns(
         (None, None, Some(turns)) => Err(mistaken(alloc, Reason::TurnsAlone, turns)),
         (None, None, None) => Err(mistaken_without(alloc, Reason::NoTurns)),
     }
+}
+
+/// A number of replays.
+fn read_try_count(text: &str) -> Option<u64>
+    ensures { result ≡ try_count text.now }
+{
+    let tries = read_long_number(text)?;
+    if tries == 0 {
+        return None;
+    }
+    Some(tries)
+}
+
+/// How many replays are made at most, where that is given.
+pub(crate) fn tries_given(alloc: Global, text: Option<&str>) -> Result<Option<u64>, TaskFault>
+    ensures ok { IfOk result (AreTries (text_of text.entry)) }
+    ensures err { IfErr result (Tells (wrong_tries (text_of text.entry))) }
+{
+    let Some(text) = text else {
+        return Ok(None);
+    };
+    let Some(tries) = read_try_count(text) else {
+        return Err(mistaken(alloc, Reason::BadTries, text));
+    };
+    Ok(Some(tries))
 }
 
 /// The stop of a replay, where one is given.

@@ -1,6 +1,6 @@
 //! When mistakes are explained and progress is told, by words of the command line and by where the program runs.
 ghost use Rattle.std.specs.Prelude.{◌≡◌, false, IfOk, map, string_bytes};
-ghost use Rattle.commandline.specs.Wishes.{wish_of, wish_in, progress_of, progress_in, plain_word, is_wanted, is_quiet, IsCallOf};
+ghost use Rattle.commandline.specs.Wishes.{flag_of, alone, said_behind, wish_of, wish_in, is_end, options_of, plain_word, plain_words, is_wanted, is_quiet, IsCallOf};
 
 use std::alloc::{AllocError, Global};
 use std::env;
@@ -20,7 +20,8 @@ pub enum Wish {
 /// What a program was called with.
 #[derive(Drop)]
 pub struct Call {
-    /// The words, the program's name first, as `clap` reads them: `--explain` in place of `--explain=never`, and so on.
+    /// The words, the program's name first, as `clap` reads them: `--explain` in place of `--explain=never`, and so on,
+    /// before the first `--`.
     pub words: Vec<String>,
     /// What such a word says of explanations.
     pub wish: Option<Wish>,
@@ -44,58 +45,82 @@ impl Call {
     }
 }
 
-/// When mistakes are explained, by a word.
-fn wish_of(word: &str) -> Option<Wish>
-    ensures { result ≡ wish_of word.now }
+/// What is told where it is wished.
+#[derive(Clone, Copy)]
+enum Matter {
+    /// Where a mistake is, and what is wanted there.
+    Mistakes,
+    /// How far a long task is.
+    Progress,
+}
+
+/// The flag by which a matter is asked for.
+fn flag_of(matter: Matter) -> &'static str
+    ensures { result.now ≡ flag_of matter }
 {
-    if word == "--explain=never" {
+    match matter {
+        Matter::Mistakes => "--explain",
+        Matter::Progress => "--progress",
+    }
+}
+
+/// What the flag alone says; that of mistakes is read by `clap`.
+fn alone(matter: Matter) -> Option<Wish>
+    ensures { result ≡ alone matter }
+{
+    match matter {
+        Matter::Mistakes => None,
+        Matter::Progress => Some(Wish::Always),
+    }
+}
+
+/// What is said of a matter by what stands behind its flag.
+fn said_behind(matter: Matter, behind: &[u8]) -> Option<Wish>
+    ensures { result ≡ said_behind matter behind.now }
+{
+    if behind.is_empty() {
+        return alone(matter);
+    }
+    if behind == b"=never".as_slice() {
         return Some(Wish::Never);
     }
-    if word == "--explain=always" {
+    if behind == b"=always".as_slice() {
         return Some(Wish::Always);
     }
-    if word == "--explain=auto" {
+    if behind == b"=auto".as_slice() {
         return Some(Wish::Auto);
     }
     None
 }
 
-/// When progress is told, by a word.
-fn progress_of(word: &str) -> Option<Wish>
-    ensures { result ≡ progress_of word.now }
+/// What a word says of a matter.
+fn wish_of(matter: Matter, word: &str) -> Option<Wish>
+    ensures { result ≡ wish_of matter word.now }
 {
-    if word == "--progress" {
-        return Some(Wish::Always);
-    }
-    if word == "--progress=never" {
-        return Some(Wish::Never);
-    }
-    if word == "--progress=always" {
-        return Some(Wish::Always);
-    }
-    if word == "--progress=auto" {
-        return Some(Wish::Auto);
-    }
-    None
+    let behind = word.as_bytes().strip_prefix(flag_of(matter).as_bytes())?;
+    said_behind(matter, behind)
 }
 
 /// A word as `clap` reads it.
 fn plain_word(word: &str) -> &str
     ensures { result.now ≡ plain_word word.now }
 {
-    match (wish_of(word), progress_of(word)) {
-        (Some(_), _) => "--explain",
-        (None, Some(_)) => "--progress",
+    match (
+        wish_of(Matter::Mistakes, word),
+        wish_of(Matter::Progress, word),
+    ) {
+        (Some(_), _) => flag_of(Matter::Mistakes),
+        (None, Some(_)) => flag_of(Matter::Progress),
         (None, None) => word,
     }
 }
 
-/// When mistakes are explained, by the first of some words that says it.
-fn wish_in(words: &[String]) -> Option<Wish>
-    ensures { result ≡ wish_in (map string_bytes words.now) }
+/// What the first of some words says of a matter that says something of it.
+fn wish_in(matter: Matter, words: &[String]) -> Option<Wish>
+    ensures { result ≡ wish_in matter (map string_bytes words.now) }
 {
     for word in words {
-        let wish = wish_of(word.as_str());
+        let wish = wish_of(matter, word.as_str());
         if wish.is_some() {
             return wish;
         }
@@ -103,26 +128,32 @@ fn wish_in(words: &[String]) -> Option<Wish>
     None
 }
 
-/// When progress is told, by the first of some words that says it.
-fn progress_in(words: &[String]) -> Option<Wish>
-    ensures { result ≡ progress_in (map string_bytes words.now) }
+/// The words before the first `--`, behind which no word is an option.
+fn options_of(words: &[String]) -> &[String]
+    ensures { map string_bytes result.now ≡ options_of (map string_bytes words.now) }
 {
-    for word in words {
-        let wish = progress_of(word.as_str());
-        if wish.is_some() {
-            return wish;
+    for (count, word) in words.iter().enumerate() {
+        if word.as_str() == "--" {
+            return &words[..count];
         }
     }
-    None
+    words
 }
 
 /// Some words as `clap` reads them. The error is want of memory.
 fn plain_words(alloc: Global, words: &[String]) -> Result<Vec<String>, AllocError>
-    ensures { IfOk result (λ plain. map string_bytes plain.items ≡ map plain_word (map string_bytes words.now)) }
+    ensures { IfOk result (λ plain. map string_bytes plain.items ≡ plain_words (map string_bytes words.now)) }
 {
     let mut plain = Vec::new(alloc);
+    let mut ended = false;
     for word in words {
-        plain.push(String::from_str(alloc, plain_word(word.as_str()))?)?;
+        ended = ended || word.as_str() == "--";
+        let read = if ended {
+            word.as_str()
+        } else {
+            plain_word(word.as_str())
+        };
+        plain.push(String::from_str(alloc, read)?)?;
     }
     Ok(plain)
 }
@@ -131,8 +162,9 @@ fn plain_words(alloc: Global, words: &[String]) -> Result<Vec<String>, AllocErro
 pub(crate) fn call_of(alloc: Global, words: &[String]) -> Result<Call, AllocError>
     ensures { IfOk result (IsCallOf (map string_bytes words.now)) }
 {
-    let wish = wish_in(words);
-    let progress = progress_in(words);
+    let options = options_of(words);
+    let wish = wish_in(Matter::Mistakes, options);
+    let progress = wish_in(Matter::Progress, options);
     let words = plain_words(alloc, words)?;
     Ok(Call {
         words,

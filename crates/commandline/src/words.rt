@@ -7,8 +7,8 @@ ghost use Rattle.commandline.specs.Mistakes.{Tells, RefusesMatches, wrong_given,
 
 use crate::fault::{TaskFault, mistaken_without};
 use crate::mistakes::Reason;
-use crate::tasks::{Stop, Task, Turns};
-use crate::turns::{are_both_input, read_key_number, read_turns, stop_given};
+use crate::tasks::{Search, Stop, Task, Turns};
+use crate::turns::{are_both_input, read_key_number, read_turns, stop_given, tries_given};
 use clap::ArgMatches;
 use std::alloc::Global;
 
@@ -96,12 +96,17 @@ fn shorten_task(alloc: Global, matches: &ArgMatches) -> Result<Task, TaskFault>
     ensures err { IfErr result (Tells (wrong_shorten (rows_of (found_of matches.now)))) }
 {
     let GivenTurns { file, turns, stop } = turns_given(alloc, matches)?;
-    let until = file_given(alloc, matches, "until")?;
+    let word = file_given(alloc, matches, "until")?;
+    let tries = tries_given(alloc, given(matches, "tries"))?;
     Ok(Task::Shorten {
         file,
         turns,
         stop,
-        until,
+        search: Search {
+            word,
+            decoded: is_used(matches, "words"),
+            tries,
+        },
     })
 }
 

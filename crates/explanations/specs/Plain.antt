@@ -1,6 +1,6 @@
 -- Why a file wasn't read, why the output can't be written, and why a number is no key's, in words.
 use Rattle.std.specs.Prelude.{ℕ, List, ◌++◌, decimal, codes}
-use Rattle.streams.specs.Reasons.{reason_text, unwritable_text}
+use Rattle.streams.specs.Reasons.{reason_text, output_told}
 use Rattle.streams.specs.Shown.{cut_text, line_text}
 use Rattle.streams.specs.declared.reading.Unreadable.{Unreadable}
 use Rattle.streams.specs.declared.write_failed.Unwritable.{Unwritable}
@@ -13,11 +13,7 @@ file_told path why = codes "\"" ++ cut_text path ++ codes "\" can't be opened, o
 abbrev pub file_line : List ℕ → Unreadable → List ℕ
 file_line path why = line_text (file_told path why)
 
--- why standard output can't be written, by the system's reason
-abbrev pub output_told : Unwritable → List ℕ
-output_told why = codes "standard output can't be written: " ++ unwritable_text why
-
--- the line that explains it
+-- the line that explains why standard output can't be written, by the system's reason
 abbrev pub output_line : Unwritable → List ℕ
 output_line why = line_text (output_told why)
 

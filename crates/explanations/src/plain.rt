@@ -1,7 +1,8 @@
 //! Why a file wasn't read, why the output can't be written, and why a number is no key's, in words.
 ghost use Rattle.std.specs.Prelude.{◌≡◌, IfOk, string_bytes};
+ghost use Rattle.streams.specs.Reasons.{output_told};
 ghost use Rattle.streams.specs.Shown.{IsSafeLine};
-ghost use Rattle.explanations.specs.Plain.{file_told, file_line, output_told, output_line, no_key_line};
+ghost use Rattle.explanations.specs.Plain.{file_told, file_line, output_line, no_key_line};
 
 use crate::found::cut_of;
 use std::alloc::{AllocError, Global};

@@ -2,3 +2,4 @@ pub mod Endings
 pub mod Verdicts
 mod Running
 mod Replaying
+mod Refusals

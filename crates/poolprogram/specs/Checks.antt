@@ -70,6 +70,7 @@ RefusesActs bytes runs.Memory = HasVerdict bytes
 RefusesActs bytes (runs.Read fault) = ⊥
 RefusesActs bytes (runs.Core fault) = ⊥
 RefusesActs bytes (runs.Shortening fault) = ⊥
+RefusesActs bytes (runs.Absent decoded) = ⊥
 RefusesActs bytes runs.Open = ⊥
 RefusesActs bytes (runs.File why) = ⊥
 RefusesActs bytes runs.Output = ⊥

@@ -15,6 +15,8 @@ use Rattle.explanations.specs.Plain.{file_line, output_line, no_key_line}
 use Rattle.explanations.specs.ScriptTexts.{ExplainsScript}
 use Rattle.poolprogram.specs.HalfRuns.{ExplainsHalf}
 use Rattle.poolprogram.specs.Turns.{entries_for}
+use Rattle.poolprogram.specs.declared.done.Done.{Done}
+use Rattle.poolprogram.specs.declared.done.Done.TheVariants.{Well, Badly, Early}
 use Rattle.poolprogram.specs.declared.explanation.Subject.{Subject}
 use Rattle.poolprogram.specs.declared.explanation.Subject.TheVariants.{Replay, Path, Number}
 use Rattle.poolprogram.specs.declared.run_fault.RunFault.{RunFault}
@@ -67,11 +69,20 @@ ExplainsUnread (Replay path turns stop) why text = text ≡ file_line (string_by
 ExplainsUnread (Path path) why text = text ≡ file_line (string_bytes path) why
 ExplainsUnread (Number number) why text = text ≡ []
 
+-- why a schedule isn't shortened whose replay lacks the word, decoded or not
+abbrev pub absent_told : Bool → List ℕ
+absent_told false = codes "the word of --until stands in no line of the replay, neither with --acts nor without"
+absent_told true = codes "the word of --until stands in no line of the replay, as poolview words shows it"
+
 -- why a schedule isn't shortened
 abbrev pub shortening_told : Unshortened → List ℕ
-shortening_told shortenings.Fails = codes "the word of --until stands in no line of the replay, neither with --acts nor without"
+shortening_told shortenings.Fails = absent_told false
 shortening_told shortenings.Limit = codes "100000000 entries were replayed, and more can perhaps be left out: cut the schedule before"
 shortening_told shortenings.Memory = codes "memory was refused"
+
+-- what is said of a schedule that was shortened by as many replays as may be
+abbrev pub early_told : List ℕ
+early_told = codes "all replays of --tries were made, and more can perhaps be left out"
 
 -- the text explains a fault; that of the output by this reason
 abbrev pub ExplainsFault : Subject → List ℕ → Unwritable → RunFault → List ℕ → Type 0
@@ -80,23 +91,25 @@ ExplainsFault subject file why (runs.Acts refusal) text = text ≡ acts_explanat
 ExplainsFault subject file why (runs.File unread) text = ExplainsUnread subject unread text
 ExplainsFault subject file why runs.Output text = text ≡ output_line why
 ExplainsFault subject file why (runs.Core fault) text = text ≡ line_text (codes "memory was refused")
+ExplainsFault subject file why (runs.Absent decoded) text = text ≡ line_text (absent_told decoded)
 ExplainsFault subject file why (runs.Shortening fault) text = text ≡ line_text (shortening_told fault)
 ExplainsFault subject file why runs.Open text = text ≡ line_text (codes "memory was refused")
 ExplainsFault subject file why runs.Memory text = text ≡ line_text (codes "memory was refused")
 
 -- the text explains how a task ended that is about this, where the output can't be written for this reason; of a replay that was done it
--- tells what that left undone
-abbrev pub Explains : Subject → List ℕ → Unwritable → Result Bool RunFault → List ℕ → Type 0
+-- tells what that left undone, and of a schedule that was shortened early that more can perhaps be left out
+abbrev pub Explains : Subject → List ℕ → Unwritable → Result Done RunFault → List ℕ → Type 0
 Explains subject file why (Err fault) text = ExplainsFault subject file why fault text
-Explains (Replay path turns stop) file why (Ok true) text = ExplainsHalf file turns stop text
-Explains (Path path) file why (Ok true) text = text ≡ []
-Explains (Number number) file why (Ok true) text = text ≡ []
-Explains (Replay path turns stop) file why (Ok false) text = ExplainsCheck file text
-Explains (Path path) file why (Ok false) text = ExplainsCheck file text
-Explains (Number number) file why (Ok false) text = text ≡ no_key_line number
+Explains (Replay path turns stop) file why (Ok Well) text = ExplainsHalf file turns stop text
+Explains (Path path) file why (Ok Well) text = text ≡ []
+Explains (Number number) file why (Ok Well) text = text ≡ []
+Explains (Replay path turns stop) file why (Ok Badly) text = ExplainsCheck file text
+Explains (Path path) file why (Ok Badly) text = ExplainsCheck file text
+Explains (Number number) file why (Ok Badly) text = text ≡ no_key_line number
+Explains subject file why (Ok Early) text = text ≡ line_text early_told
 
 -- there is nothing to explain: the task is no replay, and went well
-abbrev pub IsPlain : Subject → Result Bool RunFault → Type 0
+abbrev pub IsPlain : Subject → Result Done RunFault → Type 0
 IsPlain (Replay path turns stop) done = ⊥
-IsPlain (Path path) done = done ≡ Ok true
-IsPlain (Number number) done = done ≡ Ok true
+IsPlain (Path path) done = done ≡ Ok Well
+IsPlain (Number number) done = done ≡ Ok Well

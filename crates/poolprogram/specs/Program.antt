@@ -24,6 +24,7 @@ use Rattle.explanations.specs.Said.{IsLineOrNone}
 use Rattle.poolprogram.specs.Listings.{ListsTurns, IsUnlisted}
 use Rattle.poolprogram.specs.Reading.{IsFileOf, IsUnread}
 use Rattle.poolprogram.specs.Tasks.{WritesTask, RefusesTask, task_status, fault_line, report_text}
+use Rattle.poolprogram.specs.declared.done.Done.{Done}
 use Rattle.poolprogram.specs.declared.explanation.Subject.{Subject}
 use Rattle.poolprogram.specs.declared.explanation.Subject.TheVariants.{Replay, Path, Number}
 use Rattle.poolprogram.specs.declared.listing.Unlisted.{Unlisted}
@@ -34,20 +35,20 @@ use Rattle.poolprogram.specs.declared.run_fault.RunFault.TheVariants as runs
 
 -- a task was done on these bytes, or refused: nothing was written, but where the output failed
 pub record Does {O : Type 0} (contents : O
-    → Option (List ℕ)) (task : Task) (file : List ℕ) (done : Result Bool RunFault) (old new : Watched O) : Type 0 where
-  pub ok : IfOk done (λ good. WritesTask task file good (contents old.inner) (contents new.inner))
+    → Option (List ℕ)) (task : Task) (file : List ℕ) (done : Result Done RunFault) (old new : Watched O) : Type 0 where
+  pub ok : IfOk done (λ done. WritesTask task file done (contents old.inner) (contents new.inner))
   pub output : IsErrOf done runs.Output ↔ (new.failed ≡ true)
   pub refused : IfErr done (λ fault. fault ≢ runs.Output → (new ≡ old) × RefusesTask task file fault)
 
 -- a task was done on the bytes of its file
 pub record DoesFile {O : Type 0} (contents : O
-    → Option (List ℕ)) (left : Option (List ℕ)) (task : Task) (file : List ℕ) (done : Result Bool RunFault) (old new : Watched O) : Type 0
+    → Option (List ℕ)) (left : Option (List ℕ)) (task : Task) (file : List ℕ) (done : Result Done RunFault) (old new : Watched O) : Type 0
   where
     pub read : IsFileOf (path_of task) left file
     pub does : Does contents task file done old new
 
 -- its file wasn't read, and nothing was written
-pub record LacksFile {O : Type 0} (task : Task) (file : List ℕ) (done : Result Bool RunFault) (old new : Watched O) : Type 0 where
+pub record LacksFile {O : Type 0} (task : Task) (file : List ℕ) (done : Result Done RunFault) (old new : Watched O) : Type 0 where
   pub fault : RunFault
   pub unread : IsUnread (path_of task) fault
   pub done_is : done ≡ Err fault
@@ -55,32 +56,32 @@ pub record LacksFile {O : Type 0} (task : Task) (file : List ℕ) (done : Result
   pub kept : new ≡ old
 
 -- what came of a task
-abbrev pub DoesTask : {O : Type 0} → (O → Option (List ℕ)) → Option (List ℕ) → Task → List ℕ → Result Bool RunFault → Watched O → Watched O
+abbrev pub DoesTask : {O : Type 0} → (O → Option (List ℕ)) → Option (List ℕ) → Task → List ℕ → Result Done RunFault → Watched O → Watched O
     → Type 0
 DoesTask contents left task file done old new = DoesFile contents left task file done old new ⊎ LacksFile task file done old new
 
 -- the text, which is one line that can be printed, or empty, explains how a task ended that is about this, where the output can't be written
 -- for this reason
-pub record ExplainsEnd (subject : Subject) (file : List ℕ) (reason : Unwritable) (done : Result Bool RunFault) (explained : Bool)
+pub record ExplainsEnd (subject : Subject) (file : List ℕ) (reason : Unwritable) (done : Result Done RunFault) (explained : Bool)
     (text : List ℕ) : Type 0 where
   pub all : explained ≡ true
   pub explains : Explains subject file reason done text
   pub safe : IsLineOrNone text
 
 -- it does; or it is empty, as memory was refused for what there is to explain, and that is told
-abbrev pub IsWhy : Result Subject AllocError → List ℕ → Unwritable → Result Bool RunFault → Bool → List ℕ → Type 0
+abbrev pub IsWhy : Result Subject AllocError → List ℕ → Unwritable → Result Done RunFault → Bool → List ℕ → Type 0
 IsWhy (Ok subject) file reason done explained text = ExplainsEnd subject file reason done explained text
     ⊎ ((explained ≡ false) × (text ≡ []) × (IsPlain subject done → ⊥))
 IsWhy (Err refused) file reason done explained text = (explained ≡ false) × (text ≡ [])
 
 -- the same, where there is something to be explained; where there isn't, the text is empty
-abbrev pub IsWhyIf : Option (Result Subject AllocError) → List ℕ → Unwritable → Result Bool RunFault → Bool → List ℕ → Type 0
+abbrev pub IsWhyIf : Option (Result Subject AllocError) → List ℕ → Unwritable → Result Done RunFault → Bool → List ℕ → Type 0
 IsWhyIf (Some subject) file reason done explained text = IsWhy subject file reason done explained text
 IsWhyIf None file reason done explained text = (explained ≡ true) × (text ≡ [])
 
 -- such a text is said
 pub record SaysWhy {E : Type 0} (errors : E
-    → Option (List ℕ)) (subject : Option (Result Subject AllocError)) (file : List ℕ) (reason : Unwritable) (done : Result Bool RunFault)
+    → Option (List ℕ)) (subject : Option (Result Subject AllocError)) (file : List ℕ) (reason : Unwritable) (done : Result Done RunFault)
     (explained : Bool) (before after : Watched E) : Type 0 where
   pub why : List ℕ
   pub is : IsWhyIf subject file reason done explained why
@@ -88,7 +89,7 @@ pub record SaysWhy {E : Type 0} (errors : E
 
 -- the line of a task's fault is said, where it has one, and such a text behind it
 pub record SaysEnd {E : Type 0} (errors : E
-    → Option (List ℕ)) (subject : Option (Result Subject AllocError)) (file : List ℕ) (reason : Unwritable) (done : Result Bool RunFault)
+    → Option (List ℕ)) (subject : Option (Result Subject AllocError)) (file : List ℕ) (reason : Unwritable) (done : Result Done RunFault)
     (ending : Ending) (before after : Watched E) : Type 0 where
   pub status_is : ending.status ≡ task_status done
   pub why : List ℕ
@@ -102,14 +103,14 @@ IsSubjectIf false task None = ⊤
 IsSubjectIf wanted task subject = ⊥
 
 -- the text explains how the task ended, by what it is about
-pub record IsExplainedTask (task : Task) (file : List ℕ) (reason : Unwritable) (done : Result Bool RunFault) (explained : Bool)
+pub record IsExplainedTask (task : Task) (file : List ℕ) (reason : Unwritable) (done : Result Done RunFault) (explained : Bool)
     (text : List ℕ) : Type 0 where
   pub subject : Result Subject AllocError
   pub about : IfOk subject (IsSubjectOf task)
   pub is : IsWhy subject file reason done explained text
 
 -- the text explains how the task ended, where that is wanted, and is empty where it isn't
-abbrev pub ExplainsIf : Bool → Task → List ℕ → Unwritable → Result Bool RunFault → Bool → List ℕ → Type 0
+abbrev pub ExplainsIf : Bool → Task → List ℕ → Unwritable → Result Done RunFault → Bool → List ℕ → Type 0
 ExplainsIf true task file reason done explained text = IsExplainedTask task file reason done explained text
 ExplainsIf false task file reason done explained text = (explained ≡ true) × (text ≡ [])
 
@@ -118,7 +119,7 @@ pub record EndsTask {O E : Type 0} (contents : O → Option (List ℕ)) (errors 
     → Option (List ℕ)) (left : Option (List ℕ)) (task : Task) (explain : Bool)
     (old new : Watched O) (before after : Watched E) (ending : Ending) : Type 0 where
   pub file : List ℕ
-  pub done : Result Bool RunFault
+  pub done : Result Done RunFault
   pub does : DoesTask contents left task file done old new
   pub status_is : ending.status ≡ task_status done
   pub why : List ℕ

@@ -19,6 +19,7 @@ abbrev pub run_fault_number : RunFault → ℕ
 run_fault_number (runs.Read refusal) = script_fault_number refusal.fault
 run_fault_number (runs.Acts refusal) = acts_fault_number refusal.fault
 run_fault_number (runs.Core fault) = 25
+run_fault_number (runs.Absent decoded) = 44
 run_fault_number (runs.Shortening shortenings.Fails) = 44
 run_fault_number (runs.Shortening shortenings.Limit) = 45
 run_fault_number (runs.Shortening shortenings.Memory) = 25
@@ -32,6 +33,7 @@ abbrev pub run_fault_name : RunFault → List ℕ
 run_fault_name (runs.Read refusal) = script_fault_name refusal.fault
 run_fault_name (runs.Acts refusal) = acts_fault_name refusal.fault
 run_fault_name (runs.Core fault) = codes "Memory"
+run_fault_name (runs.Absent decoded) = codes "Absent"
 run_fault_name (runs.Shortening shortenings.Fails) = codes "Absent"
 run_fault_name (runs.Shortening shortenings.Limit) = codes "Limit"
 run_fault_name (runs.Shortening shortenings.Memory) = codes "Memory"

@@ -1,5 +1,5 @@
 -- What a task of the command line writes, with what it is refused, and how the program ends after it.
-use Rattle.std.specs.Prelude.{◌≡◌, ℕ, Bool, true, false, List, [], ◌++◌, Option, Result, Ok, Err, decimal, codes, string_bytes}
+use Rattle.std.specs.Prelude.{◌≡◌, ℕ, Bool, true, false, List, [], ◌++◌, Option, Result, Ok, Err, decimal, codes}
 use Rattle.std.specs.Io.KnownBytes.{Appends}
 use Rattle.commandline.specs.declared.tasks.Task.{Task}
 use Rattle.commandline.specs.declared.tasks.Task.TheVariants.{Replay, Schedule, Shorten, Check, Run, Key, Word}
@@ -10,33 +10,47 @@ use Rattle.poolprogram.specs.Runs.{WritesRun, RefusesRun}
 use Rattle.poolprogram.specs.KeyTexts.{WritesKey}
 use Rattle.poolprogram.specs.WordTexts.{word_line}
 use Rattle.poolprogram.specs.RunFaults.{run_fault_number, run_fault_name}
+use Rattle.poolprogram.specs.declared.done.Done.{Done}
+use Rattle.poolprogram.specs.declared.done.Done.TheVariants.{Well, Badly, Early}
 use Rattle.poolprogram.specs.declared.run_fault.RunFault.{RunFault}
 use Rattle.poolprogram.specs.declared.run_fault.RunFault.TheVariants as runs
 
--- known bytes grow by what the task says of the bytes of its file, or of its number; and it is told whether all is well: a replay, what is said of its schedule and a run are, acts where they are legal, a number where it is a key's, each lifecycle word
-abbrev pub WritesTask : Task → List ℕ → Bool → Option (List ℕ) → Option (List ℕ) → Type 0
-WritesTask (Replay path turns stop acts) file good old new = (good ≡ true) × WritesTurns file turns stop acts old new
-WritesTask (Schedule path turns stop) file good old new = (good ≡ true) × WritesSchedule file turns stop old new
-WritesTask (Shorten path turns stop until) file good old new = (good ≡ true) × WritesShortest file turns stop (string_bytes until) old new
-WritesTask (Check path) file good old new = WritesVerdict file good old new
-WritesTask (Run path) file good old new = (good ≡ true) × WritesRun file old new
-WritesTask (Key number) file good old new = WritesKey number good old new
-WritesTask (Word word) file good old new = (good ≡ true) × Appends old new (word_line word)
+-- all is well, or it isn't
+abbrev pub done_by : Bool → Done
+done_by true = Well
+done_by false = Badly
+
+-- no entry more can be left out of a schedule, or that wasn't tried
+abbrev pub done_short : Bool → Done
+done_short true = Well
+done_short false = Early
+
+-- known bytes grow by what the task says of the bytes of its file, or of its number; and it is told whether all is well: a replay, what is said of its schedule and a run are, acts where they are legal, a number where it is a key's, each lifecycle word; and whether a schedule is as short as can be
+abbrev pub WritesTask : Task → List ℕ → Done → Option (List ℕ) → Option (List ℕ) → Type 0
+WritesTask (Replay path turns stop acts) file done old new = (done ≡ Well) × WritesTurns file turns stop acts old new
+WritesTask (Schedule path turns stop) file done old new = (done ≡ Well) × WritesSchedule file turns stop old new
+WritesTask (Shorten path turns stop search) file done old new =
+    (least : Bool) × (done ≡ done_short least) × WritesShortest file turns stop search least old new
+WritesTask (Check path) file done old new = (legal : Bool) × (done ≡ done_by legal) × WritesVerdict file legal old new
+WritesTask (Run path) file done old new = (done ≡ Well) × WritesRun file old new
+WritesTask (Key number) file done old new = (known : Bool) × (done ≡ done_by known) × WritesKey number known old new
+WritesTask (Word word) file done old new = (done ≡ Well) × Appends old new (word_line word)
 
 -- the task is refused with this fault: as that of its kind; for a number memory was refused
 abbrev pub RefusesTask : Task → List ℕ → RunFault → Type 0
 RefusesTask (Replay path turns stop acts) file fault = RefusesTurns file turns stop fault
 RefusesTask (Schedule path turns stop) file fault = RefusesListing file turns fault
-RefusesTask (Shorten path turns stop until) file fault = RefusesShortest file turns stop (string_bytes until) fault
+RefusesTask (Shorten path turns stop search) file fault = RefusesShortest file turns stop search fault
 RefusesTask (Check path) file fault = RefusesActs file fault
 RefusesTask (Run path) file fault = RefusesRun file fault
 RefusesTask (Key number) file fault = fault ≡ runs.Memory
 RefusesTask (Word word) file fault = fault ≡ runs.Memory
 
 -- the exit status after a task: 0 just where it was done and all is well
-abbrev pub task_status : Result Bool RunFault → ℕ
-task_status (Ok true) = 0
-task_status (Ok false) = 1
+abbrev pub task_status : Result Done RunFault → ℕ
+task_status (Ok Well) = 0
+task_status (Ok Early) = 0
+task_status (Ok Badly) = 1
 task_status (Err fault) = 1
 
 -- the line of a fault
@@ -44,6 +58,6 @@ abbrev pub fault_line : RunFault → List ℕ
 fault_line fault = codes "fault " ++ decimal (run_fault_number fault) ++ codes " " ++ run_fault_name fault ++ codes "\n"
 
 -- what is reported of a task: the line of its fault, where it has one
-abbrev pub report_text : Result Bool RunFault → List ℕ
-report_text (Ok good) = []
+abbrev pub report_text : Result Done RunFault → List ℕ
+report_text (Ok done) = []
 report_text (Err fault) = fault_line fault

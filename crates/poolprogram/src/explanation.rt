@@ -3,8 +3,9 @@ ghost use Rattle.std.specs.Prelude.{◌≡◌, ℕ, IfOk, IsOk, codes, string_by
 ghost use Rattle.streams.specs.Shown.{IsSafeLine, line_text};
 ghost use Rattle.explanations.specs.Said.{IsLineOrNone};
 ghost use Rattle.poolprogram.specs.Turns.{entries_for};
-ghost use Rattle.poolprogram.specs.Explanations.{IsSubjectOf, shortening_told, ExplainsUnread, ExplainsFault, Explains, IsPlain};
+ghost use Rattle.poolprogram.specs.Explanations.{IsSubjectOf, absent_told, shortening_told, ExplainsUnread, ExplainsFault, Explains, IsPlain};
 
+use crate::done::Done;
 use crate::half_run::explain_half_run;
 use crate::run_fault::RunFault;
 use commandline::{Stop, Task, Turns};
@@ -87,13 +88,23 @@ fn explain_unread(alloc: Global, subject: &Subject, why: Unreadable) -> Result<S
     }
 }
 
+/// Why a schedule isn't shortened whose replay lacks the word, decoded or not.
+fn why_absent(decoded: bool) -> &'static [u8]
+    ensures { result.now ≡ absent_told decoded }
+{
+    if decoded {
+        b"the word of --until stands in no line of the replay, as poolview words shows it"
+    } else {
+        b"the word of --until stands in no line of the replay, neither with --acts nor without"
+    }
+}
+
 /// Why a schedule isn't shortened.
 fn why_not_shorter(fault: Unshortened) -> &'static [u8]
     ensures { result.now ≡ shortening_told fault }
 {
     match fault {
-        Unshortened::Fails =>
-            b"the word of --until stands in no line of the replay, neither with --acts nor without",
+        Unshortened::Fails => why_absent(false),
         Unshortened::Limit =>
             b"100000000 entries were replayed, and more can perhaps be left out: cut the schedule before",
         Unshortened::Memory => b"memory was refused",
@@ -116,6 +127,7 @@ fn explain_fault(
         RunFault::Acts(refusal) => explain_acts(alloc, file, refusal),
         RunFault::File(unread) => explain_unread(alloc, subject, *unread),
         RunFault::Output => explain_output(alloc, why),
+        RunFault::Absent { decoded } => line_of(alloc, why_absent(*decoded)),
         RunFault::Shortening(fault) => line_of(alloc, why_not_shorter(*fault)),
         RunFault::Core(_) | RunFault::Open | RunFault::Memory => {
             line_of(alloc, b"memory was refused")
@@ -123,15 +135,19 @@ fn explain_fault(
     }
 }
 
+/// What is said of a schedule that was shortened by as many replays as may be.
+const EARLY: &[u8] = b"all replays of --tries were made, and more can perhaps be left out";
+
 /// The line that explains how a task ended that is about this, on the bytes of its file: the place of the fault or of
 /// the first act that is refused, what stands there, and what is wanted; why the output can't be written, which is `why`;
-/// or what a replay left undone. Empty where all is well. The error is want of memory.
+/// what a replay left undone; or that more can perhaps be left out of a schedule. Empty where all is well. The error is
+/// want of memory.
 pub fn explain(
     alloc: Global,
     subject: &Subject,
     file: &[u8],
     why: Unwritable,
-    done: &Result<bool, RunFault>,
+    done: &Result<Done, RunFault>,
 ) -> Result<String, AllocError>
     ensures is { IfOk result (λ text. Explains subject.now file.now why done.now (string_bytes text)) }
     ensures safe { IfOk result (λ text. IsLineOrNone (string_bytes text)) }
@@ -139,11 +155,12 @@ pub fn explain(
 {
     match (done, subject) {
         (Err(fault), _) => explain_fault(alloc, subject, file, why, fault),
-        (Ok(true), Subject::Replay { turns, stop, .. }) => {
+        (Ok(Done::Well), Subject::Replay { turns, stop, .. }) => {
             explain_half_run(alloc, file, turns, *stop)
         }
-        (Ok(true), _) => Ok(String::new(alloc)),
-        (Ok(false), Subject::Number(number)) => explain_no_key(alloc, *number),
-        (Ok(false), _) => explain_check(alloc, file),
+        (Ok(Done::Well), _) => Ok(String::new(alloc)),
+        (Ok(Done::Badly), Subject::Number(number)) => explain_no_key(alloc, *number),
+        (Ok(Done::Badly), _) => explain_check(alloc, file),
+        (Ok(Done::Early), _) => line_of(alloc, EARLY),
     }
 }

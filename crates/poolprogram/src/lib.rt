@@ -4,6 +4,7 @@
 #![tactic(auto)]
 
 mod check;
+mod done;
 mod explanation;
 mod half_run;
 mod key;
@@ -22,6 +23,7 @@ mod turns;
 mod word;
 
 pub use check::check_text;
+pub use done::Done;
 pub use explanation::{Subject, explain, subject_of};
 pub use key::key_text;
 pub use meter::Meter;

@@ -5,6 +5,7 @@ ghost use Rattle.commandline.specs.Tasks.{path_of, schedule_path_of};
 ghost use Rattle.poolprogram.specs.Reading.{IsFileOf, IsUnread};
 ghost use Rattle.poolprogram.specs.Program.{SaysWhy, SaysEnd, IsSubjectIf, EndsTask, EndsFor, EndsRequest, EndsCall, EndsProgram, asked_path};
 
+use crate::done::Done;
 use crate::explanation::{Subject, explain, subject_of};
 use crate::listing::{end_unlisted, turns_at};
 use crate::meter::Meter;
@@ -55,7 +56,7 @@ fn write_explanation<E: Write>(
     subject: &Subject,
     file: &[u8],
     why: Unwritable,
-    done: &Result<bool, RunFault>,
+    done: &Result<Done, RunFault>,
     errors: &mut Watched<E>,
 ) -> bool
     ensures { SaysWhy E.contents (Some (Ok subject.now)) file.now why done.now result errors.old errors.new }
@@ -75,7 +76,7 @@ fn write_why<E: Write>(
     subject: &Result<Subject, AllocError>,
     file: &[u8],
     why: Unwritable,
-    done: &Result<bool, RunFault>,
+    done: &Result<Done, RunFault>,
     errors: &mut Watched<E>,
 ) -> bool
     ensures { SaysWhy E.contents (Some subject.now) file.now why done.now result errors.old errors.new }
@@ -92,7 +93,7 @@ fn write_why_if<E: Write>(
     subject: &Option<Result<Subject, AllocError>>,
     file: &[u8],
     why: Unwritable,
-    done: &Result<bool, RunFault>,
+    done: &Result<Done, RunFault>,
     errors: &mut Watched<E>,
 ) -> bool
     ensures { SaysWhy E.contents subject.now file.now why done.now result errors.old errors.new }
@@ -110,7 +111,7 @@ pub(crate) fn end_task<E: Write>(
     subject: &Option<Result<Subject, AllocError>>,
     file: &[u8],
     why: Unwritable,
-    done: &Result<bool, RunFault>,
+    done: &Result<Done, RunFault>,
     errors: &mut Watched<E>,
 ) -> Ending
     ensures { SaysEnd E.contents subject.now file.now why done.now result errors.old errors.new }

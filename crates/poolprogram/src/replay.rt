@@ -80,6 +80,7 @@ fn run_plan_told<M: Write>(
     requires count { length plan.scripts ≡ plan.shape.lanes }
     ensures ok { IfOk result (λ trace. IsLawful plan.shape plan.scripts schedule.now trace) }
     ensures err { IfErr result (λ fault. IsCoreFault fault) }
+    ensures erased { meter.new.shown ≡ false }
 {
     let Plan { shape, scripts } = plan;
     meter.begin(schedule.len());

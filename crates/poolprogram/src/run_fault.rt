@@ -24,8 +24,11 @@ pub enum RunFault {
     /// The core was refused memory (25).
     #[error(transparent)]
     Core(CoreFault),
-    /// A schedule wasn't shortened: the word stands nowhere in its replay (44), too much would have to be replayed (45)
-    /// or memory was refused to a replay (25).
+    /// The word of a shortening stands nowhere in the replay of the whole schedule, or where that is asked for in no
+    /// decoded line of it (44).
+    #[error("the word isn't there")]
+    Absent { decoded: bool },
+    /// A schedule wasn't shortened: too much would have to be replayed (45) or memory was refused to a replay (25).
     #[error("the schedule isn't shortened")]
     Shortening(Unshortened),
     /// The pool wasn't opened, as memory was refused (5).
@@ -54,6 +57,7 @@ impl RunFault {
             RunFault::Read(refusal) => refusal.fault.number(),
             RunFault::Acts(refusal) => refusal.fault.number(),
             RunFault::Core(_) => 25,
+            RunFault::Absent { .. } => 44,
             RunFault::Shortening(Unshortened::Fails) => 44,
             RunFault::Shortening(Unshortened::Limit) => 45,
             RunFault::Shortening(Unshortened::Memory) => 25,
@@ -72,6 +76,7 @@ impl RunFault {
             RunFault::Read(refusal) => refusal.fault.name(),
             RunFault::Acts(refusal) => refusal.fault.name(),
             RunFault::Core(_) => "Memory",
+            RunFault::Absent { .. } => "Absent",
             RunFault::Shortening(Unshortened::Fails) => "Absent",
             RunFault::Shortening(Unshortened::Limit) => "Limit",
             RunFault::Shortening(Unshortened::Memory) => "Memory",

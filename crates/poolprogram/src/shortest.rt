@@ -1,14 +1,14 @@
 //! Schedules from which entries are left out for as long as a word stands in the replay.
-ghost use Rattle.std.specs.Prelude.{◌≡◌, ◌≢◌, ◌↔◌, true, false, length, IfOk, IfErr, OnOk, IsErrOf, string_bytes};
+ghost use Rattle.std.specs.Prelude.{◌≡◌, ◌≢◌, ◌↔◌, true, false, length, IfOk, IfErr, IsErrOf};
 ghost use Rattle.keybits.specs.Shapes.{IsNarrow};
-ghost use Rattle.poolprogram.specs.Shortenings.{IsShortestOf, WritesShortest, RefusesShortestOf, RefusesShortest};
+ghost use Rattle.poolprogram.specs.Shortenings.{fault_of, IsShortOf, WritesShortest, RefusesShortestOf, RefusesShortest};
 
 use crate::meter::Meter;
 use crate::run_fault::RunFault;
 use crate::turns::{plan_turns, write_line};
-use commandline::{Stop, Turns};
+use commandline::{Search, Stop, Turns};
 use scripts::Plan;
-use shortening::{WordTrial, shorten};
+use shortening::{Short, Unshortened, WordTrial, shorten};
 use std::alloc::Global;
 use std::io::Write;
 use streams::Watched;
@@ -16,49 +16,77 @@ use streams::Watched;
 /// How many entries of schedules are replayed at most, before no more replay is begun.
 const MOST_REPLAYED: u64 = 100_000_000;
 
+/// The fault of a schedule that isn't shortened, by whether the word is of decoded lines.
+fn fault_of(decoded: bool, fault: Unshortened) -> RunFault
+    ensures { result ≡ fault_of decoded fault }
+{
+    match fault {
+        Unshortened::Fails => RunFault::Absent { decoded },
+        fault => RunFault::Shortening(fault),
+    }
+}
+
 /// What is left of a schedule when entries are left out for as long as the word stands in the replay of the plan.
 fn shortest_of<M: Write>(
     alloc: Global,
     plan: Plan,
     schedule: Vec<u32>,
-    word: String,
+    search: Search,
     meter: &mut Meter<M>,
-) -> Result<Vec<u32>, RunFault>
+) -> Result<Short, RunFault>
     requires shape { IsNarrow plan.shape }
     requires count { length plan.scripts ≡ plan.shape.lanes }
-    ensures ok { IfOk result (λ short. IsShortestOf plan (string_bytes word) schedule.items short.items) }
-    ensures err { IfErr result (RefusesShortestOf plan (string_bytes word) schedule.items) }
+    ensures ok { IfOk result (IsShortOf plan search schedule.items) }
+    ensures err { IfErr result (RefusesShortestOf plan search schedule.items) }
+    ensures erased { meter.new.shown ≡ false }
 {
     let Plan { shape, scripts } = plan;
-    let mut trial = WordTrial::new(shape, scripts.into_vec(), word, MOST_REPLAYED);
+    let Search {
+        word,
+        decoded,
+        tries,
+    } = search;
+    let mut trial = WordTrial::new(
+        shape,
+        scripts.into_vec(),
+        word,
+        decoded,
+        MOST_REPLAYED,
+        tries,
+    );
     meter.begin(schedule.len());
     let short = shorten(alloc, &mut trial, meter, schedule);
     meter.clear();
-    short.map_err(RunFault::Shortening)
+    match short {
+        Ok(short) => Ok(short),
+        Err(fault) => Err(fault_of(decoded, fault)),
+    }
 }
 
 /// Writes the line of what is left of the schedule of `plan_turns` when entries are left out for as long as the word
-/// stands in the replay: no single entry more can go. The errors are those of `plan_turns`; `Shortening` where the word
-/// doesn't stand in the replay of the whole schedule, where too much would have to be replayed, and where a replay was
-/// refused memory; `Memory`; and `Output`. Meanwhile `meter` tells how far it is, and at the end how many entries are left.
+/// stands in the replay. Answers whether no single entry more can go, which is so unless as many replays were made as may
+/// be. The errors are those of `plan_turns`; `Absent` where the word doesn't stand in the replay of the whole schedule;
+/// `Shortening` where too much would have to be replayed, and where a replay was refused memory; `Memory`; and `Output`.
+/// Meanwhile `meter` tells how far it is, and at the end how many entries are left.
 pub fn shortest_text<W: Write, M: Write>(
     alloc: Global,
     file: &[u8],
     turns: Turns,
     stop: Option<Stop>,
-    word: String,
+    search: Search,
     out: &mut Watched<W>,
     meter: &mut Meter<M>,
-) -> Result<(), RunFault>
+) -> Result<bool, RunFault>
     requires { out.old.failed ≡ false }
-    ensures ok { OnOk result (WritesShortest file.now turns stop (string_bytes word)
+    ensures ok { IfOk result (λ least. WritesShortest file.now turns stop search least
         (W.contents out.old.inner) (W.contents out.new.inner)) }
     ensures output { IsErrOf result RunFault.Output ↔ (out.new.failed ≡ true) }
     ensures refused { IfErr result (λ fault. fault ≢ RunFault.Output
-        → (out.new ≡ out.old) × RefusesShortest file.now turns stop (string_bytes word) fault) }
+        → (out.new ≡ out.old) × RefusesShortest file.now turns stop search fault) }
 {
     let (plan, schedule) = plan_turns(alloc, file, turns, stop)?;
-    let short = shortest_of(alloc, plan, schedule, word, meter)?;
-    meter.end_entries(short.len());
-    write_line(alloc, short.as_slice(), out)
+    let Short { schedule, least } = shortest_of(alloc, plan, schedule, search, meter)?;
+    meter.end_entries(schedule.len());
+    write_line(alloc, schedule.as_slice(), out)?;
+    Ok(least)
 }

@@ -4,6 +4,7 @@ ghost use Rattle.streams.specs.Saying.{Says};
 ghost use Rattle.poolprogram.specs.Tasks.{WritesTask, RefusesTask, task_status, fault_line, report_text};
 
 use crate::check::check_text;
+use crate::done::{Done, done_by, done_short};
 use crate::key::key_text;
 use crate::meter::Meter;
 use crate::run::run_text;
@@ -20,9 +21,9 @@ use std::thread::Threads;
 use streams::{Watched, write_text};
 
 /// Does a task on the bytes of its file: a replay, what is said of its schedule, a check, a run or what is said of a
-/// key or a word. The answer is false where acts are illegal or a number is no key's, and then this was said. The
-/// errors are those of the call for the task's kind, and all but `Output` come before the first byte. Meanwhile `meter`
-/// tells how far a long one is.
+/// key or a word. The answer is `Badly` where acts are illegal or a number is no key's, and then this was said; `Early`
+/// where a schedule is shortened by as many replays as may be. The errors are those of the call for the task's kind, and
+/// all but `Output` come before the first byte. Meanwhile `meter` tells how far a long one is.
 pub fn do_task<R: Threads + Wait + Sync, W: Write, M: Write>(
     rt: &R,
     alloc: Global,
@@ -30,9 +31,9 @@ pub fn do_task<R: Threads + Wait + Sync, W: Write, M: Write>(
     file: &[u8],
     out: &mut Watched<W>,
     meter: &mut Meter<M>,
-) -> Result<bool, RunFault>
+) -> Result<Done, RunFault>
     requires { out.old.failed ≡ false }
-    ensures ok { IfOk result (λ good. WritesTask task file.now good
+    ensures ok { IfOk result (λ done. WritesTask task file.now done
         (W.contents out.old.inner) (W.contents out.new.inner)) }
     ensures output { IsErrOf result RunFault.Output ↔ (out.new.failed ≡ true) }
     ensures refused { IfErr result (λ fault. fault ≢ RunFault.Output
@@ -46,7 +47,7 @@ pub fn do_task<R: Threads + Wait + Sync, W: Write, M: Write>(
             acts,
         } => {
             replay_turns(alloc, file, turns, stop, acts, out, meter)?;
-            Ok(true)
+            Ok(Done::Well)
         }
         Task::Schedule {
             file: _,
@@ -54,37 +55,43 @@ pub fn do_task<R: Threads + Wait + Sync, W: Write, M: Write>(
             stop,
         } => {
             schedule_text(alloc, file, turns, stop, out)?;
-            Ok(true)
+            Ok(Done::Well)
         }
         Task::Shorten {
             file: _,
             turns,
             stop,
-            until,
+            search,
         } => {
-            shortest_text(alloc, file, turns, stop, until, out, meter)?;
-            Ok(true)
+            let least = shortest_text(alloc, file, turns, stop, search, out, meter)?;
+            Ok(done_short(least))
         }
-        Task::Check { file: _ } => check_text(alloc, file, out),
+        Task::Check { file: _ } => {
+            let legal = check_text(alloc, file, out)?;
+            Ok(done_by(legal))
+        }
         Task::Run { file: _ } => {
             run_text(rt, alloc, file, out)?;
-            Ok(true)
+            Ok(Done::Well)
         }
-        Task::Key { number } => key_text(alloc, number, out),
+        Task::Key { number } => {
+            let known = key_text(alloc, number, out)?;
+            Ok(done_by(known))
+        }
         Task::Word { word } => {
             word_text(alloc, word, out)?;
-            Ok(true)
+            Ok(Done::Well)
         }
     }
 }
 
 /// The exit status after a task: 0 where it was done and all is well; 1 where it has a fault, acts are
 /// illegal or a number is no key's.
-pub fn status_of(done: &Result<bool, RunFault>) -> u8
+pub fn status_of(done: &Result<Done, RunFault>) -> u8
     ensures { result ≡ task_status done.now }
 {
     match done {
-        Ok(true) => 0,
+        Ok(Done::Well) | Ok(Done::Early) => 0,
         _ => 1,
     }
 }
@@ -101,7 +108,7 @@ fn write_fault<W: Write>(fault: &RunFault, out: &mut Watched<W>)
 }
 
 /// Writes what is reported of a task: the line of its fault, where it has one. Nothing is allocated.
-pub fn write_report<W: Write>(done: &Result<bool, RunFault>, out: &mut Watched<W>)
+pub fn write_report<W: Write>(done: &Result<Done, RunFault>, out: &mut Watched<W>)
     ensures { Says W.contents out.old out.new (report_text done.now) }
 {
     match done {

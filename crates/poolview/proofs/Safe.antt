@@ -4,13 +4,13 @@ use Rattle.std.proofs.lemmas.Bool.{leb-true}
 use Rattle.std.proofs.lemmas.List.{length-append}
 use Rattle.streams.proofs.SafeLines.{length-cut, length-decimal, printable-bytes}
 use Rattle.streams.specs.Lines.{line_at}
-use Rattle.streams.specs.Reasons.{reason_text}
+use Rattle.streams.specs.Reasons.{reason_text, output_told}
 use Rattle.streams.specs.Shown.{cut, IsSafeLine}
 use Rattle.streams.specs.declared.reading.Unreadable.{Unreadable}
 use Rattle.streams.specs.declared.reading.Unreadable.TheVariants.{Missing, Denied, Folder, NoFolder, Other}
 use Rattle.streams.specs.declared.write_failed.Unwritable.{Unwritable}
 use Rattle.streams.specs.declared.write_failed.Unwritable.TheVariants as unwritable
-use Rattle.poolview.specs.Faults.{wrong_line_told, wrong_file_told, wrong_line_text, wrong_file_text, output_told, output_text}
+use Rattle.poolview.specs.Faults.{wrong_line_told, wrong_file_told, wrong_line_text, wrong_file_text, output_text}
 
 four : (a b c d : List ℕ) → length (a ++ b ++ c ++ d) ≡ length a + length b + length c + length d
 four a b c d = omega (arith, length-append (a ++ b ++ c) d, length-append (a ++ b) c, length-append a b)

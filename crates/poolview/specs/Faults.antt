@@ -9,7 +9,7 @@ use Rattle.traceviews.specs.declared.following.Stray.{Stray}
 use Rattle.traceviews.specs.declared.following.Wrong.{Wrong}
 use Rattle.traceviews.specs.declared.following.Wrong.TheVariants as wrongs
 use Rattle.streams.specs.Lines.{line_at}
-use Rattle.streams.specs.Reasons.{reason_text, unwritable_text}
+use Rattle.streams.specs.Reasons.{reason_text, output_told}
 use Rattle.streams.specs.Shown.{bytes_text, cut}
 use Rattle.poolview.specs.declared.fault.Fault.{Fault}
 use Rattle.poolview.specs.declared.fault.Fault.TheVariants as faults
@@ -51,10 +51,6 @@ wrong_line_told what number bytes = codes "line " ++ decimal number ++ codes ": 
 -- why the file at this path isn't read, by the system's reason
 abbrev pub wrong_file_told : List ℕ → Unreadable → List ℕ
 wrong_file_told path why = codes "\"" ++ cut path ++ codes "\" can't be opened, or not read to its end: " ++ reason_text why
-
--- why the output can't be written, by the system's reason
-abbrev pub output_told : Unwritable → List ℕ
-output_told why = codes "standard output can't be written: " ++ unwritable_text why
 
 -- the lines that show these
 abbrev pub wrong_line_text : List ℕ → ℕ → List ℕ → List ℕ

@@ -7,7 +7,7 @@ use Rattle.shortening.specs.Words.{StandsIn}
 use Rattle.shortening.specs.Replays.{IsReplay, Shows, Lacks}
 
 -- a replay in whose text the word was looked for
-pub told : (z : Shape) (scripts : List (List Command)) (word schedule text : List ℕ) (found : Bool) → IsReplay z scripts schedule text → (IsTrue found ↔ StandsIn word text)
-    → MatchBool found (Shows z scripts word schedule) (Lacks z scripts word schedule)
-told z scripts word schedule text true replay means = (text, replay, means.0 refl)
-told z scripts word schedule text false replay means = (text, replay, λ there. let bad : false ≡ true = means.1 there in cc)
+pub told : (z : Shape) (scripts : List (List Command)) (decoded : Bool) (word schedule text : List ℕ) (found : Bool) → IsReplay z scripts decoded schedule text → (IsTrue found ↔ StandsIn word text)
+    → MatchBool found (Shows z scripts decoded word schedule) (Lacks z scripts decoded word schedule)
+told z scripts decoded word schedule text true replay means = (text, replay, means.0 refl)
+told z scripts decoded word schedule text false replay means = (text, replay, λ there. let bad : false ≡ true = means.1 there in cc)

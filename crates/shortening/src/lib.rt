@@ -5,6 +5,7 @@ mod acts;
 mod copies;
 mod fault;
 mod printing;
+mod short;
 mod shorter;
 mod trial;
 mod watch;
@@ -13,6 +14,7 @@ mod words;
 
 pub use acts::acts_of;
 pub use fault::Unshortened;
+pub use short::Short;
 pub use shorter::shorten;
 pub use trial::Trial;
 pub use watch::Watch;

@@ -1,5 +1,5 @@
 -- Why a file or an input isn't read, or an output not written, by the kind of the system's error, and in words.
-use Rattle.std.specs.Prelude.{ℕ, List, codes}
+use Rattle.std.specs.Prelude.{ℕ, List, ◌++◌, codes}
 use Rattle.std.specs.declared.io.ErrorKind.{ErrorKind}
 use Rattle.std.specs.declared.io.ErrorKind.TheVariants as kinds
 use Rattle.streams.specs.declared.reading.Unread.{Unread}
@@ -42,3 +42,7 @@ unwritable_text unwritable.Full = codes "no space is left"
 unwritable_text unwritable.Long = codes "the file may not be longer"
 unwritable_text unwritable.Denied = codes "it may not be written"
 unwritable_text unwritable.Other = codes "the system refuses it"
+
+-- why standard output can't be written, by the system's reason
+abbrev pub output_told : Unwritable → List ℕ
+output_told why = codes "standard output can't be written: " ++ unwritable_text why

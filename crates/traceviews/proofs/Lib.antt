@@ -4,3 +4,4 @@ pub mod TraceTexts
 pub mod CountLemmas
 pub mod PageLemmas
 pub mod FollowLemmas
+pub mod TurnWords

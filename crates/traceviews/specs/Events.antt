@@ -1,5 +1,5 @@
 -- A trace in the trace-event form, which Chrome's viewer and Perfetto open.
-use Rattle.std.specs.Prelude.{◌≡◌, ℕ, ◌+◌, ◌*◌, ◌==◌, Bool, true, false, List, [], ◌∷◌, ◌++◌, flat_map, codes, decimal, if◌then◌else◌}
+use Rattle.std.specs.Prelude.{◌≡◌, ℕ, ◌+◌, ◌==◌, Bool, true, false, List, [], ◌∷◌, ◌++◌, flat_map, codes, decimal, if◌then◌else◌}
 use Rattle.keybits.specs.Keys.{key_number}
 use Rattle.keybits.specs.Words.{state_in, generation_in}
 use Rattle.keybits.specs.declared.step.Word.{Word}

@@ -9,7 +9,6 @@ use Rattle.seqpool.specs.ActsText.{hex}
 use Rattle.traces.specs.Text.{kind_text}
 use Rattle.traces.specs.declared.reply.Reply.{Reply}
 use Rattle.traces.specs.declared.reply.Reply.TheVariants as replies
-use Rattle.traceviews.specs.Counts.{is_step}
 use Rattle.traceviews.specs.Decoded.{state_text, state_with, place_text, link_text, aim_text, is_failed}
 use Rattle.traceviews.specs.Lines.{kind_of}
 use Rattle.traceviews.specs.Numbered.{numbered}

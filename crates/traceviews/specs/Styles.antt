@@ -1,5 +1,5 @@
 -- The lines of a trace with their words decoded, in a style: with keys decoded, and with the numbers of turns.
-use Rattle.std.specs.Prelude.{ℕ, ◌==◌, Bool, true, false, List, [], ◌∷◌, ◌++◌, flat_map, codes, decimal, if◌then◌else◌}
+use Rattle.std.specs.Prelude.{ℕ, ◌==◌, Bool, true, false, List, [], ◌++◌, flat_map, codes, decimal, if◌then◌else◌}
 use Rattle.keybits.specs.Keys.{place_of, generation_of, tag_of}
 use Rattle.traces.specs.Text.{reply_line}
 use Rattle.traces.specs.declared.reply.Reply.{Reply}

@@ -3,7 +3,7 @@
 //!
 //! - The text: `reader`, line by line, each a step (`steps`) or a reply (`replies`) of a lane, as `line` has it; its
 //!   `fields`; why it is none, `fault`.
-//! - The lines with their words decoded: `words`; a state and a step's name as text: `decoded`.
+//! - The lines with their words decoded: `words`, and of turns that weren't read `turn_words`; a state and a step's name as text: `decoded`.
 //! - The turns: `turns` puts lines together to turns.
 //! - Whether its words follow from one another: `following`, over the `values` of words.
 //! - The summary: `counts`, `ends` and `summary`; which lanes and places there are: `found`.
@@ -40,6 +40,7 @@ mod steps;
 mod strips;
 mod summary;
 mod template;
+mod turn_words;
 mod turns;
 mod values;
 mod words;
@@ -54,5 +55,6 @@ pub use line::{Entry, Line, NamedStep, StepName};
 pub use picture::{Window, picture_text};
 pub use reader::{LINES_HELD, check_lines, read_lines, read_trace};
 pub use summary::summary_text;
+pub use turn_words::turns_words;
 pub use turns::turn_count;
 pub use words::{WordStyle, words_text};

@@ -36,7 +36,7 @@ fn push_values(step: &NamedStep, out: &mut Page)
 }
 
 /// Appends the line of a step.
-fn push_step(lane: u32, step: &NamedStep, out: &mut Page)
+pub(crate) fn push_step(lane: u32, step: &NamedStep, out: &mut Page)
     ensures { out.new.refused ≡ false → (out.old.refused ≡ false)
         × (out.new.bytes.items ≡ out.old.bytes.items ++ step_words lane step.now) }
 {
@@ -71,7 +71,7 @@ fn push_key_line(lane: u32, name: &str, key: u64, out: &mut Page)
 }
 
 /// Appends the line of a reply, with its key decoded or as it is.
-fn push_reply(style: WordStyle, lane: u32, reply: &Reply, out: &mut Page)
+pub(crate) fn push_reply(style: WordStyle, lane: u32, reply: &Reply, out: &mut Page)
     ensures { Grows out.old out.new (reply_words style.keys lane reply.now) }
 {
     if !style.keys {

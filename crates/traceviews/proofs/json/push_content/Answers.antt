@@ -1,6 +1,5 @@
 use Rattle.std.proofs.Common.{◌++◌, codes, refl}
 use Rattle.seqpool.specs.ActsText.{hex}
-use Rattle.traceviews.specs.Pages.{Grows}
 use Rattle.traceviews.proofs.PageLemmas.{grows_more}
 use Rattle.traceviews.proofs.json.push_content.Goals as goal
 

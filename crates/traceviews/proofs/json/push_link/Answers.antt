@@ -1,6 +1,5 @@
 use Rattle.std.proofs.Common.{◌++◌, codes, decimal, refl}
 use Rattle.traceviews.specs.Decoded.{link_text}
-use Rattle.traceviews.specs.Pages.{Grows}
 use Rattle.traceviews.proofs.PageLemmas.{grows_more}
 use Rattle.traceviews.proofs.json.push_link.Goals as goal
 

@@ -1,4 +1,4 @@
-use Rattle.std.proofs.Common.{◌++◌, ◌∙◌, Bool, List, ℕ, ap, codes, refl, subst}
+use Rattle.std.proofs.Common.{◌++◌, ◌∙◌, List, ℕ, ap, codes, refl, subst}
 use Rattle.traces.specs.Text.{kind_text}
 use Rattle.traceviews.specs.Decoded.{aim_text, is_failed}
 use Rattle.traceviews.specs.Json.{failed_field, value_object}

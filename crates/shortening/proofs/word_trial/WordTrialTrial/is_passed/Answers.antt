@@ -13,8 +13,8 @@ returns-clause-ok c =
     let text = c.in_ok-text.text.items in
     let word = string_bytes inside.word in
     let found = c.stands_in.result in
-    let replay = subst (λ (scripts : List (List Command)). IsReplay inside.shape scripts schedule text) c.as_slice.ensures.value c.in_ok-text.ensures.ok in
+    let replay = subst (λ (scripts : List (List Command)). IsReplay inside.shape scripts inside.decoded schedule text) c.as_slice.ensures.value c.in_ok-text.ensures.ok in
     let in_text = subst (λ (t : List ℕ). IsTrue found ↔ StandsIn c.as_bytes.result.now t) c.as_slice-2.ensures.value c.stands_in.ensures in
     let means = subst (λ (w : List ℕ). IsTrue found ↔ StandsIn w text) c.as_bytes.ensures.value in_text in
-    subst (λ (t : Asked). MatchBool found (Shows t.shape t.scripts t.word schedule) (Lacks t.shape t.scripts t.word schedule)) c.self.view_is
-    (told inside.shape inside.scripts.items word schedule text found replay means)
+    subst (λ (t : Asked). MatchBool found (Shows t.shape t.scripts t.decoded t.word schedule) (Lacks t.shape t.scripts t.decoded t.word schedule)) c.self.view_is
+    (told inside.shape inside.scripts.items inside.decoded word schedule text found replay means)
