@@ -3,3 +3,4 @@ pub mod Fields
 pub mod Counts
 pub mod Dues
 pub mod Insides
+pub mod Legals

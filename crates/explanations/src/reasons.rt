@@ -3,8 +3,9 @@ ghost use Rattle.std.specs.Prelude.{◌≡◌, ◌≢◌, ◌<◌, ◌≤◌, �
 ghost use Rattle.keybits.specs.Keys.{place_of, tag_of};
 ghost use Rattle.keybits.specs.Places.{shard_of};
 ghost use Rattle.keybits.specs.Shapes.{IsNarrow, is_place};
-ghost use Rattle.seqpool.specs.Pool.{Allowed, pool_after};
+ghost use Rattle.seqpool.specs.Pool.{Allowed, IsLegal, pool_after};
 ghost use Rattle.seqpool.specs.declared.act.Act.TheVariants.{Get, Release};
+ghost use Rattle.seqpool.specs.declared.fault.ApplyFault.TheVariants.{Memory};
 ghost use Rattle.seqpool.specs.Rows.{pool_in};
 ghost use Rattle.seqpool.specs.ActsText.{hex};
 ghost use Rattle.explanations.specs.declared.reasons.Due.TheVariants.{Found};
@@ -401,9 +402,18 @@ fn due_told(alloc: Global, fault: ApplyFault, due: &Due) -> Result<String, Alloc
     }
 }
 
+/// The want of memory, for which alone an act of a legal history is refused.
+fn memory_of(fault: ApplyFault) -> AllocError
+    requires { fault ≡ Memory }
+{
+    let _ = fault;
+    AllocError
+}
+
 /// The pool behind some acts that are legal. The error is want of memory.
 fn pool_behind(alloc: Global, shape: Shape, acts: &[Act]) -> Result<SeqPool, AllocError>
-    requires { IsNarrow shape }
+    requires narrow { IsNarrow shape }
+    requires legal { IsLegal shape acts.now }
     ensures shape { IfOk result (λ pool. pool.shape ≡ shape) }
     ensures pool { IfOk result (λ pool. pool_in pool ≡ pool_after shape acts.now) }
 {
@@ -411,8 +421,8 @@ fn pool_behind(alloc: Global, shape: Shape, acts: &[Act]) -> Result<SeqPool, All
         return Err(AllocError);
     };
     for act in acts {
-        if let Err(_) = pool.apply(act) {
-            return Err(AllocError);
+        if let Err(fault) = pool.apply(act) {
+            return Err(memory_of(fault));
         }
     }
     Ok(pool)
@@ -427,6 +437,7 @@ fn due_behind(
     fault: ApplyFault,
 ) -> Result<String, AllocError>
     requires narrow { IsNarrow shape }
+    requires legal { IsLegal shape history.now }
     requires inside { IsInside shape act.now }
     ensures { IfOk result (λ text. TellsReason shape history.now act.now fault (string_bytes text)) }
 {
@@ -444,7 +455,8 @@ pub(crate) fn reason_told(
     act: &Act,
     fault: ApplyFault,
 ) -> Result<String, AllocError>
-    requires { IsNarrow shape }
+    requires narrow { IsNarrow shape }
+    requires legal { IsLegal shape history.now }
     ensures { IfOk result (λ text. TellsReason shape history.now act.now fault (string_bytes text)) }
 {
     match outside_of(&shape, act) {
