@@ -28,6 +28,27 @@ fn closures_run_between_the_calls(rt: HostRuntime) {
     same(&rt, &behind, &None);
 }
 
+#[test]
+fn no_closure_runs_where_a_call_finds_nothing(rt: HostRuntime) {
+    let (pool, mut lane) = open_last(&rt, rt.alloc(), shape_of(1, 1, 1));
+    let one = with(&pool, &mut lane, 16777216, |_: &ByteBuf| {
+        panic!(&rt; "it runs without an object")
+    });
+    same(&rt, &one, &None::<u64>);
+    publish(&rt, &pool, &mut lane, 16777216, b"a");
+    let two = with_two(
+        &pool,
+        &mut lane,
+        (16777216, 33554432),
+        |_: &ByteBuf, _: &ByteBuf| { panic!(&rt; "it runs with one object of two") },
+    );
+    same(&rt, &two, &None::<u64>);
+    let full = create_with(&pool, &mut lane, |_: &mut ByteBuf| {
+        panic!(&rt; "it runs without a place")
+    });
+    same(&rt, &full, &Err(CreateFault::Full));
+}
+
 /// Fills a place by a guard. Without a number the guard is dropped in the middle.
 fn filled(
     pool: &Pool<Record>,

@@ -3,6 +3,7 @@
 ghost use Rattle.std.specs.Prelude.{◌≡◌};
 ghost use Rattle.shardpool.specs.Lanes.{Issued};
 
+use crate::test_calls::same;
 use keybits::Shape;
 use lanestore::{MOST_FILLINGS, Refusal, Store};
 use shardpool::{Census, Note};
@@ -199,7 +200,7 @@ fn publish_meanwhile(store: &Store<ByteBuf>, key: u64) -> Option<Result<(), Refu
 fn each_lane_is_had_once_and_is_there_again(rt: HostRuntime) -> Result<(), Fail> {
     let store = opened(&rt, rt.alloc());
     for _ in 0..3u32 {
-        assert!(rt; have_both(&store) == Some((1, 0, true)));
+        same(&rt, &have_both(&store), &Some((1, 0, true)));
     }
     Ok(())
 }
@@ -214,7 +215,11 @@ fn what_one_thread_puts_another_finds(rt: HostRuntime) -> Result<(), Fail> {
     };
     for key in [first, second] {
         let told = entered(&rt, &store);
-        assert!(rt; take_word(&store, key, told) == Some((true, true, true)));
+        same(
+            &rt,
+            &take_word(&store, key, told),
+            &Some((true, true, true)),
+        );
     }
     let census = closed(&rt, alloc, store);
     assert!(rt; census.present == 0 && census.filling == 0 && census.free == 64);
@@ -234,9 +239,9 @@ fn no_other_lane_acts(rt: HostRuntime) -> Result<(), Fail> {
     };
     assert!(rt; lent.lane() == 1 && lent.key() == key);
     lent.forget();
-    assert!(rt; gives_back(&store, 0, key) == Some(false));
-    assert!(rt; gives_back(&store, 1, key) == Some(true));
-    assert!(rt; gives_back(&store, 1, key) == Some(false));
+    same(&rt, &gives_back(&store, 0, key), &Some(false));
+    same(&rt, &gives_back(&store, 1, key), &Some(true));
+    same(&rt, &gives_back(&store, 1, key), &Some(false));
     let census = closed(&rt, alloc, store);
     assert!(rt; census.present == 1 && census.filling == 0 && census.free == 31);
     Ok(())
@@ -251,14 +256,26 @@ fn a_filling_waits_with_its_lane(rt: HostRuntime) -> Result<(), Fail> {
         panic!(rt; "a create was refused")
     };
     assert!(rt; first != second);
-    assert!(rt; write(&store, first) == Some(Ok(true)));
-    assert!(rt; write(&store, second) == Some(Ok(true)));
-    assert!(rt; write(&store, first) == Some(Ok(true)));
-    assert!(rt; downgrade(&store, first) == Some(Ok(true)));
-    assert!(rt; publish(&store, second) == Some(Ok(())));
-    assert!(rt; publish(&store, second) == Some(Err(Refusal::NoFilling)));
-    assert!(rt; downgrade(&store, first) == Some(Err(Refusal::NoFilling)));
-    assert!(rt; write(&store, u64::MAX) == Some(Err(Refusal::NoFilling)));
+    same(&rt, &write(&store, first), &Some(Ok(true)));
+    same(&rt, &write(&store, second), &Some(Ok(true)));
+    same(&rt, &write(&store, first), &Some(Ok(true)));
+    same(&rt, &downgrade(&store, first), &Some(Ok(true)));
+    same(&rt, &publish(&store, second), &Some(Ok(())));
+    same(
+        &rt,
+        &publish(&store, second),
+        &Some(Err(Refusal::NoFilling)),
+    );
+    same(
+        &rt,
+        &downgrade(&store, first),
+        &Some(Err(Refusal::NoFilling)),
+    );
+    same(
+        &rt,
+        &write(&store, u64::MAX),
+        &Some(Err(Refusal::NoFilling)),
+    );
     let census = closed(&rt, alloc, store);
     assert!(rt; census.present == 2 && census.filling == 0);
     Ok(())
@@ -271,12 +288,16 @@ fn a_lane_keeps_so_many_fillings(rt: HostRuntime) -> Result<(), Fail> {
     let Some(Ok(key)) = create(&store, 0) else {
         panic!(rt; "a create was refused")
     };
-    assert!(rt; publish_meanwhile(&store, key) == Some(Err(Refusal::Busy)));
+    same(
+        &rt,
+        &publish_meanwhile(&store, key),
+        &Some(Err(Refusal::Busy)),
+    );
     for _ in 1..MOST_FILLINGS {
         assert!(rt; matches!(create(&store, 0), Some(Ok(_))));
     }
-    assert!(rt; create(&store, 0) == Some(Err(Refusal::Fillings)));
-    assert!(rt; publish(&store, key) == Some(Ok(())));
+    same(&rt, &create(&store, 0), &Some(Err(Refusal::Fillings)));
+    same(&rt, &publish(&store, key), &Some(Ok(())));
     assert!(rt; matches!(create(&store, 0), Some(Ok(_))));
     let census = closed(&rt, alloc, store);
     assert!(rt; census.present == 1 && census.filling == 64);

@@ -128,6 +128,7 @@ enum Play<'a> {
     Pass(&'a Ring),
     Fight(&'a Brawl),
     Meet(&'a Ring),
+    Miss,
 }
 
 /// Passes keys on.
@@ -177,6 +178,15 @@ fn meet_all<N: PoolName>(seat: &mut Seat<'_, N, ByteBuf>, words: &Ring) -> bool
     words.iter().all(|word| is_set(word))
 }
 
+/// Whether a key that was never published isn't found, and no closure runs for it.
+fn misses<N: PoolName>(seat: &mut Seat<'_, N, ByteBuf>) -> bool
+    ensures { seat.new.lane.number ≡ seat.old.lane.number }
+{
+    let runs = AtomicU64::new(0);
+    let found = seat.with(16777216, |_: &ByteBuf| runs.fetch_add(1, Ordering::SeqCst));
+    found.is_none() && runs.load(Ordering::SeqCst) == 0
+}
+
 impl<N: PoolName> Job<N, ByteBuf> for Play<'_> {
     type Answer = bool;
 
@@ -187,6 +197,7 @@ impl<N: PoolName> Job<N, ByteBuf> for Play<'_> {
             Play::Pass(ring) => pass_all(seat, ring),
             Play::Fight(brawl) => fight_all(seat, brawl),
             Play::Meet(words) => meet_all(seat, words),
+            Play::Miss => misses(seat),
         }
     }
 }
@@ -266,6 +277,12 @@ fn jobs_run_one_beside_another(rt: HostRuntime) {
         AtomicU64::new(0),
     ];
     let census = census_of(&rt, rt.alloc(), 1, Play::Meet(&words));
+    has_left(&rt, census, 0);
+}
+
+#[test]
+fn no_closure_runs_where_a_seat_misses(rt: HostRuntime) {
+    let census = census_of(&rt, rt.alloc(), 1, Play::Miss);
     has_left(&rt, census, 0);
 }
 
