@@ -24,7 +24,7 @@ use std::thread;
 use std::thread::Threads;
 
 /// Why a line isn't held.
-#[derive(Clone, Copy, Debug, PartialEq, Eq)]
+#[derive(Clone, Copy, Debug)]
 pub enum Unheld {
     /// The lender gave no reference, or memory was refused for it.
     Refused(Refusal),

@@ -6,7 +6,7 @@ use slotcell::Clear;
 use std::alloc::Global;
 
 /// A line of the log.
-#[derive(Clone, Copy, Debug, PartialEq, Eq)]
+#[derive(Clone, Copy)]
 pub struct Line {
     /// The thread that logged it.
     pub thread: u32,

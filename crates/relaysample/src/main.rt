@@ -18,10 +18,10 @@ mod lines;
 mod relay;
 mod rows;
 
-use crate::collector::{Collector, Unheld};
+use crate::collector::Collector;
 use crate::desks::Desk;
 use crate::lines::Entry;
-use crate::relay::{DESKS, Relay};
+use crate::relay::{DESKS, Relay, Trouble};
 use crate::rows::Row;
 use anyhow::anyhow;
 use crossbeam_channel::Receiver;
@@ -49,8 +49,8 @@ const SHAPE: Shape = Shape {
 #[derive(Drop)]
 struct Outcome {
     rows: Vec<Row>,
-    /// Why a line wasn't held, if one wasn't.
-    unheld: Option<Unheld>,
+    /// Why a line wasn't relayed, if one wasn't.
+    trouble: Option<Trouble>,
     census: Census,
 }
 
@@ -176,7 +176,7 @@ fn give_collector<N: PoolName, R: Threads + Sync>(
 }
 
 /// Runs the relay by the lanes of a pool, which are then all here again. What the collector read, and why a line wasn't
-/// held, if one wasn't.
+/// relayed, if one wasn't.
 ///
 /// # Errors
 ///
@@ -185,7 +185,7 @@ fn run_all<N: PoolName + Send, R: Threads + Wait + Sync>(
     rt: &R,
     alloc: Global,
     opened: &mut Opened<Entry>,
-) -> anyhow::Result<(Vec<Row>, Option<Unheld>)>
+) -> anyhow::Result<(Vec<Row>, Option<Trouble>)>
     requires pool { opened.old.pool ≡ N.pool }
     requires nothing { HoldNothing opened.old.lanes }
     requires cleared { HaveCleared opened.old.lanes [] }
@@ -197,7 +197,7 @@ fn run_all<N: PoolName + Send, R: Threads + Wait + Sync>(
     let ran = relay.run(rt, alloc, collector);
     give_desks(rt, &mut opened.lanes, ran.free);
     let rows = give_collector(rt, alloc, &mut opened.lanes, ran.collector)?;
-    Ok((rows, ran.unheld))
+    Ok((rows, ran.trouble))
 }
 
 /// Closes the pool, once the collector has these rows.
@@ -221,10 +221,10 @@ fn serve<R: Threads + Wait + Sync>(rt: &R, alloc: Global) -> anyhow::Result<Outc
 {
     let mut opened = open_lanes(alloc, SHAPE)?;
     match run_all::<Brand, R>(rt, alloc, &mut opened) {
-        Ok((rows, unheld)) => match close_relay(opened, rows.as_slice()) {
+        Ok((rows, trouble)) => match close_relay(opened, rows.as_slice()) {
             Ok(census) => Ok(Outcome {
                 rows,
-                unheld,
+                trouble,
                 census,
             }),
             Err(missing) => Err(anyhow!("lane {} is missing", missing.number)),
@@ -240,15 +240,15 @@ fn serve<R: Threads + Wait + Sync>(rt: &R, alloc: Global) -> anyhow::Result<Outc
 fn main(rt: HostRuntime) -> anyhow::Result<()> {
     let Outcome {
         rows,
-        unheld,
+        trouble,
         census,
     } = serve(&rt, rt.alloc())?;
     let millis: u32 = rows
         .iter()
         .fold(0, |sum: u32, row| sum.saturating_add(row.line.millis));
     println!(rt; "{} lines of {millis} ms were read", rows.len())?;
-    match unheld {
-        Some(why) => println!(rt; "one wasn't held: {why:?}")?,
+    match trouble {
+        Some(why) => println!(rt; "one wasn't relayed: {why:?}")?,
         None => println!(rt; "{} are left", census.present)?,
     }
     Ok(())

@@ -8,6 +8,7 @@ use crate::desks::Desk;
 use crate::lines::Line;
 use crossbeam_channel::{Receiver, Sender, bounded, unbounded};
 use guards::PoolName;
+use shardpool::CreateFault;
 use std::alloc::{AllocError, Global};
 use std::sync::Wait;
 use std::thread;
@@ -28,7 +29,21 @@ struct Turn<'p, N: PoolName> {
     thread: u32,
     free: Receiver<Desk<'p, N>, Global>,
     back: Sender<Desk<'p, N>, Global>,
-    to: Sender<Batch<N>, Global>,
+    to: Sender<Logged<N>, Global>,
+}
+
+/// What a thread hands on: its batch, and why it logged no more lines; or memory was refused, and it logged none.
+type Logged<N> = Result<(Batch<N>, Option<CreateFault>), AllocError>;
+
+/// Why a line wasn't relayed.
+#[derive(Clone, Copy, Debug)]
+pub enum Trouble {
+    /// Memory was refused to the thread that was to log it.
+    Memory,
+    /// No place was given for it.
+    NoPlace(CreateFault),
+    /// The collector doesn't hold it.
+    Unheld(Unheld),
 }
 
 /// The free desks, the threads' turns at them, and what they hand on.
@@ -37,15 +52,15 @@ pub struct Relay<'p, N: PoolName> {
     free: Receiver<Desk<'p, N>, Global>,
     back: Sender<Desk<'p, N>, Global>,
     turns: Vec<Turn<'p, N>>,
-    from: Receiver<Batch<N>, Global>,
+    from: Receiver<Logged<N>, Global>,
 }
 
 /// What came of it, once all threads have ended.
 #[derive(Drop)]
 pub struct Ran<'p, N: PoolName> {
     pub collector: Collector<'p, N>,
-    /// Why a line wasn't held, if one wasn't.
-    pub unheld: Option<Unheld>,
+    /// Why a line wasn't relayed, if one wasn't.
+    pub trouble: Option<Trouble>,
     /// The desks, which nobody has any more.
     pub free: Receiver<Desk<'p, N>, Global>,
 }
@@ -102,10 +117,10 @@ impl<'p, N: PoolName> Relay<'p, N> {
             from,
         } = self;
         drop(back);
-        let (collector, unheld) = thread::scope(
+        let (collector, trouble) = thread::scope(
             thread::scope_env(),
             rt,
-            move |scope| -> (Collector<'_, N>, Option<Unheld>)
+            move |scope| -> (Collector<'_, N>, Option<Trouble>)
                 requires holds { Holds N.pool collector.lender.lane collector.lane collector.held.items }
                 ensures holds { Holds N.pool result.0.lender.lane result.0.lane result.0.held.items }
             {
@@ -120,14 +135,14 @@ impl<'p, N: PoolName> Relay<'p, N> {
         );
         Ran {
             collector,
-            unheld,
+            trouble,
             free,
         }
     }
 }
 
-/// The lines of a thread.
-fn lines_of(alloc: Global, thread: u32) -> Result<Vec<Line>, AllocError> {
+/// Logs the lines of a thread.
+fn log_lines<N: PoolName>(alloc: Global, desk: &mut Desk<'_, N>, thread: u32) -> Logged<N> {
     let mut lines = Vec::new(alloc);
     for number in 0..LINES {
         lines.push(Line {
@@ -136,43 +151,51 @@ fn lines_of(alloc: Global, thread: u32) -> Result<Vec<Line>, AllocError> {
             millis: number * 10,
         })?;
     }
-    Ok(lines)
+    desk.log(alloc, lines.as_slice())
 }
 
-/// Takes a desk that is free, logs the thread's lines, gives the desk back, and hands the batch on. Where memory was
-/// refused nothing is logged.
+/// Takes a desk that is free, logs the thread's lines, gives the desk back, and hands on what came of it.
 fn take_turn<N: PoolName, R: Wait>(rt: &R, alloc: Global, turn: Turn<'_, N>) {
-    let Ok(lines) = lines_of(alloc, turn.thread) else {
-        return;
-    };
     let Ok(mut desk) = turn.free.recv(rt) else {
         return;
     };
-    let logged = desk.log(alloc, lines.as_slice());
+    let logged = log_lines(alloc, &mut desk, turn.thread);
     let _ = turn.back.send(rt, desk);
-    if let Ok((batch, _)) = logged {
-        let _ = turn.to.send(rt, batch);
-    }
+    let _ = turn.to.send(rt, logged);
 }
 
-/// Collects what is handed on until all threads have ended. Why a line wasn't held, if one wasn't.
+/// Collects what is handed on until all threads have ended. Why a line wasn't relayed, if one wasn't.
 fn collect_all<'p, N: PoolName, R: Wait>(
     rt: &R,
     collector: Collector<'p, N>,
-    from: Receiver<Batch<N>, Global>,
-) -> (Collector<'p, N>, Option<Unheld>)
+    from: Receiver<Logged<N>, Global>,
+) -> (Collector<'p, N>, Option<Trouble>)
     requires holds { Holds N.pool collector.lender.lane collector.lane collector.held.items }
     ensures holds { Holds N.pool result.0.lender.lane result.0.lane result.0.held.items }
 {
     let mut collector = collector;
-    let mut unheld = None;
+    let mut trouble = None;
     for _ in rt.forever() {
-        let Ok(batch) = from.recv(rt) else {
+        let Ok(logged) = from.recv(rt) else {
             break;
         };
-        if let Err(why) = collector.collect(batch) {
-            unheld = Some(why);
+        if let Some(why) = collect_one(&mut collector, logged) {
+            trouble = Some(why);
         }
     }
-    (collector, unheld)
+    (collector, trouble)
+}
+
+/// Collects what a thread handed on. Why a line of it wasn't relayed, if one wasn't.
+fn collect_one<N: PoolName>(collector: &mut Collector<'_, N>, logged: Logged<N>) -> Option<Trouble>
+    requires holds { Holds N.pool collector.old.lender.lane collector.old.lane collector.old.held.items }
+    ensures holds { Holds N.pool collector.new.lender.lane collector.new.lane collector.new.held.items }
+{
+    let Ok((batch, stopped)) = logged else {
+        return Some(Trouble::Memory);
+    };
+    match collector.collect(batch) {
+        Ok(()) => stopped.map(|fault| Trouble::NoPlace(fault)),
+        Err(why) => Some(Trouble::Unheld(why)),
+    }
 }

@@ -2,7 +2,7 @@
 use crate::lines::Line;
 
 /// A line that was read, with its key.
-#[derive(Clone, Copy, Debug)]
+#[derive(Clone, Copy)]
 pub struct Row {
     pub key: u64,
     pub line: Line,
