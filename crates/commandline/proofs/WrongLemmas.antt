@@ -111,7 +111,7 @@ matches-none name rows wrong (Replay file turns stop acts) is (named, right, pla
     none-wrong _ wrong (both _ _ (given-right rows _ turns stop right) (if-right _ TwoTexts (not-both _ _ plain))) (is.replay named)
 matches-none name rows wrong (Schedule file turns stop) is (named, right, printed, flag) =
     none-wrong _ wrong (both _ _ (given-right rows _ turns stop right) (if-right _ TwoTexts (not-other (is_flagged (codes "print-schedule") rows) _ flag))) (is.replay named)
-matches-none name rows wrong (Shorten file turns stop search) is (named, right, word, are, flag) =
+matches-none name rows wrong (Shorten file turns stop search) is (named, right, word, are, decoded, scripts) =
     none-wrong _ wrong (both _ _ (given-right rows _ turns stop right)
     (both _ _ (file-right (first_of (codes "until") rows) _ word) (tries-right (first_of (codes "tries") rows) search.tries are))) (is.shorten named)
 matches-none name rows wrong (Check file) is (named, right) = none-wrong _ wrong (file-right (first_of (codes "acts") rows) _ right) (is.check named)

@@ -41,7 +41,7 @@ abbrev pub shorten_line : App
 shorten_line = line_of (codes "shorten")
     (positional (codes "file") ∷ needed_option (codes "until") ∷ option_named (codes "schedule") ∷ option_named (codes "seed")
     ∷ option_named (codes "turns") ∷ option_named (codes "stop") ∷ option_named (codes "tries") ∷ flag_named (codes "words")
-    ∷ flag_named (codes "progress") ∷ flag_named (codes "explain") ∷ [])
+    ∷ flag_named (codes "scripts") ∷ flag_named (codes "progress") ∷ flag_named (codes "explain") ∷ [])
 
 -- the subcommand `check`
 abbrev pub check_line : App
@@ -94,7 +94,7 @@ AreMatchesOf name rows (Schedule file turns stop) = (name ≡ codes "replay") ×
     × (is_flagged (codes "print-schedule") rows ≡ true) × (is_flagged (codes "acts") rows ≡ false)
 AreMatchesOf name rows (Shorten file turns stop search) = (name ≡ codes "shorten") × HasTurns rows (string_bytes file) turns stop
     × (first_of (codes "until") rows ≡ Some (string_bytes search.word)) × AreTries (first_of (codes "tries") rows) search.tries
-    × (search.decoded ≡ is_flagged (codes "words") rows)
+    × (search.decoded ≡ is_flagged (codes "words") rows) × (search.scripts ≡ is_flagged (codes "scripts") rows)
 AreMatchesOf name rows (Check file) = (name ≡ codes "check") × (first_of (codes "acts") rows ≡ Some (string_bytes file))
 AreMatchesOf name rows (Run file) = (name ≡ codes "run") × (first_of (codes "file") rows ≡ Some (string_bytes file))
 AreMatchesOf name rows (Key number) = (name ≡ codes "key") × (flag_of (first_of (codes "word") rows) ≡ false)

@@ -139,12 +139,16 @@ static SHORTEN: Line<'static> = Line {
         example: "Example: poolrun shorten first.json --seed 1 --turns 100 --until PUBLISH",
         about: "Leaves entries out of a schedule for as long as a word stands in its replay, and prints what is left",
         usage: Some(
-            "poolrun shorten <FILE> --schedule <LANES> [--stop <L:K>] --until <WORD> [--words] [--tries <T>] [--progress] [--explain]\n       poolrun shorten <FILE> --seed <N> --turns <M> [--stop <L:K>] --until <WORD> [--words] [--tries <T>] [--progress] [--explain]",
+            "poolrun shorten <FILE> --schedule <LANES> [--stop <L:K>] --until <WORD> [--words] [--tries <T>] [--scripts] [--progress] [--explain]\n       poolrun shorten <FILE> --seed <N> --turns <M> [--stop <L:K>] --until <WORD> [--words] [--tries <T>] [--scripts] [--progress] [--explain]",
         ),
         more: "\
 WORD is one or more fields of a line of the trace or of the acts, as full, CLAIM or 'clear 16777216 true':
 it stands between spaces, or at an end of the line. With --words it is one or more fields of a line as
 `poolview words` shows it, as failed or 'MARKED count 1'. No single entry of what is printed can be left out.
+
+With --scripts commands are left out of the scripts, too, and a second line is the script file that is left:
+  poolrun shorten first.json --seed 1 --turns 100 --until PUBLISH --scripts > short
+  sed 1d short > short.json; sed 1q short | poolrun replay short.json --schedule -
 
 Each trial is a replay. After those of 100000000 entries in all it gives up. With --tries it ends after
 T replays, and prints the shortest schedule that it has then; more can perhaps be left out of that one,
@@ -180,6 +184,11 @@ these words.",
             kind: Kind::Flag,
             name: "words",
             help: "WORD is of the trace as `poolview words` shows it",
+        },
+        Argument {
+            kind: Kind::Flag,
+            name: "scripts",
+            help: "Leaves commands out of the scripts, too, and prints the script file that is left in a second line",
         },
         Argument {
             kind: Kind::Flag,

@@ -17,7 +17,8 @@ pub enum Task {
         turns: Turns,
         stop: Option<Stop>,
     },
-    /// Leave entries out of that schedule for as long as a word stands in the replay, and print what is left.
+    /// Leave entries out of that schedule, and perhaps commands out of the scripts, for as long as a word stands in the
+    /// replay, and print what is left.
     Shorten {
         file: String,
         turns: Turns,
@@ -119,6 +120,8 @@ pub struct Search {
     pub decoded: bool,
     /// How many replays are made at most, where that is given.
     pub tries: Option<u64>,
+    /// Whether commands are left out of the scripts, too.
+    pub scripts: bool,
 }
 
 /// The turns of a replay.

@@ -106,6 +106,7 @@ fn shorten_task(alloc: Global, matches: &ArgMatches) -> Result<Task, TaskFault>
             word,
             decoded: is_used(matches, "words"),
             tries,
+            scripts: is_used(matches, "scripts"),
         },
     })
 }

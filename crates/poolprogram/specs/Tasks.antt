@@ -4,7 +4,7 @@ use Rattle.std.specs.Io.KnownBytes.{Appends}
 use Rattle.commandline.specs.declared.tasks.Task.{Task}
 use Rattle.commandline.specs.declared.tasks.Task.TheVariants.{Replay, Schedule, Shorten, Check, Run, Key, Word}
 use Rattle.poolprogram.specs.Turns.{WritesTurns, WritesSchedule, RefusesTurns, RefusesListing}
-use Rattle.poolprogram.specs.Shortenings.{WritesShortest, RefusesShortest}
+use Rattle.poolprogram.specs.Shortenings.{WritesShortening, RefusesShortest}
 use Rattle.poolprogram.specs.Checks.{WritesVerdict, RefusesActs}
 use Rattle.poolprogram.specs.Runs.{WritesRun, RefusesRun}
 use Rattle.poolprogram.specs.KeyTexts.{WritesKey}
@@ -30,7 +30,7 @@ abbrev pub WritesTask : Task → List ℕ → Done → Option (List ℕ) → Opt
 WritesTask (Replay path turns stop acts) file done old new = (done ≡ Well) × WritesTurns file turns stop acts old new
 WritesTask (Schedule path turns stop) file done old new = (done ≡ Well) × WritesSchedule file turns stop old new
 WritesTask (Shorten path turns stop search) file done old new =
-    (least : Bool) × (done ≡ done_short least) × WritesShortest file turns stop search least old new
+    (least : Bool) × (done ≡ done_short least) × WritesShortening file turns stop search least old new
 WritesTask (Check path) file done old new = (legal : Bool) × (done ≡ done_by legal) × WritesVerdict file legal old new
 WritesTask (Run path) file done old new = (done ≡ Well) × WritesRun file old new
 WritesTask (Key number) file done old new = (known : Bool) × (done ≡ done_by known) × WritesKey number known old new

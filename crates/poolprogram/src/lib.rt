@@ -32,7 +32,7 @@ pub use replay::{replay_plan, replay_text};
 pub use run::run_text;
 pub use run_fault::RunFault;
 pub use schedules::{read_schedule, stop_after};
-pub use shortest::shortest_text;
+pub use shortest::{short_plan_text, shortening_text, shortest_text};
 pub use tasks::{do_task, status_of, write_report};
 pub use turns::{plan_turns, replay_turns, schedule_text};
 pub use word::word_text;

@@ -9,7 +9,7 @@ use crate::key::key_text;
 use crate::meter::Meter;
 use crate::run::run_text;
 use crate::run_fault::RunFault;
-use crate::shortest::shortest_text;
+use crate::shortest::shortening_text;
 use crate::turns::{replay_turns, schedule_text};
 use crate::word::word_text;
 use commandline::Task;
@@ -63,7 +63,7 @@ pub fn do_task<R: Threads + Wait + Sync, W: Write, M: Write>(
             stop,
             search,
         } => {
-            let least = shortest_text(alloc, file, turns, stop, search, out, meter)?;
+            let least = shortening_text(alloc, file, turns, stop, search, out, meter)?;
             Ok(done_short(least))
         }
         Task::Check { file: _ } => {

@@ -93,7 +93,7 @@ pub fn plan_turns(
 }
 
 /// The line of a schedule.
-fn line_of(alloc: Global, schedule: &[u32]) -> Result<Vec<u8>, RunFault>
+pub(crate) fn line_of(alloc: Global, schedule: &[u32]) -> Result<Vec<u8>, RunFault>
     ensures ok { IfOk result (λ line. line.items ≡ schedule_line schedule.now) }
     ensures err { IfErr result (λ fault. fault ≡ RunFault.Memory) }
 {

@@ -3,3 +3,4 @@ pub mod ScriptFaults
 pub mod ScriptPlaces
 pub mod ScriptFiles
 pub mod Readings
+pub mod PlanValues

@@ -10,6 +10,7 @@ mod reading;
 mod script_fault;
 mod script_place;
 mod script_refusal;
+mod writing;
 
 pub use command_name::{CommandName, find_command};
 pub use plan::{Plan, Scripts};
@@ -18,3 +19,4 @@ pub use schedules::{Memory, draw, stop_after};
 pub use script_fault::ScriptFault;
 pub use script_place::{FieldName, ScriptPlace};
 pub use script_refusal::ScriptRefusal;
+pub use writing::plan_text;

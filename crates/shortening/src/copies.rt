@@ -5,7 +5,7 @@ use std::alloc::{AllocError, Global};
 use traces::{Command, Script};
 
 /// The same command once more.
-fn copy_command(alloc: Global, command: &Command) -> Result<Command, AllocError>
+pub(crate) fn copy_command(alloc: Global, command: &Command) -> Result<Command, AllocError>
     ensures { IfOk result (λ copy. copy ≡ command.now) }
 {
     match command {

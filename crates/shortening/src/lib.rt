@@ -2,8 +2,12 @@
 #![tactic(auto)]
 
 mod acts;
+mod bounds;
+mod choices;
+mod command_trial;
 mod copies;
 mod fault;
+mod plans;
 mod printing;
 mod short;
 mod shorter;
@@ -13,8 +17,10 @@ mod word_trial;
 mod words;
 
 pub use acts::acts_of;
+pub use bounds::Bounds;
 pub use fault::Unshortened;
-pub use short::Short;
+pub use plans::{Sought, shorten_plan};
+pub use short::{Short, ShortPlan};
 pub use shorter::shorten;
 pub use trial::Trial;
 pub use watch::Watch;

@@ -1,13 +1,14 @@
-//! Replays and their text.
-ghost use Rattle.std.specs.Prelude.{◌≡◌, ◌++◌, false, codes, IfOk, IfErr};
+//! Replays and their text, and words in it.
+ghost use Rattle.std.specs.Prelude.{◌≡◌, ◌++◌, false, codes, IfOk, IfErr, MatchBool};
 ghost use Rattle.traces.specs.Lawful.{IsLawful};
 ghost use Rattle.traceviews.specs.Lines.{trace_lines};
 ghost use Rattle.traceviews.specs.Styles.{lines_words};
-ghost use Rattle.shortening.specs.Replays.{AreScriptsOf, IsPrint, IsPrinted, IsReplay};
+ghost use Rattle.shortening.specs.Replays.{AreScriptsOf, IsPrint, IsPrinted, IsReplay, Shows, Lacks};
 
 use crate::acts::acts_of;
 use crate::copies::copy_scripts;
 use crate::fault::Unshortened;
+use crate::words::stands_in;
 use coresteps::run;
 use keybits::Shape;
 use seqpool::write_acts;
@@ -67,7 +68,7 @@ fn print(alloc: Global, shape: &Shape, trace: &Trace, decoded: bool) -> Result<V
 }
 
 /// The text of a replay, decoded or not.
-pub(crate) fn replay(
+fn replay(
     alloc: Global,
     shape: &Shape,
     scripts: &[Script],
@@ -80,4 +81,22 @@ pub(crate) fn replay(
 {
     let trace = trace_of(alloc, shape, scripts, schedule)?;
     print(alloc, shape, &trace, decoded)
+}
+
+/// Whether a word stands in the text of a replay, decoded or not.
+pub(crate) fn is_shown(
+    alloc: Global,
+    shape: &Shape,
+    scripts: &[Script],
+    schedule: &[u32],
+    word: &str,
+    decoded: bool,
+) -> Result<bool, Unshortened>
+    requires { AreScriptsOf shape.now scripts.now }
+    ensures ok { IfOk result (λ shown. MatchBool shown (Shows shape.now scripts.now decoded word.now schedule.now)
+        (Lacks shape.now scripts.now decoded word.now schedule.now)) }
+    ensures err { IfErr result (λ fault. fault ≡ Unshortened.Memory) }
+{
+    let text = replay(alloc, shape, scripts, schedule, decoded)?;
+    Ok(stands_in(word.as_bytes(), text.as_slice()))
 }

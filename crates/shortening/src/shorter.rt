@@ -130,6 +130,23 @@ fn settle<T: Trial, W: Watch>(
     })
 }
 
+/// What is left of a schedule that passes the trial, as `shorten` leaves entries out of it. The errors: `Limit` where the
+/// trial may try no more; `Memory`.
+pub(crate) fn shorten_passed<T: Trial, W: Watch>(
+    alloc: Global,
+    trial: &mut T,
+    watch: &mut W,
+    schedule: Vec<u32>,
+) -> Result<Short, Unshortened>
+    requires passed { T.passes trial.old schedule.items }
+    ensures ok { IfOk result (IsShortened (T.passes trial.old) (T.fails trial.old) (T.tries trial.new) schedule.items) }
+    ensures unbounded { IfOk result (λ short. T.tries trial.old ≡ None → T.tries trial.new ≡ None) }
+    ensures err { IfErr result (GivesUp (T.is_spent trial.new)) }
+{
+    let kept = narrow(alloc, trial, watch, schedule)?;
+    settle(alloc, trial, watch, kept)
+}
+
 /// What is left of a schedule when entries are left out for as long as it passes the trial, so that it fails as soon as
 /// any one entry more is left out; or where no try is left, the shortest schedule that passed by then. Halves are tried
 /// first, then quarters, and so on, so that a long schedule takes few trials; `watch` is told of each behind that of the
@@ -144,6 +161,7 @@ pub fn shorten<T: Trial, W: Watch>(
     ensures ok { IfOk result (IsShortened (T.passes trial.old) (T.fails trial.old) (T.tries trial.new) schedule.items) }
     ensures fails { result ≡ Err Unshortened.Fails → T.fails trial.old schedule.items }
     ensures endless { IfOk result (λ short. T.tries trial.old ≡ None → short.least ≡ true) }
+    ensures unbounded { IfOk result (λ short. T.tries trial.old ≡ None → T.tries trial.new ≡ None) }
     ensures limit { result ≡ Err Unshortened.Limit → T.is_spent trial.new ⊎ (is_left (T.tries trial.old) ≡ false) }
 {
     if !trial.may_try() {
@@ -152,6 +170,5 @@ pub fn shorten<T: Trial, W: Watch>(
     if !trial.is_passed(alloc, schedule.as_slice())? {
         return Err(Unshortened::Fails);
     }
-    let kept = narrow(alloc, trial, watch, schedule)?;
-    settle(alloc, trial, watch, kept)
+    shorten_passed(alloc, trial, watch, schedule)
 }

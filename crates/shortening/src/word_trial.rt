@@ -3,17 +3,17 @@ ghost use Rattle.std.specs.Prelude.{◌≡◌, ◌+◌, ◌-◌, true, length, M
 ghost use Rattle.shortening.specs.Replays.{AreScriptsOf, Shows, Lacks};
 ghost use Rattle.shortening.specs.Shortest.{is_left, one_less, IsSameTrial, GivesUp};
 
+use crate::bounds::Bounds;
 use crate::fault::Unshortened;
-use crate::printing::replay;
+use crate::printing::is_shown;
 use crate::trial::Trial;
-use crate::words::stands_in;
 use keybits::Shape;
 use std::alloc::Global;
 use std::marker::Model;
 use traces::Script;
 
 /// One try less, where their number is given.
-fn one_less(tries: Option<u64>) -> Option<u64>
+pub(crate) fn one_less(tries: Option<u64>) -> Option<u64>
     ensures { result ≡ one_less tries }
 {
     match tries {
@@ -85,6 +85,19 @@ impl WordTrial {
     }
 }
 
+impl WordTrial {
+    /// How much may still be tried.
+    pub(crate) fn bounds(&self) -> Bounds
+        ensures left { result.left ≡ self.now.left }
+        ensures tries { result.tries ≡ self.now.tries }
+    {
+        Bounds {
+            left: self.left,
+            tries: self.tries,
+        }
+    }
+}
+
 impl Trial for WordTrial {
     ghost passes = { λ t. Shows t.shape t.scripts t.decoded t.word };
 
@@ -114,13 +127,13 @@ impl Trial for WordTrial {
             return Err(Unshortened::Limit);
         }
         self.left = self.left.saturating_sub(schedule.len() as u64 + 1);
-        let text = replay(
+        is_shown(
             alloc,
             &self.shape,
             self.scripts.as_slice(),
             schedule,
+            self.word.as_str(),
             self.decoded,
-        )?;
-        Ok(stands_in(self.word.as_bytes(), text.as_slice()))
+        )
     }
 }

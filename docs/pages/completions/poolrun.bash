@@ -18,7 +18,7 @@ _poolrun() {
     shorten)
         case $before in --until | --schedule | --seed | --turns | --stop | --tries) return ;; esac
         if [[ $word == -* ]]; then
-            mapfile -t COMPREPLY < <(compgen -W '--until --schedule --seed --turns --stop --tries --words --progress --explain --progress=never --progress=always --progress=auto --explain=never --explain=always --explain=auto --help' -- "$word")
+            mapfile -t COMPREPLY < <(compgen -W '--until --schedule --seed --turns --stop --tries --words --scripts --progress --explain --progress=never --progress=always --progress=auto --explain=never --explain=always --explain=auto --help' -- "$word")
         else
             mapfile -t COMPREPLY < <(compgen -f -- "$word")
         fi

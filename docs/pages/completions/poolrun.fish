@@ -18,6 +18,7 @@ complete -c poolrun -n '__fish_seen_subcommand_from shorten' -l turns -x -d 'How
 complete -c poolrun -n '__fish_seen_subcommand_from shorten' -l stop -x -d 'Lane L has no turn after its K-th'
 complete -c poolrun -n '__fish_seen_subcommand_from shorten' -l tries -x -d 'How many replays are made at most, 1 to 18446744073709551615'
 complete -c poolrun -n '__fish_seen_subcommand_from shorten' -l words -d 'WORD is of the trace as `poolview words` shows it'
+complete -c poolrun -n '__fish_seen_subcommand_from shorten' -l scripts -d 'Leaves commands out of the scripts, too, and prints the script file that is left in a second line'
 complete -c poolrun -n '__fish_seen_subcommand_from shorten' -l progress -d 'Says on standard error how far it is. At a terminal it does so by itself: --progress=never, =always or =auto says when'
 complete -c poolrun -n '__fish_seen_subcommand_from shorten' -l explain -d 'Says on standard error where a mistake is, and what is wanted there. At a terminal it does so by itself: --explain=never, =always or =auto says when'
 complete -c poolrun -f -n __fish_use_subcommand -a check -d 'Checks that acts are a legal history of a pool, and prints its summary'
