@@ -23,7 +23,7 @@ const PASSED: u32 = 32;
 const MOST_PASSED: u32 = 8192;
 
 /// How often a thread looks whether another one has opened a segment, before it opens one itself.
-const MOST_LOOKS: u32 = 1000;
+const MOST_LOOKS: u32 = 10_000;
 
 pub(crate) struct Room<T: Clear> {
     /// Another for each pool of the process.
