@@ -252,7 +252,7 @@ static void *puts_slowly(void *pool) {
 /* Where the only lane is had, each call by another slot is busy and has done nothing. */
 static void busies(void) {
     const pardz_heap heap = { slow, slow_realloc, slow_free, NULL };
-    pardz_pool pool = PARDZ_EMPTY, other = PARDZ_EMPTY;
+    pardz_pool pool = PARDZ_EMPTY, other = PARDZ_EMPTY, third = PARDZ_EMPTY;
     pthread_t thread;
     pardz_lent lent = UNLENT, kept = UNLENT;
     pardz_census census = NONE;
@@ -272,6 +272,8 @@ static void busies(void) {
     EXPECT(CLEAR, BUSY, pardz_pool_clear(&pool, 0, key));
     EXPECT(DETACH, SHARED, pardz_detach(&pool, &census));
     CHECK(none == 99 && is_unlent(&lent) && is_none(&census) && pool.full == 1);
+    const uint32_t shared = pardz_share(&pool, &third);
+    CHECK(shared == PARDZ_BUSY ? third.full == 0 : shared == PARDZ_OK && pardz_unshare(&third) == PARDZ_OK);
     sem_post(&go_on);
     CHECK(pthread_join(thread, NULL) == 0);
     EXPECT(RELEASE, OK, pardz_pool_release(&pool, &kept));
