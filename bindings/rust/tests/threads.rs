@@ -484,7 +484,7 @@ impl Clear for Link {
 fn chains_let_go() {
     let _limit = limit();
     let chain = |by_reference: bool| {
-        let count = 5000;
+        let count = 2000;
         let mut last = None;
         for _ in 0..count {
             let key = links()

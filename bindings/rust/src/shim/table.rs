@@ -205,9 +205,14 @@ impl<S> Table<S> {
             slots: slot_row.as_ptr(),
             slot_count: slots.len(),
         };
-        for (index, slot) in slots.into_iter().enumerate() {
-            // SAFETY: the row has as many slots.
-            unsafe { shared.slots.add(index).write(slot) };
+        if mem::size_of::<S>() == 0 {
+            // (There are as many as lanes times places, and nothing to write.)
+            mem::forget(slots);
+        } else {
+            for (index, slot) in slots.into_iter().enumerate() {
+                // SAFETY: the row has as many slots.
+                unsafe { shared.slots.add(index).write(slot) };
+            }
         }
         Ok((Table { shared }, Seat(PhantomData)))
     }
