@@ -199,10 +199,10 @@ fn all_that_were_dropped_end_at_once(rt: HostRuntime) -> Result<(), Fail> {
     let mut other = taken(&rt, &mut opened, 1);
     let pool = &opened.pool;
     let mut lender = lender_of(&rt, alloc, lane);
-    for word in [b"one", b"two"] {
-        let key = put(&rt, pool, &mut other, word);
-        drop(own(&rt, pool, &mut lender, key));
-    }
+    let one = put(&rt, pool, &mut other, b"one");
+    let two = put(&rt, pool, &mut other, b"two");
+    drop(own(&rt, pool, &mut lender, one));
+    drop(own(&rt, pool, &mut lender, two));
     assert!(rt; lender.outstanding() == 2);
     assert!(rt; lender.sweep(pool) == 2);
     assert!(rt; lender.outstanding() == 0 && lender.close(pool).is_ok());
