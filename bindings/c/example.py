@@ -248,7 +248,8 @@ def main():
     writer.join()
     assert pool.read(0, pool.put(0, b""), bytes) == b"" and pool.read(0, 1, bytes) is None
     print(pool.close())
-    if hasattr(ctypes.CDLL(library), "pardz_attach"):
+    # (By one slot of a pool many threads call over the library that cargo builds alone, which has owned references too.)
+    if hasattr(ctypes.CDLL(library), "pardz_own"):
         many_threads(library, heap)
 
 
