@@ -36,7 +36,7 @@ impl<T> Loan<T> {
     }
 }
 
-/// A lane that lends the share under each of its references. It makes no other calls than those by which it does.
+/// A lane that lends the share under each of its references. It has no other calls.
 pub struct LendingLane<T: Clear> {
     hand: Hand<T>,
     ahead: Apart,
