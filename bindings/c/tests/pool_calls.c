@@ -3,10 +3,9 @@
 #include "answers.h"
 #include "counting_heap.h"
 
-#include <pthread.h>
-#include <semaphore.h>
-
 enum call { ATTACH, PUT, GET, RELEASE, CLEAR, CENSUS, DETACH, OWN, OWN_AGAIN, OWNED_BYTES, DISOWN, CALLS };
+
+#include "by_pool.h"
 
 /* The codes that each call can answer, as pardz.h has them. */
 static const uint32_t ALL[CALLS] = {
@@ -25,19 +24,6 @@ static const uint32_t ALL[CALLS] = {
 
 static const pardz_shape SHAPE = { 2, 2, 2, UINT32_MAX, 7 };
 static const pardz_shape ONE = { 1, 2, 1, UINT32_MAX, 7 }, THREE = { 1, 1, 2, UINT32_MAX, 7 };
-
-/* A reference that no call wrote. */
-static const pardz_lent UNLENT = { nowhere, 99, 99, 99 };
-
-static int is_unlent(const pardz_lent *lent) {
-    return lent->at == nowhere && lent->len == 99 && lent->key == 99 && lent->lane == 99;
-}
-
-static uint64_t put(const pardz_pool *pool, uint32_t from, const char *text) {
-    uint64_t key = 0;
-    EXPECT(PUT, OK, pardz_pool_put(pool, from, (const uint8_t *)text, strlen(text), &key));
-    return key;
-}
 
 /* A wrong attach leaves the slot and the heap as they were. */
 static void attaches(void) {
@@ -294,37 +280,7 @@ static void memory(void) {
     heap_begin(0, 0);
 }
 
-/* A heap that holds a put up, so that its lane is had for so long. */
-static sem_t held, go_on;
-static int holds_up;
 static uint64_t slow_key;
-
-static void *slow(void *context, size_t size) {
-    (void)context;
-    if (holds_up) {
-        holds_up = 0;
-        sem_post(&held);
-        sem_wait(&go_on);
-    }
-    return malloc(size);
-}
-
-static void *slow_realloc(void *context, void *at, size_t size) {
-    (void)context;
-    return realloc(at, size);
-}
-
-static void slow_free(void *context, void *at) {
-    (void)context;
-    free(at);
-}
-
-/* A put that the heap holds up. (If it asked for nothing, who waits until it is held up would wait forever.) */
-static void *puts_slowly(void *pool) {
-    uint64_t key = 99;
-    CHECK(pardz_pool_put(pool, 0, nowhere, 8, &key) == PARDZ_OK && key != 99 && !holds_up);
-    return NULL;
-}
 
 /* An own that it holds up. */
 static void *owns_slowly(void *pool) {

@@ -1,18 +1,11 @@
 /* Calls by a pool, each thread by a slot of its own: each code of each call, provoked once; then that these were all. Each request for memory
  * of an attach, a share and a put refused in turn: a code, nothing else changed, no leak. */
-#include "../pardz.h"
-#include "check.h"
+#include "answers.h"
 #include "counting_heap.h"
-
-#include <pthread.h>
-#include <semaphore.h>
-#include <string.h>
 
 enum call { ATTACH, SHARE, PUT, GET, RELEASE, CLEAR, UNSHARE, DETACH, CALLS };
 
-#define BIT(code) (1u << PARDZ_##code)
-
-static const char *const NAMES[CALLS] = { "attach", "share", "put", "get", "release", "clear", "unshare", "detach" };
+#include "by_pool.h"
 
 /* The codes that each call can answer here: a share by libpoolffi.a alone takes memory and a lane. */
 static const uint32_t ALL[CALLS] = {
@@ -26,38 +19,7 @@ static const uint32_t ALL[CALLS] = {
     [DETACH] = BIT(OK) | BIT(EMPTY_LANE) | BIT(SHARED),
 };
 
-static uint32_t seen[CALLS];
-
-static void expect(enum call call, uint32_t want, uint32_t got, int line) {
-    if (got != want) {
-        fprintf(stderr, "line %d: %s answered %u, not %u\n", line, NAMES[call], got, want);
-        exit(1);
-    }
-    seen[call] |= 1u << got;
-}
-
-#define EXPECT(call, want, got) expect(call, PARDZ_##want, got, __LINE__)
-
 static const pardz_shape SHAPE = { 2, 2, 2, UINT32_MAX, 7 }, ONE = { 1, 2, 1, UINT32_MAX, 7 };
-
-/* What no call wrote. */
-static uint8_t nowhere[8];
-static const pardz_lent UNLENT = { nowhere, 99, 99, 99 };
-static const pardz_census NONE = { 99, 99, 99, 99, 99, 99 };
-
-static int is_unlent(const pardz_lent *lent) {
-    return lent->at == nowhere && lent->len == 99 && lent->key == 99 && lent->lane == 99;
-}
-
-static int is_none(const pardz_census *census) {
-    return memcmp(census, &NONE, sizeof NONE) == 0;
-}
-
-static uint64_t put(const pardz_pool *pool, uint32_t from, const char *text) {
-    uint64_t key = 0;
-    EXPECT(PUT, OK, pardz_pool_put(pool, from, (const uint8_t *)text, strlen(text), &key));
-    return key;
-}
 
 /* A wrong attach leaves the slot and the heap as they were. */
 static void attaches(void) {
@@ -219,36 +181,6 @@ static void memory(void) {
     heap_begin(0, 0);
 }
 
-/* A heap that holds a put up, so that its lane is had for so long. */
-static sem_t held, go_on;
-static int holds_up;
-
-static void *slow(void *context, size_t size) {
-    (void)context;
-    if (holds_up) {
-        holds_up = 0;
-        sem_post(&held);
-        sem_wait(&go_on);
-    }
-    return malloc(size);
-}
-
-static void *slow_realloc(void *context, void *at, size_t size) {
-    (void)context;
-    return realloc(at, size);
-}
-
-static void slow_free(void *context, void *at) {
-    (void)context;
-    free(at);
-}
-
-static void *puts_slowly(void *pool) {
-    uint64_t key = 99;
-    CHECK(pardz_pool_put(pool, 0, nowhere, 8, &key) == PARDZ_OK && key != 99);
-    return NULL;
-}
-
 /* Where the only lane is had, each call by another slot is busy and has done nothing. */
 static void busies(void) {
     const pardz_heap heap = { slow, slow_realloc, slow_free, NULL };
@@ -291,8 +223,6 @@ int main(void) {
     limits();
     memory();
     busies();
-    for (int call = 0; call < CALLS; call++)
-        CHECK(seen[call] == ALL[call]);
-    printf("shares: each code of each call by a pool of which each thread has a slot\n");
+    printf("shares: %d pairs of a call and a code\n", check_answers(ALL, CALLS));
     return 0;
 }

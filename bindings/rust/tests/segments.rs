@@ -1,38 +1,19 @@
 //! When a growing pool opens a further segment, and to which lanes the creates of a thread turn whose own shard is full.
 mod common;
+#[path = "common/numbers.rs"]
+mod numbers;
 
 use common::{at_once, limit};
-use pardz::{Clear, Key, Pool};
+use numbers::{growing, lane_of, put, Number};
+use pardz::{Key, Pool};
 use std::collections::BTreeSet;
 use std::sync::Barrier;
 
 /// Places of a lane in all segments, by how many there are.
 const PLACES: [u32; 7] = [0, 32, 96, 288, 1248, 13_472, 58_464];
 
-#[derive(Debug, Default)]
-struct Number(u64);
-
-impl Clear for Number {
-    fn clear(&mut self) {
-        self.0 = 0;
-    }
-}
-
-fn growing() -> Pool<Number> {
-    Pool::growing().expect("memory")
-}
-
-fn put(pool: &Pool<Number>, number: u64) -> Key {
-    let key = pool.create_with(|object| object.0 = number);
-    key.expect("a place")
-}
-
 fn fill(pool: &Pool<Number>, count: u64) -> Vec<Key> {
     (0..count).map(|number| put(pool, number)).collect()
-}
-
-fn lane_of(key: Key) -> u64 {
-    u64::from(key) >> 16 & 0xff
 }
 
 fn lanes_of(keys: &[Key]) -> BTreeSet<u64> {

@@ -1,32 +1,13 @@
 //! More threads than the first segments of a growing pool have lanes for: a create of one that finds none has a segment with more opened.
 mod common;
+#[path = "common/numbers.rs"]
+mod numbers;
 
 use common::{at_once, limit, Gate};
-use pardz::{Clear, Growth, Key, Pool};
+use numbers::{growing, lane_of, put, Number};
+use pardz::{Growth, Key, Pool};
 use std::collections::BTreeSet;
 use std::thread;
-
-#[derive(Debug, Default)]
-struct Number(u64);
-
-impl Clear for Number {
-    fn clear(&mut self) {
-        self.0 = 0;
-    }
-}
-
-fn growing() -> Pool<Number> {
-    Pool::growing().expect("memory")
-}
-
-fn put(pool: &Pool<Number>, number: u64) -> Key {
-    let key = pool.create_with(|object| object.0 = number);
-    key.expect("a place")
-}
-
-fn lane_of(key: Key) -> u64 {
-    u64::from(key) >> 16 & 0xff
-}
 
 fn segment_of(key: Key) -> u64 {
     u64::from(key) >> 56
