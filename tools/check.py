@@ -51,7 +51,7 @@ FIGURES = [
     ("the crate's cycle, ns", None, [("docs/BENCHMARK.md", r"^\| a cycle \| (\d+ \| \d+) \|"), ("README.md", r"^\| create, fill, publish, clear \| (\d+ \| \d+) \|$")]),
     ("the crate's owned cycle, ns", None, [("docs/BENCHMARK.md", r"^\| `create_owned`, publish, clear \| (\d+ \| \d+) \|"), ("README.md", r"^\| the same by `create_owned` \| (\d+ \| \d+) \|")]),
     ("nested spans, ns", None, [("docs/BENCHMARK.md", r"^\| two nested spans under tracing-subscriber \| (\d+ \| \d+) \|"), ("README.md", r"^\| two nested spans under tracing-subscriber \| (\d+ \| \d+) \|")]),
-    ("an opened pool, ns", None, [("docs/BENCHMARK.md", r"^\| a pool opened and dropped \| ([\d,]+ \| [\d,]+) \|"), ("README.md", r"^\| a pool opened and dropped \| ([\d,]+ \| [\d,]+) \|")]),
+    ("an opened pool, ns", None, [("docs/BENCHMARK.md", r"^\| a pool opened and dropped \| ([\d,]+ \| [\d,]+) \|"), ("README.md", r"^\| a pool opened and dropped, never used \| ([\d,]+ \| [\d,]+) \|")]),
     ("a native get, instructions", None, [("docs/BENCHMARK.md", r"^\| get-many \| (\d+ \| \d+) \| \d+ \| \d+ \|$"), ("docs/C.md", r"^\| get-many \| \d+ \| (\d+ \| \d+) \|")]),
     ("a native cycle, instructions", None, [("docs/BENCHMARK.md", r"^\| cycle \| (\d+ \| \d+) \| \d+ \| \d+ \|$"), ("docs/C.md", r"^\| cycle: a put and a clear \| \d+ \| (\d+ \| \d+) \|")]),
     ("the crate's get, instructions, on its own page", None, [("docs/BENCHMARK.md", r"^\| get-many, 64 bytes \| (\d+) \|"), ("bindings/rust/README.md", r"^\| a get with its drop \| (\d+) instructions")]),
