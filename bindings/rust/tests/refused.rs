@@ -303,6 +303,7 @@ fn the_next_filling_of_a_place_takes_no_memory() {
         lanes: 1,
         first_page: 1,
         pages: 1,
+        tag: 0,
         ..SHAPE
     };
     let pool = Pool::<Buffer>::open(shape).expect("memory for a pool");

@@ -24,8 +24,10 @@ fn closures_run_between_the_calls(rt: HostRuntime) {
     let length = with(&pool, &mut lane, 16777216, |bytes: &ByteBuf| bytes.len());
     same(&rt, &length, &Some(2));
     clear(&rt, &pool, &mut lane, 16777216, true);
-    let behind = with(&pool, &mut lane, 16777216, |bytes: &ByteBuf| bytes.len());
-    same(&rt, &behind, &None);
+    let behind = with(&pool, &mut lane, 16777216, |_: &ByteBuf| {
+        panic!(&rt; "it runs behind a clear")
+    });
+    same(&rt, &behind, &None::<u64>);
 }
 
 #[test]
