@@ -16,13 +16,16 @@ use Rattle.keybits.specs.Steps.{claim_gives}
 use Rattle.keybits.proofs.KeyLemmas.{key_parts}
 use Rattle.seqpool.specs.declared.act.Act.{Act}
 use Rattle.seqpool.specs.declared.act.Act.TheVariants as acts
-use Rattle.seqpool.specs.Pool.{with, retired, Spot, spot, Pool, changed, fresh, pool_after}
+use Rattle.seqpool.specs.Pool.{with, retired, Spot, spot, Pool, Allowed, changed, fresh, pool_after}
 use Rattle.seqpool.proofs.Growth.{pool-snoc, after-here}
+use Rattle.seqpool.proofs.Misses.{later-law}
+use Rattle.seqpool.proofs.Ranks.{current-key}
 use Rattle.poolsteps.specs.declared.view.Stored.{Stored}
 use Rattle.poolsteps.specs.declared.view.Status.TheVariants.{Untouched}
 use Rattle.poolsteps.specs.Shares.{reclaimer, room_of, HasAll, Slots, Shared, restocked}
 use Rattle.poolsteps.proofs.shares.Rooms.{reclaimers-behind, rooms-behind}
-use Rattle.poolsteps.proofs.shares.Reclaiming.{reclaim-share-law}
+use Rattle.poolsteps.proofs.shares.HeldContents.{kept_in, was-published}
+use Rattle.poolsteps.proofs.shares.Reclaiming.{reclaim-share-law, marked-content}
 use Rattle.steplaws.specs.declared.pending.Pending.{Pending}
 use Rattle.steplaws.specs.declared.pending.Pending.TheVariants.{Nothing, Owes, Returns}
 use Rattle.steplaws.specs.Facts.{Words, Rule, with_under}
@@ -34,7 +37,7 @@ use Rattle.poolsteps.specs.declared.view.LaneRecord.{LaneRecord}
 use Rattle.poolsteps.specs.declared.view.View.{View}
 use Rattle.poolsteps.specs.Rule.{World}
 use Rattle.poolsteps.specs.Views.{the_lane, head_record}
-use Rattle.poolsteps.specs.Told.{claimed_under, HasPlace, Claims}
+use Rattle.poolsteps.specs.Told.{claimed_under, HasPlace, WasPublished, Claims}
 use Rattle.poolsteps.proofs.SeatLemmas.{IsAt, IsPoint}
 use Rattle.poolsteps.proofs.Making.{moment_of, Makes, quietly}
 use Rattle.poolsteps.proofs.Publishing.{knows-more, others-know}
@@ -136,6 +139,15 @@ module _ {S T : Type 0} (content : T → List ℕ) (room : T → ℕ) (spots : �
         ∙ (ap (λ (k : List ℕ). room_of history k place) rooms
         ∙ ap (λ (f : ℕ → ℕ). f place) (rooms-behind (λ _. 0) w.history w.kept (acts.Reclaim r.lane key) 0 point.paired))
 
+    -- the cell of a place whose key may be reclaimed has the content with which it was published
+    published-so : Allowed z (pool_after z w.history) (acts.Reclaim r.lane key) → (v : View) → v.seen ≡ history → WasPublished v.seen key (w.stock.stored place).content
+    published-so ok v saw =
+        let kept = subst (λ (p : ℕ). kept_in (pool_after z w.history (place_of key)).phase ≡ Some (w.stock.stored p).content) here
+        (marked-content (w.stock.stored (place_of key)) (room_of w.history w.kept (place_of key)) (pool_after z w.history (place_of key)).phase ok.1 (point.shared.contents (place_of key))) in
+        let now = current-key z (pool_after z w.history) key ok.0 in
+        let was = was-published z key now.0 (w.stock.stored place).content w.history point.rule.legal (kept, now.1) in
+        (was.0, (later-law w.history v.seen (acts.Reclaim r.lane key ∷ [], sym saw)).0 was.0 key (w.stock.stored place).content was.1)
+
   hits : HasUnderWay z (moment_of words w) r.lane (Owes place generation) → word ≡ claimable generation → MakesClaim (claim_gives z.last_generation generation word)
   hits owes hit =
       let key : ℕ = key_number z.tag place generation in
@@ -167,6 +179,7 @@ module _ {S T : Type 0} (content : T → List ℕ) (room : T → ℕ) (spots : �
             law.0 ∙ sym (room-stays key here v.0 saw.0 saw.1),
             λ number below. at.record_is.deeds place number ∙ law.1 number below r.lane at.record_is.inside,
             steps,
+            published-so key here keeps.allowed.1 v.0 saw.0,
           ),
           λ other. absurd (other hit),
         );

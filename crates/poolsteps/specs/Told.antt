@@ -6,14 +6,14 @@ use Rattle.keybits.specs.declared.step.Kind.{Kind}
 use Rattle.keybits.specs.declared.step.Kind.TheVariants as kinds
 use Rattle.keybits.specs.Places.{shard_of}
 use Rattle.keybits.specs.Shapes.{is_place}
-use Rattle.keybits.specs.Keys.{place_of}
+use Rattle.keybits.specs.Keys.{place_of, key_number}
 use Rattle.keybits.specs.Counts.{times}
 use Rattle.keybits.specs.Words.{state_in, generation_in, claimable}
 use Rattle.keybits.specs.Steps.{Changes, claim_gives}
 use Rattle.seqpool.specs.declared.act.Act.{Act}
 use Rattle.seqpool.specs.declared.act.Act.TheVariants as acts
 use Rattle.seqpool.specs.Pool.{with, references, references_in, is_marked, is_current, pool_after, IsLegal}
-use Rattle.seqpool.specs.Histories.{acts_of}
+use Rattle.seqpool.specs.Histories.{PublishedAt, acts_of}
 use Rattle.poolsteps.specs.declared.view.Stored.{Stored}
 use Rattle.poolsteps.specs.declared.view.Status.TheVariants.{Untouched, Emptied, InHand}
 use Rattle.poolsteps.specs.Shares.{reclaimer, room_of, MayHave, HasAll}
@@ -100,6 +100,10 @@ MayTouch z v place number = MayHave (reclaimer v.seen place) (the_lane v).lane n
 abbrev pub HasPlace : Shape → View → ℕ → Type 0
 HasPlace z v place = HasAll (reclaimer v.seen place) (the_lane v).lane (pool_after z v.seen place).phase
 
+-- a key was published with this content
+abbrev pub WasPublished : List Act → ℕ → List ℕ → Type 0
+WasPublished seen key content = (j : ℕ) × PublishedAt seen j key content
+
 -- the lane left each slot of the place alone
 abbrev pub LeftAlone : Shape → LaneRecord → ℕ → Type 0
 LeftAlone z r place = (number : ℕ) → number < z.lanes → status_of r place number ≡ Untouched
@@ -153,13 +157,15 @@ module _ {S : Type 0} (z : Shape) where
   MarksFrom expected key before found after = (found ≡ expected → Marks key before found after) × (found ≢ expected → Sees z before after)
 
   -- CLAIM: it succeeds from the one word alone; the lane then has all shares of the place, in slots that it left alone, and knows their cell, whose room is the place's
+  -- and whose content the key was published with
   abbrev pub Claims : ℕ → ℕ → Me S View → ℕ → Me S View → Type 0
   Claims place generation before found after = let r : LaneRecord = the_lane before.0 in let act : Option Act = Some
       (reclaim z r.lane place generation) in
       (found ≡ claimable generation → (c : Stored) × HasPlace z after.0 place × (c.room ≡ room_of after.0.seen after.0.rooms place)
       × LeftAlone z r place
       × Steps z (kinds.Claim generation) found (claim_gives z.last_generation generation found) before after
-      act (with_cell (after_step r act (claimed_under z r.lane place generation)) place c))
+      act (with_cell (after_step r act (claimed_under z r.lane place generation)) place c)
+      × WasPublished after.0.seen (key_number z.tag place generation) c.content)
       × (found ≢ claimable generation → LifeSteps (kinds.Claim generation) found found before after None Nothing)
 
 -- ---- what the steps ask

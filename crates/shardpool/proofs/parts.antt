@@ -15,6 +15,7 @@ pub mod Returners
 pub mod Collecting
 pub mod Within
 pub mod Giving
+pub mod Handing
 pub mod Settling
 pub mod Halting
 pub mod Taking

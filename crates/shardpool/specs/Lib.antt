@@ -17,6 +17,7 @@ pub mod Seen
 pub mod Fillings
 pub mod Stores
 pub mod Finishes
+pub mod Handed
 pub mod Lendings
 pub mod Opened
 pub mod Creates

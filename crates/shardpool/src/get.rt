@@ -12,8 +12,10 @@ ghost use Rattle.shardpool.specs.HeldKeys.{HeldKey as Shown};
 ghost use Rattle.poolsteps.specs.Views.{the_lane, status_of, IsOne};
 ghost use Rattle.poolsteps.specs.Grids.{IsSpot, IsOf, SameSeat};
 ghost use Rattle.shardpool.specs.Finishes.{MayMiss, Misses};
+ghost use Rattle.shardpool.specs.Handed.{HandsOut};
 ghost use Rattle.seqpool.specs.Histories.{PublishedAt};
 
+use crate::emptier::{Emptier, InPlace};
 use crate::pool::{HeldKey, Lane, LaneState, Places, Pool};
 use crate::reclaim::finish_if_owed;
 use keybits::{generation_of, is_hit, place_of};
@@ -101,6 +103,22 @@ impl<T: Clear + Drop> Pool<T> {
         Some(Ref::to(key, start, &lane.state.places))
     }
 
+    /// As `get`. The object of a place that a miss reclaims is handed to the emptier.
+    pub fn get_with<E: Emptier<T>>(
+        &self,
+        lane: &mut Lane<T>,
+        key: u64,
+        emptier: &mut E,
+    ) -> Option<Ref<T>>
+        requires owns { Owns self.now lane.old }
+        requires room { refs lane.old < most_references }
+        ensures got { AfterGet T self.now key lane.old lane.new result }
+        ensures hands { HandsOut E.takes lane.old.book lane.new.book emptier.old emptier.new }
+    {
+        let start = self.get_at_with(lane, key, emptier)?;
+        Some(Ref::to(key, start, &lane.state.places))
+    }
+
     /// A get whose reference stays with the lane, for who keeps keys in place of references: answers where
     /// `Lane::read_at` finds the object without looking for the key's place again.
     #[inline]
@@ -110,12 +128,37 @@ impl<T: Clear + Drop> Pool<T> {
         ensures got { AfterGet T self.now key lane.old lane.new (option_map (λ at. record { key = key }) result) }
         ensures stands { IfSome result (λ at. at ≡ slot_start self.now.shape (place_of key)) }
     {
+        let mut in_place = InPlace;
+        self.get_at_with(lane, key, &mut in_place)
+    }
+
+    /// As `get_at`, with an emptier.
+    #[inline(always)]
+    fn get_at_with<E: Emptier<T>>(
+        &self,
+        lane: &mut Lane<T>,
+        key: u64,
+        emptier: &mut E,
+    ) -> Option<u32>
+        requires owns { Owns self.now lane.old }
+        requires room { refs lane.old < most_references }
+        ensures got { AfterGet T self.now key lane.old lane.new (option_map (λ at. record { key = key }) result) }
+        ensures stands { IfSome result (λ at. at ≡ slot_start self.now.shape (place_of key)) }
+        ensures hands { HandsOut E.takes lane.old.book lane.new.book emptier.old emptier.new }
+    {
         shares_law();
         let number = lane.state.number;
         let spot = self.find(key)?;
         let found = self.grid.enter(&mut lane.hand, spot, key, Purpose::ToGet);
         if !is_hit(key, found) {
-            end_miss(&self.grid, &mut lane.hand, &mut lane.state, spot, key);
+            end_miss(
+                &self.grid,
+                &mut lane.hand,
+                &mut lane.state,
+                spot,
+                key,
+                emptier,
+            );
             return None;
         }
         gain_reference(&self.grid, &mut lane.hand, &mut lane.state, spot, key);
@@ -183,12 +226,13 @@ pub(crate) fn add_first_reference<T: Drop>(
 /// hit is likely there.
 #[cold]
 #[inline(never)]
-pub(crate) fn end_miss<T: Clear + Drop>(
+pub(crate) fn end_miss<T: Clear + Drop, E: Emptier<T>>(
     grid: &Grid<T>,
     hand: &mut Hand<T>,
     state: &mut LaneState<T>,
     spot: Spot,
     key: u64,
+    emptier: &mut E,
 )
     requires hand { IsOf grid.now hand.old × IsOne hand.old.me.0 }
     requires bare { hand.old.me.1 ≡ [] }
@@ -196,9 +240,10 @@ pub(crate) fn end_miss<T: Clear + Drop>(
     requires may { MayMiss T.content T.room grid.now.shape key grid.now.objects.ptr hand.old.me state.old }
     ensures hand { SameSeat hand.old hand.new }
     ensures misses { Misses T.content T.room grid.now.shape key hand.old.me hand.new.me state.old state.new }
+    ensures hands { HandsOut E.takes hand.old.me.0 hand.new.me.0 emptier.old emptier.new }
 {
     let left = grid.leave(hand, spot, key);
-    finish_if_owed(grid, hand, state, spot, key, left);
+    finish_if_owed(grid, hand, state, spot, key, left, emptier);
 }
 
 impl<T: Clear> Lane<T> {

@@ -3,6 +3,7 @@ ghost use Rattle.std.specs.Prelude.{◌≡◌, ◌≢◌, ◌+◌, ◌-◌, ◌<
 ghost use Rattle.steplaws.specs.Facts.{most_references};
 
 use crate::closing::HandRow;
+use crate::emptier::InPlace;
 use crate::get::end_miss;
 use crate::notes::Note;
 use crate::pool::{Apart, Lane, LaneState, Pool};
@@ -190,7 +191,15 @@ impl<T: Clear + Drop> LendingLane<T> {
         let spot = pool.find(key)?;
         let found = pool.grid.enter(&mut self.hand, spot, key, Purpose::ToGet);
         if !is_hit(key, found) {
-            end_miss(&pool.grid, &mut self.hand, &mut self.state, spot, key);
+            let mut in_place = InPlace;
+            end_miss(
+                &pool.grid,
+                &mut self.hand,
+                &mut self.state,
+                spot,
+                key,
+                &mut in_place,
+            );
             return None;
         }
         let share = pool.grid.out(&mut self.hand, spot, number, number);
@@ -241,7 +250,16 @@ impl<T: Clear + Drop> LendingLane<T> {
             .settle(&mut self.hand, spot, number, number, share);
         count_less(&mut self.state);
         let left = pool.grid.leave(&mut self.hand, spot, key);
-        finish_if_owed(&pool.grid, &mut self.hand, &mut self.state, spot, key, left);
+        let mut in_place = InPlace;
+        finish_if_owed(
+            &pool.grid,
+            &mut self.hand,
+            &mut self.state,
+            spot,
+            key,
+            left,
+            &mut in_place,
+        );
     }
 
     /// As `Pool::tell`.

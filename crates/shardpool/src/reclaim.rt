@@ -21,8 +21,10 @@ ghost use Rattle.freelists.specs.Queues.{IsAway};
 ghost use Rattle.poolsteps.specs.Whole.{Whole as Cell};
 ghost use Rattle.shardpool.specs.declared.reclaim.Reclaimed.TheVariants.{Own};
 ghost use Rattle.shardpool.specs.Stores.{Keeps};
+ghost use Rattle.shardpool.specs.Handed.{HandsOut};
 
 use crate::cell_moves::{rest_cell, take_cell};
+use crate::emptier::Emptier;
 use crate::pool::LaneState;
 use crate::stores::keep;
 use keybits::{Life, claimable, link_to, owes_claim, place_of, shard_of};
@@ -33,20 +35,22 @@ use std::alloc::Global;
 /// What follows the LEAVE of a key's place that found this word, and what the lane keeps of it: nothing, unless the
 /// call is the last to leave a marked place. Inlined, for what is seldom done stands apart.
 #[inline(always)]
-pub(crate) fn finish_if_owed<T: Clear + Drop>(
+pub(crate) fn finish_if_owed<T: Clear + Drop, E: Emptier<T>>(
     grid: &Grid<T>,
     hand: &mut Hand<T>,
     state: &mut LaneState<T>,
     spot: Spot,
     key: u64,
     found: u64,
+    emptier: &mut E,
 )
     requires call { MayFinishAndKeep T.content T.room grid.now hand.old state.old spot.start key found }
     ensures hand { SameSeat hand.old hand.new }
     ensures finishes { Finishes T.content T.room grid.now.shape (place_of key) found hand.old.me hand.new.me state.old state.new }
+    ensures hands { HandsOut E.takes hand.old.me.0 hand.new.me.0 emptier.old emptier.new }
 {
     if owes_claim(found) {
-        finish(grid, hand, state, spot.start, key, found);
+        finish(grid, hand, state, spot.start, key, found, emptier);
     }
 }
 
@@ -54,34 +58,36 @@ pub(crate) fn finish_if_owed<T: Clear + Drop>(
 /// they have at hand, and answers nothing.
 #[cold]
 #[inline(never)]
-fn finish<T: Clear + Drop>(
+fn finish<T: Clear + Drop, E: Emptier<T>>(
     grid: &Grid<T>,
     hand: &mut Hand<T>,
     state: &mut LaneState<T>,
     start: u32,
     key: u64,
     found: u64,
+    emptier: &mut E,
 )
     requires call { MayFinishAndKeep T.content T.room grid.now hand.old state.old start key found }
     ensures hand { SameSeat hand.old hand.new }
     ensures finishes { Finishes T.content T.room grid.now.shape (place_of key) found hand.old.me hand.new.me state.old state.new }
+    ensures hands { HandsOut E.takes hand.old.me.0 hand.new.me.0 emptier.old emptier.new }
 {
     let spot = Spot {
         place: place_of(key),
         start,
     };
-    let reclaimed = finish_leave(grid, hand, state.at_spot(spot), found);
+    let reclaimed = finish_leave(grid, hand, state.at_spot(spot), found, emptier);
     keep_reclaimed(state, spot, reclaimed);
 }
 
 /// What became of a place that a call reclaimed.
 #[derive(Drop)]
 pub(crate) enum Reclaimed<T> {
-    /// It is of the lane's own shard: its object, which was cleared in place.
+    /// It is of the lane's own shard: its object, which was emptied.
     Own(Whole<T>),
     /// It is of another shard, and was returned there.
     Returned,
-    /// Its last generation was over: it is retired, its object was dropped, and it is vacant.
+    /// Its last generation was over: it is retired, its object was handed over, and it is vacant.
     Retired(Vacancy<T>),
 }
 
@@ -127,14 +133,15 @@ impl<T> LaneState<T> {
 }
 
 /// What follows a LEAVE that found this word: where it left (g, MARKED, 0), the CLAIM of g; and where that succeeded,
-/// the place's object is cleared in place, and a place of another shard returned. None where no place was reclaimed. It
-/// takes no memory.
+/// the place's object is emptied, and a place of another shard returned. None where no place was reclaimed. It takes no
+/// memory.
 #[inline(always)]
-pub(crate) fn finish_leave<T: Clear + Drop>(
+pub(crate) fn finish_leave<T: Clear + Drop, E: Emptier<T>>(
     grid: &Grid<T>,
     hand: &mut Hand<T>,
     at: At,
     found: u64,
+    emptier: &mut E,
 ) -> Option<Reclaimed<T>>
     requires act { MayAct grid.now hand.old at.spot.place at }
     requires seen { IsLawful grid.now.shape hand.old.me.0 }
@@ -144,13 +151,14 @@ pub(crate) fn finish_leave<T: Clear + Drop>(
     ensures acts { EndsWithActs grid.now.shape at.entry.spot.place [] hand.old.me.0 hand.new.me.0 result }
     ensures reclaimed { IfSome result (IsReclaimed T.content T.room grid.now.shape at.entry.spot.place at.entry.lane hand.new.me.0) }
     ensures at { StandsAt (spots_at grid.now.objects.ptr grid.now.shape at.entry.spot.place) result }
+    ensures hands { HandsOut E.takes hand.old.me.0 hand.new.me.0 emptier.old emptier.new }
 {
     let generation = owed_by(found)?;
     let word = grid.claim(hand, at.spot, generation);
     if word != claimable(generation) {
         return None;
     }
-    Some(reclaim_place(grid, hand, at, generation))
+    Some(reclaim_place(grid, hand, at, generation, emptier))
 }
 
 /// The generation whose claim a LEAVE that found this word owes, where it owes one.
@@ -167,11 +175,12 @@ pub(crate) fn owed_by(found: u64) -> Option<u32>
 
 /// What follows a CLAIM of this generation that succeeded.
 #[inline(always)]
-pub(crate) fn reclaim_place<T: Clear + Drop>(
+pub(crate) fn reclaim_place<T: Clear + Drop, E: Emptier<T>>(
     grid: &Grid<T>,
     hand: &mut Hand<T>,
     at: At,
     generation: u32,
+    emptier: &mut E,
 ) -> Reclaimed<T>
     requires act { MayAct grid.now hand.old at.spot.place at }
     requires under { (the_lane hand.old.me.0).under ≡ claimed_under grid.now.shape at.lane at.spot.place generation }
@@ -182,14 +191,15 @@ pub(crate) fn reclaim_place<T: Clear + Drop>(
     ensures acts { TailActs grid.now.shape at.entry.spot.place generation hand.old.me.0 hand.new.me.0 result }
     ensures reclaimed { IsReclaimed T.content T.room grid.now.shape at.entry.spot.place at.entry.lane hand.new.me.0 result }
     ensures at { StandsAt (spots_at grid.now.objects.ptr grid.now.shape at.entry.spot.place) (Some result) }
+    ensures took { E.takes emptier.old (known_of (the_lane hand.old.me.0) at.entry.spot.place).content emptier.new }
 {
     shares_law();
     let start = at.spot.start as usize;
     let mut whole = take_cell(grid, hand, at.spot, at.lane);
     if generation == grid.shape.last_generation {
-        return Reclaimed::Retired(vacate(grid.objects, start, whole));
+        return Reclaimed::Retired(vacate(grid.objects, start, whole, emptier));
     }
-    whole.get_mut(grid.objects, start).clear();
+    emptier.empty(whole.get_mut(grid.objects, start));
     if shard_of(at.spot.place) == at.lane {
         return Reclaimed::Own(whole);
     }
@@ -198,15 +208,21 @@ pub(crate) fn reclaim_place<T: Clear + Drop>(
     Reclaimed::Returned
 }
 
-/// Drops the object of a place that gets none any more. Apart, for each place comes here once at most.
+/// Hands over the object of a place that gets none any more. Apart, for each place comes here once at most.
 #[cold]
 #[inline(never)]
-fn vacate<T: Drop>(objects: Base<Box<T, Global>>, start: usize, whole: Whole<T>) -> Vacancy<T>
+fn vacate<T: Clear + Drop, E: Emptier<T>>(
+    objects: Base<Box<T, Global>>,
+    start: usize,
+    whole: Whole<T>,
+    emptier: &mut E,
+) -> Vacancy<T>
     requires { StandsIn whole.spot objects.ptr start }
-    ensures { result ≡ whole.spot }
+    ensures vacancy { result ≡ whole.spot }
+    ensures took { E.takes emptier.old (T.content whole.object) emptier.new }
 {
     let (vacancy, object) = whole.take(objects, start);
-    drop(object);
+    emptier.retire(Box::into_inner(object));
     vacancy
 }
 

@@ -9,7 +9,9 @@ ghost use Rattle.poolsteps.specs.Told.{references_seen};
 ghost use Rattle.shardpool.specs.HeldKeys.{HeldKey as Shown};
 ghost use Rattle.shardpool.specs.LaneStates.{Fits};
 ghost use Rattle.shardpool.specs.Lendings.{LendsHome};
+ghost use Rattle.shardpool.specs.Handed.{HandsOut};
 
+use crate::emptier::{Emptier, InPlace};
 use crate::get::Ref;
 use crate::pool::{HeldKey, Lane, LaneState, Pool};
 use crate::reclaim::finish_if_owed;
@@ -30,6 +32,22 @@ impl<T: Clear + Drop> Pool<T> {
         self.release_at(lane, start, reference.spend());
     }
 
+    /// As `release`. The object of a place that it reclaims is handed to the emptier.
+    pub fn release_with<E: Emptier<T>>(
+        &self,
+        lane: &mut Lane<T>,
+        reference: Ref<T>,
+        emptier: &mut E,
+    )
+        requires owns { Owns self.now lane.old }
+        requires held { 1 ≤ holds lane.old reference.key }
+        ensures released { AfterRelease T self.now reference.key lane.old lane.new }
+        ensures hands { HandsOut E.takes lane.old.book lane.new.book emptier.old emptier.new }
+    {
+        let start = lane.state.start_of(&reference);
+        self.release_at_with(lane, start, reference.spend(), emptier);
+    }
+
     /// As `release`, of a reference that stays with the lane, to a key whose place stands here, as `get_at` answers.
     #[inline(always)]
     pub fn release_at(&self, lane: &mut Lane<T>, start: u32, key: u64)
@@ -38,25 +56,53 @@ impl<T: Clear + Drop> Pool<T> {
         requires start { start ≡ slot_start self.now.shape (place_of key) }
         ensures { AfterRelease T self.now key lane.old lane.new }
     {
+        let mut in_place = InPlace;
+        self.release_at_with(lane, start, key, &mut in_place);
+    }
+
+    /// As `release_at`, with an emptier.
+    #[inline(always)]
+    fn release_at_with<E: Emptier<T>>(
+        &self,
+        lane: &mut Lane<T>,
+        start: u32,
+        key: u64,
+        emptier: &mut E,
+    )
+        requires owns { Owns self.now lane.old }
+        requires held { 1 ≤ holds lane.old key }
+        requires start { start ≡ slot_start self.now.shape (place_of key) }
+        ensures released { AfterRelease T self.now key lane.old lane.new }
+        ensures hands { HandsOut E.takes lane.old.book lane.new.book emptier.old emptier.new }
+    {
         let spot = Spot {
             place: place_of(key),
             start,
         };
-        self.release_from(lane, spot, key);
+        self.release_from(lane, spot, key, emptier);
     }
 
     /// Gives back a reference to a key, whose place stands here.
     #[inline(always)]
-    fn release_from(&self, lane: &mut Lane<T>, spot: Spot, key: u64)
+    fn release_from<E: Emptier<T>>(&self, lane: &mut Lane<T>, spot: Spot, key: u64, emptier: &mut E)
         requires owns { Owns self.now lane.old }
         requires spot { IsSpot self.now.shape spot (place_of key) }
         requires held { 1 ≤ holds lane.old key }
-        ensures { AfterRelease T self.now key lane.old lane.new }
+        ensures released { AfterRelease T self.now key lane.old lane.new }
+        ensures hands { HandsOut E.takes lane.old.book lane.new.book emptier.old emptier.new }
     {
         return_last_share(&self.grid, &mut lane.hand, &mut lane.state, spot, key);
         drop_reference(&mut lane.state, spot.start as usize);
         let left = self.grid.leave(&mut lane.hand, spot, key);
-        finish_if_owed(&self.grid, &mut lane.hand, &mut lane.state, spot, key, left);
+        finish_if_owed(
+            &self.grid,
+            &mut lane.hand,
+            &mut lane.state,
+            spot,
+            key,
+            left,
+            emptier,
+        );
     }
 }
 

@@ -1,6 +1,6 @@
 -- Share, over a reclaim.
 use Rattle.poolsteps.specs.Spot.{Spot as Standing}
-use Rattle.std.proofs.Common.{◌≡◌, ◌≢◌, ℕ, ◌+◌, ◌<◌, Bool, true, false, cond, eqb, List, refl, ap, sym, ◌∙◌, subst}
+use Rattle.std.proofs.Common.{◌≡◌, ◌≢◌, ℕ, ◌+◌, ◌<◌, Bool, true, false, cond, eqb, List, Option, Some, refl, ap, sym, ◌∙◌, subst}
 use Rattle.keybits.specs.declared.shape.Shape.{Shape}
 use Rattle.keybits.specs.Keys.{place_of}
 use Rattle.seqpool.specs.declared.act.Act.TheVariants as acts
@@ -12,6 +12,7 @@ use Rattle.poolsteps.specs.declared.view.Status.{Status}
 use Rattle.poolsteps.specs.declared.view.Status.TheVariants.{Untouched, Emptied, InHand, Whole}
 use Rattle.poolsteps.specs.Shares.{reclaimer, room_of, HasAll, IsKept, Slots, StandsAs}
 use Rattle.poolsteps.specs.ShareLaws.{ReclaimShareLaw}
+use Rattle.poolsteps.proofs.shares.HeldContents.{kept_in}
 use Rattle.poolsteps.proofs.shares.Phases.{none-marked}
 use Rattle.poolsteps.proofs.shares.PlaceShares.{SharedAt, shared-each}
 use Rattle.poolsteps.proofs.shares.Restocking.{restock-keeps}
@@ -29,6 +30,12 @@ marked-room c room (with owner) is kept = absurd (cc is)
 marked-room c room (published content references mark) is kept = kept.1
 marked-room c room home is kept = absurd (cc is)
 marked-room c room retired is kept = absurd (cc is)
+
+pub marked-content : (c : Stored) (room : ℕ) (f : Phase) → is_marked f ≡ true → IsKept c room f → kept_in f ≡ Some c.content
+marked-content c room (with owner) is kept = absurd (cc is)
+marked-content c room (published content references mark) is kept = ap (λ (bytes : List ℕ). let o : Option (List ℕ) = Some bytes in o) (sym kept.0)
+marked-content c room home is kept = absurd (cc is)
+marked-content c room retired is kept = absurd (cc is)
 
 -- ---- the place that a lane reclaimed: with the lane, or retired
 

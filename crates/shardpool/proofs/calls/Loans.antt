@@ -16,7 +16,7 @@ use Rattle.keybits.specs.declared.shape.Shape.{Shape}
 use Rattle.keybits.specs.Shapes.{is_place}
 use Rattle.freelists.specs.Queues.{IsAway}
 use Rattle.freelists.specs.Shards.{place_numbered}
-use Rattle.keybits.specs.Keys.{place_of, generation_of, is_key}
+use Rattle.keybits.specs.Keys.{place_of, generation_of}
 use Rattle.seqpool.specs.declared.act.Act.TheVariants as acts
 use Rattle.seqpool.specs.Histories.{PublishedAt}
 use Rattle.seqpool.proofs.Ranks.{same-key}
@@ -25,7 +25,7 @@ use Rattle.poolsteps.specs.declared.view.Stored.{Stored}
 use Rattle.poolsteps.specs.declared.view.Status.TheVariants.{Untouched}
 use Rattle.poolsteps.specs.declared.grid.Spot.{Spot}
 use Rattle.poolsteps.specs.declared.view.View.{View}
-use Rattle.poolsteps.specs.Views.{the_lane, status_of, known_of}
+use Rattle.poolsteps.specs.Views.{the_lane, status_of}
 use Rattle.poolsteps.specs.Spot.{Spot as CellSpot}
 use Rattle.poolsteps.specs.Share.{Share}
 use Rattle.poolsteps.specs.Whole.{Whole}
@@ -41,7 +41,7 @@ use Rattle.shardpool.specs.Called.{Called, GetHits, Ends, EndsWithActs, IsReclai
 use Rattle.shardpool.specs.Stores.{Keeps}
 use Rattle.shardpool.specs.Finishes.{IsKeeper}
 use Rattle.shardpool.specs.Lendings.{LendsHome}
-use Rattle.shardpool.specs.LaneStates.{IsHeld, FitsRow, FitsRows, Fits}
+use Rattle.shardpool.specs.LaneStates.{IsHeld, FitsRow, Fits}
 use Rattle.shardpool.specs.Tokens.{PoolOf, LaneOf}
 use Rattle.shardpool.specs.Lanes.{SameLane, Calls, Did, holds}
 use Rattle.shardpool.specs.Loans.{LoanOf, IsLent, AreBare, FitsLending, KeepsLoans, KeepsOtherLoans}
@@ -60,8 +60,7 @@ use Rattle.shardpool.proofs.calls.Ends.{keeper}
 use Rattle.shardpool.proofs.calls.Gets.{Gained, seen-within, hit-again, hit-still, hit-key}
 use Rattle.shardpool.proofs.calls.KeyCalls.{Ready, ready-row}
 use Rattle.shardpool.proofs.calls.QuietEnds.{Quieted}
-use Rattle.shardpool.proofs.calls.Releases.{Refers, Released, EndsAt, beside, lent-some, lent-share, released, released-away, place-inside, key-inside, row-low, standing, row-fits, row-counts}
-use Rattle.shardpool.proofs.free.Stores.{stands-here}
+use Rattle.shardpool.proofs.calls.Releases.{Refers, Released, EndsAt, beside, lent-some, lent-share, released, released-away, place-inside, key-inside, standing, row-fits, row-counts}
 
 -- ---- numbers
 

@@ -2,7 +2,7 @@
 use mathlib.Core.Logic.{dite}
 use native.Mathlib.Decide.{ℕ_discrete}
 use Rattle.std.proofs.lemmas.Bool.{and_parts, eqb-true}
-use Rattle.std.proofs.Common.{◌≢◌, false, ne_eqb, ◌≡◌, ◌&&◌, inl, inr, ⊎_elim, ℕ, ◌+◌, ◌%◌, ◌^◌, ◌≤◌, Bool, true, eqb, List, [], ◌∷◌, ◌++◌, Option, Some, None, refl, sym, ap, ◌∙◌, subst, arith, eq-eqb}
+use Rattle.std.proofs.Common.{◌≢◌, false, ne_eqb, ◌≡◌, ◌&&◌, inl, inr, ⊎_elim, ℕ, ◌+◌, ◌%◌, ◌^◌, ◌≤◌, Bool, true, eqb, List, [], ◌∷◌, ◌++◌, append-nil, Option, Some, None, refl, sym, ap, ◌∙◌, subst, arith, eq-eqb}
 use Rattle.atomic_table.specs.Table.{Me}
 use Rattle.poolsteps.specs.Spot.{Spot as CellSpot}
 use Rattle.keybits.specs.declared.shape.Shape.{Shape}
@@ -11,6 +11,7 @@ use Rattle.keybits.specs.Words.{state_in, count_in, generation_in, claimable}
 use Rattle.keybits.proofs.KeyLemmas.{generation_of-lt}
 use Rattle.seqpool.specs.declared.act.Act.{Act}
 use Rattle.seqpool.specs.declared.act.Act.TheVariants as acts
+use Rattle.steplaws.specs.StepLaws.{reclaim}
 use Rattle.poolsteps.specs.declared.view.LaneRecord.{LaneRecord}
 use Rattle.poolsteps.specs.Views.{head_record}
 use Rattle.shardpool.proofs.parts.Doing.{did-sees, did-most, did-more, same-caller}
@@ -125,6 +126,14 @@ module _ {S : Type 0} {z : Shape} {key : ℕ} {a b : Me S View} (inside : is_key
   pub swept-pushed : (the_lane b.0).pushed ≡ (the_lane a.0).pushed
   swept-pushed = swept.pushed ∙ (leave.pushed ∙ opened.opens.pushed)
 
+  -- the acts that it made
+  pub swept-mine : (the_lane left.0).mine ≡ (the_lane a.0).mine ++ acts.Clear (the_lane a.0).lane key true ∷ []
+  swept-mine = ap (λ (lanes : List LaneRecord). (head_record lanes).mine) (sweeps.2.2.1.1 opened.hit opened.under).goes.lanes
+      ∙ (append-nil (the_lane marked.0).mine ∙ opened.opens.did.acted.mine)
+
+  pub swept-reclaims : (the_lane b.0).mine ≡ (the_lane left.0).mine ++ reclaim z (the_lane left.0).lane (place_of key) (generation_of key) ∷ []
+  swept-reclaims = ap (λ (lanes : List LaneRecord). (head_record lanes).mine) (sweeps.2.2.2.0 (won key)).4.goes.lanes
+
   -- with what follows, it is the clear
   module _ {c : Me S View} where
     pub swept-called : Tails z (place_of key) (generation_of key) b c → Called z (Clearing key) 34 a c
@@ -177,6 +186,10 @@ module _ {S : Type 0} {z : Shape} {key word : ℕ} {a b : Me S View} (inside : i
   pub struck-called : Called z (Clearing key) 34 a b
   struck-called = called-after struck-opened refl strikes.2.2 refl struck-ends
 
+  pub struck-mine : (the_lane b.0).mine ≡ (the_lane a.0).mine ++ acts.Clear (the_lane a.0).lane key true ∷ []
+  struck-mine = ap (λ (lanes : List LaneRecord). (head_record lanes).mine) (strikes.2.2.1 struck-opened.hit struck-opened.under).goes.lanes
+      ∙ (append-nil (the_lane mid.0).mine ∙ struck-opened.opens.did.acted.mine)
+
   pub struck-acts : (T : Type 0) → EndsWithActs {T = T} z (place_of key) (acts.Clear (the_lane a.0).lane key true ∷ []) a.0 b.0 None
   struck-acts T = acts-behind struck-opened refl strikes.2.2 refl struck-ends {T = T} None (still-acts T z (place_of key) b.0)
 
@@ -209,6 +222,10 @@ module _ {S : Type 0} {z : Shape} {key word : ℕ} {a b : Me S View} (inside : i
 
   pub missed-called : Called z (Clearing key) 34 a b
   missed-called = called-after missed-opened refl misses.2 refl missed-ends
+
+  pub missed-mine : (the_lane b.0).mine ≡ (the_lane a.0).mine ++ acts.Clear (the_lane a.0).lane key false ∷ []
+  missed-mine = ap (λ (lanes : List LaneRecord). (head_record lanes).mine) (misses.2.1 missed-opened.hit missed-opened.under).goes.lanes
+      ∙ (append-nil (the_lane misses.0.0).mine ∙ missed-opened.opens.did.acted.mine)
 
   pub missed-acts : (T : Type 0) → EndsWithActs {T = T} z (place_of key) (acts.Clear (the_lane a.0).lane key false ∷ []) a.0 b.0 None
   missed-acts T = acts-behind missed-opened refl misses.2 refl missed-ends {T = T} None (still-acts T z (place_of key) b.0)

@@ -7,7 +7,7 @@ use denote.RawPtr.{Ptr}
 use Rattle.poolsteps.specs.Spot.{Spot as CellSpot, IsAt as IsIn}
 use Rattle.keybits.specs.declared.shape.Shape.{Shape}
 use Rattle.keybits.specs.declared.step.Kind.TheVariants as kinds
-use Rattle.keybits.specs.Keys.{place_of}
+use Rattle.keybits.specs.Keys.{place_of, key_number}
 use Rattle.keybits.specs.Places.{shard_of}
 use Rattle.keybits.specs.Links.{link_to}
 use Rattle.keybits.specs.Words.{generation_in, owes_claim, claimable}
@@ -27,7 +27,7 @@ use Rattle.poolsteps.specs.Views.{head_record, the_lane, pushed_in, status_of, k
 use Rattle.poolsteps.specs.Grids.{IsSpot}
 use Rattle.poolsteps.specs.Layout.{spots_at}
 use Rattle.poolsteps.specs.Returned.{Links, Pushes, IsToReturn, AimsAt, with_return, failed_under}
-use Rattle.poolsteps.specs.Told.{Steps, LifeSteps, Leaves, Claims, Publishes, MayLeave, MayPublish, HasPlace, LeftAlone, claimed_under}
+use Rattle.poolsteps.specs.Told.{Steps, LifeSteps, Leaves, Claims, Publishes, MayLeave, MayPublish, HasPlace, WasPublished, LeftAlone, claimed_under}
 use Rattle.shardpool.specs.declared.reclaim.At.{At}
 use Rattle.shardpool.specs.AtPlace.{IsAt}
 use Rattle.shardpool.specs.Acted.{Acted}
@@ -113,6 +113,7 @@ pub record HasClaimed {S : Type 0} (z : Shape) (place generation : ℕ) (a b : M
   pub under : (the_lane b.0).under ≡ claimed_under z (the_lane a.0).lane place generation
   pub place_has : HasPlace z b.0 place × LeftAlone z (the_lane b.0) place
   pub room : (known_of (the_lane b.0) place).room ≡ room_of b.0.seen b.0.rooms place
+  pub published : WasPublished b.0.seen (key_number z.tag place generation) (known_of (the_lane b.0) place).content
 
 pub has-claimed : {S : Type 0} {z : Shape} {place generation word : ℕ} {a b : Me S View} → Claims z place generation a word b → word ≡ claimable generation
     → HasClaimed z place generation a b
@@ -131,6 +132,8 @@ has-claimed {z = z} {place = place} {generation = generation} {a = a} {b = b} cl
       place_has = (told.1, λ number below. ap (λ (x : LaneRecord). status_of x place number) now ∙ told.3 number below);
       room = ap (λ (x : LaneRecord). (known_of x place).room) now
           ∙ (ap (λ (here : Bool). (cond here told.0 (known_of r place)).room) (eq-eqb place place refl) ∙ told.2);
+      published = subst (λ (c : Stored). WasPublished b.0.seen (key_number z.tag place generation) c.content)
+          (sym (ap (λ (x : LaneRecord). known_of x place) now ∙ ap (λ (here : Bool). cond here told.0 (known_of r place)) (eq-eqb place place refl))) told.5;
     }
 
 -- a place of another shard, below the last generation, is to be returned

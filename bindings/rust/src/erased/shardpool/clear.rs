@@ -6,6 +6,7 @@ use crate::erased::keybits::{
     generation_of, is_hit, is_present, owes_claim, place_of, Life, State, ONE_COUNT,
 };
 use crate::erased::poolsteps::{Grid, Hand, Purpose, Spot};
+use crate::erased::shardpool::emptier::{Emptier, InPlace};
 use crate::erased::shardpool::pool::{Lane, LaneState, Pool};
 use crate::erased::shardpool::reclaim::{
     finish_leave, keep_reclaimed, reclaim_place, At, Reclaimed,
@@ -18,30 +19,45 @@ impl<T: Clear> Pool<T> {
     /// number that is no key of the pool, without a step.
     #[inline(always)]
     pub fn clear(&self, lane: &mut Lane<T>, key: u64) -> bool {
+        let mut in_place = InPlace;
+        self.clear_with(lane, key, &mut in_place)
+    }
+
+    /// As `clear`. The object of a place that it reclaims is handed to the emptier.
+    #[inline(always)]
+    pub fn clear_with<E: Emptier<T>>(&self, lane: &mut Lane<T>, key: u64, emptier: &mut E) -> bool {
         let Some(spot) = self.find(key) else {
             lane.seen_law();
             return false;
         };
-        clear_and_keep(&self.grid, &mut lane.hand, &mut lane.state, spot.start, key)
+        clear_and_keep(
+            &self.grid,
+            &mut lane.hand,
+            &mut lane.state,
+            spot.start,
+            key,
+            emptier,
+        )
     }
 }
 
 /// A clear of a key whose place stands here, and what the lane keeps of it. Answers whether it is the one that marked
 /// the key.
 #[inline(always)]
-pub(crate) fn clear_and_keep<T: Clear>(
+pub(crate) fn clear_and_keep<T: Clear, E: Emptier<T>>(
     grid: &Grid<T>,
     hand: &mut Hand<T>,
     state: &mut LaneState<T>,
     start: u32,
     key: u64,
+    emptier: &mut E,
 ) -> bool {
     let spot = Spot {
         place: place_of(key),
         start,
     };
-    let Some((marked, reclaimed)) = try_clear(grid, hand, state.at_spot(spot), key) else {
-        return clear_by_steps_and_keep(grid, hand, state, start, key);
+    let Some((marked, reclaimed)) = try_clear(grid, hand, state.at_spot(spot), key, emptier) else {
+        return clear_by_steps_and_keep(grid, hand, state, start, key, emptier);
     };
     keep_reclaimed(state, spot, reclaimed);
     marked
@@ -51,18 +67,19 @@ pub(crate) fn clear_and_keep<T: Clear>(
 /// few clears come here.
 #[cold]
 #[inline(never)]
-fn clear_by_steps_and_keep<T: Clear>(
+fn clear_by_steps_and_keep<T: Clear, E: Emptier<T>>(
     grid: &Grid<T>,
     hand: &mut Hand<T>,
     state: &mut LaneState<T>,
     start: u32,
     key: u64,
+    emptier: &mut E,
 ) -> bool {
     let spot = Spot {
         place: place_of(key),
         start,
     };
-    let (marked, reclaimed) = clear_by_steps(grid, hand, state.at_spot(spot), key);
+    let (marked, reclaimed) = clear_by_steps(grid, hand, state.at_spot(spot), key, emptier);
     keep_reclaimed(state, spot, reclaimed);
     marked
 }
@@ -71,16 +88,17 @@ fn clear_by_steps_and_keep<T: Clear>(
 /// of its place where that was reclaimed. None where another lane stepped on the key's word meanwhile: then it looked,
 /// and did nothing. It takes no memory.
 #[inline(always)]
-pub(crate) fn try_clear<T: Clear>(
+pub(crate) fn try_clear<T: Clear, E: Emptier<T>>(
     grid: &Grid<T>,
     hand: &mut Hand<T>,
     at: At,
     key: u64,
+    emptier: &mut E,
 ) -> Option<(bool, Option<Reclaimed<T>>)> {
     let generation = generation_of(key);
     let found = grid.sweep(hand, at.spot, key);
     if found == unreferred(generation) {
-        let reclaimed = reclaim_place(grid, hand, at, generation);
+        let reclaimed = reclaim_place(grid, hand, at, generation, emptier);
         return Some((true, Some(reclaimed)));
     }
     if is_hit(key, found) {
@@ -98,16 +116,17 @@ pub(crate) fn try_clear<T: Clear>(
 /// A clear of a key, each of whose steps is an operation. Answers whether it is the one that marked the key, and what
 /// became of its place where that was reclaimed. It takes no memory.
 #[inline(always)]
-pub(crate) fn clear_by_steps<T: Clear>(
+pub(crate) fn clear_by_steps<T: Clear, E: Emptier<T>>(
     grid: &Grid<T>,
     hand: &mut Hand<T>,
     at: At,
     key: u64,
+    emptier: &mut E,
 ) -> (bool, Option<Reclaimed<T>>) {
     let found = grid.enter(hand, at.spot, key, Purpose::ToClear);
     let marked = is_hit(key, found) && mark(grid, hand, at.spot, key, found);
     let left = grid.leave(hand, at.spot, key);
-    (marked, finish_leave(grid, hand, at, left))
+    (marked, finish_leave(grid, hand, at, left, emptier))
 }
 
 /// The word of a place whose key of this generation is published and unmarked, and to which nobody refers.

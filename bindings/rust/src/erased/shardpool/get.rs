@@ -4,6 +4,7 @@
 
 use crate::erased::keybits::{generation_of, is_hit, place_of};
 use crate::erased::poolsteps::{Grid, Hand, Purpose, Share, Slot, Spot, Tally};
+use crate::erased::shardpool::emptier::{Emptier, InPlace};
 use crate::erased::shardpool::pool::{HeldKey, Lane, LaneState, Places, Pool};
 use crate::erased::shardpool::reclaim::finish_if_owed;
 use crate::erased::slotcell::Clear;
@@ -63,15 +64,45 @@ impl<T: Clear> Pool<T> {
         Some(Ref::to(key, start, &lane.state.places))
     }
 
+    /// As `get`. The object of a place that a miss reclaims is handed to the emptier.
+    pub fn get_with<E: Emptier<T>>(
+        &self,
+        lane: &mut Lane<T>,
+        key: u64,
+        emptier: &mut E,
+    ) -> Option<Ref<T>> {
+        let start = self.get_at_with(lane, key, emptier)?;
+        Some(Ref::to(key, start, &lane.state.places))
+    }
+
     /// A get whose reference stays with the lane, for who keeps keys in place of references: answers where
     /// `Lane::read_at` finds the object without looking for the key's place again.
     #[inline(always)]
     pub fn get_at(&self, lane: &mut Lane<T>, key: u64) -> Option<u32> {
+        let mut in_place = InPlace;
+        self.get_at_with(lane, key, &mut in_place)
+    }
+
+    /// As `get_at`, with an emptier.
+    #[inline(always)]
+    fn get_at_with<E: Emptier<T>>(
+        &self,
+        lane: &mut Lane<T>,
+        key: u64,
+        emptier: &mut E,
+    ) -> Option<u32> {
         let number = lane.state.number;
         let spot = self.find(key)?;
         let found = self.grid.enter(&mut lane.hand, spot, key, Purpose::ToGet);
         if !is_hit(key, found) {
-            end_miss(&self.grid, &mut lane.hand, &mut lane.state, spot, key);
+            end_miss(
+                &self.grid,
+                &mut lane.hand,
+                &mut lane.state,
+                spot,
+                key,
+                emptier,
+            );
             return None;
         }
         gain_reference(&self.grid, &mut lane.hand, &mut lane.state, spot, key);
@@ -119,15 +150,16 @@ pub(crate) fn add_first_reference<T>(
 /// hit is likely there.
 #[cold]
 #[inline(never)]
-pub(crate) fn end_miss<T: Clear>(
+pub(crate) fn end_miss<T: Clear, E: Emptier<T>>(
     grid: &Grid<T>,
     hand: &mut Hand<T>,
     state: &mut LaneState<T>,
     spot: Spot,
     key: u64,
+    emptier: &mut E,
 ) {
     let left = grid.leave(hand, spot, key);
-    finish_if_owed(grid, hand, state, spot, key, left);
+    finish_if_owed(grid, hand, state, spot, key, left, emptier);
 }
 
 impl<T: Clear> Lane<T> {

@@ -7,6 +7,7 @@ use crate::shim::{Box, Global};
 use crate::erased::keybits::{is_hit, place_of};
 use crate::erased::poolsteps::{Base, Hand, Purpose, Slot, Spot};
 use crate::erased::shardpool::closing::HandRow;
+use crate::erased::shardpool::emptier::InPlace;
 use crate::erased::shardpool::get::end_miss;
 use crate::erased::shardpool::notes::Note;
 use crate::erased::shardpool::pool::{Apart, Lane, LaneState, Pool};
@@ -118,7 +119,15 @@ impl<T: Clear> LendingLane<T> {
         let spot = pool.find(key)?;
         let found = pool.grid.enter(&mut self.hand, spot, key, Purpose::ToGet);
         if !is_hit(key, found) {
-            end_miss(&pool.grid, &mut self.hand, &mut self.state, spot, key);
+            let mut in_place = InPlace;
+            end_miss(
+                &pool.grid,
+                &mut self.hand,
+                &mut self.state,
+                spot,
+                key,
+                &mut in_place,
+            );
             return None;
         }
         let share = pool.grid.out(&mut self.hand, spot, number, number);
@@ -155,7 +164,16 @@ impl<T: Clear> LendingLane<T> {
             .settle(&mut self.hand, spot, number, number, share);
         count_less(&mut self.state);
         let left = pool.grid.leave(&mut self.hand, spot, key);
-        finish_if_owed(&pool.grid, &mut self.hand, &mut self.state, spot, key, left);
+        let mut in_place = InPlace;
+        finish_if_owed(
+            &pool.grid,
+            &mut self.hand,
+            &mut self.state,
+            spot,
+            key,
+            left,
+            &mut in_place,
+        );
     }
 
     /// As `Pool::tell`.

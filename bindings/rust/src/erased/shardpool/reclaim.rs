@@ -7,6 +7,7 @@ use crate::shim::{Box, Global, Vec};
 use crate::erased::keybits::{claimable, link_to, owes_claim, place_of, shard_of, Life};
 use crate::erased::poolsteps::{Base, Grid, Hand, Spot, Vacancy, Whole};
 use crate::erased::shardpool::cell_moves::{rest_cell, take_cell};
+use crate::erased::shardpool::emptier::Emptier;
 use crate::erased::shardpool::pool::LaneState;
 use crate::erased::shardpool::stores::keep;
 use crate::erased::slotcell::Clear;
@@ -14,16 +15,17 @@ use crate::erased::slotcell::Clear;
 /// What follows the LEAVE of a key's place that found this word, and what the lane keeps of it: nothing, unless the
 /// call is the last to leave a marked place. Inlined, for what is seldom done stands apart.
 #[inline(always)]
-pub(crate) fn finish_if_owed<T: Clear>(
+pub(crate) fn finish_if_owed<T: Clear, E: Emptier<T>>(
     grid: &Grid<T>,
     hand: &mut Hand<T>,
     state: &mut LaneState<T>,
     spot: Spot,
     key: u64,
     found: u64,
+    emptier: &mut E,
 ) {
     if owes_claim(found) {
-        finish(grid, hand, state, spot.start, key, found);
+        finish(grid, hand, state, spot.start, key, found, emptier);
     }
 }
 
@@ -31,29 +33,30 @@ pub(crate) fn finish_if_owed<T: Clear>(
 /// they have at hand, and answers nothing.
 #[cold]
 #[inline(never)]
-fn finish<T: Clear>(
+fn finish<T: Clear, E: Emptier<T>>(
     grid: &Grid<T>,
     hand: &mut Hand<T>,
     state: &mut LaneState<T>,
     start: u32,
     key: u64,
     found: u64,
+    emptier: &mut E,
 ) {
     let spot = Spot {
         place: place_of(key),
         start,
     };
-    let reclaimed = finish_leave(grid, hand, state.at_spot(spot), found);
+    let reclaimed = finish_leave(grid, hand, state.at_spot(spot), found, emptier);
     keep_reclaimed(state, spot, reclaimed);
 }
 
 /// What became of a place that a call reclaimed.
 pub(crate) enum Reclaimed<T> {
-    /// It is of the lane's own shard: its object, which was cleared in place.
+    /// It is of the lane's own shard: its object, which was emptied.
     Own(Whole<T>),
     /// It is of another shard, and was returned there.
     Returned,
-    /// Its last generation was over: it is retired, its object was dropped, and it is vacant.
+    /// Its last generation was over: it is retired, its object was handed over, and it is vacant.
     Retired(Vacancy<T>),
 }
 
@@ -89,21 +92,22 @@ impl<T> LaneState<T> {
 }
 
 /// What follows a LEAVE that found this word: where it left (g, MARKED, 0), the CLAIM of g; and where that succeeded,
-/// the place's object is cleared in place, and a place of another shard returned. None where no place was reclaimed. It
-/// takes no memory.
+/// the place's object is emptied, and a place of another shard returned. None where no place was reclaimed. It takes no
+/// memory.
 #[inline(always)]
-pub(crate) fn finish_leave<T: Clear>(
+pub(crate) fn finish_leave<T: Clear, E: Emptier<T>>(
     grid: &Grid<T>,
     hand: &mut Hand<T>,
     at: At,
     found: u64,
+    emptier: &mut E,
 ) -> Option<Reclaimed<T>> {
     let generation = owed_by(found)?;
     let word = grid.claim(hand, at.spot, generation);
     if word != claimable(generation) {
         return None;
     }
-    Some(reclaim_place(grid, hand, at, generation))
+    Some(reclaim_place(grid, hand, at, generation, emptier))
 }
 
 /// The generation whose claim a LEAVE that found this word owes, where it owes one.
@@ -118,18 +122,19 @@ pub(crate) fn owed_by(found: u64) -> Option<u32> {
 
 /// What follows a CLAIM of this generation that succeeded.
 #[inline(always)]
-pub(crate) fn reclaim_place<T: Clear>(
+pub(crate) fn reclaim_place<T: Clear, E: Emptier<T>>(
     grid: &Grid<T>,
     hand: &mut Hand<T>,
     at: At,
     generation: u32,
+    emptier: &mut E,
 ) -> Reclaimed<T> {
     let start = at.spot.start as usize;
     let mut whole = take_cell(grid, hand, at.spot, at.lane);
     if generation == grid.shape.last_generation {
-        return Reclaimed::Retired(vacate(grid.objects, start, whole));
+        return Reclaimed::Retired(vacate(grid.objects, start, whole, emptier));
     }
-    whole.get_mut(grid.objects, start).clear();
+    emptier.empty(whole.get_mut(grid.objects, start));
     if shard_of(at.spot.place) == at.lane {
         return Reclaimed::Own(whole);
     }
@@ -138,12 +143,17 @@ pub(crate) fn reclaim_place<T: Clear>(
     Reclaimed::Returned
 }
 
-/// Drops the object of a place that gets none any more. Apart, for each place comes here once at most.
+/// Hands over the object of a place that gets none any more. Apart, for each place comes here once at most.
 #[cold]
 #[inline(never)]
-fn vacate<T>(objects: Base<Box<T, Global>>, start: usize, whole: Whole<T>) -> Vacancy<T> {
+fn vacate<T: Clear, E: Emptier<T>>(
+    objects: Base<Box<T, Global>>,
+    start: usize,
+    whole: Whole<T>,
+    emptier: &mut E,
+) -> Vacancy<T> {
     let (vacancy, object) = whole.take(objects, start);
-    drop(object);
+    emptier.retire(Box::into_inner(object));
     vacancy
 }
 

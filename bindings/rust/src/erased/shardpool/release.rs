@@ -4,6 +4,7 @@
 
 use crate::erased::keybits::place_of;
 use crate::erased::poolsteps::{Grid, Hand, Slot, Spot};
+use crate::erased::shardpool::emptier::{Emptier, InPlace};
 use crate::erased::shardpool::get::Ref;
 use crate::erased::shardpool::pool::{HeldKey, Lane, LaneState, Pool};
 use crate::erased::shardpool::reclaim::finish_if_owed;
@@ -18,23 +19,61 @@ impl<T: Clear> Pool<T> {
         self.release_at(lane, start, reference.spend());
     }
 
+    /// As `release`. The object of a place that it reclaims is handed to the emptier.
+    pub fn release_with<E: Emptier<T>>(
+        &self,
+        lane: &mut Lane<T>,
+        reference: Ref<T>,
+        emptier: &mut E,
+    ) {
+        let start = lane.state.start_of(&reference);
+        self.release_at_with(lane, start, reference.spend(), emptier);
+    }
+
     /// As `release`, of a reference that stays with the lane, to a key whose place stands here, as `get_at` answers.
     #[inline(always)]
     pub fn release_at(&self, lane: &mut Lane<T>, start: u32, key: u64) {
+        let mut in_place = InPlace;
+        self.release_at_with(lane, start, key, &mut in_place);
+    }
+
+    /// As `release_at`, with an emptier.
+    #[inline(always)]
+    fn release_at_with<E: Emptier<T>>(
+        &self,
+        lane: &mut Lane<T>,
+        start: u32,
+        key: u64,
+        emptier: &mut E,
+    ) {
         let spot = Spot {
             place: place_of(key),
             start,
         };
-        self.release_from(lane, spot, key);
+        self.release_from(lane, spot, key, emptier);
     }
 
     /// Gives back a reference to a key, whose place stands here.
     #[inline(always)]
-    fn release_from(&self, lane: &mut Lane<T>, spot: Spot, key: u64) {
+    fn release_from<E: Emptier<T>>(
+        &self,
+        lane: &mut Lane<T>,
+        spot: Spot,
+        key: u64,
+        emptier: &mut E,
+    ) {
         return_last_share(&self.grid, &mut lane.hand, &mut lane.state, spot, key);
         drop_reference(&mut lane.state, spot.start as usize);
         let left = self.grid.leave(&mut lane.hand, spot, key);
-        finish_if_owed(&self.grid, &mut lane.hand, &mut lane.state, spot, key, left);
+        finish_if_owed(
+            &self.grid,
+            &mut lane.hand,
+            &mut lane.state,
+            spot,
+            key,
+            left,
+            emptier,
+        );
     }
 }
 

@@ -1,6 +1,7 @@
 use Rattle.std.proofs.Common.{◌+◌, refl, ap, ◌∙◌, arith}
 use Rattle.poolsteps.specs.declared.view.LaneRecord.{LaneRecord}
 use Rattle.shardpool.proofs.parts.AtOnce.{clears-most, clears-behind, looks-still}
+use Rattle.shardpool.proofs.parts.Handing.{hands-behind}
 use Rattle.shardpool.proofs.calls.Ends.{keeper-still, keeps-act}
 use Rattle.shardpool.proofs.clear.clear_and_keep.Goals as goal
 
@@ -53,3 +54,15 @@ returns-clause-clears g c = record {
   clears = clears-most (rw c.at_spot.ensures.lane at c.in-Some.ensures.clears) (omega arith);
   kept = rw c.place_of.ensures.place at c.keep_reclaimed.ensures;
 }
+
+-- ---- what the emptier took
+
+pub returns-in_default-clause-hands : goal.returns-in_default-clause-hands
+returns-in_default-clause-hands g c =
+    let still = looks-still (c.in_default.ensures.looks refl) in
+    rw (c.in_default.ensures.kept refl) at
+    (hands-behind g.E.Emptier.takes c.args.hand.now.me.0 c.try_clear.new.hand.me.0 c.clear_by_steps_and_keep.new.hand.me.0 (ap (λ (r : LaneRecord). r.mine) still.lane)
+    c.clear_by_steps_and_keep.ensures.hands)
+
+pub returns-clause-hands : goal.returns-clause-hands
+returns-clause-hands g c = c.in-Some.ensures.hands

@@ -7,6 +7,7 @@ use Rattle.steplaws.specs.Calls.Call.{Clearing}
 use Rattle.poolsteps.specs.Grids.{SameSeat}
 use Rattle.shardpool.proofs.parts.Calling.{Opens, Opened, enter-step, called-after, acts-behind, life-under, clear-entered, clear-misses, clear-marks}
 use Rattle.shardpool.proofs.parts.Standing.{HasLeft, has-left, at-same, left-at, left-owes, lawful}
+use Rattle.shardpool.proofs.parts.Handing.{hands-behind, hands-after, undone-mine}
 use Rattle.shardpool.proofs.clear.clear_by_steps.Given.{Over}
 use Rattle.shardpool.proofs.clear.clear_by_steps.Goals as goal
 use Rattle.shardpool.proofs.clear.clear_by_steps.Goals.{then-is_hit, else-is_hit}
@@ -103,3 +104,10 @@ returns-clause-hand g c =
     ] in
     let left = c.leave-left.ensures.hand in
     let last = c.finish_leave.ensures.hand in (last.0 ∙ (left.0 ∙ same.0), last.1 ∙ (left.1 ∙ same.1))
+
+pub returns-clause-hands : goal.returns-clause-hands
+returns-clause-hands g c =
+    let began = opened g c in
+    hands-after g.E.Emptier.takes c.args.hand.now.me.0 c.if-is_hit.hand.me.0 c.finish_leave.new.hand.me.0 _ began.opens.did.acted.mine (λ made took. took)
+    (hands-behind g.E.Emptier.takes c.if-is_hit.hand.me.0 c.leave-left.new.hand.me.0 c.finish_leave.new.hand.me.0 (undone-mine began.under c.leave-left.ensures.leaves)
+    c.finish_leave.ensures.hands)

@@ -22,3 +22,6 @@ pub returns-clause-clears : goal.returns-clause-clears
 returns-clause-clears g c =
     let made = c.clear_by_steps-marked in
     record { reclaimed = made.result.1; clears = rw c.at_spot.ensures.lane at made.ensures.clears; kept = rw c.place_of.ensures.place at c.keep_reclaimed.ensures }
+
+pub returns-clause-hands : goal.returns-clause-hands
+returns-clause-hands g c = c.clear_by_steps-marked.ensures.hands

@@ -1,4 +1,5 @@
 use Rattle.std.proofs.Common.{inr, false, ◌∙◌}
+use Rattle.shardpool.proofs.parts.Handing.{hands-behind, undone-mine}
 use Rattle.shardpool.proofs.parts.Standing.{has-left}
 use Rattle.shardpool.proofs.get.end_miss.Goals as goal
 
@@ -31,3 +32,8 @@ returns-clause-misses g c = record {
   leaves = c.leave-left.ensures.leaves;
   finishes = c.finish_if_owed.ensures.finishes;
 }
+
+pub returns-clause-hands : goal.returns-clause-hands
+returns-clause-hands g c =
+    hands-behind g.E.Emptier.takes c.args.hand.now.me.0 c.leave-left.new.hand.me.0 c.finish_if_owed.new.hand.me.0 (undone-mine c.requires.may.under c.leave-left.ensures.leaves)
+    c.finish_if_owed.ensures.hands

@@ -39,3 +39,6 @@ returns-clause-finishes g c =
       told = rw (is.spot, is.lane, here) at told.reclaimed;
       kept = rw here at c.keep_reclaimed.ensures;
     }
+
+pub returns-clause-hands : goal.returns-clause-hands
+returns-clause-hands g c = c.finish_leave-reclaimed.ensures.hands

@@ -1,6 +1,7 @@
 use Rattle.std.proofs.Common.{None, refl, sym, ◌∙◌}
 use Rattle.keybits.specs.Keys.{place_of}
 use Rattle.shardpool.proofs.parts.Ending.{ends-none, still-acts}
+use Rattle.shardpool.proofs.parts.Handing.{hands-none}
 use Rattle.shardpool.proofs.reclaim.finish_if_owed.Goals as goal
 
 pub returns-else-owes_claim-clause-finishes : goal.returns-else-owes_claim-clause-finishes
@@ -11,3 +12,6 @@ returns-else-owes_claim-clause-finishes g c = record {
   told = tt;
   kept = refl;
 }
+
+pub returns-else-owes_claim-clause-hands : goal.returns-else-owes_claim-clause-hands
+returns-else-owes_claim-clause-hands g c = hands-none g.E.Emptier.takes c.args.hand.now.me.0 c.args.emptier.now

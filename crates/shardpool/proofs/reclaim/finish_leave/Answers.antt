@@ -1,5 +1,8 @@
-use Rattle.std.proofs.Common.{refl, sym, ◌∙◌}
+use Rattle.std.proofs.Common.{List, refl, sym, ap, ◌∙◌}
+use Rattle.poolsteps.specs.declared.view.LaneRecord.{LaneRecord}
+use Rattle.poolsteps.specs.Views.{head_record}
 use Rattle.shardpool.proofs.parts.Ending.{owes-none, owes-some, ends-none, ends-lost, ends-won, still-acts, lost-acts, won-acts}
+use Rattle.shardpool.proofs.parts.Handing.{hands-none, hands-still, hands-won}
 use Rattle.shardpool.proofs.parts.Standing.{HasClaimed, has-claimed, at-same, owes-now}
 use Rattle.shardpool.proofs.reclaim.finish_leave.Goals as goal
 
@@ -61,3 +64,22 @@ returns-clause-hand g c = let first = c.claim-word.ensures.hand in let last = c.
 
 pub returns-clause-reclaimed : goal.returns-clause-reclaimed
 returns-clause-reclaimed g c = c.reclaim_place.ensures.reclaimed
+
+-- ---- what the emptier took
+
+pub returns-in_err-generation-clause-hands : goal.returns-in_err-generation-clause-hands
+returns-in_err-generation-clause-hands g c = hands-none g.E.Emptier.takes c.args.hand.now.me.0 c.args.emptier.now
+
+pub returns-then-word-claimable-clause-hands : goal.returns-then-word-claimable-clause-hands
+returns-then-word-claimable-clause-hands g c =
+    let lost = c.claim-word.ensures.claims.1 (λ same. c.if-word-claimable.true (same ∙ sym c.claimable.ensures)) in
+    hands-still g.E.Emptier.takes c.args.hand.now.me.0 c.claim-word.new.hand.me.0 c.args.emptier.now (ap (λ (lanes : List LaneRecord). (head_record lanes).mine) lost.goes.lanes)
+
+pub returns-clause-hands : goal.returns-clause-hands
+returns-clause-hands g c =
+    let owed = owes-some c.args.found c.owed_by.ensures c.in_ok-generation.generation c.in_ok-generation.was in
+    let won = c.if-word-claimable.false ∙ c.claimable.ensures in
+    let claimed : HasClaimed c.args.grid.now.shape c.args.at.spot.place c.in_ok-generation.generation c.args.hand.now.me c.claim-word.new.hand.me
+    = has-claimed c.claim-word.ensures.claims won in
+    hands-won g.E.Emptier.takes c.args.grid.now.shape c.args.at.spot.place c.in_ok-generation.generation c.args.hand.now.me c.claim-word.new.hand.me c.reclaim_place.new.hand.me c.reclaim_place.result c.args.found (sym owed.1) (ap (λ (lanes : List LaneRecord). (head_record lanes).mine) (c.claim-word.ensures.claims.0 won).4.goes.lanes)
+    claimed.published c.reclaim_place.ensures.took c.reclaim_place.ensures.tails c.reclaim_place.ensures.acts

@@ -38,8 +38,8 @@ returns-then-shard_of-at-clause-reclaimed g c =
       sym c.shard_of.ensures ∙ c.if-shard_of-at.true,
       took.moves.place,
       took.slots,
-      c.clear.ensures.empty,
-      omega (arith, same, c.requires.room, took.cell.1, old, c.clear.ensures.room_kept),
+      c.empty.ensures.empty,
+      omega (arith, same, c.requires.room, took.cell.1, old, c.empty.ensures.room_kept),
     )
 
 pub take_cell-whole-requires : goal.take_cell-whole-requires
@@ -80,8 +80,8 @@ give_home-requires-clause-rests g c =
     let old = ap g.T.Clear.room c.get_mut.ensures.object in
     record {
       slots = rests.slots;
-      empty = sym rests.cell.0 ∙ c.clear.ensures.empty;
-      room = omega (arith, first, last, c.requires.room, took.cell.1, old, c.clear.ensures.room_kept, rests.cell.1);
+      empty = sym rests.cell.0 ∙ c.empty.ensures.empty;
+      room = omega (arith, first, last, c.requires.room, took.cell.1, old, c.empty.ensures.room_kept, rests.cell.1);
     }
 
 pub returns-clause-tails : goal.returns-clause-tails
@@ -124,4 +124,15 @@ pub vacate-requires : goal.vacate-requires
 vacate-requires g c = stands-in c.requires.act.at.spot c.take_cell-whole.ensures.cell.2
 
 pub returns-then-generation-grid-clause-at : goal.returns-then-generation-grid-clause-at
-returns-then-generation-grid-clause-at g c = c.vacate.ensures ∙ c.take_cell-whole.ensures.cell.2
+returns-then-generation-grid-clause-at g c = c.vacate.ensures.vacancy ∙ c.take_cell-whole.ensures.cell.2
+
+-- ---- what the emptier took
+
+pub returns-then-generation-grid-clause-took : goal.returns-then-generation-grid-clause-took
+returns-then-generation-grid-clause-took g c = rw c.take_cell-whole.ensures.cell.0 at c.vacate.ensures.took
+
+pub returns-then-shard_of-at-clause-took : goal.returns-then-shard_of-at-clause-took
+returns-then-shard_of-at-clause-took g c = rw (c.get_mut.ensures.object, c.take_cell-whole.ensures.cell.0) at c.empty.ensures.took
+
+pub returns-clause-took : goal.returns-clause-took
+returns-clause-took g c = rw (c.get_mut.ensures.object, c.take_cell-whole.ensures.cell.0) at c.empty.ensures.took

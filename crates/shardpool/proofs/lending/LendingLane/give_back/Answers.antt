@@ -1,5 +1,5 @@
 -- The other loans are of other keys than the one that is given back.
-use Rattle.std.proofs.Common.{sym, ap, ◌∙◌}
+use Rattle.std.proofs.Common.{ap, ◌∙◌}
 use Rattle.shardpool.specs.Loans.{LoanOf}
 use Rattle.shardpool.proofs.lending.LendingLane.give_back.Goals as goal
 

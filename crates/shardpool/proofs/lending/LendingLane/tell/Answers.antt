@@ -1,5 +1,5 @@
 -- A note costs a look, which leaves what the lane keeps, and what it lent.
-use Rattle.std.proofs.Common.{refl, ap, ◌∙◌}
+use Rattle.std.proofs.Common.{◌∙◌}
 use Rattle.shardpool.proofs.frame.SeenHistories.{fits-sees}
 use Rattle.shardpool.proofs.frame.Tellings.{tells}
 use Rattle.shardpool.proofs.calls.Loans.{loans-seen}

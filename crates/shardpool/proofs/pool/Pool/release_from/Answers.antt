@@ -1,5 +1,5 @@
 -- A release: the share of its reference is lent home, and its row has one reference less.
-use Rattle.std.proofs.Common.{◌≡◌, ◌<◌, inl, ℕ, [], ◌∷◌, IfSome, length, slice_get, refl, sym, ap, ◌∙◌, subst, arith}
+use Rattle.std.proofs.Common.{◌≡◌, ◌<◌, inl, ℕ, [], ◌∷◌, append-nil, IfSome, length, slice_get, refl, sym, ap, ◌∙◌, subst, arith}
 use Rattle.keybits.specs.declared.shape.Shape.{Shape}
 use Rattle.seqpool.specs.declared.act.Act.TheVariants as acts
 use Rattle.steplaws.specs.Calls.Call.{Releasing}
@@ -7,7 +7,9 @@ use Rattle.poolsteps.specs.Grids.{IsSpot}
 use Rattle.keybits.specs.Keys.{place_of}
 use Rattle.shardpool.specs.Called.{Called, EndsWithActs, IsReclaimed}
 use Rattle.shardpool.proofs.parts.Calling.{release-called, release-acts}
+use Rattle.shardpool.proofs.parts.Handing.{hands-behind, hands-after, released-mine}
 use Rattle.shardpool.proofs.parts.Standing.{has-left, lawful}
+use Rattle.poolsteps.specs.Views.{the_lane}
 use Rattle.shardpool.specs.Tokens.{PoolOf}
 use Rattle.shardpool.specs.LaneStates.{Fits}
 use Rattle.shardpool.proofs.calls.CallParts.{calls-more, calls-behind}
@@ -124,8 +126,8 @@ invariant_of-lane g c =
       subst (λ (z : Shape). Fits g.T.Clear.content g.T.Clear.room z c.finish_if_owed.new.hand.me.0 c.finish_if_owed.new.state) (sym now.shape_is) now,
     )
 
-pub returns : goal.returns
-returns g c =
+pub returns-clause-released : goal.returns-clause-released
+returns-clause-released g c =
     let lends = c.return_last_share.ensures.lends in
     after-release {pool = c.args.self.now} {key = c.args.key} {old = c.args.lane.now} {new = lane_of c.finish_if_owed.new.hand.table_id c.finish_if_owed.new.hand.me.0 c.finish_if_owed.new.state}
     c.requires.owns
@@ -133,3 +135,11 @@ returns g c =
     (rw (← c.lane.view_is) ((leaves g c).did c.lane.inside.hand.table_id c.finish_if_owed.new.hand.table_id (table g c)))
     (rw (← c.lane.view_is) (leaves g c).refs)
     (λ filling. rw (← c.lane.view_is) ((leaves g c).fillings c.lane.inside.hand.table_id c.finish_if_owed.new.hand.table_id (table g c) filling))
+
+pub returns-clause-hands : goal.returns-clause-hands
+returns-clause-hands g c =
+    let lends = c.return_last_share.ensures.lends in
+    rw (← c.lane.view_is)
+    (hands-behind g.E.Emptier.takes c.lane.inside.hand.me.0 c.return_last_share.new.hand.me.0 c.finish_if_owed.new.hand.me.0 (lends.did.acted.mine ∙ append-nil (the_lane c.lane.inside.hand.me.0).mine)
+    (hands-after g.E.Emptier.takes c.return_last_share.new.hand.me.0 c.leave-left.new.hand.me.0 c.finish_if_owed.new.hand.me.0 _
+    (released-mine lends.idle c.leave-left.ensures.leaves) (λ made took. took) c.finish_if_owed.ensures.hands))

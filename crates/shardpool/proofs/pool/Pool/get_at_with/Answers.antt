@@ -9,6 +9,7 @@ use Rattle.shardpool.specs.Called.{Called, GetHits}
 use Rattle.shardpool.proofs.parts.Moves.{carries-fetch}
 use Rattle.shardpool.specs.Carried.{Carries}
 use Rattle.keybits.specs.Keys.{place_of}
+use Rattle.shardpool.proofs.parts.Handing.{hands-none, hands-behind, hands-after}
 use Rattle.shardpool.proofs.parts.Standing.{has-left, lawful}
 use Rattle.shardpool.proofs.parts.Calling.{called-after, acts-behind, life-under, get-hits, hit-tells, get-misses}
 use Rattle.shardpool.specs.Tokens.{LaneOf}
@@ -21,8 +22,8 @@ use Rattle.shardpool.proofs.calls.Ends.{fits-beside, keeper}
 use Rattle.shardpool.proofs.calls.KeyCalls.{ready, ready-low, ready-row, missed-away, missed, hit-touches, hit-left, gained-fetched}
 use Rattle.shardpool.proofs.frame.LaneFacts.{lane_of}
 use Rattle.shardpool.proofs.calls.QuietEnds.{Quieted}
-use Rattle.shardpool.proofs.pool.Pool.get_at.Given.{Over}
-use Rattle.shardpool.proofs.pool.Pool.get_at.Goals as goal
+use Rattle.shardpool.proofs.pool.Pool.get_at_with.Given.{Over}
+use Rattle.shardpool.proofs.pool.Pool.get_at_with.Goals as goal
 
 pub enter-found-requires-clause-key : goal.enter-found-requires-clause-key
 enter-found-requires-clause-key g c = ap (λ p. is_key p.shape c.args.key) c.self.view_is ∙ c.in_ok-spot.ensures.some.0 refl
@@ -83,6 +84,12 @@ returns-then-not-is_hit-clause-got g c =
     (rw (← c.lane.view_is) same)
     (λ filling. rw (← c.lane.view_is) (left.fillings c.lane.inside.hand.table_id c.end_miss.new.hand.table_id (c.end_miss.ensures.hand.0 ∙ c.enter-found.ensures.hand.0) filling))
 
+pub returns-then-not-is_hit-clause-hands : goal.returns-then-not-is_hit-clause-hands
+returns-then-not-is_hit-clause-hands g c =
+    let opened = get-misses (ap (λ p. is_key p.shape c.args.key) c.self.view_is ∙ c.in_ok-spot.ensures.some.0 refl) c.enter-found.ensures.enters (sym c.is_hit.ensures ∙ c.if-not-is_hit.true) in
+    rw (← c.lane.view_is)
+    (hands-after g.E.Emptier.takes c.lane.inside.hand.me.0 c.enter-found.new.hand.me.0 c.end_miss.new.hand.me.0 _ opened.opens.did.acted.mine (λ made took. took) c.end_miss.ensures.hands)
+
 -- ---- a hit
 
 pub gain_reference-requires-clause-at : goal.gain_reference-requires-clause-at
@@ -137,6 +144,13 @@ returns-clause-got g c =
     (rw (← c.lane.view_is) left.refs)
     (λ filling. rw (← c.lane.view_is) (left.fillings c.lane.inside.hand.table_id c.gain_reference.new.hand.table_id table filling))
 
+pub returns-clause-hands : goal.returns-clause-hands
+returns-clause-hands g c =
+    rw (← c.lane.view_is)
+    (hands-after g.E.Emptier.takes c.lane.inside.hand.me.0 c.enter-found.new.hand.me.0 c.gain_reference.new.hand.me.0 _ (first-got g c).1.0 (λ made took. took)
+    (hands-behind g.E.Emptier.takes c.enter-found.new.hand.me.0 c.gain_reference.new.hand.me.0 c.gain_reference.new.hand.me.0 (first-carries g c).elsewhere.mine
+    (hands-none g.E.Emptier.takes c.gain_reference.new.hand.me.0 c.args.emptier.now)))
+
 pub returns-clause-stands : goal.returns-clause-stands
 returns-clause-stands g c = c.in_ok-spot.ensures.spot.start
 
@@ -151,3 +165,6 @@ returns-in_err-spot-clause-got g c =
 
 pub returns-in_err-spot-clause-stands : goal.returns-in_err-spot-clause-stands
 returns-in_err-spot-clause-stands g c = rw c.from_residual.ensures tt
+
+pub returns-in_err-spot-clause-hands : goal.returns-in_err-spot-clause-hands
+returns-in_err-spot-clause-hands g c = hands-none g.E.Emptier.takes c.args.lane.now.book c.args.emptier.now

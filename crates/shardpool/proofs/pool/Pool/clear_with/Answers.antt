@@ -9,7 +9,8 @@ use Rattle.shardpool.proofs.frame.LaneFacts.{lane_of}
 use Rattle.shardpool.proofs.frame.SeenHistories.{same-directory}
 use Rattle.shardpool.proofs.calls.Ends.{fits-beside, keeper}
 use Rattle.shardpool.proofs.calls.KeyCalls.{ready, cleared-away, cleared}
-use Rattle.shardpool.proofs.pool.Pool.clear.Goals as goal
+use Rattle.shardpool.proofs.parts.Handing.{hands-none}
+use Rattle.shardpool.proofs.pool.Pool.clear_with.Goals as goal
 
 -- ---- the call may be made
 
@@ -40,8 +41,8 @@ invariant_of-lane g c =
     let left = cleared before told.reclaimed c.clear_and_keep.new.state told.kept c.clear_and_keep.result told.clears.called told.clears.acts told.clears.told in
     (told.clears.called.did.held ∙ c.lane.invariant.0, fits-own left.fits)
 
-pub returns : goal.returns
-returns g c =
+pub returns-clause-cleared : goal.returns-clause-cleared
+returns-clause-cleared g c =
     let before = ready c.lane.view_is c.requires.owns.1 c.self.view_is c.lane.invariant.1 c.in-Some.ensures.spot in
     let told = c.clear_and_keep.ensures.clears in
     let left = cleared before told.reclaimed c.clear_and_keep.new.state told.kept c.clear_and_keep.result told.clears.called told.clears.acts told.clears.told in
@@ -55,5 +56,13 @@ returns g c =
 
 -- ---- it is no key of the pool
 
-pub returns-in_default : goal.returns-in_default
-returns-in_default g c = clear-outside c.requires.owns c.seen_law.ensures.legal (λ is. absurd (false≢true (c.in_default.ensures.some.1 is)))
+pub returns-in_default-clause-cleared : goal.returns-in_default-clause-cleared
+returns-in_default-clause-cleared g c = clear-outside c.requires.owns c.seen_law.ensures.legal (λ is. absurd (false≢true (c.in_default.ensures.some.1 is)))
+
+-- ---- what the emptier took
+
+pub returns-clause-hands : goal.returns-clause-hands
+returns-clause-hands g c = rw (← c.lane.view_is) c.clear_and_keep.ensures.hands
+
+pub returns-in_default-clause-hands : goal.returns-in_default-clause-hands
+returns-in_default-clause-hands g c = hands-none g.E.Emptier.takes c.args.lane.now.book c.args.emptier.now
