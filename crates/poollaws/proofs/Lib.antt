@@ -1,3 +1,6 @@
 pub mod Ends
 mod Counts
 pub mod Kept
+mod ClearActs
+mod ClearsAlone
+pub mod Clearing

@@ -1,23 +1,26 @@
 -- Laws of histories, of closed pools and of rooms, each as a client cites it.
-use Rattle.std.specs.Prelude.{◌≡◌, ◌⊎◌, ℕ, ◌+◌, ◌<◌, ◌≤◌, Bool, true, false, IsTrue, List, Option, None, length, Contains}
+use Rattle.std.specs.Prelude.{◌≡◌, ◌⊎◌, ℕ, ◌+◌, ◌<◌, ◌≤◌, Bool, true, false, IsTrue, List, [], ◌∷◌, ◌++◌, Option, Some, None, Result, length, slice_get, Contains, if◌then◌else◌}
 use mathlib.Core.List.{IsPrefix}
 use Rattle.keybits.specs.declared.shape.Shape.{Shape}
 use Rattle.keybits.specs.Places.{shard_of}
 use Rattle.keybits.specs.Keys.{place_of, generation_of, is_key}
 use Rattle.seqpool.specs.declared.act.Act.{Act}
 use Rattle.seqpool.specs.declared.act.Act.TheVariants.{Get}
-use Rattle.seqpool.specs.Pool.{lane_of, IsLegal}
-use Rattle.seqpool.specs.Histories.{At, PublishedAt}
+use Rattle.seqpool.specs.Pool.{has, lane_of, NoRepeats, IsLegal}
+use Rattle.seqpool.specs.Histories.{At, PublishedAt, acts_of}
 use Rattle.poolsteps.specs.declared.view.View.{View}
 use Rattle.poolsteps.specs.Views.{the_lane}
 use Rattle.poolsteps.specs.Shares.{room_of}
 use Rattle.shardpool.specs.declared.census.Census.{Census}
-use Rattle.shardpool.specs.Tokens.{PoolOf, LaneOf, FillingOf}
-use Rattle.shardpool.specs.Lanes.{Made, SeesOn}
+use Rattle.shardpool.specs.declared.create.CreateFault.{CreateFault}
+use Rattle.shardpool.specs.Tokens.{PoolOf, LaneOf, FillingOf, RefOf}
+use Rattle.shardpool.specs.Lanes.{Made, SeesOn, Did}
+use Rattle.shardpool.specs.AfterCalls.{AfterCreate, IsPublishing, AfterGet, AfterRelease, AfterClear}
 use Rattle.shardpool.specs.Seen.{FoundSince, MissedSince, ClearedSince}
 use Rattle.shardpool.specs.Creates.{Gives}
 use Rattle.shardpool.specs.Closings.{AreLanes, Closes}
 use Rattle.poollaws.specs.Words.{IsPublished, IsCleared, IsGone, IsPresent, HasAll}
+use Rattle.poollaws.specs.Cleared.{cleared_by}
 use Rattle.poollaws.specs.Rooms.{SawRoom, KnowsRoom}
 use Rattle.poollaws.specs.Counted.{CountsPresent}
 
@@ -68,6 +71,29 @@ abbrev pub MarksOnceLaw : Type 0
 MarksOnceLaw = (key : ℕ) (old new : LaneOf) (marked : Bool) → IsPrefix old.book.seen new.book.seen → IsCleared old.book.seen key
     → (IsTrue marked → ClearedSince key old new) → marked ≡ false
 
+-- ---- which keys lanes cleared
+
+-- the calls of a lane clear no key, but for its clears, and its looks clear none
+pub record NoneClearedLaw {T : Type 0} (content : T → List ℕ) (room : T → ℕ) : Type 0 where
+  pub create : (pool : PoolOf) (old new : LaneOf) (result : Result (FillingOf T) CreateFault) → AfterCreate content room pool old new result
+      → cleared_by new ≡ cleared_by old
+  pub publish : (pool : PoolOf) (filling : FillingOf T) (with_ref : Bool) (old new : LaneOf)
+      → IsPublishing content room pool filling with_ref old new → cleared_by new ≡ cleared_by old
+  pub get : (pool : PoolOf) (key : ℕ) (old new : LaneOf) (result : Option RefOf) → AfterGet T pool key old new result
+      → cleared_by new ≡ cleared_by old
+  pub release : (pool : PoolOf) (key : ℕ) (old new : LaneOf) → AfterRelease T pool key old new → cleared_by new ≡ cleared_by old
+  pub look : (old new : LaneOf) → Did [] old new → cleared_by new ≡ cleared_by old
+
+-- a clear clears its key where it answers true, and else none
+abbrev pub KeyClearedLaw : Type 0 → Type 0
+KeyClearedLaw T = (pool : PoolOf) (key : ℕ) (old new : LaneOf) (result : Bool) → AfterClear T pool key old new result
+    → cleared_by new ≡ cleared_by old ++ (if result then key ∷ [] else [])
+
+-- a lane clears no key twice
+abbrev pub ClearedOnceLaw : Type 0
+ClearedOnceLaw = (z : Shape) (lane : LaneOf) → IsLegal z lane.book.seen → (the_lane lane.book).mine ≡ acts_of lane.number lane.book.seen
+    → NoRepeats (cleared_by lane)
+
 -- ---- the end of a history, and the close
 
 -- a published key is cleared, or present at the end, and not both
@@ -90,6 +116,12 @@ abbrev pub NoneLeftLaw : Type 0
 NoneLeftLaw = (pool : PoolOf) (lanes : List LaneOf) (census : Census) → AreLanes pool lanes → (closes : Closes pool lanes census)
     → census.present ≡ 0
     → (key : ℕ) (content : List ℕ) → IsPublished closes.history key content → IsCleared closes.history key
+
+-- each key that is cleared when a pool is closed was cleared by one of its lanes
+abbrev pub ClearerLaw : Type 0
+ClearerLaw = (pool : PoolOf) (lanes : List LaneOf) (census : Census) → AreLanes pool lanes → (closes : Closes pool lanes census)
+    → (key : ℕ) → IsCleared closes.history key
+    → (index : ℕ) × (lane : LaneOf) × (slice_get lanes index ≡ Some lane) × (has (cleared_by lane) key ≡ true)
 
 -- ---- rooms
 

@@ -1,4 +1,5 @@
 pub mod Words
+pub mod Cleared
 pub mod Rooms
 pub mod Counted
 pub mod Laws

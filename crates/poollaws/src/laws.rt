@@ -1,5 +1,5 @@
 //! The laws, as calls that do nothing: whoever calls one may use its law in a proof.
-ghost use Rattle.poollaws.specs.Laws.{StandsLaw, StaysPublishedLaw, StaysClearedLaw, KeyLaw, OwnActsLaw, GoneLaw, UnfoundLaw, MissedLaw, MarksOnceLaw, EndLaw, LastLaw, CountedLaw, NoneLeftLaw, FirstRoomLaw, LessRoomLaw, KeptRoomLaw, ToldRoomLaw, HeardRoomLaw, ReusedRoomLaw, OwnerLaw};
+ghost use Rattle.poollaws.specs.Laws.{StandsLaw, StaysPublishedLaw, StaysClearedLaw, KeyLaw, OwnActsLaw, GoneLaw, UnfoundLaw, MissedLaw, MarksOnceLaw, NoneClearedLaw, KeyClearedLaw, ClearedOnceLaw, EndLaw, LastLaw, CountedLaw, NoneLeftLaw, ClearerLaw, FirstRoomLaw, LessRoomLaw, KeptRoomLaw, ToldRoomLaw, HeardRoomLaw, ReusedRoomLaw, OwnerLaw};
 
 use shardpool::room_law;
 use slotcell::Clear;
@@ -32,17 +32,26 @@ pub fn gone_law()
     ensures marks { MarksOnceLaw }
 {}
 
+/// Which keys a lane cleared: those of its clears that answered true, each once. None of its other calls clears a key.
+pub fn cleared_law<T: Clear>()
+    ensures none { NoneClearedLaw T.content T.room }
+    ensures key { KeyClearedLaw T }
+    ensures once { ClearedOnceLaw }
+{}
+
 /// A published key is cleared, or present at the end of its history, and not both.
 pub fn end_law()
     ensures { EndLaw }
 {}
 
 /// When a pool is closed one history has all that its lanes have seen, and each published key is cleared in it, or
-/// counted as present. Where none is counted as present, each is cleared.
+/// counted as present. Where none is counted as present, each is cleared. Each cleared key was cleared by one of the
+/// lanes.
 pub fn close_law()
     ensures last { LastLaw }
     ensures counted { CountedLaw }
     ensures none_left { NoneLeftLaw }
+    ensures clearer { ClearerLaw }
 {}
 
 /// A lane that published a key knows the room of its place, and goes on to know it. So does whoever hears a note of the

@@ -5,6 +5,7 @@ mod laws;
 mod roomy;
 
 pub use laws::{
-    close_law, end_law, going_law, gone_law, key_law, own_acts_law, owner_law, room_kept_law,
+    cleared_law, close_law, end_law, going_law, gone_law, key_law, own_acts_law, owner_law,
+    room_kept_law,
 };
 pub use roomy::Roomy;
