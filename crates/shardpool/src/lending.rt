@@ -93,8 +93,11 @@ impl<T: Clear + Drop> LendingLane<T> {
     ghost use Rattle.std.specs.Prelude.{◌≡◌, ◌<◌, ◌≤◌, ◌+◌, ℕ, [], option_map, IfOk, IfErr, IfSome};
     ghost use mathlib.Core.List.{IsPrefix};
     ghost use Rattle.keybits.specs.Keys.{place_of};
+    ghost use Rattle.seqpool.specs.Pool.{IsLegal};
+    ghost use Rattle.seqpool.specs.Histories.{acts_of};
     ghost use Rattle.steplaws.specs.Facts.{most_references};
     ghost use Rattle.poolsteps.specs.Seats.{looked_once};
+    ghost use Rattle.poolsteps.specs.Views.{the_lane};
     ghost use Rattle.shardpool.specs.Lanes.{Owns, Issued, Did, holds, refs};
     ghost use Rattle.shardpool.specs.AfterCalls.{AfterGet, AfterRelease};
     ghost use Rattle.shardpool.specs.Loans.{IsLent, KeepsLoans, KeepsOtherLoans};
@@ -172,6 +175,15 @@ impl<T: Clear + Drop> LendingLane<T> {
     /// As a law: the references to a key are among all that the lane has.
     pub fn held_law(&self)
         ensures { (key : ℕ) → holds self.now key ≤ refs self.now }
+    {
+        // A proof knows the invariant of a lane once a field of it is seen.
+        let _ = &self.state;
+    }
+
+    /// As a law: what the lane has seen is a legal history of the pool, with just those of the lane's acts that it made.
+    pub fn seen_law(&self)
+        ensures legal { IsLegal self.now.shape self.now.book.seen }
+        ensures own { (the_lane self.now.book).mine ≡ acts_of self.now.number self.now.book.seen }
     {
         // A proof knows the invariant of a lane once a field of it is seen.
         let _ = &self.state;

@@ -113,6 +113,12 @@ impl<T: Clear> LendingLane<T> {
         let _ = &self.state;
     }
 
+    /// As a law: what the lane has seen is a legal history of the pool, with just those of the lane's acts that it made.
+    pub fn seen_law(&self) {
+        // A proof knows the invariant of a lane once a field of it is seen.
+        let _ = &self.state;
+    }
+
     /// A get of a key to which the lane has no reference, whose share it lends. None where a get misses.
     pub fn lend(&mut self, pool: &Pool<T>, key: u64) -> Option<Loan<T>> {
         let number = self.state.number;
