@@ -1,5 +1,6 @@
 mod Counting
 mod Having
 mod Keeping
+mod Quiet
 mod Rows
 mod Sweeping

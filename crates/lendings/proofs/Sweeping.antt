@@ -9,6 +9,7 @@ use Rattle.shardpool.specs.Loans.{LoanOf, KeepsOtherLoans}
 use Rattle.lendings.specs.Lenders.{LenderOf}
 use Rattle.lendings.specs.Owning.{Ended}
 use Rattle.lendings.specs.Sweeps.{Sweeps}
+use Rattle.lendings.proofs.Quiet.{quiet-same, quiet-then, quiet-release}
 
 module _ {T : Type 0} (content : T → List ℕ) (room : T → ℕ) (pool : PoolOf) where
   pub same-then : (old middle new : LaneOf) → SameLane old middle → SameLane middle new → SameLane old new
@@ -18,6 +19,7 @@ module _ {T : Type 0} (content : T → List ℕ) (room : T → ℕ) (pool : Pool
   sweeps-none old owns = record {
     owns = owns;
     same = (refl, refl, refl, refl);
+    quiet = quiet-same refl;
     back = [];
     loans = IsPermutation-refl old.loans;
     gave = refl;
@@ -30,6 +32,7 @@ module _ {T : Type 0} (content : T → List ℕ) (room : T → ℕ) (pool : Pool
       let loan = ended.0 in record {
         owns = owns;
         same = same-then old.lane middle.lane new.lane sweeps.same same;
+        quiet = quiet-then sweeps.quiet (quiet-release pool key middle.lane new.lane ended.4);
         back = loan ∷ sweeps.back;
         loans = IsPermutation-trans old.loans (sweeps.back ++ middle.loans) ((loan ∷ sweeps.back) ++ new.loans) sweeps.loans
             (IsPermutation-trans (sweeps.back ++ middle.loans) (sweeps.back ++ loan ∷ new.loans) (loan ∷ (sweeps.back ++ new.loans))
@@ -47,6 +50,7 @@ module _ {T : Type 0} (content : T → List ℕ) (room : T → ℕ) (pool : Pool
       (record {
         owns = sweeps.owns;
         same = sweeps.same;
+        quiet = sweeps.quiet;
         back = sweeps.back;
         loans = IsPermutation-trans old.loans (sweeps.back ++ middle.loans) (sweeps.back ++ new.loans) sweeps.loans
             (IsPermutation-append_right sweeps.back middle.loans new.loans ended.2);

@@ -1,13 +1,20 @@
 -- What a lender has.
 use Rattle.std.specs.Prelude.{◌≡◌, ◌≢◌, ◌==◌, ℕ, ◌≤◌, List, All, Contains, length, sum_by, if◌then◌else◌}
+use mathlib.Core.List.{IsPrefix}
 use Rattle.shardpool.specs.Tokens.{LaneOf}
 use Rattle.shardpool.specs.Lanes.{holds, refs}
 use Rattle.shardpool.specs.Loans.{LoanOf, IsLent}
+use Rattle.poollaws.specs.Cleared.{cleared_by}
 
 -- a lane, and the loans that are out
 pub record LenderOf (T : Type 0) : Type 0 where
   pub lane : LaneOf
   pub loans : List (LoanOf T)
+
+-- what the lane has seen goes on, and it cleared no key
+pub record GoesOnQuietly (old new : LaneOf) : Type 0 where
+  pub seen : IsPrefix old.book.seen new.book.seen
+  pub cleared : cleared_by new ≡ cleared_by old
 
 -- how many are under this key
 abbrev pub times : {T : Type 0} → ℕ → List (LoanOf T) → ℕ

@@ -5,7 +5,7 @@ use Rattle.shardpool.specs.Tokens.{PoolOf, LaneOf}
 use Rattle.shardpool.specs.Lanes.{Owns, SameLane}
 use Rattle.shardpool.specs.AfterCalls.{AfterRelease}
 use Rattle.shardpool.specs.Loans.{LoanOf, IsLent}
-use Rattle.lendings.specs.Lenders.{LenderOf, HaveNot}
+use Rattle.lendings.specs.Lenders.{LenderOf, HaveNot, GoesOnQuietly}
 
 -- the lane gave back these loans, the last of them first here
 abbrev pub GaveBack : {T : Type 0} → PoolOf → List (LoanOf T) → LaneOf → LaneOf → Type 0
@@ -16,6 +16,7 @@ GaveBack {T} pool (loan ∷ before) old new = (middle : LaneOf) × GaveBack pool
 pub record Sweeps {T : Type 0} (content : T → List ℕ) (room : T → ℕ) (pool : PoolOf) (old new : LenderOf T) : Type 0 where
   pub owns : Owns pool new.lane
   pub same : SameLane old.lane new.lane
+  pub quiet : GoesOnQuietly old.lane new.lane
   pub back : List (LoanOf T)
   pub loans : IsPermutation old.loans (back ++ new.loans)
   pub gave : GaveBack pool back old.lane new.lane

@@ -3,6 +3,7 @@ use crate::out::Out;
 use crate::outs;
 use crate::owned::Owned;
 use crate::refusal::Refusal;
+use seqpool::once_law;
 use shardpool::{Lane, LendingLane, Note, Pool};
 use slotcell::Clear;
 use std::alloc::Global;
@@ -28,12 +29,16 @@ impl<T: Clear> Model for Lender<T> {
 }
 
 impl<T: Clear + Drop> Lender<T> {
-    ghost use Rattle.std.specs.Prelude.{◌≡◌, ◌≢◌, ◌≤◌, ◌+◌, [], length, IfOk, IfErr};
+    ghost use Rattle.std.specs.Prelude.{◌≡◌, ◌≢◌, ◌≤◌, ◌+◌, [], length, IfOk, IfErr, IfSome};
     ghost use mathlib.Core.List.{IsPrefix};
+    ghost use Rattle.seqpool.specs.Pool.{IsLegal};
+    ghost use Rattle.seqpool.specs.Histories.{acts_of};
     ghost use Rattle.poolsteps.specs.Seats.{looked_once};
+    ghost use Rattle.poolsteps.specs.Views.{the_lane};
     ghost use Rattle.shardpool.specs.Lanes.{Owns, Issued, Did, refs};
     ghost use Rattle.shardpool.specs.Loans.{KeepsLoans, KeepsOtherLoans};
-    ghost use Rattle.lendings.specs.Lenders.{AreOut};
+    ghost use Rattle.lendings.specs.Lenders.{AreOut, GoesOnQuietly};
+    ghost use Rattle.lendings.specs.Owners.{ShowsKey};
     ghost use Rattle.lendings.specs.Owning.{IsOwned, Disowns};
     ghost use Rattle.lendings.specs.Sweeps.{Sweeps};
 
@@ -78,6 +83,14 @@ impl<T: Clear + Drop> Lender<T> {
         let _ = &self.lane;
     }
 
+    /// As `LendingLane::seen_law`.
+    pub fn seen_law(&self)
+        ensures legal { IsLegal self.now.lane.shape self.now.lane.book.seen }
+        ensures own { (the_lane self.now.lane.book).mine ≡ acts_of self.now.lane.number self.now.lane.book.seen }
+    {
+        self.lane.seen_law();
+    }
+
     /// An owner of the object of a key. Where a loan of the key is out, one more of that loan, without a call of the lane:
     /// also where the key was cleared since. Else a get lends it; None where that misses. It looks through the loans that
     /// are out, one after another.
@@ -89,9 +102,14 @@ impl<T: Clear + Drop> Lender<T> {
         requires { Owns pool.now self.old.lane }
         ensures owns { Owns pool.now self.new.lane }
         ensures owned { IsOwned T.content T.room pool.now key self.old self.new result }
+        ensures shows { IfOk result (λ found. IfSome found (ShowsKey T.content key self.new.lane)) }
+        ensures quiet { GoesOnQuietly self.old.lane self.new.lane }
         ensures kept { KeepsLoans T.content T.room self.old.lane self.new.lane }
     {
-        outs::own(&mut self.lane, &mut self.out, self.alloc, pool, key)
+        once_law();
+        let owned = outs::own(&mut self.lane, &mut self.out, self.alloc, pool, key);
+        self.lane.seen_law();
+        owned
     }
 
     /// Takes an owner back. Where none is left, its loan ends: the lane gives the reference back. Whether it ended.
@@ -103,6 +121,7 @@ impl<T: Clear + Drop> Lender<T> {
         requires { Owns pool.now self.old.lane }
         ensures owns { Owns pool.now self.new.lane }
         ensures disowned { Disowns T.content T.room pool.now owned self.old self.new result }
+        ensures quiet { GoesOnQuietly self.old.lane self.new.lane }
         ensures kept { KeepsOtherLoans T.content T.room owned.loan.key self.old.lane self.new.lane }
     {
         if owned.lane() != self.lane.number() {
@@ -130,6 +149,7 @@ impl<T: Clear + Drop> Lender<T> {
         ensures note { Issued pool.now result × (result.book.seen ≡ self.old.lane.book.seen) }
         ensures rooms { result.book.rooms ≡ self.old.lane.book.rooms }
         ensures lane { self.new.lane ≡ record self.old.lane { book = looked_once self.old.lane.book } }
+        ensures quiet { GoesOnQuietly self.old.lane self.new.lane }
         ensures loans { self.new.loans ≡ self.old.loans }
         ensures kept { KeepsLoans T.content T.room self.old.lane self.new.lane }
     {
@@ -144,6 +164,7 @@ impl<T: Clear + Drop> Lender<T> {
         ensures heard { IsPrefix note.book.seen self.new.lane.book.seen × IsPrefix self.old.lane.book.seen self.new.lane.book.seen }
         ensures rooms { IsPrefix note.book.rooms self.new.lane.book.rooms × IsPrefix self.old.lane.book.rooms self.new.lane.book.rooms }
         ensures goes { Did [] self.old.lane self.new.lane }
+        ensures quiet { GoesOnQuietly self.old.lane self.new.lane }
         ensures steps { self.new.lane.book.steps ≡ self.old.lane.book.steps }
         ensures looks { self.new.lane.book.looks ≡ self.old.lane.book.looks + 1 }
         ensures loans { self.new.loans ≡ self.old.loans }

@@ -1,4 +1,5 @@
 -- A look keeps what is lent.
+use Rattle.poollaws.proofs.Clearing.{looked-none}
 use Rattle.lendings.specs.Outs.{loans_of}
 use Rattle.lendings.proofs.Keeping.{out-kept}
 use Rattle.lendings.proofs.lender.Lender.hear.Goals as goal
@@ -10,3 +11,7 @@ invariant_of-self g c =
 
 pub returns-clause-kept : goal.returns-clause-kept
 returns-clause-kept g c = rw (← c.self.view_is) c.hear.ensures.kept
+
+pub returns-clause-quiet : goal.returns-clause-quiet
+returns-clause-quiet g c =
+    rw (← c.self.view_is) (record { seen = c.hear.ensures.heard.1; cleared = looked-none c.self.inside.lane c.hear.new.self c.hear.ensures.goes })

@@ -1,7 +1,9 @@
 -- A look keeps what is lent.
-use Rattle.std.proofs.Common.{ap}
+use Rattle.std.proofs.Common.{refl, sym, ap, subst}
+use Rattle.poolsteps.proofs.ViewLemmas.{prefix-self}
 use Rattle.shardpool.specs.Tokens.{LaneOf}
 use Rattle.shardpool.specs.Lanes.{holds, refs}
+use Rattle.lendings.specs.Lenders.{GoesOnQuietly}
 use Rattle.lendings.specs.Outs.{loans_of}
 use Rattle.lendings.proofs.Keeping.{out-kept}
 use Rattle.lendings.proofs.lender.Lender.tell.Goals as goal
@@ -13,3 +15,8 @@ invariant_of-self g c =
 
 pub returns-clause-kept : goal.returns-clause-kept
 returns-clause-kept g c = rw (← c.self.view_is) c.tell.ensures.kept
+
+pub returns-clause-quiet : goal.returns-clause-quiet
+returns-clause-quiet g c =
+    rw (← c.self.view_is) (subst (λ (lane : LaneOf). GoesOnQuietly c.self.inside.lane lane) (sym c.tell.ensures.lane)
+    (record { seen = prefix-self c.self.inside.lane.book.seen; cleared = refl }))
