@@ -1,5 +1,5 @@
 -- Lanes in slots, by their numbers.
-use Rattle.std.proofs.Common.{◌≡◌, ℕ, suc, ◌+◌, ◌<◌, ◌≤◌, true, false, List, [], ◌∷◌, ◌++◌, length, map, slice_get, Option, Some, None, is_some, IfSome, unwrap_or, option_map, refl, sym, ap, ◌∙◌, subst, ⊎_elim, arith, length-append}
+use Rattle.std.proofs.Common.{◌≡◌, ℕ, suc, ◌+◌, ◌<◌, ◌≤◌, true, false, List, [], ◌∷◌, ◌++◌, length, map, slice_get, Option, Some, None, is_some, IfSome, unwrap_or, option_map, refl, sym, ap, ◌∙◌, subst, ⊎_elim, arith, append-nil, length-append}
 use Rattle.std.specs.Prelude.{slice_index_or, slice_set, Result, Ok, Err, IfOk}
 use Rattle.std.specs.Result.{result_ok}
 use Rattle.std.proofs.lemmas.List.{length-map, length-set, get_or_past, get_or_read, get_or-set_same, get_or-set_other}
@@ -13,7 +13,9 @@ use Rattle.shardpool.specs.Lanes.{Owns, refs}
 use Rattle.shardpool.specs.Opened.{AreFirstLanes}
 use Rattle.shardpool.specs.Places.{held_after}
 use Rattle.shardpool.specs.Closings.{AreLanes}
-use Rattle.guards.specs.Here.{LanesOf, lane_at, AreSlots, AreFirstHere, HoldNothing, SameOthers, AreHereBelow, IsFirstMissing}
+use Rattle.poollaws.specs.Cleared.{cleared_in, cleared_by, AreAmong}
+use Rattle.poollaws.proofs.Clearing.{none-among, among-none, among-before, among-behind}
+use Rattle.guards.specs.Here.{LanesOf, lane_at, AreSlots, AreFirstHere, HoldNothing, HaveCleared, SameOthers, AreHereBelow, AreInRow, IsFirstMissing}
 
 -- ---- lists
 
@@ -88,6 +90,11 @@ module _ (pool : PoolOf) (row : List LaneOf) (slots : List (Option LaneOf)) (is 
     each = λ number lane at. ap (λ (v : View). held_after (the_lane v).mine 0) (firsts.each number lane (in-row number lane at)).book;
   }
 
+  pub first-cleared : HaveCleared [] (record { pool = pool; slots = slots })
+  first-cleared = record {
+    each = λ number lane at. among-none [] (ap (λ (v : View). cleared_in (the_lane v).mine) (firsts.each number lane (in-row number lane at)).book);
+  }
+
 -- ---- a lane that is taken out or given back
 
 pub owned : (lanes : LanesOf) (number : ℕ) → AreSlots lanes → (found : Option LaneOf) → found ≡ lane_at lanes number → IfSome found (λ lane. Owns lanes.pool lane × (lane.number ≡ number))
@@ -115,6 +122,20 @@ module _ (lanes : LanesOf) (number : ℕ) (slot : Option LaneOf) (lane : LaneOf)
         (λ differs. nothing.each other found (sym (get_or-set_other lanes.slots number other slot None differs) ∙ at));
   }
 
+  pub given-cleared : (keys : List ℕ) → HaveCleared keys lanes
+      → HaveCleared (keys ++ cleared_by lane) (record { pool = lanes.pool; slots = slice_set lanes.slots number slot })
+  given-cleared keys cleared = record {
+    each = λ other found at. dite (ℕ_discrete other number)
+        (λ same. subst (λ (l : LaneOf). AreAmong (cleared_by l) (keys ++ cleared_by lane)) (same-lane other found at same) (among-behind keys (cleared_by lane)))
+        (λ differs key had. among-before keys (cleared_by lane) key
+        (cleared.each other found (sym (get_or-set_other lanes.slots number other slot None differs) ∙ at) key had));
+  }
+
+  pub given-clean : (keys : List ℕ) → HaveCleared keys lanes → cleared_by lane ≡ []
+      → HaveCleared keys (record { pool = lanes.pool; slots = slice_set lanes.slots number slot })
+  given-clean keys cleared none = subst (λ (all : List ℕ). HaveCleared all (record { pool = lanes.pool; slots = slice_set lanes.slots number slot }))
+      (ap (λ (more : List ℕ). keys ++ more) none ∙ append-nil keys) (given-cleared keys cleared)
+
 -- ---- a lane that is taken out
 
 -- past the slots there is none
@@ -139,6 +160,9 @@ module _ (lanes : LanesOf) (number : ℕ) (slot : Option LaneOf) (low : number <
   pub taken-nothing : HoldNothing lanes → HoldNothing (record { pool = lanes.pool; slots = slice_set lanes.slots number slot })
   taken-nothing nothing = record { each = λ other found at. nothing.each other found (stayed other found at) }
 
+  pub taken-cleared : (keys : List ℕ) → HaveCleared keys lanes → HaveCleared keys (record { pool = lanes.pool; slots = slice_set lanes.slots number slot })
+  taken-cleared keys cleared = record { each = λ other found at. cleared.each other found (stayed other found at) }
+
 -- a slot that is written leaves the others
 pub same-others : (lanes : LanesOf) (number : ℕ) (slot : Option LaneOf) → SameOthers number lanes (record { pool = lanes.pool; slots = slice_set lanes.slots number slot })
 same-others lanes number slot = record { pool = refl; others = λ other differs. get_or-set_other lanes.slots number other slot None differs }
@@ -147,6 +171,11 @@ same-others lanes number slot = record { pool = refl; others = λ other differs.
 pub found-nothing : (lanes : LanesOf) (number : ℕ) → HoldNothing lanes → (found : Option LaneOf) → found ≡ lane_at lanes number → IfSome found (λ lane. refs lane ≡ 0)
 found-nothing lanes number nothing None is = tt
 found-nothing lanes number nothing (Some lane) is = nothing.each number lane (sym is)
+
+-- and it cleared nothing, where none did
+pub found-cleared : (lanes : LanesOf) (number : ℕ) → HaveCleared [] lanes → (found : Option LaneOf) → found ≡ lane_at lanes number → IfSome found (λ lane. cleared_by lane ≡ [])
+found-cleared lanes number cleared None is = tt
+found-cleared lanes number cleared (Some lane) is = none-among (cleared_by lane) (cleared.each number lane (sym is))
 
 -- ---- all lanes
 
@@ -174,6 +203,11 @@ are-lanes lanes row are is =
           (λ gone. let high = gone.0 in absurd (omega (arith, high, low, count)))
           (slice_get_cases row number).1;
     }
+
+pub in-row-of : (lanes : LanesOf) (row : List LaneOf) → lanes.slots ≡ map Some row → AreInRow lanes row
+in-row-of lanes row is number lane =
+    let slot = ap (λ (xs : List (Option LaneOf)). slice_index_or xs number None) is in
+    (λ at. slot ∙ stands row number lane at, λ here. stood row number lane (sym slot ∙ here))
 
 pub same-pool : (one other : PoolOf) → one.table ≡ other.table → one.directory ≡ other.directory → one.shape ≡ other.shape → one ≡ other
 same-pool one other tables directories shapes = λ i. record { table = tables i; directory = directories i; shape = shapes i }

@@ -1,8 +1,9 @@
 -- Which lanes of a pool are here, each under its number.
-use Rattle.std.specs.Prelude.{◌≡◌, ◌≢◌, ℕ, ◌<◌, List, length, Option, Some, None, slice_index_or}
+use Rattle.std.specs.Prelude.{◌≡◌, ◌≢◌, ◌↔◌, ℕ, ◌<◌, List, length, Option, Some, None, slice_get, slice_index_or}
 use Rattle.shardpool.specs.Tokens.{PoolOf, LaneOf}
 use Rattle.shardpool.specs.Lanes.{Owns, refs}
 use Rattle.shardpool.specs.Opened.{IsFirstLane}
+use Rattle.poollaws.specs.Cleared.{cleared_by, AreAmong}
 
 -- the lanes of a pool that are here: a slot for each number
 pub record LanesOf : Type 0 where
@@ -27,6 +28,10 @@ AreFirstHere lanes = (number : ℕ) → number < lanes.pool.shape.lanes → (lan
 pub record HoldNothing (lanes : LanesOf) : Type 0 where
   pub each : (number : ℕ) (lane : LaneOf) → lane_at lanes number ≡ Some lane → refs lane ≡ 0
 
+-- the lanes that are here cleared none but these keys
+pub record HaveCleared (keys : List ℕ) (lanes : LanesOf) : Type 0 where
+  pub each : (number : ℕ) (lane : LaneOf) → lane_at lanes number ≡ Some lane → AreAmong (cleared_by lane) keys
+
 -- all other lanes are as before, and of the same pool
 pub record SameOthers (number : ℕ) (old new : LanesOf) : Type 0 where
   pub pool : new.pool ≡ old.pool
@@ -35,6 +40,10 @@ pub record SameOthers (number : ℕ) (old new : LanesOf) : Type 0 where
 -- each lane below this number is here
 abbrev pub AreHereBelow : LanesOf → ℕ → Type 0
 AreHereBelow lanes number = (low : ℕ) → low < number → (lane : LaneOf) × (lane_at lanes low ≡ Some lane)
+
+-- the lanes of this row are those that are here, in the order of their numbers
+abbrev pub AreInRow : LanesOf → List LaneOf → Type 0
+AreInRow lanes row = (number : ℕ) (lane : LaneOf) → (slice_get row number ≡ Some lane) ↔ (lane_at lanes number ≡ Some lane)
 
 -- the number is that of the first lane of the pool that isn't here
 pub record IsFirstMissing (lanes : LanesOf) (number : ℕ) : Type 0 where

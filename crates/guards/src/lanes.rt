@@ -1,5 +1,5 @@
 //! A pool with its lanes, which are handed out and given back by their numbers.
-ghost use Rattle.std.specs.Prelude.{◌≡◌, ◌<◌, ◌≤◌, ◌↔◌, ℕ, List, length, map, Some, None, [], IfOk, IfErr, IsErrOf, IsOk, IfSome, IfNone};
+ghost use Rattle.std.specs.Prelude.{◌≡◌, ◌<◌, ◌≤◌, ◌↔◌, ◌++◌, ℕ, List, length, map, Some, None, [], IfOk, IfErr, IsErrOf, IsOk, IfSome, IfNone};
 ghost use Rattle.std.specs.Vec.{vec_capacity};
 ghost use Rattle.keybits.specs.declared.shape.ShapeFault.{ShapeFault as Fault};
 ghost use Rattle.keybits.specs.Shapes.{IsShape, IsNarrow, all_places};
@@ -8,7 +8,8 @@ ghost use Rattle.shardpool.specs.declared.fault.OpenFault.TheVariants as faults;
 ghost use Rattle.shardpool.specs.Tokens.{LaneOf};
 ghost use Rattle.shardpool.specs.Lanes.{Owns, refs};
 ghost use Rattle.shardpool.specs.Closings.{AreLanes, Closes, places_counted};
-ghost use Rattle.guards.specs.Here.{lane_at, AreFirstHere, HoldNothing, SameOthers, AreHereBelow, IsFirstMissing};
+ghost use Rattle.poollaws.specs.Cleared.{cleared_by};
+ghost use Rattle.guards.specs.Here.{lane_at, AreFirstHere, HoldNothing, HaveCleared, SameOthers, AreHereBelow, AreInRow, IsFirstMissing};
 
 use keybits::Shape;
 use shardpool::{Census, Lane, OpenFault, Pool, close, open_wide};
@@ -74,6 +75,7 @@ pub fn open_lanes<T: Clear + Drop>(alloc: Global, shape: Shape) -> Result<Opened
     ensures shape { IfOk result (λ opened. (opened.pool.shape ≡ shape) × (opened.lanes.pool ≡ opened.pool)) }
     ensures first { IfOk result (λ opened. AreFirstHere opened.lanes) }
     ensures nothing { IfOk result (λ opened. HoldNothing opened.lanes) }
+    ensures cleared { IfOk result (λ opened. HaveCleared [] opened.lanes) }
 {
     shape.check()?;
     try_open(alloc, shape).ok_or(OpenFault::Memory)
@@ -90,6 +92,7 @@ pub fn open_lanes_wide<T: Clear + Drop>(alloc: Global, shape: Shape) -> Result<O
     ensures shape { IfOk result (λ opened. (opened.pool.shape ≡ shape) × (opened.lanes.pool ≡ opened.pool)) }
     ensures first { IfOk result (λ opened. AreFirstHere opened.lanes) }
     ensures nothing { IfOk result (λ opened. HoldNothing opened.lanes) }
+    ensures cleared { IfOk result (λ opened. HaveCleared [] opened.lanes) }
 {
     shape.check_wide()?;
     try_open(alloc, shape).ok_or(OpenFault::Memory)
@@ -101,6 +104,7 @@ fn try_open<T: Clear + Drop>(alloc: Global, shape: Shape) -> Option<Opened<T>>
     ensures shape { IfSome result (λ opened. (opened.pool.shape ≡ shape) × (opened.lanes.pool ≡ opened.pool)) }
     ensures first { IfSome result (λ opened. AreFirstHere opened.lanes) }
     ensures nothing { IfSome result (λ opened. HoldNothing opened.lanes) }
+    ensures cleared { IfSome result (λ opened. HaveCleared [] opened.lanes) }
 {
     let count = shape.lanes as usize;
     let slots = Vec::with_capacity(alloc, count).ok()?;
@@ -157,6 +161,8 @@ impl<T: Clear + Drop> Lanes<T> {
         ensures owns { IfSome result (λ lane. Owns self.old.pool lane × (lane.number ≡ number)) }
         ensures refs { HoldNothing self.old → IfSome result (λ lane. refs lane ≡ 0) }
         ensures nothing { HoldNothing self.old → HoldNothing self.new }
+        ensures clean { HaveCleared [] self.old → IfSome result (λ lane. cleared_by lane ≡ []) }
+        ensures cleared { (keys : List ℕ) → HaveCleared keys self.old → HaveCleared keys self.new }
     {
         let index = number as usize;
         if index >= self.slots.len() {
@@ -173,6 +179,8 @@ impl<T: Clear + Drop> Lanes<T> {
         ensures rest { SameOthers lane.number self.old self.new }
         ensures owns { IfSome result (λ other. Owns self.old.pool other × (other.number ≡ lane.number)) }
         ensures nothing { HoldNothing self.old → refs lane ≡ 0 → HoldNothing self.new }
+        ensures cleared { (keys : List ℕ) → HaveCleared keys self.old → HaveCleared (keys ++ cleared_by lane) self.new }
+        ensures clean { (keys : List ℕ) → HaveCleared keys self.old → cleared_by lane ≡ [] → HaveCleared keys self.new }
     {
         lane.seen_law();
         let index = lane.number() as usize;
@@ -222,7 +230,7 @@ impl<T: Clear + Drop> Opened<T> {
     /// A lane that isn't here. The pool and the lanes are then as they were.
     pub fn close(self) -> Result<Census, Missing<T>>
         ensures closes { IfOk result (λ census. (lanes : List LaneOf) × (self.lanes.slots ≡ map Some lanes) × Closes self.pool lanes census
-            × AreLanes self.pool lanes) }
+            × AreLanes self.pool lanes × AreInRow self.lanes lanes) }
         ensures adds { IfOk result (λ census. places_counted census ≡ all_places self.pool.shape) }
         ensures missing { IfErr result (λ missing. IsFirstMissing self.lanes missing.number) }
         ensures back { IfErr result (λ missing. (missing.opened.pool ≡ self.pool) × (missing.opened.lanes ≡ self.lanes)) }

@@ -1,5 +1,5 @@
 //! A lane together with its pool, for a thread that does its work with that lane alone.
-ghost use Rattle.std.specs.Prelude.{◌≡◌, ◌≢◌, ◌⊎◌, ◌<◌, ◌≤◌, ℕ, List, [], ◌∷◌, true, false, IfOk, IsErr, IsErrOf, IfSome, IsSome, IsNone, IsTrue, Contains};
+ghost use Rattle.std.specs.Prelude.{◌≡◌, ◌≢◌, ◌⊎◌, ◌<◌, ◌≤◌, ℕ, List, [], ◌∷◌, ◌++◌, true, false, IfOk, IsErr, IsErrOf, IfSome, IsSome, IsNone, IsTrue, Contains, if◌then◌else◌};
 ghost use Rattle.std.specs.Fn.{FnOnceReturnsAt};
 ghost use Rattle.keybits.specs.Keys.{is_key};
 ghost use Rattle.seqpool.specs.declared.act.Act.TheVariants as acts;
@@ -13,6 +13,7 @@ ghost use Rattle.shardpool.specs.Seen.{ClearedSince};
 ghost use Rattle.shardpool.specs.Creates.{Gives, GivesNone};
 ghost use Rattle.shardpool.specs.declared.create.CreateFault.TheVariants.{Full, Memory};
 ghost use Rattle.poollaws.specs.Words.{IsPublished, IsCleared, IsGone};
+ghost use Rattle.poollaws.specs.Cleared.{cleared_by};
 ghost use Rattle.poollaws.specs.Rooms.{KnowsRoom};
 ghost use Rattle.guards.specs.Guarded.{Uses};
 ghost use Rattle.guards.specs.Several.{Missed, UsesAll, TriesAll};
@@ -99,6 +100,7 @@ impl<'p, N: PoolName, T: Clear + Drop> Seat<'p, N, T> {
         ensures memory { IsErrOf result Memory → self.old.lane.pages.opened < N.pool.shape.pages }
         ensures apart { IfOk result (λ filling. (other : FillingOf T) → Made self.old.lane other → other.key ≢ filling.key) }
         ensures keeps { Keeps T self.old.lane self.new.lane }
+        ensures none_cleared { cleared_by self.new.lane ≡ cleared_by self.old.lane }
         ensures number { self.new.lane.number ≡ self.old.lane.number }
         ensures goes { GoesOn self.old.lane self.new.lane }
     {
@@ -118,6 +120,7 @@ impl<'p, N: PoolName, T: Clear + Drop> Seat<'p, N, T> {
         ensures room { KnowsRoom self.new.lane filling.key (T.room filling.object) }
         ensures fillings { (other : FillingOf T) → other.key ≢ filling.key → Made self.old.lane other → Made self.new.lane other }
         ensures held { (key : ℕ) → holds self.new.lane key ≡ holds self.old.lane key }
+        ensures none_cleared { cleared_by self.new.lane ≡ cleared_by self.old.lane }
         ensures number { self.new.lane.number ≡ self.old.lane.number }
         ensures goes { GoesOn self.old.lane self.new.lane }
     {
@@ -140,6 +143,7 @@ impl<'p, N: PoolName, T: Clear + Drop> Seat<'p, N, T> {
         ensures memory { IsErrOf result Memory → (GivesNone self.old.lane self.new.lane × (self.old.lane.pages.opened < N.pool.shape.pages))
             ⊎ CreatesSuch (C.may_refuse contents.now) T.content T.room self.old.lane self.new.lane }
         ensures keeps { Keeps T self.old.lane self.new.lane }
+        ensures none_cleared { cleared_by self.new.lane ≡ cleared_by self.old.lane }
         ensures number { self.new.lane.number ≡ self.old.lane.number }
         ensures goes { GoesOn self.old.lane self.new.lane }
     {
@@ -243,6 +247,7 @@ impl<'p, N: PoolName, T: Clear + Drop> Seat<'p, N, T> {
         ensures cleared { IsTrue result → ClearedSince key self.old.lane self.new.lane }
         ensures gone { IsGone self.old.lane.book.seen self.new.lane.book.seen key }
         ensures keeps { Keeps T self.old.lane self.new.lane }
+        ensures key_cleared { cleared_by self.new.lane ≡ cleared_by self.old.lane ++ (if result then key ∷ [] else []) }
         ensures number { self.new.lane.number ≡ self.old.lane.number }
         ensures goes { GoesOn self.old.lane self.new.lane }
     {
@@ -256,6 +261,7 @@ impl<'p, N: PoolName, T: Clear + Drop> Seat<'p, N, T> {
         ensures content { (content : List ℕ) → IsPublished self.old.lane.book.seen key content → result.content ≡ content }
         ensures lane { self.new.lane ≡ record self.old.lane { book = looked_once self.old.lane.book } }
         ensures keeps { Keeps T self.old.lane self.new.lane }
+        ensures none_cleared { cleared_by self.new.lane ≡ cleared_by self.old.lane }
         ensures number { self.new.lane.number ≡ self.old.lane.number }
         ensures goes { GoesOn self.old.lane self.new.lane }
     {
@@ -271,6 +277,7 @@ impl<'p, N: PoolName, T: Clear + Drop> Seat<'p, N, T> {
         ensures hears { Hears self.old.lane self.new.lane }
         ensures published { IsPublished self.new.lane.book.seen told.key told.content }
         ensures keeps { Keeps T self.old.lane self.new.lane }
+        ensures none_cleared { cleared_by self.new.lane ≡ cleared_by self.old.lane }
         ensures number { self.new.lane.number ≡ self.old.lane.number }
         ensures goes { GoesOn self.old.lane self.new.lane }
     {

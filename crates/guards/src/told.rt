@@ -52,7 +52,7 @@ impl<N: PoolName, T: Clear> Told<N, T> {
     }
 
     /// The key and the note.
-    pub(crate) fn into_parts(self) -> (u64, Note<T>)
+    pub fn into_parts(self) -> (u64, Note<T>)
         ensures key { result.0 ≡ self.key }
         ensures table { result.1.table ≡ N.pool.table }
         ensures published { IsPublished result.1.book.seen self.key self.content }

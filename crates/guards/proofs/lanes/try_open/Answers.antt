@@ -4,7 +4,7 @@ use Rattle.std.specs.Vec.{vec_capacity}
 use Rattle.keybits.specs.declared.shape.Shape.{Shape}
 use Rattle.shardpool.specs.Tokens.{PoolOf}
 use Rattle.shardpool.specs.Opened.{AreFirstLanes}
-use Rattle.guards.proofs.Slots.{ok-holds, first-slots, first-here, first-nothing}
+use Rattle.guards.proofs.Slots.{ok-holds, first-slots, first-here, first-nothing, first-cleared}
 use Rattle.guards.proofs.lanes.try_open.Goals as goal
 
 pub in_slots-requires-clause-empty : goal.in_slots-requires-clause-empty
@@ -36,6 +36,11 @@ returns-clause-nothing g c =
     let firsts = subst (λ (pool : PoolOf). AreFirstLanes pool c.in-Ok.lanes.items) (sym c.of.ensures) c.in-Ok.ensures.lanes in
     first-nothing c.of.result.value c.in-Ok.lanes.items c.in_slots.result.items c.in_slots.ensures firsts
 
+pub returns-clause-cleared : goal.returns-clause-cleared
+returns-clause-cleared g c =
+    let firsts = subst (λ (pool : PoolOf). AreFirstLanes pool c.in-Ok.lanes.items) (sym c.of.ensures) c.in-Ok.ensures.lanes in
+    first-cleared c.of.result.value c.in-Ok.lanes.items c.in_slots.result.items c.in_slots.ensures firsts
+
 -- ---- memory was refused
 
 pub returns-in_err-slots-clause-shape : goal.returns-in_err-slots-clause-shape
@@ -47,6 +52,9 @@ returns-in_err-slots-clause-first g c = rw c.from_residual.ensures tt
 pub returns-in_err-slots-clause-nothing : goal.returns-in_err-slots-clause-nothing
 returns-in_err-slots-clause-nothing g c = rw c.from_residual.ensures tt
 
+pub returns-in_err-slots-clause-cleared : goal.returns-in_err-slots-clause-cleared
+returns-in_err-slots-clause-cleared g c = rw c.from_residual.ensures tt
+
 pub returns-in_err-row-clause-shape : goal.returns-in_err-row-clause-shape
 returns-in_err-row-clause-shape g c = rw c.from_residual-in_err-row.ensures tt
 
@@ -56,6 +64,9 @@ returns-in_err-row-clause-first g c = rw c.from_residual-in_err-row.ensures tt
 pub returns-in_err-row-clause-nothing : goal.returns-in_err-row-clause-nothing
 returns-in_err-row-clause-nothing g c = rw c.from_residual-in_err-row.ensures tt
 
+pub returns-in_err-row-clause-cleared : goal.returns-in_err-row-clause-cleared
+returns-in_err-row-clause-cleared g c = rw c.from_residual-in_err-row.ensures tt
+
 pub returns-in_default-clause-shape : goal.returns-in_default-clause-shape
 returns-in_default-clause-shape g c = tt
 
@@ -64,6 +75,9 @@ returns-in_default-clause-first g c = tt
 
 pub returns-in_default-clause-nothing : goal.returns-in_default-clause-nothing
 returns-in_default-clause-nothing g c = tt
+
+pub returns-in_default-clause-cleared : goal.returns-in_default-clause-cleared
+returns-in_default-clause-cleared g c = tt
 
 -- ---- the pool
 

@@ -3,8 +3,8 @@ use Rattle.std.proofs.Common.{◌≡◌, ◌<◌, ◌≤◌, length, IfSome, ref
 use Rattle.std.proofs.lemmas.List.{get_or_read}
 use Rattle.std.specs.Prelude.{None, slice_set}
 use Rattle.shardpool.specs.Lanes.{Owns}
-use Rattle.guards.specs.Here.{LanesOf, lane_at, HoldNothing, SameOthers}
-use Rattle.guards.proofs.Slots.{owned, past-slots, taken-gone, taken-slots, taken-nothing, same-others, found-nothing}
+use Rattle.guards.specs.Here.{LanesOf, lane_at, HoldNothing, HaveCleared, SameOthers}
+use Rattle.guards.proofs.Slots.{owned, past-slots, taken-gone, taken-slots, taken-nothing, taken-cleared, same-others, found-nothing, found-cleared}
 use Rattle.guards.proofs.lanes.Lanes.take.Goals as goal
 
 -- ---- no slot has the number
@@ -29,6 +29,12 @@ returns-then-index-len-clause-refs g c = λ nothing. tt
 
 pub returns-then-index-len-clause-nothing : goal.returns-then-index-len-clause-nothing
 returns-then-index-len-clause-nothing g c = λ nothing. nothing
+
+pub returns-then-index-len-clause-clean : goal.returns-then-index-len-clause-clean
+returns-then-index-len-clause-clean g c = λ cleared. tt
+
+pub returns-then-index-len-clause-cleared : goal.returns-then-index-len-clause-cleared
+returns-then-index-len-clause-cleared g c = λ keys cleared. cleared
 
 -- ---- a slot has it
 
@@ -76,3 +82,12 @@ returns-clause-nothing g c = λ nothing.
     let lanes : LanesOf = record { pool = c.self.inside.of.value; slots = c.self.inside.slots.items } in
     let low : c.args.number < length lanes.slots = omega arith in
     taken-nothing lanes c.args.number c.take.new.self low c.take.ensures.after (subst HoldNothing (sym c.self.view_is) nothing)
+
+pub returns-clause-clean : goal.returns-clause-clean
+returns-clause-clean g c = λ cleared. found-cleared c.args.self.now c.args.number cleared c.take.result (returns-clause-lane g c)
+
+pub returns-clause-cleared : goal.returns-clause-cleared
+returns-clause-cleared g c = λ keys cleared.
+    let lanes : LanesOf = record { pool = c.self.inside.of.value; slots = c.self.inside.slots.items } in
+    let low : c.args.number < length lanes.slots = omega arith in
+    taken-cleared lanes c.args.number c.take.new.self low c.take.ensures.after keys (subst (HaveCleared keys) (sym c.self.view_is) cleared)

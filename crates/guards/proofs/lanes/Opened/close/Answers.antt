@@ -3,7 +3,7 @@ use Rattle.std.proofs.Common.{ap, subst, arith}
 use Rattle.keybits.specs.declared.shape.Shape.{Shape}
 use Rattle.shardpool.specs.Tokens.{PoolOf}
 use Rattle.shardpool.specs.Closings.{AreLanes}
-use Rattle.guards.proofs.Slots.{same-pool}
+use Rattle.guards.proofs.Slots.{in-row-of, same-pool}
 use Rattle.guards.proofs.lanes.Opened.close.Goals as goal
 
 pub close-requires : goal.close-requires
@@ -19,6 +19,7 @@ returns-in-None-clause-closes g c =
       c.into_row.ensures.slots,
       c.close.ensures.closes,
       subst (λ (pool : PoolOf). AreLanes pool c.into_row.result.items) (same-pool opened.lanes.pool opened.pool opened.table opened.directory opened.shape) c.into_row.ensures.lanes,
+      in-row-of opened.lanes c.into_row.result.items c.into_row.ensures.slots,
     )
 
 pub returns-in-Some-clause-all : goal.returns-in-Some-clause-all

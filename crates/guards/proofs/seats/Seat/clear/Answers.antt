@@ -3,6 +3,7 @@ use Rattle.std.proofs.Common.{◌≡◌, true, subst}
 use Rattle.keybits.specs.Keys.{is_key}
 use Rattle.shardpool.specs.Tokens.{PoolOf}
 use Rattle.guards.specs.Seated.{Clears}
+use Rattle.poollaws.proofs.Clearing.{key-cleared}
 use Rattle.guards.proofs.Seating.{clear-goes, cleared-then}
 use Rattle.guards.proofs.seats.Seat.clear.Goals as goal
 
@@ -19,3 +20,6 @@ returns-clause-keeps g c = record { fillings = c.clear.ensures.fillings; held = 
 
 pub returns-clause-goes : goal.returns-clause-goes
 returns-clause-goes g c = clear-goes c.args.self.now.pool.now.shape c.args.key c.clear.result c.args.self.now.lane c.clear.new.lane c.clear.ensures.outside c.clear.ensures.clears
+
+pub returns-clause-key_cleared : goal.returns-clause-key_cleared
+returns-clause-key_cleared g c = key-cleared c.args.self.now.pool.now c.args.key c.args.self.now.lane c.clear.new.lane c.clear.result c.clear.ensures

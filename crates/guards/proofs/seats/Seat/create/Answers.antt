@@ -2,6 +2,7 @@
 use Rattle.std.proofs.Common.{◌∙◌, sym, subst}
 use Rattle.std.proofs.lemmas.Result.{IfOk-weaker}
 use Rattle.shardpool.specs.Lanes.{Owns}
+use Rattle.poollaws.proofs.Clearing.{create-none}
 use Rattle.guards.proofs.Seating.{created-goes}
 use Rattle.guards.proofs.seats.Seat.create.Goals as goal
 
@@ -38,3 +39,7 @@ returns-clause-number g c = (created-goes g.T.Clear.content g.T.Clear.room c.arg
 
 pub returns-clause-goes : goal.returns-clause-goes
 returns-clause-goes g c = (created-goes g.T.Clear.content g.T.Clear.room c.args.self.now.lane c.create.new.lane c.create.result c.create.ensures.gives c.create.ensures.none).1
+
+pub returns-clause-none_cleared : goal.returns-clause-none_cleared
+returns-clause-none_cleared g c =
+    create-none g.T.Clear.content g.T.Clear.room c.args.self.now.pool.now c.args.self.now.lane c.create.new.lane c.create.result c.create.ensures

@@ -1,5 +1,6 @@
 -- What the lane saw that told begins what the lane sees after the hear.
 use Rattle.shardpool.proofs.frame.Standing.{published-later}
+use Rattle.poollaws.proofs.Clearing.{looked-none}
 use Rattle.guards.proofs.Seating.{goes-on}
 use Rattle.guards.proofs.seats.Seat.hear.Goals as goal
 
@@ -15,3 +16,6 @@ returns-clause-keeps g c = record { fillings = c.hear.ensures.fillings; held = c
 
 pub returns-clause-goes : goal.returns-clause-goes
 returns-clause-goes g c = goes-on c.hear.ensures.goes.goes
+
+pub returns-clause-none_cleared : goal.returns-clause-none_cleared
+returns-clause-none_cleared g c = looked-none c.args.self.now.lane c.hear.new.lane c.hear.ensures.goes

@@ -3,6 +3,7 @@ use Rattle.std.proofs.Common.{◌∙◌, false, sym, subst, arith}
 use Rattle.steplaws.specs.Calls.Call.{Publishing}
 use Rattle.shardpool.specs.Tokens.{PoolOf}
 use Rattle.shardpool.specs.Lanes.{Owns, Calls}
+use Rattle.poollaws.proofs.Clearing.{publish-none}
 use Rattle.poollaws.proofs.Kept.{first-room}
 use Rattle.guards.proofs.Seating.{goes-on}
 use Rattle.guards.proofs.seats.Seat.publish.Goals as goal
@@ -41,3 +42,7 @@ returns-clause-goes g c = goes-on c.publish-key.ensures.publishes.goes
 
 pub returns-clause-number : goal.returns-clause-number
 returns-clause-number g c = c.publish-key.ensures.publishes.same.2
+
+pub returns-clause-none_cleared : goal.returns-clause-none_cleared
+returns-clause-none_cleared g c =
+    publish-none g.T.Clear.content g.T.Clear.room c.args.self.now.pool.now c.args.filling false c.args.self.now.lane c.publish-key.new.lane c.publish-key.ensures.publishing

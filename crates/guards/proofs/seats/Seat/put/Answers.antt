@@ -56,3 +56,8 @@ pub returns-then-is_err-clause-memory : goal.returns-then-is_err-clause-memory
 returns-then-is_err-clause-memory g c = λ err.
     let refused = on-err c.write.result _ (c.if-is_err.ensures.value) c.write.ensures.err in
     inr (c.in_ok-filling.filling, c.in_ok-filling.ensures.gives, subst (g.C.Contents.may_refuse c.args.contents.now) c.value_mut.ensures.object refused)
+
+-- ---- nothing is cleared
+
+pub returns-clause-none_cleared : goal.returns-clause-none_cleared
+returns-clause-none_cleared g c = c.publish.ensures.none_cleared ∙ c.create.ensures.none_cleared

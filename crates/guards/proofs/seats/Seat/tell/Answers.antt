@@ -3,6 +3,7 @@ use Rattle.std.proofs.Common.{◌∙◌, sym, ap, subst}
 use Rattle.shardpool.specs.Tokens.{LaneOf}
 use Rattle.shardpool.specs.Lanes.{holds, refs}
 use Rattle.poollaws.specs.Words.{IsPublished}
+use Rattle.poollaws.specs.Cleared.{cleared_by}
 use Rattle.guards.specs.Seated.{content_in}
 use Rattle.guards.proofs.Seating.{told-content, same-content, tells-on}
 use Rattle.guards.proofs.seats.Seat.tell.Goals as goal
@@ -39,3 +40,6 @@ returns-clause-number g c = ap (λ (lane : LaneOf). lane.number) c.tell-note.ens
 
 pub returns-clause-goes : goal.returns-clause-goes
 returns-clause-goes g c = tells-on c.tell-note.ensures.lane
+
+pub returns-clause-none_cleared : goal.returns-clause-none_cleared
+returns-clause-none_cleared g c = ap cleared_by c.tell-note.ensures.lane
