@@ -1,45 +1,51 @@
--- What the collector holds.
-use Rattle.std.specs.Prelude.{◌≡◌, ℕ, List, [], All, map, slice_index_or}
-use Rattle.seqpool.specs.Pool.{NoRepeats, IsLegal}
-use Rattle.shardpool.specs.Tokens.{PoolOf, LaneOf}
-use Rattle.shardpool.specs.Lanes.{Owns}
-use Rattle.shardpool.specs.Loans.{IsLent}
+-- What the collector holds, and what threads read of it.
+use Rattle.std.specs.Prelude.{◌≡◌, ℕ, List, All, map, Some, slice_index_or}
+use Rattle.seqpool.specs.declared.act.Act.{Act}
+use Rattle.poolsteps.specs.Share.{Share}
 use Rattle.lendings.specs.Owners.{OwnedOf}
 use Rattle.poollaws.specs.Words.{IsPublished}
 use Rattle.relaysample.specs.declared.rows.Row.{Row}
 use Rattle.relaysample.specs.declared.lines.Line.{Line}
 use Rattle.relaysample.specs.declared.lines.Entry.{Entry}
-use Rattle.relaysample.specs.Lines.{numbers_of, content_of}
-use Rattle.relaysample.specs.Cleared.{cleared_by}
+use Rattle.relaysample.specs.Lines.{numbers_of, content_of, IsLine}
 
--- the keys of references
+-- the keys of references, and of rows
 abbrev pub held_keys : List (OwnedOf Entry) → List ℕ
 held_keys held = map (λ owned. owned.loan.key) held
 
--- the lane lends what the reference owns, which shows a line
-pub record IsHeld (lane : LaneOf) (owned : OwnedOf Entry) : Type 0 where
-  pub lent : IsLent content_of (λ entry. 0) lane owned.loan
-  pub line : Line
-  pub shows : content_of lent.share.object ≡ numbers_of line
+abbrev pub keys_of : List Row → List ℕ
+keys_of rows = map (λ row. row.key) rows
 
-abbrev pub AreHeld : LaneOf → List (OwnedOf Entry) → Type 0
-AreHeld lane held = All (IsHeld lane) held
+-- the reference shows a line that is published under its key
+pub record IsShown (history : List Act) (owned : OwnedOf Entry) : Type 0 where
+  pub share : Share Entry
+  pub share_is : owned.loan.share ≡ Some share
+  pub line : IsLine (content_of share.object)
+  pub published : IsPublished history owned.loan.key (content_of share.object)
 
--- the row is what the reference shows: its key, and a line that was published under it, as the lane saw that lends it
+abbrev pub AreShown : List Act → List (OwnedOf Entry) → Type 0
+AreShown history held = All (IsShown history) held
+
+-- the row's line is published under its key
+abbrev pub IsRead : List Act → Row → Type 0
+IsRead history row = IsPublished history row.key (numbers_of row.line)
+
+abbrev pub AreRead : List Act → List Row → Type 0
+AreRead history rows = All (IsRead history) rows
+
+-- the row is what the reference shows: its key, and its line
 pub record Shows (owned : OwnedOf Entry) (row : Row) : Type 0 where
   pub key : row.key ≡ owned.loan.key
-  pub line : (lane : LaneOf) → IsHeld lane owned → IsPublished lane.book.seen row.key (numbers_of row.line)
+  pub line : (history : List Act) → IsShown history owned → IsRead history row
 
 abbrev pub ShowsAt : List (OwnedOf Entry) → ℕ → Row → Type 0
 ShowsAt held index row = (owned : OwnedOf Entry) → Shows (slice_index_or held index owned) row
 
--- the collector's two lanes are the pool's, of which the first lends what is held, each key of it once, and cleared nothing; the second cleared
--- just these keys
-pub record Holds (pool : PoolOf) (lender lane : LaneOf) (held : List (OwnedOf Entry)) : Type 0 where
-  pub lends : Owns pool lender
-  pub legal : IsLegal pool.shape lender.book.seen
-  pub quiet : cleared_by lender ≡ []
-  pub shown : AreHeld lender held
-  pub once : NoRepeats (held_keys held)
-  pub owned : Owns pool lane
-  pub cleared : cleared_by lane ≡ held_keys held
+-- a row that is read under the key of a line that was published has just that line
+abbrev pub ReadsOneLine : List Act → Type 0
+ReadsOneLine history = (row : Row) (line : Line) → IsRead history row → IsPublished history row.key (numbers_of line) → row.line ≡ line
+
+-- the rows are what is held, in its order
+pub record AreRowsOf (history : List Act) (held : List (OwnedOf Entry)) (rows : List Row) : Type 0 where
+  pub keys : keys_of rows ≡ held_keys held
+  pub read : AreRead history rows

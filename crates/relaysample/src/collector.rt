@@ -1,25 +1,22 @@
 //! The collector: it owns what was logged, clears its keys, and has it read without a lane.
-ghost use Rattle.std.specs.Prelude.{◌≡◌, ◌<◌, ◌++◌, ◌∷◌, ℕ, List, [], length, map, take, IfOk, IfSome, IsErr};
+ghost use Rattle.std.specs.Prelude.{◌≡◌, ◌<◌, ◌++◌, ◌∷◌, List, [], length, IfOk, OnOk, IfSome, IsErr};
 ghost use Rattle.std.specs.Vec.{vec_len, vec_capacity};
 ghost use mathlib.Core.List.{IsPrefix};
-ghost use Rattle.shardpool.specs.Tokens.{LaneOf};
-ghost use Rattle.shardpool.specs.Lanes.{Owns};
-ghost use Rattle.relaysample.specs.declared.lines.Line.{Line as Logged};
-ghost use Rattle.relaysample.specs.Logged.{AreLogged, IsLine, AreLines, AreRead};
-ghost use Rattle.relaysample.specs.Cleared.{cleared_by};
-ghost use Rattle.relaysample.specs.Held.{held_keys, IsHeld, AreHeld, Holds, Shows, ShowsAt};
-ghost use Rattle.relaysample.specs.Settled.{keys_of};
+ghost use Rattle.seqpool.specs.declared.act.Act.{Act};
+ghost use Rattle.shardpool.specs.Lanes.{Owns, refs};
+ghost use Rattle.poollaws.specs.Words.{IsPublished};
+ghost use Rattle.poollaws.specs.Cleared.{cleared_by};
+ghost use Rattle.relaysample.specs.Held.{held_keys, IsShown, AreShown, Shows, ShowsAt, ReadsOneLine, AreRowsOf};
 
-use crate::batches::Batch;
-use crate::lines::Entry;
+use crate::lines::{Entry, numbers_law};
+use crate::logged::Logged;
 use crate::rows::Row;
-use guards::PoolName;
+use guards::{PoolName, Seat};
 use lendings::{Lender, Owned, Refusal};
-use poollaws::{going_law, gone_law};
+use poollaws::going_law;
 use seqpool::once_law;
 use shardpool::{Lane, Pool};
 use std::alloc::{AllocError, Global};
-use std::marker::PhantomData;
 use std::thread;
 use std::thread::Threads;
 
@@ -37,10 +34,12 @@ pub enum Unheld {
 pub struct Collector<'p, N: PoolName> {
     pool: &'p Pool<Entry>,
     pub lender: Lender<Entry>,
-    pub lane: Lane<Entry>,
+    clearer: Seat<'p, N, Entry>,
     pub held: Vec<Owned<Entry>>,
-    of: PhantomData<N>,
     ghost pool_is: { pool.now ≡ N.pool },
+    ghost lends: { Owns N.pool lender.lane },
+    ghost quiet: { cleared_by lender.lane ≡ [] },
+    ghost cleared: { cleared_by clearer.lane ≡ held_keys held.items },
 }
 
 impl<'p, N: PoolName> Collector<'p, N> {
@@ -49,90 +48,69 @@ impl<'p, N: PoolName> Collector<'p, N> {
         alloc: Global,
         pool: &'p Pool<Entry>,
         lender: Lender<Entry>,
-        lane: Lane<Entry>,
+        clearing: Lane<Entry>,
     ) -> Collector<'p, N>
         requires pool { pool.now ≡ N.pool }
-        requires holds { Holds N.pool lender.lane lane [] }
-        ensures holds { Holds N.pool result.lender.lane result.lane result.held.items }
-        ensures nothing { result.held.items ≡ [] }
+        requires lends { Owns N.pool lender.lane × (cleared_by lender.lane ≡ []) }
+        requires clears { Owns N.pool clearing × (refs clearing ≡ 0) × (cleared_by clearing ≡ []) }
+        ensures { (result.held.items ≡ []) × AreShown result.lender.lane.book.seen result.held.items }
     {
         Collector {
             pool,
             lender,
-            lane,
+            clearer: Seat::new(pool, clearing),
             held: Vec::new(alloc),
-            of: PhantomData,
         }
     }
 
-    /// Collects a batch: holds each of its lines, whose keys nobody finds from then on.
+    /// Holds a line that was logged, whose key nobody finds from then on.
     ///
     /// # Errors
     ///
-    /// Why a line isn't held. Those before it are.
-    pub fn collect(&mut self, batch: Batch<N>) -> Result<(), Unheld>
-        requires holds { Holds N.pool self.old.lender.lane self.old.lane self.old.held.items }
-        ensures holds { Holds N.pool self.new.lender.lane self.new.lane self.new.held.items }
-        ensures all { IfOk result (λ _. held_keys self.new.held.items ≡ held_keys self.old.held.items ++ batch.keys) }
-        ensures some { (count : ℕ) × (held_keys self.new.held.items ≡ held_keys self.old.held.items ++ take count batch.keys) }
-        ensures heard { IsPrefix batch.seen self.new.lender.lane.book.seen }
-    {
-        going_law();
-        let (keys, note) = batch.into_parts();
-        self.lender.hear(self.pool, note);
-        self.hold_all(keys.as_slice())
-    }
-
-    /// Holds the lines of these keys, in their order.
-    fn hold_all(&mut self, keys: &[u64]) -> Result<(), Unheld>
-        requires holds { Holds N.pool self.old.lender.lane self.old.lane self.old.held.items }
-        requires lines { AreLines self.old.lender.lane.book.seen keys.now }
-        ensures holds { Holds N.pool self.new.lender.lane self.new.lane self.new.held.items }
-        ensures all { IfOk result (λ _. held_keys self.new.held.items ≡ held_keys self.old.held.items ++ keys.now) }
-        ensures some { (count : ℕ) × (held_keys self.new.held.items ≡ held_keys self.old.held.items ++ take count keys.now) }
-        ensures goes { IsPrefix self.old.lender.lane.book.seen self.new.lender.lane.book.seen }
-    {
-        going_law();
-        for key in keys {
-            self.hold(*key)?;
-        }
-        Ok(())
-    }
-
-    /// Holds the line of a key, if it is this call that clears it.
-    fn hold(&mut self, key: u64) -> Result<(), Unheld>
-        requires holds { Holds N.pool self.old.lender.lane self.old.lane self.old.held.items }
-        requires line { IsLine self.old.lender.lane.book.seen key }
-        ensures holds { Holds N.pool self.new.lender.lane self.new.lane self.new.held.items }
-        ensures ok { IfOk result (λ _. held_keys self.new.held.items ≡ held_keys self.old.held.items ++ key ∷ []) }
+    /// Why it isn't held.
+    pub fn collect(&mut self, logged: Logged<N>) -> Result<(), Unheld>
+        requires shown { AreShown self.old.lender.lane.book.seen self.old.held.items }
+        ensures shown { AreShown self.new.lender.lane.book.seen self.new.held.items }
+        ensures ok { OnOk result (held_keys self.new.held.items ≡ held_keys self.old.held.items ++ logged.told.key ∷ []) }
+        ensures heard { OnOk result (IsPublished self.new.lender.lane.book.seen logged.told.key logged.told.content) }
         ensures err { IsErr result → self.new.held.items ≡ self.old.held.items }
-        ensures goes { IsPrefix self.old.lender.lane.book.seen self.new.lender.lane.book.seen }
     {
-        going_law();
-        once_law();
         if self.held.reserve(1).is_err() {
             return Err(Unheld::Refused(Refusal::Memory));
         }
-        match self.lender.own(self.pool, key) {
-            Ok(Some(owned)) => self.hold_if_first(owned),
+        match self.own(logged) {
+            Ok(Some(owned)) => self.hold(owned),
             Ok(None) => Err(Unheld::Cleared),
             Err(refusal) => Err(Unheld::Refused(refusal)),
         }
     }
 
+    /// A reference to a line that was logged.
+    fn own(&mut self, logged: Logged<N>) -> Result<Option<Owned<Entry>>, Refusal>
+        requires shown { AreShown self.old.lender.lane.book.seen self.old.held.items }
+        ensures shown { AreShown self.new.lender.lane.book.seen self.new.held.items }
+        ensures held { self.new.held ≡ self.old.held }
+        ensures heard { IsPublished self.new.lender.lane.book.seen logged.told.key logged.told.content }
+        ensures one { IfOk result (λ found. IfSome found (λ owned. (owned.loan.key ≡ logged.told.key)
+            × IsShown self.new.lender.lane.book.seen owned)) }
+    {
+        going_law();
+        let (key, note) = logged.told.into_parts();
+        self.lender.hear(self.pool, note);
+        self.lender.own(self.pool, key)
+    }
+
     /// Clears the key of a line, and holds the reference to it if no other cleared it before.
-    fn hold_if_first(&mut self, owned: Owned<Entry>) -> Result<(), Unheld>
-        requires holds { Holds N.pool self.old.lender.lane self.old.lane self.old.held.items }
-        requires held { IsHeld self.old.lender.lane owned }
+    fn hold(&mut self, owned: Owned<Entry>) -> Result<(), Unheld>
+        requires shown { AreShown self.old.lender.lane.book.seen self.old.held.items }
+        requires one { IsShown self.old.lender.lane.book.seen owned }
         requires room { vec_len self.old.held < vec_capacity self.old.held }
-        ensures holds { Holds N.pool self.new.lender.lane self.new.lane self.new.held.items }
-        ensures ok { IfOk result (λ _. self.new.held.items ≡ self.old.held.items ++ owned ∷ []) }
+        ensures shown { AreShown self.new.lender.lane.book.seen self.new.held.items }
+        ensures ok { OnOk result (self.new.held.items ≡ self.old.held.items ++ owned ∷ []) }
         ensures err { IsErr result → self.new.held.items ≡ self.old.held.items }
         ensures lender { self.new.lender ≡ self.old.lender }
     {
-        gone_law();
-        self.lane.seen_law();
-        if self.pool.clear(&mut self.lane, owned.key()) {
+        if self.clearer.clear(owned.key()) {
             self.held.push_reserved(owned);
             Ok(())
         } else {
@@ -146,38 +124,37 @@ impl<'p, N: PoolName> Collector<'p, N> {
     ///
     /// Where memory was refused for the rows.
     pub fn rows<R: Threads + Sync>(&self, rt: &R, alloc: Global) -> Result<Vec<Row>, AllocError>
-        requires holds { Holds N.pool self.now.lender.lane self.now.lane self.now.held.items }
-        ensures keys { IfOk result (λ rows. keys_of rows.items ≡ held_keys self.now.held.items) }
-        ensures read { IfOk result (λ rows. AreRead self.now.lender.lane.book.seen rows.items) }
-        ensures lines { IfOk result (λ rows. (lines : List Logged)
-            → AreLogged self.now.lender.lane.book.seen (held_keys self.now.held.items) lines → map (λ row. row.line) rows.items ≡ lines) }
+        requires { AreShown self.now.lender.lane.book.seen self.now.held.items }
+        ensures rows { IfOk result (λ rows. AreRowsOf self.now.lender.lane.book.seen self.now.held.items rows.items) }
+        ensures only { OnOk result (ReadsOneLine self.now.lender.lane.book.seen) }
     {
         once_law();
+        numbers_law();
+        self.lender.seen_law();
         let held = self.held.as_slice();
         let look = move |index: usize| -> Row
-            requires { (index < length held.now) × ((lane : LaneOf) × AreHeld lane held.now) }
+            requires { (index < length held.now) × ((history : List Act) × AreShown history held.now) }
             ensures { ShowsAt held.entry.now index result }
         { row_at(held, index) };
-        thread::map_indices(rt, alloc, held.len(), &look)
+        let rows = thread::map_indices(rt, alloc, held.len(), &look)?;
+        Ok(rows)
     }
 
     /// Lets go of what is held, and gives both lanes back: first that which lent. None where a reference is left.
     pub fn into_lanes(self) -> Option<(Lane<Entry>, Lane<Entry>)>
-        requires holds { Holds N.pool self.lender.lane self.lane self.held.items }
-        ensures lending { IfSome result (λ lanes. Owns N.pool lanes.0 × (cleared_by lanes.0 ≡ [])
+        ensures lent { IfSome result (λ lanes. Owns N.pool lanes.0 × (cleared_by lanes.0 ≡ [])
             × IsPrefix self.entry.lender.lane.book.seen lanes.0.book.seen) }
-        ensures clearing { IfSome result (λ lanes. lanes.1 ≡ self.entry.lane) }
+        ensures cleared { IfSome result (λ lanes. Owns N.pool lanes.1 × (cleared_by lanes.1 ≡ held_keys self.entry.held.items)) }
     {
         let Collector {
             pool,
             lender,
-            lane,
+            clearer,
             held,
-            of: _,
         } = self;
         drop(held);
         match lender.close(pool) {
-            Ok(lending) => Some((lending, lane)),
+            Ok(lending) => Some((lending, clearer.into_lane())),
             Err(_) => None,
         }
     }
@@ -186,7 +163,7 @@ impl<'p, N: PoolName> Collector<'p, N> {
 /// What the reference here shows, to any thread.
 fn row_at(held: &[Owned<Entry>], index: usize) -> Row
     requires index { index < length held.now }
-    requires held { (lane : LaneOf) × AreHeld lane held.now }
+    requires shown { (history : List Act) × AreShown history held.now }
     ensures { ShowsAt held.now index result }
 {
     row_of(&held[index])
@@ -194,7 +171,7 @@ fn row_at(held: &[Owned<Entry>], index: usize) -> Row
 
 /// What a reference shows, to any thread.
 fn row_of(owned: &Owned<Entry>) -> Row
-    requires held { (lane : LaneOf) × IsHeld lane owned.now }
+    requires { (history : List Act) × IsShown history owned.now }
     ensures { Shows owned.now result }
 {
     match owned.read().line() {

@@ -1,8 +1,10 @@
 //! Objects of one's own: entries of a log, each with a line.
 ghost use Rattle.std.specs.Prelude.{◌≡◌, Some};
+ghost use Rattle.relaysample.specs.declared.lines.Line.{Line as Logged};
 ghost use Rattle.relaysample.specs.Lines.{numbers_of, content_of};
 
-use slotcell::Clear;
+use guards::Contents;
+use slotcell::{Clear, Memory};
 use std::alloc::Global;
 
 /// A line of the log.
@@ -14,6 +16,11 @@ pub struct Line {
     pub number: u32,
     pub millis: u32,
 }
+
+/// As a law: lines of the same numbers are one.
+pub fn numbers_law()
+    ensures { (one other : Logged) → numbers_of one ≡ numbers_of other → one ≡ other }
+{}
 
 /// What the pool keeps of the log: a line, or none.
 #[derive(Drop)]
@@ -41,17 +48,19 @@ impl Clear for Entry {
     }
 }
 
-impl Entry {
-    /// Writes a line.
-    pub fn write(&mut self, line: Line)
-        ensures { content_of self.new ≡ numbers_of line }
-    {
-        self.line = Some(line);
-    }
+impl Contents<Entry> for Line {
+    ghost content = { numbers_of };
 
+    fn write(&self, object: &mut Entry) -> Result<(), Memory> {
+        object.line = Some(*self);
+        Ok(())
+    }
+}
+
+impl Entry {
     /// The line. None where the entry is empty.
     pub fn line(&self) -> Option<Line>
-        ensures { (line : Line) → content_of self.now ≡ numbers_of line → result ≡ Some line }
+        ensures { result ≡ self.now.line }
     {
         self.line
     }

@@ -3,18 +3,18 @@
 //! contract of `serve`.
 #![tactic(auto)]
 
-ghost use Rattle.std.specs.Prelude.{◌≡◌, ℕ, IfOk, List, [], map, Some};
+ghost use Rattle.std.specs.Prelude.{◌≡◌, IfOk, List, []};
 ghost use Rattle.shardpool.specs.Tokens.{PoolOf, LaneOf};
 ghost use Rattle.shardpool.specs.Lanes.{Owns, refs};
-ghost use Rattle.guards.specs.Here.{lane_at, HoldNothing};
-ghost use Rattle.relaysample.specs.Cleared.{cleared_by, AreAmong, HaveCleared};
-ghost use Rattle.relaysample.specs.Held.{Holds};
+ghost use Rattle.poollaws.specs.Cleared.{cleared_by};
+ghost use Rattle.guards.specs.Here.{HoldNothing, HaveCleared};
+ghost use Rattle.relaysample.specs.Held.{AreShown};
 ghost use Rattle.relaysample.specs.Settled.{AreCollected, IsSettled};
 
-mod batches;
 mod collector;
 mod desks;
 mod lines;
+mod logged;
 mod relay;
 mod rows;
 
@@ -28,7 +28,7 @@ use crossbeam_channel::Receiver;
 use guards::{Lanes, Missing, Opened, PoolName, open_lanes};
 use keybits::Shape;
 use lendings::Lender;
-use poollaws::{close_law, going_law};
+use poollaws::{cleared_law, close_law, going_law};
 use shardpool::{Census, Lane, Pool};
 use std::alloc::Global;
 use std::marker::Brand;
@@ -57,30 +57,17 @@ struct Outcome {
 /// Takes a lane that is here. It has no reference and cleared nothing.
 fn take_lane(lanes: &mut Lanes<Entry>, number: u32) -> anyhow::Result<Lane<Entry>>
     requires nothing { HoldNothing lanes.old }
-    requires cleared { HaveCleared lanes.old [] }
+    requires cleared { HaveCleared [] lanes.old }
     ensures owns { IfOk result (λ lane. Owns lanes.old.pool lane) }
     ensures none { IfOk result (λ lane. (refs lane ≡ 0) × (cleared_by lane ≡ [])) }
     ensures pool { lanes.new.pool ≡ lanes.old.pool }
     ensures nothing { HoldNothing lanes.new }
-    ensures cleared { HaveCleared lanes.new [] }
+    ensures cleared { HaveCleared [] lanes.new }
 {
     match lanes.take(number) {
-        Some(lane) => {
-            lane.seen_law();
-            Ok(lane)
-        }
+        Some(lane) => Ok(lane),
         None => Err(anyhow!("lane {number} is missing")),
     }
-}
-
-/// Gives a lane back, which cleared none but these keys.
-fn give_lane(lanes: &mut Lanes<Entry>, lane: Lane<Entry>)
-    requires owns { Owns lanes.old.pool lane }
-    ensures pool { lanes.new.pool ≡ lanes.old.pool }
-    ensures here { lane_at lanes.new lane.number ≡ Some lane }
-    ensures cleared { (keys : List ℕ) → HaveCleared lanes.old keys → AreAmong (cleared_by lane) keys → HaveCleared lanes.new keys }
-{
-    lanes.give(lane);
 }
 
 /// The collector, with two lanes of the pool.
@@ -91,14 +78,13 @@ fn collector_of<'p, N: PoolName>(
 ) -> anyhow::Result<Collector<'p, N>>
     requires pool { (pool.now ≡ N.pool) × (lanes.old.pool ≡ N.pool) }
     requires nothing { HoldNothing lanes.old }
-    requires cleared { HaveCleared lanes.old [] }
+    requires cleared { HaveCleared [] lanes.old }
     ensures pool { lanes.new.pool ≡ lanes.old.pool }
     ensures nothing { HoldNothing lanes.new }
-    ensures cleared { HaveCleared lanes.new [] }
-    ensures holds { IfOk result (λ c. Holds N.pool c.lender.lane c.lane c.held.items) }
+    ensures cleared { HaveCleared [] lanes.new }
+    ensures shown { IfOk result (λ collector. AreShown collector.lender.lane.book.seen collector.held.items) }
 {
     let lending = take_lane(lanes, DESKS)?;
-    lending.seen_law();
     let clearing = take_lane(lanes, DESKS + 1)?;
     match Lender::of(alloc, lending) {
         Ok(lender) => Ok(Collector::new(alloc, pool, lender, clearing)),
@@ -115,10 +101,10 @@ fn add_desks<'p, N: PoolName, R: Wait>(
 ) -> anyhow::Result<()>
     requires pool { (pool.now ≡ N.pool) × (lanes.old.pool ≡ N.pool) }
     requires nothing { HoldNothing lanes.old }
-    requires cleared { HaveCleared lanes.old [] }
+    requires cleared { HaveCleared [] lanes.old }
     ensures pool { lanes.new.pool ≡ lanes.old.pool }
     ensures nothing { HoldNothing lanes.new }
-    ensures cleared { HaveCleared lanes.new [] }
+    ensures cleared { HaveCleared [] lanes.new }
 {
     for number in 0..DESKS {
         relay.add(rt, Desk::new(pool, take_lane(lanes, number)?));
@@ -133,15 +119,15 @@ fn give_desks<N: PoolName, R: Wait>(
     free: Receiver<Desk<'_, N>, Global>,
 )
     requires pool { lanes.old.pool ≡ N.pool }
-    requires cleared { HaveCleared lanes.old [] }
+    requires cleared { HaveCleared [] lanes.old }
     ensures pool { lanes.new.pool ≡ lanes.old.pool }
-    ensures cleared { HaveCleared lanes.new [] }
+    ensures cleared { HaveCleared [] lanes.new }
 {
     for _ in rt.forever() {
         let Ok(desk) = free.recv(rt) else {
             break;
         };
-        give_lane(lanes, desk.into_lane());
+        lanes.give(desk.into_lane());
     }
 }
 
@@ -157,18 +143,20 @@ fn give_collector<N: PoolName, R: Threads + Sync>(
     collector: Collector<'_, N>,
 ) -> anyhow::Result<Vec<Row>>
     requires pool { lanes.old.pool ≡ N.pool }
-    requires cleared { HaveCleared lanes.old [] }
-    requires holds { Holds N.pool collector.lender.lane collector.lane collector.held.items }
+    requires cleared { HaveCleared [] lanes.old }
+    requires shown { AreShown collector.lender.lane.book.seen collector.held.items }
     ensures pool { lanes.new.pool ≡ lanes.old.pool }
     ensures collected { IfOk result (λ rows. AreCollected lanes.new rows.items) }
 {
     going_law();
+    cleared_law::<Entry>();
     let rows = collector.rows(rt, alloc);
     let Some((lending, clearing)) = collector.into_lanes() else {
         return Err(anyhow!("a reference is left"));
     };
-    give_lane(lanes, clearing);
-    give_lane(lanes, lending);
+    clearing.seen_law();
+    lanes.give(clearing);
+    lanes.give(lending);
     match rows {
         Ok(rows) => Ok(rows),
         Err(refused) => Err(refused.into()),
@@ -188,13 +176,13 @@ fn run_all<N: PoolName + Send, R: Threads + Wait + Sync>(
 ) -> anyhow::Result<(Vec<Row>, Option<Trouble>)>
     requires pool { opened.old.pool ≡ N.pool }
     requires nothing { HoldNothing opened.old.lanes }
-    requires cleared { HaveCleared opened.old.lanes [] }
+    requires cleared { HaveCleared [] opened.old.lanes }
     ensures { IfOk result (λ r. AreCollected opened.new.lanes r.0.items) }
 {
     let relay = Relay::<N>::new(alloc)?;
     let collector = collector_of(alloc, &opened.pool, &mut opened.lanes)?;
     add_desks(rt, &opened.pool, &mut opened.lanes, &relay)?;
-    let ran = relay.run(rt, alloc, collector);
+    let ran = relay.run(rt, collector);
     give_desks(rt, &mut opened.lanes, ran.free);
     let rows = give_collector(rt, alloc, &mut opened.lanes, ran.collector)?;
     Ok((rows, ran.trouble))

@@ -1,11 +1,11 @@
 //! Threads that come and go: each has a desk for a while, logs its lines, and hands their keys on.
 ghost use Rattle.std.specs.Prelude.{◌≡◌, IfOk, vec_len};
-ghost use Rattle.relaysample.specs.Held.{Holds};
+ghost use Rattle.relaysample.specs.Held.{AreShown};
 
-use crate::batches::Batch;
 use crate::collector::{Collector, Unheld};
 use crate::desks::Desk;
 use crate::lines::Line;
+use crate::logged::Logged;
 use crossbeam_channel::{Receiver, Sender, bounded, unbounded};
 use guards::PoolName;
 use shardpool::CreateFault;
@@ -29,17 +29,12 @@ struct Turn<'p, N: PoolName> {
     thread: u32,
     free: Receiver<Desk<'p, N>, Global>,
     back: Sender<Desk<'p, N>, Global>,
-    to: Sender<Logged<N>, Global>,
+    to: Sender<Result<Logged<N>, CreateFault>, Global>,
 }
-
-/// What a thread hands on: its batch, and why it logged no more lines; or memory was refused, and it logged none.
-type Logged<N> = Result<(Batch<N>, Option<CreateFault>), AllocError>;
 
 /// Why a line wasn't relayed.
 #[derive(Clone, Copy, Debug)]
 pub enum Trouble {
-    /// Memory was refused to the thread that was to log it.
-    Memory,
     /// No place was given for it.
     NoPlace(CreateFault),
     /// The collector doesn't hold it.
@@ -52,7 +47,7 @@ pub struct Relay<'p, N: PoolName> {
     free: Receiver<Desk<'p, N>, Global>,
     back: Sender<Desk<'p, N>, Global>,
     turns: Vec<Turn<'p, N>>,
-    from: Receiver<Logged<N>, Global>,
+    from: Receiver<Result<Logged<N>, CreateFault>, Global>,
 }
 
 /// What came of it, once all threads have ended.
@@ -99,16 +94,11 @@ impl<'p, N: PoolName> Relay<'p, N> {
     }
 
     /// Runs each turn in a thread of its own, and collects what they hand on.
-    pub fn run<R: Threads + Wait + Sync>(
-        self,
-        rt: &R,
-        alloc: Global,
-        collector: Collector<'p, N>,
-    ) -> Ran<'p, N>
+    pub fn run<R: Threads + Wait + Sync>(self, rt: &R, collector: Collector<'p, N>) -> Ran<'p, N>
     where
         N: Send,
-        requires holds { Holds N.pool collector.lender.lane collector.lane collector.held.items }
-        ensures holds { Holds N.pool result.collector.lender.lane result.collector.lane result.collector.held.items }
+        requires shown { AreShown collector.lender.lane.book.seen collector.held.items }
+        ensures shown { AreShown result.collector.lender.lane.book.seen result.collector.held.items }
     {
         let Relay {
             free,
@@ -121,11 +111,11 @@ impl<'p, N: PoolName> Relay<'p, N> {
             thread::scope_env(),
             rt,
             move |scope| -> (Collector<'_, N>, Option<Trouble>)
-                requires holds { Holds N.pool collector.lender.lane collector.lane collector.held.items }
-                ensures holds { Holds N.pool result.0.lender.lane result.0.lane result.0.held.items }
+                requires shown { AreShown collector.lender.lane.book.seen collector.held.items }
+                ensures shown { AreShown result.0.lender.lane.book.seen result.0.held.items }
             {
                 for turn in turns {
-                    let run = move || take_turn(rt, alloc, turn);
+                    let run = move || take_turn(rt, turn);
                     if let Err(refused) = scope.spawn(run) {
                         (refused.value)();
                     }
@@ -141,37 +131,30 @@ impl<'p, N: PoolName> Relay<'p, N> {
     }
 }
 
-/// Logs the lines of a thread.
-fn log_lines<N: PoolName>(alloc: Global, desk: &mut Desk<'_, N>, thread: u32) -> Logged<N> {
-    let mut lines = Vec::new(alloc);
-    for number in 0..LINES {
-        lines.push(Line {
-            thread,
-            number,
-            millis: number * 10,
-        })?;
-    }
-    desk.log(alloc, lines.as_slice())
-}
-
-/// Takes a desk that is free, logs the thread's lines, gives the desk back, and hands on what came of it.
-fn take_turn<N: PoolName, R: Wait>(rt: &R, alloc: Global, turn: Turn<'_, N>) {
+/// Takes a desk that is free, logs the thread's lines, hands on what came of each, and gives the desk back.
+fn take_turn<N: PoolName, R: Wait>(rt: &R, turn: Turn<'_, N>) {
     let Ok(mut desk) = turn.free.recv(rt) else {
         return;
     };
-    let logged = log_lines(alloc, &mut desk, turn.thread);
+    for number in 0..LINES {
+        let line = Line {
+            thread: turn.thread,
+            number,
+            millis: number * 10,
+        };
+        let _ = turn.to.send(rt, desk.log(line));
+    }
     let _ = turn.back.send(rt, desk);
-    let _ = turn.to.send(rt, logged);
 }
 
 /// Collects what is handed on until all threads have ended. Why a line wasn't relayed, if one wasn't.
 fn collect_all<'p, N: PoolName, R: Wait>(
     rt: &R,
     collector: Collector<'p, N>,
-    from: Receiver<Logged<N>, Global>,
+    from: Receiver<Result<Logged<N>, CreateFault>, Global>,
 ) -> (Collector<'p, N>, Option<Trouble>)
-    requires holds { Holds N.pool collector.lender.lane collector.lane collector.held.items }
-    ensures holds { Holds N.pool result.0.lender.lane result.0.lane result.0.held.items }
+    requires shown { AreShown collector.lender.lane.book.seen collector.held.items }
+    ensures shown { AreShown result.0.lender.lane.book.seen result.0.held.items }
 {
     let mut collector = collector;
     let mut trouble = None;
@@ -179,23 +162,23 @@ fn collect_all<'p, N: PoolName, R: Wait>(
         let Ok(logged) = from.recv(rt) else {
             break;
         };
-        if let Some(why) = collect_one(&mut collector, logged) {
+        if let Err(why) = collect_one(&mut collector, logged) {
             trouble = Some(why);
         }
     }
     (collector, trouble)
 }
 
-/// Collects what a thread handed on. Why a line of it wasn't relayed, if one wasn't.
-fn collect_one<N: PoolName>(collector: &mut Collector<'_, N>, logged: Logged<N>) -> Option<Trouble>
-    requires holds { Holds N.pool collector.old.lender.lane collector.old.lane collector.old.held.items }
-    ensures holds { Holds N.pool collector.new.lender.lane collector.new.lane collector.new.held.items }
+/// Collects a line that was logged.
+fn collect_one<N: PoolName>(
+    collector: &mut Collector<'_, N>,
+    logged: Result<Logged<N>, CreateFault>,
+) -> Result<(), Trouble>
+    requires shown { AreShown collector.old.lender.lane.book.seen collector.old.held.items }
+    ensures shown { AreShown collector.new.lender.lane.book.seen collector.new.held.items }
 {
-    let Ok((batch, stopped)) = logged else {
-        return Some(Trouble::Memory);
-    };
-    match collector.collect(batch) {
-        Ok(()) => stopped.map(|fault| Trouble::NoPlace(fault)),
-        Err(why) => Some(Trouble::Unheld(why)),
-    }
+    let logged = logged.map_err(|fault| Trouble::NoPlace(fault))?;
+    collector
+        .collect(logged)
+        .map_err(|why| Trouble::Unheld(why))
 }

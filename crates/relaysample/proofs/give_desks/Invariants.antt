@@ -1,7 +1,7 @@
 -- The lanes that are here are the pool's, and cleared nothing.
 use Rattle.std.proofs.Common.{◌≡◌, []}
-use Rattle.relaysample.specs.Cleared.{HaveCleared}
+use Rattle.guards.specs.Here.{HaveCleared}
 use Rattle.relaysample.proofs.give_desks.Given as goal
 
 abbrev pub invariant-loop : goal.invariant-loop
-invariant-loop g l = record { pool : l.lanes.pool ≡ l.fn.lanes.pool; cleared : HaveCleared l.lanes [] }
+invariant-loop g l = record { pool : l.lanes.pool ≡ l.fn.lanes.pool; cleared : HaveCleared [] l.lanes }

@@ -1,6 +1,6 @@
--- What is held is shown, and its keys alone are cleared.
-use Rattle.relaysample.specs.Held.{Holds}
+-- What is held is shown.
+use Rattle.relaysample.specs.Held.{AreShown}
 use Rattle.relaysample.proofs.relay.collect_all.Given as goal
 
 abbrev pub invariant-loop : goal.invariant-loop
-invariant-loop g l = Holds g.N.PoolName.pool l.collector.lender.lane l.collector.lane l.collector.held.items
+invariant-loop g l = AreShown l.collector.lender.lane.book.seen l.collector.held.items
