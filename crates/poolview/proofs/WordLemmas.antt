@@ -1,13 +1,13 @@
 -- Words that are written as lines are read.
-use Rattle.std.proofs.Common.{◌≡◌, ◌≢◌, ◌<◌, ◌⊎◌, inl, inr, ℕ, List, [], ◌∷◌, ◌++◌, Bool, true, false, Option, length, refl, sym, ap, subst, ◌∙◌, arith, flat_map}
+use Rattle.std.proofs.Common.{◌≡◌, ◌≢◌, ◌<◌, ◌+◌, ◌⊎◌, inl, inr, ℕ, List, [], ◌∷◌, ◌++◌, Bool, false, Option, length, refl, sym, ap, subst, arith, flat_map}
 use Rattle.std.proofs.KnownBytes.{Appends-nil, Appends-trans}
 use Rattle.std.proofs.lemmas.List.Concat.{flat_map-append}
 use Rattle.std.specs.Io.KnownBytes.{Appends}
 use Rattle.commandline.specs.declared.views.View.{View}
 use Rattle.commandline.specs.declared.views.View.TheVariants as views
 use Rattle.streams.specs.declared.writer.Watched.{Watched}
-use Rattle.traceviews.proofs.TraceTexts.{more-lines, read-all}
-use Rattle.traceviews.specs.Lines.{AreLines, BeginWith}
+use Rattle.traceviews.proofs.TraceTexts.{more-lines, read-all, wrong-behind, never-wrong}
+use Rattle.traceviews.specs.Lines.{AreLines, BeginWith, IsFirstWrong}
 use Rattle.traceviews.specs.Styles.{styled_words, lines_words}
 use Rattle.traceviews.specs.declared.line.Line.{Line}
 use Rattle.poolview.specs.Shows.{ShowsText, WritesFront, RefusesLine, RefusesText, Leaves}
@@ -53,18 +53,25 @@ pub all_written : {O : Type 0} (contents : O → Option (List ℕ)) (keys : Bool
 all_written contents keys rest bytes old new so_far none =
     (so_far.front, read-all so_far.front rest bytes so_far.begins (empty_left rest none), so_far.appended)
 
-pub front_written : {O : Type 0} (contents : O → Option (List ℕ)) (keys : Bool) (rest bytes : List ℕ) (old new : Watched O)
-    → IsWritten contents keys rest bytes old new → WritesFront contents keys bytes old new
-front_written contents keys rest bytes old new so_far =
-    record { front = so_far.front; rest = rest; begins = so_far.begins; appended = so_far.appended }
+-- memory was refused behind the first lines
+pub front_refused : {O : Type 0} (contents : O → Option (List ℕ)) (keys : Bool) (rest bytes : List ℕ) (old new : Watched O) (fault : Fault)
+    → IsWritten contents keys rest bytes old new → fault ≡ faults.Memory
+    → RefusesLine bytes fault × ((new ≡ old) ⊎ ((fault ≡ faults.Memory) × WritesFront contents keys bytes old new))
+front_refused contents keys rest bytes old new fault so_far is = (
+  subst (RefusesLine bytes) (sym is) tt,
+  inr (is, record { front = so_far.front; rest = rest; begins = so_far.begins; appended = so_far.appended }),
+)
+
+-- no line of the rest of a text that is lines is wrong
+pub rest_is_lines : {O : Type 0} (contents : O → Option (List ℕ)) (keys : Bool) (rest bytes : List ℕ) (old new : Watched O) (lines : List Line) (number : ℕ)
+    → IsWritten contents keys rest bytes old new → AreLines lines bytes → 0 < length rest → IsFirstWrong number rest → ⊥
+rest_is_lines contents keys rest bytes old new lines number so_far are some wrong =
+    never-wrong lines (length so_far.front + number) bytes are
+    (wrong-behind so_far.front rest bytes (length so_far.front) number so_far.begins refl (some_left rest some) wrong)
 
 -- a line's fault isn't that of the output
 pub line_not_output : (bytes : List ℕ) (fault : Fault) → RefusesLine bytes fault → fault ≡ faults.Output → ⊥
 line_not_output bytes fault refused is = subst (RefusesLine bytes) is refused
-
--- memory was refused while words were written
-pub memory_refuses : (bytes : List ℕ) (fault : Fault) → fault ≡ faults.Memory → RefusesLine bytes fault
-memory_refuses bytes fault is = subst (RefusesLine bytes) (sym is) tt
 
 -- words are shown
 pub words_shown : (path : List ℕ) (view : View) (keys : Bool) (bytes : List ℕ) (lines : List Line) → view ≡ views.Words keys false → AreLines lines bytes

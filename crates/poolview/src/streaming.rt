@@ -26,43 +26,11 @@ fn check_text(alloc: Global, bytes: &[u8]) -> Result<(), Fault>
     }
 }
 
-/// Writes the decoded lines of a trace's text, of which `LINES_HELD` are held at once. The errors: `Memory`, before which
-/// those of the first lines are written, and `Output` exactly where `out` failed.
-#[tactic(auto, using(crate::proofs::WordLemmas::none_written, crate::proofs::WordLemmas::more_written, crate::proofs::WordLemmas::all_written, crate::proofs::WordLemmas::front_written))]
-fn write_words<O: Write>(
-    alloc: Global,
-    keys: bool,
-    bytes: &[u8],
-    out: &mut Watched<O>,
-) -> Result<(), Fault>
-    requires { out.old.failed ≡ false }
-    ensures ok { OnOk result ((lines : List Line) × AreLines lines bytes.now
-        × Appends (O.contents out.old.inner) (O.contents out.new.inner) (lines_words keys false lines)) }
-    ensures output { IsErrOf result Fault.Output ↔ (out.new.failed ≡ true) }
-    ensures refused { IfErr result (λ fault. fault ≢ Fault.Output
-        → (fault ≡ Fault.Memory) × WritesFront O.contents keys bytes.now out.old out.new) }
-{
-    let mut rest = bytes;
-    while !rest.is_empty() {
-        // (no line is wrong where all were read before)
-        let Ok((lines, after)) = read_lines(alloc, rest, LINES_HELD) else {
-            return Err(Fault::Memory);
-        };
-        let style = WordStyle {
-            keys,
-            numbers: false,
-        };
-        let text = words_text(alloc, style, lines.as_slice())?;
-        write_and_flush(text.as_slice(), out)?;
-        rest = after;
-    }
-    Ok(())
-}
-
-/// Writes the decoded lines of a trace, by its text, where that is one. The errors: `Line` with its first line that is
-/// none, before the first byte; `Memory`, before which those of the first lines may have been written; and `Output`
-/// exactly where `out` failed.
-#[tactic(auto, using(crate::proofs::WordLemmas::line_not_output, crate::proofs::WordLemmas::memory_refuses))]
+/// Writes the decoded lines of a trace, by its text, where that is one: the whole text is read before the first byte, and
+/// as it is written once more, `LINES_HELD` lines at a time. The errors: `Line` with its first line that is none, before
+/// the first byte; `Memory`, before which those of the first lines may have been written; and `Output` exactly where `out`
+/// failed.
+#[tactic(auto, using(crate::proofs::WordLemmas::none_written, crate::proofs::WordLemmas::more_written, crate::proofs::WordLemmas::all_written, crate::proofs::WordLemmas::front_refused, crate::proofs::WordLemmas::line_not_output, crate::proofs::WordLemmas::rest_is_lines))]
 fn write_checked<O: Write>(
     alloc: Global,
     keys: bool,
@@ -78,7 +46,23 @@ fn write_checked<O: Write>(
         × ((out.new ≡ out.old) ⊎ ((fault ≡ Fault.Memory) × WritesFront O.contents keys bytes.now out.old out.new))) }
 {
     check_text(alloc, bytes)?;
-    write_words(alloc, keys, bytes, out)
+    let mut rest = bytes;
+    while !rest.is_empty() {
+        let (lines, after) = match read_lines(alloc, rest, LINES_HELD) {
+            Ok(read) => read,
+            Err(ReadFault::Memory) => return Err(Fault::Memory),
+            // The text is lines, and so is the rest of it.
+            Err(ReadFault::Line { .. }) => unreachable!(),
+        };
+        let style = WordStyle {
+            keys,
+            numbers: false,
+        };
+        let text = words_text(alloc, style, lines.as_slice())?;
+        write_and_flush(text.as_slice(), out)?;
+        rest = after;
+    }
+    Ok(())
 }
 
 /// Shows the decoded lines of a trace, by its text, as `write_checked` writes them.
