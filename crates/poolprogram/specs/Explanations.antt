@@ -1,10 +1,8 @@
 -- Why a task ended as it did, in words.
 use Rattle.std.specs.Prelude.{◌≡◌, ℕ, Bool, true, false, List, [], Option, Some, None, Result, Ok, Err, codes, string_bytes}
 use Rattle.commandline.specs.Tasks.{path_of}
-use Rattle.commandline.specs.declared.tasks.Stop.{Stop}
 use Rattle.commandline.specs.declared.tasks.Task.{Task}
 use Rattle.commandline.specs.declared.tasks.Task.TheVariants as tasks
-use Rattle.commandline.specs.declared.tasks.Turns.{Turns}
 use Rattle.streams.specs.Shown.{line_text}
 use Rattle.streams.specs.declared.reading.Unreadable.{Unreadable}
 use Rattle.streams.specs.declared.write_failed.Unwritable.{Unwritable}
@@ -13,39 +11,14 @@ use Rattle.shortening.specs.declared.fault.Unshortened.TheVariants as shortening
 use Rattle.explanations.specs.ActsTexts.{acts_explanation, ExplainsCheck}
 use Rattle.explanations.specs.Plain.{file_line, output_line, no_key_line}
 use Rattle.explanations.specs.ScriptTexts.{ExplainsScript}
-use Rattle.poolprogram.specs.HalfRuns.{ExplainsHalf}
-use Rattle.poolprogram.specs.Turns.{entries_for}
+use Rattle.poolprogram.specs.HalfRuns.{half_line}
 use Rattle.poolprogram.specs.declared.done.Done.{Done}
 use Rattle.poolprogram.specs.declared.done.Done.TheVariants.{Well, Badly, Early}
+use Rattle.poolprogram.specs.declared.done.Done.TheVariants as dones
 use Rattle.poolprogram.specs.declared.explanation.Subject.{Subject}
-use Rattle.poolprogram.specs.declared.explanation.Subject.TheVariants.{Replay, Path, Number}
+use Rattle.poolprogram.specs.declared.explanation.Subject.TheVariants.{Path, Number}
 use Rattle.poolprogram.specs.declared.run_fault.RunFault.{RunFault}
 use Rattle.poolprogram.specs.declared.run_fault.RunFault.TheVariants as runs
-
--- the turns are the same for any number of lanes, and so is the stop
-pub record AreSameTurns (asked : Turns) (until : Option Stop) (turns : Turns) (stop : Option Stop) : Type 0 where
-  pub entries : (lanes : ℕ) → entries_for lanes turns ≡ entries_for lanes asked
-  pub stop_is : stop ≡ until
-
--- a task is a replay over these turns, up to the stop
-abbrev pub IsReplayOver : Task → Turns → Option Stop → Type 0
-IsReplayOver (tasks.Replay file asked until acts) turns stop = AreSameTurns asked until turns stop
-IsReplayOver (tasks.Schedule file asked until) turns stop = ⊥
-IsReplayOver (tasks.Shorten file asked until word) turns stop = ⊥
-IsReplayOver (tasks.Check file) turns stop = ⊥
-IsReplayOver (tasks.Run file) turns stop = ⊥
-IsReplayOver (tasks.Key number) turns stop = ⊥
-IsReplayOver (tasks.Word word) turns stop = ⊥
-
--- a task is about the file at this path, and is no replay
-abbrev pub IsAboutFile : Task → List ℕ → Type 0
-IsAboutFile (tasks.Replay file turns stop acts) path = ⊥
-IsAboutFile (tasks.Schedule file turns stop) path = string_bytes file ≡ path
-IsAboutFile (tasks.Shorten file turns stop word) path = string_bytes file ≡ path
-IsAboutFile (tasks.Check file) path = string_bytes file ≡ path
-IsAboutFile (tasks.Run file) path = string_bytes file ≡ path
-IsAboutFile (tasks.Key number) path = ⊥
-IsAboutFile (tasks.Word word) path = ⊥
 
 -- the number that a task is about, where it is about one
 abbrev pub number_of_task : Task → Option ℕ
@@ -57,15 +30,13 @@ number_of_task (tasks.Run file) = None
 number_of_task (tasks.Key number) = Some number
 number_of_task (tasks.Word word) = Some word
 
--- a task is about this: a replay, another file, or a number
+-- a task is about this: a file, or a number
 abbrev pub IsSubjectOf : Task → Subject → Type 0
-IsSubjectOf task (Replay path turns stop) = (path_of task ≡ Some (string_bytes path)) × IsReplayOver task turns stop
-IsSubjectOf task (Path path) = IsAboutFile task (string_bytes path)
+IsSubjectOf task (Path path) = path_of task ≡ Some (string_bytes path)
 IsSubjectOf task (Number number) = number_of_task task ≡ Some number
 
 -- the text explains why a file wasn't read; it is empty for a task that is about none
 abbrev pub ExplainsUnread : Subject → Unreadable → List ℕ → Type 0
-ExplainsUnread (Replay path turns stop) why text = text ≡ file_line (string_bytes path) why
 ExplainsUnread (Path path) why text = text ≡ file_line (string_bytes path) why
 ExplainsUnread (Number number) why text = text ≡ []
 
@@ -96,20 +67,16 @@ ExplainsFault subject file why (runs.Shortening fault) text = text ≡ line_text
 ExplainsFault subject file why runs.Open text = text ≡ line_text (codes "memory was refused")
 ExplainsFault subject file why runs.Memory text = text ≡ line_text (codes "memory was refused")
 
--- the text explains how a task ended that is about this, where the output can't be written for this reason; of a replay that was done it
+-- the text explains how a task ended that is about this, where the output can't be written for this reason; of a replay that was made it
 -- tells what that left undone, and of a schedule that was shortened early that more can perhaps be left out
 abbrev pub Explains : Subject → List ℕ → Unwritable → Result Done RunFault → List ℕ → Type 0
 Explains subject file why (Err fault) text = ExplainsFault subject file why fault text
-Explains (Replay path turns stop) file why (Ok Well) text = ExplainsHalf file turns stop text
-Explains (Path path) file why (Ok Well) text = text ≡ []
-Explains (Number number) file why (Ok Well) text = text ≡ []
-Explains (Replay path turns stop) file why (Ok Badly) text = ExplainsCheck file text
+Explains subject file why (Ok Well) text = text ≡ []
+Explains subject file why (Ok (dones.Replayed made)) text = text ≡ half_line made
 Explains (Path path) file why (Ok Badly) text = ExplainsCheck file text
 Explains (Number number) file why (Ok Badly) text = text ≡ no_key_line number
 Explains subject file why (Ok Early) text = text ≡ line_text early_told
 
 -- there is nothing to explain: the task is no replay, and went well
-abbrev pub IsPlain : Subject → Result Done RunFault → Type 0
-IsPlain (Replay path turns stop) done = ⊥
-IsPlain (Path path) done = done ≡ Ok Well
-IsPlain (Number number) done = done ≡ Ok Well
+abbrev pub IsPlain : Result Done RunFault → Type 0
+IsPlain done = done ≡ Ok Well

@@ -26,7 +26,7 @@ use Rattle.poolprogram.specs.Reading.{IsFileOf, IsUnread}
 use Rattle.poolprogram.specs.Tasks.{WritesTask, RefusesTask, task_status, fault_line, report_text}
 use Rattle.poolprogram.specs.declared.done.Done.{Done}
 use Rattle.poolprogram.specs.declared.explanation.Subject.{Subject}
-use Rattle.poolprogram.specs.declared.explanation.Subject.TheVariants.{Replay, Path, Number}
+use Rattle.poolprogram.specs.declared.explanation.Subject.TheVariants.{Path, Number}
 use Rattle.poolprogram.specs.declared.listing.Unlisted.{Unlisted}
 use Rattle.poolprogram.specs.declared.listing.Unlisted.TheVariants.{Unread, Words}
 use Rattle.poolprogram.specs.declared.program.Ending.{Ending}
@@ -71,7 +71,7 @@ pub record ExplainsEnd (subject : Subject) (file : List ℕ) (reason : Unwritabl
 -- it does; or it is empty, as memory was refused for what there is to explain, and that is told
 abbrev pub IsWhy : Result Subject AllocError → List ℕ → Unwritable → Result Done RunFault → Bool → List ℕ → Type 0
 IsWhy (Ok subject) file reason done explained text = ExplainsEnd subject file reason done explained text
-    ⊎ ((explained ≡ false) × (text ≡ []) × (IsPlain subject done → ⊥))
+    ⊎ ((explained ≡ false) × (text ≡ []) × (IsPlain done → ⊥))
 IsWhy (Err refused) file reason done explained text = (explained ≡ false) × (text ≡ [])
 
 -- the same, where there is something to be explained; where there isn't, the text is empty
@@ -129,7 +129,6 @@ pub record EndsTask {O E : Type 0} (contents : O → Option (List ℕ)) (errors 
 -- what is explained is the file at this path
 abbrev pub IsSubjectAt : List ℕ → Subject → Type 0
 IsSubjectAt path (Path at) = string_bytes at ≡ path
-IsSubjectAt path (Replay at turns stop) = ⊥
 IsSubjectAt path (Number number) = ⊥
 
 -- the text explains why the file at this path wasn't read; of the output no reason is known

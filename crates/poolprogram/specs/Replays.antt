@@ -22,16 +22,15 @@ abbrev pub IsText : Shape → List Turn → Bool → List ℕ → Type 0
 IsText z trace false text = text ≡ trace_text trace
 IsText z trace true text = IsTextOf z (all_acts trace) text
 
--- the text of a lawful trace of the plan over the schedule, or of its acts
-pub record IsReplayOf (plan : Plan) (schedule : List ℕ) (acts : Bool) (text : List ℕ) : Type 0 where
-  pub trace : List Turn
+-- the trace is a lawful one of the plan over the schedule, and the text is its own, or that of its acts
+pub record IsReplayOf (plan : Plan) (schedule : List ℕ) (acts : Bool) (trace : List Turn) (text : List ℕ) : Type 0 where
   pub lawful : IsLawful plan.shape plan.scripts schedule trace
   pub is : IsText plan.shape trace acts text
 
 -- known bytes grow by such a text
-pub record WritesReplayOf (plan : Plan) (schedule : List ℕ) (acts : Bool) (old new : Option (List ℕ)) : Type 0 where
+pub record WritesReplayOf (plan : Plan) (schedule : List ℕ) (acts : Bool) (trace : List Turn) (old new : Option (List ℕ)) : Type 0 where
   pub text : List ℕ
-  pub replay : IsReplayOf plan schedule acts text
+  pub replay : IsReplayOf plan schedule acts trace text
   pub appended : Appends old new text
 
 -- a lawful trace of the plan that the file's bytes stand for, which has this shape, and of the schedule
@@ -72,7 +71,7 @@ IsCoreFault (runs.File why) = ⊥
 IsCoreFault runs.Output = ⊥
 IsCoreFault runs.Memory = ⊥
 
--- the plan is refused with this fault: the core was refused memory for it; or memory was refused for the text of a trace
+-- the plan is refused with this fault: memory was refused to its replay; or for the text of a trace
 abbrev pub RefusesReplayOf : Plan → List ℕ → RunFault → Type 0
 RefusesReplayOf plan schedule (runs.Core fault) = Unit {0}
 RefusesReplayOf plan schedule runs.Memory = (trace : List Turn) × IsLawful plan.shape plan.scripts schedule trace

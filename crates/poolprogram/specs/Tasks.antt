@@ -12,6 +12,8 @@ use Rattle.poolprogram.specs.WordTexts.{word_line}
 use Rattle.poolprogram.specs.RunFaults.{run_fault_number, run_fault_name}
 use Rattle.poolprogram.specs.declared.done.Done.{Done}
 use Rattle.poolprogram.specs.declared.done.Done.TheVariants.{Well, Badly, Early}
+use Rattle.poolprogram.specs.declared.done.Done.TheVariants as dones
+use Rattle.poolprogram.specs.declared.replayed.Replayed.{Replayed}
 use Rattle.poolprogram.specs.declared.run_fault.RunFault.{RunFault}
 use Rattle.poolprogram.specs.declared.run_fault.RunFault.TheVariants as runs
 
@@ -25,9 +27,10 @@ abbrev pub done_short : Bool → Done
 done_short true = Well
 done_short false = Early
 
--- known bytes grow by what the task says of the bytes of its file, or of its number; and it is told whether all is well: a replay, what is said of its schedule and a run are, acts where they are legal, a number where it is a key's, each lifecycle word; and whether a schedule is as short as can be
+-- known bytes grow by what the task says of the bytes of its file, or of its number; and it is told which replay was made, or whether all is well: what is said of a schedule and a run are, acts where they are legal, a number where it is a key's, each lifecycle word; and whether a schedule is as short as can be
 abbrev pub WritesTask : Task → List ℕ → Done → Option (List ℕ) → Option (List ℕ) → Type 0
-WritesTask (Replay path turns stop acts) file done old new = (done ≡ Well) × WritesTurns file turns stop acts old new
+WritesTask (Replay path turns stop acts) file done old new =
+    (made : Replayed) × (done ≡ dones.Replayed made) × WritesTurns file turns stop acts made old new
 WritesTask (Schedule path turns stop) file done old new = (done ≡ Well) × WritesSchedule file turns stop old new
 WritesTask (Shorten path turns stop search) file done old new =
     (least : Bool) × (done ≡ done_short least) × WritesShortening file turns stop search least old new
@@ -50,6 +53,7 @@ RefusesTask (Word word) file fault = fault ≡ runs.Memory
 abbrev pub task_status : Result Done RunFault → ℕ
 task_status (Ok Well) = 0
 task_status (Ok Early) = 0
+task_status (Ok (dones.Replayed made)) = 0
 task_status (Ok Badly) = 1
 task_status (Err fault) = 1
 

@@ -1,5 +1,5 @@
 -- What a replay over the turns of the command line writes.
-use Rattle.std.specs.Prelude.{◌≡◌, ◌⊎◌, ⊤, ℕ, Bool, List, [], Option, Some, None, String}
+use Rattle.std.specs.Prelude.{◌≡◌, ◌⊎◌, ⊤, ℕ, Bool, List, [], Option, Some, None, String, length, map}
 use Rattle.std.specs.Io.KnownBytes.{Appends}
 use Rattle.std.specs.declared.alloc.Global.{Global}
 use Rattle.commandline.specs.declared.tasks.Stop.{Stop}
@@ -13,6 +13,7 @@ use Rattle.scripts.specs.ScriptPlaces.{out_of_memory}
 use Rattle.scripts.specs.Readings.{StandsFor, RefusesFile}
 use Rattle.streams.specs.declared.reading.Unreadable.TheVariants as unreadable
 use Rattle.poolprogram.specs.Replays.{HasPlan, WritesReplayOf, RefusesReplayOf}
+use Rattle.poolprogram.specs.declared.replayed.Replayed.{Replayed}
 use Rattle.poolprogram.specs.declared.run_fault.RunFault.{RunFault}
 use Rattle.poolprogram.specs.declared.run_fault.RunFault.TheVariants as runs
 
@@ -46,12 +47,14 @@ pub record WritesSchedule (file : List ℕ) (turns : Turns) (stop : Option Stop)
   pub planned : IsPlanned file turns stop plan schedule
   pub appended : Appends old new (schedule_line schedule)
 
--- known bytes grow by the text of a lawful trace of that plan over that schedule, or of its acts
-pub record WritesTurns (file : List ℕ) (turns : Turns) (stop : Option Stop) (acts : Bool) (old new : Option (List ℕ)) : Type 0 where
+-- a replay was made of that plan over that schedule, whose trace is lawful, and known bytes grow by the text of that trace, or of its acts
+pub record WritesTurns (file : List ℕ) (turns : Turns) (stop : Option Stop) (acts : Bool) (made : Replayed)
+    (old new : Option (List ℕ)) : Type 0 where
   pub plan : Plan
-  pub schedule : List ℕ
-  pub planned : IsPlanned file turns stop plan schedule
-  pub writes : WritesReplayOf plan schedule acts old new
+  pub planned : IsPlanned file turns stop plan made.schedule.items
+  pub lanes : made.lanes ≡ plan.shape.lanes
+  pub counts : made.counts.items ≡ map length plan.scripts
+  pub writes : WritesReplayOf plan made.schedule.items acts made.trace old new
 
 -- the turns are in a file
 abbrev pub AreInFile : Turns → Type 0

@@ -2,11 +2,15 @@
 ghost use Rattle.std.specs.Prelude.{◌≡◌};
 ghost use Rattle.poolprogram.specs.Tasks.{done_by, done_short};
 
+use crate::replayed::Replayed;
+
 /// How a task was done.
-#[derive(Clone, Copy, Debug)]
+#[derive(Drop)]
 pub enum Done {
     /// All is well.
     Well,
+    /// This replay was made.
+    Replayed(Replayed),
     /// Acts are illegal, or a number is no key's.
     Badly,
     /// A schedule was shortened by as many replays as may be, and more can perhaps be left out.

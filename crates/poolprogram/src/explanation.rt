@@ -1,14 +1,13 @@
 //! Why a task ended as it did, in words.
-ghost use Rattle.std.specs.Prelude.{◌≡◌, ℕ, IfOk, IsOk, codes, string_bytes};
+ghost use Rattle.std.specs.Prelude.{◌≡◌, IfOk, IsOk, codes, string_bytes};
 ghost use Rattle.streams.specs.Shown.{IsSafeLine, line_text};
 ghost use Rattle.explanations.specs.Said.{IsLineOrNone};
-ghost use Rattle.poolprogram.specs.Turns.{entries_for};
 ghost use Rattle.poolprogram.specs.Explanations.{IsSubjectOf, absent_told, shortening_told, ExplainsUnread, ExplainsFault, Explains, IsPlain};
 
 use crate::done::Done;
 use crate::half_run::explain_half_run;
 use crate::run_fault::RunFault;
-use commandline::{Stop, Task, Turns};
+use commandline::Task;
 use explanations::{
     explain_acts, explain_check, explain_file, explain_no_key, explain_output, explain_script,
 };
@@ -19,52 +18,19 @@ use streams::{Unreadable, Unwritable, line_of};
 /// What a task is about.
 #[derive(Drop)]
 pub enum Subject {
-    /// A replay of the file at this path over these turns, up to the stop.
-    Replay {
-        path: String,
-        turns: Turns,
-        stop: Option<Stop>,
-    },
     /// The file at this path.
     Path(String),
     /// A number.
     Number(u64),
 }
 
-/// The same turns once more.
-pub(crate) fn copy_turns(alloc: Global, turns: &Turns) -> Result<Turns, AllocError>
-    ensures { IfOk result (λ copy. (lanes : ℕ) → entries_for lanes copy ≡ entries_for lanes turns.now) }
-{
-    match turns {
-        Turns::Listed(entries) => Ok(Turns::Listed(Vec::from_slice(alloc, entries.as_slice())?)),
-        Turns::Drawn { seed, turns } => Ok(Turns::Drawn {
-            seed: *seed,
-            turns: *turns,
-        }),
-        Turns::InFile(path) => Ok(Turns::InFile(String::from_str(alloc, path.as_str())?)),
-    }
-}
-
-/// What a task is about. The error is want of memory for the path or the turns.
+/// What a task is about. The error is want of memory for the path.
 pub fn subject_of(alloc: Global, task: &Task) -> Result<Subject, AllocError>
     ensures { IfOk result (IsSubjectOf task.now) }
 {
     match task {
-        Task::Replay {
-            file,
-            turns,
-            stop,
-            ..
-        } => {
-            let path = String::from_str(alloc, file.as_str())?;
-            let turns = copy_turns(alloc, turns)?;
-            Ok(Subject::Replay {
-                path,
-                turns,
-                stop: *stop,
-            })
-        }
-        Task::Schedule { file, .. }
+        Task::Replay { file, .. }
+        | Task::Schedule { file, .. }
         | Task::Shorten { file, .. }
         | Task::Check { file }
         | Task::Run { file } => {
@@ -82,7 +48,6 @@ fn explain_unread(alloc: Global, subject: &Subject, why: Unreadable) -> Result<S
     ensures safe { IfOk result (λ text. IsLineOrNone (string_bytes text)) }
 {
     match subject {
-        Subject::Replay { path, .. } => explain_file(alloc, path.as_str(), why),
         Subject::Path(path) => explain_file(alloc, path.as_str(), why),
         Subject::Number(_) => Ok(String::new(alloc)),
     }
@@ -151,14 +116,12 @@ pub fn explain(
 ) -> Result<String, AllocError>
     ensures is { IfOk result (λ text. Explains subject.now file.now why done.now (string_bytes text)) }
     ensures safe { IfOk result (λ text. IsLineOrNone (string_bytes text)) }
-    ensures plain { IsPlain subject.now done.now → IsOk result }
+    ensures plain { IsPlain done.now → IsOk result }
 {
     match (done, subject) {
         (Err(fault), _) => explain_fault(alloc, subject, file, why, fault),
-        (Ok(Done::Well), Subject::Replay { turns, stop, .. }) => {
-            explain_half_run(alloc, file, turns, *stop)
-        }
         (Ok(Done::Well), _) => Ok(String::new(alloc)),
+        (Ok(Done::Replayed(made)), _) => explain_half_run(alloc, made),
         (Ok(Done::Badly), Subject::Number(number)) => explain_no_key(alloc, *number),
         (Ok(Done::Badly), _) => explain_check(alloc, file),
         (Ok(Done::Early), _) => line_of(alloc, EARLY),

@@ -11,7 +11,7 @@ ghost use Rattle.poolprogram.specs.Replays.{IsText, IsCoreFault, IsReplayOf, Ref
 
 use crate::meter::Meter;
 use crate::run_fault::RunFault;
-use coresteps::{Core, CoreFault, run};
+use coresteps::{Core, CoreFault};
 use keybits::Shape;
 use scripts::{Plan, parse};
 use seqpool::write_acts;
@@ -20,17 +20,6 @@ use std::alloc::Global;
 use std::io::Write;
 use streams::{Watched, write_and_flush};
 use traces::{Script, Trace, write_trace};
-
-/// The trace of a plan over a schedule.
-pub(crate) fn run_plan(alloc: Global, plan: Plan, schedule: &[u32]) -> Result<Trace, RunFault>
-    requires shape { IsNarrow plan.shape }
-    requires count { length plan.scripts ≡ plan.shape.lanes }
-    ensures ok { IfOk result (λ trace. IsLawful plan.shape plan.scripts schedule.now trace) }
-    ensures err { IfErr result (λ fault. IsCoreFault fault) }
-{
-    let Plan { shape, scripts } = plan;
-    run(alloc, shape, scripts.into_vec(), schedule).map_err(RunFault::Core)
-}
 
 /// One more entry of a schedule: the turn that it makes, if it makes one, goes into the trace.
 fn add_turn(core: &mut Core, trace: &mut Trace, lane: u32) -> Result<(), CoreFault>
@@ -126,26 +115,29 @@ fn text_of(alloc: Global, shape: &Shape, trace: &Trace, acts: bool) -> Result<Ve
     }
 }
 
-/// The text of the trace of a plan over a schedule, or of its acts.
+/// The trace of a plan over a schedule, and its text, or that of its acts.
 fn replayed<M: Write>(
     alloc: Global,
     plan: Plan,
     schedule: &[u32],
     acts: bool,
     meter: &mut Meter<M>,
-) -> Result<Vec<u8>, RunFault>
+) -> Result<(Trace, Vec<u8>), RunFault>
     requires shape { IsNarrow plan.shape }
     requires count { length plan.scripts ≡ plan.shape.lanes }
-    ensures ok { IfOk result (λ text. IsReplayOf plan schedule.now acts text.items) }
+    ensures ok { IfOk result (λ made. IsReplayOf plan schedule.now acts made.0 made.1.items) }
     ensures err { IfErr result (RefusesReplayOf plan schedule.now) }
 {
     let shape = plan.shape;
     let trace = run_plan_told(alloc, plan, schedule, meter)?;
-    text_of(alloc, &shape, &trace, acts)
+    match text_of(alloc, &shape, &trace, acts) {
+        Ok(text) => Ok((trace, text)),
+        Err(fault) => Err(fault),
+    }
 }
 
 /// Replays a plan over a schedule, whose entries are numbers of lanes, and writes the text of the
-/// trace, or where `acts` holds the text of its acts. The errors: `Core` where the core was refused
+/// trace, or where `acts` holds the text of its acts. Answers the trace. The errors: `Core` where the core was refused
 /// memory for the plan, and `Memory` where it was refused for the text of a trace. These come before
 /// the first byte; `Output` comes exactly where `out` failed, and then it isn't said how much went out.
 /// Meanwhile `meter` tells how far the replay is.
@@ -156,23 +148,24 @@ pub fn replay_plan<W: Write, M: Write>(
     acts: bool,
     out: &mut Watched<W>,
     meter: &mut Meter<M>,
-) -> Result<(), RunFault>
+) -> Result<Trace, RunFault>
     requires shape { IsNarrow plan.shape }
     requires count { length plan.scripts ≡ plan.shape.lanes }
     requires watched { out.old.failed ≡ false }
-    ensures ok { OnOk result (WritesReplayOf plan schedule.now acts
+    ensures ok { IfOk result (λ trace. WritesReplayOf plan schedule.now acts trace
         (W.contents out.old.inner) (W.contents out.new.inner)) }
     ensures output { IsErrOf result RunFault.Output ↔ (out.new.failed ≡ true) }
     ensures refused { IfErr result (λ fault. fault ≢ RunFault.Output
         → (out.new ≡ out.old) × RefusesReplayOf plan schedule.now fault) }
 {
-    let text = replayed(alloc, plan, schedule, acts, meter)?;
+    let (trace, text) = replayed(alloc, plan, schedule, acts, meter)?;
     write_and_flush(text.as_slice(), out)?;
-    Ok(())
+    Ok(trace)
 }
 
 /// Replays a script file over a schedule, as `replay_plan` does the plan that it stands for. The errors
 /// are those of `replay_plan`, and before these `Read` as `parse` answers it.
+#[tactic(auto, using(crate::proofs::Replaying::writes_replay, crate::proofs::Replaying::refuses_replay))]
 pub fn replay_text<W: Write, M: Write>(
     alloc: Global,
     file: &[u8],
@@ -189,5 +182,6 @@ pub fn replay_text<W: Write, M: Write>(
         → (out.new ≡ out.old) × RefusesReplay file.now schedule.now fault) }
 {
     let plan = parse(alloc, file).map_err(RunFault::Read)?;
-    replay_plan(alloc, plan, schedule, acts, out, meter)
+    replay_plan(alloc, plan, schedule, acts, out, meter)?;
+    Ok(())
 }

@@ -21,7 +21,7 @@ pub enum RunFault {
     /// is refused (1, 2, 3, 4, 6) or memory was refused (18).
     #[error(transparent)]
     Acts(ActsRefusal),
-    /// The core was refused memory (25).
+    /// Memory was refused to a replay (25).
     #[error(transparent)]
     Core(CoreFault),
     /// The word of a shortening stands nowhere in the replay of the whole schedule, or where that is asked for in no

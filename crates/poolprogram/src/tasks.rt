@@ -21,7 +21,7 @@ use std::thread::Threads;
 use streams::{Watched, write_text};
 
 /// Does a task on the bytes of its file: a replay, what is said of its schedule, a check, a run or what is said of a
-/// key or a word. The answer is `Badly` where acts are illegal or a number is no key's, and then this was said; `Early`
+/// key or a word. The answer is the replay, where one was made; `Badly` where acts are illegal or a number is no key's, and then this was said; `Early`
 /// where a schedule is shortened by as many replays as may be. The errors are those of the call for the task's kind, and
 /// all but `Output` come before the first byte. Meanwhile `meter` tells how far a long one is.
 pub fn do_task<R: Threads + Wait + Sync, W: Write, M: Write>(
@@ -46,8 +46,8 @@ pub fn do_task<R: Threads + Wait + Sync, W: Write, M: Write>(
             stop,
             acts,
         } => {
-            replay_turns(alloc, file, turns, stop, acts, out, meter)?;
-            Ok(Done::Well)
+            let made = replay_turns(alloc, file, turns, stop, acts, out, meter)?;
+            Ok(Done::Replayed(made))
         }
         Task::Schedule {
             file: _,
@@ -91,7 +91,7 @@ pub fn status_of(done: &Result<Done, RunFault>) -> u8
     ensures { result ≡ task_status done.now }
 {
     match done {
-        Ok(Done::Well) | Ok(Done::Early) => 0,
+        Ok(Done::Well) | Ok(Done::Replayed(_)) | Ok(Done::Early) => 0,
         _ => 1,
     }
 }

@@ -6,8 +6,10 @@ ghost use Rattle.schedules.specs.Schedules.{schedule_line};
 ghost use Rattle.scripts.specs.ScriptPlaces.{out_of_memory};
 ghost use Rattle.poolprogram.specs.Turns.{AreKnown, entries_for, IsUpTo, IsPlanned, WritesTurns, WritesSchedule, RefusesEntries, RefusesSchedule, RefusesTurns, RefusesListing};
 
+use crate::half_run::counts_of;
 use crate::meter::Meter;
 use crate::replay::replay_plan;
+use crate::replayed::Replayed;
 use crate::run_fault::RunFault;
 use commandline::{Stop, Turns};
 use schedules::{draw, push_schedule, stop_after};
@@ -139,7 +141,9 @@ pub fn schedule_text<W: Write>(
 }
 
 /// Replays a script file over turns, up to a stop, as `replay_plan` does the plan and the schedule of
-/// `plan_turns`. The errors are those of `plan_turns`, and after these those of `replay_plan`.
+/// `plan_turns`. Answers the replay. The errors are those of `plan_turns`, and after these those of `replay_plan`; `Core`
+/// also where memory was refused for how many commands each script has.
+#[tactic(auto, using(crate::proofs::Replaying::core_refuses))]
 pub fn replay_turns<W: Write, M: Write>(
     alloc: Global,
     file: &[u8],
@@ -148,14 +152,22 @@ pub fn replay_turns<W: Write, M: Write>(
     acts: bool,
     out: &mut Watched<W>,
     meter: &mut Meter<M>,
-) -> Result<(), RunFault>
+) -> Result<Replayed, RunFault>
     requires { out.old.failed ≡ false }
-    ensures ok { OnOk result (WritesTurns file.now turns stop acts
+    ensures ok { IfOk result (λ made. WritesTurns file.now turns stop acts made
         (W.contents out.old.inner) (W.contents out.new.inner)) }
     ensures output { IsErrOf result RunFault.Output ↔ (out.new.failed ≡ true) }
     ensures refused { IfErr result (λ fault. fault ≢ RunFault.Output
         → (out.new ≡ out.old) × RefusesTurns file.now turns stop fault) }
 {
     let (plan, schedule) = plan_turns(alloc, file, turns, stop)?;
-    replay_plan(alloc, plan, schedule.as_slice(), acts, out, meter)
+    let lanes = plan.shape.lanes;
+    let counts = counts_of(alloc, plan.scripts.as_slice()).map_err(RunFault::Core)?;
+    let trace = replay_plan(alloc, plan, schedule.as_slice(), acts, out, meter)?;
+    Ok(Replayed {
+        lanes,
+        schedule,
+        counts,
+        trace,
+    })
 }
