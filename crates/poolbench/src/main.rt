@@ -6,6 +6,7 @@ mod cases;
 mod fault;
 mod fills;
 mod openings;
+mod owners;
 mod passes;
 mod plans;
 mod pools;

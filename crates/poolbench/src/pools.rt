@@ -25,7 +25,15 @@ pub struct Worker<'a> {
     ghost unburdened: { refs lane ≡ 0 },
 }
 
-impl Worker<'_> {
+impl<'a> Worker<'a> {
+    /// The pool, and the lane.
+    pub fn into_parts(self) -> (&'a Pool<ByteBuf>, Lane<ByteBuf>)
+        ensures { Owns result.0.now result.1 × (refs result.1 ≡ 0) }
+    {
+        let Worker { pool, lane } = self;
+        (pool, lane)
+    }
+
     /// The number of the lane.
     pub fn number(&self) -> u32 {
         self.lane.number()

@@ -1,6 +1,7 @@
 //! What a thread does in each round.
 use crate::fills::read_large;
 use crate::openings::{LARGEST, ONE_LANE, TILL_LAST_PAGE, open_and_close};
+use crate::owners::read_clones;
 use crate::passes::Ways;
 use crate::pools::{PLACES, Worker};
 use keybits::Shape;
@@ -27,6 +28,8 @@ pub enum Solo {
     Page,
     /// Objects are read at random in the largest pool, each of whose places has one.
     Large,
+    /// An owned reference is cloned, and the object is read by the clone.
+    Clone,
 }
 
 /// What is done with objects of the lane's own.
@@ -87,6 +90,7 @@ impl Solo {
             Solo::Bare | Solo::Alu => 0,
             Solo::Open | Solo::Large => LARGEST.lanes,
             Solo::Page => ONE_LANE.lanes,
+            Solo::Clone => 1,
         }
     }
 
@@ -98,6 +102,7 @@ impl Solo {
             Solo::Open => open(alloc, LARGEST, 0, rounds),
             Solo::Page => open(alloc, ONE_LANE, TILL_LAST_PAGE, rounds),
             Solo::Large => read_large(alloc, rounds),
+            Solo::Clone => read_clones(alloc, rounds),
         }
     }
 }
