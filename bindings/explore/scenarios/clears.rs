@@ -1,8 +1,9 @@
 //! Clears within clears: objects that hold others, by an owned handle or by a key.
 use crate::world::{emptied, shape, Scenario, Tracked};
-use pardz::{Clear, Key, OwnedRef, Pool};
+use pardz::{Clear, Key, Lane, OwnedRef, Pool};
 use std::panic::{self, AssertUnwindSafe};
 use std::ptr;
+use std::sync::{Arc, Mutex};
 
 pub fn all() -> Vec<Scenario> {
     vec![
@@ -23,6 +24,12 @@ pub fn all() -> Vec<Scenario> {
             || chain(true),
             [Chain::clear, Chain::hold_owned],
             second_emptied,
+        ),
+        Scenario::new(
+            "lost-and-made",
+            lost,
+            [Lost::lose, Lost::make],
+            Lost::finish,
         ),
         Scenario::new(
             "nested-unwinding",
@@ -126,6 +133,48 @@ impl Chain {
             assert!(held.is_none(), "unwinds");
         };
         drop(panic::catch_unwind(AssertUnwindSafe(unwind)));
+    }
+}
+
+/// Two lanes in hand. All blocks of the first have objects, of which the other one clears one: that panics, and the object is dropped.
+struct Lost {
+    lanes: [Mutex<Option<Lane<'static, Nested>>>; 2],
+    pool: Arc<Pool<Nested>>,
+    key: Key,
+}
+
+fn lost() -> Lost {
+    let pool = Arc::new(Pool::<Nested>::open(shape(2, 4, 1)).expect("memory"));
+    let lanes = [(); 2].map(|()| pool.lane_owned().expect("nobody has it"));
+    let put = |panics| lanes[0].create_with(|nested| nested.panics = panics);
+    let [key, _] = [true, false].map(|panics| put(panics).expect("a place"));
+    Lost {
+        lanes: lanes.map(|lane| Mutex::new(Some(lane))),
+        pool,
+        key,
+    }
+}
+
+impl Lost {
+    fn lane(&self, number: usize) -> Lane<'static, Nested> {
+        let lane = self.lanes[number].lock().expect("no panic").take();
+        lane.expect("one thread has it")
+    }
+
+    fn lose(&self) {
+        let lane = self.lane(1);
+        let lose = || lane.clear(self.key);
+        assert!(panic::catch_unwind(AssertUnwindSafe(lose)).is_err());
+    }
+
+    fn make(&self) {
+        let put = self.lane(0).create_with(|nested| nested.object.set(3));
+        assert!(put.is_ok());
+    }
+
+    fn finish(self) {
+        let pool = Arc::into_inner(self.pool).expect("ours");
+        assert_eq!(pool.close().present, 2);
     }
 }
 

@@ -44,8 +44,8 @@ pub trait Clear {
     }
 }
 
-/// Whether a type's `clear` runs no code but this crate's and the standard library's: it neither panics nor calls a pool, nor asks for or
-/// frees memory. So nobody looks for that, and it may run under a lane's lock. (A type of this crate alone can say so.)
+/// Whether a type's `clear` and its `default` run no code but this crate's and the standard library's: they neither panic nor call a pool,
+/// nor ask for or free memory. So nobody looks for that, and they may run under a lane's lock. (A type of this crate alone can say so.)
 #[doc(hidden)]
 #[derive(Clone, Copy)]
 pub struct Plain(pub(crate) bool);

@@ -22,6 +22,6 @@ fn a_growing_pool_opens_its_first_segment_when_it_is_used() {
     assert!(pools.iter().all(|pool| pool.census().total() == 0));
     assert!(pools.iter().all(|pool| pool.put(b"one").is_ok()));
     let used = written().saturating_sub(before) / 8;
-    assert!(used <= 256, "{used} KiB were written to");
+    assert!(used <= 160, "{used} KiB were written to");
     assert!(pools.iter().all(|pool| pool.census().total() == 16 * 32));
 }

@@ -201,18 +201,23 @@ fn in_clear_while_unwinding() {
 fn in_drop() {
     for close in [true, false] {
         let alive = Arc::new(AtomicUsize::new(0));
-        let pool = Pool::<Touchy>::open(shape(8)).unwrap();
+        let pool = Pool::<Touchy>::open(shape(64)).unwrap();
         let lane = pool.lane().unwrap();
-        let keys: Vec<Key> = (0..8)
+        // (They stand in several chunks, of which that of the last goes first.)
+        let keys: Vec<Key> = (0..60)
             .map(|number| {
-                let when = if number == 3 { When::Drop } else { When::Never };
+                let when = if number == 53 {
+                    When::Drop
+                } else {
+                    When::Never
+                };
                 lane.create_with(|object| object.set(&alive, when)).unwrap()
             })
             .collect();
         // Two of them are spare then.
-        assert!(lane.clear(keys[0]) && lane.clear(keys[7]));
+        assert!(lane.clear(keys[0]) && lane.clear(keys[57]));
         drop(lane);
-        assert_eq!(alive.load(SeqCst), 8);
+        assert_eq!(alive.load(SeqCst), 60);
         panics(|| match close {
             true => pool.close().present,
             false => {

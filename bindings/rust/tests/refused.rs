@@ -5,6 +5,7 @@ use pardz::{
 };
 use std::alloc::{GlobalAlloc, Layout, System};
 use std::cell::Cell;
+use std::panic::{self, AssertUnwindSafe};
 
 /// The system's memory, which refuses one request within `tried`.
 struct Refusing;
@@ -314,6 +315,57 @@ fn the_next_filling_of_a_place_takes_no_memory() {
     let mut filling = takes_none(|| lane.create()).expect("the same place");
     assert!(filling.is_empty());
     takes_none(|| filling.append(&[2; 4096])).expect("the room of the first");
+}
+
+/// A thousand objects ask for memory a few times, each time for more of them, and for a page.
+#[test]
+fn objects_stand_side_by_side() {
+    let shape = Shape {
+        lanes: 1,
+        first_page: 64,
+        pages: 5,
+        ..SHAPE
+    };
+    let pool = Pool::<Point>::open(shape).expect("memory for a pool");
+    let lane = pool.lane().expect("a lane");
+    let before = REQUESTS.get();
+    let put = || lane.create().expect("a place").publish();
+    let keys: Vec<Key> = (0..1000).map(|_| tried(put)).collect();
+    let asked = REQUESTS.get() - before;
+    assert!(asked <= 16, "memory was asked for {asked} times");
+    assert!(keys.iter().all(|key| takes_none(|| lane.clear(*key))));
+    let again: Vec<Key> = keys.iter().map(|_| takes_none(put)).collect();
+    assert_eq!(again.len(), 1000);
+}
+
+/// An object that can't be emptied.
+#[derive(Default)]
+struct Stuck;
+
+impl Clear for Stuck {
+    fn clear(&mut self) {
+        panic::panic_any(());
+    }
+}
+
+/// An object that is dropped as its `clear` panicked leaves its memory to the next one.
+#[test]
+fn a_block_whose_object_was_dropped_has_the_next() {
+    let pool = Pool::<Stuck>::open(SHAPE).expect("memory for a pool");
+    let lane = pool.lane().expect("a lane");
+    let lose = |count: u32| {
+        let blocks = BLOCKS.get();
+        for _ in 0..count {
+            let keys = [(); 6].map(|()| lane.create().expect("a place").publish());
+            for key in keys {
+                let cleared = panic::catch_unwind(AssertUnwindSafe(|| lane.clear(key)));
+                assert!(cleared.is_err());
+            }
+        }
+        BLOCKS.get() - blocks
+    };
+    lose(20);
+    assert_eq!(lose(200), 0, "more memory was asked for");
 }
 
 /// A create that is refused the memory for a page goes on where there is some.

@@ -3,7 +3,7 @@ use super::room::Room;
 use super::seat::{Near, Post, Stands};
 use super::segment::Segment;
 use super::token::{Begun, By, Held};
-use super::turn::{with_page, Short, TooMany, Turn};
+use super::turn::{with_new, with_page, Short, TooMany, Turn};
 use crate::clear::Clear;
 use crate::errors::CreateError;
 use crate::key::Key;
@@ -158,7 +158,8 @@ impl<'s, T: Clear, P: Stands<'s, T>> Own<'s, T, P> {
     {
         let block = match self.turn().spare() {
             Some(block) => block,
-            None => make(self.post())?,
+            // SAFETY: the thread has the lane alone.
+            None => unsafe { make(self.post()) }?,
         };
         match self.turn().create_short(block) {
             Ok(begun) => Ok(begun),
@@ -315,10 +316,19 @@ impl<'s, T: Clear, P: Stands<'s, T>> Own<'s, T, P> {
 }
 
 /// A block with a new object, for a lane without a spare one.
+///
+/// # Safety
+///
+/// The thread has the lane alone.
 #[cold]
 #[inline(never)]
-pub(super) fn make<T: Clear + Default>(post: Post<'_, T>) -> Result<Block<T>, CreateError> {
-    Ok(Block::new(post.number(), T::default())?)
+unsafe fn make<T: Clear + Default>(post: Post<'_, T>) -> Result<Block<T>, CreateError> {
+    // SAFETY: the caller's.
+    let own = unsafe { Own::of(post) };
+    let wanted = own.turn().wants();
+    Ok(with_new(wanted, |object, chunk| {
+        own.turn().put(object, chunk)
+    })?)
 }
 
 #[cold]

@@ -5,11 +5,11 @@ use super::turn::Turn;
 use super::ProvedLane;
 use crate::clear::Clear;
 use crate::erased::keybits;
-use crate::object::{Block, Chain, Returned};
+use crate::object::{Block, Chain, Chunks, Returned};
 use crate::sync::{self, AtomicBool, AtomicU32, Ordering};
 use std::cell::UnsafeCell;
 use std::marker::PhantomData;
-use std::mem::ManuallyDrop;
+use std::mem::{self, ManuallyDrop};
 use std::ptr::{self, NonNull};
 
 /// A lane of the proved pool with its blocks, on lines of the cache of its own.
@@ -39,6 +39,8 @@ pub(super) struct Store<T> {
     pub(super) used: Chain<T>,
     /// Whether one is being emptied, by a call further out on the stack.
     pub(super) empties: bool,
+    /// The memory of the blocks whose home is the lane.
+    pub(super) chunks: Chunks<T>,
 }
 
 /// What the explorer calls it.
@@ -90,6 +92,7 @@ impl<T: Clear> Seat<T> {
                 spare: Chain::new(),
                 used: Chain::new(),
                 empties: false,
+                chunks: Chunks::new(),
             }),
             returned,
             have_come: AtomicBool::new(false),
@@ -116,6 +119,18 @@ impl<T: Clear> Seat<T> {
         }
         let mut taken = self.returned.iter().map(Returned::take);
         taken.find(|chain| !chain.is_empty())
+    }
+
+    /// A close finds its blocks that are in no place.
+    pub(super) fn find_blocks(&mut self) {
+        sync::writes(self.store.get(), "the blocks of a lane that is closed");
+        let store = self.store.get_mut();
+        for chain in [&mut store.spare, &mut store.used] {
+            mem::replace(chain, Chain::new()).find();
+        }
+        for returned in &self.returned {
+            returned.take().find();
+        }
     }
 
     /// How many places the pages have that its lane opened.

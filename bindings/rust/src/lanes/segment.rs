@@ -240,7 +240,6 @@ impl<T: Clear> Segment<T> {
         };
         for seat in &mut seats {
             sync::writes(seat.lane.get(), "a lane that is closed");
-            sync::writes(seat.store.get(), "the blocks of a lane that is closed");
             // SAFETY: taken once, as above.
             row.push_reserved(unsafe { ManuallyDrop::take(seat.lane.get_mut()) });
         }
@@ -249,7 +248,12 @@ impl<T: Clear> Segment<T> {
         call.end();
         // SAFETY: the calls before took out what they took, so these are of this close.
         let objects = unsafe { object::all_taken::<T>() };
-        drop((objects, seats));
+        if object::FINDS_LOST {
+            objects.find();
+            seats.iter_mut().for_each(Seat::find_blocks);
+        }
+        // (With the chunks, and the objects in their blocks.)
+        drop(seats);
         let mut census = Census::from(census);
         census.unopened -= untold;
         census

@@ -1,10 +1,10 @@
 //! Calls of a lane that threads share, or that its thread has left: under its lock. None runs code of others meanwhile: what was taken out
 //! of a place comes back, and is emptied behind the lock; or within it, where this crate's code and std's alone does that.
-use super::own::{make, too_many};
+use super::own::too_many;
 use super::seat::{Joint, Post};
 use super::segment::Segment;
 use super::token::{Begun, By, Far, Held, OfThread};
-use super::turn::{with_page, Short, TooMany, Turn};
+use super::turn::{with_new, with_page, Short, TooMany, Turn};
 use crate::clear::Clear;
 use crate::errors::CreateError;
 use crate::key::Key;
@@ -67,25 +67,44 @@ impl<'s, T: Clear> Post<'s, T> {
     where
         T: Default,
     {
-        let begun = self.shared(|turn, joint| {
-            let block = turn.spare()?;
-            Some(create_short(turn, joint, block, &come))
+        let begun = self.shared(|turn, joint| match turn.spare_or_new() {
+            Some(block) => Ok(create_short(turn, joint, block, &come)),
+            None => Err(turn.wants()),
         });
         let begun = match begun.ok_or(NotShared)? {
-            Some(begun) => begun,
-            None => match make(self) {
-                Ok(block) => {
-                    let begun = self.shared(|turn, joint| create_short(turn, joint, block, &come));
-                    begun.ok_or(NotShared)?
-                }
-                Err(error) => Err(Short::Failed(error)),
-            },
+            Ok(begun) => begun,
+            Err(wanted) => self.shared_create_new(wanted, &come)?,
         };
         match begun {
             Ok(begun) => Ok(Ok(begun.shared())),
             Err(Short::Failed(error)) => Ok(Err(error)),
             Err(Short::NoPlace(block)) => self.shared_create_apart(block, come),
         }
+    }
+
+    /// A create with a new object, which is made without the lock.
+    #[cold]
+    #[inline(never)]
+    fn shared_create_new<W: By<T>>(
+        self,
+        wanted: Option<u32>,
+        come: impl Fn(&mut Joint),
+    ) -> Result<Result<Begun<'s, T, W>, Short<T>>, NotShared>
+    where
+        T: Default,
+    {
+        let begun = with_new(wanted, |object, chunk| {
+            let begun = self.shared(|turn, joint| {
+                let block = turn.put(object, chunk)?;
+                Ok(create_short(turn, joint, block, &come))
+            });
+            match begun {
+                Some(Ok(begun)) => Ok(Ok(begun)),
+                Some(Err(crowded)) => Err(crowded),
+                None => Ok(Err(NotShared)),
+            }
+        });
+        begun.unwrap_or_else(|refused| Ok(Err(Short::Failed(refused.into()))))
     }
 
     /// A create of a lane without a place on its own list.

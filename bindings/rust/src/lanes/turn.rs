@@ -5,9 +5,9 @@ use super::{ProvedBox, ProvedFilling, ProvedLane, ProvedPool, ProvedRef};
 use crate::clear::Clear;
 use crate::erased::poolsteps::stack_word;
 use crate::erased::shardpool::{self, CreateFault, MOST_REFERENCES};
-use crate::errors::CreateError;
+use crate::errors::{CreateError, MemoryRefused};
 use crate::key::Key;
-use crate::object::{self, Block, Chain, Object};
+use crate::object::{self, Block, Chain, Chunk, Crowded, Object};
 use crate::shim::Ready;
 use crate::sync::{self, AtomicU32, Ordering};
 use std::marker::PhantomData;
@@ -76,6 +76,23 @@ fn back_with<T>(
 ) -> Result<Block<T>, CreateError> {
     *ready = Some(Ready::new::<ProvedBox<T>>(page).ok_or(CreateError::Memory)?);
     Ok(block)
+}
+
+/// Puts a new object into a block: the memory for it is asked for in front, if it is wanted, and between two tries, where the lane isn't had
+/// for calls.
+pub(super) fn with_new<T: Default, R>(
+    wanted: Option<u32>,
+    mut put: impl FnMut(T, Option<Chunk<T>>) -> Result<R, Crowded<T>>,
+) -> Result<R, MemoryRefused> {
+    let mut chunk = wanted.map(Chunk::new).transpose()?;
+    let mut object = T::default();
+    loop {
+        let Crowded { object: back, room } = match put(object, chunk) {
+            Ok(begun) => return Ok(begun),
+            Err(crowded) => crowded,
+        };
+        (object, chunk) = (back, Some(Chunk::new(room)?));
+    }
 }
 
 /// Adds to a number that one thread alone writes.
@@ -174,6 +191,34 @@ impl<'s, T: Clear, P: Stands<'s, T>> Turn<'s, T, P> {
             Some(block) => Some(block),
             None => returned(post, spare),
         }
+    }
+
+    /// The same; or a block with a new object, if there is room, and this crate's code and std's alone makes it.
+    #[inline]
+    pub(super) fn spare_or_new(&mut self) -> Option<Block<T>>
+    where
+        T: Default,
+    {
+        let spare = self.spare();
+        if spare.is_some() || !T::plain().0 {
+            return spare;
+        }
+        self.put(T::default(), None).ok()
+    }
+
+    /// How much room a chunk is to have that is brought along with a new object.
+    pub(super) fn wants(&mut self) -> Option<u32> {
+        self.store().chunks.wants()
+    }
+
+    /// A block with a new object.
+    pub(super) fn put(
+        &mut self,
+        object: T,
+        chunk: Option<Chunk<T>>,
+    ) -> Result<Block<T>, Crowded<T>> {
+        let home = self.post().number();
+        self.store().chunks.put(home, object, chunk)
     }
 
     /// What the last call took out of a place.

@@ -1,9 +1,8 @@
-//! Blocks of memory, each with an object, and chains of them.
-use crate::errors::MemoryRefused;
+//! Blocks, each with an object, and chains of them. Their memory is that of [chunks](super::chunk).
+use super::chunk::Vacant;
 use crate::sync::{self, AtomicPtr, Ordering};
-use std::alloc::{alloc, Layout};
 use std::marker::PhantomData;
-use std::mem::ManuallyDrop;
+use std::mem::{self, ManuallyDrop};
 use std::ops::{Deref, DerefMut};
 use std::ptr::{self, NonNull};
 
@@ -14,9 +13,36 @@ pub(super) const BODY: &str = "the head of a block";
 pub(super) struct Body<T> {
     /// The next block of the one chain that this one is in.
     pub(super) next: *mut Body<T>,
-    /// The lane whose places use it.
+    /// The lane whose places use it; or one of those below.
     home: u32,
-    object: T,
+    /// Which of its chunk's blocks it is.
+    pub(super) index: u32,
+    object: ManuallyDrop<T>,
+}
+
+/// In place of a home: the block has no object.
+const VACANT: u32 = u32::MAX;
+
+/// Whether a close looks where each block is: in a place, or in a chain. In the explorer it does, where the object of a block that is
+/// neither is left, as a block that is lost does no other harm.
+pub(crate) const FINDS_LOST: bool = cfg!(pardz_explore);
+
+/// In place of a home, there: the close found the block.
+const FOUND: u32 = u32::MAX - 1;
+
+impl<T> Body<T> {
+    /// Drops the object, if there is one, as the chunk of the block goes.
+    ///
+    /// # Safety
+    ///
+    /// Nobody uses the block any more, and it is done once.
+    #[inline]
+    pub(super) unsafe fn drop_object(&mut self) {
+        if self.home != VACANT && (!FINDS_LOST || self.home == FOUND) {
+            // SAFETY: the caller's; a block that isn't vacant has an object.
+            unsafe { ManuallyDrop::drop(&mut self.object) };
+        }
+    }
 }
 
 /// An object in its block, which nobody else reaches.
@@ -31,25 +57,33 @@ unsafe impl<T: Send> Send for Block<T> {}
 unsafe impl<T: Sync> Sync for Block<T> {}
 
 impl<T> Block<T> {
-    /// Puts an object into a new block. Where memory is refused it is dropped.
-    pub(crate) fn new(home: u32, object: T) -> Result<Block<T>, MemoryRefused> {
-        let layout = Layout::new::<Body<T>>();
-        // SAFETY: the layout has bytes, those of the pointer at least.
-        let at = unsafe { alloc(layout) }.cast::<Body<T>>();
-        let body = NonNull::new(at).ok_or(MemoryRefused)?;
-        // SAFETY: fresh memory of this layout.
-        unsafe {
-            at.write(Body {
-                next: ptr::null_mut(),
-                home,
-                object,
-            });
-        }
+    /// Puts an object into a block that has none.
+    ///
+    /// # Safety
+    ///
+    /// The block is the caller's, and of a chunk that stays there as long as the block is anywhere.
+    pub(super) unsafe fn begin(body: NonNull<Body<T>>, home: u32, object: T) -> Block<T> {
+        let at = body.as_ptr();
         sync::writes(at, BODY);
-        Ok(Block {
+        // SAFETY: the caller's.
+        unsafe {
+            ptr::addr_of_mut!((*at).next).write(ptr::null_mut());
+            ptr::addr_of_mut!((*at).home).write(home);
+            ptr::addr_of_mut!((*at).object).write(ManuallyDrop::new(object));
+        }
+        Block {
             body,
             owns: PhantomData,
-        })
+        }
+    }
+
+    /// A close found the block.
+    fn find(self) {
+        let body = self.into_body();
+        sync::writes(body.as_ptr(), BODY);
+        // SAFETY: the block was ours.
+        let home = unsafe { mem::replace(&mut (*body.as_ptr()).home, FOUND) };
+        assert_ne!(home, FOUND, "a block is in two places");
     }
 
     /// The lane whose places use it.
@@ -88,7 +122,7 @@ impl<T> Block<T> {
 #[inline]
 pub(super) fn address<T>(body: NonNull<Body<T>>) -> NonNull<T> {
     // SAFETY: the field of a body that is there, whose address isn't null. No reference is made.
-    unsafe { NonNull::new_unchecked(ptr::addr_of_mut!((*body.as_ptr()).object)) }
+    unsafe { NonNull::new_unchecked(ptr::addr_of_mut!((*body.as_ptr()).object).cast()) }
 }
 
 impl<T> Deref for Block<T> {
@@ -109,22 +143,29 @@ impl<T> DerefMut for Block<T> {
     }
 }
 
+/// Drops the object. The block waits in its chunk for another one.
 impl<T> Drop for Block<T> {
     #[inline]
     fn drop(&mut self) {
         // (Apart, and by its word alone: a block whose address isn't told stays in a register.)
         #[cold]
         #[inline(never)]
-        unsafe fn free<T>(body: NonNull<Body<T>>) {
+        unsafe fn vacate<T>(body: NonNull<Body<T>>) {
+            sync::writes(body.as_ptr(), BODY);
             // SAFETY: the caller's.
-            drop(unsafe { Box::from_raw(body.as_ptr()) });
+            unsafe {
+                (*body.as_ptr()).home = VACANT;
+                // (Behind the drop of the object, also where that panics.)
+                let _vacant = Vacant::new(body);
+                address(body).as_ptr().drop_in_place();
+            }
         }
-        // SAFETY: `new` allocated the body by the same allocator with the layout of its type, and nobody else has it.
-        unsafe { free(self.body) };
+        // SAFETY: the block is ours, and its chunk is there as long as the block is anywhere.
+        unsafe { vacate(self.body) };
     }
 }
 
-/// Blocks one behind the other: the last that came goes first.
+/// Blocks one behind the other: the last that came goes first. Those of a chain that is dropped are their chunks' until the close.
 pub(crate) struct Chain<T> {
     first: *mut Body<T>,
     owns: PhantomData<Body<T>>,
@@ -173,22 +214,11 @@ impl<T> Chain<T> {
             Some(Block::from_body(body))
         }
     }
-}
 
-/// Drops its blocks, as a vector its elements: where the drop of one panics, the others are dropped all the same.
-impl<T> Drop for Chain<T> {
-    fn drop(&mut self) {
-        struct Others<'c, T>(&'c mut Chain<T>);
-        impl<T> Drop for Others<'_, T> {
-            fn drop(&mut self) {
-                while let Some(block) = self.0.pop() {
-                    drop(block);
-                }
-            }
-        }
-        let others = Others(self);
-        while let Some(block) = others.0.pop() {
-            drop(block);
+    /// A close finds its blocks, which are then those of their chunks.
+    pub(crate) fn find(mut self) {
+        while let Some(block) = self.pop() {
+            block.find();
         }
     }
 }
@@ -239,11 +269,5 @@ impl<T> Returned<T> {
         let first = self.first.swap(ptr::null_mut(), Ordering::Acquire);
         // SAFETY: what was pushed, and is here no more.
         unsafe { Chain::of(first) }
-    }
-}
-
-impl<T> Drop for Returned<T> {
-    fn drop(&mut self) {
-        drop(self.take());
     }
 }

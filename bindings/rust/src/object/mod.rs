@@ -1,9 +1,11 @@
-//! Where objects stand: each in a block of memory of its own, from its first use to the close. The pool's places have a pointer
+//! Where objects stand: each in a block of its own, from its first use to the close. The pool's places have a pointer
 //! to a block, or none; so an object never moves, and whoever clears a place takes the block out with one word.
 mod block;
+mod chunk;
 mod memory;
 
-pub(crate) use block::{Block, Chain, Returned};
+pub(crate) use block::{Block, Chain, Returned, FINDS_LOST};
+pub(crate) use chunk::{Chunk, Chunks, Crowded};
 pub(crate) use memory::{Counted, Fixed, Later};
 
 use crate::erased::slotcell;
