@@ -351,12 +351,18 @@ impl Clear for Stuck {
 /// An object that is dropped as its `clear` panicked leaves its memory to the next one.
 #[test]
 fn a_block_whose_object_was_dropped_has_the_next() {
-    let pool = Pool::<Stuck>::open(SHAPE).expect("memory for a pool");
+    let shape = Shape {
+        first_page: 64,
+        pages: 1,
+        ..SHAPE
+    };
+    let pool = Pool::<Stuck>::open(shape).expect("memory for a pool");
     let lane = pool.lane().expect("a lane");
     let lose = |count: u32| {
         let blocks = BLOCKS.get();
         for _ in 0..count {
-            let keys = [(); 6].map(|()| lane.create().expect("a place").publish());
+            // (More than the first chunk of a lane has blocks for.)
+            let keys = [(); 40].map(|()| lane.create().expect("a place").publish());
             for key in keys {
                 let cleared = panic::catch_unwind(AssertUnwindSafe(|| lane.clear(key)));
                 assert!(cleared.is_err());
@@ -364,7 +370,7 @@ fn a_block_whose_object_was_dropped_has_the_next() {
         }
         BLOCKS.get() - blocks
     };
-    lose(20);
+    lose(1);
     assert_eq!(lose(200), 0, "more memory was asked for");
 }
 

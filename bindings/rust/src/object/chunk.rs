@@ -18,12 +18,15 @@ const HEAD: &str = "the head of a chunk";
 
 /// What stands in front of the blocks of a chunk.
 struct Head<T> {
-    /// The chunk that the lane had before.
+    /// The chunk that the lane had before, and its first one; written when the lane gets this one.
     before: *mut Head<T>,
+    first: *mut Head<T>,
+    /// The next chunk of those that have room.
+    roomy: *mut Head<T>,
     /// How many blocks it has room for, and how many there are.
     room: u32,
     count: u32,
-    /// Blocks without an object, by `next`: those that the lane has seen, and those that came since.
+    /// Of a lane's first chunk: blocks of all its chunks without an object, by `next`. The lane has seen some, and the others came since.
     seen: *mut Body<T>,
     vacant: AtomicPtr<Body<T>>,
 }
@@ -64,14 +67,14 @@ impl<T> Head<T> {
         }
     }
 
-    /// A block of the chunk without an object, if there is one.
+    /// The next block of the chunk, if there is room.
     ///
     /// # Safety
     ///
     /// The chunk is there, and nobody else has its lane meanwhile.
-    unsafe fn empty_block(head: *mut Head<T>) -> Option<NonNull<Body<T>>> {
+    unsafe fn next_block(head: *mut Head<T>) -> Option<NonNull<Body<T>>> {
         sync::writes(head, HEAD);
-        // SAFETY: the caller's. A block that is vacant is the chunk's alone.
+        // SAFETY: the caller's.
         unsafe {
             if (*head).count < (*head).room {
                 let body = Head::block(head, (*head).count);
@@ -79,6 +82,19 @@ impl<T> Head<T> {
                 (*head).count += 1;
                 return NonNull::new(body);
             }
+        }
+        None
+    }
+
+    /// A block of any chunk of the lane that has no object any more, if there is one.
+    ///
+    /// # Safety
+    ///
+    /// It is the lane's first chunk, and nobody else has the lane meanwhile.
+    unsafe fn vacated(head: *mut Head<T>) -> Option<NonNull<Body<T>>> {
+        sync::writes(head, HEAD);
+        // SAFETY: the caller's. A block that is vacant is the lane's alone.
+        unsafe {
             let vacant = &*ptr::addr_of!((*head).vacant);
             if (*head).seen.is_null() && !vacant.load(Ordering::Relaxed).is_null() {
                 (*head).seen = vacant.swap(ptr::null_mut(), Ordering::Acquire);
@@ -91,13 +107,13 @@ impl<T> Head<T> {
     }
 }
 
-/// A block that has no object any more, until this is dropped: then it waits in its chunk for another one.
+/// A block that has no object any more, until this is dropped: then it waits in its lane's first chunk for another one.
 pub(super) struct Vacant<T>(NonNull<Body<T>>);
 
 impl<T> Vacant<T> {
     /// # Safety
     ///
-    /// The block is the caller's, who has it no more. Its chunk is there until this is dropped.
+    /// The block is the caller's, who has it no more. Its lane's chunks are there until this is dropped.
     pub(super) unsafe fn new(body: NonNull<Body<T>>) -> Vacant<T> {
         Vacant(body)
     }
@@ -107,8 +123,8 @@ impl<T> Drop for Vacant<T> {
     fn drop(&mut self) {
         let body = self.0.as_ptr();
         sync::writes(body, BODY);
-        // SAFETY: the chunk is there, whose lane reads and writes the rest of its head.
-        let vacant = unsafe { &*ptr::addr_of!((*Head::of(body)).vacant) };
+        // SAFETY: the chunks are there, whose lane reads and writes the rest of their heads.
+        let vacant = unsafe { &*ptr::addr_of!((*(*Head::of(body)).first).vacant) };
         let mut first = vacant.load(Ordering::Relaxed);
         loop {
             // SAFETY: the block is ours until it stands there.
@@ -137,6 +153,8 @@ impl<T> Chunk<T> {
         let head = NonNull::new(at).ok_or(MemoryRefused)?;
         let begun = Head {
             before: ptr::null_mut(),
+            first: ptr::null_mut(),
+            roomy: ptr::null_mut(),
             room,
             count: 0,
             seen: ptr::null_mut(),
@@ -200,6 +218,8 @@ pub(crate) struct Crowded<T> {
 /// The chunks of a lane: the one that came last goes first.
 pub(crate) struct Chunks<T> {
     last: *mut Head<T>,
+    /// Those that have room: one, or more where several threads brought one at once.
+    roomy: *mut Head<T>,
     owns: PhantomData<Chunk<T>>,
 }
 
@@ -207,6 +227,7 @@ impl<T> Chunks<T> {
     pub(crate) fn new() -> Chunks<T> {
         Chunks {
             last: ptr::null_mut(),
+            roomy: ptr::null_mut(),
             owns: PhantomData,
         }
     }
@@ -222,7 +243,7 @@ impl<T> Chunks<T> {
             self.push(chunk);
         }
         match self.empty_block() {
-            // SAFETY: the block is ours, and has no object.
+            // SAFETY: the block is ours, and has no object. Its chunk is there until the close, behind which no block of the lane is anywhere.
             Some(body) => Ok(unsafe { Block::begin(body, home, object) }),
             None => Err(Crowded {
                 object,
@@ -247,24 +268,30 @@ impl<T> Chunks<T> {
     }
 
     fn empty_block(&mut self) -> Option<NonNull<Body<T>>> {
-        let mut head = self.last;
-        while !head.is_null() {
-            // SAFETY: the chunks of the lane, which is ours.
-            let (body, before) = unsafe { (Head::empty_block(head), (*head).before) };
+        while !self.roomy.is_null() {
+            // SAFETY: a chunk of the lane, which is ours.
+            let (body, next) = unsafe { (Head::next_block(self.roomy), (*self.roomy).roomy) };
             if body.is_some() {
                 return body;
             }
-            head = before;
+            // (It is full, and is looked at no more.)
+            self.roomy = next;
         }
-        None
+        // SAFETY: as above.
+        unsafe { Head::vacated(self.last.as_ref()?.first) }
     }
 
     fn push(&mut self, chunk: Chunk<T>) {
         let head = mem::ManuallyDrop::new(chunk).head.as_ptr();
         sync::writes(head, HEAD);
-        // SAFETY: the chunk is ours.
-        unsafe { (*head).before = self.last };
+        // SAFETY: the chunk is ours, and those that the lane has.
+        unsafe {
+            (*head).before = self.last;
+            (*head).first = self.last.as_ref().map_or(head, |last| last.first);
+            (*head).roomy = self.roomy;
+        }
         self.last = head;
+        self.roomy = head;
     }
 
     fn pop(&mut self) -> Option<Chunk<T>> {
