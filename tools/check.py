@@ -73,7 +73,7 @@ VERSIONS = [
     ("docs/pages/man/poolrun.1", r'"poolrun ([\d.]+)"'),
     ("tools/release", r'^VERSION = "([\d.]+)"'),
     ("CHANGELOG.md", r"\A# Changes\n(?:(?!## \d).*\n)*## ([\d.]+)"),
-    ("README.md", r"\*\*Version\*\* ([\d.]*\d)"),
+    ("README.md", r"all have the same version: ([\d.]*\d)"),
 ]
 
 # Figures by their units: where they are at home. On another page such a number stands only if it stands there too.
