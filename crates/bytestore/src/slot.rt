@@ -7,7 +7,7 @@ ghost use Rattle.bytestore.specs.contracts.caller.Caller.{the_row as caller_row}
 ghost use Rattle.poolhandle.specs.Slot.{slot_owns};
 
 use crate::caller::Caller;
-use poolhandle::unboxed::Unboxed;
+use boxplace::Unboxed;
 use std::alloc::Global;
 use std::marker::Model;
 

@@ -5,14 +5,12 @@ use Rattle.slotcell.specs.contracts.objects.ByteBuf as buffer
 use Rattle.slotcell.specs.contracts.objects.ByteBufClear.TheImpl as clears
 use Rattle.shardpool.specs.contracts.pool.Pool as pool
 use Rattle.shardpool.proofs.pool.Pool.TheSendSync as pool_crossing
-use Rattle.counted_slot.proofs.Counted.TheSendSync as counted_crossing
+use Rattle.boxplace.proofs.place.Place.TheSendSync as place_crossing
 use Rattle.poolhandle.specs.contracts.counting_lane.CountingLane as lane
 use Rattle.poolhandle.proofs.counting_lane.CountingLane.TheSendSync as lane_crossing
-use Rattle.poolhandle.proofs.unboxed.Unboxed.TheSendSync as unboxed_crossing
 use Rattle.lanestore.specs.contracts.kept.Kept as kept
 use Rattle.lanestore.specs.contracts.kept.Fillings as fillings
 use Rattle.lanestore.specs.contracts.keeper.Keeper as keeper
-use Rattle.lanestore.specs.contracts.place.Spare as spare
 use Rattle.lanestore.specs.contracts.store.Store as store
 
 pool_send : IsSend (pool.the_row buffer.the_row clears.ghosts)
@@ -33,14 +31,8 @@ fillings_send = search (kept_send, sendable, crosses) depth 20
 keeper_send : IsSend (keeper.the_row buffer.the_row clears.ghosts)
 keeper_send = search (lane_send, fillings_send, sendable, crosses) depth 80
 
-spare_send : IsSend (spare.the_row buffer.the_row clears.ghosts)
-spare_send = search (unboxed_crossing.the_send, keeper_send, sendable, crosses) depth 20
-
-spare_sync : IsSync (spare.the_row buffer.the_row clears.ghosts)
-spare_sync = search (unboxed_crossing.the_sync, keeper_send, sendable, crosses) depth 20
-
 pub store_sync : IsSync (store.the_row buffer.the_row clears.ghosts)
-store_sync = search (counted_crossing.the_sync, counted_crossing.the_send, pool_send, pool_sync, spare_send, spare_sync, sendable, crosses) depth 80
+store_sync = search (place_crossing.the_sync, place_crossing.the_send, pool_send, pool_sync, keeper_send, sendable, crosses) depth 80
 
 pub store_send : IsSend (store.the_row buffer.the_row clears.ghosts)
-store_send = search (counted_crossing.the_send, pool_send, spare_send, spare_sync, sendable, crosses) depth 80
+store_send = search (place_crossing.the_send, pool_send, keeper_send, sendable, crosses) depth 80

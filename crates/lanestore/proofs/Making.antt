@@ -1,16 +1,12 @@
 -- What a lane made.
-use Rattle.std.proofs.Common.{◌≡◌, ◌≢◌, ℕ, List, [], ◌∷◌, ◌++◌, slice_index_or, refl, sym, ap, ◌∙◌, subst}
-use Rattle.std.specs.List.Sorted.{IsPermutation}
+use Rattle.std.proofs.Common.{◌≢◌, ℕ, List, ◌∷◌, Option, Some, None, slice_index_or, sym, subst}
+use Rattle.std.specs.Option.{MatchOption}
 use Rattle.std.proofs.lemmas.List.Elements.{All-head, All-tail, All-push}
 use Rattle.std.proofs.lemmas.List.Sorted.{All-permutation}
-use Rattle.keybits.specs.Keys.{place_of}
-use Rattle.poolsteps.specs.Layout.{slot_start}
-use Rattle.poolsteps.specs.Views.{the_lane}
-use Rattle.poolsteps.specs.Told.{MayPublish}
-use Rattle.shardpool.specs.Carried.{AreEmptied}
-use Rattle.shardpool.specs.Tokens.{LaneOf, FillingOf}
-use Rattle.shardpool.specs.Lanes.{Made, IsFilling}
-use Rattle.shardpool.specs.AfterCalls.{KeepsFillings, KeepsOthers}
+use Rattle.shardpool.specs.Tokens.{PoolOf, LaneOf, FillingOf}
+use Rattle.shardpool.specs.Lanes.{Made}
+use Rattle.shardpool.specs.AfterCalls.{KeepsFillings, KeepsOthers, AfterGet}
+use Rattle.poolhandle.specs.Looks.{Looks}
 use Rattle.lanestore.specs.declared.kept.Kept.{Kept}
 use Rattle.lanestore.specs.Fillings.{AreMade, HaveNot, Gain, Lose}
 
@@ -53,3 +49,9 @@ module _ {T : Type 0} where
   -- none of them is of a key that no filling of the lane has
   pub apart : (key : ℕ) (lane : LaneOf) (kept : List (Kept T)) → ((other : FillingOf T) → Made lane other → other.key ≢ key) → AreMade lane kept → HaveNot key kept
   apart key lane kept none made k d low = none (slice_index_or kept k d).filling (made k d low)
+
+-- after a look
+pub looks-keep : {T A : Type 0} (content : T → List ℕ) (pool : PoolOf) (key : ℕ) (old new : LaneOf) (sees : A → T → Type 0) (result : Option A)
+    → MatchOption result (AfterGet T pool key old new None) (λ answer. Looks content pool key (sees answer) old new) → KeepsFillings T old new
+looks-keep content pool key old new sees None missed = missed.fillings
+looks-keep content pool key old new sees (Some answer) looked = λ filling made. looked.releases.fillings filling (looked.gets.fillings filling made)

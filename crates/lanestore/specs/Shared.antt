@@ -1,5 +1,5 @@
 -- What a call does by a lane that is had for that call alone.
-use Rattle.std.specs.Prelude.{◌≡◌, ◌⊎◌, ℕ, ◌≤◌, length}
+use Rattle.std.specs.Prelude.{◌≡◌, ℕ, ◌≤◌, length}
 use mathlib.Core.List.{IsPrefix}
 use Rattle.keybits.specs.Keys.{place_of}
 use Rattle.keybits.specs.Places.{shard_of}

@@ -1,11 +1,11 @@
 -- What calls do by a lane that is had for a while.
-use Rattle.std.specs.Prelude.{◌≡◌, ℕ, ◌+◌, List, [], Bool, true, false, Option, Some, None, Result, Ok, Err, IfSome, option_map}
+use Rattle.std.specs.Prelude.{◌≡◌, ℕ, List, [], Bool, true, false, Option, Some, None, Result, Ok, Err, IfSome, option_map}
 use mathlib.Core.List.{IsPrefix}
 use Rattle.poolsteps.specs.Seats.{looked_once}
 use Rattle.slotcell.specs.declared.objects.Clear.{Ghosts}
 use Rattle.shardpool.specs.declared.create.CreateFault.{CreateFault}
-use Rattle.shardpool.specs.Tokens.{PoolOf, LaneOf, FillingOf, RefOf, NoteOf}
-use Rattle.shardpool.specs.Lanes.{Owns, Issued, Made, Did, holds, refs}
+use Rattle.shardpool.specs.Tokens.{PoolOf, LaneOf, FillingOf, NoteOf}
+use Rattle.shardpool.specs.Lanes.{Owns, Issued, Made, Did, refs}
 use Rattle.shardpool.specs.AfterCalls.{HoldsAsMany, AfterGet, AfterCreate, AfterPublish, AfterDowngrade}
 use Rattle.lanestore.specs.declared.kept.Kept.{Kept}
 use Rattle.lanestore.specs.declared.lent.Lent.{Lent}

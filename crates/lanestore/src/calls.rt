@@ -8,11 +8,12 @@ use shardpool::{CreateFault, Note};
 use slotcell::Clear;
 
 impl<T: Clear + Drop> Store<T> {
-    ghost use Rattle.std.specs.Prelude.{◌≡◌, ℕ, IfOk, IfErr, MatchOption};
+    ghost use Rattle.std.specs.Prelude.{◌≡◌, ℕ, None, IfOk, IfErr, MatchOption};
     ghost use Rattle.std.specs.Fn.{FnOnceReturnsAt};
     ghost use Rattle.seqpool.specs.Histories.{PublishedAt};
     ghost use Rattle.shardpool.specs.Lanes.{Issued, holds};
-    ghost use Rattle.shardpool.specs.AfterCalls.{AfterReleaseKey, AfterClear};
+    ghost use Rattle.shardpool.specs.AfterCalls.{AfterGet, AfterReleaseKey, AfterClear};
+    ghost use Rattle.poolhandle.specs.Looks.{Looks};
     ghost use Rattle.lanestore.specs.Visits.{Lends, Puts};
     ghost use Rattle.lanestore.specs.Shared.{ByLane, ByLaneAt, Refuses, HasMost};
 
@@ -55,6 +56,34 @@ impl<T: Clear + Drop> Store<T> {
     {
         let visit = self.visit(lent.lane, told)?;
         let answer = visit.with(lent.key, look);
+        Ok((answer, self.leave(visit)))
+    }
+
+    /// Gets a key, calls `look` on its object and gives the reference back, by a lane that nobody has, from this number on.
+    /// None, and `look` isn't called, where the get finds none.
+    #[inline]
+    pub fn look<A, F: FnOnce(&T) -> A>(
+        &self,
+        from: u32,
+        told: Note<T>,
+        key: u64,
+        look: F,
+    ) -> Result<(Option<A>, Note<T>), (Refusal, Note<T>)>
+        requires told { Issued self.now.pool told }
+        requires may { F.IsAlwaysCallable look }
+        ensures ok { IfOk result (λ r. ByLane self.now.pool told r.1 (λ before after.
+            MatchOption r.0 (AfterGet T self.now.pool key before after None)
+            (λ answer. Looks T.content self.now.pool key (λ object. FnOnceReturnsAt F.FnOnce look object answer) before after))) }
+        ensures err { IfErr result (λ back. Refuses T self.now.pool told (HasMost T) back.0 back.1) }
+    {
+        let mut visit = match self.visit_any(from, told) {
+            Ok(visit) => visit,
+            Err(told) => return Err((Refusal::Busy, told)),
+        };
+        if !visit.has_room() {
+            return Err((Refusal::References, self.leave(visit)));
+        }
+        let answer = visit.look(&self.pool, key, look);
         Ok((answer, self.leave(visit)))
     }
 

@@ -5,10 +5,10 @@ ghost use Rattle.shardpool.specs.Lanes.{Owns};
 ghost use Rattle.shardpool.specs.Closings.{AreLanes, Closes};
 ghost use Rattle.lanestore.specs.Visits.{lane_of};
 
-use crate::place::Spare;
+use crate::keeper::Keeper;
 use crate::store::Store;
 use crate::visit::Visit;
-use counted_slot::Counted;
+use boxplace::Place;
 use poolhandle::close_lanes;
 use shardpool::{Census, Lane, Note, Pool};
 use slotcell::Clear;
@@ -63,7 +63,11 @@ fn close_with<T: Clear + Drop>(
     ensures { IfSome result (λ census. (lanes : List LaneOf) × AreLanes store.pool lanes × Closes store.pool lanes census
         × Contains lanes (lane_of visit)) }
 {
-    let Store { pool, places } = store;
+    let Store {
+        pool,
+        places,
+        alloc: _,
+    } = store;
     let Visit { keeper } = visit;
     let lanes = gathered(&pool, row, Box::into_inner(keeper).into_lane(), places)?;
     close_lanes(pool, lanes)
@@ -74,7 +78,7 @@ fn gathered<T: Clear + Drop>(
     pool: &Pool<T>,
     row: Vec<Lane<T>>,
     lane: Lane<T>,
-    places: Vec<Counted<Option<Spare<T>>>>,
+    places: Vec<Place<Keeper<T>>>,
 ) -> Option<Vec<Lane<T>>>
     requires row { row.items ≡ [] }
     requires lane { Owns pool.now lane }
@@ -90,7 +94,7 @@ fn gathered<T: Clear + Drop>(
 pub(crate) fn taken_out<T: Clear + Drop>(
     pool: &Pool<T>,
     row: Vec<Lane<T>>,
-    places: Vec<Counted<Option<Spare<T>>>>,
+    places: Vec<Place<Keeper<T>>>,
 ) -> Option<Vec<Lane<T>>>
     requires row { All (λ other. Owns pool.now other) row.items }
     requires places { All (λ tag. tag ≡ pool.now) places.items }
@@ -100,10 +104,8 @@ pub(crate) fn taken_out<T: Clear + Drop>(
     let _ = pool;
     let mut lanes = row;
     for place in places {
-        if let Some(spare) = place.into_inner() {
-            lanes
-                .push(Box::into_inner(spare.into_keeper()).into_lane())
-                .ok()?;
+        if let Some(keeper) = place.into_inner() {
+            lanes.push(Box::into_inner(keeper).into_lane()).ok()?;
         }
     }
     Some(lanes)

@@ -7,9 +7,8 @@ ghost use Rattle.lanestore.specs.Visits.{IsNew};
 
 use crate::closing::taken_out;
 use crate::keeper::Keeper;
-use crate::place::Spare;
 use crate::store::Store;
-use counted_slot::Counted;
+use boxplace::Place;
 use poolhandle::close_lanes;
 use shardpool::{Lane, Pool};
 use slotcell::Clear;
@@ -35,7 +34,7 @@ pub(crate) fn stored<T: Clear + Drop>(
 /// A row for the places of all lanes, and one for lanes that are given back.
 #[derive(Drop)]
 struct Rows<T: Clear> {
-    places: Vec<Counted<Option<Spare<T>>>>,
+    places: Vec<Place<Keeper<T>>>,
     lanes: Vec<Lane<T>>,
 }
 
@@ -66,8 +65,8 @@ fn each_stored<T: Clear + Drop>(
     } = rows;
     let mut rest = lanes.into_iter();
     while let Some(lane) = rest.next() {
-        match spare_of(alloc, lane) {
-            Ok(spare) => places.push(Counted::new(Some(spare), &pool)).ok()?,
+        match keeper_of(alloc, lane) {
+            Ok(keeper) => places.push(Place::new(keeper, &pool)).ok()?,
             Err(lane) => {
                 give_up(pool, places, lane, rest, back);
                 return None;
@@ -77,17 +76,21 @@ fn each_stored<T: Clear + Drop>(
     if places.len() != pool.shape().lanes as usize {
         return None;
     }
-    Some(Store { pool, places })
+    Some(Store {
+        pool,
+        places,
+        alloc,
+    })
 }
 
 /// What lies in the place of a lane. Where memory was refused the lane comes back.
-fn spare_of<T: Clear + Drop>(alloc: Global, lane: Lane<T>) -> Result<Spare<T>, Lane<T>>
+fn keeper_of<T: Clear + Drop>(alloc: Global, lane: Lane<T>) -> Result<Box<Keeper<T>>, Lane<T>>
     requires { refs lane ≡ 0 }
-    ensures ok { IfOk result (λ spare. spare.keeper.object.lane ≡ lane) }
+    ensures ok { IfOk result (λ keeper. keeper.value.lane ≡ lane) }
     ensures err { IfErr result (λ back. back ≡ lane) }
 {
     match Box::new(alloc, Keeper::new(alloc, lane)?) {
-        Ok(keeper) => Ok(Spare::new(keeper)),
+        Ok(keeper) => Ok(keeper),
         Err(refused) => Err(refused.value.into_lane()),
     }
 }
@@ -96,7 +99,7 @@ fn spare_of<T: Clear + Drop>(alloc: Global, lane: Lane<T>) -> Result<Spare<T>, L
 /// for them.
 fn give_up<T: Clear + Drop>(
     pool: Pool<T>,
-    places: Vec<Counted<Option<Spare<T>>>>,
+    places: Vec<Place<Keeper<T>>>,
     next: Lane<T>,
     rest: IntoIter<Lane<T>>,
     row: Vec<Lane<T>>,
@@ -114,7 +117,7 @@ fn give_up<T: Clear + Drop>(
 /// The lanes in these places, the next one and the rest. None where the row has no room for all.
 fn all_lanes<T: Clear + Drop>(
     pool: &Pool<T>,
-    places: Vec<Counted<Option<Spare<T>>>>,
+    places: Vec<Place<Keeper<T>>>,
     next: Lane<T>,
     rest: IntoIter<Lane<T>>,
     row: Vec<Lane<T>>,

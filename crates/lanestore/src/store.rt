@@ -2,11 +2,12 @@
 ghost use Rattle.std.specs.Prelude.{◌≡◌, ◌<◌, ◌≤◌, All, IfSome, length};
 ghost use Rattle.shardpool.specs.Lanes.{Owns};
 
+use crate::keeper::Keeper;
 use crate::opening::stored;
-use crate::place::{Spare, give, take};
+use crate::place::{give, take};
 use crate::refusal::Refusal;
 use crate::visit::Visit;
-use counted_slot::Counted;
+use boxplace::Place;
 use keybits::{Shape, place_of, shard_of};
 use shardpool::{Note, OpenFault, Pool, open, open_wide};
 use slotcell::Clear;
@@ -16,7 +17,8 @@ use std::alloc::Global;
 #[derive(Drop)]
 pub struct Store<T: Clear> {
     pub(crate) pool: Pool<T>,
-    pub(crate) places: Vec<Counted<Option<Spare<T>>>>,
+    pub(crate) places: Vec<Place<Keeper<T>>>,
+    pub(crate) alloc: Global,
     ghost of_pool: { All (λ tag. tag ≡ pool) places.items },
     ghost all: { length places.items ≡ pool.shape.lanes },
 }
@@ -101,6 +103,7 @@ impl<T: Clear + Drop> Store<T> {
 
     /// Takes a lane that nobody has, from this number on and then from the first, and tells it what the caller was told.
     /// Where all are had the note comes back.
+    #[inline]
     pub fn visit_any(&self, from: u32, told: Note<T>) -> Result<Visit<T>, Note<T>>
         requires { Issued self.now.pool told }
         ensures lane { IfOk result (λ visit. Owns self.now.pool (lane_of visit)) }
@@ -117,6 +120,7 @@ impl<T: Clear + Drop> Store<T> {
     }
 
     /// Gives a lane back. The note has all that it has seen: what the caller was told, and what its calls did since.
+    #[inline]
     pub fn leave(&self, visit: Visit<T>) -> Note<T>
         requires { Owns self.now.pool (lane_of visit) }
         ensures note { Issued self.now.pool result }
@@ -146,23 +150,20 @@ impl<T: Clear + Drop> Store<T> {
         }
     }
 
+    #[inline]
     fn give_back(&self, visit: Visit<T>)
         requires { Owns self.now.pool (lane_of visit) }
     {
         visit.keeper.lane.lane().seen_law();
         let at = visit.number() as usize;
-        give(&self.places[at], &self.pool, visit);
+        give(&self.places[at], visit);
     }
 
     /// Takes the lane of this number, which hears nothing yet. None where another call has it.
     pub fn take_at(&self, number: u32) -> Option<Visit<T>>
         ensures { IfSome result (λ visit. Owns self.now.pool (lane_of visit) × ((lane_of visit).number ≡ number)) }
     {
-        let at = number as usize;
-        if at >= self.places.len() {
-            return None;
-        }
-        let visit = take(&self.places[at], &self.pool)?;
+        let visit = self.take_from(number)?;
         if visit.number() != number {
             // (Never: each lane lies in the place of its number.)
             self.give_back(visit);
@@ -173,7 +174,33 @@ impl<T: Clear + Drop> Store<T> {
 
     /// Takes a lane that nobody has, from this number on and then from the first. It hears nothing yet. None where all are
     /// had.
+    #[inline]
     pub fn take_any(&self, from: u32) -> Option<Visit<T>>
+        ensures { IfSome result (λ visit. Owns self.now.pool (lane_of visit)) }
+    {
+        match self.take_from(from) {
+            Some(visit) => Some(visit),
+            None => self.take_elsewhere(from),
+        }
+    }
+
+    /// Takes the lane that lies in the place of this number. None where another call has it, and where there is no such
+    /// place.
+    #[inline]
+    fn take_from(&self, number: u32) -> Option<Visit<T>>
+        ensures { IfSome result (λ visit. Owns self.now.pool (lane_of visit)) }
+    {
+        let at = number as usize;
+        if at >= self.places.len() {
+            return None;
+        }
+        take(&self.places[at], self.alloc)
+    }
+
+    /// As `take_any`, where the first place that it looks at has no lane.
+    #[cold]
+    #[inline(never)]
+    fn take_elsewhere(&self, from: u32) -> Option<Visit<T>>
         ensures { IfSome result (λ visit. Owns self.now.pool (lane_of visit)) }
     {
         let lanes = self.pool.shape().lanes;
@@ -188,7 +215,7 @@ impl<T: Clear + Drop> Store<T> {
         ensures { IfSome result (λ visit. Owns self.now.pool (lane_of visit)) }
     {
         for number in low..high {
-            if let Some(visit) = self.take_at(number) {
+            if let Some(visit) = self.take_from(number) {
                 return Some(visit);
             }
         }

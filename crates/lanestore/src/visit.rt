@@ -19,7 +19,8 @@ impl<T: Clear + Drop> Visit<T> {
     ghost use Rattle.steplaws.specs.Facts.{most_references};
     ghost use Rattle.shardpool.specs.Tokens.{FillingOf};
     ghost use Rattle.shardpool.specs.Lanes.{Owns, Issued, Made, holds, refs};
-    ghost use Rattle.shardpool.specs.AfterCalls.{AfterCreate, AfterPublish, AfterReleaseKey, AfterClear};
+    ghost use Rattle.shardpool.specs.AfterCalls.{AfterCreate, AfterPublish, AfterGet, AfterReleaseKey, AfterClear};
+    ghost use Rattle.poolhandle.specs.Looks.{Looks};
     ghost use Rattle.lanestore.specs.declared.kept.TheConstants.{MOST_FILLINGS};
     ghost use Rattle.lanestore.specs.Fillings.{HaveNot, Turn};
     ghost use Rattle.lanestore.specs.Visits.{lane_of, kept_of, keeper_of, Hears, Tells, Lends, Creates, Publishes, Downgrades, Puts};
@@ -96,6 +97,21 @@ impl<T: Clear + Drop> Visit<T> {
     {
         let object = self.read(key)?;
         Some(look(object))
+    }
+
+    /// Gets a key, calls `look` on its object, and gives the reference back. None, and `look` isn't called, where the get
+    /// finds none.
+    #[inline(always)]
+    pub fn look<A, F: FnOnce(&T) -> A>(&mut self, pool: &Pool<T>, key: u64, look: F) -> Option<A>
+        requires owns { Owns pool.now (lane_of self.old) }
+        requires room { refs (lane_of self.old) < most_references }
+        requires may { F.IsAlwaysCallable look }
+        ensures looks { MatchOption result (AfterGet T pool.now key (lane_of self.old) (lane_of self.new) None)
+            (λ answer. Looks T.content pool.now key (λ object. FnOnceReturnsAt F.FnOnce look object answer)
+            (lane_of self.old) (lane_of self.new)) }
+        ensures kept { kept_of self.new ≡ kept_of self.old }
+    {
+        self.keeper.lane.look(pool, key, look)
     }
 
     /// Gives back a reference to a key: whether the lane had one.

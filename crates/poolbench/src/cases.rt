@@ -18,7 +18,7 @@ pub enum Case {
 }
 
 /// The cases by name.
-pub const CASES: [(&str, Case); 25] = [
+pub const CASES: [(&str, Case); 26] = [
     ("bare", Case::Solo(Solo::Bare)),
     ("alu", Case::Solo(Solo::Alu)),
     ("get-own", Case::Pool(Deed::Get(Whose::Own))),
@@ -44,6 +44,7 @@ pub const CASES: [(&str, Case); 25] = [
     ("page", Case::Solo(Solo::Page)),
     ("get-large", Case::Solo(Solo::Large)),
     ("clone", Case::Solo(Solo::Clone)),
+    ("look-many", Case::Solo(Solo::Look)),
 ];
 
 /// The name of the case that fills a pool, which is done where it is named alone, as it takes longest.

@@ -11,6 +11,7 @@ mod passes;
 mod plans;
 mod pools;
 mod rounds;
+mod stores;
 
 use crate::cases::{CASES, Case, Plan};
 use crate::fault::Fault;

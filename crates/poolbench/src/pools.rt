@@ -9,7 +9,7 @@ use slotcell::{ByteBuf, Clear};
 use std::alloc::{AllocError, Global};
 
 /// The bytes of each object.
-const BYTES: [u8; 64] = [7; 64];
+pub const BYTES: [u8; 64] = [7; 64];
 
 /// How many places the shard of a lane has.
 pub const PLACES: u32 = 32;

@@ -4,6 +4,7 @@ use crate::openings::{LARGEST, ONE_LANE, TILL_LAST_PAGE, open_and_close};
 use crate::owners::read_clones;
 use crate::passes::Ways;
 use crate::pools::{PLACES, Worker};
+use crate::stores::look_many;
 use keybits::Shape;
 use std::alloc::Global;
 use std::sync::Wait;
@@ -30,6 +31,8 @@ pub enum Solo {
     Large,
     /// An owned reference is cloned, and the object is read by the clone.
     Clone,
+    /// Each of 16 objects is read in turn, by a lane that lies in a store and is had for the one call.
+    Look,
 }
 
 /// What is done with objects of the lane's own.
@@ -90,7 +93,7 @@ impl Solo {
             Solo::Bare | Solo::Alu => 0,
             Solo::Open | Solo::Large => LARGEST.lanes,
             Solo::Page => ONE_LANE.lanes,
-            Solo::Clone => 1,
+            Solo::Clone | Solo::Look => 1,
         }
     }
 
@@ -103,6 +106,7 @@ impl Solo {
             Solo::Page => open(alloc, ONE_LANE, TILL_LAST_PAGE, rounds),
             Solo::Large => read_large(alloc, rounds),
             Solo::Clone => read_clones(alloc, rounds),
+            Solo::Look => look_many(alloc, rounds),
         }
     }
 }

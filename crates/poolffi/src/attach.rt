@@ -13,7 +13,7 @@ use bytestore::found::Found;
 use bytestore::slot::PoolSlot;
 use bytestore::{Refusal, close, open_caller};
 use keybits::Shape;
-use poolhandle::unboxed::Unboxed;
+use boxplace::Unboxed;
 use shardpool::OpenFault;
 use std::alloc::Global;
 use std::mem::replace;

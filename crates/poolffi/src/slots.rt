@@ -6,7 +6,7 @@ ghost use Rattle.poolffi.specs.Exports.{HasNoLane, written_over};
 use poolhandle::Refusal;
 use poolhandle::handle::Handle;
 use poolhandle::slot::Slot;
-use poolhandle::unboxed::Unboxed;
+use boxplace::Unboxed;
 use std::alloc::Global;
 use std::mem::replace;
 

@@ -6,4 +6,3 @@ mod References
 pub mod SlotFields
 pub mod Steps
 mod Turning
-pub mod UnboxedFields

@@ -204,3 +204,11 @@ module _ (old new : LaneOf) (rows after : List KeyCount) (shape : new.shape ≡ 
       let same : after ≡ slice_set rows (slot_start old.shape (place_of key)) (record row { count = row.count - 1 })
       = loses row stands ∙ ap (λ (i : ℕ). slice_set rows i (record row { count = row.count - 1 })) here in
       subst (CountsAs new) (sym same) (counts-lose old new rows shape counts key inside row there less some)
+
+-- one reference to a key came, and one went
+pub given-back : (key : ℕ) (old between new : LaneOf) → HoldsOneMore key old between → HoldsOneLess key between new → HoldsAsMany old new
+given-back key old between new more less k = back (key == k) (holds old k) (holds between k) (holds new k) (more k) (less k)
+  where
+    back : (same : Bool) (before meanwhile now : ℕ) → meanwhile ≡ (if same then before + 1 else before) → now ≡ (if same then meanwhile - 1 else meanwhile) → now ≡ before
+    back true before meanwhile now come go = omega (arith, come, go)
+    back false before meanwhile now come go = go ∙ come

@@ -3,6 +3,7 @@ pub mod Closed
 pub mod Counts
 pub mod Filled
 pub mod LaneCalls
+pub mod Looks
 pub mod Opened
 pub mod Slot
 pub mod SlotLends

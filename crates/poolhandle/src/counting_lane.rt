@@ -39,7 +39,8 @@ impl<T: Clear> Model for CountingLane<T> {
 }
 
 impl<T: Clear + Drop> CountingLane<T> {
-    ghost use Rattle.std.specs.Prelude.{◌≡◌, ◌<◌, ◌≤◌, option_map, IfOk, IfErr, IfSome, IsNone};
+    ghost use Rattle.std.specs.Prelude.{◌≡◌, ◌<◌, ◌≤◌, None, option_map, IfOk, IfErr, IfSome, IsNone, MatchOption};
+    ghost use Rattle.std.specs.Fn.{FnOnceReturnsAt};
     ghost use Rattle.keybits.specs.Keys.{place_of};
     ghost use Rattle.poolsteps.specs.Layout.{slot_start};
     ghost use Rattle.steplaws.specs.Facts.{most_references};
@@ -49,6 +50,7 @@ impl<T: Clear + Drop> CountingLane<T> {
     ghost use Rattle.shardpool.specs.Tokens.{FillingOf};
     ghost use Rattle.shardpool.specs.Lanes.{Owns, Issued, Made, Did, holds, refs};
     ghost use Rattle.shardpool.specs.AfterCalls.{AfterCreate, AfterPublish, AfterDowngrade, AfterGet, AfterReleaseKey, AfterClear};
+    ghost use Rattle.poolhandle.specs.Looks.{Looks};
 
     /// A lane that has no reference, with counts of its own.
     ///
@@ -199,6 +201,22 @@ impl<T: Clear + Drop> CountingLane<T> {
         pool.release_at(&mut self.lane, start, key);
         lose(&mut self.counts, start);
         true
+    }
+
+    /// Gets a key, calls `look` on its object, and gives the reference back. None, and `look` isn't called, where the get
+    /// finds none. No count changes.
+    #[inline(always)]
+    pub fn look<A, F: FnOnce(&T) -> A>(&mut self, pool: &Pool<T>, key: u64, look: F) -> Option<A>
+        requires owns { Owns pool.now self.old }
+        requires room { refs self.old < most_references }
+        requires may { F.IsAlwaysCallable look }
+        ensures { MatchOption result (AfterGet T pool.now key self.old self.new None)
+            (λ answer. Looks T.content pool.now key (λ object. FnOnceReturnsAt F.FnOnce look object answer) self.old self.new) }
+    {
+        let at = pool.get_at(&mut self.lane, key)?;
+        let answer = look(self.lane.read_at(at, key));
+        pool.release_at(&mut self.lane, at, key);
+        Some(answer)
     }
 
     /// As `Pool::clear`.

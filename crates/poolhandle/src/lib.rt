@@ -11,7 +11,6 @@ mod opening;
 mod refusal;
 pub mod shared;
 pub mod slot;
-pub mod unboxed;
 
 pub use closing::{close, close_lanes, join};
 pub use counting_lane::CountingLane;

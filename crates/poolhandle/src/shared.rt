@@ -3,7 +3,7 @@ ghost use Rattle.std.specs.Prelude.{◌≡◌, All, length};
 ghost use Rattle.shardpool.specs.Lanes.{Owns};
 
 use crate::counting_lane::CountingLane;
-use crate::unboxed::Unboxed;
+use boxplace::Unboxed;
 use counted_slot::{Counted, Fits};
 use shardpool::Pool;
 use slotcell::ByteBuf;

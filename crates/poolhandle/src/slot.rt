@@ -7,7 +7,7 @@ ghost use Rattle.poolhandle.specs.contracts.handle.Handle.{the_row as handle_row
 ghost use Rattle.poolhandle.specs.Slot.{slot_owns};
 
 use crate::handle::Handle;
-use crate::unboxed::Unboxed;
+use boxplace::Unboxed;
 use std::alloc::Global;
 use std::marker::Model;
 

@@ -1,5 +1,5 @@
 //! Calls of a store: a lane that was given back is there again, a call is busy only where all lanes are had, no other lane
-//! acts, what one thread puts another finds, and a filling waits with its lane.
+//! acts, what one thread puts another finds, a look keeps no reference, and a filling waits with its lane.
 ghost use Rattle.std.specs.Prelude.{◌≡◌};
 ghost use Rattle.shardpool.specs.Lanes.{Issued};
 
@@ -138,6 +138,29 @@ fn take_word(store: &Store<ByteBuf>, key: u64, told: Note<ByteBuf>) -> Option<(b
     }
 }
 
+/// Whether a look shows the word under a key. None within where it finds none.
+fn look(store: &Store<ByteBuf>, key: u64) -> Option<Option<bool>> {
+    let told = store.enter(0)?;
+    match store.look(
+        0,
+        told,
+        key,
+        |word: &ByteBuf| word.as_slice() == b"word".as_slice(),
+    ) {
+        Ok((shows, _told)) => Some(shows),
+        Err(_refused) => None,
+    }
+}
+
+/// Whether a clear marked a key.
+fn clear(store: &Store<ByteBuf>, key: u64) -> Option<bool> {
+    let told = store.enter(0)?;
+    match store.clear(0, told, key) {
+        Ok((cleared, _told)) => Some(cleared),
+        Err(_told) => None,
+    }
+}
+
 /// Creates a filling by a lane that nobody has, from this number on. Answers its key, or why there is none.
 fn create(store: &Store<ByteBuf>, from: u32) -> Option<Result<u64, Refusal>> {
     let told = store.enter(from)?;
@@ -244,6 +267,23 @@ fn no_other_lane_acts(rt: HostRuntime) -> Result<(), Fail> {
     same(&rt, &gives_back(&store, 1, key), &Some(false));
     let census = closed(&rt, alloc, store);
     assert!(rt; census.present == 1 && census.filling == 0 && census.free == 31);
+    Ok(())
+}
+
+#[test]
+fn a_look_shows_what_was_put_and_keeps_no_reference(rt: HostRuntime) -> Result<(), Fail> {
+    let alloc = rt.alloc();
+    let store = opened(&rt, alloc);
+    let Some(key) = put(&store, alloc, 1) else {
+        panic!(rt; "a put was refused")
+    };
+    same(&rt, &look(&store, key), &Some(Some(true)));
+    same(&rt, &gives_back(&store, 0, key), &Some(false));
+    same(&rt, &look(&store, u64::MAX), &Some(None));
+    same(&rt, &clear(&store, key), &Some(true));
+    same(&rt, &look(&store, key), &Some(None));
+    let census = closed(&rt, alloc, store);
+    assert!(rt; census.present == 0 && census.free == 32);
     Ok(())
 }
 

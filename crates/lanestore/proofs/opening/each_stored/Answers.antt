@@ -18,8 +18,8 @@ loop-lane-init g c =
       same = refl;
     }
 
-pub spare_of-requires : goal.spare_of-requires
-spare_of-requires g c =
+pub keeper_of-requires : goal.keeper_of-requires
+keeper_of-requires g c =
     let New = λ (lane : LaneOf). IsNew c.loop-lane.pool lane in
     (All-head New c.in-Some.lane (into_iter_items c.next.new.self) (subst (All New) c.in-Some.ensures.items c.loop-lane.invariant.left)).1
 

@@ -20,7 +20,7 @@ use Rattle.poolhandle.specs.Slot.{heap_handle, slot_owns}
 use Rattle.bytestore.specs.Slot.{with_caller}
 use Rattle.bytestore.specs.contracts.slot.PoolSlot as slot
 use Rattle.bytestore.specs.contracts.caller.Caller as caller
-use Rattle.poolhandle.proofs.UnboxedFields.{never_null}
+use Rattle.boxplace.proofs.UnboxedFields.{never_null}
 use Rattle.poolhandle.proofs.SlotFields.{sized_val, sized_own, sized_told, one_of}
 use Rattle.bytestore.specs.contracts.slot.PoolSlot.caller_mut.{ended, clauses}
 use Rattle.bytestore.specs.contracts.slot.PoolSlot.caller_mut.Key.{name as #self}

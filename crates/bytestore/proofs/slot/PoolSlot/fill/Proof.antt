@@ -8,7 +8,7 @@ use Rattle.std.proofs.alloc.Global.TheLaws.{the_row_laws}
 use Rattle.std.specs.contracts.impls.GlobalAllocator.TheImpl.{ghosts}
 use Rattle.bytestore.specs.contracts.slot.PoolSlot as slot
 use Rattle.bytestore.specs.contracts.caller.Caller as caller
-use Rattle.poolhandle.proofs.UnboxedFields.{pair, pair_good, unboxed_out, Row as Unboxed}
+use Rattle.boxplace.proofs.UnboxedFields.{pair, pair_good, unboxed_out, Row as Unboxed}
 use Rattle.poolhandle.proofs.SlotFields.{sized_val, sized_own, sized_made, sized_typed}
 use Rattle.bytestore.specs.contracts.slot.PoolSlot.fill.{ended, clauses}
 use Rattle.bytestore.specs.contracts.slot.PoolSlot.fill.Key.{name as #self}

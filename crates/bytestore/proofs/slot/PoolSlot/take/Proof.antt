@@ -9,7 +9,7 @@ use Rattle.std_alloc.specs.Box.Ownership.{box_owns}
 use Rattle.poolhandle.specs.Slot.{heap_handle, slot_owns}
 use Rattle.bytestore.specs.contracts.slot.PoolSlot as slot
 use Rattle.bytestore.specs.contracts.caller.Caller as caller
-use Rattle.poolhandle.proofs.UnboxedFields.{pair, unboxed_in, never_null, Row as Unboxed}
+use Rattle.boxplace.proofs.UnboxedFields.{pair, unboxed_in, never_null, Row as Unboxed}
 use Rattle.poolhandle.proofs.SlotFields.{sized_val, sized_told, sized_typed, one_of}
 use Rattle.bytestore.specs.contracts.slot.PoolSlot.take.{ended, clauses}
 use Rattle.bytestore.specs.contracts.slot.PoolSlot.take.Key.{name as #self}

@@ -1,8 +1,8 @@
 -- By index, the taken one stands before the others.
-use Rattle.std.proofs.Common.{◌≡◌, ◌≤◌, ◌∙◌, ℕ, sym, ap, subst, arith}
+use Rattle.std.proofs.Common.{◌≤◌, ◌∙◌, ℕ, sym, ap, subst, arith}
 use Rattle.shardpool.specs.Tokens.{FillingOf}
 use Rattle.lanestore.specs.declared.kept.Kept.{Kept}
-use Rattle.lanestore.specs.Fillings.{AreDistinct, Lose}
+use Rattle.lanestore.specs.Fillings.{AreDistinct}
 use Rattle.lanestore.proofs.Counting.{distinct-taken, lost}
 use Rattle.lanestore.proofs.Making.{made-one, made-rest}
 use Rattle.lanestore.proofs.kept.Fillings.take.Goals as goal

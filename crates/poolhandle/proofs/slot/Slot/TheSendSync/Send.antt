@@ -22,7 +22,7 @@ use Rattle.poolhandle.specs.contracts.fillings.Fillings as fillings
 use Rattle.poolhandle.specs.contracts.shared.Given as given
 use Rattle.poolhandle.specs.contracts.shared.Shared as shared
 use Rattle.counted_slot.proofs.Counted.TheSendSync as counted_crossing
-use Rattle.poolhandle.proofs.unboxed.Unboxed.TheSendSync as unboxed_crossing
+use Rattle.boxplace.proofs.unboxed.Unboxed.TheSendSync as unboxed_crossing
 use Rattle.poolhandle.specs.Slot.{heap_handle, slot_owns}
 use Rattle.poolhandle.specs.contracts.handle.Handle as handle
 use Rattle.poolhandle.specs.contracts.slot.Slot.{the_row, the_type}

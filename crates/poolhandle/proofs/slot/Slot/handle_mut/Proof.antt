@@ -20,7 +20,7 @@ use Rattle.poolhandle.specs.Slot.{heap_handle, slot_owns}
 use Rattle.poolhandle.specs.SlotLends.{with_handle}
 use Rattle.poolhandle.specs.contracts.slot.Slot as slot
 use Rattle.poolhandle.specs.contracts.handle.Handle as handle
-use Rattle.poolhandle.proofs.UnboxedFields.{never_null}
+use Rattle.boxplace.proofs.UnboxedFields.{never_null}
 use Rattle.poolhandle.proofs.SlotFields.{sized_val, sized_own, sized_told, one_of}
 use Rattle.poolhandle.specs.contracts.slot.Slot.handle_mut.{ended, clauses}
 use Rattle.poolhandle.specs.contracts.slot.Slot.handle_mut.Key.{name as #self}

@@ -4,8 +4,8 @@ use denote.Memory.{part_of, raw_all}
 use denote.Param.Send.{IsSend, Frees, cell_keyless}
 use denote.Param.Send.{IsSync}
 use Rattle.std.specs.declared.alloc.Allocator.{Ghosts}
-use Rattle.poolhandle.proofs.unboxed.Unboxed.TheSendSync.Send.{send}
-use Rattle.poolhandle.specs.contracts.unboxed.Unboxed.{the_row}
+use Rattle.boxplace.proofs.unboxed.Unboxed.TheSendSync.Send.{send}
+use Rattle.boxplace.specs.contracts.unboxed.Unboxed.{the_row}
 
 pub sync : (T A : RattleType) (g : Ghosts A.Denot) → IsSend T → IsSend A → Frees g g.dealloc_token → IsSync (the_row T A g)
 unfolding part_of

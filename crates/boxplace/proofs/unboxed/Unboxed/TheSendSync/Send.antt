@@ -8,7 +8,7 @@ use denote.Struct.Struct.{exits_of}
 use denote.Struct.Owning.{shape, fields, to}
 use Rattle.std.specs.declared.alloc.Allocator.{Ghosts}
 use Rattle.std_alloc.proofs.SendSync.{quiet, lies}
-use Rattle.poolhandle.specs.contracts.unboxed.Unboxed.{the_row, the_type}
+use Rattle.boxplace.specs.contracts.unboxed.Unboxed.{the_row, the_type}
 
 pub send : (T A : RattleType) (g : Ghosts A.Denot) → IsSend T → IsSend A → Frees g g.dealloc_token → IsSend (the_row T A g)
 send T A g s h f = let O = the_type T A g in let pointer : IsSend RawPtr = search sendable in

@@ -1,0 +1,5 @@
+mod LooseFields
+mod PlaceFields
+mod PlaceSteps
+mod Steps
+pub mod UnboxedFields
