@@ -1,3 +1,4 @@
+mod Answering
 mod Emptiness
 mod Lowering
 mod Pools

@@ -1,6 +1,6 @@
 -- Slots with a pool and without.
 use Rattle.std.proofs.Common.{◌≡◌, ◌==◌, true, false, length, sym, ap, ◌∙◌, eqb-true, eq-eqb}
-use Rattle.bytestore.specs.declared.slot.PoolSlot.{PoolSlot}
+use Rattle.poolffi.specs.declared.pool_slot.PoolSlot.{PoolSlot}
 use Rattle.poolffi.specs.Attached.{HasPool, HasNoPool}
 use Rattle.poolffi.proofs.Emptiness.{one-of}
 

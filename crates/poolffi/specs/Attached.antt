@@ -5,11 +5,11 @@ use Rattle.keybits.specs.declared.shape.ShapeFault.{ShapeFault}
 use Rattle.keybits.specs.Shapes.{IsShape}
 use Rattle.keybits.specs.ShapeFaults.{IsFirstWideFault}
 use Rattle.shardpool.specs.declared.census.Census.{Census}
-use Rattle.bytestore.specs.declared.caller.Caller.{Caller}
-use Rattle.bytestore.specs.declared.found.Found.{Found}
-use Rattle.bytestore.specs.declared.refusal.Refusal.{Refusal}
-use Rattle.bytestore.specs.declared.refusal.Refusal.TheVariants.{Busy, Memory, Full, NoReference, Gone, References, Shared}
-use Rattle.bytestore.specs.Callers.{pool_of, Puts, Gets, Shares, ClosesPool, ClosesNot}
+use Rattle.poolffi.specs.declared.caller.Caller.{Caller}
+use Rattle.poolffi.specs.declared.found.Found.{Found}
+use Rattle.poolffi.specs.declared.refusal.Refusal.{Refusal}
+use Rattle.poolffi.specs.declared.refusal.Refusal.TheVariants.{Busy, Memory, Full, NoReference, Gone, References, Shared}
+use Rattle.poolffi.specs.Callers.{pool_of, Puts, Gets, Shares, ClosesPool, ClosesNot}
 use Rattle.poolffi.specs.declared.PoolCensus.{PoolCensus}
 use Rattle.poolffi.specs.declared.attach.PoolLent.{PoolLent}
 use Rattle.poolffi.specs.Exports.{AreCounts}

@@ -1,17 +1,19 @@
 //! A pool that any number of threads call, each by a slot of its own, and each call by a lane that it has for its own time.
 ghost use Rattle.std.specs.Prelude.{◌≡◌, [], ◌∷◌, IfSome, IsNone};
-ghost use Rattle.bytestore.specs.Callers.{Clears, Releases};
+ghost use Rattle.poolffi.specs.Callers.{Clears, Releases};
 ghost use Rattle.poolffi.specs.Attached.{code_of, answer_code, CallsPool, PutsKey, Lends, AreTold, Attaches, SharesSlots, Unshares, Detaches, HasNoPool};
 ghost use Rattle.poolffi.specs.Exports.{WritesAtOk, shape_of};
 
+use crate::caller::Caller;
+use crate::closing::close;
+use crate::found::Found;
+use crate::opening::open_caller;
+use crate::pool_slot::PoolSlot;
+use crate::refusal::Refusal;
 use crate::slots::{
     EMPTY_LANE, FULL, FULL_LANE, GONE, MEMORY, NO_REFERENCE, OK, REFERENCES, SHAPE, SHARED,
 };
 use crate::{PoolCensus, PoolShape, counted, shape_of};
-use bytestore::caller::Caller;
-use bytestore::found::Found;
-use bytestore::slot::PoolSlot;
-use bytestore::{Refusal, close, open_caller};
 use keybits::Shape;
 use boxplace::Unboxed;
 use shardpool::OpenFault;

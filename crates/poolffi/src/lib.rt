@@ -8,8 +8,15 @@ ghost use Rattle.poolhandle.specs.Calls.{Appends, Rooms, Wrote, Publishes, Downg
 ghost use Rattle.poolffi.specs.Exports.{Calls, WritesAtOk, CreatesKey, PutsKey, Lends, Reads, TellsNumbers, JoinsSlots, ClosesSlot, AreCounts, Opens, shape_of};
 
 mod attach;
+mod caller;
+mod closing;
+mod found;
 mod lanes;
+mod opening;
+mod pool_slot;
+mod refusal;
 mod slots;
+mod visits;
 
 use crate::lanes::open_slots;
 use crate::slots::{EMPTY_LANE, OK, code, code_of, lift, lower, put, write_over};

@@ -2,7 +2,7 @@
 use Rattle.std.proofs.Common.{rules, ◌≡◌, ◌∙◌, Err, refl, sym, ap, inl, inr}
 use Rattle.keybits.specs.declared.shape.ShapeFault.{ShapeFault}
 use Rattle.keybits.specs.ShapeFaults.{IsFirstWideFault}
-use Rattle.bytestore.specs.declared.slot.PoolSlot.{PoolSlot}
+use Rattle.poolffi.specs.declared.pool_slot.PoolSlot.{PoolSlot}
 use Rattle.poolffi.proofs.Pools.{full-has, empty-has-not}
 use Rattle.poolffi.proofs.attach.attach_slot.Goals as goal
 

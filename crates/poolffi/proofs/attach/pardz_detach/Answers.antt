@@ -1,6 +1,6 @@
 -- The caller that was lifted closes the pool, or is lowered where he came back.
 use Rattle.std.proofs.Common.{refl, inl, inr, Some, None}
-use Rattle.bytestore.specs.Callers.{ClosesNot}
+use Rattle.poolffi.specs.Callers.{ClosesNot}
 use Rattle.poolffi.proofs.attach.pardz_detach.Goals as goal
 
 pub returns-in-Ok-clause-detaches : goal.returns-in-Ok-clause-detaches

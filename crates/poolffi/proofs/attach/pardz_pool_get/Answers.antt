@@ -1,8 +1,8 @@
 -- The caller that was lent made the call.
 use Rattle.std.proofs.Common.{Result, Ok, Err, refl, subst, inr}
-use Rattle.bytestore.specs.declared.found.Found.{Found}
-use Rattle.bytestore.specs.declared.refusal.Refusal.{Refusal}
-use Rattle.bytestore.specs.Callers.{Gets}
+use Rattle.poolffi.specs.declared.found.Found.{Found}
+use Rattle.poolffi.specs.declared.refusal.Refusal.{Refusal}
+use Rattle.poolffi.specs.Callers.{Gets}
 use Rattle.poolffi.proofs.attach.pardz_pool_get.Goals as goal
 
 pub returns-in-Ok-clause-calls : goal.returns-in-Ok-clause-calls

@@ -1,7 +1,7 @@
 -- The caller that was lent made the call.
 use Rattle.std.proofs.Common.{ℕ, Result, Ok, Err, refl, subst, inr}
-use Rattle.bytestore.specs.declared.refusal.Refusal.{Refusal}
-use Rattle.bytestore.specs.Callers.{Puts}
+use Rattle.poolffi.specs.declared.refusal.Refusal.{Refusal}
+use Rattle.poolffi.specs.Callers.{Puts}
 use Rattle.poolffi.proofs.attach.pardz_pool_put.Goals as goal
 
 pub returns-in-Ok-clause-calls : goal.returns-in-Ok-clause-calls
