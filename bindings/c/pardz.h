@@ -11,8 +11,9 @@
  *
  * No call but pardz_await_put and its like locks anything or waits for another thread, unless the heap does so when memory is taken or
  * given back. Memory is taken by pardz_open, pardz_attach, pardz_share, pardz_create where it opens a page, pardz_append, pardz_room,
- * pardz_put, pardz_pool_put and pardz_own. It is given back by pardz_close, pardz_unshare, pardz_detach, an open or attach that is
- * refused, whoever lets go last of a place that is used up, pardz_disown, and a call by a lane that pardz_disown has told of a reference.
+ * pardz_put, pardz_pool_put and pardz_own. It is given back by pardz_close, pardz_join, pardz_leave, pardz_unshare, pardz_detach, an
+ * open or attach that is refused, whoever lets go last of a place that is used up, pardz_disown, and a call by a lane that pardz_disown
+ * has told of a reference.
  *
  * Link with heap.c and one of two libraries, whose calls do the same: libpoolffi.a, which is proved up to these calls, for x86-64 of
  * level 2 (x86-64-v2) and ELF; or libpardz.a or libpardz.so, which cargo builds, and which are made from the proved sources and not
@@ -39,6 +40,7 @@
  *
  * Each call answers a code. At any code but PARDZ_OK nothing was written through a pointer, and all is as before the call, except:
  *
+ * - PARDZ_GONE: where the key was cleared meanwhile, the call may have been the last to let go of its bytes, which are emptied then.
  * - PARDZ_MEMORY of an append or a room: an earlier room of the filling has ended. Its bytes are as before.
  * - PARDZ_MEMORY of pardz_put and pardz_pool_put: a page may be open, and a place have used up its next key (if that was its last, it
  *   is retired).

@@ -1,8 +1,11 @@
 //! Calls of a pool by threads without a lane in hand: each keeps one until it ends, or shares one.
 use crate::world::{
-    alive, lanes_at_home, lanes_in_hand, look, look_by_call, number_of, shape, Scenario, World,
+    alive, lanes_at_home, lanes_in_hand, look, look_by_call, number_of, shape, Scenario, Tracked,
+    World,
 };
-use std::mem;
+use pardz::OwnedRef;
+use std::sync::Barrier;
+use std::{mem, thread};
 
 pub fn all() -> Vec<Scenario> {
     let one_lane = || lanes_at_home(shape(1, 2, 1), 1);
@@ -84,6 +87,19 @@ pub fn all() -> Vec<Scenario> {
         )
         .bounded(2),
         Scenario::new(
+            "in-use-and-asked-for",
+            in_use,
+            [
+                |(world, _)| ask_in_vain(world),
+                |(world, _)| create_one(world),
+            ],
+            |(world, object)| {
+                drop(object);
+                world.close();
+            },
+        ),
+        Scenario::new("both-left", both_left, [take_one, take_one], settled),
+        Scenario::new(
             "left-by-three",
             || lanes_at_home(shape(3, 1, 1), 1),
             [get, get, get],
@@ -120,6 +136,50 @@ fn one_lane_idle() -> World {
     }
     assert_eq!(world.keys.len(), 2);
     world
+}
+
+/// As that, and the lane of the pool's shape is used: by a reference to the one object that it has.
+fn in_use() -> (World, OwnedRef<Tracked>) {
+    let world = lanes_at_home(shape(1, 2, 1), 0);
+    let mut objects: Vec<_> = (0..4)
+        .map(|_| world.pool.create_owned().expect("a place").downgrade())
+        .collect();
+    let first = |object: &OwnedRef<Tracked>| u64::from(object.key()) >> 16 & 0xff == 0;
+    let used = objects.iter().position(first).expect("its lane is shared");
+    let object = objects.swap_remove(used);
+    let other = objects.iter().find(|object| first(object));
+    assert!(world.pool.clear(other.expect("it has two places").key()));
+    (world, object)
+}
+
+/// Both lanes were left by threads that have ended.
+fn both_left() -> World {
+    let world = lanes_at_home(shape(2, 1, 1), 1);
+    let both = Barrier::new(2);
+    let visit = || {
+        get(&world);
+        both.wait();
+    };
+    thread::scope(|scope| {
+        // (A thread has left its lane when it is joined, and not when the scope ends.)
+        for thread in [(); 2].map(|()| scope.spawn(visit)) {
+            thread.join().expect("no panic");
+        }
+    });
+    world
+}
+
+fn ask_in_vain(world: &World) {
+    assert!(world.pool.lane().is_none(), "a lane that is used");
+}
+
+fn create_one(world: &World) {
+    drop(world.pool.create_owned().expect("a place is free"));
+}
+
+fn take_one(world: &World) {
+    let lane = world.pool.lane().expect("a lane for each thread");
+    look(&lane, world.keys[0], number_of(0));
 }
 
 /// Calls a shared lane twice, which may be another one's meanwhile.

@@ -25,10 +25,12 @@ use std::sync::{Mutex, PoisonError, RwLock};
 /// ```
 pub trait Clear {
     /// Empties the object. It runs when the key was cleared and the last reference is gone, on the thread that let go last, before
-    /// its call returns.
+    /// its call returns. (That call may also be a get or a clear of the key that was under way then, and finds nothing.)
     ///
-    /// It may call the pool again, by the same lane too. What it clears by the same lane is emptied in turn when it has returned:
-    /// so a chain of any length needs no deeper stack. Where it panics the object is dropped, and its place is free all the same; where
+    /// It may call the pool again, by the same lane too. What it clears in its own segment by the same lane is emptied in turn when it
+    /// has returned: so a chain of any length needs no deeper stack. (What it clears in other segments is emptied at once, and so is what
+    /// it clears where it empties a filling that is dropped.) Where it panics the object is dropped, and its place is free all the same;
+    /// if that drop panics as well, the process aborts. Where
     /// it runs since the thread unwinds already, and panics, that second panic goes no further. Neither does one where another one of the
     /// same call is handed on. The payload of such a panic is leaked, as its drop might panic in turn.
     fn clear(&mut self);

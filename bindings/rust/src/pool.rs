@@ -209,7 +209,7 @@ pub struct Pool<T: Clear = Buffer> {
 }
 
 impl<T: Clear> Pool<T> {
-    /// Opens a pool. Objects are made at the first use of their place, by [`Default`].
+    /// Opens a pool. An object is made, by [`Default`], where a create finds none that its lane emptied.
     ///
     /// # Errors
     ///

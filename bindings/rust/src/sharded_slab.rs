@@ -29,8 +29,10 @@
 //!   the object under the `RefMut`.
 //! - **A panic in the closure of [`Pool::create_with`]** publishes nothing: the object is emptied, and its place is free. sharded-slab
 //!   leaves an object that nobody has the key of. (A [`RefMut`] that is dropped is published in both, also by a panic.)
-//! - **Within [`Clear::clear`]**, objects that it lets go of are emptied when it has returned, so that a chain of any length needs no deeper
-//!   stack. Where it panics its object is dropped.
+//! - **Within [`Clear::clear`]**, objects of the same segment that it lets go of are emptied when it has returned, so that a chain of any
+//!   length needs no deeper stack. Where it panics its object is dropped.
+//! - **Owned handles keep the pool's memory**, and not the [`Arc`] by which they were made: its count doesn't rise, and a `Weak` finds no
+//!   pool whose last `Arc` was dropped, while an [`OwnedRef`] lives.
 //! - **A create is refused** where memory is, or at the end of 256 segments (180 million places): it knows no most number of threads, and
 //!   works while the thread ends. A lane has 1,048,575 references at most, and four lanes have all the owned ones; one more is a panic.
 //! - [`OwnedRef`] and [`OwnedRefMut`] are [`Send`] and [`Sync`] where `T` is both. A [`Clear`] is there for more types.
@@ -249,8 +251,8 @@ impl<T: Clear + Default, C: Config> Pool<T, C> {
         })
     }
 
-    /// Clears a key: no get finds it any more. Answers whether this call did. The object is emptied by the last who has a reference, or
-    /// here.
+    /// Clears a key: no get finds it any more. Answers whether this call did. The object is emptied by the last who leaves it: who drops
+    /// the last reference, or makes a get or a clear of the key just then, or here.
     #[inline]
     pub fn clear(&self, key: usize) -> bool {
         key_of::<C>(key).is_some_and(|key| self.inner.clear(key))

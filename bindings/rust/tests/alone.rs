@@ -282,6 +282,29 @@ fn a_lane_clears_while_unwinding() {
     });
 }
 
+/// A filling whose place is left as it is, within a drop while the thread unwinds.
+#[test]
+fn a_filling_is_forgotten_while_unwinding() {
+    struct Forgets<'l>(Option<pardz::Filling<'l, Node>>);
+    impl Drop for Forgets<'_> {
+        fn drop(&mut self) {
+            self.0.take().expect("one filling").forget();
+        }
+    }
+    alone("a_filling_is_forgotten_while_unwinding", || {
+        let pool = Pool::<Node>::open(shape(1, 2, 1)).unwrap();
+        let lane = pool.lane().unwrap();
+        let mut filling = lane.create().unwrap();
+        filling.explodes = true;
+        assert!(panics(|| {
+            let _forgets = Forgets(Some(filling));
+            panic!("on purpose");
+        }));
+        drop(lane);
+        assert_eq!(pool.close().filling, 1);
+    });
+}
+
 /// The panic hook calls the pool, where a lane has as many references as it may.
 #[test]
 fn a_panic_hook_calls_the_pool() {

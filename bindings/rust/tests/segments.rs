@@ -5,9 +5,10 @@ mod numbers;
 
 use common::{at_once, limit};
 use numbers::{growing, lane_of, put, Number};
-use pardz::{Key, Pool};
+use pardz::{Growth, Key, Pool, Shape};
 use std::collections::BTreeSet;
 use std::sync::Barrier;
+use std::thread;
 
 /// Places of a lane in all segments, by how many there are.
 const PLACES: [u32; 7] = [0, 32, 96, 288, 1248, 13_472, 58_464];
@@ -103,4 +104,38 @@ fn lanes_at_home_are_lent_before_a_widest_segment_is_opened() {
     all.extend(hands.iter().map(|hand| u64::from(hand.number())));
     let different: BTreeSet<u64> = all.iter().copied().collect();
     assert_eq!((all.len(), different), (17, (0..16).collect()));
+}
+
+/// Publishes objects until the pool is full. Answers how many.
+fn fill_up(pool: &Pool<Number>) -> usize {
+    let mut count = 0;
+    while pool.create_with(|object| object.0 = 1).is_ok() {
+        count += 1;
+    }
+    count
+}
+
+/// A thread makes a call, and ends.
+fn come_and_go(pool: &Pool<Number>) {
+    let visit = || assert!(pool.clear(put(pool, 1)));
+    thread::scope(|scope| scope.spawn(visit).join().expect("no panic"));
+}
+
+#[test]
+fn a_lane_whose_thread_has_ended_is_lent() {
+    let _limit = limit();
+    let shape = Shape {
+        lanes: 3,
+        first_page: 2,
+        pages: 1,
+        ..Shape::default()
+    };
+    let fixed = Pool::open(shape).expect("memory");
+    let growing = Growth::new().most_segments(1).open().expect("memory");
+    // (A pool of fixed size has a lane more than its shape.)
+    for (pool, places) in [(fixed, 4 * 2), (growing, 16 * 32)] {
+        put(&pool, 1);
+        come_and_go(&pool);
+        assert_eq!(fill_up(&pool) + 1, places);
+    }
 }

@@ -353,6 +353,16 @@ impl<'s, T: Clear> Post<'s, T> {
         self.seat().lock.any().set_shared(true);
     }
 
+    /// Whether no filling, reference or user of the lane is left.
+    ///
+    /// # Safety
+    ///
+    /// No thread has it alone.
+    pub(super) unsafe fn is_idle(self) -> bool {
+        // SAFETY: the caller's.
+        unsafe { self.locked(|turn, joint| joint.users == 0 && turn.counts() == joint.lost) }
+    }
+
     /// Nobody shares the lane any more, where no filling, reference or user of it is left. Whether that is so.
     ///
     /// # Safety

@@ -71,6 +71,8 @@ impl<T: Clear> Room<T> {
     ) -> Result<F, CreateError> {
         loop {
             let count = self.count();
+            // (Lanes of threads that have ended are nobody's.)
+            self.welcome_back();
             for again in [false, true] {
                 if again {
                     self.look_again();

@@ -289,7 +289,7 @@ impl<T: Clear> Room<T> {
     }
 
     /// The lanes of threads that have ended come home; or are shared, where references or fillings of them live.
-    fn welcome_back(&self) {
+    pub(super) fn welcome_back(&self) {
         let left = &self.lanes.homes.0.left;
         if left.load(Ordering::Relaxed) == 0 {
             return;
@@ -348,6 +348,10 @@ impl<T: Clear> Room<T> {
     /// Takes one of these lanes back that is shared beside the few, and that nothing uses any more.
     fn take_shared_back(&self, these: u64) -> Option<Number> {
         self.locked(|| {
+            // (Another thread may have seen meanwhile which lanes were left; they are at home by now.)
+            if let Some(number) = self.lanes.take_home_of(these) {
+                return Some(number);
+            }
             if !self.lanes.are_many_shared() {
                 return None;
             }
@@ -357,6 +361,11 @@ impl<T: Clear> Room<T> {
     }
 
     fn own_if_idle(&self, number: u32) -> Option<Number> {
+        // (A lane in use is left as it is, so that creates find its places meanwhile.)
+        // SAFETY: it is shared.
+        if !self.posts_of(number).all(|post| unsafe { post.is_idle() }) {
+            return None;
+        }
         // (Calls that choose a lane choose others meanwhile.)
         self.lanes
             .shared
