@@ -129,7 +129,7 @@ fn key_of<C: Config>(index: usize) -> Option<Key> {
 
 /// A pool of objects that are emptied in place and used again. See [the module](self).
 pub struct Pool<T: Clear + Default, C: Config = DefaultConfig> {
-    inner: Arc<crate::Pool<T>>,
+    inner: crate::Pool<T>,
     config: PhantomData<fn() -> C>,
 }
 
@@ -165,7 +165,7 @@ impl<T: Clear + Default> Pool<T> {
     pub fn new_with_config<C: Config>() -> Pool<T, C> {
         match Growth::new().last_generation(last_generation::<C>()).open() {
             Ok(inner) => Pool {
-                inner: Arc::new(inner),
+                inner,
                 config: PhantomData,
             },
             Err(error) => panic!("no pool: {error}"),
@@ -195,7 +195,7 @@ impl<T: Clear + Default, C: Config> Pool<T, C> {
     /// drop(item);
     /// assert_eq!(pool.get(key).expect("published"), vec![1]);
     /// ```
-    #[inline]
+    #[inline(always)]
     pub fn create(&self) -> Option<RefMut<'_, T, C>> {
         let filling = self.inner.create().ok()?;
         Some(RefMut {
@@ -226,14 +226,14 @@ impl<T: Clear + Default, C: Config> Pool<T, C> {
     }
 
     /// Fills an object and publishes it: its key. `None` as with [`create`](Pool::create).
-    #[inline]
+    #[inline(always)]
     pub fn create_with(&self, fill: impl FnOnce(&mut T)) -> Option<usize> {
         let key = self.inner.create_with(fill).ok()?;
         Some(index_of::<C>(key))
     }
 
     /// A reference to the object of a key. `None` where it isn't published, or is cleared, or was never a key.
-    #[inline]
+    #[inline(always)]
     pub fn get(&self, key: usize) -> Option<Ref<'_, T, C>> {
         let item = self.inner.get(key_of::<C>(key)?)?;
         Some(Ref {
@@ -253,7 +253,7 @@ impl<T: Clear + Default, C: Config> Pool<T, C> {
 
     /// Clears a key: no get finds it any more. Answers whether this call did. The object is emptied by the last who leaves it: who drops
     /// the last reference, or makes a get or a clear of the key just then, or here.
-    #[inline]
+    #[inline(always)]
     pub fn clear(&self, key: usize) -> bool {
         key_of::<C>(key).is_some_and(|key| self.inner.clear(key))
     }
