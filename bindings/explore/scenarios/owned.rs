@@ -1,6 +1,7 @@
 //! Owned handles: they go to other threads, and keep the pool's memory when it is dropped.
 use crate::world::{
-    emptied, lanes_at_home, lanes_in_hand, look_by_call, number_of, shape, Scenario, Tracked, World,
+    alive, emptied, lanes_at_home, lanes_in_hand, look_by_call, number_of, shape, Scenario,
+    Tracked, World,
 };
 use pardz::{Key, OwnedFilling, OwnedRef, Pool};
 use std::sync::atomic::{AtomicUsize, Ordering::SeqCst};
@@ -56,6 +57,13 @@ pub fn all() -> Vec<Scenario> {
             [clone_first, clone_first],
             drop,
         ),
+        Scenario::new(
+            "owned-again",
+            || lanes_at_home(shape(2, 4, 1), 0),
+            [clear_and_make, clear_and_make],
+            made_again,
+        )
+        .bounded(2),
         Scenario::new(
             "owned-plain",
             plain,
@@ -117,6 +125,39 @@ fn get_and_clear(world: &World) {
 
 fn clear(world: &World) {
     world.count(world.pool.clear(world.keys[0]));
+}
+
+/// Publishes an object, which was empty, by an owned filling.
+fn make(world: &World) -> Option<Key> {
+    let mut filling = world.pool.create_owned().ok()?;
+    assert_eq!(filling.get(), 0, "an object isn't empty");
+    filling.set(7);
+    let key = filling.publish();
+    world.note(key);
+    Some(key)
+}
+
+/// Clears two objects of the lane that all share: the thread carries the block of the second then, and that of the first goes home. It makes
+/// two again, and clears the last.
+fn clear_and_make(world: &World) {
+    let keys = [make(world), make(world)];
+    for key in keys {
+        clear_made(world, key);
+    }
+    make(world);
+    clear_made(world, make(world));
+}
+
+fn clear_made(world: &World, key: Option<Key>) {
+    if let Some(key) = key {
+        world.count(world.pool.clear(key));
+    }
+}
+
+/// Each thread used its objects again.
+fn made_again(world: World) {
+    assert!(alive() <= 4, "a block is carried, and another one is made");
+    world.settle();
 }
 
 /// A clear of what the lane itself holds.

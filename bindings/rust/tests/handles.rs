@@ -20,7 +20,7 @@ fn shape(lanes: u32, first_page: u32) -> Shape {
 #[derive(Debug)]
 struct Made<const N: usize>(u64);
 
-static MADE: [AtomicUsize; 4] = [const { AtomicUsize::new(0) }; 4];
+static MADE: [AtomicUsize; 5] = [const { AtomicUsize::new(0) }; 5];
 
 impl<const N: usize> Default for Made<N> {
     fn default() -> Self {
@@ -67,6 +67,25 @@ fn objects_of_shared_lanes_are_used_again() {
     }
     drop(lane);
     assert_eq!(MADE[1].load(SeqCst), 1);
+}
+
+/// A thread that empties an object of a shared lane uses it for its next owned one, and gives back the one that it had.
+#[test]
+fn carried_objects_are_used_again() {
+    let pool = Pool::<Made<4>>::open(shape(2, 4)).unwrap();
+    let fill_two = || {
+        [(); 2].map(|()| {
+            let mut owned = pool.create_owned().unwrap();
+            fill(&mut owned);
+            owned.publish()
+        })
+    };
+    for _ in 0..50 {
+        for key in fill_two() {
+            assert!(pool.clear(key));
+        }
+    }
+    assert_eq!(MADE[4].load(SeqCst), 2);
 }
 
 /// Who empties an object of another lane gives it back to that one.

@@ -1,11 +1,12 @@
 //! Owned handles: each is a user of a shared lane, which keeps the pool's memory as long as it has one.
 use super::own::too_many;
 use super::room::Room;
-use super::seat::Joint;
+use super::seat::{Joint, Post};
 use super::token::{Begun, Far, Held, Spend, Spent};
 use crate::clear::Clear;
 use crate::errors::CreateError;
 use crate::key::Key;
+use crate::object::Block;
 use crate::sync::{AtomicPtr, AtomicUsize, Ordering};
 use std::mem::ManuallyDrop;
 use std::process;
@@ -16,12 +17,33 @@ impl<T: Clear> Room<T> {
     where
         T: Default,
     {
-        let begun = match self.create_by_last(Joint::come) {
-            Some(begun) => begun,
-            None => self.create_growing(|| self.create_in_shared(Joint::come))?,
-        };
+        match self.create_by_last(|post| self.carried(post), Joint::come) {
+            // SAFETY: the handle is a user of the lane.
+            Some(begun) => Ok(FarBegun(Spent::new(unsafe { begun.far() }))),
+            None => self.create_owned_further(),
+        }
+    }
+
+    #[cold]
+    #[inline(never)]
+    fn create_owned_further(&self) -> Result<FarBegun<T>, CreateError>
+    where
+        T: Default,
+    {
+        let begun = self.create_growing(|| self.create_in_shared(Joint::come))?;
         // SAFETY: the handle is a user of the lane.
         Ok(FarBegun(Spent::new(unsafe { begun.far() })))
+    }
+
+    /// The block that the thread carries, where that is of the lane of this seat. (Of types that are emptied under the lock it has none.)
+    #[inline(always)]
+    fn carried(&self, post: Post<'_, T>) -> Option<Block<T>> {
+        if T::plain().0 {
+            return None;
+        }
+        // SAFETY: the seat is of this pool.
+        let own = unsafe { self.known()?.within(post.segment()) };
+        own?.carried(post.number())
     }
 
     #[inline]
@@ -103,11 +125,20 @@ impl<T: Clear> FarBegun<T> {
 }
 
 impl<T: Clear> Spend for Begun<'static, T, Far> {
-    #[inline]
+    #[inline(always)]
     fn spend(self) {
-        // SAFETY: it is of its own lane, and is a user of it.
-        unsafe { self.post().far_give_back(self) };
+        // (By its words: a filling whose address isn't told stays in registers.)
+        let (post, words, block) = self.into_words();
+        give_back_far(post, words, block);
     }
+}
+
+#[cold]
+#[inline(never)]
+fn give_back_far<T: Clear>(post: Post<'static, T>, words: (Key, u64), block: Block<T>) {
+    let begun = Begun::from_words(post, words, block, Far);
+    // SAFETY: it is of its own lane, and is a user of it.
+    unsafe { post.far_give_back(begun) };
 }
 
 impl<T: Clear> Spend for Held<'static, T, Far> {

@@ -84,7 +84,7 @@ impl<T: Clear> Room<T> {
             };
         }
         own.put_away(block);
-        match self.create_by_last(|_| ()) {
+        match self.create_by_last(|_| None, |_| ()) {
             Some(begun) => Ok(begun),
             None => self.create_further(Some(own)),
         }
@@ -96,7 +96,7 @@ impl<T: Clear> Room<T> {
     where
         T: Default,
     {
-        match self.create_by_last(|_| ()) {
+        match self.create_by_last(|_| None, |_| ()) {
             Some(begun) => Ok(begun),
             None => self.create_further(None),
         }
@@ -241,7 +241,7 @@ impl<T: Clear> Room<T> {
                 self.frees_place(key);
                 threads::set_last_shared(self.id(), shard);
                 if let Some(block) = taken {
-                    own.let_go(block);
+                    own.let_go_of_shared(block);
                 }
                 return cleared;
             }

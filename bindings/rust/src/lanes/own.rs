@@ -69,15 +69,48 @@ impl<'s, T: Clear, P: Stands<'s, T>> Own<'s, T, P> {
 
     /// Empties an object that was taken out of a place of this segment.
     #[inline(always)]
-    pub(super) fn let_go(self, mut block: Block<T>) {
+    fn let_go(self, mut block: Block<T>) {
         if T::plain().0 {
             block.clear();
-            self.turn().put_away(block);
-        } else if thread::panicking() {
+            self.put_away(block);
+        } else {
+            self.let_go_to(block, Own::put_away);
+        }
+    }
+
+    /// The same of what a shared lane of this segment took out, whose block is carried then.
+    #[inline(always)]
+    pub(super) fn let_go_of_shared(self, block: Block<T>) {
+        self.let_go_to(block, Own::carry);
+    }
+
+    #[inline(always)]
+    fn let_go_to(self, block: Block<T>, to: impl FnOnce(Self, Block<T>)) {
+        if thread::panicking() {
             self.empty_unwinding(block);
         } else {
-            self.empty(block);
+            self.empty(block, to);
         }
+    }
+
+    /// Carries a block of a shared lane. The one that was carried goes home.
+    #[inline(always)]
+    fn carry(self, block: Block<T>) {
+        if let Some(before) = self.turn().store().carried.pop() {
+            self.put_away(before);
+        }
+        self.turn().store().carried.push(block);
+    }
+
+    /// The block that is carried, where its home is the lane of this number.
+    #[inline(always)]
+    pub(super) fn carried(self, number: u32) -> Option<Block<T>> {
+        let block = self.turn().store().carried.pop()?;
+        if block.home() == number {
+            return Some(block);
+        }
+        self.turn().store().carried.push(block);
+        None
     }
 
     /// The same where that is rare.
@@ -95,16 +128,16 @@ impl<'s, T: Clear, P: Stands<'s, T>> Own<'s, T, P> {
         }
     }
 
-    /// Empties an object, and those that wait then.
+    /// Empties an object, whose block goes there, and those that wait then.
     #[inline(always)]
-    fn empty(self, mut block: Block<T>) {
+    fn empty(self, mut block: Block<T>, to: impl FnOnce(Self, Block<T>)) {
         if self.turn().store().empties {
             return self.turn().store().used.push(block);
         }
         self.turn().store().empties = true;
         let others = Others(self, PhantomData);
         block.clear();
-        self.turn().put_away(block);
+        to(self, block);
         while let Some(mut block) = self.waiting() {
             block.clear();
             self.turn().put_away(block);
@@ -256,6 +289,7 @@ impl<'s, T: Clear, P: Stands<'s, T>> Own<'s, T, P> {
     }
 
     /// A block whose object is empty.
+    #[inline(always)]
     pub(super) fn put_away(self, block: Block<T>) {
         self.turn().put_away(block);
     }

@@ -39,6 +39,9 @@ pub(super) struct Store<T> {
     pub(super) used: Chain<T>,
     /// Whether one is being emptied, by a call further out on the stack.
     pub(super) empties: bool,
+    /// One of a shared lane, or none: the thread that has this lane emptied its object, and carries it to its next owned create by that
+    /// lane. (So it doesn't go home by a word that threads share, and back.)
+    pub(super) carried: Chain<T>,
     /// The memory of the blocks whose home is the lane.
     pub(super) chunks: Chunks<T>,
 }
@@ -92,6 +95,7 @@ impl<T: Clear> Seat<T> {
                 spare: Chain::new(),
                 used: Chain::new(),
                 empties: false,
+                carried: Chain::new(),
                 chunks: Chunks::new(),
             }),
             returned,
@@ -125,7 +129,7 @@ impl<T: Clear> Seat<T> {
     pub(super) fn find_blocks(&mut self) {
         sync::writes(self.store.get(), "the blocks of a lane that is closed");
         let store = self.store.get_mut();
-        for chain in [&mut store.spare, &mut store.used] {
+        for chain in [&mut store.spare, &mut store.used, &mut store.carried] {
             mem::replace(chain, Chain::new()).find();
         }
         for returned in &self.returned {

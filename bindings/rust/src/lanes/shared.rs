@@ -59,22 +59,33 @@ fn create_short<'s, T: Clear, W: By<T>>(
 }
 
 impl<'s, T: Clear> Post<'s, T> {
-    /// A create of this segment.
+    /// A create of this segment, with a block of the lane if the caller has one.
+    #[inline]
     pub(super) fn shared_create<W: By<T>>(
         self,
+        block: Option<Block<T>>,
         come: impl Fn(&mut Joint),
     ) -> Result<Result<Begun<'s, T, W>, CreateError>, NotShared>
     where
         T: Default,
     {
-        let begun = self.shared(|turn, joint| match turn.spare_or_new() {
+        let begun = self.shared(|turn, joint| match block.or_else(|| turn.spare_or_new()) {
             Some(block) => Ok(create_short(turn, joint, block, &come)),
             None => Err(turn.wants()),
         });
-        let begun = match begun.ok_or(NotShared)? {
-            Ok(begun) => begun,
-            Err(wanted) => self.shared_create_new(wanted, &come)?,
-        };
+        match begun.ok_or(NotShared)? {
+            Ok(begun) => self.shared_create_end(begun, come),
+            Err(wanted) => self.shared_create_new(wanted, come),
+        }
+    }
+
+    /// What a create of a place at hand gave; or a create apart.
+    #[inline(always)]
+    fn shared_create_end<W: By<T>>(
+        self,
+        begun: Result<Begun<'s, T, W>, Short<T>>,
+        come: impl Fn(&mut Joint),
+    ) -> Result<Result<Begun<'s, T, W>, CreateError>, NotShared> {
         match begun {
             Ok(begun) => Ok(Ok(begun.shared())),
             Err(Short::Failed(error)) => Ok(Err(error)),
@@ -89,7 +100,7 @@ impl<'s, T: Clear> Post<'s, T> {
         self,
         wanted: Option<u32>,
         come: impl Fn(&mut Joint),
-    ) -> Result<Result<Begun<'s, T, W>, Short<T>>, NotShared>
+    ) -> Result<Result<Begun<'s, T, W>, CreateError>, NotShared>
     where
         T: Default,
     {
@@ -104,7 +115,10 @@ impl<'s, T: Clear> Post<'s, T> {
                 None => Ok(Err(NotShared)),
             }
         });
-        begun.unwrap_or_else(|refused| Ok(Err(Short::Failed(refused.into()))))
+        match begun {
+            Ok(begun) => self.shared_create_end(begun?, come),
+            Err(refused) => Ok(Err(refused.into())),
+        }
     }
 
     /// A create of a lane without a place on its own list.

@@ -7,6 +7,7 @@ use super::threads;
 use super::token::{Begun, By};
 use crate::clear::Clear;
 use crate::errors::CreateError;
+use crate::object::Block;
 
 impl<T: Clear> Room<T> {
     /// A call of a segment by the shared lane of the thread's choice; or by another one, where the segment hasn't that, or it isn't shared
@@ -26,17 +27,20 @@ impl<T: Clear> Room<T> {
         }
     }
 
-    /// A create by the shared lane that the thread called last, where that had a place last. None where it has none now.
+    /// A create by the shared lane that the thread called last, where that had a place last, with a block of that lane if the thread has
+    /// one. None where the lane has no place now.
     #[inline]
     pub(super) fn create_by_last<W: By<T>>(
         &self,
+        block: impl FnOnce(Post<'_, T>) -> Option<Block<T>>,
         come: impl Fn(&mut Joint),
     ) -> Option<Begun<'_, T, W>>
     where
         T: Default,
     {
         let number = threads::last_shared(self.id())?;
-        self.last_post(number)?.shared_create(come).ok()?.ok()
+        let post = self.last_post(number)?;
+        post.shared_create(block(post), come).ok()?.ok()
     }
 
     /// A create by any of the shared lanes, in any segment.
@@ -98,7 +102,7 @@ fn create_at<'s, T: Clear + Default, W: By<T>>(
     post: Post<'s, T>,
     come: impl Fn(&mut Joint),
 ) -> Result<Begun<'s, T, W>, CreateError> {
-    match post.shared_create(come) {
+    match post.shared_create(None, come) {
         Ok(created) => created,
         Err(NotShared) => Err(CreateError::Full),
     }
