@@ -99,6 +99,9 @@ pub fn all() -> Vec<Scenario> {
             },
         ),
         Scenario::new("both-left", both_left, [take_one, take_one], settled),
+        Scenario::new("both-left-called", both_left, [make_by_own; 2], |world| {
+            world.settle();
+        }),
         Scenario::new(
             "left-by-three",
             || lanes_at_home(shape(3, 1, 1), 1),
@@ -154,7 +157,7 @@ fn in_use() -> (World, OwnedRef<Tracked>) {
 
 /// Both lanes were left by threads that have ended.
 fn both_left() -> World {
-    let world = lanes_at_home(shape(2, 1, 1), 1);
+    let world = lanes_at_home(shape(2, 4, 1), 1);
     let both = Barrier::new(2);
     let visit = || {
         get(&world);
@@ -175,6 +178,12 @@ fn ask_in_vain(world: &World) {
 
 fn create_one(world: &World) {
     drop(world.pool.create_owned().expect("a place is free"));
+}
+
+/// A thread whose first call this is has a lane of its own, and not the one that is shared.
+fn make_by_own(world: &World) {
+    let key = world.make_by_call(3).expect("a place");
+    assert_ne!(u64::from(key) >> 16 & 0xff, 2, "it shares a lane");
 }
 
 fn take_one(world: &World) {

@@ -69,7 +69,7 @@ impl<'s, T: Clear, P: Stands<'s, T>> Own<'s, T, P> {
 
     /// Empties an object that was taken out of a place of this segment.
     #[inline(always)]
-    fn let_go(self, mut block: Block<T>) {
+    pub(super) fn let_go(self, mut block: Block<T>) {
         if T::plain().0 {
             block.clear();
             self.put_away(block);

@@ -72,6 +72,8 @@ pub(super) struct Lanes {
     always: u64,
     /// How many are shared where calls need it: a quarter, and one at least.
     few: u32,
+    /// Whether lanes that were left are on their way home.
+    returning: AtomicBool,
     /// Who takes lanes that were left, shares one or takes it back, or puts a segment in its place.
     lock: Mutex<()>,
     homes: Told,
@@ -89,15 +91,20 @@ impl Lanes {
             shared: AtomicU64::new(shared),
             always: shared,
             few: (count / 4).max(1),
+            returning: AtomicBool::new(false),
             lock: Mutex::new(()),
             homes: Told(homes),
         })
     }
 
-    /// Whether no lane is at home, or left.
+    /// Whether no lane was left, or is on its way home.
+    fn none_is_left(&self) -> bool {
+        self.homes.0.left.load(Ordering::SeqCst) == 0 && !self.returning.load(Ordering::SeqCst)
+    }
+
+    /// Whether no lane is at home, or left. (A lane that comes home is there before it ceases to be on its way.)
     fn none_is_home(&self) -> bool {
-        let left = self.homes.0.left.load(Ordering::Relaxed);
-        left == 0 && self.home.load(Ordering::Relaxed) == 0
+        self.none_is_left() && self.home.load(Ordering::SeqCst) == 0
     }
 
     fn are_many_shared(&self) -> bool {
@@ -290,11 +297,12 @@ impl<T: Clear> Room<T> {
 
     /// The lanes of threads that have ended come home; or are shared, where references or fillings of them live.
     pub(super) fn welcome_back(&self) {
-        let left = &self.lanes.homes.0.left;
-        if left.load(Ordering::Relaxed) == 0 {
+        if self.lanes.none_is_left() {
             return;
         }
         self.locked(|| {
+            let left = &self.lanes.homes.0.left;
+            self.lanes.returning.store(true, Ordering::SeqCst);
             for number in bits(left.swap(0, Ordering::SeqCst)).map(Number) {
                 // SAFETY: the thread that had it has left it.
                 if self
@@ -306,6 +314,7 @@ impl<T: Clear> Room<T> {
                     self.share(number);
                 }
             }
+            self.lanes.returning.store(false, Ordering::SeqCst);
         });
     }
 
@@ -348,10 +357,6 @@ impl<T: Clear> Room<T> {
     /// Takes one of these lanes back that is shared beside the few, and that nothing uses any more.
     fn take_shared_back(&self, these: u64) -> Option<Number> {
         self.locked(|| {
-            // (Another thread may have seen meanwhile which lanes were left; they are at home by now.)
-            if let Some(number) = self.lanes.take_home_of(these) {
-                return Some(number);
-            }
             if !self.lanes.are_many_shared() {
                 return None;
             }
