@@ -364,7 +364,7 @@ impl<'s, T: Clear> Post<'s, T> {
     /// No thread has it alone.
     pub(super) unsafe fn is_idle(self) -> bool {
         // SAFETY: the caller's.
-        unsafe { self.locked(|turn, joint| joint.users == 0 && turn.counts() == joint.lost) }
+        unsafe { self.locked(|turn, joint| is_idle(turn, joint)) }
     }
 
     /// Nobody shares the lane any more, where no filling, reference or user of it is left. Whether that is so.
@@ -377,7 +377,7 @@ impl<'s, T: Clear> Post<'s, T> {
         sync::writes(self.seat().joint.get(), JOINT);
         // SAFETY: who has the lock of a lane that no thread has alone uses it alone.
         let (mut turn, joint) = unsafe { (self.turn(), &mut *self.seat().joint.get()) };
-        let is_idle = joint.users == 0 && turn.counts() == joint.lost;
+        let is_idle = is_idle(&mut turn, joint);
         if is_idle {
             had.set_shared(false);
         }
@@ -394,4 +394,9 @@ impl<'s, T: Clear> Post<'s, T> {
         let counts = unsafe { self.turn() }.counts();
         self.joint(|joint| joint.lost = counts);
     }
+}
+
+/// Whether no filling, reference or user of a lane is left.
+fn is_idle<T: Clear>(turn: &mut Turn<'_, T>, joint: &Joint) -> bool {
+    joint.users == 0 && turn.counts() == joint.lost
 }
