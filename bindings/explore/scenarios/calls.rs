@@ -1,9 +1,7 @@
 //! Calls of a pool by threads without a lane in hand: each keeps one until it ends, or shares one.
 use crate::world::{
-    alive, lanes_at_home, lanes_in_hand, look, look_by_call, number_of, shape, Scenario, Tracked,
-    World,
+    alive, lanes_at_home, lanes_in_hand, look, look_by_call, number_of, shape, Scenario, World,
 };
-use pardz::OwnedRef;
 use std::sync::Barrier;
 use std::{mem, thread};
 
@@ -86,18 +84,6 @@ pub fn all() -> Vec<Scenario> {
             settled,
         )
         .bounded(2),
-        Scenario::new(
-            "in-use-and-asked-for",
-            in_use,
-            [
-                |(world, _)| ask_in_vain(world),
-                |(world, _)| create_one(world),
-            ],
-            |(world, object)| {
-                drop(object);
-                world.close();
-            },
-        ),
         Scenario::new("both-left", both_left, [take_one, take_one], settled),
         Scenario::new("both-left-called", both_left, [make_by_own; 2], |world| {
             world.settle();
@@ -141,20 +127,6 @@ fn one_lane_idle() -> World {
     world
 }
 
-/// As that, and the lane of the pool's shape is used: by a reference to the one object that it has.
-fn in_use() -> (World, OwnedRef<Tracked>) {
-    let world = lanes_at_home(shape(1, 2, 1), 0);
-    let mut objects: Vec<_> = (0..4)
-        .map(|_| world.pool.create_owned().expect("a place").downgrade())
-        .collect();
-    let first = |object: &OwnedRef<Tracked>| u64::from(object.key()) >> 16 & 0xff == 0;
-    let used = objects.iter().position(first).expect("its lane is shared");
-    let object = objects.swap_remove(used);
-    let other = objects.iter().find(|object| first(object));
-    assert!(world.pool.clear(other.expect("it has two places").key()));
-    (world, object)
-}
-
 /// Both lanes were left by threads that have ended.
 fn both_left() -> World {
     let world = lanes_at_home(shape(2, 4, 1), 1);
@@ -170,14 +142,6 @@ fn both_left() -> World {
         }
     });
     world
-}
-
-fn ask_in_vain(world: &World) {
-    assert!(world.pool.lane().is_none(), "a lane that is used");
-}
-
-fn create_one(world: &World) {
-    drop(world.pool.create_owned().expect("a place is free"));
 }
 
 /// A thread whose first call this is has a lane of its own, and not the one that is shared.

@@ -357,16 +357,6 @@ impl<'s, T: Clear> Post<'s, T> {
         self.seat().lock.any().set_shared(true);
     }
 
-    /// Whether no filling, reference or user of the lane is left.
-    ///
-    /// # Safety
-    ///
-    /// No thread has it alone.
-    pub(super) unsafe fn is_idle(self) -> bool {
-        // SAFETY: the caller's.
-        unsafe { self.locked(|turn, joint| is_idle(turn, joint)) }
-    }
-
     /// Nobody shares the lane any more, where no filling, reference or user of it is left. Whether that is so.
     ///
     /// # Safety
@@ -377,7 +367,7 @@ impl<'s, T: Clear> Post<'s, T> {
         sync::writes(self.seat().joint.get(), JOINT);
         // SAFETY: who has the lock of a lane that no thread has alone uses it alone.
         let (mut turn, joint) = unsafe { (self.turn(), &mut *self.seat().joint.get()) };
-        let is_idle = is_idle(&mut turn, joint);
+        let is_idle = joint.users == 0 && turn.counts() == joint.lost;
         if is_idle {
             had.set_shared(false);
         }
@@ -394,9 +384,4 @@ impl<'s, T: Clear> Post<'s, T> {
         let counts = unsafe { self.turn() }.counts();
         self.joint(|joint| joint.lost = counts);
     }
-}
-
-/// Whether no filling, reference or user of a lane is left.
-fn is_idle<T: Clear>(turn: &mut Turn<'_, T>, joint: &Joint) -> bool {
-    joint.users == 0 && turn.counts() == joint.lost
 }

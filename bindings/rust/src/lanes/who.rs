@@ -366,11 +366,6 @@ impl<T: Clear> Room<T> {
     }
 
     fn own_if_idle(&self, number: u32) -> Option<Number> {
-        // (A lane in use is left as it is, so that creates find its places meanwhile.)
-        // SAFETY: it is shared.
-        if !self.posts_of(number).all(|post| unsafe { post.is_idle() }) {
-            return None;
-        }
         // (Calls that choose a lane choose others meanwhile.)
         self.lanes
             .shared
