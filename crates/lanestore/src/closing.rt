@@ -5,10 +5,9 @@ ghost use Rattle.shardpool.specs.Lanes.{Owns};
 ghost use Rattle.shardpool.specs.Closings.{AreLanes, Closes};
 ghost use Rattle.lanestore.specs.Visits.{lane_of};
 
-use crate::keeper::Keeper;
+use crate::place::Post;
 use crate::store::Store;
 use crate::visit::Visit;
-use boxplace::Place;
 use poolhandle::close_lanes;
 use shardpool::{Census, Lane, Note, Pool};
 use slotcell::Clear;
@@ -78,7 +77,7 @@ fn gathered<T: Clear + Drop>(
     pool: &Pool<T>,
     row: Vec<Lane<T>>,
     lane: Lane<T>,
-    places: Vec<Place<Keeper<T>>>,
+    places: Vec<Post<T>>,
 ) -> Option<Vec<Lane<T>>>
     requires row { row.items ≡ [] }
     requires lane { Owns pool.now lane }
@@ -94,7 +93,7 @@ fn gathered<T: Clear + Drop>(
 pub(crate) fn taken_out<T: Clear + Drop>(
     pool: &Pool<T>,
     row: Vec<Lane<T>>,
-    places: Vec<Place<Keeper<T>>>,
+    places: Vec<Post<T>>,
 ) -> Option<Vec<Lane<T>>>
     requires row { All (λ other. Owns pool.now other) row.items }
     requires places { All (λ tag. tag ≡ pool.now) places.items }
@@ -104,7 +103,7 @@ pub(crate) fn taken_out<T: Clear + Drop>(
     let _ = pool;
     let mut lanes = row;
     for place in places {
-        if let Some(keeper) = place.into_inner() {
+        if let Some(keeper) = place.into_keeper() {
             lanes.push(Box::into_inner(keeper).into_lane()).ok()?;
         }
     }

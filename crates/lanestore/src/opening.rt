@@ -7,8 +7,8 @@ ghost use Rattle.lanestore.specs.Visits.{IsNew};
 
 use crate::closing::taken_out;
 use crate::keeper::Keeper;
+use crate::place::Post;
 use crate::store::Store;
-use boxplace::Place;
 use poolhandle::close_lanes;
 use shardpool::{Lane, Pool};
 use slotcell::Clear;
@@ -34,7 +34,7 @@ pub(crate) fn stored<T: Clear + Drop>(
 /// A row for the places of all lanes, and one for lanes that are given back.
 #[derive(Drop)]
 struct Rows<T: Clear> {
-    places: Vec<Place<Keeper<T>>>,
+    places: Vec<Post<T>>,
     lanes: Vec<Lane<T>>,
 }
 
@@ -66,7 +66,7 @@ fn each_stored<T: Clear + Drop>(
     let mut rest = lanes.into_iter();
     while let Some(lane) = rest.next() {
         match keeper_of(alloc, lane) {
-            Ok(keeper) => places.push(Place::new(keeper, &pool)).ok()?,
+            Ok(keeper) => places.push(Post::new(keeper, &pool)).ok()?,
             Err(lane) => {
                 give_up(pool, places, lane, rest, back);
                 return None;
@@ -99,7 +99,7 @@ fn keeper_of<T: Clear + Drop>(alloc: Global, lane: Lane<T>) -> Result<Box<Keeper
 /// for them.
 fn give_up<T: Clear + Drop>(
     pool: Pool<T>,
-    places: Vec<Place<Keeper<T>>>,
+    places: Vec<Post<T>>,
     next: Lane<T>,
     rest: IntoIter<Lane<T>>,
     row: Vec<Lane<T>>,
@@ -117,7 +117,7 @@ fn give_up<T: Clear + Drop>(
 /// The lanes in these places, the next one and the rest. None where the row has no room for all.
 fn all_lanes<T: Clear + Drop>(
     pool: &Pool<T>,
-    places: Vec<Place<Keeper<T>>>,
+    places: Vec<Post<T>>,
     next: Lane<T>,
     rest: IntoIter<Lane<T>>,
     row: Vec<Lane<T>>,

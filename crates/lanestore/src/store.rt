@@ -2,12 +2,10 @@
 ghost use Rattle.std.specs.Prelude.{◌≡◌, ◌<◌, ◌≤◌, All, IfSome, length};
 ghost use Rattle.shardpool.specs.Lanes.{Owns};
 
-use crate::keeper::Keeper;
 use crate::opening::stored;
-use crate::place::{give, take};
+use crate::place::Post;
 use crate::refusal::Refusal;
 use crate::visit::Visit;
-use boxplace::Place;
 use keybits::{Shape, place_of, shard_of};
 use shardpool::{Note, OpenFault, Pool, open, open_wide};
 use slotcell::Clear;
@@ -17,7 +15,7 @@ use std::alloc::Global;
 #[derive(Drop)]
 pub struct Store<T: Clear> {
     pub(crate) pool: Pool<T>,
-    pub(crate) places: Vec<Place<Keeper<T>>>,
+    pub(crate) places: Vec<Post<T>>,
     pub(crate) alloc: Global,
     ghost of_pool: { All (λ tag. tag ≡ pool) places.items },
     ghost all: { length places.items ≡ pool.shape.lanes },
@@ -156,7 +154,7 @@ impl<T: Clear + Drop> Store<T> {
     {
         visit.keeper.lane.lane().seen_law();
         let at = visit.number() as usize;
-        give(&self.places[at], visit);
+        self.places[at].give(visit);
     }
 
     /// Takes the lane of this number, which hears nothing yet. None where another call has it.
@@ -194,7 +192,7 @@ impl<T: Clear + Drop> Store<T> {
         if at >= self.places.len() {
             return None;
         }
-        take(&self.places[at], self.alloc)
+        self.places[at].take(self.alloc)
     }
 
     /// As `take_any`, where the first place that it looks at has no lane.
