@@ -14,8 +14,8 @@ use crate::slots::{
     EMPTY_LANE, FULL, FULL_LANE, GONE, MEMORY, NO_REFERENCE, OK, REFERENCES, SHAPE, SHARED,
 };
 use crate::{PoolCensus, PoolShape, counted, shape_of};
-use keybits::Shape;
 use boxplace::Unboxed;
+use keybits::Shape;
 use shardpool::OpenFault;
 use std::alloc::Global;
 use std::mem::replace;

@@ -3,10 +3,10 @@ ghost use Rattle.std.specs.Prelude.{◌≡◌, [], ◌∷◌, IfSome, IsNone};
 ghost use Rattle.poolffi.specs.Codes.{code_of, answer_code};
 ghost use Rattle.poolffi.specs.Exports.{HasNoLane, written_over};
 
+use boxplace::Unboxed;
 use poolhandle::Refusal;
 use poolhandle::handle::Handle;
 use poolhandle::slot::Slot;
-use boxplace::Unboxed;
 use std::alloc::Global;
 use std::mem::replace;
 
