@@ -62,12 +62,17 @@ impl Caller {
         if lane >= self.store.pool().shape().lanes {
             return Err(Refusal::NoReference);
         }
-        let Some(mut visit) = self.visit_at(lane) else {
+        let Some(visit) = self.store.take_at(lane) else {
             return Err(Refusal::Busy);
         };
-        let answer = visits::release(&mut visit, self.store.pool(), key);
+        let mut visit = self.told(visit);
+        let released = visit.release(self.store.pool(), key);
         self.leave(visit);
-        answer
+        if released {
+            Ok(())
+        } else {
+            Err(Refusal::NoReference)
+        }
     }
 
     /// Clears the object of a key.
@@ -77,9 +82,9 @@ impl Caller {
         let Some(mut visit) = self.visit_any(from) else {
             return Err(Refusal::Busy);
         };
-        let answer = visits::clear(&mut visit, self.store.pool(), key);
+        let cleared = visit.clear(self.store.pool(), key);
         self.leave(visit);
-        answer
+        if cleared { Ok(()) } else { Err(Refusal::Gone) }
     }
 
     /// Another caller of the pool, who is told what this one was.
@@ -100,8 +105,13 @@ impl Caller {
         requires { Issued (pool_of self.now) note }
         ensures { IfSome result (λ other. (arc_value other.value.store ≡ arc_value self.now.store) × (other.value.note ≡ note)) }
     {
-        let row = Vec::with_capacity(alloc, self.store.pool().shape().lanes as usize).ok()?;
-        let store = Arc::try_clone(&self.store).ok()?;
+        let lanes = self.store.pool().shape().lanes as usize;
+        let Ok(row) = Vec::with_capacity(alloc, lanes) else {
+            return None;
+        };
+        let Ok(store) = Arc::try_clone(&self.store) else {
+            return None;
+        };
         Box::new(alloc, Caller { store, note, row }).ok()
     }
 
@@ -115,17 +125,6 @@ impl Caller {
         let lanes = self.store.pool().shape().lanes;
         let from = from.checked_rem(lanes).unwrap_or(0);
         let visit = self.store.take_any(from)?;
-        Some(self.told(visit))
-    }
-
-    /// Takes the lane of this number, and tells it what the caller was told.
-    fn visit_at(&mut self, number: u32) -> Option<Visit<ByteBuf>>
-        ensures same { (self.new.store ≡ self.old.store) × (self.new.row ≡ self.old.row) }
-        ensures some { IfSome result (λ visit. Owns (pool_of self.old) (lane_of visit)
-            × IsPrefix self.old.note.book.seen (lane_of visit).book.seen × ((lane_of visit).number ≡ number)) }
-        ensures none { IsNone result → self.new ≡ self.old }
-    {
-        let visit = self.store.take_at(number)?;
         Some(self.told(visit))
     }
 

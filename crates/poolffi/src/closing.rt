@@ -20,7 +20,10 @@ pub fn close(caller: Box<Caller>) -> Result<Census, (Refusal, Option<Box<Caller>
     if Arc::strong_count(&caller.store) != 1 {
         return Err((Refusal::Shared, Some(caller)));
     }
-    close_caller(Box::into_inner(caller)).ok_or((Refusal::Shared, None))
+    let Some(counts) = close_caller(Box::into_inner(caller)) else {
+        return Err((Refusal::Shared, None));
+    };
+    Ok(counts)
 }
 
 /// Closes the pool of a caller who has it alone. None where others have a share of it, or a lane isn't there.

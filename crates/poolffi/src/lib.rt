@@ -19,7 +19,7 @@ mod slots;
 mod visits;
 
 use crate::lanes::open_slots;
-use crate::slots::{EMPTY_LANE, OK, code, code_of, lift, lower, put, write_over};
+use crate::slots::{EMPTY_LANE, OK, code, code_of, lift, lower, tell, write_over};
 use keybits::Shape;
 use poolhandle::slot::Slot;
 use poolhandle::{close, join};
@@ -190,11 +190,7 @@ pub extern "C" fn pardz_get(slot: &mut Slot, key: u64, at: &mut *const u8, len: 
     };
     match handle.get(key) {
         Ok(start) => {
-            let bytes = handle.bytes_at(start, key);
-            *len = bytes.len();
-            if !bytes.is_empty() {
-                put(at, std::ptr::from_ref(&bytes[0]));
-            }
+            tell(at, len, handle.bytes_at(start, key));
             OK
         }
         Err(refusal) => code_of(refusal),
@@ -213,10 +209,7 @@ pub extern "C" fn pardz_read(slot: &mut Slot, key: u64, at: &mut *const u8, len:
     };
     match handle.read(key) {
         Ok(bytes) => {
-            *len = bytes.len();
-            if !bytes.is_empty() {
-                put(at, std::ptr::from_ref(&bytes[0]));
-            }
+            tell(at, len, bytes);
             OK
         }
         Err(refusal) => code_of(refusal),

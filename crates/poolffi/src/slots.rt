@@ -1,5 +1,5 @@
 //! A handle out of its slot, and into one; and the codes.
-ghost use Rattle.std.specs.Prelude.{◌≡◌, [], ◌∷◌, IfSome, IsNone};
+ghost use Rattle.std.specs.Prelude.{◌≡◌, [], ◌∷◌, length, IfSome, IsNone};
 ghost use Rattle.poolffi.specs.Codes.{code_of, answer_code};
 ghost use Rattle.poolffi.specs.Exports.{HasNoLane, written_over};
 
@@ -58,11 +58,15 @@ pub(crate) fn lower(slot: &mut Slot, handle: Box<Handle>)
     *slot = Slot::fill(Unboxed::from_box(handle));
 }
 
-/// Writes an address.
-pub(crate) fn put(at: &mut *const u8, address: *const u8)
-    ensures { at.new ≡ address }
+/// Writes how many bytes there are, and where: the address where there are any.
+pub(crate) fn tell(at: &mut *const u8, len: &mut usize, bytes: &[u8])
+    ensures told { len.new ≡ length bytes.now }
+    ensures none { len.new ≡ 0 → at.new ≡ at.old }
 {
-    *at = address;
+    *len = bytes.len();
+    if !bytes.is_empty() {
+        *at = std::ptr::from_ref(&bytes[0]);
+    }
 }
 
 /// Writes what is told over the first numbers, as far as there are so many.

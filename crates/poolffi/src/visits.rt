@@ -1,9 +1,9 @@
-//! What a lane does for a caller who has it for the one call.
+//! A put and a get by a lane that a caller has for the one call.
 ghost use Rattle.std.specs.Prelude.{◌≡◌, length};
 ghost use Rattle.shardpool.specs.Lanes.{Owns, Made};
 ghost use Rattle.lanestore.specs.Fillings.{HaveNot};
 ghost use Rattle.lanestore.specs.Visits.{lane_of, kept_of};
-ghost use Rattle.poolffi.specs.ByteCalls.{Puts, GivesUp, Gets, Releases, Clears};
+ghost use Rattle.poolffi.specs.ByteCalls.{Puts, GivesUp, Gets};
 
 use crate::found::Found;
 use crate::refusal::Refusal;
@@ -81,39 +81,5 @@ fn place_of(bytes: &[u8]) -> (*const u8, usize)
         (std::ptr::null(), 0)
     } else {
         (std::ptr::from_ref(&bytes[0]), bytes.len())
-    }
-}
-
-/// Gives a reference back.
-pub(crate) fn release(
-    visit: &mut Visit<ByteBuf>,
-    pool: &Pool<ByteBuf>,
-    key: u64,
-) -> Result<(), Refusal>
-    requires { Owns pool.now (lane_of visit.old) }
-    ensures owns { Owns pool.now (lane_of visit.new) }
-    ensures releases { Releases pool.now key (lane_of visit.old) (lane_of visit.new) result }
-{
-    if visit.release(pool, key) {
-        Ok(())
-    } else {
-        Err(Refusal::NoReference)
-    }
-}
-
-/// Clears the object of a key.
-pub(crate) fn clear(
-    visit: &mut Visit<ByteBuf>,
-    pool: &Pool<ByteBuf>,
-    key: u64,
-) -> Result<(), Refusal>
-    requires { Owns pool.now (lane_of visit.old) }
-    ensures owns { Owns pool.now (lane_of visit.new) }
-    ensures clears { Clears pool.now key (lane_of visit.old) (lane_of visit.new) result }
-{
-    if visit.clear(pool, key) {
-        Ok(())
-    } else {
-        Err(Refusal::Gone)
     }
 }

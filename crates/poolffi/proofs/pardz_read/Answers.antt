@@ -2,11 +2,16 @@
 use Rattle.std.proofs.Common.{Ok, Err, refl, inr}
 use Rattle.poolffi.proofs.pardz_read.Goals as goal
 
-pub returns-then-not-is_empty-clause-calls : goal.returns-then-not-is_empty-clause-calls
-returns-then-not-is_empty-clause-calls c = inr (c.in-Some.handle.now, c.in-Some.handle.now, c.in-Some.ensures.some, refl, Ok c.in-Ok.bytes.now, refl, (refl, c.in-Ok.ensures, refl))
-
-pub returns-else-not-is_empty-clause-calls : goal.returns-else-not-is_empty-clause-calls
-returns-else-not-is_empty-clause-calls c = inr (c.in-Some.handle.now, c.in-Some.handle.now, c.in-Some.ensures.some, refl, Ok c.in-Ok.bytes.now, refl, (refl, c.in-Ok.ensures, refl))
+pub returns-in-Ok-clause-calls : goal.returns-in-Ok-clause-calls
+returns-in-Ok-clause-calls c = inr (
+  c.in-Some.handle.now,
+  c.in-Some.handle.now,
+  c.in-Some.ensures.some,
+  refl,
+  Ok c.in-Ok.bytes.now,
+  refl,
+  (refl, c.in-Ok.ensures, c.tell.ensures.told),
+)
 
 pub returns-in-Err-clause-calls : goal.returns-in-Err-clause-calls
 returns-in-Err-clause-calls c = inr (
@@ -18,3 +23,6 @@ returns-in-Err-clause-calls c = inr (
   c.code_of.ensures,
   (c.in-Err.ensures.0, refl, c.in-Err.ensures.1),
 )
+
+pub returns-in-Err-clause-writes : goal.returns-in-Err-clause-writes
+returns-in-Err-clause-writes c = (λ refused. refl, λ refused. refl)

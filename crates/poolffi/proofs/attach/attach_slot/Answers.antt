@@ -1,5 +1,5 @@
 -- The fault that is answered is the first of the shape, and without a fault the slot has what was opened.
-use Rattle.std.proofs.Common.{rules, ◌≡◌, ◌∙◌, Err, refl, sym, ap, inl, inr}
+use Rattle.std.proofs.Common.{rules, ◌∙◌, Err, refl, sym, ap, inl, inr}
 use Rattle.keybits.specs.declared.shape.ShapeFault.{ShapeFault}
 use Rattle.keybits.specs.ShapeFaults.{IsFirstWideFault}
 use Rattle.poolffi.specs.declared.pool_slot.PoolSlot.{PoolSlot}

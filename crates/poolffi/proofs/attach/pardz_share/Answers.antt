@@ -1,5 +1,5 @@
 -- The caller that was lent made another, who is lowered.
-use Rattle.std.proofs.Common.{rules, ◌≡◌, ◌∙◌, refl, sym, ap, inl, inr}
+use Rattle.std.proofs.Common.{rules, ◌∙◌, refl, sym, ap, inl, inr}
 use Rattle.poolffi.specs.declared.pool_slot.PoolSlot.{PoolSlot}
 use Rattle.poolffi.proofs.Pools.{full-has, empty-has-not}
 use Rattle.poolffi.proofs.attach.pardz_share.Goals as goal
