@@ -1,7 +1,9 @@
 //! Calls of a pool by threads without a lane in hand: each keeps one until it ends, or shares one.
 use crate::world::{
-    alive, lanes_at_home, lanes_in_hand, look, look_by_call, number_of, shape, Scenario, World,
+    alive, lanes_at_home, lanes_in_hand, look, look_by_call, number_of, shape, Scenario, Tracked,
+    World,
 };
+use pardz::OwnedRef;
 use std::sync::Barrier;
 use std::{mem, thread};
 
@@ -84,6 +86,20 @@ pub fn all() -> Vec<Scenario> {
             settled,
         )
         .bounded(2),
+        Scenario::new(
+            "asked-and-called",
+            one_lane_chosen,
+            [take_and_look, create_and_get],
+            settled,
+        )
+        .bounded(2),
+        Scenario::new(
+            "asked-and-created",
+            one_place_free,
+            [|used| ask(used), |used| create_in_last(used)],
+            |used| assert_eq!(used.world.close().filling, 0),
+        )
+        .bounded(2),
         Scenario::new("both-left", both_left, [take_one, take_one], settled),
         Scenario::new("both-left-called", both_left, [make_by_own; 2], |world| {
             world.settle();
@@ -127,6 +143,28 @@ fn one_lane_idle() -> World {
     world
 }
 
+/// The same, and the idle lane is the first choice of the thread that calls next.
+fn one_lane_chosen() -> World {
+    let world = one_lane_idle();
+    let call = || drop(world.pool.get_owned(world.keys[0]));
+    thread::scope(|scope| scope.spawn(call).join()).expect("no panic");
+    world
+}
+
+/// A pool, and a handle by which one of its lanes is used.
+struct Used {
+    world: World,
+    _handle: OwnedRef<Tracked>,
+}
+
+/// Both lanes are shared. The one of the pool's shape is used, and has the last free place.
+fn one_place_free() -> Used {
+    let world = one_lane_idle();
+    let filling = world.pool.create_owned().expect("a place");
+    let _handle = filling.downgrade();
+    Used { world, _handle }
+}
+
 /// Both lanes were left by threads that have ended.
 fn both_left() -> World {
     let world = lanes_at_home(shape(2, 4, 1), 1);
@@ -161,6 +199,17 @@ fn create_and_get(world: &World) {
     if let Some(object) = world.pool.get_owned(world.keys[0]) {
         assert_eq!(object.get(), number_of(0));
     }
+}
+
+/// The lane is used, so it is asked in vain.
+fn ask(used: &Used) {
+    assert!(used.world.pool.lane().is_none(), "a lane that is used");
+}
+
+/// The last place is free, whoever asks its lane meanwhile.
+fn create_in_last(used: &Used) {
+    let created = used.world.pool.create_owned();
+    assert!(created.is_ok(), "a place is free");
 }
 
 fn take_and_make(world: &World) {

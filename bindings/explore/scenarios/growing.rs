@@ -3,8 +3,8 @@ use crate::late::{leave_reference, take_twice};
 use crate::world::{
     emptied, growing, key_of, look, look_by_call, number_of, Scenario, Tracked, World,
 };
-use pardz::{Key, OwnedRef, Pool};
-use std::sync::Mutex;
+use pardz::{Growth, Key, Lane, OwnedRef, Pool};
+use std::sync::{Arc, Mutex};
 
 /// Places of a lane in the first segment, and of all lanes in the first one and in the second.
 const FIRST: usize = 32;
@@ -59,6 +59,7 @@ pub fn all() -> Vec<Scenario> {
             two_segments,
         )
         .bounded(2),
+        Scenario::new("asked-further", one_place_free, [ask, create_in_last], drop).bounded(2),
         Scenario::new(
             "outlives-further",
             outlives,
@@ -238,6 +239,42 @@ fn segments(world: World, places: u32) {
         (left, 0, 0)
     );
     assert_eq!(all, places, "places of all segments");
+}
+
+/// A full pool that may grow no more, of which one lane is lent, and has a place in the first segment. It is used in the second one.
+struct Lent {
+    _handle: OwnedRef<Tracked>,
+    _hands: Mutex<Vec<Lane<'static, Tracked>>>,
+    pool: Arc<Pool<Tracked>>,
+}
+
+fn one_place_free() -> Lent {
+    let pool: Pool<Tracked> = Growth::new().most_segments(2).open().expect("memory");
+    let pool = Arc::new(pool);
+    let mut hands: Vec<_> = (0..).map_while(|_| pool.lane_owned()).collect();
+    assert_eq!(hands.len(), 12);
+    drop(hands.swap_remove(0));
+    let put = || Some(pool.create_owned().ok()?.publish());
+    let keys: Vec<Key> = (0..).map_while(|_| put()).collect();
+    let place = |segment: u64| (segment << 56) + (1 << 24);
+    let [first, second] = [0, 1].map(|segment| Key::try_from(place(segment)).expect("a key"));
+    assert!(keys.contains(&first) && pool.clear(first));
+    Lent {
+        _handle: pool.get_owned(second).expect("published"),
+        _hands: Mutex::new(hands),
+        pool,
+    }
+}
+
+/// The lane is used, so it is asked in vain.
+fn ask(lent: &Lent) {
+    assert!(lent.pool.lane().is_none(), "a lane that is used");
+}
+
+/// The last place is free, whoever asks its lane meanwhile.
+fn create_in_last(lent: &Lent) {
+    let created = lent.pool.create_owned();
+    assert!(created.is_ok(), "a place is free");
 }
 
 /// A pool, and two handles to an object of its second segment.

@@ -1,4 +1,5 @@
 //! Which of a pool's shared lanes a call turns to.
+use super::lock::rest;
 use super::room::Room;
 use super::seat::{Joint, Post};
 use super::segment::Segment;
@@ -18,13 +19,28 @@ impl<T: Clear> Room<T> {
         segment: &'s Segment<T>,
         call: impl Fn(Post<'s, T>) -> Result<R, NotShared>,
     ) -> R {
+        let mut looked = 0;
         loop {
-            let post = segment.post_of(self.shared_number());
-            match post.map(&call) {
+            let number = self.shared_number();
+            match segment.post_of(number).map(&call) {
                 Some(Ok(answer)) => return answer,
-                _ => threads::unset_last_shared(self.id()),
-            }
+                Some(Err(NotShared)) => self.waits_for_ask(number, &mut looked),
+                None => false,
+            };
+            threads::unset_last_shared(self.id());
         }
+    }
+
+    /// Waits a moment where a lane that refused a call is asked just now whether it is idle. Whether it is.
+    #[cold]
+    #[inline(never)]
+    fn waits_for_ask(&self, number: u32, looked: &mut u32) -> bool {
+        let is_asked = self.lanes.is_shared(number);
+        if is_asked {
+            rest(*looked);
+            *looked = looked.saturating_add(1);
+        }
+        is_asked
     }
 
     /// A create by the shared lane that the thread called last, where that had a place last, with a block of that lane if the thread has
@@ -57,7 +73,7 @@ impl<T: Clear> Room<T> {
             if self.passes(number) {
                 continue;
             }
-            match self.create_by(number, |post| create_at(post, &come)) {
+            match self.create_by(number, |post| self.create_at(post, &come)) {
                 Err(CreateError::Full) => (),
                 created => {
                     threads::set_last_shared(self.id(), number);
@@ -66,6 +82,25 @@ impl<T: Clear> Room<T> {
             }
         }
         Err(CreateError::Full)
+    }
+
+    /// A create by a shared lane. One that isn't shared any more has no place to give.
+    fn create_at<'s, W: By<T>>(
+        &self,
+        post: Post<'s, T>,
+        come: impl Fn(&mut Joint),
+    ) -> Result<Begun<'s, T, W>, CreateError>
+    where
+        T: Default,
+    {
+        let mut looked = 0;
+        loop {
+            match post.shared_create(None, &come) {
+                Ok(created) => return created,
+                Err(NotShared) if self.waits_for_ask(post.number(), &mut looked) => (),
+                Err(NotShared) => return Err(CreateError::Full),
+            }
+        }
     }
 
     /// A create that finds all full looks again, and has the pool grow.
@@ -94,16 +129,5 @@ impl<T: Clear> Room<T> {
                 grown => grown?,
             }
         }
-    }
-}
-
-/// A lane that isn't shared any more has no place to give.
-fn create_at<'s, T: Clear + Default, W: By<T>>(
-    post: Post<'s, T>,
-    come: impl Fn(&mut Joint),
-) -> Result<Begun<'s, T, W>, CreateError> {
-    match post.shared_create(None, come) {
-        Ok(created) => created,
-        Err(NotShared) => Err(CreateError::Full),
     }
 }

@@ -365,18 +365,19 @@ impl<T: Clear> Room<T> {
         })
     }
 
+    /// Nobody shares the lane any more, if it is idle. (As long as it is asked it is told to be shared: calls that it refuses wait for what it
+    /// will be, since a create that doesn't may be told that all is full, where this one has the last place.)
     fn own_if_idle(&self, number: u32) -> Option<Number> {
-        // (Calls that choose a lane choose others meanwhile.)
+        // SAFETY: it is shared.
+        let idle = |post: Post<'_, T>| unsafe { post.own_if_idle() };
+        if !self.posts_of(number).all(idle) {
+            self.share(Number(number));
+            return None;
+        }
         self.lanes
             .shared
             .fetch_and(!Number(number).bit(), Ordering::SeqCst);
-        // SAFETY: it is shared.
-        let idle = |post: Post<'_, T>| unsafe { post.own_if_idle() };
-        if self.posts_of(number).all(idle) {
-            return Some(Number(number));
-        }
-        self.share(Number(number));
-        None
+        Some(Number(number))
     }
 
     /// The numbers of the shared lanes, from the thread's own choice on. None where there is none: all lanes are in hand.
